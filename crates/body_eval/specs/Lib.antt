@@ -3,4 +3,3 @@ pub mod Sizes
 pub mod State
 pub mod Meaning
 pub mod Statement
-pub mod WellStatement

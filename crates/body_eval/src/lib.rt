@@ -4,8 +4,6 @@
 mod element;
 mod run;
 mod scratch;
-mod well;
 
 pub use run::run_body;
 pub use scratch::Scratch;
-pub use well::is_well_body;

@@ -81,11 +81,11 @@ traps_of_both k m q ws vs ns ms a b =
 -- ---- statements
 
 -- a value satisfies P
-abbrev IfValue : {A : Type 0} → (A → Type 0) → Resolved A → Type 0
+abbrev pub IfValue : {A : Type 0} → (A → Type 0) → Resolved A → Type 0
 IfValue P (Ok x) = P x
 IfValue P (Err f) = Unit {0}
 
-after_if_value : {A B : Type 0} (P : A → Type 0) (Q : B → Type 0) (r : Resolved A) (f : A → Resolved B) → IfValue P r → ((x : A) → P x → IfValue Q (f x)) → IfValue Q (and_then r f)
+pub after_if_value : {A B : Type 0} (P : A → Type 0) (Q : B → Type 0) (r : Resolved A) (f : A → Resolved B) → IfValue P r → ((x : A) → P x → IfValue Q (f x)) → IfValue Q (and_then r f)
 after_if_value P Q (Ok x) f h k = k x h
 after_if_value P Q (Err e) f h k = tt
 

@@ -8,8 +8,8 @@ use Rattle.jdf_lex.specs.declared.fault.JdfCode.TheVariants.{NameTwice}
 use Rattle.jdf_tree.specs.declared.expression.Word.{Word}
 use Rattle.jdf_tree.specs.Expression.{Expression, Num, Name, Elem, Unary, Binary, Choose}
 use Rattle.ptg_base.specs.Returns.{and_then}
-use Rattle.body_names.specs.declared.meaning.Meaning.{Meaning}
-use Rattle.body_names.specs.declared.meaning.Meaning.TheVariants as meaning
+use Rattle.expr_names.specs.declared.meaning.Meaning.{Meaning}
+use Rattle.expr_names.specs.declared.meaning.Meaning.TheVariants as meaning
 use Rattle.body_names.specs.Environment.{Environment}
 use Rattle.body_names.specs.declared.variable.Variable.{Variable}
 use Rattle.body_names.specs.Meanings.{last_named, variable_or, local_named, local_or, integer_or, collection_or_nothing, meaning_of}

@@ -1,7 +1,7 @@
 -- A text declares at least as many variables as its tree, and so a tree has no more than a text may.
 use Rattle.std.proofs.Common.{◌≡◌, ℕ, zero, suc, ◌+◌, ◌≤◌, ◌<◌, Bool, true, false, cond, List, [], ◌∷◌, ◌++◌, length, refl, sym, ap, ◌∙◌, subst, inl, inr, append_assoc, arith}
-use Rattle.std.specs.Prelude.{◌&&◌, ◌||◌, Option, Some, None, nat_lt, nat_le}
-use Rattle.std.proofs.lemmas.Bool.{ltb-false}
+use Rattle.std.specs.Prelude.{◌&&◌, Option, Some, None, nat_lt, nat_le}
+use Rattle.std.proofs.lemmas.Bool.{ltb-false, or_right}
 use Rattle.std.proofs.lemmas.Bool.Decides.{nat_tests}
 use Rattle.std.proofs.lemmas.List.{append-nil}
 use Rattle.std.proofs.lemmas.List.Sums.{sum_by-cons, sum_by_push}
@@ -28,6 +28,7 @@ use Rattle.jdf_tree.specs.Nonterminal.{Nonterminal, an_expr, a_unary, an_opening
 use Rattle.jdf_tree.specs.GrammarParts.{word, prefixed_by, suffixed_by, any, name}
 use Rattle.jdf_tree.specs.Statements.{Statements}
 use Rattle.body_laws.specs.Declarations.{declarations}
+use Rattle.list_lemmas.specs.Counting.{weigh}
 
 -- the words that declare a variable among these tokens
 abbrev remaining : List Token → ℕ
@@ -46,10 +47,6 @@ declared (stmt.If c first second) = declarations first + declarations second
 declared (stmt.For w lo hi turn) = 1 + declarations turn
 declared (stmt.Trap w) = 0
 
-abbrev pub total : {A : Type 0} → (A → ℕ) → List A → ℕ
-total f [] = 0
-total f (x ∷ xs) = f x + total f xs
-
 abbrev if_there : {A : Type 0} → (A → ℕ) → Option A → ℕ
 if_there f None = 0
 if_there f (Some x) = f x
@@ -62,7 +59,7 @@ then_declares (stmt.If c first second) rest = omega arith
 then_declares (stmt.For w lo hi turn) rest = omega arith
 then_declares (stmt.Trap w) rest = omega arith
 
-pub statements_declare : (ss : List StmtTree) → declarations (statements_of ss) ≡ total declared ss
+pub statements_declare : (ss : List StmtTree) → declarations (statements_of ss) ≡ weigh declared ss
 statements_declare [] = refl
 statements_declare (s ∷ ss) = then_declares s (statements_of ss) ∙ ap (λ (n : ℕ). declared s + n) (statements_declare ss)
 
@@ -115,7 +112,7 @@ module _ (R : (n : Nonterminal) → Language (TreeOf n)) (H : (n : Nonterminal) 
   perhaps g f a s None o r h = omega (arith, ap remaining h.0)
   perhaps g f a s (Some t) o r h = a s t o r h
 
-  many_spend : {A : Type 0} (full : ℕ → Option Code) (g : Grammar A) (f : A → ℕ) → Spends (Derives R g) f → (i : ℕ) (ts : List A) (s : List Token) (o : Fault) (r : List Token) → Many full (Derives R g) i s ts o r → total f ts + remaining r ≤ remaining s
+  many_spend : {A : Type 0} (full : ℕ → Option Code) (g : Grammar A) (f : A → ℕ) → Spends (Derives R g) f → (i : ℕ) (ts : List A) (s : List Token) (o : Fault) (r : List Token) → Many full (Derives R g) i s ts o r → weigh f ts + remaining r ≤ remaining s
   many_spend full g f a i [] s o r h = omega (arith, ap remaining h.0)
   many_spend full g f a i (t ∷ ts) s o r h = let x = a s t h.1 h.0 h.3 in let y = many_spend full g f a (suc i) ts h.0 h.2 r h.4 in omega (arith, x, y)
 
@@ -141,11 +138,7 @@ module _ (R : (n : Nonterminal) → Language (TreeOf n)) (H : (n : Nonterminal) 
   int_declares j e = rw e refl
 
   for_declares : (j : Terminal) → is terminal.For j ≡ true → declares j ≡ true
-  for_declares j e = or_last (is terminal.Int j) (is terminal.For j) e
-    where
-      or_last : (a b : Bool) → b ≡ true → (a || b) ≡ true
-      or_last true b h = refl
-      or_last false b h = h
+  for_declares j e = or_right (is terminal.Int j) (is terminal.For j) e
 
   block_spends : Spends (Derives R block) declarations
   unfolding block
@@ -211,7 +204,7 @@ module _ (R : (n : Nonterminal) → Language (TreeOf n)) (H : (n : Nonterminal) 
   statements_spend : Spends (Derives R statements) declarations
   unfolding statements
   statements_spend =
-      mapped statements_of (star any statement) (total declared) declarations (λ s t o r h. many_spend any statement declared statement_spends 0 t s o r h)
+      mapped statements_of (star any statement) (weigh declared) declarations (λ s t o r h. many_spend any statement declared statement_spends 0 t s o r h)
       (λ ss. let e = statements_declare ss in omega (arith, e))
 
   block_rest_spends : Spends (Derives R block_rest) declarations

@@ -29,7 +29,7 @@ use Rattle.body_names.specs.Environment.{Environment}
 use Rattle.expr_names.specs.Symbols.{Resolved}
 use Rattle.body_names.specs.Expressions.{term_of}
 use Rattle.body_names.specs.Bindings.{Bindings, no_bindings, block_opened, block_closed, next_slot, with_variable, require_room}
-use Rattle.body_names.specs.Statements.{Resolver, in_block, follow, resolved, statement_of, body_of}
+use Rattle.body_names.specs.Statements.{in_block, resolved, statement_of, body_of}
 use Rattle.body_names.specs.Statements as resolving
 use Rattle.body_names.proofs.Blocks.{resolved-then}
 use Rattle.body_names.specs.TokenScan.{TokenScan, at_first, declared_by, declared, block_entered, block_left_by, block_left, fault_of, front_fault}
@@ -41,6 +41,7 @@ use Rattle.body_laws.proofs.VariableCount.{NotTooMany, Adds, declare_bounded, se
 use Rattle.body_laws.proofs.Judging.{NoIndex, no_index, Names, outer_judges, names_at, names_judge}
 use Rattle.body_laws.proofs.Walking.{is_for, silent_as, inside_as, is_silent, silent, left_brace, right_brace, begun, counter_name, expression, Ready, Follows, first_step, known_step, last_step, walked}
 use Rattle.body_laws.proofs.Agreeing.{room_is, last_is, front_is, Walks, Indexes, declaration_walks, assignment_walks, stop_walks}
+use Rattle.list_lemmas.specs.Counting.{weigh}
 
 -- ---- what is known at the braces of a block
 
@@ -371,7 +372,7 @@ module _ (scope : Environment) where
           ]
         ]
 
-    many_walk : (i : ℕ) (ts : List StmtTree) (s : List Token) (o : Fault) (r : List Token) → Many any (Derives R statement) i s ts o r → Walks scope s r (count.total count.declared ts) (resolved scope (statements_of ts))
+    many_walk : (i : ℕ) (ts : List StmtTree) (s : List Token) (o : Fault) (r : List Token) → Many any (Derives R statement) i s ts o r → Walks scope s r (weigh count.declared ts) (resolved scope (statements_of ts))
     many_walk i [] s o r h = record { word = []; parts = h.0; follows = λ k st ready at_most. (refl, ready) }
     many_walk i (t ∷ ts) s o r h =
         let a = statement_walks s t h.1 h.0 h.3 in

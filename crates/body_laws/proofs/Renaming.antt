@@ -18,8 +18,8 @@ use Rattle.ptg_base.specs.Returns.{and_then}
 use Rattle.jdf_tree.specs.declared.expression.Word.{Word}
 use Rattle.jdf_tree.specs.Expression.{Expression, Num, Name, Elem, Unary, Binary, Choose}
 use Rattle.jdf_tree.specs.Statements.{Statements, Done, DeclareThen, SetThen, PutThen, IfThen, ForThen, TrapThen}
-use Rattle.body_names.specs.declared.meaning.Meaning.{Meaning}
-use Rattle.body_names.specs.declared.meaning.Meaning.TheVariants as meaning
+use Rattle.expr_names.specs.declared.meaning.Meaning.{Meaning}
+use Rattle.expr_names.specs.declared.meaning.Meaning.TheVariants as meaning
 use Rattle.body_names.specs.Environment.{Environment}
 use Rattle.body_names.specs.declared.variable.Variable.{Variable}
 use Rattle.body_names.specs.Meanings.{last_named, variable_or, local_or, local_named, integer_or, collection_or_nothing, meaning_of}
@@ -30,21 +30,15 @@ use Rattle.body_names.specs.Bindings.{Bindings, block_opened, block_closed, next
 use Rattle.body_names.specs.Statements.{Resolver, declare, set, put, in_block, if_else, for_loop, trap, follow, resolved}
 use Rattle.body_laws.specs.Renaming.{named, renamed_word, with_words, renamed_term, renamed, reads, occurs, DeclaredSame, LoopedSame}
 use Rattle.expr_names.proofs.Closed.{after_ok}
-use Rattle.list_lemmas.proofs.Truth.{first_false, second_false, or-false}
+use Rattle.list_lemmas.proofs.Truth.{first_false, second_false, or-false, or-assoc}
 use Rattle.list_lemmas.proofs.Texts.{bytes_eq-sym_false}
+use Rattle.list_lemmas.proofs.Options.{same_Ok}
 
 -- ---- tests
 
 other_true : (a b : Bool) → (a || b) ≡ true → b ≡ false → a ≡ true
 other_true true b h k = refl
 other_true false b h k = absurd cc
-
-or_assoc : (a b c : Bool) → (a || (b || c)) ≡ ((a || b) || c)
-or_assoc true b c = refl
-or_assoc false b c = refl
-
-pair_is : {A B : Type 0} (x y : A × B) → (let a : Resolved (A × B) = Ok x in let b : Resolved (A × B) = Ok y in a ≡ b) → x ≡ y
-pair_is x y e = cc
 
 -- ---- a name that is new in the innermost block
 
@@ -80,7 +74,7 @@ has z vs = list_any (λ (u : Variable). bytes_eq u.name z) vs
 
 has_append : (z : List ℕ) (us ws : List Variable) → has z (us ++ ws) ≡ (has z us || has z ws)
 has_append z [] ws = refl
-has_append z (u ∷ us) ws = ap (λ (b : Bool). bytes_eq u.name z || b) (has_append z us ws) ∙ or_assoc (bytes_eq u.name z) (has z us) (has z ws)
+has_append z (u ∷ us) ws = ap (λ (b : Bool). bytes_eq u.name z || b) (has_append z us ws) ∙ sym (or-assoc (bytes_eq u.name z) (has z us) (has z ws))
 
 none_named : (vs : List Variable) (z : List ℕ) → has z vs ≡ false → last_named vs z ≡ None
 none_named [] z h = refl
@@ -288,7 +282,7 @@ module _ (scope : Environment) (old new : List ℕ) (pre : List Variable) (v : V
       let q = goes f (post ++ g.0.more) g.1 g.0.apart a.0.1 b.0 (ap rest (sym seen_so) ∙ b.1) in
       let both : follow other_first (other_rest f) ≡ Ok (then a.0.0 b.0.0, seeing b.0.1 (under_new ((post ++ g.0.more) ++ q.more))) =
       ap (λ (r : Resolved (Stmt × Bindings)). follow r (other_rest f)) g.0.same ∙ ap (λ (r : Resolved (StatementList × Bindings)). and_then r (λ y. Ok (then a.0.0 y.0, y.1))) q.same in
-      subst (λ (y : StatementList × Bindings). Along post y (follow other_first (other_rest f))) (pair_is (then a.0.0 b.0.0, b.0.1) x b.2)
+      subst (λ (y : StatementList × Bindings). Along post y (follow other_first (other_rest f))) (same_Ok (then a.0.0 b.0.0, b.0.1) x b.2)
       (further post g.0.more (then a.0.0 b.0.0, b.0.1) (follow other_first (other_rest f)) (record { more = q.more; apart = q.apart; seen = q.seen; same = both }))
 
   -- ---- statements
@@ -310,7 +304,7 @@ module _ (scope : Environment) (old new : List ℕ) (pre : List Variable) (v : V
     adds_none : (k : Bindings) (s : Stmt) (r : Resolved (Stmt × Bindings)) → r ≡ Ok (s, (new_of post k)) → (y : Stmt × Bindings) → (let p : Resolved (Stmt × Bindings) = Ok (s, (old_of post k)) in p ≡ Ok y) → One h y r
     unfolding stays
     adds_none k s r e y is =
-        subst (λ (y : Stmt × Bindings). One h y r) (pair_is (s, (old_of post k)) y is)
+        subst (λ (y : Stmt × Bindings). One h y r) (same_Ok (s, (old_of post k)) y is)
         (stays post s k r no_new e, ap (has old) (append-nil post) ∙ hidden)
 
     set_goes : (k : Bindings) (w : Word) (e : Expression) → bytes_eq w.text new ≡ false → reads new e ≡ false → (y : Stmt × Bindings) → set scope w e (old_of post k) ≡ Ok y
@@ -339,11 +333,11 @@ module _ (scope : Environment) (old new : List ℕ) (pre : List Variable) (v : V
       where
         go : (o : Option ℕ) (y : Stmt × Bindings) → trap_by w.text (old_of post k) o ≡ Ok y → One h y (trap_by w.text (new_of post k) o)
         go (Some n) y is =
-            subst (λ (y : Stmt × Bindings). One h y (trap_by w.text (new_of post k) (Some n))) (pair_is (stmt.Trap n, (old_of post k)) y is)
+            subst (λ (y : Stmt × Bindings). One h y (trap_by w.text (new_of post k) (Some n))) (same_Ok (stmt.Trap n, (old_of post k)) y is)
             (stays post (stmt.Trap n) k (trap_by w.text (new_of post k) (Some n)) no_new refl, ap (has old) (append-nil post) ∙ hidden)
         go None y is =
             let one_more = record k { words = k.words ++ w.text ∷ [] } in
-            subst (λ (y : Stmt × Bindings). One h y (trap_by w.text (new_of post k) None)) (pair_is (stmt.Trap (length k.words), seeing one_more (under_old post)) y is)
+            subst (λ (y : Stmt × Bindings). One h y (trap_by w.text (new_of post k) None)) (same_Ok (stmt.Trap (length k.words), seeing one_more (under_old post)) y is)
             (stays post (stmt.Trap (length k.words)) one_more (trap_by w.text (new_of post k) None) no_new refl, ap (has old) (append-nil post) ∙ hidden)
 
     new_apart : (u : Variable) → bytes_eq u.name new ≡ false → has new (post ++ u ∷ []) ≡ false
@@ -375,7 +369,7 @@ module _ (scope : Environment) (old new : List ℕ) (pre : List Variable) (v : V
         ∙ (ap (λ (r : Resolved (Unit {0})). and_then r (λ _. and_then (term_of scope (under_new post) (e_new e)) (end (new_of post k)))) (fresh_new k w b.0 aw b.1)
         ∙ (ap (λ (r : Resolved Term). and_then r (end (new_of post k))) (term_same post no_new h hidden e ae ∙ d.1)
         ∙ ap (λ (vs : List Variable). Ok (stmt.Set (next_slot scope k) d.0, seeing (with_variable scope w.text false k) vs)) (append_assoc pre (other ∷ post) (u ∷ [])))) in
-        subst (λ (y : Stmt × Bindings). One (h || bytes_eq w.text old) y (declare scope w (e_new e) (new_of post k))) (pair_is (stmt.Set (next_slot scope k) d.0, with_variable scope w.text false (old_of post k)) y d.2)
+        subst (λ (y : Stmt × Bindings). One (h || bytes_eq w.text old) y (declare scope w (e_new e) (new_of post k))) (same_Ok (stmt.Set (next_slot scope k) d.0, with_variable scope w.text false (old_of post k)) y d.2)
         (record { more = u ∷ []; apart = new_apart u aw; seen = append_assoc pre (v ∷ post) (u ∷ []); same = same }, old_hides u)
 
     -- ---- blocks
@@ -400,7 +394,7 @@ module _ (scope : Environment) (old new : List ℕ) (pre : List Variable) (v : V
         let a = after_ok (block (opening (old_of post k))) (λ x. Ok (x.0, block_closed (old_of post k) x.1)) y is in
         let g = goes a.0 a.1 in
         let m = record a.0.1 { outside = k.outside } in
-        let y_is = pair_is (a.0.0, block_closed (old_of post k) a.0.1) y a.2 in (
+        let y_is = same_Ok (a.0.0, block_closed (old_of post k) a.0.1) y a.2 in (
           m,
           sym (ap (λ (p : StatementList × Bindings). p.1) y_is) ∙ closed_old k a.0.1 g.more g.seen,
           ap (λ (r : Resolved (StatementList × Bindings)). and_then r (λ x. Ok (x.0, block_closed (new_of post k) x.1))) g.same
@@ -504,7 +498,7 @@ module _ (scope : Environment) (old new : List ℕ) (pre : List Variable) (v : V
 
   goes : (t : Statements) → occurs new t ≡ false → Goes (resolved scope t) (λ h. resolved scope (chosen h t))
   goes Done apart h post hidden no_new k x is =
-      subst (λ (y : StatementList × Bindings). Along post y (resolved scope (chosen h Done) (new_of post k))) (pair_is (list.Done, old_of post k) x is)
+      subst (λ (y : StatementList × Bindings). Along post y (resolved scope (chosen h Done) (new_of post k))) (same_Ok (list.Done, old_of post k) x is)
       (stays post list.Done k (resolved scope (chosen h Done) (new_of post k)) no_new (ap (λ (t : Statements). resolved scope t (new_of post k)) (done_chosen h)))
   goes (DeclareThen w e rest) apart h post hidden no_new k x is =
       let aw = first_false (bytes_eq w.text new) (reads new e || occurs new rest) apart in
@@ -576,7 +570,7 @@ declare_other scope k new w e none y is =
     let d = after_ok (term_of scope k.seen e) (end w.text) y b.2 in
     let fresh : require_fresh (named new w) k ≡ Ok tt = ap (fresh_test w) (has_drop new k.outside k.seen none) in (
       stmt.Set (next_slot scope k) d.0,
-      sym (pair_is (stmt.Set (next_slot scope k) d.0, with_variable scope w.text false k) y d.2),
+      sym (same_Ok (stmt.Set (next_slot scope k) d.0, with_variable scope w.text false k) y d.2),
       ap (λ (r : Resolved (Unit {0})). and_then r (λ _. and_then (require_fresh (named new w) k) (λ _. and_then (term_of scope k.seen e) (end new)))) a.1
           ∙ (ap (λ (r : Resolved (Unit {0})). and_then r (λ _. and_then (term_of scope k.seen e) (end new))) fresh ∙ ap (λ (r : Resolved Term). and_then r (end new)) d.1),
     )
@@ -592,7 +586,7 @@ declared_same scope k new w e rest x none apart is =
     let u = added_by scope w.text false k in
     let q = goes scope w.text new k.seen u refl rest ar false [] refl refl k1 b.0 (ap (λ (y : Stmt × Bindings). resolved scope rest y.1) (sym d.1) ∙ b.1) in
     let seen : List Variable = k.seen ++ record u { name = new } ∷ q.more in
-    let x_is : (then d.0 b.0.0, b.0.1) ≡ x = ap (λ (s : Stmt × Bindings). (then s.0 b.0.0, b.0.1)) (sym d.1) ∙ pair_is (then a.0.0 b.0.0, b.0.1) x b.2 in (
+    let x_is : (then d.0 b.0.0, b.0.1) ≡ x = ap (λ (s : Stmt × Bindings). (then s.0 b.0.0, b.0.1)) (sym d.1) ∙ same_Ok (then a.0.0 b.0.0, b.0.1) x b.2 in (
       q.more,
       ap (λ (s : StatementList × Bindings). s.1.seen) (sym x_is) ∙ q.seen,
       ap (λ (r : Resolved (Stmt × Bindings)). follow r (resolved scope (renamed w.text new rest))) d.2

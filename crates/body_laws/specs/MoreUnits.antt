@@ -7,4 +7,5 @@ use Rattle.body_eval.specs.Meaning.{meaning_within}
 -- within a larger budget a body does what it does within a smaller one, unless that was too small
 abbrev pub DoesTheSame : ℕ → ℕ → Body → List ℤ → List (Option (List ℤ)) → Type 0
 DoesTheSame units more body locals tiles =
-    meaning_within units body locals tiles ≢ Err Budget → meaning_within (units + more) body locals tiles ≡ meaning_within units body locals tiles
+    meaning_within units body locals tiles ≢ Err Budget
+    → meaning_within (units + more) body locals tiles ≡ meaning_within units body locals tiles

@@ -45,7 +45,8 @@ renamed old new (PutThen w at e rest) =
 renamed old new (IfThen c first second rest) =
     IfThen (renamed_term old new c) (renamed old new first) (renamed old new second) (renamed old new rest)
 renamed old new (ForThen w lo hi turn rest) =
-    ForThen w (renamed_term old new lo) (renamed_term old new hi) (if bytes_eq w.text old then turn else renamed old new turn) (renamed old new rest)
+    ForThen w (renamed_term old new lo) (renamed_term old new hi)
+    (if bytes_eq w.text old then turn else renamed old new turn) (renamed old new rest)
 renamed old new (TrapThen w rest) = TrapThen w (renamed old new rest)
 
 -- whether an expression reads a variable, a local or a global of this name
@@ -83,7 +84,8 @@ DeclaredSame =
     → list_any (λ (v : Variable). bytes_eq v.name new) k.seen ≡ false → occurs new (DeclareThen w e rest) ≡ false
     → resolved scope (DeclareThen w e rest) k ≡ Ok x
     → (more : List Variable) × (x.1.seen ≡ k.seen ++ declared_variable scope w.text k ∷ more)
-    × (resolved scope (DeclareThen (named new w) e (renamed w.text new rest)) k ≡ Ok (x.0, record x.1 { seen = k.seen ++ declared_variable scope new k ∷ more }))
+    × (resolved scope (DeclareThen (named new w) e (renamed w.text new rest)) k
+    ≡ Ok (x.0, record x.1 { seen = k.seen ++ declared_variable scope new k ∷ more }))
 
 -- Giving the variable of a loop another name, which does not occur in its block, changes nothing where the loop has no
 -- fault.

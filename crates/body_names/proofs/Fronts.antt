@@ -18,15 +18,13 @@ use Rattle.body_names.specs.Environment.{Environment}
 use Rattle.expr_names.specs.Symbols.{Resolved}
 use Rattle.body_names.specs.TokenScan.{TokenScan, role_of, judged_as, judged, judged_among, after_token}
 use Rattle.ptg_base.proofs.Refusals.{refuses_before}
+use Rattle.list_lemmas.proofs.Options.{same_Ok}
 
 -- ---- the next token
 
 -- the token in front, where it is a name
 abbrev token_if : Bool → Token → List Token → Read Token
 token_if b x s = cond b (Ok (x, s)) (Err (length (x ∷ s), Syntax))
-
-read_is : (x y : Word × List Token) → (let a : Read Word = Ok x in let b : Read Word = Ok y in a ≡ b) → x ≡ y
-read_is x y e = cc
 
 -- a name was read
 pub name_read : (scope : Environment) (st : TokenScan) (s : List Token) (w : Word) (r : List Token) → reading productions (name Body) s ≡ Ok (w, r) → judged scope st s ≡ judged_as (role_of st.previous r) scope st.bindings w
@@ -35,7 +33,7 @@ name_read scope st (x ∷ s) w r e = go (names Body (terminal_of x)) e
   where
     go : (b : Bool) → (token_if b x s >>= applied word_of) ≡ Ok (w, r)
         → cond b (judged_as (role_of st.previous s) scope st.bindings (word_of x)) (Ok tt) ≡ judged_as (role_of st.previous r) scope st.bindings w
-    go true e = let same = read_is (word_of x, s) (w, r) e in let same_word : word_of x ≡ w = ap (λ (y : Word × List Token). y.0) same in let same_rest : s ≡ r = ap (λ (y : Word × List Token). y.1) same in rw (same_word, same_rest) refl
+    go true e = let same = same_Ok (word_of x, s) (w, r) e in let same_word : word_of x ≡ w = ap (λ (y : Word × List Token). y.0) same in let same_rest : s ≡ r = ap (λ (y : Word × List Token). y.1) same in rw (same_word, same_rest) refl
     go false e = absurd cc
 
 -- no name was read

@@ -10,8 +10,8 @@ use Rattle.term_core.specs.Term as term
 use Rattle.term_core.specs.Value.{is_closed_with}
 use Rattle.jdf_tree.specs.declared.expression.Word.{Word}
 use Rattle.jdf_tree.specs.Expression.{Expression}
-use Rattle.body_names.specs.declared.meaning.Meaning.{Meaning}
-use Rattle.body_names.specs.declared.meaning.Meaning.TheVariants as meaning
+use Rattle.expr_names.specs.declared.meaning.Meaning.{Meaning}
+use Rattle.expr_names.specs.declared.meaning.Meaning.TheVariants as meaning
 use Rattle.body_names.specs.Environment.{Environment}
 use Rattle.body_names.specs.declared.scope.FlowName.{FlowName}
 use Rattle.body_names.specs.declared.variable.Variable.{Variable}
@@ -19,9 +19,9 @@ use Rattle.body_names.specs.Meanings.{last_named, variable_or, local_named, loca
 use Rattle.expr_names.specs.Symbols.{Resolved}
 use Rattle.body_names.specs.Expressions.{value_of, slot_of, readable, writable, if_flow, flow_by, read_flow, written_flow, symbols_of, term_of}
 use Rattle.expr_names.proofs.Closed as closed
-use Rattle.expr_names.proofs.Closed.{value_is}
 use Rattle.body_names.proofs.Slots.{AreSlots, last_found}
 use Rattle.list_lemmas.proofs.Places.{position_within}
+use Rattle.list_lemmas.proofs.Options.{same_Ok}
 
 -- ---- names
 
@@ -62,15 +62,15 @@ module _ (scope : Environment) (end : ℕ) (room : length scope.locals ≤ end) 
 
     -- the meaning of a name is closed
     value_closed : (w : Word) (m : Meaning) (t : Term) → IsThere m → value_of w m ≡ Ok t → is_closed_with end (length scope.flows) t ≡ true
-    value_closed w (meaning.Variable n) t h e = rw (← (value_is (term.Local n) t e)) (lt-ltb n end h.1)
-    value_closed w (meaning.LoopVariable n) t h e = rw (← (value_is (term.Local n) t e)) (lt-ltb n end h.1)
-    value_closed w (meaning.Local n) t h e = rw (← (value_is (term.Local n) t e)) (lt-ltb n end (omega (arith, h, room)))
-    value_closed w (meaning.Integer z) t h e = rw (← (value_is (term.Num z) t e)) refl
+    value_closed w (meaning.Variable n) t h e = rw (← (same_Ok (term.Local n) t e)) (lt-ltb n end h.1)
+    value_closed w (meaning.LoopVariable n) t h e = rw (← (same_Ok (term.Local n) t e)) (lt-ltb n end h.1)
+    value_closed w (meaning.Local n) t h e = rw (← (same_Ok (term.Local n) t e)) (lt-ltb n end (omega (arith, h, room)))
+    value_closed w (meaning.Integer z) t h e = rw (← (same_Ok (term.Num z) t e)) refl
     value_closed w meaning.Collection t h e = absurd cc
     value_closed w meaning.Nothing t h e = absurd cc
 
     slot_there : (w : Word) (m : Meaning) (n : ℕ) → IsThere m → slot_of w m ≡ Ok n → (length scope.locals ≤ n) × (n < end)
-    slot_there w (meaning.Variable k) n h e = let same = value_is k n e in subst (λ (j : ℕ). (length scope.locals ≤ j) × (j < end)) same h
+    slot_there w (meaning.Variable k) n h e = let same = same_Ok k n e in subst (λ (j : ℕ). (length scope.locals ≤ j) × (j < end)) same h
     slot_there w (meaning.LoopVariable k) n h e = absurd cc
     slot_there w (meaning.Local k) n h e = absurd cc
     slot_there w (meaning.Integer z) n h e = absurd cc
@@ -84,12 +84,12 @@ module _ (scope : Environment) (end : ℕ) (room : length scope.locals ≤ end) 
 
     readable_is : (w : Word) (n m : ℕ) (k : FlowKind) → readable w k n ≡ Ok m → n ≡ m
     readable_is w n m kind.Ctl e = absurd cc
-    readable_is w n m _ e = value_is n m e
+    readable_is w n m _ e = same_Ok n m e
 
     writable_is : (w : Word) (n m : ℕ) (k : FlowKind) → writable w k n ≡ Ok m → n ≡ m
     writable_is w n m kind.Ctl e = absurd cc
     writable_is w n m kind.Read e = absurd cc
-    writable_is w n m _ e = value_is n m e
+    writable_is w n m _ e = same_Ok n m e
 
     flow_is : (use_of : Word → FlowKind → ℕ → Resolved ℕ) → ((w : Word) (n m : ℕ) (k : FlowKind) → use_of w k n ≡ Ok m → n ≡ m) → (w : Word) (n m : ℕ) (o : Option FlowName) → if_flow use_of w n o ≡ Ok m → n ≡ m
     flow_is use_of same w n m None e = absurd cc

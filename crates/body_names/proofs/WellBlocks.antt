@@ -25,9 +25,7 @@ use Rattle.body_names.specs.Statements.{Resolver, declare, set, put, in_block, i
 use Rattle.body_names.proofs.Slots.{AreSlots, slots_append, slots_take, slots_raise}
 use Rattle.expr_names.proofs.Closed.{after_ok}
 use Rattle.body_names.proofs.Well.{set_there, written_below, term_closed}
-
-pair_is : {A B : Type 0} (x y : A × B) → (let a : Resolved (A × B) = Ok x in let b : Resolved (A × B) = Ok y in a ≡ b) → x ≡ y
-pair_is x y e = cc
+use Rattle.list_lemmas.proofs.Options.{same_Ok}
 
 slot_test : (locals end n : ℕ) → locals ≤ n → n < end → is_variable locals end n ≡ true
 slot_test locals end n h k = and_from (nat_le locals n) (nat_lt n end) (grind (arith, nat_tests)) (lt-ltb n end k)
@@ -94,7 +92,7 @@ module _ (scope : Environment) where
       let a = after_ok (require_room w k) (λ _. and_then (require_fresh w k) (λ _. and_then (term_of scope k.seen e) (λ t. Ok (stmt.Set (next_slot scope k) t, with_variable scope w.text false k)))) x h in
       let b = after_ok (require_fresh w k) (λ _. and_then (term_of scope k.seen e) (λ t. Ok (stmt.Set (next_slot scope k) t, with_variable scope w.text false k))) x a.2 in
       let d = after_ok (term_of scope k.seen e) (λ t. Ok (stmt.Set (next_slot scope k) t, with_variable scope w.text false k)) x b.2 in
-      subst (λ (y : Stmt × Bindings). Keeps k y.1 (λ end. is_well end y.0)) (pair_is (stmt.Set (next_slot scope k) d.0, with_variable scope w.text false k) x d.2)
+      subst (λ (y : Stmt × Bindings). Keeps k y.1 (λ end. is_well end y.0)) (same_Ok (stmt.Set (next_slot scope k) d.0, with_variable scope w.text false k) x d.2)
       (record {
         rises = omega arith;
         sound = declared_sound k w.text false sound (has_room w k a.0 a.1);
@@ -108,7 +106,7 @@ module _ (scope : Environment) where
       let a = after_ok (slot_of w (meaning_of scope k.seen w.text)) (λ n. and_then (term_of scope k.seen e) (λ t. Ok (stmt.Set n t, k))) x h in
       let b = after_ok (term_of scope k.seen e) (λ t. Ok (stmt.Set a.0 t, k)) x a.2 in
       let there = set_there scope (length scope.locals + k.declared) (omega arith) k.seen sound.slots w a.0 a.1 in
-      subst (λ (y : Stmt × Bindings). Keeps k y.1 (λ end. is_well end y.0)) (pair_is (stmt.Set a.0 b.0, k) x b.2)
+      subst (λ (y : Stmt × Bindings). Keeps k y.1 (λ end. is_well end y.0)) (same_Ok (stmt.Set a.0 b.0, k) x b.2)
       (record {
         rises = omega arith;
         sound = sound;
@@ -123,7 +121,7 @@ module _ (scope : Environment) where
       let b = after_ok (term_of scope k.seen at) (λ i. and_then (term_of scope k.seen e) (λ t. Ok (stmt.Put a.0 i t, k))) x a.2 in
       let d = after_ok (term_of scope k.seen e) (λ t. Ok (stmt.Put a.0 b.0 t, k)) x b.2 in
       let there = written_below scope (length scope.locals + k.declared) (omega arith) k.seen sound.slots w a.0 a.1 in
-      subst (λ (y : Stmt × Bindings). Keeps k y.1 (λ end. is_well end y.0)) (pair_is (stmt.Put a.0 b.0 d.0, k) x d.2)
+      subst (λ (y : Stmt × Bindings). Keeps k y.1 (λ end. is_well end y.0)) (same_Ok (stmt.Put a.0 b.0 d.0, k) x d.2)
       (record {
         rises = omega arith;
         sound = sound;
@@ -141,7 +139,7 @@ module _ (scope : Environment) where
       let a = after_ok (block (opening k)) (λ y. Ok (y.0, block_closed k y.1)) x h in
       let g = good (opening k) sound a.0 a.1 in
       let up = g.rises in
-      subst (λ (y : StatementList × Bindings). ((opening k).declared ≤ y.1.declared) × Keeps k y.1 (λ end. are_well_made (length scope.locals) end (length scope.flows) y.0)) (pair_is (a.0.0, block_closed k a.0.1) x a.2) (
+      subst (λ (y : StatementList × Bindings). ((opening k).declared ≤ y.1.declared) × Keeps k y.1 (λ end. are_well_made (length scope.locals) end (length scope.flows) y.0)) (same_Ok (a.0.0, block_closed k a.0.1) x a.2) (
         up,
         record {
           rises = omega (arith, rises, up);
@@ -159,7 +157,7 @@ module _ (scope : Environment) where
       let i = (inside_well block_opened second two b.0.1 (opened_sound b.0.1 g.sound) (omega arith) d.0 d.1).1 in
       let up = g.rises in
       let on = i.rises in
-      subst (λ (y : Stmt × Bindings). Keeps k y.1 (λ end. is_well end y.0)) (pair_is (stmt.If a.0 b.0.0 d.0.0, d.0.1) x d.2)
+      subst (λ (y : Stmt × Bindings). Keeps k y.1 (λ end. is_well end y.0)) (same_Ok (stmt.If a.0 b.0.0 d.0.0, d.0.1) x d.2)
       (record {
         rises = omega (arith, up, on);
         sound = i.sound;
@@ -178,7 +176,7 @@ module _ (scope : Environment) where
       let room = has_room w k a.0 a.1 in
       let g = inside_well opening turn good k (declared_sound (block_opened k) w.text true (opened_sound k sound) room) (omega arith) f.0 f.1 in
       let up : k.declared + 1 ≤ f.0.1.declared = g.0 in
-      subst (λ (y : Stmt × Bindings). Keeps k y.1 (λ end. is_well end y.0)) (pair_is (stmt.For (next_slot scope k) b.0 d.0 f.0.0, f.0.1) x f.2)
+      subst (λ (y : Stmt × Bindings). Keeps k y.1 (λ end. is_well end y.0)) (same_Ok (stmt.For (next_slot scope k) b.0 d.0 f.0.0, f.0.1) x f.2)
       (record {
         rises = omega (arith, up);
         sound = g.1.sound;
@@ -190,7 +188,7 @@ module _ (scope : Environment) where
       })
 
   stop_well : (w : Word) (k : Bindings) → IsSound k → IsStatement k (trap w k)
-  stop_well w k sound x h = subst (λ (y : Stmt × Bindings). Keeps k y.1 (λ end. is_well end y.0)) (pair_is (stmt.Trap (word_number w.text k).0, (word_number w.text k).1) x h) (go _)
+  stop_well w k sound x h = subst (λ (y : Stmt × Bindings). Keeps k y.1 (λ end. is_well end y.0)) (same_Ok (stmt.Trap (word_number w.text k).0, (word_number w.text k).1) x h) (go _)
     where
       go : (o : _) → Keeps k (numbered w.text k o).1 (λ end. true)
       go (Some n) = record { rises = omega arith; sound = sound; well = λ end le. refl }
@@ -205,7 +203,7 @@ module _ (scope : Environment) where
       let i = more a.0.1 g.sound b.0 b.1 in
       let up = g.rises in
       let on = i.rises in
-      subst (λ (y : StatementList × Bindings). Keeps k y.1 (λ end. are_well_made (length scope.locals) end (length scope.flows) y.0)) (pair_is (then a.0.0 b.0.0, b.0.1) x b.2)
+      subst (λ (y : StatementList × Bindings). Keeps k y.1 (λ end. are_well_made (length scope.locals) end (length scope.flows) y.0)) (same_Ok (then a.0.0 b.0.0, b.0.1) x b.2)
       (record {
         rises = omega (arith, up, on);
         sound = i.sound;
@@ -214,7 +212,7 @@ module _ (scope : Environment) where
 
   block_well : (statements : Statements) → IsBlock (resolved scope statements)
   block_well Done k sound x h =
-      subst (λ (y : StatementList × Bindings). Keeps k y.1 (λ end. are_well_made (length scope.locals) end (length scope.flows) y.0)) (pair_is (list.Done, k) x h) (record { rises = omega arith; sound = sound; well = λ end le. refl })
+      subst (λ (y : StatementList × Bindings). Keeps k y.1 (λ end. are_well_made (length scope.locals) end (length scope.flows) y.0)) (same_Ok (list.Done, k) x h) (record { rises = omega arith; sound = sound; well = λ end le. refl })
   block_well (DeclareThen w e rest) k sound x h = follow_well k (declare scope w e k) (resolved scope rest) (declare_well w e k sound) (block_well rest) x h
   block_well (SetThen w e rest) k sound x h = follow_well k (set scope w e k) (resolved scope rest) (set_well w e k sound) (block_well rest) x h
   block_well (PutThen w at e rest) k sound x h = follow_well k (put scope w at e k) (resolved scope rest) (put_well w at e k sound) (block_well rest) x h

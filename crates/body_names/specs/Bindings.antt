@@ -46,7 +46,10 @@ next_slot scope k = length scope.locals + k.declared
 -- after the declaration of a variable, which may be that of a loop
 abbrev pub with_variable : Environment → List ℕ → Bool → Bindings → Bindings
 with_variable scope name is_loop_variable k =
-    record k { seen = k.seen ++ record { name = name; slot = next_slot scope k; is_loop_variable = is_loop_variable } ∷ []; declared = k.declared + 1 }
+    record k {
+      seen = k.seen ++ record { name = name; slot = next_slot scope k; is_loop_variable = is_loop_variable } ∷ [];
+      declared = k.declared + 1;
+    }
 
 -- There is room for one more variable. In a body that was read there always is: its text was refused at the `int` or
 -- `for` of the 257th.

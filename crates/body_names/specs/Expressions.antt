@@ -5,26 +5,17 @@ use Rattle.jdf_lex.specs.declared.fault.JdfCode.TheVariants.{UnknownName, WrongK
 use Rattle.term_core.specs.declared.flow.FlowKind.{FlowKind}
 use Rattle.term_core.specs.declared.flow.FlowKind.TheVariants as kind
 use Rattle.term_core.specs.Term.{Term}
-use Rattle.term_core.specs.Term as term
 use Rattle.jdf_tree.specs.declared.expression.Word.{Word}
 use Rattle.jdf_tree.specs.Expression.{Expression}
 use Rattle.expr_names.specs.Symbols.{Resolved, SymbolTable, fault_at}
+pub use Rattle.expr_names.specs.Meanings.{value_of}
 use Rattle.expr_names.specs.Expressions as expression
 use Rattle.body_names.specs.declared.variable.Variable.{Variable}
-use Rattle.body_names.specs.declared.meaning.Meaning.{Meaning}
-use Rattle.body_names.specs.declared.meaning.Meaning.TheVariants as meaning
+use Rattle.expr_names.specs.declared.meaning.Meaning.{Meaning}
+use Rattle.expr_names.specs.declared.meaning.Meaning.TheVariants as meaning
 use Rattle.body_names.specs.Environment.{Environment}
 use Rattle.body_names.specs.declared.scope.FlowName.{FlowName}
 use Rattle.body_names.specs.Meanings.{meaning_of, flow_named}
-
--- the term of a name in an expression
-abbrev pub value_of : Word → Meaning → Resolved Term
-value_of w (meaning.Variable n) = Ok (term.Local n)
-value_of w (meaning.LoopVariable n) = Ok (term.Local n)
-value_of w (meaning.Local n) = Ok (term.Local n)
-value_of w (meaning.Integer z) = Ok (term.Num z)
-value_of w meaning.Collection = fault_at w WrongKind
-value_of w meaning.Nothing = fault_at w UnknownName
 
 -- the slot of a name that a statement assigns to
 abbrev pub slot_of : Word → Meaning → Resolved ℕ
@@ -67,7 +58,7 @@ written_flow scope w = flow_by writable scope w (flow_named scope w.text)
 abbrev pub symbols_of : Environment → List Variable → SymbolTable
 symbols_of scope seen =
     record {
-      value = λ w. value_of w (meaning_of scope seen w.text);
+      meaning = meaning_of scope seen;
       flow = λ w. read_flow scope w;
       reported = λ first _. first;
     }

@@ -38,7 +38,10 @@ set scope w e k =
 -- `A[at] = e;`
 abbrev pub put : Environment → Word → Expression → Expression → Bindings → Resolved (Stmt × Bindings)
 put scope w at e k =
-    and_then (written_flow scope w) (λ flow. and_then (term_of scope k.seen at) (λ i. and_then (term_of scope k.seen e) (λ x. Ok (stmt.Put flow i x, k))))
+    and_then (written_flow scope w) (λ flow.
+    and_then (term_of scope k.seen at) (λ i.
+    and_then (term_of scope k.seen e) (λ x.
+    Ok (stmt.Put flow i x, k))))
 
 -- a block that opens so, and after which its variables are no longer seen
 abbrev pub in_block : (Bindings → Bindings) → Resolver → Resolver
@@ -47,13 +50,19 @@ in_block opening block k = and_then (block (opening k)) (λ x. Ok (x.0, block_cl
 -- `if (c) { .. } else { .. }`, by what its two blocks are
 abbrev pub if_else : Environment → Expression → Resolver → Resolver → Bindings → Resolved (Stmt × Bindings)
 if_else scope c first second k =
-    and_then (term_of scope k.seen c) (λ x. and_then (in_block block_opened first k) (λ a. and_then (in_block block_opened second a.1) (λ b. Ok (stmt.If x a.0 b.0, b.1))))
+    and_then (term_of scope k.seen c) (λ x.
+    and_then (in_block block_opened first k) (λ a.
+    and_then (in_block block_opened second a.1) (λ b.
+    Ok (stmt.If x a.0 b.0, b.1))))
 
 -- `for w = lo .. hi { .. }`, by what its block is: the variable is one of the block's
 abbrev pub for_loop : Environment → Word → Expression → Expression → Resolver → Bindings → Resolved (Stmt × Bindings)
 for_loop scope w lo hi turn k =
-    and_then (require_room w k) (λ _. and_then (term_of scope k.seen lo) (λ x. and_then (term_of scope k.seen hi) (λ y.
-    and_then (in_block (λ m. with_variable scope w.text true (block_opened m)) turn k) (λ t. Ok (stmt.For (next_slot scope k) x y t.0, t.1)))))
+    and_then (require_room w k) (λ _.
+    and_then (term_of scope k.seen lo) (λ x.
+    and_then (term_of scope k.seen hi) (λ y.
+    and_then (in_block (λ m. with_variable scope w.text true (block_opened m)) turn k) (λ t.
+    Ok (stmt.For (next_slot scope k) x y t.0, t.1)))))
 
 -- `trap word;`
 abbrev pub trap : Word → Bindings → Resolved (Stmt × Bindings)
@@ -87,4 +96,5 @@ statement_of scope (tree.Trap w) k = trap w k
 -- the body of these statements and its trap words, or the first fault of its names
 abbrev pub body_of : Environment → Statements → Resolved (Body × List (List ℕ))
 body_of scope statements =
-    and_then (resolved scope statements no_bindings) (λ x. Ok (record { statements = x.0; slots = length scope.locals + x.1.declared }, x.1.words))
+    and_then (resolved scope statements no_bindings) (λ x.
+    Ok (record { statements = x.0; slots = length scope.locals + x.1.declared }, x.1.words))

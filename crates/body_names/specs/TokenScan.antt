@@ -52,7 +52,11 @@ declared is_loop_variable st = declared_by st.naming is_loop_variable st
 
 -- a block opens
 abbrev pub block_entered : TokenScan → TokenScan
-block_entered st = record st { bindings = block_opened st.bindings; open_blocks = st.open_blocks ++ (length st.bindings.seen, st.bindings.outside) ∷ [] }
+block_entered st =
+    record st {
+      bindings = block_opened st.bindings;
+      open_blocks = st.open_blocks ++ (length st.bindings.seen, st.bindings.outside) ∷ [];
+    }
 
 -- the innermost block closes: as many variables are seen as before it
 abbrev pub block_left_by : Option (ℕ × ℕ) → TokenScan → TokenScan

@@ -4,30 +4,17 @@ ghost use Rattle.std.specs.Prelude.{⊤};
 ghost use Rattle.body_names.specs.Environment.{environment_of};
 ghost use Rattle.ptg_base.specs.Returns.{Returns};
 ghost use Rattle.body_names.specs.Meanings.{meaning_of};
-ghost use Rattle.body_names.specs.Expressions.{value_of, slot_of, symbols_of, term_of};
+ghost use Rattle.body_names.specs.Expressions.{slot_of, symbols_of, term_of};
 
 use crate::flow::read_flow;
 use crate::lookup::meaning_of;
-use crate::meaning::Meaning;
 use crate::scope::{Context, Scope};
 use crate::variable::Variable;
-use expr_names::{Symbols, fault_at};
+use expr_names::{Meaning, Symbols, fault_at};
 use jdf_lex::{JdfCode, JdfFault, JdfRefusal};
 use jdf_tree::{ExprTree, Word};
+use ptg_base::Text;
 use term_core::Expr;
-
-/// The term of a name in an expression.
-pub(crate) fn value_of(word: &Word, meaning: Meaning) -> Result<Expr, JdfRefusal>
-    ensures { Returns (λ e. e) result (value_of word.now meaning) }
-{
-    match meaning {
-        Meaning::Variable(slot) | Meaning::LoopVariable(slot) => Ok(Expr::local(slot)),
-        Meaning::Local(number) => Ok(Expr::local(number)),
-        Meaning::Integer(value) => Ok(Expr::num(value)),
-        Meaning::Collection => Err(fault_at(word.spot, JdfCode::WrongKind)),
-        Meaning::Nothing => Err(fault_at(word.spot, JdfCode::UnknownName)),
-    }
-}
 
 /// The slot of a name that a statement assigns to.
 pub(crate) fn slot_of(scope: &Scope, seen: &[Variable], word: &Word) -> Result<u16, JdfRefusal>
@@ -57,8 +44,8 @@ impl Symbols for Seen<'_> {
 
     ghost table = { λ s. symbols_of (environment_of s.scope.now) s.variables.now };
 
-    fn value(&self, word: &Word) -> Result<Expr, JdfRefusal> {
-        value_of(word, meaning_of(self.scope, self.variables, &word.text))
+    fn meaning(&self, name: &Text) -> Meaning {
+        meaning_of(self.scope, self.variables, name)
     }
 
     fn flow(&self, word: &Word) -> Result<u8, JdfRefusal> {

@@ -8,13 +8,14 @@ ghost use Rattle.body_names.specs.TokenScan.{judged_as, judged, judged_among, fr
 ghost use Rattle.body_names.specs.Scanner.{scan_of};
 
 use crate::bindings::require_fresh;
-use crate::expression::{slot_of, value_of};
+use crate::expression::slot_of;
 use crate::flow::{read_flow, written_flow};
 use crate::lookup::meaning_of;
 use crate::role::{Role, role_of};
 use crate::scanner::pass;
 use crate::scope::Scope;
 use crate::variable::{BindingTable, Scanner};
+use expr_names::value_of;
 use expr_read::{is_name_next, name};
 use grammar_core::ReadRefusal;
 use jdf_lex::{JdfRefusal, Token};

@@ -7,7 +7,6 @@ mod expression;
 mod flow;
 mod front;
 mod lookup;
-mod meaning;
 mod role;
 mod scanner;
 mod scope;

@@ -4,9 +4,9 @@ ghost use Rattle.std.specs.Prelude.{◌≡◌, ◌<◌, length, MatchOption, IfS
 ghost use Rattle.body_names.specs.Environment.{environment_of};
 ghost use Rattle.body_names.specs.Meanings.{last_named, local_named, meaning_of, flow_named};
 
-use crate::meaning::Meaning;
 use crate::scope::Scope;
 use crate::variable::Variable;
+use expr_names::{Meaning, outer_meaning};
 use ptg_base::Text;
 
 // The variable of this name that was declared last. It recurses as deep as there are variables, at most 256.
@@ -46,17 +46,11 @@ pub(crate) fn meaning_of(scope: &Scope, seen: &[Variable], name: &Text) -> Meani
             Meaning::Variable(variable.slot)
         };
     }
-    if let Some(number) = local_named(scope, name.bytes()) {
-        return Meaning::Local(number as u16);
-    }
-    if let Some(value) = scope.ints.get(name) {
-        return Meaning::Integer(*value);
-    }
-    if scope.colls.get(name).copied().is_some() {
-        Meaning::Collection
-    } else {
-        Meaning::Nothing
-    }
+    let local = match local_named(scope, name.bytes()) {
+        Some(number) => Some(number as u16),
+        None => None,
+    };
+    outer_meaning(local, scope.ints, scope.colls, name)
 }
 
 /// The number of the first flow of this name.

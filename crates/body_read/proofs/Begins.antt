@@ -1,33 +1,24 @@
 -- What the next token shows of the statements of a body.
-use Rattle.std.proofs.Common.{◌≡◌, ◌<◌, ◌≤◌, Bool, true, false, cond, List, [], ◌∷◌, ◌++◌, length, Ok, refl, ap}
+use Rattle.std.proofs.Common.{◌≡◌, true, false, cond, List, [], ◌∷◌, ◌++◌, Ok, refl, ap}
 use Rattle.grammar_core.specs.declared.token.Token.{Token}
-use Rattle.jdf_alphabet.specs.declared.terminal.Terminal.{Terminal}
 use Rattle.jdf_alphabet.specs.declared.terminal.Terminal.TheVariants as terminal
-use Rattle.grammar_core.specs.Production.{Production, star}
-use Rattle.jdf_alphabet.specs.Sets.{one_of, starts, token_at}
+use Rattle.grammar_core.specs.Production.{star}
+use Rattle.jdf_alphabet.specs.Sets.{starts}
 use Rattle.grammar_core.specs.Returns.{ReadRefusal, Fails}
 use Rattle.grammar_core.specs.Reading.{Read, ◌>>=◌, first, nonterminal_at, reading}
 use Rattle.grammar_core.specs.Reading as numbered
 use Rattle.jdf_alphabet.specs.Terminals.{is, set, terminal_at}
-use Rattle.grammar_core.proofs.Fuel.{nonterminal_is, nonterminal_shrinks, run_shrinks}
+use Rattle.grammar_core.proofs.Fuel.{nonterminal_is}
 use Rattle.grammar_core.proofs.Sets.{alike_at}
-use Rattle.grammar_core.proofs.Loops as loops
 use Rattle.grammar_core.proofs.Loops.{applied, so_far, fails_before, IsListed}
 use Rattle.jdf_tree.specs.declared.body.StmtTree.{StmtTree}
-use Rattle.jdf_tree.specs.Nonterminal.{Nonterminal, a_block, TreeOf}
+use Rattle.jdf_tree.specs.Nonterminal.{a_block}
 use Rattle.jdf_tree.specs.GrammarParts.{any}
 use Rattle.jdf_tree.specs.Statements.{Statements}
 use Rattle.jdf_tree.specs.BlockStatements.{statements_of}
 use Rattle.jdf_tree.specs.BodyGrammar.{declaration, assignment, choice, for_loop, trap_statement, block, statement, begins_statement, statements, block_rest, text}
 use Rattle.jdf_tree.specs.Grammar.{productions}
 use Rattle.jdf_tree.proofs.Lists.{rest_of, rest_begins, rest_goes_on, rest_fails, rest_ends}
-
--- what is left is no longer than what there was
-pub reading_shrinks : {A : Type 0} (g : Production Nonterminal TreeOf A) (s : List Token) (t : A) (r : List Token) → reading productions g s ≡ Ok (t, r) → length r ≤ length s
-reading_shrinks g s t r e = loops.reading_shrinks productions g s t r e
-
-pub token_shrinks : (q : Terminal → Bool) (s : List Token) (t : Token) (r : List Token) → token_at q s ≡ Ok (t, r) → length r < length s
-token_shrinks q s t r e = (run_shrinks {N = Nonterminal} {Tree = TreeOf} (nonterminal_at productions) (nonterminal_shrinks productions) (one_of q) s (t, r) e).1 refl
 
 -- what the name of a block reads
 pub block_is : (s : List Token) → nonterminal_at productions a_block s ≡ reading productions block_rest s

@@ -10,10 +10,9 @@ use Rattle.grammar_core.specs.Predictive.{is_fine}
 use Rattle.ptg_base.specs.declared.refusal.Refusal.{Refusal}
 use Rattle.ptg_base.specs.declared.refusal.Refusal.TheVariants as errors
 use Rattle.grammar_core.specs.declared.fault.ReadFault.{ReadFault}
-use Rattle.grammar_core.specs.Returns.{ReadRefusal, Returns, Fails, fault_with}
-use Rattle.grammar_core.proofs.Refusals as refusals
+use Rattle.grammar_core.specs.Returns.{ReadRefusal, Returns, Fails}
 use Rattle.grammar_core.specs.Reading.{FaultFromEnd, whole}
-use Rattle.grammar_core.proofs.Whole.{text_found, text_only, fault_is as text_fault, fault_within, one_fault}
+use Rattle.grammar_core.proofs.Whole.{text_found, text_only, fault_is, fault_within, one_fault}
 use Rattle.ptg_base.specs.Returns.{FindsOrRefuses}
 use Rattle.jdf_lex.specs.declared.fault.JdfFault.{JdfFault}
 use Rattle.jdf_tree.specs.BodyGrammar.{body}
@@ -24,6 +23,7 @@ use Rattle.jdf_tree.proofs.Limits.{productions_limits, body_text_limits}
 use Rattle.expr_read.specs.Front.{fault_at}
 use Rattle.body_read.specs.Text.{IsTree, IsFaultBefore, IsTreeFault}
 use Rattle.body_read.proofs.Limited.{text_fine}
+use Rattle.list_lemmas.proofs.Options.{same_Ok, same_Err, Ok≢Err}
 
 body_fine : is_fine claims body ≡ true
 unfolding body
@@ -36,7 +36,7 @@ pub only : (s : List Token) (t : Statements) → IsText productions body s t Non
 only s t h = text_only productions claims productions_fine productions_limits body body_fine body_text_limits s t h
 
 pub faulty : (s : List Token) (n : ℕ) (c : Code) → whole productions body s ≡ Err (n, c) → IsFirstFault productions body s (length s - n) c
-faulty s n c e = text_fault productions claims productions_fine productions_limits body body_fine body_text_limits s (n, c) e
+faulty s n c e = fault_is productions claims productions_fine productions_limits body body_fine body_text_limits s (n, c) e
 
 fault_left : (s : List Token) (n : FaultFromEnd) → whole productions body s ≡ Err n → n.0 ≤ length s
 fault_left s n e = fault_within productions claims productions_fine productions_limits body body_fine body_text_limits s n e
@@ -51,44 +51,21 @@ fault_place s place c h = let w = h.within in omega (arith, w)
 
 -- ---- the answer is the one there is
 
-abbrev tree_of : Statements → Result Statements FaultFromEnd
-tree_of t = Ok t
-
-abbrev failed : FaultFromEnd → Result Statements FaultFromEnd
-failed n = Err n
-
-same_tree : (t t' : Statements) → tree_of t ≡ tree_of t' → t ≡ t'
-same_tree t t' e = cc
-
-no_stop : (t : Statements) (n : FaultFromEnd) → tree_of t ≡ failed n → ⊥
-no_stop t n e = cc
-
-abbrev stop_of : Result Statements FaultFromEnd → FaultFromEnd
-stop_of (Ok t) = (0, Syntax)
-stop_of (Err n) = n
-
-same_stop : (n m : FaultFromEnd) → failed n ≡ failed m → n ≡ m
-same_stop n m e = ap stop_of e
-
 pub one_tree : (s : List Token) (t t' : Statements) → whole productions body s ≡ Ok t → IsText productions body s t' None → t ≡ t'
-one_tree s t t' e h = same_tree t t' (sym e ∙ only s t' h)
+one_tree s t t' e h = same_Ok t t' (sym e ∙ only s t' h)
 
 pub no_fault : (s : List Token) (t : Statements) (p : ℕ) (c : Code) → whole productions body s ≡ Ok t → IsFirstFault productions body s p c → ⊥
-no_fault s t p c e h = no_stop t (length s - p, c) (sym e ∙ fault_read s p c h)
+no_fault s t p c e h = Ok≢Err t (length s - p, c) (sym e ∙ fault_read s p c h)
 
 pub no_tree : (s : List Token) (n : FaultFromEnd) (t : Statements) → whole productions body s ≡ Err n → IsText productions body s t None → ⊥
-no_tree s n t e h = no_stop t n (sym (only s t h) ∙ e)
+no_tree s n t e h = Ok≢Err t n (sym (only s t h) ∙ e)
 
 pub one_place : (s : List Token) (left p : ℕ) (d c : Code) → whole productions body s ≡ Err (left, d) → IsFirstFault productions body s p c → (length s - left ≡ p) × (d ≡ c)
 one_place s left p d c e h =
-    let same = same_stop (left, d) (length s - p, c) (sym e ∙ fault_read s p c h) in
+    let same = same_Err (left, d) (length s - p, c) (sym e ∙ fault_read s p c h) in
     let n = ap (λ (m : FaultFromEnd). m.0) same in
     let within = fault_place s p c h in
     (omega (arith, n, within), ap (λ (m : FaultFromEnd). m.1) same)
-
--- the fault that was met
-pub fault_is : (r : Result Statements FaultFromEnd) (e : ReadRefusal) (n : ℕ) (d : Code) → Fails e r → e ≡ fault_with n d → r ≡ Err (n, d)
-fault_is r e n d f is = refusals.fault_is r e n d f is
 
 -- ---- what reading answers
 
@@ -114,7 +91,7 @@ fault_before s x f e h =
 
 fault_only : (s : List Token) (x f : ReadFault) → whole productions body s ≡ Err (x.left, x.code) → IsFaultBefore s f → refusal (errors.Fault x) ≡ refusal (errors.Fault f)
 fault_only s x f e h =
-    let same = same_stop (x.left, x.code) (length s - (length s - f.left), f.code) (sym e ∙ fault_read s (length s - f.left) f.code h.first) in
+    let same = same_Err (x.left, x.code) (length s - (length s - f.left), f.code) (sym e ∙ fault_read s (length s - f.left) f.code h.first) in
     let w = h.within in
     let n = ap (λ (m : FaultFromEnd). m.0) same in
     let left : x.left ≡ f.left = omega (arith, n, w) in

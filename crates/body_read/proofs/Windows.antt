@@ -1,8 +1,9 @@
 -- Reading in a window that ends after the token that a limit says is too many.
-use Rattle.std.proofs.Common.{◌≡◌, ℕ, suc, ◌-◌, ◌+◌, ◌≤◌, ◌<◌, List, [], ◌∷◌, ◌++◌, length, take, drop, true, false, append_assoc, Ok, Err, refl, sym, ap, ◌∙◌, arith}
+use Rattle.std.proofs.Common.{◌≡◌, ℕ, suc, ◌-◌, ◌+◌, ◌≤◌, ◌<◌, List, ◌++◌, length, take, drop, false, append_assoc, Ok, Err, refl, sym, ap, ◌∙◌, arith}
 use Rattle.std.specs.Prelude.{◌==◌}
 use Rattle.std.proofs.lemmas.Bool.{le-ltb}
 use Rattle.std.proofs.lemmas.List.{length-append, drop_at, take-append-drop, length-take-le, take_rest}
+use Rattle.std.proofs.lemmas.Bool.Decides.{nat_tests}
 use Rattle.grammar_core.specs.declared.token.Token.{Token}
 use Rattle.grammar_core.specs.declared.code.Code.{Code}
 use Rattle.grammar_core.specs.Production.{Limit, Language}
@@ -42,14 +43,10 @@ module _ {A : Type 0} (L : Limit) (c : List Token → Code) (G : Language A) (p 
     -- a text that ends inside the window, and the tokens after it
     pub slice : (t : A) (rest : List Token) → p w ≡ Ok (t, rest) → false ≡ (length rest == 0) → q s ≡ Ok (t, take (length s - (length w - length rest)) (drop (length w - length rest) s))
     slice t rest e some =
-        let left : 0 < length rest = not_none rest some in
+        let left : 0 < length rest = grind (arith, nat_tests, some) in
         let all : drop (length w - length rest) s ≡ rest ++ v = ap (λ (l : List Token). drop (length w - length rest) l) parts ∙ rest_is w v t rest e in
         let from : take (length s - (length w - length rest)) (drop (length w - length rest) s) ≡ rest ++ v = take_rest s (length w - length rest) ∙ all in
         judged s ∙ (window_ok L (c s) G p sound s w v parts wide t rest left e ∙ ap (λ (l : List Token). Ok (t, l)) (sym from))
-      where
-        not_none : (rest : List Token) → false ≡ (length rest == 0) → 0 < length rest
-        not_none [] e = absurd cc
-        not_none (x ∷ r) e = omega arith
 
     pub fault : (n : ℕ) (d : Code) → 0 < n → p w ≡ Err (n, d) → q s ≡ Err (n + length v, d)
     fault n d some e = judged s ∙ window_err L (c s) G p sound s w v parts wide (n, d) some e

@@ -76,7 +76,7 @@ fn condition(alloc: Global, tokens: &[Token]) -> Result<(ExprWithSpot, &[Token])
 
 // `"{" statement* "}"`
 #[cycle(block)]
-#[tactic(auto, using(crate::proofs::Begins::block_is, crate::proofs::Begins::token_shrinks), unfolding(jdf_tree::specs::BodyGrammar::block))]
+#[tactic(auto, using(crate::proofs::Begins::block_is, expr_read::proofs::Loops::token_shrinks), unfolding(jdf_tree::specs::BodyGrammar::block))]
 pub(crate) fn block(alloc: Global, tokens: &[Token]) -> Result<(BlockTree, &[Token]), ReadRefusal>
     ensures { Returns (λ x. (x.0, x.1.now)) result (reading productions block tokens.now) }
 {
@@ -87,7 +87,7 @@ pub(crate) fn block(alloc: Global, tokens: &[Token]) -> Result<(BlockTree, &[Tok
 
 // `else block`
 #[cycle(block)]
-#[tactic(auto, using(crate::proofs::Begins::token_shrinks), unfolding(jdf_tree::specs::BodyGrammar::otherwise))]
+#[tactic(auto, using(expr_read::proofs::Loops::token_shrinks), unfolding(jdf_tree::specs::BodyGrammar::otherwise))]
 fn otherwise(alloc: Global, tokens: &[Token]) -> Result<(BlockTree, &[Token]), ReadRefusal>
     ensures { Returns (λ x. (x.0, x.1.now)) result (reading productions otherwise tokens.now) }
 {
@@ -98,7 +98,7 @@ fn otherwise(alloc: Global, tokens: &[Token]) -> Result<(BlockTree, &[Token]), R
 
 // `if condition block otherwise?`
 #[cycle(block)]
-#[tactic(auto, using(crate::proofs::AfterLookahead::choice_reads, crate::proofs::Begins::token_shrinks, crate::proofs::Begins::reading_shrinks))]
+#[tactic(auto, using(crate::proofs::AfterLookahead::choice_reads, expr_read::proofs::Loops::token_shrinks, expr_read::proofs::Loops::reading_shrinks))]
 fn choice(alloc: Global, tokens: &[Token]) -> Result<(StmtTree, &[Token]), ReadRefusal>
     ensures { Returns (λ x. (x.0, x.1.now)) result (reading productions choice tokens.now) }
 {
@@ -115,7 +115,7 @@ fn choice(alloc: Global, tokens: &[Token]) -> Result<(StmtTree, &[Token]), ReadR
 
 // `for name "=" expr ".." expr block`
 #[cycle(block)]
-#[tactic(auto, using(crate::proofs::Begins::token_shrinks, crate::proofs::Begins::reading_shrinks), unfolding(jdf_tree::specs::BodyGrammar::for_loop))]
+#[tactic(auto, using(expr_read::proofs::Loops::token_shrinks, expr_read::proofs::Loops::reading_shrinks), unfolding(jdf_tree::specs::BodyGrammar::for_loop))]
 fn for_loop(alloc: Global, tokens: &[Token]) -> Result<(StmtTree, &[Token]), ReadRefusal>
     ensures { Returns (λ x. (x.0, x.1.now)) result (reading productions for_loop tokens.now) }
 {

@@ -28,7 +28,7 @@ fn text(alloc: Global, tokens: &[Token]) -> Result<(BlockTree, &[Token]), ReadRe
 }
 
 // A body is read in a window up to the first of its limits, so that no text makes the recursion deep.
-#[tactic(auto, using(crate::proofs::Limited::within_limit, crate::proofs::Limited::slice, crate::proofs::Limited::fault, crate::proofs::Limited::cut_after, crate::proofs::Limited::cut_at_fault, crate::proofs::Limited::text_within, crate::proofs::Begins::reading_shrinks))]
+#[tactic(auto, using(crate::proofs::Limited::within_limit, crate::proofs::Limited::slice, crate::proofs::Limited::fault, crate::proofs::Limited::cut_after, crate::proofs::Limited::cut_at_fault, crate::proofs::Limited::text_within, expr_read::proofs::Loops::reading_shrinks))]
 fn body(alloc: Global, tokens: &[Token]) -> Result<(BlockTree, &[Token]), ReadRefusal>
     ensures { Returns (λ x. (x.0, x.1.now)) result (reading productions body tokens.now) }
 {

@@ -14,7 +14,7 @@ use Rattle.dep_iter.proofs.Listing.{listed}
 use Rattle.task_order.specs.Greatest.{IsGreatestOrder}
 use Rattle.task_order.proofs.Orders.{from_outside}
 use Rattle.chain_cert.specs.Chains.{HasNoCycle, IsSourceOf}
-use Rattle.chain_cert.proofs.Completeness.{long_walk}
+use Rattle.chain_exists.proofs.Completeness.{long_walk}
 use Rattle.chain_cert.proofs.TaskSorting.{all_once}
 use Rattle.chain_cert.proofs.Turning.{IsBackFrom, source_task}
 use Rattle.chain_cert.proofs.Whole.{no_cycle, order_at_most}

@@ -8,15 +8,15 @@ use Rattle.dep_iter.specs.Tasks.{IsTask}
 use Rattle.chain_cert.specs.Chains.{IsSourceOf}
 use Rattle.chain_cert.specs.Weights.{weight}
 
--- t is the source of an edge into the first of these, a task of the job, if there is one
-abbrev pub LeadsTo : Plan → Task → List Task → Type 0
-LeadsTo P t [] = Unit {0}
-LeadsTo P t (u ∷ us) = IsTask P u × IsSourceOf P t u
+-- t is the source of an edge into the first of these tasks, which is one of the job, if there is a first
+abbrev pub IsSourceOfFirst : Plan → Task → List Task → Type 0
+IsSourceOfFirst P t [] = Unit {0}
+IsSourceOfFirst P t (u ∷ us) = IsTask P u × IsSourceOf P t u
 
--- the first of these is a task of the job that leads to the second
+-- the first of these is a task of the job, and the source of an edge into the second, if there is one
 abbrev pub IsLinked : Plan → List Task → Type 0
 IsLinked P [] = Unit {0}
-IsLinked P (t ∷ ts) = IsTask P t × LeadsTo P t ts
+IsLinked P (t ∷ ts) = IsTask P t × IsSourceOfFirst P t ts
 
 -- the level in each row of the source s is so much below n
 abbrev pub IsAboveSource : List (Task × ℕ) → ℕ → ℕ → Task → Type 0

@@ -3,14 +3,13 @@
 ghost use Rattle.std.specs.Prelude.{◌≡◌, ◌≤◌, ◌↔◌, List, IsTrue, IfOk, IsOk};
 ghost use Rattle.ptg_base.specs.Task.{Task};
 ghost use Rattle.chain_cert.specs.Chains.{IsChain};
-ghost use Rattle.chain_cert.specs.Checked as checked;
 ghost use Rattle.chain_cert.specs.Checked.{ShowsHeaviest};
 ghost use Rattle.chain_cert.specs.Checking.{AreWeights};
 ghost use Rattle.chain_cert.specs.Weights as weighing;
 
 use crate::chains::is_chain;
 use crate::levels::{are_high_enough, has_tasks_in_order};
-use chain_cert::weight_of;
+use chain_cert::{greatest_level, weight_of};
 use dep_iter::Matched;
 use ptg_base::{OutOfMemory, TaskId};
 
@@ -24,17 +23,6 @@ fn chain_weight(weights: &[u64], chain: &[TaskId]) -> u128
         total += u128::from(weight_of(weights, t));
     }
     total
-}
-
-// The greatest level of these rows, 0 where there is none.
-fn greatest_level(rows: &[(TaskId, u64)]) -> u64
-    ensures { result ≡ checked.greatest_level rows.now }
-{
-    let mut greatest = 0;
-    for row in rows {
-        greatest = row.1.max(greatest);
-    }
-    greatest
 }
 
 /// Whether the levels show that no chain is heavier than this one: they are all tasks in task order, each level is at

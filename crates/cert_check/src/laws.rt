@@ -11,7 +11,7 @@ ghost use Rattle.task_order.specs.Greatest.{IsGreatestOrder};
 ghost use Rattle.chain_cert.specs.declared.certificate.Certificate.{Certificate};
 ghost use Rattle.chain_cert.specs.Certificates.{IsCertificate};
 ghost use Rattle.chain_cert.specs.Chains.{HasNoCycle, IsCycle};
-ghost use Rattle.chain_cert.specs.Completing.{IsComplete};
+ghost use Rattle.chain_exists.specs.Completing.{IsComplete};
 ghost use Rattle.chain_cert.specs.Finding.{IsAccepted};
 ghost use Rattle.chain_cert.specs.Printed.{IsPrintedCycle};
 

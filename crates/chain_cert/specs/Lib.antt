@@ -5,5 +5,4 @@ pub mod Printed
 pub mod Certificates
 pub mod Checked
 pub mod Checking
-pub mod Completing
 pub mod Finding

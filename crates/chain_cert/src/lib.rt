@@ -4,6 +4,7 @@
 mod certificate;
 mod certifying;
 mod class_weights;
+mod greatest;
 mod leftover;
 mod leveling;
 mod longest;
@@ -13,4 +14,5 @@ mod walking;
 pub use certificate::Certificate;
 pub use certifying::certify;
 pub use class_weights::weights;
+pub use greatest::greatest_level;
 pub use tasks::{is_before, weight_of};

@@ -13,8 +13,8 @@ use Rattle.flow_meaning.specs.Final.{final_data}
 use Rattle.chain_cert.specs.declared.certificate.Certificate.{Certificate}
 use Rattle.chain_cert.specs.declared.certificate.Certificate.TheVariants.{Chain, Cycle, Trapped}
 use Rattle.chain_cert.specs.Certificates.{IsCertificate}
-use Rattle.chain_cert.specs.Completing.{IsComplete}
-use Rattle.chain_cert.proofs.Completeness.{complete_exactly}
+use Rattle.chain_exists.specs.Completing.{IsComplete}
+use Rattle.chain_exists.proofs.Completeness.{complete_exactly}
 use Rattle.chain_cert.proofs.Turning.{printed_is_cycle}
 use Rattle.chain_exists.specs.Fitting.{Fits}
 

@@ -1,4 +1,4 @@
-//! Every job has a certificate, and it goes with the job's answer.
+//! Every job has a certificate, and it goes with the job's answer; why it has no other.
 #![tactic(auto)]
 
 mod laws;

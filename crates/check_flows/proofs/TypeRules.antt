@@ -18,7 +18,7 @@ use Rattle.check_flows.specs.Kinds.{is_control}
 use Rattle.check_flows.specs.Datatypes.{default_name, type_is, type_number, allowed_type, type_of_flow, flow_type}
 use Rattle.check_flows.specs.Rules.{is_other_flow, has_other_type}
 
-data_type : (d : Data) (k : FlowKind) (name : List ℕ) (n : ℕ) → is_control k ≡ false → allowed_type d k name ≡ Some n → type_number d name ≡ Some n
+pub data_type : (d : Data) (k : FlowKind) (name : List ℕ) (n : ℕ) → is_control k ≡ false → allowed_type d k name ≡ Some n → type_number d name ≡ Some n
 data_type d k name n c e = ap (λ b. cond (b && not (bytes_eq name default_name)) None (type_number d name)) (sym c) ∙ e
 
 control_type : (d : Data) (k : FlowKind) (name : List ℕ) (n : ℕ) → is_control k ≡ true → allowed_type d k name ≡ Some n → n ≡ 0

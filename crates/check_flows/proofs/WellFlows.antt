@@ -1,7 +1,7 @@
 -- A flow whose names are resolved, and that breaks no rule, is one that a plan may have.
-use Rattle.std.proofs.Common.{◌≡◌, ℕ, suc, ◌+◌, Bool, true, false, not, ◌&&◌, cond, List, [], ◌∷◌, ◌++◌, length, filter, flat_map, Option, Some, None, is_some, IsSome, nat_le, IsTrue, refl, sym, ◌∙◌, ap, subst, arith}
+use Rattle.std.proofs.Common.{◌≡◌, ℕ, suc, ◌+◌, Bool, true, false, ◌&&◌, cond, List, [], ◌∷◌, ◌++◌, length, filter, flat_map, Option, Some, None, is_some, IsSome, nat_le, IsTrue, refl, sym, ◌∙◌, ap, subst, arith}
 use Rattle.std.specs.List.{list_all, AllByRecursion}
-use Rattle.std.proofs.lemmas.Bool.{false≢true, le-leb, and_from}
+use Rattle.std.proofs.lemmas.Bool.{false≢true, le-leb, and_from, not-true}
 use Rattle.std.proofs.lemmas.List.Filters.{length-filter_both}
 use Rattle.term_core.specs.Term.{Term}
 use Rattle.term_core.specs.declared.space.ClassSpace.{ClassSpace}
@@ -49,16 +49,12 @@ parts_kept {A} {B} f g keep p P h (x ∷ xs) ys all none e = go (keep x) refl (�
         (and_from (p q.0) (list_all p q.1) (h x q.0 k all.0 (first_nil (g x) (flat_map g (filter keep xs)) n) q.2) (more q.1 (rest_nil (g x) (flat_map g (filter keep xs)) n) q.3))
     go false k more n s = more ys n s
 
-of_way : (inward : Bool) (dep : DepTree) → is_of_way inward dep ≡ true → dep.inward ≡ inward
+pub of_way : (inward : Bool) (dep : DepTree) → is_of_way inward dep ≡ true → dep.inward ≡ inward
 of_way true dep e = e
-of_way false dep e = go dep.inward e
-  where
-    go : (b : Bool) → not b ≡ true → b ≡ false
-    go true f = absurd cc
-    go false f = refl
+of_way false dep e = not-true dep.inward e
 
 -- whether a target passes, as in an in dependence or an out dependence
-abbrev ends : List ClassPlan → List ClassSpace → List Shape → ℕ → FlowPlan → Bool → Target → Bool
+abbrev pub ends : List ClassPlan → List ClassSpace → List Shape → ℕ → FlowPlan → Bool → Target → Bool
 ends classes spaces colls locals f true t = is_source classes spaces colls locals f t
 ends classes spaces colls locals f false t = is_destination classes spaces colls locals f t
 

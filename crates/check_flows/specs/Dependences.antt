@@ -35,13 +35,15 @@ type_spot first (Some w) = w.spot
 abbrev pub type_faults : Data → FlowTree → DepTree → List JdfFault
 type_faults d flow dep =
     written_faults d flow.kind dep.datatype
-    ++ fault_if (not (is_control flow.kind) && not (bytes_eq (type_of_written dep.datatype) (type_of_flow flow))) (type_spot dep.yes dep.datatype) MixedTypes
+    ++ fault_if (not (is_control flow.kind) && not (bytes_eq (type_of_written dep.datatype) (type_of_flow flow)))
+    (type_spot dep.yes dep.datatype) MixedTypes
 
 -- all faults of a dependence
 abbrev pub dependence_faults : Job → List DefTree → FlowTree → DepTree → List JdfFault
 dependence_faults job seen flow dep =
     (option_faults job seen dep.guard
-    ++ (target_faults job seen flow dep.inward dep.yes ++ second_faults (target_faults job seen flow dep.inward) dep.no))
+    ++ (target_faults job seen flow dep.inward dep.yes
+    ++ second_faults (target_faults job seen flow dep.inward) dep.no))
     ++ type_faults job.given flow dep
 
 -- the dependence with its names resolved

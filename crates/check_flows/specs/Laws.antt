@@ -18,11 +18,16 @@ use Rattle.check_flows.specs.PartsOfJob.{HaveParts}
 -- Where a plan has the parts of a job, an element that breaks no rule is one of a collection of the plan.
 abbrev pub ElementsExist : Type 0
 ElementsExist =
-    (job : Job) (classes : List ClassPlan) (spaces : List ClassSpace) (colls : List Shape) → HaveParts job classes spaces colls → (seen : List DefTree) (w : Word) (args : List ArgTree) (x : ℕ × List Term)
-    → element_faults job seen w args ≡ [] → element_of job seen w args ≡ Some x → IsTrue (is_element colls (length seen) x.0 x.1)
+    (job : Job) (classes : List ClassPlan) (spaces : List ClassSpace) (colls : List Shape)
+    → HaveParts job classes spaces colls
+    → (seen : List DefTree) (w : Word) (args : List ArgTree) (x : ℕ × List Term)
+    → element_faults job seen w args ≡ [] → element_of job seen w args ≡ Some x
+    → IsTrue (is_element colls (length seen) x.0 x.1)
 
 -- Where a plan has the parts of a job, a flow that breaks no rule is one that the plan may have.
 abbrev pub FlowsAreWellMade : Type 0
 FlowsAreWellMade =
-    (job : Job) (classes : List ClassPlan) (spaces : List ClassSpace) (colls : List Shape) → HaveParts job classes spaces colls → (seen : List DefTree) (flow : FlowTree) (p : FlowPlan)
-    → IsFlowWithinLimits flow → flow_faults job seen flow ≡ [] → flow_plan job seen flow ≡ Some p → IsTrue (is_flow classes spaces colls (suc (length job.given.types)) (length seen) p)
+    (job : Job) (classes : List ClassPlan) (spaces : List ClassSpace) (colls : List Shape)
+    → HaveParts job classes spaces colls → (seen : List DefTree) (flow : FlowTree) (p : FlowPlan)
+    → IsFlowWithinLimits flow → flow_faults job seen flow ≡ [] → flow_plan job seen flow ≡ Some p
+    → IsTrue (is_flow classes spaces colls (suc (length job.given.types)) (length seen) p)

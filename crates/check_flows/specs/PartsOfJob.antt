@@ -24,7 +24,8 @@ pub record IsShapeOf (c : Coll) (s : Shape) : Type 0 where
 
 -- By number, the classes have each flow of the text, the spaces each class with as many parameters, and the collections
 -- each of the data.
-pub record HaveParts (job : Job) (classes : List ClassPlan) (spaces : List ClassSpace) (colls : List Shape) : Type 0 where
+pub record HaveParts (job : Job) (classes : List ClassPlan) (spaces : List ClassSpace)
+    (colls : List Shape) : Type 0 where
   pub flow : (n m : ℕ) (c : ClassTree) (f : FlowTree) → slice_get job.jdf.classes n ≡ Some c
       → slice_get c.flows m ≡ Some f → (p : FlowPlan) × (flow_of classes n m ≡ Some p) × IsFlowOf job.given f p
   pub params : (n : ℕ) (c : ClassTree) → slice_get job.jdf.classes n ≡ Some c

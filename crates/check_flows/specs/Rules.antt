@@ -59,7 +59,8 @@ task_ranges (tree.Null spot) = []
 -- and is there; a tile has one source
 abbrev pub in_faults : FlowKind → TargetTree → List JdfFault
 in_faults kind t =
-    fault_if (is_write kind && is_no_start t) (first_spot t) WriteInput ++ (if is_control kind then [] else task_ranges t)
+    fault_if (is_write kind && is_no_start t) (first_spot t) WriteInput
+    ++ (if is_control kind then [] else task_ranges t)
 
 -- the faults of the target of an out dependence: a new tile is no target
 abbrev pub out_faults : TargetTree → List JdfFault

@@ -22,7 +22,8 @@ first_spot (tree.Null spot) = spot
 -- the faults of a flow of this class, named with so many arguments
 abbrev pub class_faults : Word → Word → ℕ → ClassTree → List JdfFault
 class_faults flow name count class =
-    fault_if (not (length class.params == count)) name.spot Arity ++ fault_if (is_none (flow_named class flow.text)) flow.spot NoSuchFlow
+    fault_if (not (length class.params == count)) name.spot Arity
+    ++ fault_if (is_none (flow_named class flow.text)) flow.spot NoSuchFlow
 
 -- the faults of the names of a flow and a class, and of the number of arguments: of an unknown class nothing else is
 -- said
@@ -50,7 +51,8 @@ named_faults job seen (tree.Null spot) = []
 -- the target with its names resolved
 abbrev pub target_of : Job → List DefTree → TargetTree → Option Target
 target_of job seen (tree.Task flow class args) =
-    both (λ (x : ℕ × ℕ) (y : List Arg). plan.Task x.0 x.1 y) (task_of job flow (class_named job class.text)) (arguments_of job seen args)
+    both (λ (x : ℕ × ℕ) (y : List Arg). plan.Task x.0 x.1 y)
+    (task_of job flow (class_named job class.text)) (arguments_of job seen args)
 target_of job seen (tree.Element coll args) =
     option_map (λ (x : ℕ × List Term). plan.Element x.0 x.1) (element_of job seen coll args)
 target_of job seen (tree.New spot) = Some plan.New

@@ -1,13 +1,11 @@
 -- The first fault is one of its list, and none comes before it.
 use Rattle.std.proofs.Common.{◌≡◌, Bool, true, false, List, [], ◌∷◌, Option, Some, None, refl, sym, ◌∙◌, ap, subst, inl, inr}
+use Rattle.std.proofs.lemmas.Option.{same_Some}
 use Rattle.ptg_base.specs.Lists.{IsIn}
 use Rattle.check_names.specs.Alphabet.{JdfFault}
 use Rattle.check_names.specs.Faults.{is_before, earlier_of, first_fault}
 use Rattle.check_names.proofs.Order.{before-trans, before-cotrans, before-irrefl}
 use Rattle.check_names.proofs.First.{the-later, the-former, first_none}
-
-same_some : (a b : JdfFault) → Some a ≡ Some b → a ≡ b
-same_some a b e = cc
 
 no_fault : {A : Type 0} (f : JdfFault) → None ≡ Some f → A
 no_fault f e = absurd cc
@@ -17,12 +15,12 @@ first_is_one [] f e = no_fault f e
 first_is_one (g ∷ faults) f e = go (first_fault faults) (λ x. first_is_one faults x) e
   where
     go : (o : Option JdfFault) → ((x : JdfFault) → o ≡ Some x → IsIn x faults) → earlier_of (Some g) o ≡ Some f → IsIn f (g ∷ faults)
-    go None later e = inl (sym (same_some g f e))
+    go None later e = inl (sym (same_Some g f e))
     go (Some h) later e = pick (is_before h g) refl
       where
         pick : (b : Bool) → is_before h g ≡ b → IsIn f (g ∷ faults)
         pick true t = inr (later f (ap (λ x. Some x) (sym (the-later g h t)) ∙ e))
-        pick false t = inl (sym (same_some _ _ (ap (λ x. Some x) (sym (the-former g h t)) ∙ e)))
+        pick false t = inl (sym (same_Some _ _ (ap (λ x. Some x) (sym (the-former g h t)) ∙ e)))
 
 -- of two faults at most one comes before the other
 not-back : (a b : JdfFault) → is_before b a ≡ true → is_before a b ≡ false
@@ -40,20 +38,20 @@ none_is_before (x ∷ faults) f g e i = go (first_fault faults) (λ y. none_is_b
     go : (o : Option JdfFault) → ((y : JdfFault) → o ≡ Some y → IsIn g faults → is_before g y ≡ false) → (o ≡ None → faults ≡ []) → earlier_of (Some x) o ≡ Some f → is_before g f ≡ false
     go None later empty e =
         elim i [
-          | inl s ↦ subst (λ y. is_before g y ≡ false) (same_some x f e) (subst (λ y. is_before y x ≡ false) (sym s) (before-irrefl x))
+          | inl s ↦ subst (λ y. is_before g y ≡ false) (same_Some x f e) (subst (λ y. is_before y x ≡ false) (sym s) (before-irrefl x))
           | inr j ↦ absurd (subst (IsIn g) (empty refl) j)
         ]
     go (Some h) later empty e = pick (is_before h x) refl
       where
         pick : (b : Bool) → is_before h x ≡ b → is_before g f ≡ false
         pick true t =
-            let s : h ≡ f = same_some h f (ap (λ y. Some y) (sym (the-later x h t)) ∙ e) in
+            let s : h ≡ f = same_Some h f (ap (λ y. Some y) (sym (the-later x h t)) ∙ e) in
             elim i [
               | inl s2 ↦ subst (λ y. is_before g y ≡ false) s (subst (λ y. is_before y h ≡ false) (sym s2) (not-back x h t))
               | inr j ↦ later f (ap (λ y. Some y) s) j
             ]
         pick false t =
-            let s : x ≡ f = same_some x f (ap (λ y. Some y) (sym (the-former x h t)) ∙ e) in
+            let s : x ≡ f = same_Some x f (ap (λ y. Some y) (sym (the-former x h t)) ∙ e) in
             subst (λ y. is_before g y ≡ false) s
             (elim i [
               | inl s2 ↦ subst (λ y. is_before y x ≡ false) (sym s2) (before-irrefl x)

@@ -1,6 +1,5 @@
 -- Terms whose names are resolved name only locals that are seen.
-use Rattle.std.proofs.Common.{◌≡◌, ℕ, ℤ, ◌<◌, ◌&&◌, List, length, Option, Some, None, option_map, Ok, IsTrue, refl, ap, subst}
-use Rattle.std.specs.Option.{ok_or, option_or}
+use Rattle.std.proofs.Common.{◌≡◌, ℕ, ℤ, ◌<◌, ◌&&◌, Bool, true, false, List, length, Option, Some, None, is_some, option_map, Ok, IsTrue, refl, ap, subst}
 use Rattle.std.proofs.lemmas.Bool.{lt-ltb, and_from}
 use Rattle.term_core.specs.Term.{Term}
 use Rattle.term_core.specs.Term as term
@@ -11,32 +10,25 @@ use Rattle.term_core.specs.declared.space.Def.{Def}
 use Rattle.term_core.specs.declared.space.Def.TheVariants as def
 use Rattle.jdf_tree.specs.Expression.{Expression}
 use Rattle.jdf_tree.specs.declared.tree.ArgTree.TheVariants as tree
-use Rattle.check_names.specs.Alphabet.{DefTree, ArgTree, JdfFault, Spot}
-use Rattle.check_names.specs.Faults.{fault}
-use Rattle.check_names.specs.Names.{Job, word_is, int_named, local_named}
+use Rattle.check_names.specs.Alphabet.{Word, DefTree, ArgTree}
+use Rattle.check_names.specs.Names.{Job, word_is, int_named, coll_named, local_named}
 use Rattle.check_names.specs.Returns.{both}
-use Rattle.check_names.specs.Expressions.{name_code, name_term, symbols_of, term_of, option_term}
+use Rattle.check_names.specs.Expressions.{symbols_of, term_of, option_term}
 use Rattle.check_names.proofs.OneResolver.{agrees, resolved_is}
 use Rattle.expr_names.proofs.Closed as closed
-use Rattle.expr_names.proofs.Closed.{value_is}
-use Rattle.expr_names.specs.Symbols.{Resolved}
+use Rattle.expr_names.specs.Meanings.{outer_meaning, value_of}
 use Rattle.check_names.specs.Arguments.{range_of}
 use Rattle.check_names.specs.Definitions.{definition_of}
 use Rattle.list_lemmas.proofs.Places.{position_within}
+use Rattle.list_lemmas.proofs.Options.{same_Ok}
 use Rattle.std.proofs.lemmas.Option.{same_Some}
 
-closed_name : (seen : List DefTree) (name : List ℕ) (o : Option ℕ) (z : Option Term) (t : Term) → ((n : ℕ) → o ≡ Some n → n < length seen) → ((x : Term) → z ≡ Some x → IsTrue (is_closed (length seen) x))
-    → option_or (option_map term.Local o) z ≡ Some t → IsTrue (is_closed (length seen) t)
-closed_name seen name None z t within other e = other t e
-closed_name seen name (Some n) z t within other e = subst (λ x. IsTrue (is_closed (length seen) x)) (same_Some (term.Local n) t e) (lt-ltb n (length seen) (within n refl))
-
-closed_int : (seen : List DefTree) (o : Option ℤ) (t : Term) → option_map term.Num o ≡ Some t → IsTrue (is_closed (length seen) t)
-closed_int seen None t e = absurd cc
-closed_int seen (Some z) t e = subst (λ x. IsTrue (is_closed (length seen) x)) (same_Some (term.Num z) t e) refl
-
-from_ok_or : (o : Option Term) (f : JdfFault) (t : Term) → (let a : Resolved Term = Ok t in ok_or o f ≡ a) → o ≡ Some t
-from_ok_or None f t e = absurd cc
-from_ok_or (Some x) f t e = ap (λ y. Some y) (value_is x t e)
+closed_name : (seen : List DefTree) (w : Word) (o : Option ℕ) (z : Option ℤ) (b : Bool) (t : Term) → ((n : ℕ) → o ≡ Some n → n < length seen)
+    → value_of w (outer_meaning o z b) ≡ Ok t → IsTrue (is_closed (length seen) t)
+closed_name seen w None None true t within e = absurd cc
+closed_name seen w None None false t within e = absurd cc
+closed_name seen w None (Some z) b t within e = subst (λ x. IsTrue (is_closed (length seen) x)) (same_Ok (term.Num z) t e) refl
+closed_name seen w (Some n) z b t within e = subst (λ x. IsTrue (is_closed (length seen) x)) (same_Ok (term.Local n) t e) (lt-ltb n (length seen) (within n refl))
 
 -- two parts that are there
 pub pair_parts : {A B : Type 0} (o : Option A) (p : Option B) (z : A × B) → both (λ x y. (x, y)) o p ≡ Some z → (o ≡ Some z.0) × (p ≡ Some z.1)
@@ -46,13 +38,9 @@ pair_parts (Some x) (Some y) z e = let same : (x, y) ≡ z = same_Some (x, y) z 
 
 pub closed_term : (job : Job) (seen : List DefTree) (e : Expression) (t : Term) → term_of job seen e ≡ Some t → IsTrue (is_closed (length seen) t)
 closed_term job seen e t h =
-    closed.term_closed (symbols_of job seen) (length seen) 0 (λ w x k. named w.text x w.spot k) (λ w n k. absurd cc) e t (resolved_is _ _ _ (agrees job seen e) t h)
-  where
-    named : (name : List ℕ) (x : Term) (spot : Spot) → ok_or (name_term job seen name) (fault spot (name_code job name)) ≡ Ok x → IsTrue (is_closed (length seen) x)
-    named name x spot k =
-        closed_name seen name (local_named seen name) (option_map term.Num (int_named job name)) x
-        (λ n e. position_within (λ (d : DefTree). word_is name d.name) seen n e) (λ y e. closed_int seen (int_named job name) y e)
-        (from_ok_or (name_term job seen name) (fault spot (name_code job name)) x k)
+    closed.term_closed (symbols_of job seen) (length seen) 0
+    (λ w x k. closed_name seen w (local_named seen w.text) (int_named job w.text) (is_some (coll_named job w.text)) x (λ n q. position_within (λ (d : DefTree). word_is w.text d.name) seen n q) k)
+    (λ w n k. absurd cc) e t (resolved_is _ _ _ (agrees job seen e) t h)
 
 -- the same of an expression that may be left out
 pub closed_step : (job : Job) (seen : List DefTree) (e : Option Expression) (o : Option Term) → option_term job seen e ≡ Some o → IsTrue (is_closed_step (length seen) o)

@@ -4,8 +4,9 @@ use Rattle.std.proofs.lemmas.List.{append-nil}
 use Rattle.ptg_base.specs.declared.refusal.Refusal.{Refusal}
 use Rattle.ptg_base.specs.declared.refusal.Refusal.TheVariants.{Fault, OutOfMemory}
 use Rattle.check_names.specs.Alphabet.{JdfFault}
-use Rattle.check_names.specs.Faults.{earlier_of, first_fault}
-use Rattle.check_names.specs.Returns.{ReturnsChecked, both, earlier_refusal}
+use Rattle.check_names.specs.Faults.{earlier, earlier_of, first_fault}
+use Rattle.expr_names.specs.Refusals.{reported_refusal}
+use Rattle.check_names.specs.Returns.{ReturnsChecked, both}
 use Rattle.check_names.proofs.First.{first_append}
 
 pub both_ok : {A B : Type 0} (a : A) (b : B) (p : Option A) (q : Option B) (fs gs : List JdfFault)
@@ -23,7 +24,7 @@ first_err b (Fault f) p q fs gs h k = ap (λ l. first_fault (fs ++ l)) k.1 ∙ (
 first_err b OutOfMemory p q fs gs h k = tt
 
 pub both_err : {A B : Type 0} (d e : Refusal JdfFault) (p : Option A) (q : Option B) (fs gs : List JdfFault)
-    → ReturnsChecked {A = A} (Err d) p fs → ReturnsChecked {A = B} (Err e) q gs → ReturnsChecked {A = A × B} (Err (earlier_refusal d e)) (both (λ x y. (x, y)) p q) (fs ++ gs)
+    → ReturnsChecked {A = A} (Err d) p fs → ReturnsChecked {A = B} (Err e) q gs → ReturnsChecked {A = A × B} (Err (reported_refusal earlier d e)) (both (λ x y. (x, y)) p q) (fs ++ gs)
 both_err OutOfMemory e p q fs gs h k = tt
 both_err (Fault f) OutOfMemory p q fs gs h k = tt
 both_err (Fault f) (Fault g) p q fs gs h k = first_append fs gs ∙ (ap (λ o. earlier_of o (first_fault gs)) h ∙ ap (earlier_of (Some f)) k)
@@ -45,7 +46,7 @@ pub ok_refused : {A B : Type 0} (a : A) (f : JdfFault) (p : Option A) (q : Optio
 ok_refused a f p q fs h = ap (λ l. first_fault (l ++ f ∷ [])) h.1
 
 pub err_refused : {A B : Type 0} (e : Refusal JdfFault) (f : JdfFault) (p : Option A) (q : Option B) (fs : List JdfFault) → ReturnsChecked {A = A} (Err e) p fs
-    → ReturnsChecked {A = B} (Err (earlier_refusal e (Fault f))) q (fs ++ f ∷ [])
+    → ReturnsChecked {A = B} (Err (reported_refusal earlier e (Fault f))) q (fs ++ f ∷ [])
 err_refused OutOfMemory f p q fs h = tt
 err_refused (Fault g) f p q fs h = first_append fs (f ∷ []) ∙ ap (λ o. earlier_of o (Some f)) h
 

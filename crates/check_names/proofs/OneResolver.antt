@@ -1,6 +1,7 @@
 -- The resolver of expressions gives the term of an expression, or the least of the faults of its names.
-use Rattle.std.proofs.Common.{◌≡◌, List, [], ◌∷◌, ◌++◌, Option, Some, None, option_map, is_none, Result, Ok, Err, refl, sym, ap, ◌∙◌, subst}
-use Rattle.std.specs.Option.{IsSome, ok_or}
+use Rattle.std.proofs.Common.{◌≡◌, List, [], ◌∷◌, ◌++◌, Option, Some, None, option_map, Result, Ok, Err, refl, sym, ap, ◌∙◌, subst}
+use Rattle.std.specs.Option.{IsSome}
+use Rattle.std.specs.Result.{result_ok}
 use Rattle.std.proofs.lemmas.List.{append-nil}
 use Rattle.std.proofs.lemmas.Option.{same_Some}
 use Rattle.term_core.specs.Term.{Term}
@@ -10,13 +11,14 @@ use Rattle.ptg_base.specs.declared.refusal.Refusal.TheVariants.{Fault, OutOfMemo
 use Rattle.ptg_base.specs.Returns.{Returns, and_then}
 use Rattle.jdf_tree.specs.Expression.{Expression, Num, Name, Elem, Unary, Binary, Choose}
 use Rattle.expr_names.specs.Symbols.{Resolved, fault_at}
+use Rattle.expr_names.specs.Meanings.{value_of}
 use Rattle.expr_names.specs.Expressions as expression
 use Rattle.expr_names.specs.Expressions.{together}
 use Rattle.check_names.specs.Alphabet.{JdfFault, DefTree, UnknownName}
-use Rattle.check_names.specs.Faults.{earlier, earlier_of, first_fault, fault, fault_if}
+use Rattle.check_names.specs.Faults.{earlier, earlier_of, first_fault, fault, resolved_faults}
 use Rattle.check_names.specs.Returns.{ReturnsChecked, both}
-use Rattle.check_names.specs.Names.{Job}
-use Rattle.check_names.specs.Expressions.{name_term, name_code, symbols_of, term_of, expression_faults}
+use Rattle.check_names.specs.Names.{Job, meaning_of}
+use Rattle.check_names.specs.Expressions.{symbols_of, term_of, expression_faults}
 use Rattle.check_names.proofs.First.{first_append}
 
 -- a part without faults, or the first fault of a part that has some
@@ -67,11 +69,11 @@ module _ (job : Job) (seen : List DefTree) where
 
   pub agrees : (e : Expression) → Agrees (expression.term_of (symbols_of job seen) e) (term_of job seen e) (expression_faults job seen e)
   agrees (Num z spot) = (refl, refl)
-  agrees (Name w) = go (name_term job seen w.text)
+  agrees (Name w) = go (value_of w (meaning_of job seen w.text))
     where
-      go : (o : Option Term) → Agrees (ok_or o (fault w.spot (name_code job w.text))) o (fault_if (is_none o) w.spot (name_code job w.text))
-      go None = (refl, refl)
-      go (Some t) = (refl, refl)
+      go : (r : Resolved Term) → Agrees r (result_ok r) (resolved_faults r)
+      go (Ok t) = (refl, refl)
+      go (Err f) = (refl, refl)
   agrees (Elem w at) = go (expression.term_of (symbols_of job seen) at) (agrees at)
     where
       go : (r : Resolved Term) → Agrees r (term_of job seen at) (expression_faults job seen at)

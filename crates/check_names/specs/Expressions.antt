@@ -1,33 +1,21 @@
 -- The expressions of a class, outside of its body: the faults of their names, and the terms that they are. Source: the
 -- JDF documentation.
-use Rattle.std.specs.Prelude.{ℕ, List, [], ◌∷◌, ◌++◌, Option, Some, None, is_some, is_none, option_map, if◌then◌else◌}
-use Rattle.std.specs.Option.{ok_or, option_or}
+use Rattle.std.specs.Prelude.{List, [], ◌∷◌, ◌++◌, Option, Some, None, option_map}
+use Rattle.std.specs.Result.{result_ok}
 use Rattle.term_core.specs.Term.{Term}
 use Rattle.term_core.specs.Term as term
 use Rattle.jdf_tree.specs.Expression.{Expression, Num, Name, Elem, Unary, Binary, Choose}
 use Rattle.expr_names.specs.Symbols.{SymbolTable, fault_at}
-use Rattle.check_names.specs.Alphabet.{JdfCode, JdfFault, Word, DefTree, UnknownName, WrongKind}
-use Rattle.check_names.specs.Faults.{earlier, fault, fault_if}
+use Rattle.expr_names.specs.Meanings.{value_of}
+use Rattle.check_names.specs.Alphabet.{JdfFault, DefTree, UnknownName}
+use Rattle.check_names.specs.Faults.{earlier, fault, resolved_faults}
 use Rattle.check_names.specs.Returns.{both, each_option}
-use Rattle.check_names.specs.Names.{Job, int_named, coll_named, local_named}
-
--- the term of a name: the first local of this name among those that are seen, which hides a global, or an integer
-abbrev pub name_term : Job → List DefTree → List ℕ → Option Term
-name_term job seen name =
-    option_or (option_map term.Local (local_named seen name)) (option_map term.Num (int_named job name))
-
--- the code of a name that stands for no number: a collection is of the wrong kind
-abbrev pub name_code : Job → List ℕ → JdfCode
-name_code job name = if is_some (coll_named job name) then WrongKind else UnknownName
-
--- the fault of such a name
-abbrev pub name_faults : Job → List DefTree → Word → List JdfFault
-name_faults job seen w = fault_if (is_none (name_term job seen w.text)) w.spot (name_code job w.text)
+use Rattle.check_names.specs.Names.{Job, meaning_of}
 
 -- the faults of the names in an expression, where these definitions are seen; only a body has flows before an index
 abbrev pub expression_faults : Job → List DefTree → Expression → List JdfFault
 expression_faults job seen (Num z spot) = []
-expression_faults job seen (Name w) = name_faults job seen w
+expression_faults job seen (Name w) = resolved_faults (value_of w (meaning_of job seen w.text))
 expression_faults job seen (Elem w at) = fault w.spot UnknownName ∷ expression_faults job seen at
 expression_faults job seen (Unary o a spot) = expression_faults job seen a
 expression_faults job seen (Binary o a b) = expression_faults job seen a ++ expression_faults job seen b
@@ -37,7 +25,7 @@ expression_faults job seen (Choose c a b) =
 -- the term of an expression, where each of its names means a number
 abbrev pub term_of : Job → List DefTree → Expression → Option Term
 term_of job seen (Num z spot) = Some (term.Num z)
-term_of job seen (Name w) = name_term job seen w.text
+term_of job seen (Name w) = result_ok (value_of w (meaning_of job seen w.text))
 term_of job seen (Elem w at) = None
 term_of job seen (Unary o a spot) = option_map (term.Unary o) (term_of job seen a)
 term_of job seen (Binary o a b) = both (term.Binary o) (term_of job seen a) (term_of job seen b)
@@ -45,11 +33,11 @@ term_of job seen (Choose c a b) =
     both (λ x (y : Term × Term). term.Choose x y.0 y.1) (term_of job seen c)
     (both (λ x y. (x, y)) (term_of job seen a) (term_of job seen b))
 
--- what names mean where these definitions are seen, as the resolver of expressions asks for it
+-- what names mean where these definitions are seen; only a body has flows before an index
 abbrev pub symbols_of : Job → List DefTree → SymbolTable
 symbols_of job seen =
     record {
-      value = λ w. ok_or (name_term job seen w.text) (fault w.spot (name_code job w.text));
+      meaning = meaning_of job seen;
       flow = λ w. fault_at w UnknownName;
       reported = earlier;
     }

@@ -1,11 +1,13 @@
 -- What names mean in a JDF with its data, outside of bodies. Source: the JDF documentation.
-use Rattle.std.specs.Prelude.{ℕ, ℤ, Bool, List, Option, None, position, slice_get, if◌then◌else◌}
+use Rattle.std.specs.Prelude.{ℕ, ℤ, Bool, List, Option, None, is_some, position, slice_get, if◌then◌else◌}
 use Rattle.std.specs.Option.{option_and_then}
 use Rattle.std.specs.Str.{bytes_eq}
 use Rattle.std.specs.List.{list_any}
 use Rattle.name_table.specs.Names.{value_named}
 use Rattle.coll_data.specs.declared.coll.Coll.{Coll}
 use Rattle.coll_data.specs.Data.{Data}
+use Rattle.expr_names.specs.declared.meaning.Meaning.{Meaning}
+use Rattle.expr_names.specs.Meanings.{outer_meaning}
 use Rattle.check_names.specs.Alphabet.{Word, DefTree, FlowTree, ClassTree, Jdf}
 
 -- a JDF and its data
@@ -36,6 +38,11 @@ coll_named job name = if is_declared job name then position (coll_is name) job.g
 -- the number of the first definition of this name, among those that are seen
 abbrev pub local_named : List DefTree → List ℕ → Option ℕ
 local_named seen name = position (λ (d : DefTree). word_is name d.name) seen
+
+-- what a name in an expression means, where these definitions are seen
+abbrev pub meaning_of : Job → List DefTree → List ℕ → Meaning
+meaning_of job seen name =
+    outer_meaning (local_named seen name) (int_named job name) (is_some (coll_named job name))
 
 -- the number of the first class of this name, and the class
 abbrev pub class_named : Job → List ℕ → Option ℕ

@@ -3,19 +3,13 @@ use Rattle.std.specs.Prelude.{◌≡◌, List, [], ◌∷◌, Option, Some, None
 use Rattle.ptg_base.specs.declared.refusal.Refusal.{Refusal}
 use Rattle.ptg_base.specs.declared.refusal.Refusal.TheVariants.{Fault, OutOfMemory}
 use Rattle.check_names.specs.Alphabet.{JdfFault}
-use Rattle.check_names.specs.Faults.{earlier, first_fault}
+use Rattle.check_names.specs.Faults.{first_fault}
 
 -- The part is as its names resolve, and no rule is broken; or the first of its faults is named; or there was no memory.
 abbrev pub ReturnsChecked : {A : Type 0} → Result A (Refusal JdfFault) → Option A → List JdfFault → Type 0
 ReturnsChecked (Ok part) resolved faults = (resolved ≡ Some part) × (faults ≡ [])
 ReturnsChecked (Err (Fault f)) resolved faults = first_fault faults ≡ Some f
 ReturnsChecked (Err OutOfMemory) resolved faults = Unit {0}
-
--- the earlier fault of two refusals; or that there was no memory, if either says so
-abbrev pub earlier_refusal : Refusal JdfFault → Refusal JdfFault → Refusal JdfFault
-earlier_refusal OutOfMemory other = OutOfMemory
-earlier_refusal (Fault f) OutOfMemory = OutOfMemory
-earlier_refusal (Fault f) (Fault g) = Fault (earlier f g)
 
 -- both, if both are there
 abbrev pub both : {A B C : Type 0} → (A → B → C) → Option A → Option B → Option C

@@ -1,10 +1,11 @@
 //! A JDF with its data, and what names mean there.
 
 ghost use Rattle.std.specs.Prelude.{◌≡◌, ◌<◌, IfSome, length};
-ghost use Rattle.check_names.specs.Names.{int_named, coll_named, class_named, local_named};
+ghost use Rattle.check_names.specs.Names.{int_named, coll_named, class_named, local_named, meaning_of};
 ghost use Rattle.check_names.specs.Contexts.{IsContext, job_of};
 
 use coll_data::Given;
+use expr_names::{Meaning, outer_meaning};
 use jdf_tree::{DefTree, Jdf};
 use name_table::NameTable;
 use ptg_base::Text;
@@ -55,12 +56,24 @@ pub fn coll_named(context: &Context, name: &Text) -> Option<u32>
 }
 
 /// The number of the first definition of this name. It looks through all of them, which are at most 16.
-pub fn local_named(seen: &[DefTree], name: &Text) -> Option<usize>
+pub(crate) fn local_named(seen: &[DefTree], name: &Text) -> Option<usize>
     ensures number { result ≡ local_named seen.now name.now }
     ensures within { IfSome result (λ n. n < length seen.now) }
 {
     seen.iter()
         .position(|definition| definition.name.text.bytes() == name.bytes())
+}
+
+/// What a name in an expression means.
+pub(crate) fn meaning_of(context: &Context, name: &Text) -> Meaning
+    requires { IsContext context.now }
+    ensures { result ≡ meaning_of (job_of context.now) context.now.seen.now name.now }
+{
+    let local = match local_named(context.seen, name) {
+        Some(number) => Some(number as u16),
+        None => None,
+    };
+    outer_meaning(local, &context.globals.ints, &context.globals.colls, name)
 }
 
 /// The number of the first class of this name. It looks through all of them, which are at most 64.

@@ -1,43 +1,24 @@
 //! The expressions of a class, outside of its body.
 
-ghost use Rattle.std.specs.Prelude.{◌≡◌};
 ghost use Rattle.check_names.specs.Contexts.{IsContext, job_of};
 ghost use Rattle.check_names.specs.Returns.{ReturnsChecked};
-ghost use Rattle.check_names.specs.Expressions.{name_code, symbols_of, expression_faults, term_of, option_faults, option_term};
+ghost use Rattle.check_names.specs.Expressions.{symbols_of, expression_faults, term_of, option_faults, option_term};
 
-use crate::context::{Context, coll_named, int_named, local_named};
+use crate::context::{Context, meaning_of};
 use crate::fault::earlier;
-use expr_names::{Symbols, fault_at};
+use expr_names::{Meaning, Symbols, fault_at};
 use jdf_lex::{JdfCode, JdfFault, JdfRefusal};
 use jdf_tree::{ExprTree, Word};
 use ptg_base::Text;
 use term_core::Expr;
-
-// The code of a name that stands for no number.
-fn name_code(context: &Context, name: &Text) -> JdfCode
-    requires { IsContext context.now }
-    ensures { result ≡ name_code (job_of context.now) name.now }
-{
-    if coll_named(context, name).is_some() {
-        JdfCode::WrongKind
-    } else {
-        JdfCode::UnknownName
-    }
-}
 
 impl Symbols for Context<'_> {
     ghost is_sound = { IsContext };
 
     ghost table = { λ c. symbols_of (job_of c) c.seen.now };
 
-    fn value(&self, word: &Word) -> Result<Expr, JdfRefusal> {
-        if let Some(number) = local_named(self.seen, &word.text) {
-            return Ok(Expr::local(number as u16));
-        }
-        if let Some(value) = int_named(self, &word.text) {
-            return Ok(Expr::num(value));
-        }
-        Err(fault_at(word.spot, name_code(self, &word.text)))
+    fn meaning(&self, name: &Text) -> Meaning {
+        meaning_of(self, name)
     }
 
     // No text has one here: only bodies have them.

@@ -12,7 +12,7 @@ mod part;
 mod repeat;
 
 pub use argument::{arguments, indices, no_ranges, range};
-pub use context::{Context, Globals, class_named, coll_named, int_named, local_named};
+pub use context::{Context, Globals, class_named, coll_named, int_named};
 pub use definition::space;
 pub use expression::{option_term, term_of};
 pub use fault::fault_if;

@@ -2,8 +2,9 @@
 
 ghost use Rattle.std.specs.Prelude.{◌≡◌, [], ◌∷◌, ◌++◌, List, Option, Some};
 ghost use Rattle.jdf_lex.specs.declared.fault.JdfFault.{JdfFault};
-ghost use Rattle.check_names.specs.Returns.{ReturnsChecked, both, earlier_refusal};
-ghost use Rattle.check_names.specs.Faults.{fault};
+ghost use Rattle.expr_names.specs.Refusals.{reported_refusal};
+ghost use Rattle.check_names.specs.Returns.{ReturnsChecked, both};
+ghost use Rattle.check_names.specs.Faults.{earlier, fault};
 
 use crate::fault::earlier;
 use expr_names::fault_at;
@@ -12,7 +13,7 @@ use ptg_base::Seq;
 
 // The earlier fault of two; or that there was no memory, if either says so.
 fn earlier_refusal(first: JdfRefusal, second: JdfRefusal) -> JdfRefusal
-    ensures { result ≡ earlier_refusal first second }
+    ensures { result ≡ reported_refusal earlier first second }
 {
     match first {
         JdfRefusal::OutOfMemory => JdfRefusal::OutOfMemory,

@@ -1,2 +1,3 @@
 pub mod Claiming
 pub mod Reached
+pub mod Orders

@@ -1,13 +1,14 @@
-//! Laws of the event machine: of claims and of what a table holds, and of the states that are reached.
+//! Laws of the event machine: of claims and of what a table holds, of the states that are reached, and of their order.
 
-ghost use Rattle.std.specs.Prelude.{◌≡◌, ◌≢◌, None, Some};
+ghost use Rattle.std.specs.Prelude.{◌≡◌, ◌≢◌, None, Some, List};
 ghost use Rattle.ptg_base.specs.Task.{Task};
 ghost use Rattle.plan_core.specs.declared.plan.Plan.{Plan};
 ghost use Rattle.coll_data.specs.Data.{Data};
 ghost use Rattle.dep_iter.specs.Consistent.{IsConsistent};
-ghost use Rattle.flow_meaning.specs.Machine.{Claim, MachineState, MayClaim, state_after};
+ghost use Rattle.flow_meaning.specs.Machine.{Claim, MachineState, MayClaim, state_after, Event, Happen, IsLater, opening_state};
 ghost use Rattle.flow_meaning.specs.Sound.{IsReached, IsSoundState};
 ghost use Rattle.flow_meaning.specs.Table.{entry_of, table_entry, waiting_rows, written};
+ghost use Rattle.flow_meaning.specs.Order.{IsLegalOrder};
 
 /// A law: a task that may be claimed has an entry in the table; a claim takes the entry of its task and leaves every
 /// other entry as it was, and with them the rows of the tasks that wait and the write-backs that were sent.
@@ -27,4 +28,15 @@ pub fn a_claim_takes_its_own_entry()
 /// A law: every sound state is reached by some list of events, up to the order of its two lists.
 pub fn sound_states_are_reached()
     ensures { (P : Plan) (G : Data) (S : MachineState) → IsConsistent P → IsSoundState P G S → IsReached P G S }
+{}
+
+/// A law: nothing that has happened is undone.
+pub fn nothing_is_undone()
+    ensures { (P : Plan) (G : Data) (es : List Event) (S T : MachineState) → Happen P G es S T → IsLater S T }
+{}
+
+/// A law: the tasks in the order in which they were claimed are a legal order.
+pub fn claims_are_a_legal_order()
+    ensures { (P : Plan) (G : Data) (es : List Event) (S : MachineState) → IsConsistent P
+        → Happen P G es opening_state S → IsLegalOrder P S.claims }
 {}

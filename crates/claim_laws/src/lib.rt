@@ -1,7 +1,10 @@
 //! Laws of the event machine that no program cites: a claim takes exactly its own entry from the table of dependences,
-//! and every sound state is reached.
+//! every sound state is reached, nothing is undone, and claims are a legal order.
 #![tactic(auto)]
 
 mod laws;
 
-pub use laws::{a_claim_takes_its_own_entry, sound_states_are_reached};
+pub use laws::{
+    a_claim_takes_its_own_entry, claims_are_a_legal_order, nothing_is_undone,
+    sound_states_are_reached,
+};

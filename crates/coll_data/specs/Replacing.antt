@@ -13,4 +13,8 @@ coll_with c i j tile =
 
 -- the data with the tile at a place replaced, if there is such a place
 abbrev pub with_tile_at : Data → Place → List ℤ → Data
-with_tile_at d p tile = record d { colls = option_map_or (λ c. slice_set d.colls p.coll (coll_with c p.i p.j tile)) (slice_get d.colls p.coll) d.colls }
+with_tile_at d p tile =
+    record d {
+      colls =
+          option_map_or (λ c. slice_set d.colls p.coll (coll_with c p.i p.j tile)) (slice_get d.colls p.coll) d.colls;
+    }

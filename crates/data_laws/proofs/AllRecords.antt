@@ -11,13 +11,10 @@ use Rattle.data_laws.specs.WholeTexts.{NoneFits, AreByRecords}
 use Rattle.data_laws.proofs.FirstCodes.{no_code, no_fault}
 use Rattle.data_read.proofs.Choices.{no_value}
 use Rattle.data_laws.proofs.OneMore.{AreOrdered, one_more}
-use Rattle.list_lemmas.proofs.Options.{by_result}
+use Rattle.list_lemmas.proofs.Options.{by_result, same_Ok}
 
 none_ordered : (elems : ℕ) → AreOrdered elems []
 none_ordered elems = record { known = tt; named = tt; apart = tt }
-
-end_draft : (a b : Draft) → ◌≡◌ {A = Result Draft DataFault} (Ok a) (Ok b) → a ≡ b
-end_draft a b e = cc
 
 -- the record has no fault after data like these
 abbrev Fits : Draft → Row → Type 0
@@ -47,7 +44,7 @@ first_fits elems rows rest r next is fit (b ∷ bs) after row cut =
 
 walked : (elems : ℕ) (rows rest : List Row) (n : ℕ) (d : Draft) → AreOrdered elems rows → later_records n (data_of_records elems rows) rest ≡ Ok d → AreWalked elems rows rest d
 walked elems rows [] n d ordered is = record {
-  is = sym (end_draft (data_of_records elems rows) d is) ∙ ap (data_of_records elems) (sym (append-nil rows));
+  is = sym (same_Ok (data_of_records elems rows) d is) ∙ ap (data_of_records elems) (sym (append-nil rows));
   fit = λ before after row cut. absurd (no_cut before after row cut);
 }
 walked elems rows (r ∷ rest) n d ordered is =

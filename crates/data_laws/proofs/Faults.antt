@@ -11,10 +11,7 @@ use Rattle.data_laws.specs.WholeTexts.{HasFaultAfter, HasNoRecord, IsFirstFault}
 use Rattle.data_laws.proofs.FirstCodes.{code_is_fault, code_is_fault_at_start, fault_at_start_has_code, fault_has_code}
 use Rattle.data_laws.proofs.AllRecords.{are_read, read_all}
 use Rattle.data_read.proofs.Choices.{no_value}
-use Rattle.list_lemmas.proofs.Options.{by_result}
-
-same_fault : {A : Type 0} (a b : DataFault) → ◌≡◌ {A = Result A DataFault} (Err a) (Err b) → a ≡ b
-same_fault a b e = cc
+use Rattle.list_lemmas.proofs.Options.{by_result, same_Ok, same_Err}
 
 -- the fault of one of the records from this row on
 record IsLaterFault (row : ℕ) (d : Draft) (rows : List Row) (fault : DataFault) : Type 0 where
@@ -45,7 +42,7 @@ later_fault row d (fields ∷ rows) fault is =
       has = later.has;
     })
     (λ code h.
-    let same = same_fault (record { row = row; code = code }) fault (rw h at is) in
+    let same = same_Err (record { row = row; code = code }) fault (rw h at is) in
     let n : row ≡ fault.row = ap (λ (f : DataFault). f.row) same in
     record {
       before = [];
@@ -80,16 +77,16 @@ at_first first rows fault is =
           (ap (λ r. then_at 1 r (λ e. later_records 2 (begun e) later.before)) h ∙ later.is_draft) later.has;
     })
     (λ code h.
-    let same = same_fault (record { row = 1; code = code }) fault (rw h at is) in
+    let same = same_Err (record { row = 1; code = code }) fault (rw h at is) in
     let n : 1 ≡ fault.row = ap (λ (f : DataFault). f.row) same in
     record { before = []; row = first; after = rows; here = refl; number = omega arith; has = fault_at_start_has_code first fault.code (h ∙ ap (λ (f : DataFault). Err f.code) same) })
 
 no_data : (n : ℕ) (r : Result Draft DataFault) (fault : DataFault) → as_data n r ≡ Err fault → r ≡ Err fault
 no_data n (Ok d) fault is = absurd cc
-no_data n (Err f) fault is = ap (λ (g : DataFault). Err g) (same_fault f fault is)
+no_data n (Err f) fault is = ap (λ (g : DataFault). Err g) (same_Err f fault is)
 
 in_rows : (rows : List Row) (fault : DataFault) → all_records rows ≡ Err fault → HasNoRecord rows fault ⊎ IsFirstFault rows fault
-in_rows [] fault is = inl (refl, sym (same_fault (record { row = 1; code = NoElems }) fault is))
+in_rows [] fault is = inl (refl, sym (same_Err (record { row = 1; code = NoElems }) fault is))
 in_rows (first ∷ rows) fault is = inr (at_first first rows fault is)
 
 pub fault_is_first : (text : List ℕ) (fault : DataFault) → data_of text ≡ Err fault → HasNoRecord (records_of text) fault ⊎ IsFirstFault (records_of text) fault
@@ -100,12 +97,9 @@ fault_is_first text fault is = in_rows (records_of text) fault (no_data (length 
 later_is_fault : (row : ℕ) (d draft : Draft) (before after : List Row) (fields : Row) (code : DataCode) → later_records row d before ≡ Ok draft → later_record draft fields ≡ Err code
     → later_records row d (before ++ fields ∷ after) ≡ Err (record { row = row + length before; code = code })
 later_is_fault row d draft [] after fields code is has =
-    let same : d ≡ draft = same_draft d draft is in
+    let same : d ≡ draft = same_Ok d draft is in
     ap (λ r. then_at row r (λ b. later_records (row + 1) b after)) (ap (λ (b : Draft). later_record b fields) same ∙ has)
     ∙ ap (λ n. Err (record { row = n; code = code })) (let n : row ≡ row + 0 = omega arith in n)
-  where
-    same_draft : (a b : Draft) → ◌≡◌ {A = Result Draft DataFault} (Ok a) (Ok b) → a ≡ b
-    same_draft a b e = cc
 later_is_fault row d draft (r ∷ before) after fields code is has =
     by_result (later_record d r)
     (λ next h.

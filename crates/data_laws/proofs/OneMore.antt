@@ -1,23 +1,21 @@
 -- What a record that has no fault makes of the data of the records before it: the data of them all.
 use Rattle.std.specs.Prelude.{◌==◌, ◌&&◌, ◌||◌, nat_le, nat_lt}
-use Rattle.std.proofs.Common.{◌≡◌, ℕ, ◌+◌, ◌-◌, ◌*◌, ℤ, Bool, true, false, not, List, [], ◌∷◌, ◌++◌, length, map, drop, slice_get, codes, bytes_eq, Option, Some, None, is_some, option_map, Result, Ok, refl, sym, ◌∙◌, ap, subst}
+use Rattle.std.proofs.Common.{◌≡◌, ℕ, ◌+◌, ◌-◌, ◌*◌, ℤ, Bool, true, false, not, List, [], ◌∷◌, ◌++◌, length, map, drop, slice_get, codes, bytes_eq, Option, Some, None, is_some, option_map, Ok, refl, sym, ◌∙◌, ap, subst}
 use Rattle.std.specs.List.{AllByRecursion, filter_map, list_any, sum_by}
 use Rattle.std.proofs.lemmas.Bool.{cond-true, false≢true, or_from, or_left, or_right}
 use Rattle.std.proofs.lemmas.List.{map-append}
 use Rattle.std.proofs.lemmas.List.Sums.{sum_by_push}
 use Rattle.std.proofs.lemmas.Option.{option_and_then_some}
 use Rattle.coll_data.specs.Tiles.{tile_count, tile_index}
-use Rattle.coll_data.specs.declared.fault.DataCode.{DataCode}
 use Rattle.data_read.specs.Fields.{field, is_name, whole}
 use Rattle.data_read.specs.Draft.{GrowingColl, Draft, coll_index, coll_named, is_new, opened, type_among, type_named, with_coll, with_int, with_tile, with_type}
 use Rattle.data_read.specs.Records.{AskedColl, asked_coll, coll_of, coll_record, collof_record, column, columns, element_count, first_value, free_index, int_record, later_record, new_tile, numbers, shape_of, tile_record, type_record}
 use Rattle.data_laws.specs.WholeRecords.{Heading, Row, all_types, begins, data_of_records, declares, elements_of, heading_at, heading_in, headings_of, index_in, int_in, ints_of, name_at, shape_in, type_in, type_name_in, types_of, with_tiles}
 use Rattle.data_read.proofs.Choices.{by_option, no_value}
 use Rattle.list_lemmas.proofs.Truth.{by_test}
-use Rattle.list_lemmas.proofs.Options.{by_result}
+use Rattle.list_lemmas.proofs.Options.{by_result, same_Ok}
 use Rattle.list_lemmas.proofs.Places.{each_push, each_weaker}
 use Rattle.list_lemmas.proofs.Texts.{bytes_eq-apart}
-use Rattle.data_read.proofs.SoundRecords.{no_draft, same_draft, same_size}
 use Rattle.data_read.proofs.SoundTiles.{coll_is_there}
 use Rattle.data_laws.proofs.WholeLists.{kept_push, kept_same, left_out}
 use Rattle.data_laws.proofs.Headings.{AreApart, HasKnownType, IsOfKnown, apart_push, colls_kept, heading_kept, name_kept, new_coll, no_name, some_name, type_kept}
@@ -101,7 +99,7 @@ type_more elems rows row e ordered word is =
     (λ h. let is = rw h at is in
     by_test (nat_lt (length (types_of rows)) 15)
     (λ h. let is = rw h at is in
-    subst (IsOneMore elems rows row) (same_draft (with_type d (field row 1) n) e is) (type_made elems rows row n ordered word hn))
+    subst (IsOneMore elems rows row) (same_Ok (with_type d (field row 1) n) e is) (type_made elems rows row n ordered word hn))
     (λ h. let s = rw h at is in no_value s))
     (λ k h. let s = rw h at is in no_value s))
     (λ h. let s = rw h at is in no_value s)))
@@ -166,7 +164,7 @@ int_more elems rows row e ordered word is =
     by_option (whole (field row 2))
     (λ h. let s = rw h at is in no_value s)
     (λ z hz. let is = rw hz at is in
-    subst (IsOneMore elems rows row) (same_draft (with_int d (field row 1) z) e is) (int_made elems rows row z ordered word hz)))
+    subst (IsOneMore elems rows row) (same_Ok (with_int d (field row 1) z) e is) (int_made elems rows row z ordered word hz)))
     (λ h. let s = rw h at is in no_value s))
     (λ h. let s = rw h at is in no_value s))
     (λ h. let s = rw h at is in no_value s)
@@ -244,7 +242,7 @@ asked d type row at size is =
     (λ shape hs. let is = rw hs at is in
     by_test (nat_le (d.elements + tile_count shape.0 shape.1 * known.1) 16777216)
     (λ h. let is = rw h at is in
-    record { known = known; shape = shape; is_type = hk; is_shape = rw (hr, hc) hs; made = sym (same_size (record { shape = shape; datatype = known.0; elements = known.1 }) size is) })
+    record { known = known; shape = shape; is_type = hk; is_shape = rw (hr, hc) hs; made = sym (same_Ok (record { shape = shape; datatype = known.0; elements = known.1 }) size is) })
     (λ h. let s = rw h at is in no_value s)))))
 
 coll_of_more : (elems : ℕ) (rows : List Row) (row : Row) (e : Draft) → AreOrdered elems rows → begins (codes "elems") row ≡ false → begins (codes "int") row ≡ false → begins (codes "tile") row ≡ false
@@ -260,7 +258,7 @@ coll_of_more elems rows row e ordered other no_int t word is =
     (λ size hs. let is = rw hs at is in
     let parts = asked d (type_name_in row) row (name_at row + 1) size hs in
     let made = coll_made elems rows row parts.known parts.shape ordered other no_int t word parts.is_type parts.is_shape (new_name d name new) in
-    let same = ap (λ (s : AskedColl). with_coll d name s.shape s.datatype s.elements) (sym parts.made) ∙ same_draft (with_coll d name size.shape size.datatype size.elements) e is in
+    let same = ap (λ (s : AskedColl). with_coll d name s.shape s.datatype s.elements) (sym parts.made) ∙ same_Ok (with_coll d name size.shape size.datatype size.elements) e is in
     subst (IsOneMore elems rows row) same made)
     (λ code h. let s = rw h at is in no_value s))
     (λ h. let s = rw h at is in no_value s))
@@ -317,12 +315,6 @@ record IsFree (coll : GrowingColl) (i j : ℤ) (index : ℕ) : Type 0 where
   is : tile_index coll.shape.0 coll.shape.1 i j ≡ Some index
   free : slice_get coll.tiles index ≡ Some None
 
-same_index : (a b : ℕ) → ◌≡◌ {A = Result ℕ DataCode} (Ok a) (Ok b) → a ≡ b
-same_index a b e = cc
-
-same_tile : (a b : ℕ × List ℤ) → ◌≡◌ {A = Result (ℕ × List ℤ) DataCode} (Ok a) (Ok b) → a ≡ b
-same_tile a b e = cc
-
 is_free : (coll : GrowingColl) (i j : ℤ) (index : ℕ) → free_index coll i j ≡ Ok index → IsFree coll i j index
 is_free coll i j index is =
     by_option (tile_index coll.shape.0 coll.shape.1 i j)
@@ -333,7 +325,7 @@ is_free coll i j index is =
     (λ tile ht. let is = rw ht at is in
     by_option tile
     (λ none. let is = rw none at is in
-    let same = same_index n index is in
+    let same = same_Ok n index is in
     let at_n : IsFree coll i j n = record { is = hn; free = ht ∙ ap (λ (o : Option (List ℤ)). Some o) none } in
     subst (IsFree coll i j) same at_n)
     (λ given some. let s = rw some at is in no_value s)))
@@ -360,7 +352,7 @@ is_new_tile row coll tile word is =
       index = index;
       values = values;
       gives = record { word = word; place = here; all = hv; free = place.free };
-      made = sym (same_tile (index, opened coll.elements values) tile is);
+      made = sym (same_Ok (index, opened coll.elements values) tile is);
     })
     (λ code hn. let s = rw hn at is in no_value s)))))
     (λ h. let s = rw h at is in no_value s)
@@ -401,7 +393,7 @@ tile_more elems rows row e ordered word is =
     (λ tile ht. let is = rw ht at is in
     let parts = is_new_tile row known.1 tile word ht in
     let made = tile_made elems rows row known.0 known.1 parts.index parts.values ordered parts.gives (index_is d (field row 1) known hk) (coll_is_there d (field row 1) known hk) in
-    let same = ap (λ (t : ℕ × List ℤ). with_tile d known.0 known.1 t.0 t.1) (sym parts.made) ∙ same_draft (with_tile d known.0 known.1 tile.0 tile.1) e is in
+    let same = ap (λ (t : ℕ × List ℤ). with_tile d known.0 known.1 t.0 t.1) (sym parts.made) ∙ same_Ok (with_tile d known.0 known.1 tile.0 tile.1) e is in
     subst (IsOneMore elems rows row) same made)
     (λ code h. let s = rw h at is in no_value s)))
     (λ h. let s = rw h at is in no_value s))
@@ -426,4 +418,4 @@ one_more elems rows row e ordered is =
     by_test (begins (codes "tile") row)
     (λ h. tile_more elems rows row e ordered h (rw h at is))
     (λ h. let is = rw h at is in
-    absurd (no_draft _ _ is))))))
+    no_value is)))))

@@ -124,7 +124,8 @@ has_no_place row coll = both_pass (λ i j. is_none (slot_at coll i j)) (whole (f
 -- an earlier record gave the tile
 abbrev pub has_given_place : Row → GrowingColl → Bool
 has_given_place row coll =
-    both_pass (λ i j. option_map_or (λ slot. is_some slot.1) (slot_at coll i j) false) (whole (field row 2)) (column coll.shape.1 row)
+    both_pass (λ i j. option_map_or (λ slot. is_some slot.1) (slot_at coll i j) false)
+    (whole (field row 2)) (column coll.shape.1 row)
 
 -- whether a code fits a record after the first one, which comes after these data
 abbrev pub fits : Draft → Row → DataCode → Bool

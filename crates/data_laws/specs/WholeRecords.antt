@@ -69,9 +69,9 @@ shape_in row at =
 -- the heading of a collection of one of these types, with the name in the field of this number
 abbrev pub heading_at : Option (ℕ × ℕ) → Row → ℕ → Option Heading
 heading_at type row at =
-    option_and_then
-    (λ known. option_map (λ shape. record { name = field row at; shape = shape; datatype = known.0; elements = known.1 }) (shape_in row (at + 1)))
-    type
+    option_and_then (λ known.
+    option_map (λ shape. record { name = field row at; shape = shape; datatype = known.0; elements = known.1 })
+    (shape_in row (at + 1))) type
 
 -- the heading of the collection of a `coll` or a `collof` record
 abbrev pub heading_in : List (List ℕ × ℕ) → Row → Option Heading

@@ -26,13 +26,15 @@ pub record AreByRecords (first : Row) (rows : List Row) (given : Data) : Type 0 
 -- a text spells the data that its records make as a whole, and no others
 abbrev pub DataAreByRecords : Type 0
 DataAreByRecords =
-    (text : List ℕ) (given : Data) → (data_of text ≡ Ok given) ↔ ((first : Row) × (rows : List Row) × (records_of text ≡ first ∷ rows) × AreByRecords first rows given)
+    (text : List ℕ) (given : Data) → (data_of text ≡ Ok given)
+    ↔ ((first : Row) × (rows : List Row) × (records_of text ≡ first ∷ rows) × AreByRecords first rows given)
 
 -- the record comes after these, which no code fits, and this is the first code that fits it
 abbrev pub HasFaultAfter : List Row → Row → DataCode → Type 0
 HasFaultAfter [] row code = first_code_at_start row ≡ Some code
 HasFaultAfter (first ∷ rows) row code =
-    (elems : ℕ) × (first_record first ≡ Ok elems) × NoneFits elems rows × (first_code (data_of_records elems rows) row ≡ Some code)
+    (elems : ℕ) × (first_record first ≡ Ok elems) × NoneFits elems rows
+    × (first_code (data_of_records elems rows) row ≡ Some code)
 
 -- the fault is the first code that fits the first record that one fits
 pub record IsFirstFault (rows : List Row) (fault : DataFault) : Type 0 where

@@ -1,6 +1,6 @@
 -- What a name stands for, as integers, collections and tiles are added.
 use Rattle.std.proofs.Common.{◌≡◌, ℕ, zero, suc, ◌+◌, ◌<◌, ℤ, Bool, true, false, not, cond, ◌||◌, List, [], ◌∷◌, ◌++◌, length, get_or, set, Option, Some, None, is_some, option_map, bytes_eq, refl, sym, ◌∙◌, ap, subst, inl, inr, arith}
-use Rattle.std.proofs.lemmas.Bool.{cases_Bool, cond-true, cond-false}
+use Rattle.std.proofs.lemmas.Bool.{cases_Bool, cond-true, cond-false, or_right}
 use Rattle.std.specs.List.{list_any}
 use Rattle.std.specs.Cmp.Lexicographic.{bytes_decides}
 use Rattle.name_table.specs.Names.{value_named}
@@ -9,7 +9,7 @@ use Rattle.data_read.specs.declared.growing.Known.{Known}
 use Rattle.data_read.specs.declared.growing.Known.TheVariants.{Integer, Collection}
 use Rattle.data_read.specs.Draft.{coll_index}
 use Rattle.data_read.specs.Growing.{coll_or_int, meaning}
-use Rattle.list_lemmas.proofs.Truth.{chosen, or-false}
+use Rattle.list_lemmas.proofs.Truth.{chosen, or-false, or-assoc}
 use Rattle.list_lemmas.proofs.Options.{none_from_one_more, some_from_one_more}
 
 abbrev pub of_int : List ℕ → List ℕ × ℤ → Bool
@@ -70,15 +70,7 @@ index_set name (c ∷ cs) (suc at) coll d same = ap (λ o. cond (bytes_eq name c
 
 pub any_push : {X : Type 0} (p : X → Bool) (xs : List X) (x : X) → list_any p (xs ++ x ∷ []) ≡ (list_any p xs || p x)
 any_push p [] x = elim (p x) as (λ b. (b || false) ≡ b) [ true ↦ refl | false ↦ refl ]
-any_push p (y ∷ xs) x = ap (λ t. p y || t) (any_push p xs x) ∙ or_assoc (p y) (list_any p xs) (p x)
-  where
-    or_assoc : (a b c : Bool) → (a || (b || c)) ≡ ((a || b) || c)
-    or_assoc true b c = refl
-    or_assoc false b c = refl
-
-or_true : (b : Bool) → (b || true) ≡ true
-or_true true = refl
-or_true false = refl
+any_push p (y ∷ xs) x = ap (λ t. p y || t) (any_push p xs x) ∙ sym (or-assoc (p y) (list_any p xs) (p x))
 
 named_push_other : (name : List ℕ) (table : List (List ℕ × Known)) (entry : List ℕ × Known) → bytes_eq name entry.0 ≡ false → value_named (table ++ entry ∷ []) name ≡ value_named table name
 named_push_other name [] entry other = cond-false (bytes_eq name entry.0) (Some entry.1) None other
@@ -104,7 +96,7 @@ module _ (ints : List (List ℕ × ℤ)) (colls : List GrowingColl) (table : Lis
         let none = none_at n here in
         let parts = by_none (coll_index n colls) (list_any (of_int n) ints) none in
         let any : list_any (of_int n) (ints ++ int ∷ []) ≡ true =
-        any_push (of_int n) ints int ∙ ap (λ t. list_any (of_int n) ints || t) (ap (bytes_eq n) named ∙ here) ∙ or_true (list_any (of_int n) ints) in
+        any_push (of_int n) ints int ∙ ap (λ t. list_any (of_int n) ints || t) (ap (bytes_eq n) named ∙ here) ∙ or_right (list_any (of_int n) ints) true refl in
         named_push_new n table (name, Integer) (was n ∙ none) here ∙ ap (λ b. coll_or_int None b) (sym any) ∙ ap (λ o. coll_or_int o (list_any (of_int n) (ints ++ int ∷ []))) (sym parts.0)
     | inr other ↦
         let any : list_any (of_int n) (ints ++ int ∷ []) ≡ list_any (of_int n) ints =

@@ -1,12 +1,11 @@
 -- Each record leaves the data so far sound.
 use Rattle.std.specs.Prelude.{◌==◌, ◌&&◌, ◌||◌, nat_le, nat_lt}
-use Rattle.std.proofs.Common.{◌≡◌, ℕ, zero, suc, ◌+◌, ◌*◌, ◌<◌, ◌≤◌, ℤ, pos, negsuc, true, List, [], ◌∷◌, ◌++◌, length, map, get_or, replicate, codes, bytes_eq, Option, Some, None, option_map, option_and_then, Result, Ok, Err, IsTrue, refl, sym, ◌∙◌, ap, subst, inl, inr, arith}
+use Rattle.std.proofs.Common.{◌≡◌, ℕ, suc, ◌+◌, ◌*◌, ◌<◌, ◌≤◌, ℤ, pos, negsuc, true, List, [], ◌∷◌, ◌++◌, length, map, get_or, replicate, codes, bytes_eq, Option, Some, None, option_map, option_and_then, Ok, IsTrue, refl, sym, ◌∙◌, ap, subst, inl, inr, arith, mul-pos}
 use Rattle.std.specs.List.{list_all, AllByRecursion}
 use Rattle.std.proofs.lemmas.Bool.{leb-true, ltb-true, and_parts}
 use Rattle.std.proofs.lemmas.List.{length-replicate, length-map, length_push, map-append}
 use Rattle.std.proofs.lemmas.List.Sums.{sum_by_push}
 use Rattle.std.specs.Prelude.{if◌then◌else◌}
-use Rattle.coll_data.specs.declared.fault.DataCode.{DataCode}
 use Rattle.coll_data.specs.Tiles.{tile_count}
 use Rattle.coll_data.specs.WellMade.{is_element_count}
 use Rattle.data_read.specs.declared.growing.GrowingColl.{GrowingColl}
@@ -17,7 +16,7 @@ use Rattle.data_read.specs.Records.{as_element_count, columns, coll_of, coll_rec
 use Rattle.data_read.proofs.Choices.{by_option, no_value}
 use Rattle.data_read.proofs.Soundness.{HasLength, IsSound, IsSoundColl, all_replicate, all_true_push, at_push, counts_of, elements_in}
 use Rattle.list_lemmas.proofs.Truth.{chosen, by_test}
-use Rattle.list_lemmas.proofs.Options.{by_result}
+use Rattle.list_lemmas.proofs.Options.{by_result, same_Ok}
 use Rattle.list_lemmas.proofs.Places.{each_push, each_weaker}
 
 -- ---- the first record
@@ -36,9 +35,6 @@ count_found (Some z) n e = is_count z n e
 first_sound : (elems : ℕ) → is_element_count elems ≡ true → IsSound (begun elems)
 first_sound elems count = record { types_at_most = omega arith; counts = rw count refl; colls = tt; total = refl; at_most = omega arith }
 
-same_count : (a b : ℕ) → ◌≡◌ {A = Result ℕ DataCode} (Ok a) (Ok b) → a ≡ b
-same_count a b e = cc
-
 pub begun_sound : (fields : List (List ℕ)) (elems : ℕ) → first_record fields ≡ Ok elems → IsSound (begun elems)
 begun_sound fields elems is =
     by_test (bytes_eq (field fields 0) (codes "elems"))
@@ -48,7 +44,7 @@ begun_sound fields elems is =
     by_option (element_count (field fields 1))
     (λ h. let s = rw h at is in no_value s)
     (λ n hn. let is = rw hn at is in
-    let same : n ≡ elems = same_count _ _ is in
+    let same : n ≡ elems = same_Ok _ _ is in
     subst (λ k. IsSound (begun k)) same (first_sound n (count_found (whole (field fields 1)) n hn))))
     (λ h. let s = rw h at is in no_value s))
     (λ h. let s = rw h at is in no_value s)
@@ -81,9 +77,6 @@ with_type_sound d name n sound count room =
       at_most = sound.at_most;
     }
 
-pub same_draft : (a b : Draft) → ◌≡◌ {A = Result Draft DataCode} (Ok a) (Ok b) → a ≡ b
-same_draft a b e = cc
-
 pub type_sound : (d e : Draft) (fields : List (List ℕ)) → IsSound d → type_record d fields ≡ Ok e → IsSound e
 type_sound d e fields sound is =
     by_test (length fields == 2)
@@ -100,7 +93,7 @@ type_sound d e fields sound is =
     (λ hk. let is = rw hk at is in
     by_test (nat_lt (length d.types) 15)
     (λ hr. let is = rw hr at is in
-    subst IsSound (same_draft _ _ is) (with_type_sound d (field fields 1) n sound (count_found (whole (field fields 2)) n hn) (ltb-true (length d.types) 15 hr)))
+    subst IsSound (same_Ok _ _ is) (with_type_sound d (field fields 1) n sound (count_found (whole (field fields 2)) n hn) (ltb-true (length d.types) 15 hr)))
     (λ h. let s = rw h at is in no_value s))
     (λ k hk. let s = rw hk at is in no_value s))
     (λ h. let s = rw h at is in no_value s)))
@@ -119,7 +112,7 @@ int_sound d e fields sound is =
     by_option (whole (field fields 2))
     (λ h. let s = rw h at is in no_value s)
     (λ v hv. let is = rw hv at is in
-    subst IsSound (same_draft _ _ is) (record { types_at_most = sound.types_at_most; counts = sound.counts; colls = sound.colls; total = sound.total; at_most = sound.at_most })))
+    subst IsSound (same_Ok _ _ is) (record { types_at_most = sound.types_at_most; counts = sound.counts; colls = sound.colls; total = sound.total; at_most = sound.at_most })))
     (λ h. let s = rw h at is in no_value s))
     (λ h. let s = rw h at is in no_value s))
     (λ h. let s = rw h at is in no_value s)
@@ -198,13 +191,9 @@ matrix_has (Some r) (Some c) shape os ps e = elim (chosen (nat_le (r * c) 65536)
       let same : (r, Some c) ≡ shape = (let s : ◌≡◌ {A = Option (ℕ × Option ℕ)} (Some (r, Some c)) (Some shape) = w.1 in cc) in
       let rows = os r refl in
       let cols = ps c refl in
-      subst HasTiles same (record { some = product r c rows.0 cols.0; few = leb-true (r * c) 65536 w.0 })
+      subst HasTiles same (record { some = mul-pos rows.0 cols.0; few = leb-true (r * c) 65536 w.0 })
   | inr w ↦ absurd (let s : ◌≡◌ {A = Option (ℕ × Option ℕ)} None (Some shape) = w.1 in cc)
 ]
-  where
-    product : (r c : ℕ) → 1 ≤ r → 1 ≤ c → 1 ≤ r * c
-    product zero c h k = absurd (omega arith)
-    product (suc r) c h k = let more : suc r * c ≡ c + r * c = omega arith in omega arith
 
 shape_has : (rows : ℤ) (cols : Option ℤ) (shape : ℕ × Option ℕ) → shape_of rows cols ≡ Some shape → HasTiles shape
 shape_has rows None shape e = line_has (side rows) shape (side_parts rows) e
@@ -216,9 +205,6 @@ record IsSizeOf (d : Draft) (size : AskedColl) : Type 0 where
   is : get_or (counts_of d) size.datatype 0 ≡ size.elements
   tiles : HasTiles size.shape
   room : d.elements + tile_count size.shape.0 size.shape.1 * size.elements ≤ 16777216
-
-pub same_size : (a b : AskedColl) → ◌≡◌ {A = Result AskedColl DataCode} (Ok a) (Ok b) → a ≡ b
-same_size a b e = cc
 
 sized_is : (d : Draft) (type : List ℕ) (fields : List (List ℕ)) (at : ℕ) (size : AskedColl) → asked_coll d type fields at ≡ Ok size → IsSizeOf d size
 sized_is d type fields at size is =
@@ -241,7 +227,7 @@ sized_is d type fields at size is =
     let within = place.within in
     let count : length (counts_of d) ≡ length ((codes "DEFAULT", d.elems) ∷ d.types) = length-map ((codes "DEFAULT", d.elems) ∷ d.types) (λ (type : List ℕ × ℕ). type.1) in
     let here : known.0 ≡ place.place = omega arith in
-    subst (IsSizeOf d) (same_size _ _ is)
+    subst (IsSizeOf d) (same_Ok _ _ is)
     (record {
       within = omega arith;
       is = ap (λ n. get_or (counts_of d) n 0) here ∙ place.is_count;
@@ -259,7 +245,7 @@ coll_of_sound d e type fields at sound is =
     by_result (asked_coll d type fields (at + 1))
     (λ size hs. let is = rw hs at is in
     let parts = sized_is d type fields (at + 1) size hs in
-    subst IsSound (same_draft _ _ is) (with_coll_sound d (field fields at) size.shape size.datatype size.elements sound parts.within parts.is parts.tiles.some parts.tiles.few parts.room))
+    subst IsSound (same_Ok _ _ is) (with_coll_sound d (field fields at) size.shape size.datatype size.elements sound parts.within parts.is parts.tiles.some parts.tiles.few parts.room))
     (λ code hs. let s = rw hs at is in no_value s))
     (λ h. let s = rw h at is in no_value s))
     (λ h. let s = rw h at is in no_value s)
@@ -277,7 +263,3 @@ collof_sound d e fields sound is =
     (λ h. let is = rw h at is in
     coll_of_sound d e (field fields 1) fields 2 sound is)
     (λ h. let s = rw h at is in no_value s)
-
--- a fault is no draft
-pub no_draft : (code : DataCode) (e : Draft) → ◌≡◌ {A = Result Draft DataCode} (Err code) (Ok e) → ⊥
-no_draft code e is = cc

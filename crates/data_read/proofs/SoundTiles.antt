@@ -1,12 +1,11 @@
 -- Records of tiles, and any record, leave the data so far sound.
 use Rattle.std.specs.Prelude.{◌&&◌, nat_le}
-use Rattle.std.proofs.Common.{◌≡◌, ℕ, ◌+◌, ◌-◌, ◌*◌, ℤ, List, length, drop, get_or, set, slice_get, codes, bytes_eq, Option, Some, None, option_map, Result, Ok, refl, sym, ◌∙◌, ap, subst, arith, length-set}
+use Rattle.std.proofs.Common.{◌≡◌, ℕ, ◌+◌, ◌-◌, ◌*◌, ℤ, List, length, drop, get_or, set, slice_get, codes, bytes_eq, Option, Some, None, option_map, Ok, refl, sym, ◌∙◌, ap, subst, arith, length-set}
 use Rattle.std.specs.List.{sum_by}
 use Rattle.std.proofs.lemmas.Bool.{leb-true, and_parts}
 use Rattle.std.proofs.lemmas.List.{length-drop}
 use Rattle.std.proofs.lemmas.List.Sums.{sum_by-set}
 use Rattle.std.proofs.lemmas.Option.{get_or_from_slice_get, slice_get_within, option_and_then_some}
-use Rattle.coll_data.specs.declared.fault.DataCode.{DataCode}
 use Rattle.data_read.specs.declared.growing.GrowingColl.{GrowingColl}
 use Rattle.data_read.specs.Fields.{field, is_name, whole}
 use Rattle.data_read.specs.Draft.{Draft, coll_index, coll_named, with_tile}
@@ -14,15 +13,12 @@ use Rattle.data_read.specs.Records.{column, first_value, free_index, later_recor
 use Rattle.data_read.proofs.Choices.{by_option, no_value}
 use Rattle.data_read.proofs.Values.{length_opened, numbers_length}
 use Rattle.data_read.proofs.Soundness.{HasLength, IsSound, IsSoundColl, counts_of, elements_in}
-use Rattle.data_read.proofs.SoundRecords.{coll_sound, collof_sound, int_sound, no_draft, same_draft, type_sound}
+use Rattle.data_read.proofs.SoundRecords.{coll_sound, collof_sound, int_sound, type_sound}
 use Rattle.list_lemmas.proofs.Truth.{by_test}
-use Rattle.list_lemmas.proofs.Options.{by_result}
+use Rattle.list_lemmas.proofs.Options.{by_result, same_Ok}
 use Rattle.list_lemmas.proofs.Places.{each_at, each_set}
 
 -- ---- tiles
-
-same_tile : (a b : ℕ × List ℤ) → ◌≡◌ {A = Result (ℕ × List ℤ) DataCode} (Ok a) (Ok b) → a ≡ b
-same_tile a b e = cc
 
 tile_length : (fields : List (List ℕ)) (coll : GrowingColl) (tile : ℕ × List ℤ) → new_tile fields coll ≡ Ok tile → length tile.1 ≡ coll.elements
 tile_length fields coll tile is =
@@ -42,7 +38,7 @@ tile_length fields coll tile is =
     (λ index hn. let is = rw hn at is in
     let few = leb-true (length fields - first) coll.elements (and_parts (nat_le 1 (length fields - first)) (nat_le (length fields - first) coll.elements) ht).1 in
     let size : length values ≡ length fields - first = numbers_length (drop first fields) values hv ∙ length-drop first fields in
-    ap (λ (t : ℕ × List ℤ). length t.1) (sym (same_tile _ _ is)) ∙ length_opened coll.elements values (omega arith))
+    ap (λ (t : ℕ × List ℤ). length t.1) (sym (same_Ok _ _ is)) ∙ length_opened coll.elements values (omega arith))
     (λ code hn. let s = rw hn at is in no_value s)))))
     (λ h. let s = rw h at is in no_value s)
 
@@ -96,7 +92,7 @@ tile_sound d e fields sound is =
     (λ known hk. let is = rw hk at is in
     by_result (new_tile fields known.1)
     (λ tile ht. let is = rw ht at is in
-    subst IsSound (same_draft _ _ is) (with_tile_sound d known.0 known.1 tile.0 tile.1 sound (coll_is_there d (field fields 1) known hk) (tile_length fields known.1 tile ht)))
+    subst IsSound (same_Ok _ _ is) (with_tile_sound d known.0 known.1 tile.0 tile.1 sound (coll_is_there d (field fields 1) known hk) (tile_length fields known.1 tile ht)))
     (λ code ht. let s = rw ht at is in no_value s)))
     (λ h. let s = rw h at is in no_value s))
     (λ h. let s = rw h at is in no_value s)
@@ -120,4 +116,4 @@ later_sound d e fields sound is =
     by_test (bytes_eq (field fields 0) (codes "tile"))
     (λ h. let is = rw h at is in tile_sound d e fields sound is)
     (λ h. let is = rw h at is in
-    absurd (no_draft _ _ is))))))
+    no_value is)))))

@@ -91,7 +91,12 @@ with_tile d at coll index tile =
 -- a collection whose tiles are zeros where no record gave one
 abbrev pub finished : GrowingColl → Coll
 finished coll =
-    record { shape = coll.shape; name = coll.name; datatype = coll.datatype; tiles = map (λ tile. unwrap_or tile (replicate coll.elements (pos 0))) coll.tiles }
+    record {
+      shape = coll.shape;
+      name = coll.name;
+      datatype = coll.datatype;
+      tiles = map (λ tile. unwrap_or tile (replicate coll.elements (pos 0))) coll.tiles;
+    }
 
 -- the data after so many records
 abbrev pub data_after : ℕ → Draft → Data

@@ -134,7 +134,8 @@ free_index coll i j =
 -- the index of a tile of this collection that no record gave before, and the tile
 abbrev pub new_tile : List (List ℕ) → GrowingColl → Result (ℕ × List ℤ) DataCode
 new_tile fields coll =
-    require (nat_le 1 (length fields - first_value coll.shape.1) && nat_le (length fields - first_value coll.shape.1) coll.elements) TileCount
+    require (nat_le 1 (length fields - first_value coll.shape.1)
+    && nat_le (length fields - first_value coll.shape.1) coll.elements) TileCount
     (demand (whole (field fields 2)) BadNumber (λ i.
     demand (column coll.shape.1 fields) BadNumber (λ j.
     demand (numbers (drop (first_value coll.shape.1) fields)) BadNumber (λ values.

@@ -70,6 +70,14 @@ flat_map-numbered : (env : List ℤ) (n : ℕ) (xs : List Target) → all_links 
 flat_map-numbered env n [] = refl
 flat_map-numbered env n (x ∷ xs) = ap (λ l. links_to env n x ++ l) (flat_map-numbered env n xs)
 
+-- a target that is listed by flow is one of the flow with its number
+pub from_by_flow : (g : FlowPlan → List Target) (n : ℕ) (fs : List FlowPlan) (a : ℕ × Target) → IsIn a (by_flow g n fs) → (k : ℕ) × (f : FlowPlan) × (slice_get fs k ≡ Some f) × (a.0 ≡ n + k) × IsIn a.1 (g f)
+from_by_flow g n [] a i = absurd i
+from_by_flow g n (f ∷ fs) a i = elim (from_append a (map (λ x. (n, x)) (g f)) (by_flow g (suc n) fs) i) [
+  | inl here ↦ let p = from_map (λ x. (n, x)) (g f) a here in (0, f, refl, omega (arith, ap (λ b. b.0) p.2), subst (λ x. IsIn x (g f)) (sym (ap (λ b. b.1) p.2)) p.1)
+  | inr later ↦ let p = from_by_flow g (suc n) fs a later in (suc p.0, p.1, p.2, omega (arith, p.3), p.4)
+]
+
 module _ (env : List ℤ) (g : FlowPlan → List Target) where
   pub by_flow-links : (n : ℕ) (f : FlowPlan) (fs : List FlowPlan) → all_links env (by_flow g n (f ∷ fs)) ≡ flat_map (links_to env n) (g f) ++ all_links env (by_flow g (suc n) fs)
   by_flow-links n f fs =

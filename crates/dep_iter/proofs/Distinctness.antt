@@ -1,17 +1,11 @@
 -- No combination occurs twice.
-use Rattle.std.proofs.Common.{◌≡◌, ℕ, zero, suc, ℤ, pos, negsuc, ◌+ℤ◌, true, List, [], ◌∷◌, map, ap, sym, ◌∙◌, Result, Ok, Err, arith}
-use Rattle.std.proofs.lemmas.Int.{ints}
+use Rattle.std.proofs.Common.{ℕ, ℤ, List, [], ◌∷◌, map, ap, sym, ◌∙◌}
 use Rattle.std.specs.List.{filter_map}
 use Rattle.ptg_base.specs.Lists.{HasNoRepeats}
 use Rattle.ptg_base.specs.Task.{Task}
-use Rattle.ptg_base.specs.Returns.{and_then}
-use Rattle.range_space.specs.declared.fault.SpanFault.{SpanFault}
-use Rattle.range_space.specs.Values.{is_within, values, while_within}
-use Rattle.range_space.specs.Fault.{Bounds, bounds, number}
+use Rattle.range_space.specs.Fault.{bounds, number}
 use Rattle.range_space.specs.Tasks.{or_empty}
-use Rattle.range_space.proofs.Stepping.{while_in, while_past}
-use Rattle.range_space.proofs.Members.{on_way}
-use Rattle.list_lemmas.proofs.Truth.{by_test}
+use Rattle.range_space.proofs.Distinct.{distinct_number, distinct_range}
 use Rattle.list_lemmas.proofs.Members.{from_map}
 use Rattle.list_lemmas.proofs.Distinct.{HasNoRepeats-flat_map, HasNoRepeats-map}
 use Rattle.plan_core.specs.declared.target.Arg.{Arg}
@@ -25,32 +19,6 @@ use Rattle.dep_iter.specs.Items.{edge_of, items_to}
 use Rattle.dep_iter.specs.Links.{edge_in, edge_out, link, links_to}
 use Rattle.dep_iter.proofs.Belonging.{link_in, link_out}
 use Rattle.dep_iter.proofs.Joining.{edges_into-links, items_to-links}
-
--- a step leads away from a value
-not_back : (step v : ℤ) → is_within v step (v +ℤ step) ≡ true → ⊥
-not_back (pos zero) v h = absurd cc
-not_back (pos (suc n)) v h = grind (arith, ints)
-not_back (negsuc n) v h = grind (arith, ints)
-
-distinct_while : (hi step : ℤ) (n : ℕ) (v : ℤ) → HasNoRepeats (while_within hi step n v)
-unfolding while_within
-distinct_while hi step zero v = tt
-distinct_while hi step (suc n) v =
-    by_test (is_within hi step v)
-    (λ h. rw (while_in hi step n v h) (
-      λ w. not_back step v (on_way hi step n (v +ℤ step) v w).after_start,
-      distinct_while hi step n (v +ℤ step),
-    ))
-    (λ h. rw (while_past hi step (suc n) v h) tt)
-
-distinct_range : (r : Result Bounds SpanFault) → HasNoRepeats (or_empty (and_then r (λ b. Ok (values b.lo b.hi b.step))))
-unfolding values
-distinct_range (Ok b) = distinct_while b.hi b.step _ b.lo
-distinct_range (Err e) = tt
-
-distinct_number : (r : Result ℤ SpanFault) → HasNoRepeats (or_empty (and_then r (λ z. Ok (z ∷ []))))
-distinct_number (Ok z) = (λ w. w, tt)
-distinct_number (Err e) = tt
 
 distinct_arg : (a : Arg) (env : List ℤ) → HasNoRepeats (or_empty (arg_values a env))
 distinct_arg (One e) env = distinct_number (number e env)

@@ -3,5 +3,7 @@ pub mod Fitting
 pub mod Joining
 pub mod Belonging
 pub mod Listing
+pub mod Once
+pub mod Items
 pub mod Distinctness
 pub mod FarTasks

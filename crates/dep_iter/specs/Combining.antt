@@ -34,7 +34,8 @@ abbrev pub product_after : List Steps → List ℤ → List (List ℤ)
 product_after [] at = []
 product_after (s ∷ ss) [] = []
 product_after (s ∷ ss) (v ∷ vs) =
-    map (λ ws. v ∷ ws) (product_after ss vs) ++ flat_map (λ w. map (λ ws. w ∷ ws) (product (map steps_values ss))) (values (v +ℤ s.step) s.hi s.step)
+    map (λ ws. v ∷ ws) (product_after ss vs)
+    ++ flat_map (λ w. map (λ ws. w ∷ ws) (product (map steps_values ss))) (values (v +ℤ s.step) s.hi s.step)
 
 -- this combination and those that come after it, while there are any
 abbrev pub combinations_left : Bool → List Steps → List ℤ → List (List ℤ)

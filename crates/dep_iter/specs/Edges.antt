@@ -59,4 +59,7 @@ data_source P t n =
 -- the edges into flow n of a task that the first k in dependences of the flow give
 unfoldable pub in_edges_before : Plan → Task → ℕ → ℕ → List Edge
 in_edges_before P t n k =
-    option_map_or (λ (f : FlowPlan). flat_map (edges_into t (locals_of P t) n) (held_targets (takes_first f.kind) (take k f.ins) (locals_of P t))) (slice_get (flows_of P t) n) []
+    option_map_or
+    (λ (f : FlowPlan). flat_map (edges_into t (locals_of P t) n)
+    (held_targets (takes_first f.kind) (take k f.ins) (locals_of P t)))
+    (slice_get (flows_of P t) n) []

@@ -54,4 +54,7 @@ item_flow (item.Write w) = w.flow
 -- the edges out of flow n of a task that the first k out dependences of the flow give
 unfoldable pub out_edges_before : Plan → Task → ℕ → ℕ → List Edge
 out_edges_before P t n k =
-    option_map_or (λ (f : FlowPlan). filter_map edge_of (flat_map (items_to t (locals_of P t) n) (held_targets false (take k f.outs) (locals_of P t)))) (slice_get (flows_of P t) n) []
+    option_map_or
+    (λ (f : FlowPlan). filter_map edge_of
+    (flat_map (items_to t (locals_of P t) n) (held_targets false (take k f.outs) (locals_of P t))))
+    (slice_get (flows_of P t) n) []

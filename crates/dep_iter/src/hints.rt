@@ -8,7 +8,7 @@ ghost use Rattle.dep_iter.specs.Hints as hints;
 
 use crate::place::{place_of, value_or_zero};
 use crate::task::locals_of;
-use plan_core::Plan;
+use plan_core::{Plan, Shape};
 use ptg_base::{Place, TaskId};
 use term_core::Expr;
 
@@ -44,13 +44,20 @@ fn number_in(columns: Option<u32>, row: u64, column: u64) -> u64
     }
 }
 
+// A law: how many rows a collection has fits 32 bits.
+fn rows_fit(shape: &Shape)
+    ensures { shape.now.rows < 2 ^ 32 }
+{
+    let _rows = shape.rows;
+}
+
 /// The number of a place among those of its collection, row by row.
 pub fn place_number(plan: &Plan, p: &Place) -> u64
     requires { HasPlace plan.now.colls p.now }
     ensures { result ≡ hints.place_number plan.now p.now }
 {
     let shape = plan.coll(p.coll);
-    let _rows = shape.rows;
+    rows_fit(shape);
     number_in(shape.cols, p.i.unsigned_abs(), p.j.unsigned_abs())
 }
 

@@ -24,8 +24,8 @@ use std::collections::BinaryHeap;
 use std::marker::Model;
 use term_core::Trap;
 
-// So many stale candidates are never too many.
-const FEW: usize = 16;
+// So many stale candidates may stay in the queue.
+const STALE_ALLOWANCE: usize = 16;
 
 /// What has become of the target of an edge that came.
 #[derive(Clone, Copy, Debug, PartialEq, Eq)]
@@ -383,7 +383,7 @@ impl Shard {
         ensures spare { Uses self.old.spare self.new.spare 0 None 0 0 }
     {
         let ready = self.table.len().saturating_sub(self.waiting);
-        if self.queue.len() / 2 > ready + FEW {
+        if self.queue.len() / 2 > ready + STALE_ALLOWANCE {
             drop_all_stale(&self.table, &mut self.queue);
         }
     }

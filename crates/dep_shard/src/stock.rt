@@ -7,7 +7,7 @@ ghost use Rattle.dep_shard.specs.Stock.{UsesTile};
 use crate::arrivals::Arrivals;
 use crate::entry::Entry;
 use crate::tile_list::{Link, LinkedTile, Links};
-use ptg_base::{OutOfMemory, Tile};
+use ptg_base::{MOST_FLOWS, OutOfMemory, Tile};
 use std::alloc::Global;
 use std::marker::Model;
 use tile_pool::TilePool;
@@ -240,7 +240,7 @@ impl Stock {
         ensures elems { self.new.elems ≡ self.old.elems }
         ensures spare { UsesTile self.old.spare self.new.spare None }
     {
-        for flow in 0..8 {
+        for flow in 0..MOST_FLOWS as u8 {
             if let Some(tile) = spent.take(flow) {
                 self.keep(tile);
             }

@@ -9,6 +9,7 @@ use Rattle.ptg_base.specs.declared.edge.Edge.{Edge}
 use Rattle.ptg_base.specs.declared.edge.WriteBack.{WriteBack}
 use Rattle.ptg_base.specs.declared.edge.Item.{Item}
 use Rattle.ptg_base.specs.declared.edge.Item.TheVariants as item
+use Rattle.ptg_base.proofs.Comparisons.{same_edge-decides}
 use Rattle.list_lemmas.proofs.Members.{IsIn-flat_map, IsIn-map, from_flat_map, from_map}
 use Rattle.list_lemmas.proofs.Truth.{by_test}
 use Rattle.list_lemmas.proofs.Counts.{count-le, count-some, one_le, some_passes, weigh-append, same_counts}
@@ -26,7 +27,7 @@ use Rattle.list_lemmas.specs.Counting.{as_number, count}
 use Rattle.flow_meaning.specs.Ending.{has_outputs}
 use Rattle.flow_meaning.specs.Machine.{IsQuiescent, MachineState, Sent, same_sent, same_tile, sender}
 use Rattle.flow_meaning.specs.Sound.{IsSoundState}
-use Rattle.flow_meaning.proofs.Comparing.{same_edge-decides, same_item-decides}
+use Rattle.flow_meaning.proofs.Comparing.{same_item-decides}
 use Rattle.flow_meaning.proofs.Events.{has_inputs, send_member}
 use Rattle.flow_meaning.proofs.Once.{claims_members}
 use Rattle.flow_meaning.proofs.Quiet.{sent_are_items}

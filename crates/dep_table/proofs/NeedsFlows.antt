@@ -23,10 +23,11 @@ use Rattle.dep_iter.proofs.Listing.{listed}
 use Rattle.list_lemmas.specs.Counting.{as_number, count, weigh}
 use Rattle.flow_meaning.proofs.Members.{in_edge_to}
 use Rattle.flow_meaning.proofs.SourceEdges.{only_source, source_at_flow, source_in}
+use Rattle.flow_meaning.proofs.Starting.{known_datatype}
 use Rattle.shard_meaning.specs.Reserve.{is_edge_of_type}
 use Rattle.shard_meaning.proofs.Destinations.{flow_is}
 use Rattle.dep_table.specs.Needs.{begins_with_edge, edge_tiles, flow_tiles, flows_tiles}
-use Rattle.dep_table.proofs.NeedsOne.{carried, known}
+use Rattle.dep_table.proofs.NeedsOne.{carried}
 
 none_where : (b : Bool) → (b ≡ true → ⊥) → as_number b ≡ 0
 none_where true h = absurd (h refl)
@@ -46,7 +47,7 @@ count-once test (y ∷ ys) x once i passes only = elim i [
 
 -- the types of the flows of a task are types of the plan
 pub known_types : (P : Plan) (t : Task) → IsTask P t → (f : FlowPlan) → IsIn f (flows_of P t) → f.datatype < length P.elems
-known_types P t job f i = let p = place_of_member (flows_of P t) f i in known P t p.0 f job p.1
+known_types P t job f i = let p = place_of_member (flows_of P t) f i in known_datatype P t p.0 f job p.1
 
 -- of edges, those into flow n weigh so much, and those into flow n and later ones as much as their flows
 abbrev into : ℕ → Edge → Bool

@@ -1,7 +1,6 @@
 //! What a shard of a preloaded table needs, counted task by task.
 
-ghost use Rattle.std.specs.Prelude.{◌≡◌, ◌+◌, ◌<◌, ◌==◌, ◌^◌, ℕ, [], ◌∷◌, Bool, Some, length, slice_get, slice_index, IfOk, IfSome};
-ghost use Rattle.std.specs.Option.{option_copied};
+ghost use Rattle.std.specs.Prelude.{◌≡◌, ◌+◌, ◌<◌, ◌==◌, ◌^◌, ℕ, [], ◌∷◌, Bool, Some, length, slice_index, IfOk};
 ghost use Rattle.ptg_base.specs.Lists.{IsIn};
 ghost use Rattle.plan_core.specs.declared.flow.FlowPlan.{FlowPlan as FlowPlanValue};
 ghost use Rattle.dep_iter.specs.Active.{held_targets};
@@ -17,6 +16,7 @@ use dep_iter::{Matched, flows_of, held_target, write_backs_under};
 use goal_count::goal_under;
 use plan_core::{DepPlan, FlowPlan, Plan, Target};
 use ptg_base::{OutOfMemory, TaskId, WriteBack};
+use shard_calls::flow_at;
 use std::alloc::Global;
 
 // What one shard needs for all that will come to it.
@@ -38,15 +38,6 @@ fn add_one(count: &mut u64)
     ensures { count.new ≡ count.old + 1 }
 {
     *count += 1;
-}
-
-// The flow of a task with this number, if it has one. Its type is one of the plan's.
-fn flow_at<'a>(plan: &'a Plan, t: &TaskId, number: u8) -> Option<&'a FlowPlan>
-    requires { IsTask plan.now t.now }
-    ensures flow { option_copied result ≡ slice_get (tasks.flows_of plan.now t.now) number }
-    ensures known { IfSome result (λ flow. flow.now.datatype < length plan.now.elems) }
-{
-    flows_of(plan, t).get(number as usize)
 }
 
 // Whether a target of an in dependence gives an edge.

@@ -13,7 +13,7 @@ ghost use Rattle.dep_table.specs.Closing.{HaveNoWork, IsClosedAt};
 ghost use Rattle.dep_table.specs.StampOrders.{IsClaimOrder, IsRanOrder};
 
 use crate::closed::Closed;
-use dep_shard::Shard;
+use shard_calls::have_no_work;
 
 impl Closed {
     /// Whether the table was closed after the run had ended: no shard has work.
@@ -22,18 +22,6 @@ impl Closed {
     {
         have_no_work(self.shards.as_slice())
     }
-}
-
-// Whether no shard has work.
-fn have_no_work(shards: &[Shard]) -> bool
-    ensures { IsTrue result ↔ HaveNoWork shards.now }
-{
-    for k in 0..shards.len() {
-        if !shards[k].is_calm() {
-            return false;
-        }
-    }
-    true
 }
 
 /// A law: where no shard of a closed table has work, what its passes did together is calm, and no event is possible;

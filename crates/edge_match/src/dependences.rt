@@ -26,7 +26,8 @@ fn check_target(
 ) -> Result<(), MatchFault>
     requires { IsTrue (fits at.now.plan.now target.now) }
     ensures { CheckedAt at.now.phase at.now counted.old counted.new result
-        (item_marks way (before_at way at.now k) (items_at way at.now.task.now at.now.env.now at.now.number target.now)) }
+        (item_marks way (before_at way at.now k)
+        (items_at way at.now.task.now at.now.env.now at.now.number target.now)) }
 {
     match target {
         Target::Task(class, flow, args) => {

@@ -84,7 +84,8 @@ fn connect_edge(
 fn match_edge(at: &FlowAt, way: Direction, k: usize, edge: &LentEdge) -> Result<(), MatchFault>
     requires task { near_task way edge.now ≡ at.now.task.now }
     requires flow { near_flow way edge.now ≡ at.now.number }
-    ensures { (earlier : List EdgeValue) (s : CountedValue) → IsIn edge.now earlier ↔ IsIn edge.now (before_at way at.now k)
+    ensures { (earlier : List EdgeValue) (s : CountedValue)
+        → IsIn edge.now earlier ↔ IsIn edge.now (before_at way at.now k)
         → CheckedAt phase.Matching at.now s s result (edge_marks way earlier edge.now) }
 {
     at.require(has_other_end(at.plan, way, edge), unmatched(way))?;

@@ -22,7 +22,8 @@ use ptg_base::TaskId;
 fn check_values(task: &TaskAt) -> Result<(), MatchFault>
     requires of_job { IsTask task.now.plan.now task.now.task.now }
     ensures { (s : CountedValue) → Checked task.now.plan.now s s result
-        (mark task.now.task.now (ill_flow task.now.plan.now task.now.task.now) (Is (HasValues task.now.task.now)) ∷ []) }
+        (mark task.now.task.now (ill_flow task.now.plan.now task.now.task.now)
+        (Is (HasValues task.now.task.now)) ∷ []) }
 {
     match well_task_under(task.plan, task.task, task.env) {
         Ok(()) => Ok(()),

@@ -87,6 +87,13 @@ fn next_held<'a>(first_only: bool, k: usize, deps: &'a [DepPlan], env: &[i64]) -
     }
 }
 
+// A law: how many dependences there are fits 64 bits.
+fn count_fits(deps: &[DepPlan])
+    ensures { length deps.now < 2 ^ 64 }
+{
+    let _ = deps.len();
+}
+
 // The walk where it enters a flow, with the flows after it.
 fn enter<'a>(inward: bool, flow: &'a FlowPlan, number: u8, others: &'a [FlowPlan]) -> Position<'a>
     requires { number < most_flows }
@@ -105,7 +112,7 @@ fn enter<'a>(inward: bool, flow: &'a FlowPlan, number: u8, others: &'a [FlowPlan
     } else {
         flow.outs.as_slice()
     };
-    let _count = deps.len();
+    count_fits(deps);
     Position {
         flow: number,
         first_only: inward && flow.kind.takes_first(),
@@ -122,7 +129,8 @@ pub(crate) fn next_active<'a>(inward: bool, env: &[i64], p: Position<'a>) -> Opt
     requires count { p.dependence + length p.deps.now < 2 ^ 64 }
     ensures found { MatchOption result (left inward env.now p.entry ≡ [])
         (λ r. left inward env.now p.entry
-        ≡ record { flow = r.after.flow; dependence = r.dependence; target = r.target.now } ∷ left inward env.now r.after) }
+        ≡ record { flow = r.after.flow; dependence = r.dependence; target = r.target.now }
+        ∷ left inward env.now r.after) }
     ensures room { IfSome result (λ r. r.after.next_flow + length r.after.flows.now ≤ most_flows) }
     ensures count { IfSome result (λ r. r.after.dependence + length r.after.deps.now < 2 ^ 64) }
     ensures fits { (P : Plan) → IsTrue (position_fits P p.entry)

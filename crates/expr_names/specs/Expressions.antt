@@ -7,6 +7,7 @@ use Rattle.term_core.specs.Term as term
 use Rattle.ptg_base.specs.Returns.{and_then}
 use Rattle.jdf_tree.specs.Expression.{Expression, Num, Name, Elem, Unary, Binary, Choose}
 use Rattle.expr_names.specs.Symbols.{Resolved, SymbolTable}
+use Rattle.expr_names.specs.Meanings.{value_of}
 
 -- two parts of an expression: both of them, or the fault of the one that has one, or which is reported of two faults
 abbrev pub together : {A B : Type 0} → (JdfFault → JdfFault → JdfFault) → Resolved A → Resolved B → Resolved (A × B)
@@ -18,7 +19,7 @@ together reported (Err f) (Err g) = Err (reported f g)
 -- the term that an expression is where names mean this
 abbrev pub term_of : SymbolTable → Expression → Resolved Term
 term_of names (Num z spot) = Ok (term.Num z)
-term_of names (Name w) = names.value w
+term_of names (Name w) = value_of w (names.meaning w.text)
 term_of names (Elem w at) =
     and_then (together names.reported (names.flow w) (term_of names at)) (λ x. Ok (term.Elem x.0 x.1))
 term_of names (Unary o a spot) = and_then (term_of names a) (λ x. Ok (term.Unary o x))

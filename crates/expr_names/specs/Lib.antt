@@ -1,3 +1,4 @@
 pub mod Symbols
+pub mod Meanings
 pub mod Expressions
 pub mod Refusals

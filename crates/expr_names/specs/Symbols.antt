@@ -1,9 +1,9 @@
 -- What the names in expressions mean. Source: the JDF documentation.
-use Rattle.std.specs.Prelude.{ℕ, Result, Err}
+use Rattle.std.specs.Prelude.{ℕ, List, Result, Err}
 use Rattle.jdf_lex.specs.declared.fault.JdfCode.{JdfCode}
 use Rattle.jdf_lex.specs.declared.fault.JdfFault.{JdfFault}
-use Rattle.term_core.specs.Term.{Term}
 use Rattle.jdf_tree.specs.declared.expression.Word.{Word}
+use Rattle.expr_names.specs.declared.meaning.Meaning.{Meaning}
 
 -- what is resolved, or a fault
 abbrev pub Resolved : Type 0 → Type 0
@@ -14,8 +14,8 @@ abbrev pub fault_at : {A : Type 0} → Word → JdfCode → Resolved A
 fault_at w code = Err (record { spot = w.spot; code = code })
 
 pub record SymbolTable : Type 0 where
-  -- the term of a name that stands for a number
-  pub value : Word → Resolved Term
+  -- what a name means that is not before an index
+  pub meaning : List ℕ → Meaning
   -- the number of the flow of a name before an index
   pub flow : Word → Resolved ℕ
   -- which of the faults of two parts of an expression is reported

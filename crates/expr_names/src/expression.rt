@@ -7,6 +7,7 @@ ghost use Rattle.expr_names.specs.Symbols.{Resolved};
 ghost use Rattle.expr_names.specs.Expressions.{together, term_of};
 ghost use Rattle.expr_names.specs.Refusals.{reported_refusal};
 
+use crate::meaning::value_of;
 use crate::symbols::Symbols;
 use jdf_lex::JdfRefusal;
 use jdf_tree::{ExprNode, ExprTree};
@@ -67,7 +68,7 @@ fn node_term<S: Symbols>(alloc: Global, symbols: &S, node: &ExprNode) -> Result<
 {
     match node {
         ExprNode::Num(value, _) => Ok(Expr::num(*value)),
-        ExprNode::Name(word) => symbols.value(word),
+        ExprNode::Name(word) => value_of(word, symbols.meaning(&word.text)),
         ExprNode::Elem(word, at) => {
             let flow = symbols.flow(word);
             let at = node_term(alloc, symbols, at);

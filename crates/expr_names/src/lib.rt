@@ -3,7 +3,9 @@
 #![tactic(auto)]
 
 mod expression;
+mod meaning;
 mod symbols;
 
 pub use expression::term_of;
+pub use meaning::{Meaning, outer_meaning, value_of};
 pub use symbols::{Symbols, fault_at};

@@ -5,11 +5,12 @@ ghost use Rattle.ptg_base.specs.Returns.{Returns};
 ghost use Rattle.ptg_base.specs.declared.refusal.Refusal.TheVariants.{Fault};
 ghost use Rattle.expr_names.specs.Symbols.{SymbolTable};
 
+use crate::meaning::Meaning;
 use jdf_lex::{JdfCode, JdfFault, JdfRefusal, Spot};
 use jdf_tree::Word;
-use term_core::Expr;
+use ptg_base::Text;
 
-/// What the names in an expression mean: a name before an index is a flow's, and each other one stands for a number.
+/// What the names in an expression mean: a name before an index is a flow's.
 pub trait Symbols {
     ghost use Rattle.expr_names.specs.Symbols.{SymbolTable};
 
@@ -19,10 +20,10 @@ pub trait Symbols {
     /// What they mean.
     ghost table: { Self → SymbolTable };
 
-    /// The term of a name that stands for a number.
-    fn value(&self, word: &Word) -> Result<Expr, JdfRefusal>
+    /// What a name means that is not before an index.
+    fn meaning(&self, name: &Text) -> Meaning
         requires { is_sound self.now }
-        ensures { Returns (λ e. e) result ((table self.now).value word.now) };
+        ensures { result ≡ (table self.now).meaning name.now };
 
     /// The number of the flow of a name before an index.
     fn flow(&self, word: &Word) -> Result<u8, JdfRefusal>

@@ -3,6 +3,7 @@ use Rattle.std.proofs.Common.{◌≡◌, ℕ, zero, suc, ◌-◌, ◌+◌, ◌�
 use Rattle.std.specs.Prelude.{◌==◌}
 use Rattle.std.proofs.lemmas.Bool.{le-ltb}
 use Rattle.std.proofs.lemmas.List.{length-append, take-append-drop, length-take-le, take_rest}
+use Rattle.std.proofs.lemmas.Bool.Decides.{nat_tests}
 use Rattle.grammar_core.specs.declared.token.Token.{Token}
 use Rattle.jdf_alphabet.specs.Codes.{ExprTooLong}
 use Rattle.jdf_alphabet.specs.Counted.{expression_limit, is_counted}
@@ -40,10 +41,6 @@ same_head : (rest v : List Token) → 0 < length rest → SameHead rest (rest ++
 same_head [] v some = absurd (omega arith)
 same_head (x ∷ rest) v some = refl
 
-not_none : (rest : List Token) → false ≡ (length rest == 0) → 0 < length rest
-not_none [] e = absurd cc
-not_none (x ∷ r) e = omega arith
-
 -- an expression of at most 128 tokens is within the limit
 judged : (s : List Token) (t : ExprWithSpot) (r : List Token) → length s - length r ≤ 128 → judge (expression_limit.at s) ExprTooLong s (Ok (t, r)) ≡ Ok (t, r)
 judged s t r few = let late = limit_is_late s in rw (le-ltb (expression_limit.at s) (length s - length r) (omega (arith, few, late))) refl
@@ -56,7 +53,7 @@ module _ (o : Outermost) (s w v : List Token) (front : w ≡ take (128 + 1) s) (
   pub brief_reads : (t : ExprWithSpot) (rest : List Token) → reading productions (form_of o) w ≡ Ok (t, rest) → false ≡ (length rest == 0)
       → reading productions (limited_form o) s ≡ Ok (t, take (length s - (length w - length rest)) (drop (length w - length rest) s))
   brief_reads t rest e some =
-      let left : 0 < length rest = not_none rest some in
+      let left : 0 < length rest = grind (arith, nat_tests, some) in
       let k = (form_sound o w).accepted (t, rest) e in
       let wide : length w ≡ 129 = ap (λ (l : List Token). length l) front ∙ length-take-le (128 + 1) s (omega (arith, long)) in
       let whole : s ≡ k.word ++ (rest ++ v) = parts ∙ (ap (λ (l : List Token). l ++ v) k.parts ∙ append_assoc k.word rest v) in

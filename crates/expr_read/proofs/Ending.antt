@@ -20,28 +20,14 @@ use Rattle.expr_read.specs.declared.rank.Outermost.TheVariants as outermost
 use Rattle.expr_read.specs.Front.{IsEnd, IsFirstFaultOf}
 use Rattle.expr_read.proofs.InWindow.{form_fine}
 use Rattle.jdf_tree.proofs.Limits.{productions_limits, outer_limits}
+use Rattle.list_lemmas.proofs.Options.{same_Ok, same_Err, Ok≢Err}
 
 outer_fine : (part : Part) → is_fine claims (outer part) ≡ true
 unfolding outer
 outer_fine part = form_fine (outermost.Expression part)
 
-abbrev failed : {A : Type 0} → FaultFromEnd → Result A FaultFromEnd
-failed n = Err n
-
-abbrev done : {A : Type 0} → A → Result A FaultFromEnd
-done x = Ok x
-
-ok_is : {A : Type 0} {x y : A} → done x ≡ done y → x ≡ y
-ok_is e = cc
-
-stops_are : {A : Type 0} {a b : FaultFromEnd} → failed {A = A} a ≡ failed b → a ≡ b
-stops_are e = cc
-
-stop_is : {A : Type 0} {a b : FaultFromEnd} → failed {A = A} a ≡ failed b → (a.0 ≡ b.0) × (a.1 ≡ b.1)
-stop_is e = (ap (λ (x : FaultFromEnd). x.0) (stops_are e), ap (λ (x : FaultFromEnd). x.1) (stops_are e))
-
-no_ok : {A : Type 0} {x : A} {n : FaultFromEnd} → done x ≡ failed n → ⊥
-no_ok e = cc
+stop_is : {A : Type 0} {a b : FaultFromEnd} → ◌≡◌ {A = Result A FaultFromEnd} (Err a) (Err b) → (a.0 ≡ b.0) × (a.1 ≡ b.1)
+stop_is {A} {a} {b} e = let same = same_Err a b e in (ap (λ (x : FaultFromEnd). x.0) same, ap (λ (x : FaultFromEnd). x.1) same)
 
 no_zero : (n : ℕ) → 0 < n → (n == 0) ≡ false
 no_zero n lt = elim (cases_Bool (n == 0)) [ inl t ↦ let e = eqb-true n 0 t in absurd (omega (arith, e, lt)) | inr f ↦ f ]
@@ -172,7 +158,7 @@ module _ (part : Part) where
       let at = one_end s (length s - length x.1) p k.0 h in
       let a = text_only productions claims productions_fine productions_limits (outer part) (outer_fine part) (outer_limits part) (take p s) e text in
       let b = text_only productions claims productions_fine productions_limits (outer part) (outer_fine part) (outer_limits part) (take p s) x.0 (subst (λ (m : ℕ). Text (take m s) x.0 None) at k.1) in
-      (ok_is (sym b ∙ a), at)
+      (same_Ok _ _ (sym b ∙ a), at)
 
   -- a limit's fault is met before the end
   before_end : (s : List Token) (p q : ℕ) (d : Code) → IsEnd part s p → IsLimitFault productions (outer part) s q d → IsLimitFault productions (outer part) (take p s) q d
@@ -190,7 +176,7 @@ module _ (part : Part) where
       go d k =
           let limit = before_end s p (length s - n) d h k in
           let a = one_fault productions claims productions_fine productions_limits (outer part) (outer_fine part) (outer_limits part) (take p s) (length s - n) d limit in
-          no_ok (sym (text_only productions claims productions_fine productions_limits (outer part) (outer_fine part) (outer_limits part) (take p s) e text) ∙ a)
+          Ok≢Err _ _ (sym (text_only productions claims productions_fine productions_limits (outer part) (outer_fine part) (outer_limits part) (take p s) e text) ∙ a)
 
   pub no_fault : (s : List Token) (x : ExprWithSpot × List Token) → read s ≡ Ok x → (p : ℕ) (d : Code) → IsFirstFaultOf part s p d → ⊥
   no_fault s x r p Syntax f =
@@ -203,7 +189,7 @@ module _ (part : Part) where
       read_it = rw r refl
 
       ends : (b : Bool) → cond {A = Result ExprWithSpot FaultFromEnd} b (Ok x.0) (Err (length x.1, Syntax)) ≡ Err (length s - p, d) → ⊥
-      ends true e = no_ok e
+      ends true e = Ok≢Err _ _ e
       ends false e = let same : Syntax ≡ d = (stop_is e).1 in cc
 
   pub same_fault : (s : List Token) (n : ℕ) (c : Code) → read s ≡ Err (n, c) → (p : ℕ) (d : Code) → IsFirstFaultOf part s p d → (length s - n ≡ p) × (c ≡ d)

@@ -1,8 +1,9 @@
 -- An outermost expression is read in a window of tokens up to its limit.
-use Rattle.std.proofs.Common.{◌≡◌, ℕ, suc, ◌-◌, ◌+◌, ◌≤◌, ◌<◌, List, [], ◌∷◌, ◌++◌, length, take, drop, true, false, append_assoc, Ok, Err, refl, sym, ap, ◌∙◌, arith}
+use Rattle.std.proofs.Common.{◌≡◌, ℕ, suc, ◌-◌, ◌+◌, ◌≤◌, ◌<◌, List, ◌++◌, length, take, drop, true, false, append_assoc, Ok, Err, refl, sym, ap, ◌∙◌, arith}
 use Rattle.std.specs.Prelude.{◌==◌}
 use Rattle.std.proofs.lemmas.Bool.{le-ltb}
 use Rattle.std.proofs.lemmas.List.{length-append, drop_at, take-append-drop, length-take-le, take_rest}
+use Rattle.std.proofs.lemmas.Bool.Decides.{nat_tests}
 use Rattle.grammar_core.specs.declared.token.Token.{Token}
 use Rattle.grammar_core.specs.declared.code.Code.{Code}
 use Rattle.jdf_alphabet.specs.Codes.{ExprTooLong}
@@ -81,14 +82,10 @@ module _ (o : Outermost) where
     pub slice : (t : ExprWithSpot) (rest : List Token) → reading productions (form_of o) w ≡ Ok (t, rest) → false ≡ (length rest == 0)
         → reading productions (limited_form o) s ≡ Ok (t, take (length s - (length w - length rest)) (drop (length w - length rest) s))
     slice t rest e some =
-        let left : 0 < length rest = not_none rest some in
+        let left : 0 < length rest = grind (arith, nat_tests, some) in
         let all : drop (length w - length rest) s ≡ rest ++ v = ap (λ (l : List Token). drop (length w - length rest) l) parts ∙ rest_is w v t rest e in
         let from : take (length s - (length w - length rest)) (drop (length w - length rest) s) ≡ rest ++ v = take_rest s (length w - length rest) ∙ all in
         ap (reading productions (limited_form o)) parts ∙ ends_inside w v wide t rest left e ∙ ap (λ (l : List Token). Ok (t, l)) (sym from)
-      where
-        not_none : (rest : List Token) → false ≡ (length rest == 0) → 0 < length rest
-        not_none [] e = absurd cc
-        not_none (x ∷ r) e = omega arith
 
     pub fault : (n : ℕ) (c : Code) → 0 < n → reading productions (form_of o) w ≡ Err (n, c) → reading productions (limited_form o) s ≡ Err (n + length v, c)
     fault n c some e = ap (reading productions (limited_form o)) parts ∙ fails_inside w v wide n c some e

@@ -186,7 +186,8 @@ fn operator(rank: Rank, terminal: Terminal) -> Option<BinOp>
 // The infix operator of this rank that is next, and the tokens after it; None if none is next.
 fn operator_at(rank: Rank, tokens: &[Token]) -> Option<(BinOp, &[Token])>
     ensures { MatchOption result (starts (operators_of rank) tokens.now ≡ false)
-        (λ x. (starts (operators_of rank) tokens.now ≡ true) × (reading productions (map operator_of (one_of (operators_of rank))) tokens.now ≡ Ok (x.0, x.1.now))) }
+        (λ x. (starts (operators_of rank) tokens.now ≡ true)
+        × (reading productions (map operator_of (one_of (operators_of rank))) tokens.now ≡ Ok (x.0, x.1.now))) }
 {
     let (first, rest) = tokens.split_first()?;
     let found = operator(rank, Terminal::of(first))?;

@@ -6,38 +6,30 @@ use Rattle.std.proofs.lemmas.List.{reverse-append}
 use Rattle.ptg_base.specs.Returns.{and_then}
 use Rattle.expr_names.specs.Symbols.{Resolved}
 use Rattle.expr_names.specs.Expressions.{together}
-
--- where there is a value, it is so
-abbrev pub Good : {A : Type 0} → (A → Type 0) → Resolved A → Type 0
-Good P (Ok x) = P x
-Good P (Err f) = Unit {0}
-
-pub after_good : {A B : Type 0} (P : A → Type 0) (Q : B → Type 0) (r : Resolved A) (f : A → Resolved B) → Good P r → ((x : A) → P x → Good Q (f x)) → Good Q (and_then r f)
-after_good P Q (Ok x) f h k = k x h
-after_good P Q (Err e) f h k = tt
+use Rattle.body_lang.proofs.Words.{IfValue}
 
 -- two parts of an expression
-pub pair_good : {A B : Type 0} (P : A → Type 0) (Q : B → Type 0) (r : Resolved A) (q : Resolved B) → Good P r → Good Q q → Good (λ (x : A × B). P x.0 × Q x.1) (together (λ first _. first) r q)
+pub pair_good : {A B : Type 0} (P : A → Type 0) (Q : B → Type 0) (r : Resolved A) (q : Resolved B) → IfValue P r → IfValue Q q → IfValue (λ (x : A × B). P x.0 × Q x.1) (together (λ first _. first) r q)
 pair_good P Q (Ok x) (Ok y) h k = (h, k)
 pair_good P Q (Ok x) (Err g) h k = tt
 pair_good P Q (Err f) (Ok y) h k = tt
 pair_good P Q (Err f) (Err g) h k = tt
 
 -- a first step of which nothing is needed
-pub past : {A B : Type 0} (Q : B → Type 0) (r : Resolved A) (f : A → Resolved B) → ((x : A) → Good Q (f x)) → Good Q (and_then r f)
+pub past : {A B : Type 0} (Q : B → Type 0) (r : Resolved A) (f : A → Resolved B) → ((x : A) → IfValue Q (f x)) → IfValue Q (and_then r f)
 past Q (Ok x) f k = k x
 past Q (Err e) f k = tt
 
-pub good_then : {A : Type 0} (P Q : A → Type 0) (r : Resolved A) → Good P r → ((x : A) → P x → Q x) → Good Q r
+pub good_then : {A : Type 0} (P Q : A → Type 0) (r : Resolved A) → IfValue P r → ((x : A) → P x → Q x) → IfValue Q r
 good_then P Q (Ok x) h k = k x h
 good_then P Q (Err e) h k = tt
 
-pub good_both : {A : Type 0} (P Q : A → Type 0) (r : Resolved A) → Good P r → Good Q r → Good (λ x. P x × Q x) r
+pub good_both : {A : Type 0} (P Q : A → Type 0) (r : Resolved A) → IfValue P r → IfValue Q r → IfValue (λ x. P x × Q x) r
 good_both P Q (Ok x) h k = (h, k)
 good_both P Q (Err e) h k = tt
 
-pub good_of : {A : Type 0} (P : A → Type 0) (r : Resolved A) (x : A) → Good P r → r ≡ Ok x → P x
-good_of P r x h e = subst (Good P) e h
+pub good_of : {A : Type 0} (P : A → Type 0) (r : Resolved A) (x : A) → IfValue P r → r ≡ Ok x → P x
+good_of P r x h e = subst (IfValue P) e h
 
 -- ---- lists
 

@@ -1,15 +1,10 @@
 -- How many collections data have at most: each has an element, and all together have at most 2 ^ 24.
-use Rattle.std.proofs.Common.{ℕ, zero, suc, ◌+◌, ◌*◌, ◌<◌, ◌≤◌, ◌^◌, nat_le, List, [], ◌∷◌, length, IsTrue, slice_index, arith}
+use Rattle.std.proofs.Common.{ℕ, zero, suc, ◌+◌, ◌*◌, ◌<◌, ◌≤◌, ◌^◌, nat_le, List, [], ◌∷◌, length, IsTrue, slice_index, arith, mul-pos}
 use Rattle.std.specs.List.{AllByRecursion, list_all, fold}
 use Rattle.coll_data.specs.declared.coll.Coll.{Coll}
 use Rattle.coll_data.specs.Data.{Data}
 use Rattle.coll_data.specs.WellMade.{is_element_count, elements_by_type, IsWellColl, element_total, IsWellMade}
 use Rattle.std.specs.Cmp.{first_so, second_so}
-
-one_each : (m n : ℕ) → 1 ≤ m → 1 ≤ n → 1 ≤ m * n
-one_each zero n h k = omega (arith, h)
-one_each (suc m) zero h k = omega (arith, k)
-one_each (suc m) (suc n) h k = grind arith
 
 counted : (elements : List ℕ) (n : ℕ) → IsTrue (list_all is_element_count elements) → n < length elements → 1 ≤ slice_index elements n
 counted [] n h lt = omega (arith, lt)
@@ -24,7 +19,7 @@ total : (elements : List ℕ) (start : ℕ) (colls : List Coll) → IsTrue (list
 total elements start [] h k = omega arith
 total elements start (c ∷ colls) h k =
     let tiles : 1 ≤ length c.tiles = omega (arith, k.0.has_tiles, k.0.all_tiles) in
-    let first = one_each (length c.tiles) (slice_index elements c.datatype) tiles (counted elements c.datatype h k.0.datatype) in
+    let first = mul-pos tiles (counted elements c.datatype h k.0.datatype) in
     let rest : (start + length c.tiles * slice_index elements c.datatype) + length colls ≤ added elements start (c ∷ colls) = total elements (start + length c.tiles * slice_index elements c.datatype) colls h k.1 in
     omega (arith, first, rest)
 

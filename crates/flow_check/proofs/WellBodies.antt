@@ -7,7 +7,6 @@ use Rattle.term_core.specs.WellBody.{IsWellBody}
 use Rattle.plan_core.specs.Bodies.{respects_kinds, has_words, keeps_loop_variables}
 use Rattle.body_names.specs.Environment.{Environment}
 use Rattle.body_names.specs.Bindings.{Bindings, no_bindings}
-use Rattle.expr_names.specs.Symbols.{Resolved}
 use Rattle.body_names.specs.Statements.{resolved}
 use Rattle.expr_names.proofs.Closed.{after_ok}
 use Rattle.body_names.proofs.WellBlocks.{whole_well}
@@ -18,15 +17,13 @@ use Rattle.flow_check.proofs.BodyParts.{good_of}
 use Rattle.flow_check.proofs.BodyKinds.{kinds_of, kinds_respected}
 use Rattle.flow_check.proofs.BodyLoops.{AreBelow, loops_kept}
 use Rattle.flow_check.proofs.BodyWords.{words_there}
+use Rattle.list_lemmas.proofs.Options.{same_Ok}
 
 abbrev Read : Type 0
 Read = Body × List (List ℕ)
 
 abbrev body_from : Environment → StatementList × Bindings → Read
 body_from scope x = (record { statements = x.0; slots = length scope.locals + x.1.declared }, x.1.words)
-
-read_once : (x y : Read) → (let a : Resolved Read = Ok x in let b : Resolved Read = Ok y in a ≡ b) → x ≡ y
-read_once x y e = cc
 
 -- what a plan needs of the body of a class
 pub record IsFitBody (scope : Environment) (y : Read) : Type 0 where
@@ -39,7 +36,7 @@ fit_body scope tokens y h =
     let r = after_ok (resolved scope h.tree no_bindings) (λ (x : StatementList × Bindings). Ok (body_from scope x)) y h.named in
     let kinds = good_of (λ (x : StatementList × Bindings). respects_kinds (kinds_of scope) x.0 ≡ true) (resolved scope h.tree no_bindings) r.0 (kinds_respected scope h.tree no_bindings) r.1 in
     let loops = good_of (λ (x : StatementList × Bindings). (keeps_loop_variables x.0 ≡ true) × AreBelow scope x.1) (resolved scope h.tree no_bindings) r.0 (loops_kept scope h.tree no_bindings tt) r.1 in
-    subst (IsFitBody scope) (read_once (body_from scope r.0) y r.2)
+    subst (IsFitBody scope) (same_Ok (body_from scope r.0) y r.2)
     (record { well = (whole_well scope h.tree r.0 r.1).1; kinds = kinds; loops = loops.0 })
 
 pub fit_words : (scope : Environment) (tokens : List Token) (y : Read) → IsBody scope tokens y → IsTrue (has_words (length y.1) y.0.statements)

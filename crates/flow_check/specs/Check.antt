@@ -34,13 +34,15 @@ classes_plan job (c ∷ classes) (b ∷ bodies) =
     both (λ x xs. (x.0 ∷ xs.0, x.1 ∷ xs.1)) (class_plan job c b) (classes_plan job classes bodies)
 
 -- The result of resolving a class: its body was read, and it is what the class means, or the first of its faults.
-pub record IsClassRead (job : Job) (class : ClassTree) (r : Result (ClassPlan × ClassSpace) (Refusal JdfFault)) : Type 0 where
+pub record IsClassRead (job : Job) (class : ClassTree)
+    (r : Result (ClassPlan × ClassSpace) (Refusal JdfFault)) : Type 0 where
   pub body : BodyResult
   pub read : ReadsBody job class body
   pub checked : ReturnsChecked r (class_plan job class body) (class_faults job class body)
 
 -- The same of some classes in order.
-pub record AreRead (job : Job) (classes : List ClassTree) (r : Result (List ClassPlan × List ClassSpace) (Refusal JdfFault)) : Type 0 where
+pub record AreRead (job : Job) (classes : List ClassTree)
+    (r : Result (List ClassPlan × List ClassSpace) (Refusal JdfFault)) : Type 0 where
   pub bodies : List BodyResult
   pub read : ReadBodies job classes bodies
   pub checked : ReturnsChecked r (classes_plan job classes bodies) (classes_faults job classes bodies)

@@ -30,7 +30,9 @@ head_from place rest = record { space = place.0; affinity = place.1; flows = res
 
 abbrev pub head_of : Job → ClassTree → Option ClassHead
 head_of job class =
-    both head_from (both (λ x y. (x, y)) (space_of job class.params class.defs) (element_of job class.defs class.affinity class.affinity_args))
+    both head_from
+    (both (λ x y. (x, y)) (space_of job class.params class.defs)
+    (element_of job class.defs class.affinity class.affinity_args))
     (both (λ x y. (x, y)) (flows_of job class.defs class.flows) (option_term job class.defs class.priority))
 
 -- all their faults
@@ -41,7 +43,17 @@ head_faults job class =
 
 -- the class of its parts
 abbrev pub class_from : ClassTree → ClassHead → Body × List (List ℕ) → ClassPlan × ClassSpace
-class_from class head b = (record { name = class.name.text; affinity = head.affinity; flows = head.flows; priority = head.priority; body = b.0; trap_words = b.1 }, head.space)
+class_from class head b = (
+  record {
+    name = class.name.text;
+    affinity = head.affinity;
+    flows = head.flows;
+    priority = head.priority;
+    body = b.0;
+    trap_words = b.1;
+  },
+  head.space,
+)
 
 -- a class and its space with all names resolved, whose body was read so
 abbrev pub class_plan : Job → ClassTree → BodyResult → Option (ClassPlan × ClassSpace)

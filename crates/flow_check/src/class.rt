@@ -9,9 +9,9 @@ ghost use Rattle.plan_core.specs.declared.class.ClassPlan.{ClassPlan};
 ghost use Rattle.term_core.specs.declared.space.ClassSpace.{ClassSpace};
 ghost use Rattle.flow_check.specs.Bodies.{ReadsAs};
 ghost use Rattle.flow_check.specs.Check.{IsClassRead};
-ghost use Rattle.flow_check.specs.Classes.{class_from, class_plan, class_faults};
+ghost use Rattle.flow_check.specs.Classes.{class_plan, class_faults};
 
-use crate::head::{ClassHead, head};
+use crate::head::head;
 use crate::scope::scope_of;
 use body_lang::read_body;
 use body_names::Scope;
@@ -40,32 +40,8 @@ fn body(alloc: Global, class: &ClassTree, scope: &Scope) -> Result<BodyResult, O
     }
 }
 
-// The class of its parts, and its space.
-fn class_from(
-    alloc: Global,
-    class: &ClassTree,
-    head: ClassHead,
-    body: (Body, Seq<Text>),
-) -> Result<(ClassPlan, ClassSpace), OutOfMemory>
-    ensures { IfOk result (λ x. x ≡ class_from class.now head body) }
-{
-    let plan = ClassPlan {
-        name: Text::of(alloc, class.name.text.bytes())?,
-        affinity: head.affinity,
-        flows: head.flows,
-        priority: head.priority,
-        body: body.0,
-        trap_words: body.1,
-    };
-    Ok((plan, head.space))
-}
-
 // A class with all names resolved, and its space. All of its definitions are seen.
-fn class(
-    context: &Context,
-    class: &ClassTree,
-    body: BodyResult,
-) -> Result<(ClassPlan, ClassSpace), JdfRefusal>
+fn class(context: &Context, class: &ClassTree, body: BodyResult) -> ClassResult
     requires context { IsContext context.now }
     requires seen { context.now.seen.now ≡ class.now.defs }
     requires bounded { IsBoundedClass class.now }
@@ -75,9 +51,19 @@ fn class(
     let head = head(context, class);
     match body {
         Err(fault) => refused(head, fault.spot, fault.code),
-        Ok(body) => match head {
+        Ok((body, trap_words)) => match head {
             Err(refusal) => Err(refusal),
-            Ok(head) => Ok(class_from(context.alloc, class, head, body)?),
+            Ok(head) => {
+                let plan = ClassPlan {
+                    name: Text::of(context.alloc, class.name.text.bytes())?,
+                    affinity: head.affinity,
+                    flows: head.flows,
+                    priority: head.priority,
+                    body,
+                    trap_words,
+                };
+                Ok((plan, head.space))
+            }
         },
     }
 }

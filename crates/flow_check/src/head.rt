@@ -4,9 +4,7 @@ ghost use Rattle.std.specs.Prelude.{◌≡◌};
 ghost use Rattle.check_names.specs.Contexts.{IsContext, job_of};
 ghost use Rattle.check_names.specs.Limits.{IsBoundedClass};
 ghost use Rattle.check_names.specs.Returns.{ReturnsChecked};
-ghost use Rattle.check_flows.specs.Dependences.{flow_faults};
-ghost use Rattle.flow_check.specs.Classes.{flows_of, flows_faults, head_from, head_of, head_faults};
-ghost use Rattle.std.specs.Prelude.{flat_map};
+ghost use Rattle.flow_check.specs.Classes.{flows_of, flows_faults, head_of, head_faults};
 
 use check_flows::{element, flow};
 use check_names::{Context, and_rules, join, option_term, repeats, space, with_part};
@@ -26,43 +24,17 @@ pub(crate) struct ClassHead {
     pub(crate) priority: Option<Expr>,
 }
 
-fn head_from(
-    place: (ClassSpace, (u32, Seq<Expr>)),
-    rest: (Seq<FlowPlan>, Option<Expr>),
-) -> ClassHead
-    ensures { result ≡ head_from place rest }
-{
-    ClassHead {
-        space: place.0,
-        affinity: place.1,
-        flows: rest.0,
-        priority: rest.1,
-    }
-}
-
-// The flows of a class, one by one.
-fn each_flow(context: &Context, flows: &[FlowTree]) -> Result<Seq<FlowPlan>, JdfRefusal>
-    requires { IsContext context.now }
-    ensures { ReturnsChecked result (flows_of (job_of context.now) context.now.seen.now flows.now)
-        (flat_map (flow_faults (job_of context.now) context.now.seen.now) flows.now) }
-{
-    let mut parts = Ok(Seq::new(context.alloc));
-    for each in flows {
-        parts = with_part(parts, flow(context, each));
-    }
-    parts
-}
-
 // The flows of a class, of which no two have one name.
 fn flows(context: &Context, flows: &[FlowTree]) -> Result<Seq<FlowPlan>, JdfRefusal>
     requires { IsContext context.now }
     ensures { ReturnsChecked result (flows_of (job_of context.now) context.now.seen.now flows.now)
         (flows_faults (job_of context.now) context.now.seen.now flows.now) }
 {
-    and_rules(
-        each_flow(context, flows),
-        repeats(context.alloc, JdfCode::NameTwice, flows),
-    )
+    let mut parts = Ok(Seq::new(context.alloc));
+    for each in flows {
+        parts = with_part(parts, flow(context, each));
+    }
+    and_rules(parts, repeats(context.alloc, JdfCode::NameTwice, flows))
 }
 
 /// The parts of a class outside of its body, with their names resolved. All definitions of the class are seen.
@@ -82,7 +54,12 @@ pub(crate) fn head(context: &Context, class: &ClassTree) -> Result<ClassHead, Jd
         option_term(context, &class.priority),
     );
     match join(place, rest) {
-        Ok((place, rest)) => Ok(head_from(place, rest)),
+        Ok((place, rest)) => Ok(ClassHead {
+            space: place.0,
+            affinity: place.1,
+            flows: rest.0,
+            priority: rest.1,
+        }),
         Err(refusal) => Err(refusal),
     }
 }

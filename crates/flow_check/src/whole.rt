@@ -1,6 +1,6 @@
 //! All names of a JDF with its data.
 
-ghost use Rattle.std.specs.Prelude.{◌≡◌, [], ◌∷◌, ◌++◌, List, Option, Some, IfOk};
+ghost use Rattle.std.specs.Prelude.{[], ◌∷◌, ◌++◌, List, Option, Some, IfOk};
 ghost use Rattle.std.specs.List.{AllByRecursion};
 ghost use Rattle.jdf_lex.specs.declared.fault.JdfFault.{JdfFault};
 ghost use Rattle.plan_core.specs.declared.class.ClassPlan.{ClassPlan};
@@ -23,28 +23,11 @@ use ptg_base::{OutOfMemory, Seq};
 use std::alloc::Global;
 use term_core::ClassSpace;
 
-/// Classes and their spaces, in order.
-pub(crate) type Classes = (Seq<ClassPlan>, Seq<ClassSpace>);
-
-// Some classes and their spaces, or their first fault.
-type ClassesResult = Result<Classes, JdfRefusal>;
-
-// Classes and their spaces with one class more.
-fn pushed(classes: Classes, class: (ClassPlan, ClassSpace)) -> Result<Classes, OutOfMemory>
-    ensures { IfOk result (λ x. x ≡ (classes.0 ++ class.0 ∷ [], classes.1 ++ class.1 ∷ [])) }
-{
-    let (mut plans, mut spaces) = classes;
-    let (plan, space) = class;
-    plans.push(plan)?;
-    spaces.push(space)?;
-    Ok((plans, spaces))
-}
+/// Some classes and their spaces, in order, or their first fault.
+pub(crate) type ClassesResult = Result<(Seq<ClassPlan>, Seq<ClassSpace>), JdfRefusal>;
 
 // The results for some classes, and for one more.
-fn with_class(
-    classes: Result<Classes, JdfRefusal>,
-    class: ClassResult,
-) -> Result<Classes, JdfRefusal>
+fn with_class(classes: ClassesResult, class: ClassResult) -> ClassesResult
     ensures { (p : Option (List ClassPlan × List ClassSpace)) (q : Option (ClassPlan × ClassSpace))
         (fs gs : List JdfFault)
         → ReturnsChecked {A = List ClassPlan × List ClassSpace} classes p fs
@@ -58,24 +41,13 @@ fn with_class(
 {
     match join(classes, class) {
         Err(refusal) => Err(refusal),
-        Ok((classes, class)) => Ok(pushed(classes, class)?),
+        Ok((classes, class)) => {
+            let (mut plans, mut spaces) = classes;
+            plans.push(class.0)?;
+            spaces.push(class.1)?;
+            Ok((plans, spaces))
+        }
     }
-}
-
-// The results for some classes, and for one more with its names resolved.
-fn and_class(
-    context: &Context,
-    results: ClassesResult,
-    one: &ClassTree,
-) -> Result<ClassesResult, OutOfMemory>
-    requires context { IsContext context.now }
-    requires bounded { IsBoundedClass one.now }
-    ensures { IfOk result (λ r.
-        (classes : List ClassTree) → AreRead (job_of context.now) classes results
-        → AreRead (job_of context.now) (classes ++ one.now ∷ []) r) }
-{
-    let read = class_read(context, one)?;
-    Ok(with_class(results, read))
 }
 
 // Some classes with all names resolved, and their spaces.
@@ -85,8 +57,9 @@ fn read_classes(context: &Context, classes: &[ClassTree]) -> Result<ClassesResul
     ensures { IfOk result (λ r. AreRead (job_of context.now) classes.now r) }
 {
     let mut results = Ok((Seq::new(context.alloc), Seq::new(context.alloc)));
-    for one in classes {
-        results = and_class(context, results, one)?;
+    for class in classes {
+        let read = class_read(context, class)?;
+        results = with_class(results, read);
     }
     Ok(results)
 }
@@ -103,7 +76,7 @@ fn names(alloc: Global, globals: &[Word], classes: &[ClassTree]) -> Result<(), J
 }
 
 /// The classes of a JDF and their spaces, with all names resolved, or the first fault of the whole text.
-pub(crate) fn resolved(context: &Context) -> Result<Classes, JdfRefusal>
+pub(crate) fn resolved(context: &Context) -> ClassesResult
     requires { IsContext context.now }
     ensures { ReturnsResolved (job_of context.now) result }
 {

@@ -1,7 +1,7 @@
 -- In a sound state, the edges into a task that were sent are as many as the sent items that are edges into the task.
-use Rattle.std.proofs.Common.{◌≡◌, ℕ, ◌+◌, ◌≤◌, zero, suc, false, List, [], ◌∷◌, refl, ap, sym, ◌∙◌, subst, nat_lt, inl, inr, arith}
-use Rattle.std.proofs.lemmas.Bool.{false≢true, false_from_ne_true}
-use Rattle.ptg_base.specs.Lists.{HasNoRepeats, IsIn}
+use Rattle.std.proofs.Common.{◌≡◌, ℕ, ◌+◌, ◌≤◌, zero, suc, false, List, [], ◌∷◌, refl, ap, sym, ◌∙◌, subst, nat_lt, arith}
+use Rattle.std.proofs.lemmas.Bool.{false≢true}
+use Rattle.ptg_base.specs.Lists.{IsIn}
 use Rattle.ptg_base.specs.Task.{Task}
 use Rattle.ptg_base.specs.TaskComparing.{same_task}
 use Rattle.ptg_base.specs.TaskLaws.{same_task-decides}
@@ -12,19 +12,18 @@ use Rattle.plan_core.specs.declared.plan.Plan.{Plan}
 use Rattle.coll_data.specs.Data.{Data}
 use Rattle.list_lemmas.proofs.Truth.{by_test}
 use Rattle.list_lemmas.proofs.Counts.{count-some, weigh-plus, weigh-same}
-use Rattle.list_lemmas.proofs.Distinct.{HasNoRepeats-part}
-use Rattle.dep_iter.specs.Tasks.{IsTask, all_tasks}
+use Rattle.dep_iter.specs.Tasks.{IsTask}
 use Rattle.dep_iter.specs.Edges.{in_edges}
 use Rattle.dep_iter.specs.Items.{items}
 use Rattle.dep_iter.specs.Consistent.{IsConsistent}
-use Rattle.dep_iter.proofs.Listing.{listed}
+use Rattle.dep_iter.proofs.Once.{once-in_edges}
 use Rattle.list_lemmas.specs.Counting.{as_number, count, weigh}
 use Rattle.flow_meaning.specs.Comparing.{same_item}
 use Rattle.flow_meaning.specs.Machine.{MachineState, Sent, arrived, is_sent, send_count, sender}
 use Rattle.flow_meaning.specs.Sound.{IsSoundState}
 use Rattle.flow_meaning.proofs.Comparing.{same_item-decides}
 use Rattle.flow_meaning.proofs.Members.{in_edge_to}
-use Rattle.flow_meaning.proofs.Arriving.{sent_edge_in}
+use Rattle.flow_meaning.proofs.Arriving.{edge_once, no_edge, sent_edge_in}
 use Rattle.flow_core.specs.Arrivals.{edges_to, is_edge_to}
 
 weigh-none : {A : Type 0} (xs : List A) → weigh (λ _. 0) xs ≡ 0
@@ -36,30 +35,6 @@ weigh-swap : {A B : Type 0} (f : A → B → ℕ) (xs : List A) (ys : List B) �
 weigh-swap f [] ys = sym (weigh-none ys)
 weigh-swap f (x ∷ xs) ys = ap (λ n. weigh (f x) ys + n) (weigh-swap f xs ys) ∙ sym (weigh-plus (f x) (λ y. weigh (λ z. f z y) xs) ys)
 
-abbrev edge_in : Edge → Item → Edge
-edge_in d (item.Edge e) = e
-edge_in d (item.Write w) = d
-
-one_edge : (d e : Edge) → item.Edge d ≡ item.Edge e → d ≡ e
-one_edge d e q = ap (edge_in d) q
-
-no_edge : (es : List Edge) (e : Edge) → (IsIn e es → ⊥) → count (λ d. same_item (item.Edge d) (item.Edge e)) es ≡ 0
-no_edge [] e h = refl
-no_edge (d ∷ ds) e h =
-    let other : same_item (item.Edge d) (item.Edge e) ≡ false = false_from_ne_true (same_item (item.Edge d) (item.Edge e)) (λ k. h (inl (sym (one_edge d e ((same_item-decides (item.Edge d) (item.Edge e)).0 k))))) in
-    omega (arith, ap as_number other, no_edge ds e (λ i. h (inr i)))
-
--- how often an edge is among edges without repeats
-edge_once : (es : List Edge) → HasNoRepeats es → (e : Edge) → count (λ d. same_item (item.Edge d) (item.Edge e)) es ≤ 1
-edge_once [] h e = omega arith
-edge_once (d ∷ ds) h e =
-    by_test (same_item (item.Edge d) (item.Edge e))
-    (λ k.
-    let same : d ≡ e = one_edge d e ((same_item-decides (item.Edge d) (item.Edge e)).0 k) in
-    let none = no_edge ds e (λ i. h.0 (subst (λ x. IsIn x ds) (sym same) i)) in
-    omega (arith, ap as_number k, none))
-    (λ k. omega (arith, ap as_number k, edge_once ds h.1 e))
-
 -- a test of a number that is 0 or 1 is that number
 test_of : (n : ℕ) → n ≤ 1 → as_number (nat_lt 0 n) ≡ n
 test_of zero h = refl
@@ -67,9 +42,6 @@ test_of (suc zero) h = refl
 test_of (suc (suc n)) h = absurd (omega arith)
 
 module _ (P : Plan) (G : Data) (con : IsConsistent P) (S : MachineState) (sound : IsSoundState P G S) (t : Task) (job : IsTask P t) where
-  distinct : HasNoRepeats (in_edges P t)
-  distinct = HasNoRepeats-part (in_edges P) (all_tasks P) con.no_in_edge_twice t ((listed P t).0 job)
-
   -- how often the item that was sent is an edge into the task
   here : (i : Item) → ((e : Edge) → i ≡ item.Edge e → IsIn e (in_edges P e.to)) → count (λ e. same_item (item.Edge e) i) (in_edges P t) ≡ as_number (is_edge_to t i)
   here (item.Edge d) into =
@@ -78,7 +50,7 @@ module _ (P : Plan) (G : Data) (con : IsConsistent P) (S : MachineState) (sound 
       let same : t ≡ d.to = (same_task-decides t d.to).0 k in
       let among : IsIn d (in_edges P t) = subst (λ u. IsIn d (in_edges P u)) (sym same) (into d refl) in
       let some = count-some (λ e. same_item (item.Edge e) (item.Edge d)) (in_edges P t) d among ((same_item-decides (item.Edge d) (item.Edge d)).1 refl) in
-      omega (arith, some, edge_once (in_edges P t) distinct d, ap as_number k))
+      omega (arith, some, edge_once (in_edges P t) (once-in_edges P con t job) d, ap as_number k))
       (λ k.
       let none = no_edge (in_edges P t) d (λ i. false≢true (sym k ∙ (same_task-decides t d.to).1 (sym (in_edge_to P t d i)))) in
       omega (arith, none, ap as_number k))

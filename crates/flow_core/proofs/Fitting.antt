@@ -2,7 +2,6 @@
 use Rattle.std.proofs.Common.{◌≡◌, ℕ, ◌+◌, ◌<◌, ◌≤◌, Bool, true, false, cond, is_some, List, [], ◌∷◌, ◌++◌, refl, ap, sym, ◌∙◌, subst, Option, Some, None, Ok, Err, IsTrue, ◌↔◌, nat_eq, eq-eqb, ltb-true, lt-ltb, inl, inr, arith}
 use Rattle.std.proofs.lemmas.Bool.{eqb-true, false≢true}
 use Rattle.std.specs.Prelude.{unwrap_or}
-use Rattle.std.specs.List.{filter_map}
 use Rattle.std.specs.Map.{keys_of, lookup, set_value}
 use Rattle.indexmap.specs.IndexMap.{insert_entry}
 use Rattle.indexmap.proofs.MapLemmas.{absent_from_lookup, insert_entry-absent}
@@ -22,9 +21,10 @@ use Rattle.list_lemmas.proofs.Members.{length-part}
 use Rattle.list_lemmas.proofs.Counts.{count-at_most, weigh-push}
 use Rattle.dep_iter.specs.Tasks.{IsTask, all_tasks}
 use Rattle.dep_iter.specs.Edges.{goal, in_edges}
-use Rattle.dep_iter.specs.Items.{edge_of, item_flow, items, out_edges, write_of, write_backs}
+use Rattle.dep_iter.specs.Items.{item_flow, items, out_edges, write_backs}
 use Rattle.dep_iter.specs.Consistent.{IsConsistent}
 use Rattle.dep_iter.proofs.Listing.{listed}
+use Rattle.dep_iter.proofs.Items.{edge_item, item_edge, item_write, write_item}
 use Rattle.list_lemmas.specs.Counting.{as_number, count}
 use Rattle.flow_meaning.specs.Ending.{Ended, has_outputs, output_tile}
 use Rattle.flow_meaning.specs.Backward.{ended}
@@ -33,6 +33,8 @@ use Rattle.flow_meaning.specs.Machine.{Claim, MachineState, MayClaim, Send, Sent
 use Rattle.flow_meaning.specs.Sound.{IsSoundState}
 use Rattle.flow_meaning.proofs.Events.{ends_so, event_sound}
 use Rattle.flow_meaning.proofs.Arriving.{arrives}
+use Rattle.flow_meaning.proofs.Enough.{with_outputs}
+use Rattle.flow_meaning.proofs.Sizes.{with_tiles as ended_with}
 use Rattle.flow_core.specs.RunState.{HasLetGo, IsRunning, KeepsTiles, RunState, Tiles, end_of, machine, mark_of, send_of, with_claim, with_end, with_send, with_tiles}
 use Rattle.flow_core.specs.Fits.{Fits, HasSentAll, MaySendNow}
 use Rattle.flow_core.specs.SentItems.{IsUnsent}
@@ -67,16 +69,6 @@ kept_now t (Err cause) tiles outputs h = absurd cc
 kept_still : (t u : Task) (end : Ended) (outputs : List (Task × Tiles)) → same_task u t ≡ false → lookup (same_task u) (with_tiles t end outputs) ≡ lookup (same_task u) outputs
 kept_still t u (Ok own) outputs k = found_in u t outputs own ∙ ap (λ b. cond b (Some own) (lookup (same_task u) outputs)) k
 kept_still t u (Err cause) outputs k = refl
-
--- a task with outputs has ended with tiles
-pub with_outputs : (o : Option Ended) → has_outputs o ≡ true → (tiles : Tiles) × (o ≡ Some (Ok tiles))
-with_outputs None h = absurd (false≢true h)
-with_outputs (Some (Ok tiles)) h = (tiles, refl)
-with_outputs (Some (Err cause)) h = absurd (false≢true h)
-
-has_some : (o : Option Ended) → has_outputs o ≡ true → (end : Ended) × (o ≡ Some end)
-has_some None h = absurd (false≢true h)
-has_some (Some end) h = (end, refl)
 
 -- what is known of a task that has ended
 marked : (m : Option (Option Ended)) (end : Ended) → unwrap_or m None ≡ Some end → m ≡ Some (Some end)
@@ -156,7 +148,7 @@ module _ (P : Plan) (G : Data) (con : IsConsistent P) (r : RunState) (fits : Fit
   pub sendable : (i : Item) → ((has_outputs (end_of r (sender i)) ≡ true) × IsUnsent r.sends i × IsIn i (items P (sender i))) ↔ MaySendNow P G r i
   sendable i = (
     λ h.
-        let e = has_some (end_of r (sender i)) h.0 in
+        let e = with_outputs (end_of r (sender i)) h.0 in
         record {
           may = record {
             unsent = h.1;
@@ -187,7 +179,7 @@ module _ (P : Plan) (G : Data) (con : IsConsistent P) (r : RunState) (fits : Fit
   -- it is sent with the tile that its task left
   pub send_event : (i : Item) → MaySendNow P G r i → machine (with_send i r) ≡ state_after P G (machine r) (Send i)
   send_event i now =
-      let known = has_some (end_of r (sender i)) ((sendable i).1 now).0 in
+      let known = with_outputs (end_of r (sender i)) ((sendable i).1 now).0 in
       let same : end_of r (sender i) ≡ end_in P G (machine r) (sender i) = known.1 ∙ sym (end_known (sender i) known.0 known.1) in
       λ j. record { claims = keys_of r.claims; sends = r.sends ++ record { item = i; tile = output_tile (same j) (item_flow i) } ∷ [] }
 
@@ -201,7 +193,7 @@ module _ (P : Plan) (G : Data) (con : IsConsistent P) (r : RunState) (fits : Fit
   -- the tiles of a task are kept while an item of it is unsent
   pub kept_for : (i : Item) → IsDue P r i → IsUnsent r.sends i → KeepsTilesFor r i
   kept_for i due unsent =
-      let o = with_outputs (end_of r (sender i)) due.outputs in
+      let o = ended_with (end_of r (sender i)) due.outputs in
       elim (fits.kept (sender i) o.0 o.1) [
         | inl still ↦ record { tiles = o.0; end = o.1; kept = still }
         | inr all ↦ let was = ltb-true 0 (send_count (machine r) i) (all i due.is_item) in absurd (omega (arith, was, unsent))
@@ -230,46 +222,15 @@ module _ (P : Plan) (G : Data) (con : IsConsistent P) (r : RunState) (fits : Fit
   -- the task of an item that may be sent
   pub sender_task : (i : Item) → has_outputs (end_of r (sender i)) ≡ true → IsTask P (sender i)
   sender_task i h =
-      let e = has_some (end_of r (sender i)) h in
+      let e = with_outputs (end_of r (sender i)) h in
       (fits.sound.claimed_have_all (sender i) (found_key (sender i) r.claims (Some e.0) (marked (mark_of r (sender i)) e.0 e.1))).task
-
--- the edges among items, and the write-backs among them
-abbrev edge_in : Edge → Item → Edge
-edge_in d (item.Edge e) = e
-edge_in d (item.Write w) = d
-
-abbrev write_in : WriteBack → Item → WriteBack
-write_in v (item.Edge e) = v
-write_in v (item.Write w) = w
-
-pub edge_among : (is : List Item) (e : Edge) → IsIn (item.Edge e) is ↔ IsIn e (filter_map edge_of is)
-edge_among [] e = (λ h. h, λ h. h)
-edge_among (item.Edge d ∷ is) e =
-    let rest = edge_among is e in (
-      λ h. elim h [ inl q ↦ inl (ap (edge_in e) q) | inr t ↦ inr (rest.0 t) ],
-      λ h. elim h [ inl q ↦ inl (ap (λ (x : Edge). item.Edge x) q) | inr t ↦ inr (rest.1 t) ],
-    )
-edge_among (item.Write w ∷ is) e =
-    let rest = edge_among is e in
-    (λ h. elim h [ inl q ↦ absurd cc | inr t ↦ rest.0 t ], λ h. inr (rest.1 h))
-
-pub write_among : (is : List Item) (w : WriteBack) → IsIn (item.Write w) is ↔ IsIn w (filter_map write_of is)
-write_among [] w = (λ h. h, λ h. h)
-write_among (item.Write v ∷ is) w =
-    let rest = write_among is w in (
-      λ h. elim h [ inl q ↦ inl (ap (write_in w) q) | inr t ↦ inr (rest.0 t) ],
-      λ h. elim h [ inl q ↦ inl (ap (λ (x : WriteBack). item.Write x) q) | inr t ↦ inr (rest.1 t) ],
-    )
-write_among (item.Edge e ∷ is) w =
-    let rest = write_among is w in
-    (λ h. elim h [ inl q ↦ absurd cc | inr t ↦ rest.0 t ], λ h. inr (rest.1 h))
 
 module _ (P : Plan) (G : Data) (con : IsConsistent P) (r : RunState) (fits : Fits P G r) (e : Edge) (now : MaySendNow P G r (item.Edge e)) where
   -- an edge that may be sent is not yet counted at its target
   not_full : IsTask P e.to × (edges_to e.to r.sends < goal P e.to) × (arrived P (machine r) e.to < goal P e.to)
   not_full =
       let job = (fits.sound.claimed_have_all e.from now.may.claimed).task in
-      let target = (con.connected e.from job).to_tasks e ((edge_among (items P e.from) e).0 now.may.is_item) in
+      let target = (con.connected e.from job).to_tasks e (item_edge (items P e.from) e now.may.is_item) in
       let one_more = arrives P G con (machine r) fits.sound e now.may in
       let most : arrived P (state_after P G (machine r) (Send (item.Edge e))) e.to ≤ goal P e.to = count-at_most _ (in_edges P e.to) in
       (target, omega (arith, one_more, most, arrived_are P G con (machine r) fits.sound e.to target), omega (arith, one_more, most))
@@ -315,14 +276,12 @@ unclaimed_unread r (item.Write w) h = refl
 -- whether an item is one of its task, by whether it is among the edges or the write-backs
 pub edge_by : (P : Plan) (i : Item) (e : Edge) (b : Bool) → i ≡ item.Edge e → IsTrue b ↔ IsIn e (out_edges P e.from) → IsTrue b ↔ IsIn i (items P (sender i))
 edge_by P i e b is h =
-    let among = edge_among (items P e.from) e in
-    subst (λ j. IsTrue b ↔ IsIn j (items P (sender j))) (sym is) (λ k. among.1 (h.0 k), λ k. h.1 (among.0 k))
+    subst (λ j. IsTrue b ↔ IsIn j (items P (sender j))) (sym is) (λ k. edge_item (items P e.from) e (h.0 k), λ k. h.1 (item_edge (items P e.from) e k))
 
 pub write_by : (P : Plan) (i : Item) (w : WriteBack) (left : List WriteBack) (b : Bool) → i ≡ item.Write w → left ≡ write_backs P w.from → IsTrue b ↔ IsIn w left → IsTrue b ↔ IsIn i (items P (sender i))
 write_by P i w left b is all h =
-    let among = write_among (items P w.from) w in
     let own = subst (λ l. IsTrue b ↔ IsIn w l) all h in
-    subst (λ j. IsTrue b ↔ IsIn j (items P (sender j))) (sym is) (λ k. among.1 (own.0 k), λ k. own.1 (among.0 k))
+    subst (λ j. IsTrue b ↔ IsIn j (items P (sender j))) (sym is) (λ k. write_item (items P w.from) w (own.0 k), λ k. own.1 (item_write (items P w.from) w k))
 
 -- the counts of a table after one more item is sent
 pub counts_push : (old new : List (Task × ℕ)) (claims : List (Task × Option Ended)) (sends : List Sent) (x : Sent) → CountsArrivals old claims sends

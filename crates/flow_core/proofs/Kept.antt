@@ -14,6 +14,7 @@ use Rattle.ptg_base.specs.declared.edge.Item.{Item}
 use Rattle.ptg_base.specs.declared.edge.Item.TheVariants as item
 use Rattle.list_lemmas.proofs.Truth.{by_test}
 use Rattle.list_lemmas.specs.Counting.{as_number}
+use Rattle.dep_iter.proofs.Items.{Edge-injective}
 use Rattle.flow_meaning.specs.Comparing.{same_item}
 use Rattle.flow_meaning.specs.Ending.{Ended}
 use Rattle.flow_meaning.specs.Machine.{Sent, first_tile}
@@ -169,14 +170,7 @@ takes_then t a b c h k e other = k e other ∙ h e other
 
 pub takes_one : (t : Task) (d : Edge) → d.to ≡ t → (old new : List Sent) → ((j : Item) → (item.Edge d ≡ j → ⊥) → sent_as j new ≡ sent_as j old) → TakesOnlyTo t old new
 takes_one t d to old new others e other =
-    others (item.Edge e) (λ q. false≢true (sym other ∙ (same_task-decides t e.to).1 (sym to ∙ ap (λ (x : Edge). x.to) (inside d e q))))
-  where
-    edge_in : Edge → Item → Edge
-    edge_in a (item.Edge b) = b
-    edge_in a (item.Write w) = a
-
-    inside : (d e : Edge) → item.Edge d ≡ item.Edge e → d ≡ e
-    inside d e q = ap (edge_in d) q
+    others (item.Edge e) (λ q. false≢true (sym other ∙ (same_task-decides t e.to).1 (sym to ∙ ap (λ (x : Edge). x.to) (Edge-injective d e q))))
 
 -- other edges keep their tiles
 pub other_tile : (i j : Item) (old new : List Sent) → sent_as j new ≡ sent_as j old → first_tile j new ≡ first_tile j old

@@ -23,6 +23,7 @@ use Rattle.dep_iter.specs.Tasks.{IsTask, all_tasks}
 use Rattle.dep_iter.specs.Items.{items, out_edges, write_backs}
 use Rattle.dep_iter.specs.Consistent.{IsConsistent}
 use Rattle.dep_iter.proofs.Listing.{listed}
+use Rattle.dep_iter.proofs.Items.{edge_item, item_edge, item_write, write_item}
 use Rattle.list_lemmas.specs.Counting.{as_number}
 use Rattle.flow_meaning.specs.Ending.{Ended, has_outputs}
 use Rattle.flow_meaning.specs.Machine.{IsQuiescent, MayClaim, MachineState, claim_count, is_sent, send_count, sender, state_after, Send}
@@ -31,13 +32,15 @@ use Rattle.flow_meaning.proofs.Comparing.{same_item-decides}
 use Rattle.flow_meaning.proofs.Arriving.{arrives_not, writes_not}
 use Rattle.flow_meaning.proofs.Events.{unsent}
 use Rattle.flow_meaning.proofs.Rest.{item_sender, rests}
+use Rattle.flow_meaning.proofs.Once.{claims_at_most}
+use Rattle.flow_meaning.proofs.Sizes.{with_tiles}
 use Rattle.flow_core.specs.RunState.{HasLetGo, IsRunning, RunState, Tiles, end_of, machine, opening_run, with_claim, with_end, with_send}
 use Rattle.flow_core.specs.Fits.{Fits, HasFinished, MaySendNow, trap_of}
 use Rattle.flow_core.specs.Possible.{IsDue}
 use Rattle.flow_core.specs.OneThread.{HasDone, IsBetweenTasks, MayClaimOnly, OwesOnly, ended_count, running_among, running_tasks}
 use Rattle.flow_core.proofs.Lookups.{apart, end_push, found_key, key_found, set_other, set_same}
-use Rattle.flow_core.proofs.Fitting.{edge_among, end_event, let_go_fits, send_counts, send_event, sendable, sender_task, sends_stay, with_outputs, write_among}
-use Rattle.flow_core.proofs.RunningTasks.{claims_at_most, counted_among, ended_push, ended_set, last_in, marked_running, running_mark, running_set}
+use Rattle.flow_core.proofs.Fitting.{end_event, let_go_fits, send_counts, send_event, sendable, sender_task, sends_stay}
+use Rattle.flow_core.proofs.RunningTasks.{counted_among, ended_push, ended_set, last_in, marked_running, running_mark, running_set}
 
 -- nothing is done
 pub nothing_done : (P : Plan) (r : RunState) → HasDone P [] [] r r
@@ -187,10 +190,10 @@ module _ (P : Plan) (G : Data) (con : IsConsistent P) (r : RunState) (fits : Fit
 -- the items of a task are its edges and its write-backs
 pub items_parts : (P : Plan) (t : Task) (i : Item) → IsIn i (items P t) → IsIn i (map (λ (e : Edge). item.Edge e) (out_edges P t) ++ map (λ (w : WriteBack). item.Write w) (write_backs P t))
 items_parts P t (item.Edge e) mine =
-    let there = (edge_among (items P t) e).0 mine in
+    let there = item_edge (items P t) e mine in
     IsIn-append_left (item.Edge e) (map (λ (e : Edge). item.Edge e) (out_edges P t)) (map (λ (w : WriteBack). item.Write w) (write_backs P t)) (IsIn-map (λ (e : Edge). item.Edge e) (out_edges P t) e there)
 items_parts P t (item.Write w) mine =
-    let there = (write_among (items P t) w).0 mine in
+    let there = item_write (items P t) w mine in
     IsIn-append_right (item.Write w) (map (λ (e : Edge). item.Edge e) (out_edges P t)) (map (λ (w : WriteBack). item.Write w) (write_backs P t)) (IsIn-map (λ (w : WriteBack). item.Write w) (write_backs P t) w there)
 
 -- a run in which the task that was claimed last has ended
@@ -312,7 +315,7 @@ let_go_between P G con t last new tasks b outputs gone = record {
 }
   where
     o : (tiles : Tiles) × (end_of last t ≡ Some (Ok tiles))
-    o = with_outputs (end_of last t) outputs
+    o = with_tiles (end_of last t) outputs
 
     same : machine new ≡ machine last
     same = λ i. record { claims = keys_of (gone.claims i); sends = gone.sends i }
@@ -350,14 +353,14 @@ module _ (P : Plan) (t : Task) (a b : RunState) (outputs : has_outputs (end_of a
   edge_due all left e is w =
       let among : IsIn (item.Edge e) (map (λ (x : Edge). item.Edge x) all) = subst (IsIn (item.Edge e)) (sym w.split_items) (IsIn-append_right (item.Edge e) w.sent (map (λ (x : Edge). item.Edge x) (e ∷ left)) (inl refl)) in
       let there = from_map (λ (x : Edge). item.Edge x) all (item.Edge e) among in
-      let mine = (edge_among (items P t) there.0).1 (subst (IsIn there.0) is there.1) in
+      let mine = edge_item (items P t) there.0 (subst (IsIn there.0) is there.1) in
       due (item.Edge e) (subst (λ i. IsIn i (items P t)) (sym there.2) mine) w.done.ends
 
   pub write_due : (all left : List WriteBack) (e : WriteBack) → all ≡ write_backs P t → IsSoFar P [] [] (map (λ (x : WriteBack). item.Write x) all) (map (λ (x : WriteBack). item.Write x) (e ∷ left)) a b → IsDue P b (item.Write e)
   write_due all left e is w =
       let among : IsIn (item.Write e) (map (λ (x : WriteBack). item.Write x) all) = subst (IsIn (item.Write e)) (sym w.split_items) (IsIn-append_right (item.Write e) w.sent (map (λ (x : WriteBack). item.Write x) (e ∷ left)) (inl refl)) in
       let there = from_map (λ (x : WriteBack). item.Write x) all (item.Write e) among in
-      let mine = (write_among (items P t) there.0).1 (subst (IsIn there.0) is there.1) in
+      let mine = write_item (items P t) there.0 (subst (IsIn there.0) is there.1) in
       due (item.Write e) (subst (λ i. IsIn i (items P t)) (sym there.2) mine) w.done.ends
 
 -- the next task of a walk over all tasks is one of the job
@@ -367,4 +370,4 @@ next_task P t left a b w = (listed P t).1 (subst (IsIn t) (sym w.split) (IsIn-ap
 -- an edge that is due goes to a task of the job
 pub due_target : (P : Plan) (G : Data) → IsConsistent P → (r : RunState) → Fits P G r → (e : Edge) → IsDue P r (item.Edge e) → IsTask P e.to
 due_target P G con r fits e d =
-    (con.connected e.from (sender_task P G con r fits (item.Edge e) d.outputs)).to_tasks e ((edge_among (items P e.from) e).0 d.is_item)
+    (con.connected e.from (sender_task P G con r fits (item.Edge e) d.outputs)).to_tasks e (item_edge (items P e.from) e d.is_item)

@@ -9,6 +9,8 @@ use Rattle.ptg_base.specs.declared.edge.Edge.{Edge}
 use Rattle.ptg_base.specs.declared.edge.Item.TheVariants as item
 use Rattle.plan_core.specs.declared.plan.Plan.{Plan}
 use Rattle.coll_data.specs.Data.{Data}
+use Rattle.list_lemmas.proofs.Distinct.{no_longer}
+use Rattle.list_lemmas.proofs.Tasks.{distinct_once}
 use Rattle.list_lemmas.proofs.Truth.{by_test}
 use Rattle.list_lemmas.proofs.Members.{IsIn-filter}
 use Rattle.dep_iter.specs.Tasks.{IsTask, all_tasks}
@@ -20,7 +22,7 @@ use Rattle.flow_meaning.specs.Machine.{Sent, arrived, is_sent}
 use Rattle.flow_core.specs.RunState.{RunState, machine, opening_run}
 use Rattle.flow_core.specs.Fits.{Fits}
 use Rattle.flow_core.specs.OneThread.{HasDone, IsOpening, MayClaimOnly, running_tasks}
-use Rattle.flow_core.proofs.RunningTasks.{Once, at_most}
+use Rattle.flow_core.proofs.RunningTasks.{Once}
 
 count-none : {A : Type 0} (test : A → Bool) (xs : List A) → ((x : A) → test x ≡ false) → count test xs ≡ 0
 count-none test [] none = refl
@@ -45,7 +47,7 @@ module _ (P : Plan) (r : RunState) (o : IsOpening r) where
       (λ k. let none = ap (λ v. count (same_task v) (keys_of r.claims)) ((same_task-decides u t).0 k) in omega (arith, ap as_number k, none, may.unclaimed))
       (λ k. let most = fits.sound.claimed_once u in omega (arith, ap as_number k, most)) in
       let room : length (t ∷ keys_of r.claims) ≤ length (roots P) =
-      at_most (t ∷ keys_of r.claims) (roots P) more (λ u i. elim i [
+      no_longer (t ∷ keys_of r.claims) (roots P) (distinct_once (t ∷ keys_of r.claims) more) (λ u i. elim i [
         | inl q ↦ subst (λ v. IsIn v (roots P)) (sym q) (root t may.task may.all_arrived)
         | inr k ↦ let h = fits.sound.claimed_have_all u k in root u h.task h.all_arrived
       ]) in

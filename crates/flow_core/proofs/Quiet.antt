@@ -19,6 +19,7 @@ use Rattle.dep_iter.specs.Tasks.{IsTask, all_tasks}
 use Rattle.dep_iter.specs.Items.{items, out_edges, write_backs}
 use Rattle.dep_iter.specs.Consistent.{IsConsistent}
 use Rattle.dep_iter.proofs.Listing.{listed}
+use Rattle.dep_iter.proofs.Items.{edge_item, item_edge, item_write, write_item}
 use Rattle.list_lemmas.specs.Counting.{as_number, count}
 use Rattle.flow_meaning.specs.Ending.{Ended, has_outputs}
 use Rattle.flow_meaning.specs.Machine.{Claim, IsQuiescent, MayClaim, Send, Sent, is_sent, sender}
@@ -30,7 +31,7 @@ use Rattle.flow_core.specs.Fits.{Fits}
 use Rattle.flow_core.specs.SentItems.{IsUnsent}
 use Rattle.flow_core.specs.Quiet.{HasOne, Owes}
 use Rattle.flow_core.proofs.Lookups.{key_found}
-use Rattle.flow_core.proofs.Fitting.{edge_among, sendable, write_among}
+use Rattle.flow_core.proofs.Fitting.{sendable}
 
 -- how far a search has come: what is left is part of all, and if one of all is so, one of what is left is
 pub record IsSearched {A : Type 0} (Q : A → Type 0) (all left : List A) : Type 0 where
@@ -56,17 +57,17 @@ module _ {A : Type 0} (Q : A → Type 0) where
 -- an item of a task is unsent exactly if an edge or a write-back is
 module _ (P : Plan) (sends : List Sent) (t : Task) (end : Option Ended) where
   pub edge_owed : has_outputs end ≡ true → HasOne (λ (e : Edge). IsUnsent sends (item.Edge e)) (out_edges P t) → IsTrue true ↔ Owes P sends (t, end)
-  edge_owed h one = (λ k. (h, (item.Edge one.0, (edge_among (items P t) one.0).1 one.1, one.2)), λ o. refl)
+  edge_owed h one = (λ k. (h, (item.Edge one.0, edge_item (items P t) one.0 one.1, one.2)), λ o. refl)
 
   pub write_owed : has_outputs end ≡ true → (HasOne (λ (e : Edge). IsUnsent sends (item.Edge e)) (out_edges P t) → ⊥) → (b : Bool) → IsTrue b ↔ HasOne (λ (w : WriteBack). IsUnsent sends (item.Write w)) (write_backs P t) → IsTrue b ↔ Owes P sends (t, end)
   write_owed h none b exact = (
-    λ k. let one = exact.0 k in (h, (item.Write one.0, (write_among (items P t) one.0).1 one.1, one.2)),
+    λ k. let one = exact.0 k in (h, (item.Write one.0, write_item (items P t) one.0 one.1, one.2)),
     λ o. exact.1 (the_write o.1.0 o.1.1 o.1.2),
   )
     where
       the_write : (i : Item) → IsIn i (items P t) → IsUnsent sends i → HasOne (λ (w : WriteBack). IsUnsent sends (item.Write w)) (write_backs P t)
-      the_write (item.Edge e) mine un = absurd (none (e, (edge_among (items P t) e).0 mine, un))
-      the_write (item.Write w) mine un = (w, (write_among (items P t) w).0 mine, un)
+      the_write (item.Edge e) mine un = absurd (none (e, item_edge (items P t) e mine, un))
+      the_write (item.Write w) mine un = (w, item_write (items P t) w mine, un)
 
 -- an entry is found by its key, and a key that is there once finds its entry
 found_entry : (cs : List (Task × Option Ended)) (t : Task) (x : Option Ended) → lookup (same_task t) cs ≡ Some x → IsIn (t, x) cs

@@ -7,16 +7,10 @@ use Rattle.ptg_base.specs.Lists.{IsIn}
 use Rattle.ptg_base.specs.Task.{Task}
 use Rattle.ptg_base.specs.TaskComparing.{same_task}
 use Rattle.ptg_base.specs.TaskLaws.{same_task-decides}
-use Rattle.plan_core.specs.declared.plan.Plan.{Plan}
-use Rattle.coll_data.specs.Data.{Data}
 use Rattle.list_lemmas.proofs.Truth.{by_test}
-use Rattle.list_lemmas.proofs.Counts.{count-some, without, without-length, still}
-use Rattle.dep_iter.specs.Tasks.{all_tasks}
-use Rattle.dep_iter.proofs.Listing.{listed}
+use Rattle.list_lemmas.proofs.Counts.{count-some}
 use Rattle.list_lemmas.specs.Counting.{as_number, count}
 use Rattle.flow_meaning.specs.Ending.{Ended}
-use Rattle.flow_meaning.specs.Machine.{MachineState}
-use Rattle.flow_meaning.specs.Sound.{IsSoundState}
 use Rattle.flow_core.specs.OneThread.{ended_among, running_among}
 
 abbrev Claims : Type 0
@@ -128,16 +122,3 @@ ended_set ((s, Some old) ∷ cs) t end h =
     (λ k.
     let rest = ended_set cs t end (sym (ap (λ b. cond b (Some (Some old)) (lookup (same_task t) cs)) k) ∙ h) in
     ap (λ b. ended_among (cond b ((s, Some end) ∷ cs) ((s, Some old) ∷ set_value (same_task t) cs (Some end)))) k ∙ omega (arith, rest))
-
--- a list without repeats whose members are all in another is no longer than it
-pub at_most : (xs ys : List Task) → Once xs → ((t : Task) → IsIn t xs → IsIn t ys) → length xs ≤ length ys
-at_most [] ys once among = omega arith
-at_most (x ∷ xs) ys once among =
-    let i = among x (inl refl) in
-    let rest : length xs ≤ length (without x ys i) =
-    at_most xs (without x ys i) (fewer xs x once) (λ t j. still x t ys i (among t (inr j)) (λ same. not_again xs x t once ((same_task-decides t x).1 same) j)) in
-    omega (arith, rest, without-length x ys i)
-
--- no more tasks are claimed than there are
-pub claims_at_most : (P : Plan) (G : Data) (S : MachineState) → IsSoundState P G S → length S.claims ≤ length (all_tasks P)
-claims_at_most P G S sound = at_most S.claims (all_tasks P) sound.claimed_once (λ t i. (listed P t).0 (sound.claimed_have_all t i).task)

@@ -2,6 +2,7 @@
 use Rattle.std.proofs.Common.{◌≡◌, ℕ, zero, suc, ◌+◌, ◌≤◌, ℤ, Bool, true, false, cond, List, [], ◌∷◌, ◌++◌, length, refl, ap, sym, ◌∙◌, append_assoc, add-one, Option, Some, None, slice_get, slice_set, arith}
 use Rattle.std.specs.Prelude.{option_map}
 use Rattle.std.specs.Option.{option_map_or}
+use Rattle.std.proofs.lemmas.Option.{same_Some}
 use Rattle.ptg_base.specs.Task.{Task}
 use Rattle.ptg_base.specs.declared.edge.Edge.{Edge}
 use Rattle.ptg_base.specs.declared.edge.Item.{Item}
@@ -28,11 +29,7 @@ pub record GoesTo (t : Task) (n : ℕ) (e : Edge) : Type 0 where
 
 at_target : (t : Task) (env : List ℤ) (n : ℕ) (x : Target) (e : Edge) → edge_of_source (source_at t env n x) ≡ Some e → GoesTo t n e
 at_target t env n (target.Task class flow args) e h =
-    let same = λ (d : Edge) (k : Some d ≡ Some e). inside d e k in
-    record { to = sym (ap (λ (d : Edge). d.to) (same _ h)); in_flow = sym (ap (λ (d : Edge). d.in_flow) (same _ h)) }
-  where
-    inside : (d e : Edge) → Some d ≡ Some e → d ≡ e
-    inside d e k = cc
+    record { to = sym (ap (λ (d : Edge). d.to) (same_Some _ e h)); in_flow = sym (ap (λ (d : Edge). d.in_flow) (same_Some _ e h)) }
 at_target t env n (target.Element coll indices) e h = absurd cc
 at_target t env n target.New e h = absurd cc
 at_target t env n target.Null e h = absurd cc
@@ -116,13 +113,6 @@ pub length_push : {A : Type 0} (xs : List A) (x : A) (n : ℕ) → length xs ≡
 length_push [] x n h = omega arith
 length_push (y ∷ ys) x zero h = absurd (omega arith)
 length_push (y ∷ ys) x (suc n) h = let k = length_push ys x n (omega arith) in omega (arith, k)
-
-pub same_edge_item : (d e : Edge) → item.Edge d ≡ item.Edge e → d ≡ e
-same_edge_item d e q = ap inside q
-  where
-    inside : Item → Edge
-    inside (item.Edge x) = x
-    inside (item.Write w) = d
 
 -- what a flow starts on follows from its source, and so does the edge that brings it
 pub tile_of_source : (P : Plan) (G : Data) (d : Delivery) (t : Task) (n : ℕ) (f : FlowPlan) → tile_from P G d f (source_of P t n f) ≡ starting_tile P G d t n f

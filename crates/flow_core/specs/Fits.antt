@@ -37,6 +37,6 @@ trap_of (Err cause) = Some cause
 -- a task has ended as the backward meaning says, with this trap if it trapped; nothing else has changed
 pub record HasFinished (P : Plan) (G : Data) (t : Task) (old new : RunState) (trap : Option Trap) : Type 0 where
   pub end : Ended
-  pub as_meant : ended P G t ≡ Some end
+  pub end_is : ended P G t ≡ Some end
   pub marked : new ≡ with_end t end old
   pub trapped : trap ≡ trap_of end

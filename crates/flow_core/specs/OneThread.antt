@@ -34,7 +34,8 @@ MayClaimOnly P ts r = (t : Task) → MayClaim P (machine r) t → IsIn t ts
 -- each item of a task that has ended without a trap was sent, or is one of these
 abbrev pub OwesOnly : Plan → List Item → RunState → Type 0
 OwesOnly P is r =
-    (t : Task) (tiles : List (Option (List ℤ))) → end_of r t ≡ Some (Ok tiles) → (i : Item) → IsIn i (items P t) → IsTrue (is_sent (machine r) i) ⊎ IsIn i is
+    (t : Task) (tiles : List (Option (List ℤ))) → end_of r t ≡ Some (Ok tiles)
+    → (i : Item) → IsIn i (items P t) → IsTrue (is_sent (machine r) i) ⊎ IsIn i is
 
 -- these tasks were claimed where they could be, and these items were sent; no task has ended meanwhile, and what has
 -- ended is as it was

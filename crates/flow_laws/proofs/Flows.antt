@@ -3,7 +3,7 @@ use Rattle.std.proofs.Common.{◌≡◌, ℕ, suc, ◌+◌, Bool, true, false, n
 use Rattle.std.specs.List.{list_all}
 use Rattle.std.specs.Str.{bytes_eq}
 use Rattle.std.specs.Cmp.Lexicographic.{bytes_decides}
-use Rattle.std.proofs.lemmas.Bool.{false≢true}
+use Rattle.std.proofs.lemmas.Bool.{false≢true, not-false}
 use Rattle.ptg_base.specs.Lists.{IsIn}
 use Rattle.term_core.specs.Term.{Term}
 use Rattle.term_core.specs.declared.flow.FlowKind.{FlowKind}
@@ -31,6 +31,7 @@ use Rattle.check_flows.specs.Dependences.{dependence_faults, dependence_of, depe
 use Rattle.check_flows.specs.PartsOfJob.{HaveParts}
 use Rattle.check_flows.proofs.Ways.{dep_from}
 use Rattle.check_flows.proofs.WellTargets.{IsWellTarget, allowed}
+use Rattle.check_flows.proofs.WellFlows.{of_way, ends}
 use Rattle.flow_laws.specs.Datatypes.{HasOneDatatype}
 use Rattle.flow_laws.proofs.Resolved.{none_joined, option_no_fault}
 use Rattle.flow_laws.proofs.Targets.{target_fits}
@@ -69,19 +70,6 @@ none_of g keep (y ∷ ys) x none k among = go (keep y) refl none (λ n i. none_o
       | inl same ↦ absurd (false≢true (sym e ∙ (ap keep (sym same) ∙ k)))
       | inr i ↦ later n i
     ]
-
-of_way : (inward : Bool) (dep : DepTree) → is_of_way inward dep ≡ true → dep.inward ≡ inward
-of_way true dep e = e
-of_way false dep e = go dep.inward e
-  where
-    go : (b : Bool) → not b ≡ true → b ≡ false
-    go true f = absurd (false≢true f)
-    go false f = refl
-
--- whether a target passes, as in an in dependence or an out dependence
-abbrev ends : List ClassPlan → List ClassSpace → List Shape → ℕ → FlowPlan → Bool → Target → Bool
-ends classes spaces colls locals f true t = is_source classes spaces colls locals f t
-ends classes spaces colls locals f false t = is_destination classes spaces colls locals f t
 
 -- ---- datatypes
 
@@ -202,13 +190,9 @@ one_of d flow dep first e = by (is_control flow.kind) refl where
   unmixed = holds_not (not (is_control flow.kind) && not (bytes_eq (type_of_written dep.datatype) (type_of_flow flow))) (type_spot dep.yes dep.datatype) MixedTypes
       (rest_nil (written_faults d flow.kind dep.datatype) (fault_if (not (is_control flow.kind) && not (bytes_eq (type_of_written dep.datatype) (type_of_flow flow))) (type_spot dep.yes dep.datatype) MixedTypes) e)
 
-  not_not : (b : Bool) → not b ≡ false → b ≡ true
-  not_not true f = refl
-  not_not false f = absurd (false≢true (sym f))
-
   by : (b : Bool) → is_control flow.kind ≡ b → type_of_written dep.datatype ≡ type_of_flow flow
   by true c = control_default d flow.kind dep.datatype c written ∙ sym (control_default d flow.kind (first_written flow.deps) c first)
-  by false c = (bytes_decides (type_of_written dep.datatype) (type_of_flow flow)).0 (not_not (bytes_eq (type_of_written dep.datatype) (type_of_flow flow))
+  by false c = (bytes_decides (type_of_written dep.datatype) (type_of_flow flow)).0 (not-false (bytes_eq (type_of_written dep.datatype) (type_of_flow flow))
       (ap (λ b. not b && not (bytes_eq (type_of_written dep.datatype) (type_of_flow flow))) (sym c) ∙ unmixed))
 
 pub one_datatype : (job : Job) (seen : List DefTree) (flow : FlowTree) → flow_faults job seen flow ≡ [] → HasOneDatatype flow

@@ -16,6 +16,7 @@ use Rattle.check_names.specs.Returns.{both, each}
 use Rattle.check_names.proofs.Closed.{pair_parts}
 use Rattle.check_names.proofs.OneResolver.{agrees, there_faultless}
 use Rattle.check_names.proofs.NoFaults.{option_there, parts_of}
+use Rattle.check_names.proofs.Ranges.{range_from}
 use Rattle.list_lemmas.proofs.Options.{from_option_map}
 use Rattle.std.proofs.lemmas.Bool.{or_parts}
 
@@ -29,12 +30,9 @@ pub option_no_fault : (job : Job) (seen : List DefTree) (e : Option Expression) 
 option_no_fault job seen None o h = refl
 option_no_fault job seen (Some e) o h = let p = option_there (term_of job seen) e o h in term_no_fault job seen e p.0 p.1
 
-abbrev ranged : Term → Term × Option Term → Range
-ranged x y = record { lo = x; hi = y.0; step = y.1 }
-
 range_no_fault : (job : Job) (seen : List DefTree) (lo hi : Expression) (step : Option Expression) (r : Range) → range_of job seen lo hi step ≡ Some r → expression_faults job seen lo ++ (expression_faults job seen hi ++ option_faults job seen step) ≡ []
 range_no_fault job seen lo hi step r h =
-    let p = parts_of ranged (term_of job seen lo) (both (λ x y. (x, y)) (term_of job seen hi) (option_term job seen step)) r h in
+    let p = parts_of range_from (term_of job seen lo) (both (λ x y. (x, y)) (term_of job seen hi) (option_term job seen step)) r h in
     let q = pair_parts (term_of job seen hi) (option_term job seen step) p.1 p.3 in
     none_joined (expression_faults job seen lo) (expression_faults job seen hi ++ option_faults job seen step) (term_no_fault job seen lo p.0 p.2)
     (none_joined (expression_faults job seen hi) (option_faults job seen step) (term_no_fault job seen hi p.1.0 q.0) (option_no_fault job seen step p.1.1 q.1))

@@ -40,8 +40,9 @@ use Rattle.check_flows.specs.PartsOfJob.{HaveParts}
 use Rattle.check_flows.proofs.Elements.{coll_there}
 use Rattle.check_flows.proofs.TaskTargets.{TaskThere, task_there}
 use Rattle.check_flows.proofs.WellTargets.{IsWellTarget, allowed}
+use Rattle.check_flows.proofs.TypeRules.{data_type}
 use Rattle.flow_laws.proofs.Resolved.{arguments_no_fault, indices_no_fault, no_ranges, none_joined}
-use Rattle.flow_laws.proofs.Types.{data_type, one_name}
+use Rattle.flow_laws.proofs.Types.{one_name}
 use Rattle.std.proofs.lemmas.Option.{same_Some}
 use Rattle.list_lemmas.proofs.Options.{from_option_map}
 use Rattle.list_lemmas.proofs.Truth.{and-false}

@@ -58,9 +58,6 @@ one_name d a b n e f = by (bytes_eq a default_name) (bytes_eq b default_name) re
       sym s.4 ∙ (ap (λ (z : List ℕ × ℕ). z.0) one ∙ t.4)
 
 -- the type that a flow may have, by its kind
-pub data_type : (d : Data) (k : FlowKind) (name : List ℕ) (n : ℕ) → is_control k ≡ false → allowed_type d k name ≡ Some n → type_number d name ≡ Some n
-data_type d k name n c e = ap (λ b. cond (b && not (bytes_eq name default_name)) None (type_number d name)) (sym c) ∙ e
-
 pub control_name : (d : Data) (k : FlowKind) (name : List ℕ) (n : ℕ) → is_control k ≡ true → allowed_type d k name ≡ Some n → name ≡ default_name
 control_name d k name n c e = by (bytes_eq name default_name) refl (ap (λ b. cond (b && not (bytes_eq name default_name)) None (type_number d name)) (sym c) ∙ e) where
   by : (b : Bool) → bytes_eq name default_name ≡ b → cond (not b) None (type_number d name) ≡ Some n → name ≡ default_name

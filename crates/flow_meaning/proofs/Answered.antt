@@ -18,9 +18,10 @@ use Rattle.list_lemmas.proofs.Truth.{by_test}
 use Rattle.list_lemmas.proofs.Counts.{all_pass, weigh-one, length-filter}
 use Rattle.list_lemmas.proofs.Distinct.{one_from_map}
 use Rattle.dep_iter.specs.Tasks.{IsTask, all_tasks}
-use Rattle.dep_iter.specs.Items.{item_flow, items, write_backs, write_of}
+use Rattle.dep_iter.specs.Items.{item_flow, items, write_backs}
 use Rattle.dep_iter.specs.Consistent.{IsConsistent, all_writes}
 use Rattle.dep_iter.proofs.Listing.{listed}
+use Rattle.dep_iter.proofs.Items.{item_write, write_item}
 use Rattle.flow_meaning.specs.declared.outcome.TrapRow.{TrapRow}
 use Rattle.flow_meaning.specs.declared.outcome.Outcome.TheVariants.{Complete, Stalled}
 use Rattle.flow_meaning.specs.Ending.{Ended, has_outputs, output_tile}
@@ -36,22 +37,6 @@ use Rattle.flow_meaning.proofs.Once.{claims_members, traps_same}
 use Rattle.flow_meaning.proofs.PlaceIndex.{one_place}
 use Rattle.flow_meaning.proofs.Quiet.{sent_are_items, waiting_same}
 use Rattle.flow_meaning.proofs.Rest.{item_sender}
-
--- a write-back of a task is one of its items, and the other way round
-write_item : (is : List Item) (w : WriteBack) → IsIn w (filter_map write_of is) → IsIn (item.Write w) is
-write_item [] w h = absurd h
-write_item (item.Edge e ∷ is) w h = inr (write_item is w h)
-write_item (item.Write v ∷ is) w h = elim h [ inl q ↦ inl (ap (λ (x : WriteBack). item.Write x) q) | inr t ↦ inr (write_item is w t) ]
-
-write_in : Item → WriteBack → WriteBack
-write_in (item.Edge e) w = w
-write_in (item.Write v) w = v
-
-item_write : (is : List Item) (w : WriteBack) → IsIn (item.Write w) is → IsIn w (filter_map write_of is)
-unfolding write_in
-item_write [] w h = absurd h
-item_write (item.Edge e ∷ is) w h = elim h [ inl q ↦ absurd cc | inr t ↦ item_write is w t ]
-item_write (item.Write v ∷ is) w h = elim h [ inl q ↦ inl (ap (λ i. write_in i w) q) | inr t ↦ inr (item_write is w t) ]
 
 -- an entry of what was written is a send of a write-back
 abbrev Written : Type 0

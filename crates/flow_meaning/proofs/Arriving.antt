@@ -1,7 +1,6 @@
 -- What a send changes: one more edge has come to its target, and nothing elsewhere.
 use Rattle.std.proofs.Common.{◌≡◌, ◌≢◌, ◌+◌, ◌≤◌, true, false, List, [], ◌∷◌, ◌++◌, refl, ap, sym, ◌∙◌, subst, inl, inr, nat_lt, arith, cond, None}
 use Rattle.std.proofs.lemmas.Bool.{false_from_ne_true, le-ltb, lt-ltb}
-use Rattle.std.specs.List.{filter_map}
 use Rattle.ptg_base.specs.Lists.{HasNoRepeats, IsIn}
 use Rattle.ptg_base.specs.Task.{Task}
 use Rattle.ptg_base.specs.declared.edge.Edge.{Edge}
@@ -13,12 +12,13 @@ use Rattle.coll_data.specs.Data.{Data}
 use Rattle.list_lemmas.proofs.Members.{IsIn-flat_map, from_flat_map}
 use Rattle.list_lemmas.proofs.Truth.{by_test}
 use Rattle.list_lemmas.proofs.Counts.{count-some, weigh-push}
-use Rattle.list_lemmas.proofs.Distinct.{HasNoRepeats-part}
 use Rattle.dep_iter.specs.Tasks.{IsTask, all_tasks}
 use Rattle.dep_iter.specs.Edges.{in_edges}
-use Rattle.dep_iter.specs.Items.{edge_of, items, out_edges}
+use Rattle.dep_iter.specs.Items.{items, out_edges}
 use Rattle.dep_iter.specs.Consistent.{IsConsistent}
 use Rattle.dep_iter.proofs.Listing.{listed}
+use Rattle.dep_iter.proofs.Items.{Edge-injective, item_edge}
+use Rattle.dep_iter.proofs.Once.{once-in_edges}
 use Rattle.list_lemmas.specs.Counting.{as_number, count}
 use Rattle.flow_meaning.specs.Comparing.{same_item}
 use Rattle.flow_meaning.specs.Machine.{MachineState, MaySend, Send, Sent, arrived, is_sent, send_count, sent_with, state_after, first_tile, sent_tile, end_in}
@@ -27,19 +27,6 @@ use Rattle.flow_meaning.specs.Sound.{IsSoundState}
 use Rattle.flow_meaning.proofs.Comparing.{same_item-decides}
 use Rattle.flow_meaning.proofs.Members.{in_edge_to}
 
-abbrev edge_in : Edge → Item → Edge
-edge_in d (item.Edge e) = e
-edge_in d (item.Write w) = d
-
-one_edge : (d e : Edge) → item.Edge d ≡ item.Edge e → d ≡ e
-one_edge d e q = ap (edge_in d) q
-
--- an edge item of a list is one of its edges
-item_edge : (is : List Item) (e : Edge) → IsIn (item.Edge e) is → IsIn e (filter_map edge_of is)
-item_edge [] e h = absurd h
-item_edge (item.Edge d ∷ is) e h = elim h [ inl q ↦ inl (one_edge e d q) | inr t ↦ inr (item_edge is e t) ]
-item_edge (item.Write w ∷ is) e h = elim h [ inl q ↦ absurd cc | inr t ↦ item_edge is e t ]
-
 -- in a consistent job an edge that is sent goes into its target
 pub sent_edge_in : (P : Plan) → IsConsistent P → (e : Edge) → IsTask P e.from → IsIn (item.Edge e) (items P e.from) → IsIn e (in_edges P e.to)
 sent_edge_in P con e job h =
@@ -47,22 +34,19 @@ sent_edge_in P con e job h =
     let p = from_flat_map (in_edges P) (all_tasks P) e ((con.same_edges e).1 out) in
     subst (λ t. IsIn e (in_edges P t)) (sym (in_edge_to P p.0 e p.2)) p.2
 
-edges_distinct : (P : Plan) → IsConsistent P → (t : Task) → IsTask P t → HasNoRepeats (in_edges P t)
-edges_distinct P con t job = HasNoRepeats-part (in_edges P) (all_tasks P) con.no_in_edge_twice t ((listed P t).0 job)
-
-no_edge : (es : List Edge) (e : Edge) → (IsIn e es → ⊥) → count (λ d. same_item (item.Edge d) (item.Edge e)) es ≡ 0
+pub no_edge : (es : List Edge) (e : Edge) → (IsIn e es → ⊥) → count (λ d. same_item (item.Edge d) (item.Edge e)) es ≡ 0
 no_edge [] e h = refl
 no_edge (d ∷ ds) e h =
-    let other : same_item (item.Edge d) (item.Edge e) ≡ false = false_from_ne_true (same_item (item.Edge d) (item.Edge e)) (λ k. h (inl (sym (one_edge d e ((same_item-decides (item.Edge d) (item.Edge e)).0 k))))) in
+    let other : same_item (item.Edge d) (item.Edge e) ≡ false = false_from_ne_true (same_item (item.Edge d) (item.Edge e)) (λ k. h (inl (sym (Edge-injective d e ((same_item-decides (item.Edge d) (item.Edge e)).0 k))))) in
     omega (arith, ap as_number other, no_edge ds e (λ i. h (inr i)))
 
 -- how often an edge is among edges without repeats
-edge_once : (es : List Edge) → HasNoRepeats es → (e : Edge) → count (λ d. same_item (item.Edge d) (item.Edge e)) es ≤ 1
+pub edge_once : (es : List Edge) → HasNoRepeats es → (e : Edge) → count (λ d. same_item (item.Edge d) (item.Edge e)) es ≤ 1
 edge_once [] h e = omega arith
 edge_once (d ∷ ds) h e =
     by_test (same_item (item.Edge d) (item.Edge e))
     (λ k.
-    let same : d ≡ e = one_edge d e ((same_item-decides (item.Edge d) (item.Edge e)).0 k) in
+    let same : d ≡ e = Edge-injective d e ((same_item-decides (item.Edge d) (item.Edge e)).0 k) in
     let none = no_edge ds e (λ i. h.0 (subst (λ x. IsIn x ds) (sym same) i)) in
     omega (arith, ap as_number k, none))
     (λ k. omega (arith, ap as_number k, edge_once ds h.1 e))
@@ -94,7 +78,7 @@ module _ (P : Plan) (G : Data) (con : IsConsistent P) (S : MachineState) (sound 
       let job = (sound.claimed_have_all e.from may.claimed).task in
       let into = sent_edge_in P con e job may.is_item in
       let to_job = (con.connected e.from job).to_tasks e (item_edge (items P e.from) e may.is_item) in
-      let most = edge_once (in_edges P e.to) (edges_distinct P con e.to to_job) e in
+      let most = edge_once (in_edges P e.to) (once-in_edges P con e.to to_job) e in
       let some = count-some (λ d. same_item (item.Edge d) (item.Edge e)) (in_edges P e.to) e into ((same_item-decides (item.Edge e) (item.Edge e)).1 refl) in
       omega (arith, came P G S (item.Edge e) may (in_edges P e.to))
 

@@ -1,23 +1,28 @@
 -- As many rounds as a job has tasks are enough.
-use Rattle.std.proofs.Common.{◌≡◌, ℕ, zero, suc, ◌+◌, ◌≤◌, Bool, true, length, refl, ap, sym, ◌∙◌, subst, add-zero, Option, Some, None, is_some, ◌⊎◌, inl, inr, arith}
+use Rattle.std.proofs.Common.{◌≡◌, ℕ, zero, suc, ◌+◌, ◌≤◌, Bool, true, cond, length, refl, ap, sym, ◌∙◌, subst, add-zero, Option, Some, None, is_some, ◌⊎◌, inl, inr, arith}
 use Rattle.std.proofs.lemmas.Bool.{false≢true, cases_eq}
+use Rattle.std.specs.Prelude.{option_map}
 use Rattle.ptg_base.specs.Lists.{IsIn}
 use Rattle.ptg_base.specs.Task.{Task}
 use Rattle.ptg_base.specs.declared.edge.Edge.{Edge}
+use Rattle.body_eval.specs.Meaning.{body_meaning}
+use Rattle.plan_core.specs.declared.class.ClassPlan.{ClassPlan}
 use Rattle.plan_core.specs.declared.plan.Plan.{Plan}
 use Rattle.coll_data.specs.Data.{Data}
-use Rattle.dep_iter.specs.Tasks.{IsTask, all_tasks}
+use Rattle.dep_iter.specs.Tasks.{IsTask, all_tasks, locals_of}
 use Rattle.dep_iter.specs.Edges.{in_edges}
 use Rattle.dep_iter.specs.Consistent.{IsConsistent}
 use Rattle.dep_iter.proofs.Listing.{listed}
 use Rattle.list_lemmas.specs.Counting.{count, as_number}
-use Rattle.flow_meaning.specs.Ending.{Ended, has_outputs}
-use Rattle.flow_meaning.specs.Backward.{ended, ended_after, ended_within}
+use Rattle.flow_meaning.specs.Ending.{Ended, ended_on, has_outputs}
+use Rattle.flow_meaning.specs.Backward.{ended, ended_after, ended_within, has_all_sources, source_tile}
+use Rattle.flow_meaning.specs.Starting.{starting_tiles}
 use Rattle.list_lemmas.proofs.Counts.{all_pass, count-le, one_back, one_le, weigh-tight}
-use Rattle.list_lemmas.proofs.Members.{member_passes}
+use Rattle.list_lemmas.proofs.Members.{list_all-from_members, member_passes}
 use Rattle.list_lemmas.proofs.Options.{some_value}
 use Rattle.flow_meaning.proofs.Members.{source_is_task}
 use Rattle.flow_meaning.proofs.Rounds.{ended_after-same, has_sources}
+use Rattle.flow_meaning.proofs.SourceEdges.{class_of}
 
 pub with_outputs : (o : Option Ended) → has_outputs o ≡ true → (v : Ended) × (o ≡ Some v)
 with_outputs None h = absurd (false≢true h)
@@ -106,6 +111,15 @@ module _ (P : Plan) (G : Data) (con : IsConsistent P) where
   pub fixed : (t : Task) → IsTask P t → ended P G t ≡ ended_after P G (ended P G) t
   unfolding ended ended_within
   fixed t task = sym (stable t task)
+
+  -- a task ends whose sources all have outputs
+  pub ends_after : (t : Task) → IsTask P t → ((e : Edge) → IsIn e (in_edges P t) → has_outputs (ended P G e.from) ≡ true) → is_some (ended P G t) ≡ true
+  unfolding ended_on
+  ends_after t job sources =
+      let all : has_all_sources P (ended P G) t ≡ true = list_all-from_members (λ (e : Edge). has_outputs (ended P G e.from)) (in_edges P t) sources in
+      let h = class_of P t job in
+      ap is_some (fixed t job ∙ ap (λ b. cond b (ended_on P G (source_tile (ended P G)) t) None) all
+      ∙ ap (λ o. option_map (λ (c : ClassPlan). body_meaning c.body (locals_of P t) (starting_tiles P G (source_tile (ended P G)) t)) o) h.class_is)
 
   -- what any round finds is how the task ends
   pub found : (n : ℕ) (t : Task) → IsTask P t → (v : Ended) → ended_within P G n t ≡ Some v → ended P G t ≡ Some v

@@ -166,6 +166,16 @@ module _ (P : Plan) (G : Data) (con : IsConsistent P) (S : MachineState) (sound 
   event_sound (Claim t) may = claim_sound t may
   event_sound (Send i) may = send_sound i may
 
+-- of a task that was not claimed nothing was sent
+pub unclaimed_unsent : (P : Plan) (G : Data) (S : MachineState) → IsSoundState P G S → (i : Item) → claim_count S (sender i) ≡ 0 → send_count S i ≡ 0
+unclaimed_unsent P G S sound i none =
+    by_test (is_sent S i)
+    (λ k.
+    let p = send_member S i k in
+    let more = member_claim S (sender i) (subst (λ j. IsIn (sender j) S.claims) p.2 (sound.sent_are_outputs p.0 p.1).claimed) in
+    absurd (omega (arith, more, none)))
+    (λ k. unsent S i k)
+
 -- nothing has happened yet, so nothing is wrong
 pub opening_sound : (P : Plan) (G : Data) → IsSoundState P G opening_state
 opening_sound P G = record { claimed_once = λ t. omega arith; sent_once = λ i. omega arith; claimed_have_all = λ t i. absurd i; sent_are_outputs = λ x i. absurd i }

@@ -1,28 +1,26 @@
 -- No task is listed twice, and a quiescent state has claimed each task that runs once.
-use Rattle.std.proofs.Common.{◌≡◌, ℕ, suc, ◌≤◌, ℤ, Bool, false, cond, List, [], ◌∷◌, ◌++◌, map, refl, ap, sym, ◌∙◌, subst, Option, Some, None, slice_get, is_some, ◌⊎◌, inl, inr, Ok, Err, arith}
+use Rattle.std.proofs.Common.{◌≡◌, ◌≤◌, Bool, false, cond, List, [], ◌∷◌, ◌++◌, length, refl, ap, sym, ◌∙◌, Option, Some, None, is_some, ◌⊎◌, inl, inr, Ok, Err, arith}
 use Rattle.std.proofs.lemmas.Bool.{false≢true, cases_eq}
 use Rattle.std.specs.List.{filter, flat_map}
-use Rattle.ptg_base.specs.Lists.{HasNoRepeats, IsIn}
+use Rattle.ptg_base.specs.Lists.{IsIn}
 use Rattle.ptg_base.specs.Task.{Task}
 use Rattle.ptg_base.specs.TaskOrder.{in_task_order}
 use Rattle.ptg_base.specs.TaskComparing.{same_task}
 use Rattle.ptg_base.specs.TaskLaws.{same_task-decides}
-use Rattle.term_core.specs.WellSpace.{IsWellSpace}
-use Rattle.term_core.specs.declared.space.ClassSpace.{ClassSpace}
-use Rattle.range_space.specs.Tasks.{tasks}
-use Rattle.range_space.proofs.Distinct.{distinct_tasks}
-use Rattle.list_lemmas.proofs.Members.{from_append, from_map}
 use Rattle.list_lemmas.proofs.Truth.{by_test}
-use Rattle.list_lemmas.proofs.Counts.{count-some, weigh-append, same_counts, HasSameMembers-sym, count-filter}
+use Rattle.list_lemmas.proofs.Counts.{count-some, same_counts, HasSameMembers-sym, count-filter}
 use Rattle.list_lemmas.proofs.Places.{slice_get_there}
-use Rattle.list_lemmas.proofs.Tasks.{uncounted, once_each, counted_member}
+use Rattle.list_lemmas.proofs.Tasks.{uncounted, once_each, distinct_once}
+use Rattle.list_lemmas.proofs.Distinct.{no_longer}
 use Rattle.std.proofs.lemmas.Option.{slice_get_within}
 use Rattle.plan_core.specs.declared.plan.Plan.{Plan}
 use Rattle.coll_data.specs.Data.{Data}
-use Rattle.dep_iter.specs.Tasks.{all_tasks, task, tasks_from}
+use Rattle.dep_iter.specs.Tasks.{all_tasks}
 use Rattle.dep_iter.specs.Consistent.{IsConsistent}
+use Rattle.dep_iter.proofs.Listing.{listed}
+use Rattle.dep_iter.proofs.Once.{once-tasks_from}
 use Rattle.flow_meaning.specs.declared.outcome.TrapRow.{TrapRow}
-use Rattle.list_lemmas.specs.Counting.{HasSameMembers, as_number, count}
+use Rattle.list_lemmas.specs.Counting.{HasSameMembers, count}
 use Rattle.flow_meaning.specs.Ending.{Ended}
 use Rattle.flow_meaning.specs.Backward.{ended}
 use Rattle.flow_meaning.specs.Answer.{ran, trap_rows, trapped}
@@ -33,40 +31,16 @@ use Rattle.flow_meaning.proofs.Events.{claim_member, ends_so, member_claim}
 use Rattle.flow_meaning.proofs.Quiet.{claims_are_ran}
 use Rattle.flow_meaning.proofs.TaskRows.{same_rows}
 
-distinct-map : (n : ℕ) (ps : List (List ℤ)) → HasNoRepeats ps → HasNoRepeats (map (task n) ps)
-distinct-map n [] h = tt
-distinct-map n (p ∷ ps) h = (
-  λ i. let q = from_map (task n) ps (task n p) i in h.0 (subst (λ r. IsIn r ps) (sym (ap (λ (t : Task). t.params) q.2)) q.1),
-  distinct-map n ps h.1,
-)
-
--- the classes of tasks that are listed from n on
-later_class : (n : ℕ) (ss : List ClassSpace) (t : Task) → IsIn t (tasks_from n ss) → n ≤ t.class
-later_class n [] t i = absurd i
-later_class n (s ∷ ss) t i = elim (from_append t (map (task n) (tasks s)) (tasks_from (suc n) ss) i) [
-  | inl here ↦ let p = from_map (task n) (tasks s) t here in omega (arith, ap (λ (u : Task). u.class) p.2)
-  | inr later ↦ omega (arith, later_class (suc n) ss t later)
-]
-
-listed_once : (n : ℕ) (ss : List ClassSpace) → ((k : ℕ) (s : ClassSpace) → slice_get ss k ≡ Some s → IsWellSpace s) → (t : Task) → count (same_task t) (tasks_from n ss) ≤ 1
-listed_once n [] well t = omega arith
-listed_once n (s ∷ ss) well t =
-    let sum = weigh-append (λ u. as_number (same_task t u)) (map (task n) (tasks s)) (tasks_from (suc n) ss) in
-    let here = once_each (map (task n) (tasks s)) (distinct-map n (tasks s) (distinct_tasks s (well 0 s refl))) t in
-    let later = listed_once (suc n) ss (λ k r e. well (suc k) r e) t in
-    elim (cases_eq (count (same_task t) (tasks_from (suc n) ss)) 0) [
-      | inl none ↦ omega (arith, none)
-      | inr some ↦
-          let class = later_class (suc n) ss t (counted_member t (tasks_from (suc n) ss) (omega (arith, some))) in
-          let none = uncounted t (map (task n) (tasks s)) (λ i. let p = from_map (task n) (tasks s) t i in let e = ap (λ (u : Task). u.class) p.2 in absurd (omega arith)) in
-          omega (arith, none)
-    ]
-
 -- no task of a job is listed twice
 pub tasks_once : (P : Plan) (t : Task) → count (same_task t) (all_tasks P) ≤ 1
 tasks_once P t =
-    listed_once 0 P.spaces
-    (λ k s e. let c = slice_get_there P.classes k (omega (arith, slice_get_within P.spaces k s e, P.well_made.one_space_each)) in (P.well_made.fit k c.0 s c.1 e).space) t
+    once_each (all_tasks P)
+    (once-tasks_from 0 P.spaces
+    (λ k s e. let c = slice_get_there P.classes k (omega (arith, slice_get_within P.spaces k s e, P.well_made.one_space_each)) in (P.well_made.fit k c.0 s c.1 e).space)) t
+
+-- no more tasks are claimed than there are
+pub claims_at_most : (P : Plan) (G : Data) (S : MachineState) → IsSoundState P G S → length S.claims ≤ length (all_tasks P)
+claims_at_most P G S sound = no_longer S.claims (all_tasks P) (distinct_once S.claims sound.claimed_once) (λ t i. (listed P t).0 (sound.claimed_have_all t i).task)
 
 flat_map-filter : {A B : Type 0} (g : A → List B) (test : A → Bool) → ((x : A) → test x ≡ false → g x ≡ []) → (xs : List A) → flat_map g xs ≡ flat_map g (filter test xs)
 flat_map-filter g test none [] = refl

@@ -98,7 +98,7 @@ module _ (S T : MachineState) (r : IsReordered S T) where
   back = record { claims = HasSameMembers-sym S.claims T.claims r.claims; sends = HasSameMembers-sym S.sends T.sends r.sends }
 
 -- a tile was sent with an item alone that was sent
-first_none : (i : Item) (xs : List Sent) → count (λ (x : Sent). same_item i x.item) xs ≡ 0 → first_tile i xs ≡ None
+pub first_none : (i : Item) (xs : List Sent) → count (λ (x : Sent). same_item i x.item) xs ≡ 0 → first_tile i xs ≡ None
 first_none i [] h = refl
 first_none i (x ∷ xs) h =
     by_test (same_item i x.item)

@@ -3,6 +3,7 @@ use Rattle.std.proofs.Common.{◌≡◌, ◌↔◌, ℕ, ℤ, List, ap, sym, ◌
 use Rattle.std.proofs.lemmas.Bool.{false≢true, ltb-true}
 use Rattle.ptg_base.specs.Lists.{IsIn}
 use Rattle.ptg_base.specs.Task.{Task}
+use Rattle.ptg_base.specs.declared.edge.WriteBack.{WriteBack}
 use Rattle.ptg_base.specs.declared.edge.Item.{Item}
 use Rattle.ptg_base.specs.declared.edge.Item.TheVariants as item
 use Rattle.plan_core.specs.declared.plan.Plan.{Plan}
@@ -15,8 +16,9 @@ use Rattle.dep_iter.specs.Tasks.{locals_of, task}
 use Rattle.dep_iter.specs.Active.{active_outs}
 use Rattle.dep_iter.specs.Arguments.{combinations}
 use Rattle.dep_iter.specs.Edges.{edge}
-use Rattle.dep_iter.specs.Items.{items, items_to}
+use Rattle.dep_iter.specs.Items.{items, items_to, write_backs}
 use Rattle.dep_iter.specs.Consistent.{IsConsistent}
+use Rattle.dep_iter.proofs.Items.{write_item}
 use Rattle.flow_meaning.specs.Ending.{has_outputs}
 use Rattle.flow_meaning.specs.Backward.{ended}
 use Rattle.flow_meaning.specs.Machine.{Claim, Event, IsPossible, IsQuiescent, MachineState, Send, send_count, sender}
@@ -37,6 +39,10 @@ unfolding items
 item_sender P t i h =
     let p = from_flat_map (λ (a : ℕ × Target). items_to t (locals_of P t) a.0 a.1) (active_outs P t) i h in
     sent_by t (locals_of P t) p.0.0 p.0.1 i p.2
+
+-- a write-back of a task comes from it
+pub write_from : (P : Plan) (t : Task) (w : WriteBack) → IsIn w (write_backs P t) → w.from ≡ t
+write_from P t w i = item_sender P t (item.Write w) (write_item (items P t) w i)
 
 module _ (P : Plan) (G : Data) (con : IsConsistent P) (S : MachineState) (sound : IsSoundState P G S) where
   at_rest : IsQuiescent P G S → IsAtRest P G S

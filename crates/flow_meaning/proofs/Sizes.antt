@@ -2,7 +2,7 @@
 use Rattle.std.proofs.Common.{◌≡◌, ◌≢◌, ℕ, zero, suc, ◌+◌, ℤ, Bool, true, false, cond, eqb, List, [], ◌∷◌, length, get_or, refl, ap, sym, ◌∙◌, subst, add-zero, Option, Some, None, slice_get, slice_index, Ok, Err, inl, inr, arith}
 use Rattle.std.specs.Prelude.{option_map, option_and_then, map}
 use Rattle.std.specs.Option.{option_map_or}
-use Rattle.std.proofs.lemmas.Option.{slice_get-map}
+use Rattle.std.proofs.lemmas.Option.{same_Some, slice_get-map}
 use Rattle.std.proofs.lemmas.Bool.{false≢true, and_parts, eqb-true}
 use Rattle.ptg_base.specs.Lists.{IsIn}
 use Rattle.ptg_base.specs.Task.{Task}
@@ -51,6 +51,7 @@ use Rattle.flow_meaning.proofs.Members.{in_edge_item, source_is_task}
 use Rattle.flow_meaning.proofs.Rounds.{has_sources}
 use Rattle.flow_meaning.proofs.Shapes.{HasShape, body_shape}
 use Rattle.flow_meaning.proofs.SourceEdges.{IsHeld, class_of, passes_source, source_in, source_target}
+use Rattle.flow_meaning.proofs.Starting.{length-starting_tiles}
 
 -- the tile that a task starts on in flow k
 start_at : (P : Plan) (G : Data) (d : Delivery) (t : Task) (n : ℕ) (fs : List FlowPlan) (k : ℕ) (f : FlowPlan) → slice_get fs k ≡ Some f → get_or (tiles_from P G d t n fs) k None ≡ starting_tile P G d t (n + k) f
@@ -62,12 +63,8 @@ start_at P G d t n (g ∷ fs) (suc k) f e =
     let m : suc n + k ≡ n + suc k = omega arith in
     start_at P G d t (suc n) fs k f e ∙ ap (λ i. starting_tile P G d t i f) m
 
-start_places : (P : Plan) (G : Data) (d : Delivery) (t : Task) (n : ℕ) (fs : List FlowPlan) → length (tiles_from P G d t n fs) ≡ length fs
-start_places P G d t n [] = refl
-start_places P G d t n (f ∷ fs) = ap suc (start_places P G d t (suc n) fs)
-
 -- the flows of a task are those of its class
-flow_is : (P : Plan) (s : Task) (k : ℕ) → slice_get (flows_of P s) k ≡ flow_of P.classes s.class k
+pub flow_is : (P : Plan) (s : Task) (k : ℕ) → slice_get (flows_of P s) k ≡ flow_of P.classes s.class k
 flow_is P s k = by (slice_get P.classes s.class)
   where
     by : (o : Option ClassPlan) → slice_get (option_map_or (λ (c : ClassPlan). c.flows) o []) k ≡ option_and_then (λ (c : ClassPlan). slice_get c.flows k) o
@@ -98,12 +95,12 @@ not_null P f source.New h = refl
 not_null P f source.Null h = absurd (h refl)
 not_null P f source.Nothing h = refl
 
-with_tiles : (o : Option Ended) → has_outputs o ≡ true → (tiles : List (Option (List ℤ))) × (o ≡ Some (Ok tiles))
+pub with_tiles : (o : Option Ended) → has_outputs o ≡ true → (tiles : List (Option (List ℤ))) × (o ≡ Some (Ok tiles))
 with_tiles None h = absurd (false≢true h)
 with_tiles (Some (Err cause)) h = absurd (false≢true h)
 with_tiles (Some (Ok tiles)) h = (tiles, refl)
 
-coll_at : (coll : ℕ) (zs : List ℤ) → (place_at coll zs).coll ≡ coll
+pub coll_at : (coll : ℕ) (zs : List ℤ) → (place_at coll zs).coll ≡ coll
 coll_at coll [] = refl
 coll_at coll (z ∷ zs) = refl
 
@@ -169,6 +166,14 @@ place_size P G fit well p datatype exists type =
     ap (λ o. option_map length (option_and_then (λ (b : Coll). option_and_then (slice_get b.tiles) (tile_index b.shape.0 b.shape.1 p.i p.j)) o)) c.1
     ∙ ap (λ o. option_map length o) tile.1 ∙ ap (λ k. Some k) long
 
+-- the tiles that a task leaves have the shape of those that it starts on
+pub ended_shape : (P : Plan) (G : Data) (d : Delivery) (t : Task) (tiles : List (Option (List ℤ))) → IsTask P t → ended_on P G d t ≡ Some (Ok tiles) → HasShape (starting_tiles P G d t) tiles
+unfolding ended_on
+ended_shape P G d t tiles job e =
+    let h = class_of P t job in
+    let start = starting_tiles P G d t in
+    body_shape h.class.body (locals_of P t) start tiles (same_Some _ _ (ap (λ o. option_map (λ (c : ClassPlan). body_meaning c.body (locals_of P t) start) o) (sym h.class_is) ∙ e))
+
 module _ (P : Plan) (G : Data) (con : IsConsistent P) (fit : DataFit P.colls P.elems G) (well : IsWellMade G) where
   -- what rounds have found so far has the sizes that it should
   abbrev AreSized : (Task → Option Ended) → Type 0
@@ -204,18 +209,6 @@ module _ (P : Plan) (G : Data) (con : IsConsistent P) (fit : DataFit P.colls P.e
         let never = (con.connected t job).inputs k f here in
         unsourced_size f.kind carries (λ r. absurd (never (ap takes_tile r) is)) (λ w. absurd (never (ap takes_tile w) is))
 
-  -- the tiles that a task leaves have the shape of those that it starts on
-  ended_shape : (d : Delivery) (t : Task) (tiles : List (Option (List ℤ))) → IsTask P t → ended_on P G d t ≡ Some (Ok tiles) → HasShape (starting_tiles P G d t) tiles
-  unfolding ended_on
-  ended_shape d t tiles job e =
-      let h = class_of P t job in
-      let body : body_meaning h.class.body (locals_of P t) (starting_tiles P G d t) ≡ Ok tiles =
-      inside (ap (λ o. option_map (λ (c : ClassPlan). body_meaning c.body (locals_of P t) (starting_tiles P G d t)) o) (sym h.class_is) ∙ e) in
-      body_shape h.class.body (locals_of P t) (starting_tiles P G d t) tiles body
-    where
-      inside : {A : Type 0} {x y : A} → Some x ≡ Some y → x ≡ y
-      inside e = cc
-
   start_size : (before : Task → Option Ended) → AreSized before → (t : Task) → IsTask P t → ((e : Edge) → IsIn e (in_edges P t) → has_outputs (before e.from) ≡ true) → (k : ℕ) (f : FlowPlan) → slice_get (flows_of P t) k ≡ Some f →
       option_map length (starting_tile P G (source_tile before) t k f) ≡ flow_size P t k f
   start_size before sized t job outs k f here = by (is_data (Some f.kind)) refl
@@ -230,7 +223,7 @@ module _ (P : Plan) (G : Data) (con : IsConsistent P) (fit : DataFit P.colls P.e
   round_sized (suc n) t job tiles e k f here =
       let all = has_sources P G con t job (ended_within P G n) (Ok tiles) e in
       let on : ended_on P G (source_tile (ended_within P G n)) t ≡ Some (Ok tiles) = ap (λ b. cond b (ended_on P G (source_tile (ended_within P G n)) t) None) (sym all) ∙ e in
-      let shape = ended_shape (source_tile (ended_within P G n)) t tiles job on in
+      let shape = ended_shape P G (source_tile (ended_within P G n)) t tiles job on in
       let start : get_or (tiles_from P G (source_tile (ended_within P G n)) t 0 (flows_of P t)) k None ≡ starting_tile P G (source_tile (ended_within P G n)) t k f =
       start_at P G (source_tile (ended_within P G n)) t 0 (flows_of P t) k f here ∙ ap (λ m. starting_tile P G (source_tile (ended_within P G n)) t m f) (omega arith) in
       shape.sizes k ∙ ap (λ o. option_map length o) start
@@ -243,12 +236,11 @@ module _ (P : Plan) (G : Data) (con : IsConsistent P) (fit : DataFit P.colls P.e
 
   -- there are as many as it has flows
   pub ended_places : (t : Task) → IsTask P t → (tiles : List (Option (List ℤ))) → ended P G t ≡ Some (Ok tiles) → length tiles ≡ length (flows_of P t)
-  unfolding starting_tiles
   ended_places t job tiles e =
       let f = sym (fixed P G con t job) ∙ e in
       let all = has_sources P G con t job (ended P G) (Ok tiles) f in
       let on : ended_on P G (source_tile (ended P G)) t ≡ Some (Ok tiles) = ap (λ b. cond b (ended_on P G (source_tile (ended P G)) t) None) (sym all) ∙ f in
-      (ended_shape (source_tile (ended P G)) t tiles job on).places ∙ start_places P G (source_tile (ended P G)) t 0 (flows_of P t)
+      (ended_shape P G (source_tile (ended P G)) t tiles job on).places ∙ length-starting_tiles P G (source_tile (ended P G)) t
 
   -- each item of a data flow has a tile
   pub item_sized : (t : Task) → IsTask P t → has_outputs (ended P G t) ≡ true → (i : Item) → IsIn i (items P t) → (f : FlowPlan) → slice_get (flows_of P t) (item_flow i) ≡ Some f → is_data (Some f.kind) ≡ true →

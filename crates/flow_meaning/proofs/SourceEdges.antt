@@ -94,7 +94,7 @@ held env [] x rest h w = absurd cc
 held env (d ∷ ds) x rest h w = held_step env d ds x rest (active_target d env) refl h w (λ a b. held env ds x rest a b)
 
 -- a target of a dependence that passes
-passing : (locals : ℕ) (passes : Target → Bool) (d : DepPlan) (b : Bool) (x : Target) → is_dependence locals passes d ≡ true → target_by d b ≡ Some x → passes x ≡ true
+pub passing : (locals : ℕ) (passes : Target → Bool) (d : DepPlan) (b : Bool) (x : Target) → is_dependence locals passes d ≡ true → target_by d b ≡ Some x → passes x ≡ true
 passing locals passes d true x h e =
     let p = and_parts (is_closed_option locals d.guard && passes d.yes) (is_second passes d.guard d.no) h in
     let q = and_parts (is_closed_option locals d.guard) (passes d.yes) p.0 in
@@ -169,7 +169,7 @@ class_of P t task =
     let c = slice_get_there P.classes t.class (omega (arith, n, P.well_made.one_space_each)) in
     record { class = c.0; space = s.0; class_is = c.1; space_is = s.1 }
 
-flows_are : (P : Plan) (t : Task) (c : ClassPlan) → slice_get P.classes t.class ≡ Some c → flows_of P t ≡ c.flows
+pub flows_are : (P : Plan) (t : Task) (c : ClassPlan) → slice_get P.classes t.class ≡ Some c → flows_of P t ≡ c.flows
 flows_are P t c e = ap (λ o. option_map_or (λ (c : ClassPlan). c.flows) o []) e
 
 -- what an active in dependence of a data flow stands for

@@ -36,7 +36,8 @@ output_tile (Some (Ok tiles)) flow = tile_of tiles flow
 -- body
 unfoldable pub ended_on : Plan → Data → Delivery → Task → Option Ended
 ended_on P G delivered t =
-    option_map (λ (c : ClassPlan). body_meaning c.body (locals_of P t) (starting_tiles P G delivered t)) (slice_get P.classes t.class)
+    option_map (λ (c : ClassPlan). body_meaning c.body (locals_of P t) (starting_tiles P G delivered t))
+    (slice_get P.classes t.class)
 
 -- how many numbers the tile of a flow with this source has: as many as the type of the flow has elements. A flow whose
 -- source is `NULL` has no tile. In a consistent job only a WRITE flow is without a source, and it starts as new

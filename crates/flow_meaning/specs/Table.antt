@@ -57,7 +57,8 @@ waiting_tasks P S = filter (is_waiting P S) (all_tasks P)
 -- the rows of the tasks that wait, in task order
 unfoldable pub waiting_rows : Plan → MachineState → List WaitRow
 waiting_rows P S =
-    in_task_order (λ (r : WaitRow). r.task) (map (λ t. record { task = t; arrived = arrived P S t; goal = goal P t }) (waiting_tasks P S))
+    in_task_order (λ (r : WaitRow). r.task)
+    (map (λ t. record { task = t; arrived = arrived P S t; goal = goal P t }) (waiting_tasks P S))
 
 -- the write-back that was sent, with its tile
 abbrev pub written_by : Item → Option (List ℤ) → Option (WriteBack × Option (List ℤ))

@@ -10,8 +10,8 @@ pub use laws::{
     tiles_have_the_sizes_of_their_flows, what_a_round_finds_stays,
 };
 pub use machine::{
-    a_quiescent_state_has_the_meaning, an_edge_arrives_at_its_target, claims_are_a_legal_order,
-    events_keep_states_sound, nothing_is_undone, order_does_not_matter,
-    quiescent_states_are_at_rest, tasks_have_their_inputs, the_same_members_are_the_same_counts,
+    a_quiescent_state_has_the_meaning, an_edge_arrives_at_its_target, events_keep_states_sound,
+    order_does_not_matter, quiescent_states_are_at_rest, tasks_have_their_inputs,
+    the_same_members_are_the_same_counts,
 };
 pub use outcome::{Outcome, TrapRow, WaitRow};

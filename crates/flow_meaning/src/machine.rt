@@ -18,11 +18,10 @@ ghost use Rattle.flow_meaning.specs.Starting.{delivered_tiles};
 ghost use Rattle.flow_meaning.specs.Ending.{has_outputs, output_tile};
 ghost use Rattle.flow_meaning.specs.Backward.{ended, inputs};
 ghost use Rattle.flow_meaning.specs.Answer.{answer, ran, trapped, waiting};
-ghost use Rattle.flow_meaning.specs.Machine.{Event, MaySend, Send, arrived, Happen, IsLater, IsPossible, IsQuiescent, MachineState, state_after, end_in, is_sent, opening_state, Sent, same_sent, sender, sent_tile};
+ghost use Rattle.flow_meaning.specs.Machine.{Event, MaySend, Send, arrived, Happen, IsPossible, IsQuiescent, MachineState, state_after, end_in, is_sent, opening_state, Sent, same_sent, sender, sent_tile};
 ghost use Rattle.flow_meaning.specs.Sound.{IsAtRest, HasAllArrived, IsReordered, IsSoundState};
 ghost use Rattle.flow_meaning.specs.StateAnswer.{state_answer, state_traps};
 ghost use Rattle.flow_meaning.specs.Table.{table_entry, waiting_rows};
-ghost use Rattle.flow_meaning.specs.Order.{IsLegalOrder};
 
 /// A law: the opening state is sound, and every list of events leads from a sound state to a sound state. So no task is
 /// claimed twice, and no item is sent twice.
@@ -32,11 +31,6 @@ pub fn events_keep_states_sound()
         → IsPossible P G S e → IsSoundState P G (state_after P G S e) }
     ensures events { (P : Plan) (G : Data) (es : List Event) (S T : MachineState) → IsConsistent P → IsSoundState P G S
         → Happen P G es S T → IsSoundState P G T }
-{}
-
-/// A law: nothing that has happened is undone.
-pub fn nothing_is_undone()
-    ensures { (P : Plan) (G : Data) (es : List Event) (S T : MachineState) → Happen P G es S T → IsLater S T }
 {}
 
 /// A law: in a sound state, the tiles that were sent to a task are its inputs once all edges into it were sent, and so
@@ -66,12 +60,6 @@ pub fn an_edge_arrives_at_its_target()
         → sent_tile (state_after P G S (Send (item.Edge e))) e ≡ output_tile (end_in P G S e.from) e.out_flow }
     ensures tiles { (P : Plan) (G : Data) (S : MachineState) (i : Item) (d : Edge) → i ≢ item.Edge d
         → sent_tile (state_after P G S (Send i)) d ≡ sent_tile S d }
-{}
-
-/// A law: the tasks in the order in which they were claimed are a legal order.
-pub fn claims_are_a_legal_order()
-    ensures { (P : Plan) (G : Data) (es : List Event) (S : MachineState) → IsConsistent P
-        → Happen P G es opening_state S → IsLegalOrder P S.claims }
 {}
 
 /// A law: a sound state is quiescent exactly where no task may be claimed and each claimed task does no more.

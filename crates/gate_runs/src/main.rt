@@ -1,21 +1,29 @@
 //! Runs jobs through the program with gates that wait, count or note, and prints how each run ends. Two bodies at once
 //! show that there are two threads, a count of the bodies of each task that each is run once, and the notes of the
-//! tasks of one worker that `trace` prints them in their order.
+//! tasks of one worker that `trace` prints them in their order. With arguments it is the program with a gate that counts
+//! bodies.
 #![tactic(auto)]
 
+mod begun;
+mod command;
 mod counting;
 mod jobs;
 mod meeting;
 mod noting;
 mod runs;
 
+use crate::command::carried_out;
 use crate::counting::Counting;
 use crate::jobs::{CHOLESKY, CHOLESKY_ANSWER, CHOLESKY_DATA, PAIR, PAIR_ANSWER, PAIR_DATA};
 use crate::meeting::Meeting;
 use crate::noting::Noting;
 use crate::runs::{Failure, Job, ran, traced};
+use ptg_base::OutOfMemory;
+use ptg_os::words;
+use ptg_top::Status;
 use std::alloc::Global;
 use std::io;
+use std::process::ExitCode;
 use std::sync::Wait;
 use std::thread::Threads;
 
@@ -68,9 +76,9 @@ fn note<R: Threads + Wait + Print + Sync>(rt: &R, alloc: Global, options: &str) 
     Ok(())
 }
 
-fn main(rt: HostRuntime) -> io::Result<()> {
-    let alloc = rt.alloc();
-    meet(&rt, alloc)?;
+// All runs of jobs in memory.
+fn run_all<R: Threads + Wait + Print + Sync>(rt: &R, alloc: Global) -> io::Result<()> {
+    meet(rt, alloc)?;
     for options in [
         "--workers 1 --shards 1",
         "--workers 1 --shards 16",
@@ -82,10 +90,22 @@ fn main(rt: HostRuntime) -> io::Result<()> {
         "--workers 4 --shards 16 --preload",
         "--workers 64 --shards 256 --preload",
     ] {
-        count(&rt, alloc, options)?;
+        count(rt, alloc, options)?;
     }
     for options in ["--workers 1 --shards 1", "--workers 1 --shards 16"] {
-        note(&rt, alloc, options)?;
+        note(rt, alloc, options)?;
     }
     Ok(())
+}
+
+fn main(rt: HostRuntime) -> ExitCode {
+    let alloc = rt.alloc();
+    match words(&rt, alloc) {
+        Ok(words) if words.is_empty() => match run_all(&rt, alloc) {
+            Ok(()) => ExitCode::SUCCESS,
+            Err(_) => ExitCode::FAILURE,
+        },
+        Ok(words) => carried_out(&rt, alloc, words.as_slice()),
+        Err(OutOfMemory) => ExitCode::from(Status::OutOfMemory.code()),
+    }
 }

@@ -13,7 +13,7 @@ use Rattle.grammar_core.specs.Production.{Production, one_of, checked, seq, map,
 use Rattle.grammar_core.specs.Reading.{◌>>=◌, Read, FaultFromEnd, refuse, check, may_be_empty, first, starts, picks, token_at, many_at, nonterminal_at, reading}
 use Rattle.grammar_core.specs.Predictive.{Claims, alone, both_first, is_limit, are_limits, is_fine, has_plain, are_names}
 use Rattle.grammar_core.proofs.Sets.{starts_into}
-use Rattle.grammar_core.proofs.ReadCases.{bind_ok, bind_err, ok_is, no_ok, token_ok, refuse_ok, refuse_err, check_err, judge_ok, judge_err}
+use Rattle.grammar_core.proofs.ReadCases.{bind_ok, bind_err, token_ok, refuse_ok, refuse_err, check_err, judge_ok, judge_err}
 use Rattle.grammar_core.proofs.Begins.{surely_begins, seconds}
 use Rattle.grammar_core.proofs.Fuel.{nonterminal_is, nonterminal_shrinks, run_shrinks, many_is}
 use Rattle.grammar_core.proofs.Passes.{FaultsWithin, Passes, passes, safe_true}
@@ -21,6 +21,7 @@ use Rattle.grammar_core.proofs.Sound.{SameHead, Sound}
 use Rattle.grammar_core.proofs.SoundLimits.{front}
 use Rattle.grammar_core.proofs.Whole.{LimitsOnly, sound}
 use Rattle.list_lemmas.proofs.Truth.{chosen}
+use Rattle.list_lemmas.proofs.Options.{same_Ok, Ok≢Err}
 
 not_syntax : (d : Code) → is_limit d ≡ true → d ≡ Syntax → ⊥
 not_syntax d h e = both_ways (is_limit d) (rw e refl) h
@@ -59,8 +60,8 @@ module _ {A B : Type 0} (G : Language A) (q : List Token → Read A) (known : (s
           let all : t.word ++ (a.1 ++ r) ≡ w ++ r = sym (append_assoc t.word a.1 r) ∙ ap (λ (l : List Token). l ++ r) (sym t.parts) in
           let goes : q (w ++ r) ≡ Ok (a.0, a.1 ++ r) = ap q (sym all) ∙ t.same (a.1 ++ r) same in
           elim h [
-            | inl u ↦ no_ok (a.0, a.1 ++ r) (length r, Syntax) (sym goes ∙ u)
-            | inr u ↦ let x = ok_is (a.0, a.1 ++ r) u.0 (sym goes ∙ u.1) in live (ap (λ (z : A × List Token). K z.1) x ∙ u.2)
+            | inl u ↦ Ok≢Err (a.0, a.1 ++ r) (length r, Syntax) (sym goes ∙ u)
+            | inr u ↦ let x = same_Ok (a.0, a.1 ++ r) u.0 (sym goes ∙ u.1) in live (ap (λ (z : A × List Token). K z.1) x ∙ u.2)
           ]
       go [] is = elim h [ inl u ↦ alive is u | inr u ↦ by_length u.0 u.1 u.2 (cases_order (length u.0.1) (length r)) ]
         where
@@ -79,7 +80,7 @@ module _ {A B : Type 0} (G : Language A) (q : List Token → Read A) (known : (s
               let v = front t.word x.1 w r (sym t.parts) (omega (arith, n, lt, length-append w r, length-append t.word x.1)) in
               let some : 0 < length v.0 = omega (arith, ap (λ (l : List Token). length l) v.2, length-append v.0 r, lt) in
               let goes : q w ≡ Ok (x.0, v.0) = ap q v.1 ∙ t.same v.0 (subst (λ (l : List Token). SameHead l v.0) (sym v.2) (heads v.0 some)) in
-              let one = ok_is (x.0, v.0) a (sym goes ∙ e) in
+              let one = same_Ok (x.0, v.0) a (sym goes ∙ e) in
               let none = ap (λ (z : A × List Token). length z.1) one in
               omega (arith, none, some, ap (λ (l : List Token). length l) is)
             where
@@ -173,13 +174,13 @@ module _ {N : Type 0} {Tree : N → Type 0} (body : (n : N) → Production N Tre
     many_faults zero i s n lt e = absurd (omega arith)
     many_faults (suc j) i s n lt e =
         elim (chosen (starts (first g) s) (refuse (full i) s (reading body g s >>= and_more i)) (Ok ([], s)) (Err n) (sym (many_step i s) ∙ e)) [
-          | inr u ↦ absurd (no_ok ([], s) n u.1)
+          | inr u ↦ absurd (Ok≢Err ([], s) n u.1)
           | inl u ↦ elim (refuse_err (full i) s (reading body g s >>= and_more i) n u.1) [
             | inl v ↦ let x = ap (λ (y : FaultFromEnd). y.0) v.2 in omega (arith, x)
             | inr v ↦ elim (bind_err (reading body g s) (and_more i) n v.1) [
               | inl y ↦ form_faults g ok s n y
               | inr a ↦ elim (bind_err (many (suc i) a.0.1) (λ more. Ok (a.0.0 ∷ more.0, more.1)) n a.2) [
-                | inr y ↦ absurd (no_ok _ n y.2)
+                | inr y ↦ absurd (Ok≢Err _ n y.2)
                 | inl y ↦
                     let less = (run_shrinks (nonterminal_at body) (nonterminal_shrinks body) g s a.0 a.1).1 never in
                     let k = many_faults j (suc i) a.0.1 n (omega (arith, less, lt)) y in
@@ -194,13 +195,13 @@ module _ {N : Type 0} {Tree : N → Type 0} (body : (n : N) → Production N Tre
       from_nothing : (i : ℕ) (r : List Token) → many i r ≡ Err (length r, Syntax) → ⊥
       from_nothing i r f =
           elim (chosen (starts (first g) r) (refuse (full i) r (reading body g r >>= and_more i)) (Ok ([], r)) (Err (length r, Syntax)) (sym (many_step i r) ∙ f)) [
-            | inr u ↦ no_ok ([], r) (length r, Syntax) u.1
+            | inr u ↦ Ok≢Err ([], r) (length r, Syntax) u.1
             | inl u ↦ elim (refuse_err (full i) r (reading body g r >>= and_more i) (length r, Syntax) u.1) [
               | inl v ↦ no_limit v.0 (ap are_limits (sym v.1) ∙ limits i) (length r, Syntax) (length r, v.0) v.2 refl refl
               | inr v ↦ elim (bind_err (reading body g r) (and_more i) (length r, Syntax) v.1) [
                 | inl y ↦ no_fault_at g ok r u.0 y
                 | inr a ↦ elim (bind_err (many (suc i) a.0.1) (λ more. Ok (a.0.0 ∷ more.0, more.1)) (length r, Syntax) a.2) [
-                  | inr y ↦ no_ok _ (length r, Syntax) y.2
+                  | inr y ↦ Ok≢Err _ (length r, Syntax) y.2
                   | inl y ↦
                       let less = (run_shrinks (nonterminal_at body) (nonterminal_shrinks body) g r a.0 a.1).1 never in
                       let m = many_faults (suc (length a.0.1)) (suc i) a.0.1 (length r, Syntax) (omega arith) y in
@@ -215,13 +216,13 @@ module _ {N : Type 0} {Tree : N → Type 0} (body : (n : N) → Production N Tre
       many_goes_on (suc j) i w r x lt le e none f =
           elim (chosen (starts (first g) w) (refuse (full i) w (reading body g w >>= and_more i)) (Ok ([], w)) (Ok x) (sym (many_step i w) ∙ e)) [
             | inr u ↦
-                let empty : w ≡ [] = ap (λ (z : List A × List Token). z.1) (ok_is ([], w) x u.1) ∙ none in
+                let empty : w ≡ [] = ap (λ (z : List A × List Token). z.1) (same_Ok ([], w) x u.1) ∙ none in
                 from_nothing i r (ap (λ (z : List Token). many i (z ++ r)) (sym empty) ∙ f)
             | inl u ↦
                 let room = refuse_ok (full i) w (reading body g w >>= and_more i) x u.1 in
                 let a = bind_ok (reading body g w) (and_more i) x room.1 in
                 let b = bind_ok (many (suc i) a.0.1) (λ more. Ok (a.0.0 ∷ more.0, more.1)) x a.2 in
-                let empty : b.0.1 ≡ [] = ap (λ (z : List A × List Token). z.1) (ok_is (a.0.0 ∷ b.0.0, b.0.1) x b.2) ∙ none in
+                let empty : b.0.1 ≡ [] = ap (λ (z : List A × List Token). z.1) (same_Ok (a.0.0 ∷ b.0.0, b.0.1) x b.2) ∙ none in
                 let less = (run_shrinks (nonterminal_at body) (nonterminal_shrinks body) g w a.0 a.1).1 never in
                 let comes : starts (first g) (w ++ r) ≡ true = starts_front (first g) w r (some_starts (first g) w u.0) ∙ u.0 in
                 let goes : (reading body g (w ++ r) >>= and_more i) ≡ Err (length r, Syntax) = sym (many_step i (w ++ r) ∙ rw (comes, room.0) refl) ∙ f in
@@ -230,23 +231,23 @@ module _ {N : Type 0} {Tree : N → Type 0} (body : (n : N) → Production N Tre
                 (λ z y. one w r a.0 le a.1 z y)
                 (elim (bind_err (reading body g (w ++ r)) (and_more i) (length r, Syntax) goes) [
                   | inl v ↦ inl v
-                  | inr v ↦ elim (bind_err (many (suc i) v.0.1) (λ more. Ok (v.0.0 ∷ more.0, more.1)) (length r, Syntax) v.2) [ inl y ↦ inr (v.0, v.1, y) | inr y ↦ absurd (no_ok _ (length r, Syntax) y.2) ]
+                  | inr v ↦ elim (bind_err (many (suc i) v.0.1) (λ more. Ok (v.0.0 ∷ more.0, more.1)) (length r, Syntax) v.2) [ inl y ↦ inr (v.0, v.1, y) | inr y ↦ absurd (Ok≢Err _ (length r, Syntax) y.2) ]
                 ])
           ]
 
   module _ (k : ℕ) (names : (n : N) (w r : List Token) (x : Tree n × List Token) → length w < k → nonterminal_at body n w ≡ Ok x → x.1 ≡ [] → nonterminal_at body n (w ++ r) ≡ Err (length r, Syntax) → ⊥) where
     run_goes_on : {A : Type 0} (g : Production N Tree A) → is_fine c g ≡ true → LimitsOnly g → GoesOn k (reading body g)
-    run_goes_on (one_of q) ok l w r x le e none f = no_ok (x.0, x.1 ++ r) (length r, Syntax) (sym (token_front q w r x e) ∙ f)
+    run_goes_on (one_of q) ok l w r x le e none f = Ok≢Err (x.0, x.1 ++ r) (length r, Syntax) (sym (token_front q w r x e) ∙ f)
     run_goes_on (checked q good d) ok l w r x le e none f =
         let a = bind_ok (token_at q w) (check good d w) x e in
         elim (bind_err (token_at q (w ++ r)) (check good d (w ++ r)) (length r, Syntax) f) [
-          | inl u ↦ no_ok (a.0.0, a.0.1 ++ r) (length r, Syntax) (sym (token_front q w r a.0 a.1) ∙ u)
+          | inl u ↦ Ok≢Err (a.0.0, a.0.1 ++ r) (length r, Syntax) (sym (token_front q w r a.0 a.1) ∙ u)
           | inr b ↦ no_limit d l (length r, Syntax) (length (w ++ r), d) (check_err good d (w ++ r) b.0 (length r, Syntax) b.2).1 refl refl
         ]
     run_goes_on (map h g) ok l w r x le e none f =
         let a = bind_ok (reading body g w) (λ a. Ok (h a.0, a.1)) x e in
-        let empty : a.0.1 ≡ [] = ap (λ (z : _ × List Token). z.1) (ok_is (h a.0.0, a.0.1) x a.2) ∙ none in
-        elim (bind_err (reading body g (w ++ r)) (λ a. Ok (h a.0, a.1)) (length r, Syntax) f) [ inl u ↦ run_goes_on g ok l w r a.0 le a.1 empty u | inr u ↦ no_ok _ (length r, Syntax) u.2 ]
+        let empty : a.0.1 ≡ [] = ap (λ (z : _ × List Token). z.1) (same_Ok (h a.0.0, a.0.1) x a.2) ∙ none in
+        elim (bind_err (reading body g (w ++ r)) (λ a. Ok (h a.0, a.1)) (length r, Syntax) f) [ inl u ↦ run_goes_on g ok l w r a.0 le a.1 empty u | inr u ↦ Ok≢Err _ (length r, Syntax) u.2 ]
     run_goes_on (limited d b g) ok l w r x le e none f =
         let a = (judge_ok (d.at w) b w (reading body g w) x e).0 in
         elim (judge_err (d.at (w ++ r)) b (w ++ r) (reading body g (w ++ r)) (length r, Syntax) f) [
@@ -260,14 +261,14 @@ module _ {N : Type 0} {Tree : N → Type 0} (body : (n : N) → Production N Tre
         let R : A1 × List Token → Read (A1 × B1) = λ a. reading body h a.1 >>= λ b. Ok ((a.0, b.0), b.1) in
         let a = bind_ok (reading body g w) R x e in
         let b = bind_ok (reading body h a.0.1) (λ b. Ok ((a.0.0, b.0), b.1)) x a.2 in
-        let empty : b.0.1 ≡ [] = ap (λ (z : (A1 × B1) × List Token). z.1) (ok_is ((a.0.0, b.0.0), b.0.1) x b.2) ∙ none in
+        let empty : b.0.1 ≡ [] = ap (λ (z : (A1 × B1) × List Token). z.1) (same_Ok ((a.0.0, b.0.0), b.0.1) x b.2) ∙ none in
         let small = (run_shrinks (nonterminal_at body) (nonterminal_shrinks body) g w a.0 a.1).0 in
         then_goes_on (Derives (Derived body) g) (reading body g) (sound body c fine g f1.0) (reading body h) (form_faults h f2.0) w r a.0 a.1
         (λ y. run_goes_on h f2.0 l.1 a.0.1 r b.0 (omega (arith, small, le)) b.1 empty y)
         (λ z y. run_goes_on g f1.0 l.0 w r a.0 le a.1 z y)
         (elim (bind_err (reading body g (w ++ r)) R (length r, Syntax) f) [
           | inl u ↦ inl u
-          | inr u ↦ elim (bind_err (reading body h u.0.1) (λ b. Ok ((u.0.0, b.0), b.1)) (length r, Syntax) u.2) [ inl v ↦ inr (u.0, u.1, v) | inr v ↦ absurd (no_ok _ (length r, Syntax) v.2) ]
+          | inr u ↦ elim (bind_err (reading body h u.0.1) (λ b. Ok ((u.0.0, b.0), b.1)) (length r, Syntax) u.2) [ inl v ↦ inr (u.0, u.1, v) | inr v ↦ absurd (Ok≢Err _ (length r, Syntax) v.2) ]
         ])
     run_goes_on (alt g h) ok l w r x le e none f =
         let f1 = and_parts (is_fine c g) _ ok in
@@ -293,16 +294,16 @@ module _ {N : Type 0} {Tree : N → Type 0} (body : (n : N) → Production N Tre
     run_goes_on (opt g) ok l w r x le e none f =
         let f1 = and_parts (is_fine c g) _ ok in
         elim (chosen (starts (first g) (w ++ r)) (reading body g (w ++ r) >>= λ a. Ok (Some a.0, a.1)) (Ok (None, w ++ r)) (Err (length r, Syntax)) f) [
-          | inr v ↦ no_ok (None, w ++ r) (length r, Syntax) v.1
+          | inr v ↦ Ok≢Err (None, w ++ r) (length r, Syntax) v.1
           | inl v ↦ elim (bind_err (reading body g (w ++ r)) (λ a. Ok (Some a.0, a.1)) (length r, Syntax) v.1) [
-            | inr y ↦ no_ok _ (length r, Syntax) y.2
+            | inr y ↦ Ok≢Err _ (length r, Syntax) y.2
             | inl y ↦ elim (chosen (starts (first g) w) (reading body g w >>= λ a. Ok (Some a.0, a.1)) (Ok (None, w)) (Ok x) e) [
               | inl u ↦
                   let a = bind_ok (reading body g w) (λ a. Ok (Some a.0, a.1)) x u.1 in
-                  let empty : a.0.1 ≡ [] = ap (λ (z : _ × List Token). z.1) (ok_is (Some a.0.0, a.0.1) x a.2) ∙ none in
+                  let empty : a.0.1 ≡ [] = ap (λ (z : _ × List Token). z.1) (same_Ok (Some a.0.0, a.0.1) x a.2) ∙ none in
                   run_goes_on g f1.0 l w r a.0 le a.1 empty y
               | inr u ↦
-                  let empty : w ≡ [] = ap (λ (z : _ × List Token). z.1) (ok_is (None, w) x u.1) ∙ none in
+                  let empty : w ≡ [] = ap (λ (z : _ × List Token). z.1) (same_Ok (None, w) x u.1) ∙ none in
                   no_fault_at g f1.0 r (ap (λ (z : List Token). starts (first g) (z ++ r)) (sym empty) ∙ v.0) (ap (λ (z : List Token). reading body g (z ++ r)) (sym empty) ∙ y)
             ]
           ]
@@ -314,11 +315,11 @@ module _ {N : Type 0} {Tree : N → Type 0} (body : (n : N) → Production N Tre
     run_goes_on (after_token q n) ok l w r x le e none f =
         let a = bind_ok (token_at q w) (λ t. nonterminal_at body n t.1 >>= λ b. Ok ((t.0, b.0), b.1)) x e in
         let b = bind_ok (nonterminal_at body n a.0.1) (λ b. Ok ((a.0.0, b.0), b.1)) x a.2 in
-        let empty : b.0.1 ≡ [] = ap (λ (z : _ × List Token). z.1) (ok_is ((a.0.0, b.0.0), b.0.1) x b.2) ∙ none in
+        let empty : b.0.1 ≡ [] = ap (λ (z : _ × List Token). z.1) (same_Ok ((a.0.0, b.0.0), b.0.1) x b.2) ∙ none in
         let small = ap (λ (l : List Token). length l) (token_ok q w a.0 a.1).0 in
         let R : Tree n × List Token → Read (Token × Tree n) = λ b. Ok ((a.0.0, b.0), b.1) in
         let goes : (nonterminal_at body n (a.0.1 ++ r) >>= R) ≡ Err (length r, Syntax) = sym (rw (token_front q w r a.0 a.1) refl) ∙ f in
-        elim (bind_err (nonterminal_at body n (a.0.1 ++ r)) R (length r, Syntax) goes) [ inl u ↦ names n a.0.1 r b.0 (omega (arith, small, le)) b.1 empty u | inr u ↦ no_ok _ (length r, Syntax) u.2 ]
+        elim (bind_err (nonterminal_at body n (a.0.1 ++ r)) R (length r, Syntax) goes) [ inl u ↦ names n a.0.1 r b.0 (omega (arith, small, le)) b.1 empty u | inr u ↦ Ok≢Err _ (length r, Syntax) u.2 ]
 
   name_goes_on : (k : ℕ) (n : N) (w r : List Token) (x : Tree n × List Token) → length w < k → nonterminal_at body n w ≡ Ok x → x.1 ≡ [] → nonterminal_at body n (w ++ r) ≡ Err (length r, Syntax) → ⊥
   name_goes_on zero n w r x lt e none f = omega (arith, lt)

@@ -8,8 +8,9 @@ use Rattle.grammar_core.specs.Terminals.{Terminal}
 use Rattle.grammar_core.specs.Terminals.{terminal_of}
 use Rattle.grammar_core.specs.Production.{Production, one_of, checked, seq, map, alt, opt, star, pick, after_token, limited}
 use Rattle.grammar_core.specs.Reading.{◌>>=◌, Read, FaultFromEnd, refuse, check, judge, may_be_empty, first, starts, picks, token_at, many_at, run, nonterminal_within, nonterminal_at}
-use Rattle.grammar_core.proofs.ReadCases.{bind_ok, ok_is, token_ok, refuse_ok, check_ok, judge_ok}
+use Rattle.grammar_core.proofs.ReadCases.{bind_ok, token_ok, refuse_ok, check_ok, judge_ok}
 use Rattle.list_lemmas.proofs.Truth.{chosen}
+use Rattle.list_lemmas.proofs.Options.{same_Ok}
 
 -- reading leaves no more tokens than there were
 abbrev pub Shrinks : {A : Type 0} → (List Token → Read A) → Type 0
@@ -17,18 +18,18 @@ Shrinks {A} p = (s : List Token) (x : A × List Token) → p s ≡ Ok x → leng
 
 pub many_shrinks : {A : Type 0} (full : ℕ → Option Code) (q : Terminal → Bool) (p : List Token → Read A) → Shrinks p → (n i : ℕ) → Shrinks (many_at full q p i n)
 unfolding many_at
-many_shrinks full q p h zero i s x e = let same = ok_is ([], s) x e in rw (← same) (omega arith)
+many_shrinks full q p h zero i s x e = let same = same_Ok ([], s) x e in rw (← same) (omega arith)
 many_shrinks full q p h (suc n) i s x e =
     elim (chosen (starts q s) (refuse (full i) s (p s >>= λ a. many_at full q p (suc i) n a.1 >>= λ more. Ok (a.0 ∷ more.0, more.1))) (Ok ([], s)) (Ok x) e) [
       | inl t ↦
           let go = refuse_ok (full i) s (p s >>= λ a. many_at full q p (suc i) n a.1 >>= λ more. Ok (a.0 ∷ more.0, more.1)) x t.1 in
           let a = bind_ok (p s) (λ a. many_at full q p (suc i) n a.1 >>= λ more. Ok (a.0 ∷ more.0, more.1)) x go.1 in
           let b = bind_ok (many_at full q p (suc i) n a.0.1) (λ more. Ok (a.0.0 ∷ more.0, more.1)) x a.2 in
-          let same = ok_is (a.0.0 ∷ b.0.0, b.0.1) x b.2 in
+          let same = same_Ok (a.0.0 ∷ b.0.0, b.0.1) x b.2 in
           let one = h s a.0 a.1 in
           let two = many_shrinks full q p h n (suc i) a.0.1 b.0 b.1 in
           rw (← same) (omega (arith, one, two))
-      | inr f ↦ let same = ok_is ([], s) x f.1 in rw (← same) (omega arith)
+      | inr f ↦ let same = same_Ok ([], s) x f.1 in rw (← same) (omega arith)
     ]
 
 abbrev pub Shorter : Bool → List Token → List Token → Type 0
@@ -46,13 +47,13 @@ run_shrinks p h (checked q good c) s x e =
 run_shrinks p h (seq g k) s x e =
     let a = bind_ok (run p g s) (λ a. run p k a.1 >>= λ b. Ok ((a.0, b.0), b.1)) x e in
     let b = bind_ok (run p k a.0.1) (λ b. Ok ((a.0.0, b.0), b.1)) x a.2 in
-    let same = ok_is ((a.0.0, b.0.0), b.0.1) x b.2 in
+    let same = same_Ok ((a.0.0, b.0.0), b.0.1) x b.2 in
     let one = run_shrinks p h g s a.0 a.1 in
     let two = run_shrinks p h k a.0.1 b.0 b.1 in
     rw (← same) (omega (arith, one.0, two.0), λ f. elim (and_cases (may_be_empty g) (may_be_empty k) f) [ inl u ↦ omega (arith, one.1 u, two.0) | inr u ↦ omega (arith, one.0, two.1 u) ])
 run_shrinks p h (map f g) s x e =
     let a = bind_ok (run p g s) (λ a. Ok (f a.0, a.1)) x e in
-    let same = ok_is (f a.0.0, a.0.1) x a.2 in
+    let same = same_Ok (f a.0.0, a.0.1) x a.2 in
     rw (← same) (run_shrinks p h g s a.0 a.1)
 run_shrinks p h (alt g k) s x e =
     elim (chosen (starts (first g) s) (run p g s) (run p k s) (Ok x) e) [
@@ -68,9 +69,9 @@ run_shrinks p h (opt g) s x e =
     elim (chosen (starts (first g) s) (run p g s >>= λ a. Ok (Some a.0, a.1)) (Ok (None, s)) (Ok x) e) [
       | inl t ↦
           let a = bind_ok (run p g s) (λ a. Ok (Some a.0, a.1)) x t.1 in
-          let same = ok_is (Some a.0.0, a.0.1) x a.2 in
+          let same = same_Ok (Some a.0.0, a.0.1) x a.2 in
           rw (← same) ((run_shrinks p h g s a.0 a.1).0, λ f. absurd cc)
-      | inr t ↦ let same = ok_is (None, s) x t.1 in rw (← same) (omega arith, λ f. absurd cc)
+      | inr t ↦ let same = same_Ok (None, s) x t.1 in rw (← same) (omega arith, λ f. absurd cc)
     ]
 run_shrinks p h (limited l c g) s x e = run_shrinks p h g s x (judge_ok (l.at s) c s (run p g s) x e).0
 run_shrinks p h (star full g) s x e = (many_shrinks full (first g) (run p g) (λ s' x' e'. (run_shrinks p h g s' x' e').0) (length s) 0 s x e, λ f. absurd cc)
@@ -78,7 +79,7 @@ run_shrinks p h (after_token q n) s x e =
     let a = bind_ok (token_at q s) (λ t. p n t.1 >>= λ b. Ok ((t.0, b.0), b.1)) x e in
     let t = token_ok q s a.0 a.1 in
     let b = bind_ok (p n a.0.1) (λ b. Ok ((a.0.0, b.0), b.1)) x a.2 in
-    let same = ok_is ((a.0.0, b.0.0), b.0.1) x b.2 in
+    let same = same_Ok ((a.0.0, b.0.0), b.0.1) x b.2 in
     let one = h n a.0.1 b.0 b.1 in
     let len = ap (λ (l : List Token). length l) t.0 in
     rw (← same) (omega (arith, one, len), λ _. omega (arith, one, len))

@@ -15,7 +15,6 @@ pub mod SoundLimits
 pub mod SoundProductions
 pub mod Windows
 pub mod Whole
-pub mod Exact
 pub mod Refusals
 pub mod Loops
 pub mod Ends

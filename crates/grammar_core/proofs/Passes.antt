@@ -10,11 +10,12 @@ use Rattle.grammar_core.specs.Terminals.{terminal_of, terminal_count, some_is, a
 use Rattle.grammar_core.specs.Production.{Production, one_of, checked, seq, map, alt, opt, star, pick, after_token, limited}
 use Rattle.grammar_core.specs.Reading.{◌>>=◌, Read, FaultFromEnd, refuse, check, may_be_empty, first, starts, picks, token_at, many_at, run}
 use Rattle.grammar_core.specs.Predictive.{Claims, continuing, is_fine, is_none, is_limit, are_limits, is_safe}
-use Rattle.grammar_core.proofs.ReadCases.{bind_ok, bind_err, ok_is, no_ok, token_ok, token_err, refuse_ok, refuse_err, check_err, judge_ok, judge_err}
+use Rattle.grammar_core.proofs.ReadCases.{bind_ok, bind_err, token_ok, token_err, refuse_ok, refuse_err, check_err, judge_ok, judge_err}
 use Rattle.grammar_core.proofs.Sets.{starts_disjoint}
 use Rattle.grammar_core.proofs.Begins.{stop_left, stop_right, and_if_stop, and_if_cases, start_cases}
 use Rattle.grammar_core.proofs.Fuel.{Shrinks, many_shrinks, run_shrinks, many_is}
 use Rattle.list_lemmas.proofs.Truth.{chosen}
+use Rattle.list_lemmas.proofs.Options.{same_Ok, Ok≢Err}
 
 -- a fault is not before the tokens that are read
 abbrev pub FaultsWithin : {A : Type 0} → (List Token → Read A) → Type 0
@@ -25,7 +26,7 @@ first_is e = ap (λ (x : FaultFromEnd). x.0) e
 
 many_faults : {A : Type 0} (full : ℕ → Option Code) (f : Terminal → Bool) (p : List Token → Read A) → Shrinks p → FaultsWithin p → (k i : ℕ) → FaultsWithin (many_at full f p i k)
 unfolding many_at
-many_faults full f p h l zero i s n e = absurd (no_ok ([], s) n e)
+many_faults full f p h l zero i s n e = absurd (Ok≢Err ([], s) n e)
 many_faults full f p h l (suc k) i s n e =
     elim (chosen (starts f s) (refuse (full i) s (p s >>= λ a. many_at full f p (suc i) k a.1 >>= λ more. Ok (a.0 ∷ more.0, more.1))) (Ok ([], s)) (Err n) e) [
       | inl u ↦ elim (refuse_err (full i) s (p s >>= λ a. many_at full f p (suc i) k a.1 >>= λ more. Ok (a.0 ∷ more.0, more.1)) n u.1) [
@@ -34,11 +35,11 @@ many_faults full f p h l (suc k) i s n e =
           | inl v ↦ l s n v
           | inr a ↦ elim (bind_err (many_at full f p (suc i) k a.0.1) (λ more. Ok (a.0.0 ∷ more.0, more.1)) n a.2) [
             | inl v ↦ let one = many_faults full f p h l k (suc i) a.0.1 n v in let two = h s a.0 a.1 in omega (arith, one, two)
-            | inr v ↦ absurd (no_ok _ n v.2)
+            | inr v ↦ absurd (Ok≢Err _ n v.2)
           ]
         ]
       ]
-      | inr u ↦ absurd (no_ok _ n u.1)
+      | inr u ↦ absurd (Ok≢Err _ n u.1)
     ]
 
 pub run_faults : {N : Type 0} {Tree : N → Type 0} (p : (n : N) → List Token → Read (Tree n)) → ((n : N) → Shrinks (p n)) → ((n : N) → FaultsWithin (p n)) → {A : Type 0} (g : Production N Tree A) → FaultsWithin (run p g)
@@ -59,16 +60,16 @@ run_faults p h l (seq g k) s n e =
       | inl u ↦ run_faults p h l g s n u
       | inr a ↦ elim (bind_err (run p k a.0.1) (λ b. Ok ((a.0.0, b.0), b.1)) n a.2) [
         | inl u ↦ let one = run_faults p h l k a.0.1 n u in let two = (run_shrinks p h g s a.0 a.1).0 in omega (arith, one, two)
-        | inr u ↦ absurd (no_ok _ n u.2)
+        | inr u ↦ absurd (Ok≢Err _ n u.2)
       ]
     ]
-run_faults p h l (map f g) s n e = elim (bind_err (run p g s) (λ a. Ok (f a.0, a.1)) n e) [ inl u ↦ run_faults p h l g s n u | inr u ↦ absurd (no_ok _ n u.2) ]
+run_faults p h l (map f g) s n e = elim (bind_err (run p g s) (λ a. Ok (f a.0, a.1)) n e) [ inl u ↦ run_faults p h l g s n u | inr u ↦ absurd (Ok≢Err _ n u.2) ]
 run_faults p h l (alt g k) s n e = elim (chosen (starts (first g) s) (run p g s) (run p k s) (Err n) e) [ inl u ↦ run_faults p h l g s n u.1 | inr u ↦ run_faults p h l k s n u.1 ]
 run_faults p h l (pick q g k) s n e = elim (chosen (picks (first g) (first k) q s) (run p g s) (run p k s) (Err n) e) [ inl u ↦ run_faults p h l g s n u.1 | inr u ↦ run_faults p h l k s n u.1 ]
 run_faults p h l (opt g) s n e =
     elim (chosen (starts (first g) s) (run p g s >>= λ a. Ok (Some a.0, a.1)) (Ok (None, s)) (Err n) e) [
-      | inl u ↦ elim (bind_err (run p g s) (λ a. Ok (Some a.0, a.1)) n u.1) [ inl v ↦ run_faults p h l g s n v | inr v ↦ absurd (no_ok _ n v.2) ]
-      | inr u ↦ absurd (no_ok _ n u.1)
+      | inl u ↦ elim (bind_err (run p g s) (λ a. Ok (Some a.0, a.1)) n u.1) [ inl v ↦ run_faults p h l g s n v | inr v ↦ absurd (Ok≢Err _ n v.2) ]
+      | inr u ↦ absurd (Ok≢Err _ n u.1)
     ]
 run_faults p h l (star full g) s n e = many_faults full (first g) (run p g) (λ s' x e'. (run_shrinks p h g s' x e').0) (run_faults p h l g) (length s) 0 s n e
 run_faults p h l (after_token q m) s n e =
@@ -76,7 +77,7 @@ run_faults p h l (after_token q m) s n e =
       | inl u ↦ let t = first_is (token_err q s n u).0 in omega (arith, t)
       | inr a ↦ elim (bind_err (p m a.0.1) (λ b. Ok ((a.0.0, b.0), b.1)) n a.2) [
         | inl v ↦ let t = ap (λ (y : List Token). length y) (token_ok q s a.0 a.1).0 in let one = l m a.0.1 n v in omega (arith, t, one)
-        | inr v ↦ absurd (no_ok _ n v.2)
+        | inr v ↦ absurd (Ok≢Err _ n v.2)
       ]
     ]
 
@@ -187,13 +188,13 @@ module _ {N : Type 0} {Tree : N → Type 0} (c : Claims N) (p : (n : N) → List
                 | inl u ↦ one.0 n u y
                 | inr a ↦ elim (bind_err (run p k a.0.1) (λ b. Ok ((a.0.0, b.0), b.1)) n a.2) [
                   | inl u ↦ let x = run_faults p h l k a.0.1 n u in let y = one.1 a.0 a.1 in omega (arith, x, y)
-                  | inr u ↦ absurd (no_ok _ n u.2)
+                  | inr u ↦ absurd (Ok≢Err _ n u.2)
                 ]
               ],
               λ x e.
                   let a = bind_ok (run p g s) R x e in
                   let b = bind_ok (run p k a.0.1) (λ b. Ok ((a.0.0, b.0), b.1)) x a.2 in
-                  let same = ok_is ((a.0.0, b.0.0), b.0.1) x b.2 in
+                  let same = same_Ok ((a.0.0, b.0.0), b.0.1) x b.2 in
                   let y = one.1 a.0 a.1 in let z = (run_shrinks p h k a.0.1 b.0 b.1).0 in
                   rw (← same) (omega (arith, y, z)),
             )
@@ -202,19 +203,19 @@ module _ {N : Type 0} {Tree : N → Type 0} (c : Claims N) (p : (n : N) → List
             let a = stays g f.0 s t u.0 in
             let two = passes w b0 k f'.0 sf.1 s at u.1 in
             let goes : run p (seq g k) s ≡ (run p k s >>= λ b. Ok ((a.0, b.0), b.1)) = rw a.1 refl in (
-              λ n e y. elim (bind_err (run p k s) (λ b. Ok ((a.0, b.0), b.1)) n (sym goes ∙ e)) [ inl v ↦ two.0 n v y | inr v ↦ absurd (no_ok _ n v.2) ],
+              λ n e y. elim (bind_err (run p k s) (λ b. Ok ((a.0, b.0), b.1)) n (sym goes ∙ e)) [ inl v ↦ two.0 n v y | inr v ↦ absurd (Ok≢Err _ n v.2) ],
               λ x e.
                   let b = bind_ok (run p k s) (λ b. Ok ((a.0, b.0), b.1)) x (sym goes ∙ e) in
-                  let same = ok_is ((a.0, b.0.0), b.0.1) x b.2 in
+                  let same = same_Ok ((a.0, b.0.0), b.0.1) x b.2 in
                   rw (← same) (two.1 b.0 b.1),
             )
       ]
   passes w b0 (map f g) fine safe s at b =
       let one = passes w b0 g fine safe s at b in (
-        λ n e y. elim (bind_err (run p g s) (λ a. Ok (f a.0, a.1)) n e) [ inl v ↦ one.0 n v y | inr v ↦ absurd (no_ok _ n v.2) ],
+        λ n e y. elim (bind_err (run p g s) (λ a. Ok (f a.0, a.1)) n e) [ inl v ↦ one.0 n v y | inr v ↦ absurd (Ok≢Err _ n v.2) ],
         λ x e.
             let a = bind_ok (run p g s) (λ a. Ok (f a.0, a.1)) x e in
-            let same = ok_is (f a.0.0, a.0.1) x a.2 in
+            let same = same_Ok (f a.0.0, a.0.1) x a.2 in
             rw (← same) (one.1 a.0 a.1),
       )
   passes w b0 (alt g k) fine safe s at b =
@@ -246,10 +247,10 @@ module _ {N : Type 0} {Tree : N → Type 0} (c : Claims N) (p : (n : N) → List
       let f = and_parts (is_fine c g) _ fine in
       let one = passes w b0 g f.0 safe s at b in
       let goes : run p (opt g) s ≡ (run p g s >>= λ a. Ok (Some a.0, a.1)) = rw b refl in (
-        λ n e y. elim (bind_err (run p g s) (λ a. Ok (Some a.0, a.1)) n (sym goes ∙ e)) [ inl v ↦ one.0 n v y | inr v ↦ absurd (no_ok _ n v.2) ],
+        λ n e y. elim (bind_err (run p g s) (λ a. Ok (Some a.0, a.1)) n (sym goes ∙ e)) [ inl v ↦ one.0 n v y | inr v ↦ absurd (Ok≢Err _ n v.2) ],
         λ x e.
             let a = bind_ok (run p g s) (λ a. Ok (Some a.0, a.1)) x (sym goes ∙ e) in
-            let same = ok_is (Some a.0.0, a.0.1) x a.2 in
+            let same = same_Ok (Some a.0.0, a.0.1) x a.2 in
             rw (← same) (one.1 a.0 a.1),
       )
   passes w b0 (star {A = A1} full g) fine safe s at b =
@@ -267,14 +268,14 @@ module _ {N : Type 0} {Tree : N → Type 0} (c : Claims N) (p : (n : N) → List
             | inl v ↦ one.0 n v y
             | inr a ↦ elim (bind_err (many_at full (first g) (run p g) 1 (length a.0.1) a.0.1) (λ more. Ok (a.0.0 ∷ more.0, more.1)) n a.2) [
               | inl v ↦ let x = later a.0.1 n v in let y = one.1 a.0 a.1 in omega (arith, x, y)
-              | inr v ↦ absurd (no_ok _ n v.2)
+              | inr v ↦ absurd (Ok≢Err _ n v.2)
             ]
           ]
         ],
         λ x e.
             let a = bind_ok (run p g s) rest x (refuse_ok (full 0) s (run p g s >>= rest) x (sym goes ∙ e)).1 in
             let d = bind_ok (many_at full (first g) (run p g) 1 (length a.0.1) a.0.1) (λ more. Ok (a.0.0 ∷ more.0, more.1)) x a.2 in
-            let same = ok_is (a.0.0 ∷ d.0.0, d.0.1) x d.2 in
+            let same = same_Ok (a.0.0 ∷ d.0.0, d.0.1) x d.2 in
             let y = one.1 a.0 a.1 in let z = many_shrinks full (first g) (run p g) (λ s' x e'. (run_shrinks p h g s' x e').0) (length a.0.1) 1 a.0.1 d.0 d.1 in
             rw (← same) (omega (arith, y, z)),
       )
@@ -283,7 +284,7 @@ module _ {N : Type 0} {Tree : N → Type 0} (c : Claims N) (p : (n : N) → List
       | inl u ↦ absurd (token_passes q s b n u)
       | inr a ↦ elim (bind_err (p m a.0.1) (λ d. Ok ((a.0.0, d.0), d.1)) n a.2) [
         | inl v ↦ let t = ap (λ (y : List Token). length y) (token_ok q s a.0 a.1).0 in let x = l m a.0.1 n v in omega (arith, t, x)
-        | inr v ↦ absurd (no_ok _ n v.2)
+        | inr v ↦ absurd (Ok≢Err _ n v.2)
       ]
     ],
     λ x e. (run_shrinks p h (after_token q m) s x e).1 refl,

@@ -8,6 +8,7 @@ use Rattle.grammar_core.specs.Terminals.{Terminal}
 use Rattle.grammar_core.specs.Terminals.{terminal_of}
 use Rattle.grammar_core.specs.Reading.{◌>>=◌, Read, FaultFromEnd, starts, token_at, refuse, check, judge}
 use Rattle.list_lemmas.proofs.Truth.{chosen}
+use Rattle.list_lemmas.proofs.Options.{same_Ok, Ok≢Err}
 
 pub bind_ok : {A B : Type 0} (r : Result A FaultFromEnd) (f : A → Result B FaultFromEnd) (y : B) → (r >>= f) ≡ Ok y → (x : A) × (r ≡ Ok x) × (f x ≡ Ok y)
 bind_ok (Ok x) f y e = (x, refl, e)
@@ -17,22 +18,13 @@ pub bind_err : {A B : Type 0} (r : Result A FaultFromEnd) (f : A → Result B Fa
 bind_err (Ok x) f n e = inr (x, refl, e)
 bind_err (Err d) f n e = inl cc
 
-abbrev pub done : {A : Type 0} → A → Result A FaultFromEnd
-done x = Ok x
-
-pub ok_is : {A : Type 0} (x y : A) → done x ≡ done y → x ≡ y
-ok_is x y e = cc
-
-pub no_ok : {A : Type 0} (x : A) (n : FaultFromEnd) → done x ≡ Err n → ⊥
-no_ok x n e = cc
-
 -- the token that was read is the first one, and in the set
 pub token_ok : (q : Terminal → Bool) (s : List Token) (x : Token × List Token) → token_at q s ≡ Ok x → (s ≡ x.0 ∷ x.1) × (q (terminal_of x.0) ≡ true)
 token_ok q [] x e = absurd cc
 token_ok q (y ∷ s) x e = go (q (terminal_of y)) refl e
   where
     go : (b : Bool) → q (terminal_of y) ≡ b → cond {A = Read Token} b (Ok (y, s)) (Err (length (y ∷ s), Syntax)) ≡ Ok x → ((y ∷ s) ≡ x.0 ∷ x.1) × (q (terminal_of x.0) ≡ true)
-    go true is e = let same : (y, s) ≡ x = ok_is (y, s) x e in rw (← same) (refl, is)
+    go true is e = let same : (y, s) ≡ x = same_Ok (y, s) x e in rw (← same) (refl, is)
     go false is e = absurd cc
 
 pub token_err : (q : Terminal → Bool) (s : List Token) (n : FaultFromEnd) → token_at q s ≡ Err n → (n ≡ (length s, Syntax)) × (starts q s ≡ false)
@@ -52,16 +44,16 @@ refuse_err None s r n e = inr (refl, e)
 refuse_err (Some c) s r n e = inl (c, refl, cc)
 
 pub check_ok : (good : Token → Bool) (c : Code) (s : List Token) (x y : Token × List Token) → check good c s x ≡ Ok y → (good x.0 ≡ true) × (x ≡ y)
-check_ok good c s x y e = elim (chosen (good x.0) (Ok x) (Err (length s, c)) (Ok y) e) [ inl u ↦ (u.0, ok_is x y u.1) | inr u ↦ absurd cc ]
+check_ok good c s x y e = elim (chosen (good x.0) (Ok x) (Err (length s, c)) (Ok y) e) [ inl u ↦ (u.0, same_Ok x y u.1) | inr u ↦ absurd cc ]
 
 pub check_err : (good : Token → Bool) (c : Code) (s : List Token) (x : Token × List Token) (n : FaultFromEnd) → check good c s x ≡ Err n → (good x.0 ≡ false) × (n ≡ (length s, c))
-check_err good c s x n e = elim (chosen (good x.0) (Ok x) (Err (length s, c)) (Err n) e) [ inl u ↦ absurd (no_ok x n u.1) | inr u ↦ (u.0, cc) ]
+check_err good c s x n e = elim (chosen (good x.0) (Ok x) (Err (length s, c)) (Err n) e) [ inl u ↦ absurd (Ok≢Err x n u.1) | inr u ↦ (u.0, cc) ]
 
 pub judge_ok : {A : Type 0} (l : ℕ) (c : Code) (s : List Token) (r : Read A) (x : A × List Token) → judge l c s r ≡ Ok x → (r ≡ Ok x) × (nat_lt l (length s - length x.1) ≡ false)
 judge_ok l c s (Ok y) x e =
     elim (chosen (nat_lt l (length s - length y.1)) (Err (length s - l, c)) (Ok y) (Ok x) e) [
       | inl u ↦ absurd cc
-      | inr u ↦ let same = ok_is y x u.1 in (ap done same, ap (λ (z : _ × List Token). nat_lt l (length s - length z.1)) (sym same) ∙ u.0)
+      | inr u ↦ let same = same_Ok y x u.1 in (ap Ok same, ap (λ (z : _ × List Token). nat_lt l (length s - length z.1)) (sym same) ∙ u.0)
     ]
 judge_ok l c s (Err d) x e = elim (chosen (nat_lt l (length s - d.0)) (Err (length s - l, c)) (Err d) (Ok x) e) [ inl u ↦ absurd cc | inr u ↦ absurd cc ]
 
@@ -70,7 +62,7 @@ pub judge_err : {A : Type 0} (l : ℕ) (c : Code) (s : List Token) (r : Read A) 
     → ((x : A × List Token) × (r ≡ Ok x) × (nat_lt l (length s - length x.1) ≡ true) × (n ≡ (length s - l, c)))
     ⊎ (((d : FaultFromEnd) × (r ≡ Err d) × (nat_lt l (length s - d.0) ≡ true) × (n ≡ (length s - l, c))) ⊎ ((r ≡ Err n) × (nat_lt l (length s - n.0) ≡ false)))
 judge_err l c s (Ok y) n e =
-    elim (chosen (nat_lt l (length s - length y.1)) (Err (length s - l, c)) (Ok y) (Err n) e) [ inl u ↦ inl (y, refl, u.0, cc) | inr u ↦ absurd (no_ok y n u.1) ]
+    elim (chosen (nat_lt l (length s - length y.1)) (Err (length s - l, c)) (Ok y) (Err n) e) [ inl u ↦ inl (y, refl, u.0, cc) | inr u ↦ absurd (Ok≢Err y n u.1) ]
 judge_err l c s (Err d) n e =
     elim (chosen (nat_lt l (length s - d.0)) (Err (length s - l, c)) (Err d) (Err n) e) [
       | inl u ↦ inr (inl (d, refl, u.0, cc))

@@ -1,7 +1,7 @@
 -- What the tests over all terminals imply.
 use Rattle.std.proofs.Common.{◌≡◌, ℕ, zero, suc, ◌<◌, Bool, true, false, List, [], ◌∷◌, refl, sym, inl, inr, ap, subst, arith}
 use Rattle.std.specs.Prelude.{◌&&◌, ◌||◌, not}
-use Rattle.std.proofs.lemmas.Bool.{and_parts, or_cases, not-true, both_ways, cases_Bool, cases_lt}
+use Rattle.std.proofs.lemmas.Bool.{and_parts, or_cases, not-true, both_ways, cases_Bool, cases_lt, or_right}
 use Rattle.grammar_core.specs.declared.token.Token.{Token}
 use Rattle.grammar_core.specs.Terminals.{Terminal, terminal_count, terminal_of, all_are, some_is, are_disjoint, is_within}
 use Rattle.grammar_core.specs.Reading.{starts}
@@ -50,13 +50,9 @@ some_below : (p : Terminal → Bool) (n : ℕ) (k : Terminal) → k < n → p k 
 some_below p zero k lt e = absurd (omega arith)
 some_below p (suc n) k lt e =
     elim (cases_lt k n) [
-      | inl less ↦ go (p n) (some_is p n) (some_below p n k less e)
+      | inl less ↦ or_right (p n) (some_is p n) (some_below p n k less e)
       | inr le ↦ let last : k ≡ n = omega arith in ap (λ (x : Bool). x || some_is p n) (subst (λ (x : Terminal). p x ≡ true) last e)
     ]
-  where
-    go : (s t : Bool) → t ≡ true → (s || t) ≡ true
-    go true t e = refl
-    go false t e = e
 
 pub some_from : (p : Terminal → Bool) (x : Token) → p (terminal_of x) ≡ true → some_is p terminal_count ≡ true
 some_from p x e = some_below p terminal_count (terminal_of x) (terminal_below x) e

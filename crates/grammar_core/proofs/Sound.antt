@@ -2,6 +2,7 @@
 -- depends on more than the next token.
 use Rattle.std.proofs.Common.{◌≡◌, ◌≢◌, ℕ, ◌+◌, ◌≤◌, Bool, List, [], ◌∷◌, ◌++◌, length, Ok, Err, refl, ap, ◌∙◌, length-append, arith}
 use Rattle.std.specs.Prelude.{Some, None}
+use Rattle.std.proofs.lemmas.Option.{same_Some, none-some}
 use Rattle.grammar_core.specs.Terminals.{Terminal}
 use Rattle.grammar_core.specs.declared.token.Token.{Token}
 use Rattle.grammar_core.specs.declared.code.Code.{Code}
@@ -81,26 +82,14 @@ from_zero None = tt
 from_zero (Some f) = omega arith
 
 pub late_then : (c : Code) (w n : ℕ) (x y : Fault) → w ≤ n → Late c w x → Late c w (then_fault x n y)
-late_then c w n None None le l = record { from = tt; exact = λ h. absurd (no_fault (l.exact h)) }
-  where
-    no_fault : {f : ℕ × Code} → None ≡ Some f → ⊥
-    no_fault e = absurd cc
-late_then c w n None (Some f) le l = record { from = omega (arith, le); exact = λ h. absurd (no_fault (l.exact h)) }
-  where
-    no_fault : {f : ℕ × Code} → None ≡ Some f → ⊥
-    no_fault e = absurd cc
+late_then c w n None None le l = record { from = tt; exact = λ h. absurd (none-some _ (l.exact h)) }
+late_then c w n None (Some f) le l = record { from = omega (arith, le); exact = λ h. absurd (none-some _ (l.exact h)) }
 late_then c w n (Some f) y le l = l
 
 pub late_after : (c : Code) (w v n : ℕ) (y : Fault) → w ≡ n + v → Late c v y → Late c w (then_fault None n y)
-late_after c w v n None e l = record { from = tt; exact = λ h. absurd (no_fault (l.exact h)) }
-  where
-    no_fault : {f : ℕ × Code} → None ≡ Some f → ⊥
-    no_fault e = absurd cc
+late_after c w v n None e l = record { from = tt; exact = λ h. absurd (none-some _ (l.exact h)) }
 late_after c w v n (Some f) e l =
-    record { from = let k = l.from in omega (arith, k, e); exact = λ h. let same : f ≡ (v, c) = cc_some (l.exact h) in ap (λ (g : ℕ × Code). Some (n + g.0, g.1)) same ∙ rw e refl }
-  where
-    cc_some : {f g : ℕ × Code} → Some f ≡ Some g → f ≡ g
-    cc_some e = cc
+    record { from = let k = l.from in omega (arith, k, e); exact = λ h. let same : f ≡ (v, c) = same_Some f (v, c) (l.exact h) in ap (λ (g : ℕ × Code). Some (n + g.0, g.1)) same ∙ rw e refl }
 
 pub late_syntax : (c : Code) (w : ℕ) (o : Fault) → c ≡ Syntax → IsFrom w o → Late c w o
 late_syntax c w o e h = record { from = h; exact = λ n. absurd (n e) }

@@ -7,10 +7,11 @@ use Rattle.grammar_core.specs.declared.token.Token.{Token}
 use Rattle.grammar_core.specs.Terminals.{terminal_of}
 use Rattle.grammar_core.specs.Production.{Language, Maybe}
 use Rattle.grammar_core.specs.Reading.{◌>>=◌, Read, FaultFromEnd, starts, picks}
-use Rattle.grammar_core.proofs.ReadCases.{bind_ok, bind_err, ok_is, no_ok}
+use Rattle.grammar_core.proofs.ReadCases.{bind_ok, bind_err}
 use Rattle.grammar_core.proofs.Passes.{Passes}
 use Rattle.grammar_core.proofs.Sound.{Accepted, Faulted, SameHead, Sound, same_head_after, starts_same}
 use Rattle.list_lemmas.proofs.Truth.{chosen}
+use Rattle.list_lemmas.proofs.Options.{same_Ok, Ok≢Err}
 
 -- ---- a choice by the next token
 
@@ -60,7 +61,7 @@ map_sound f G p s g =
     record {
       accepted = λ x e.
           let a = bind_ok (p s) (λ a. Ok (f a.0, a.1)) x e in
-          let same = ok_is (f a.0.0, a.0.1) x a.2 in
+          let same = same_Ok (f a.0.0, a.0.1) x a.2 in
           let t = g.accepted a.0 a.1 in
           subst (λ (y : _ × List Token). Accepted (Mapped f G) (λ l. p l >>= λ a. Ok (f a.0, a.1)) s y) same
           (record { word = t.word; parts = t.parts; derives = λ z. (a.0.0, t.derives z, refl); same = λ r same. rw (t.same r same) refl });
@@ -69,7 +70,7 @@ map_sound f G p s g =
             | inl u ↦
                 let t = g.faulted n u in
                 record { word = t.word; rest = t.rest; parts = t.parts; left = t.left; more = t.more; tree = f t.tree; fault = t.fault; late = t.late; extends = t.extends; derives = λ z. (t.tree, t.derives z, refl); same = λ r same. rw (t.same r same) refl }
-            | inr u ↦ absurd (no_ok _ n u.2)
+            | inr u ↦ absurd (Ok≢Err _ n u.2)
           ];
     }
 
@@ -82,12 +83,12 @@ opt_sound {A} G p f s g =
           elim (chosen (starts f s) (p s >>= λ a. Ok (Some a.0, a.1)) (Ok (None, s)) (Ok x) e) [
             | inl u ↦
                 let a = bind_ok (p s) (λ a. Ok (Some a.0, a.1)) x u.1 in
-                let same = ok_is (Some a.0.0, a.0.1) x a.2 in
+                let same = same_Ok (Some a.0.0, a.0.1) x a.2 in
                 let t = g.accepted a.0 a.1 in
                 subst (λ (y : Option A × List Token). Accepted (Maybe G) (λ l. cond (starts f l) (p l >>= λ a. Ok (Some a.0, a.1)) (Ok (None, l))) s y) same
                 (record { word = t.word; parts = t.parts; derives = t.derives; same = λ r same. rw (starts_along f s t.word a.0.1 r true t.parts same u.0, t.same r same) refl })
             | inr u ↦
-                let same = ok_is (None, s) x u.1 in
+                let same = same_Ok (None, s) x u.1 in
                 subst (λ (y : Option A × List Token). Accepted (Maybe G) (λ l. cond (starts f l) (p l >>= λ a. Ok (Some a.0, a.1)) (Ok (None, l))) s y) same
                 (record { word = []; parts = refl; derives = λ z. (refl, refl); same = λ r same. rw (starts_along f s [] s r false refl same u.0) refl })
           ];
@@ -97,9 +98,9 @@ opt_sound {A} G p f s g =
               | inl v ↦
                   let t = g.faulted n v in
                   record { word = t.word; rest = t.rest; parts = t.parts; left = t.left; more = t.more; tree = Some t.tree; fault = t.fault; late = t.late; extends = t.extends; derives = t.derives; same = λ r same. rw (starts_along f s t.word t.rest r true t.parts same u.0, t.same r same) refl }
-              | inr v ↦ absurd (no_ok _ n v.2)
+              | inr v ↦ absurd (Ok≢Err _ n v.2)
             ]
-            | inr u ↦ absurd (no_ok _ n u.1)
+            | inr u ↦ absurd (Ok≢Err _ n u.1)
           ];
     }
 

@@ -6,8 +6,9 @@ use Rattle.grammar_core.specs.declared.token.Token.{Token}
 use Rattle.grammar_core.specs.declared.code.Code.{Code}
 use Rattle.grammar_core.specs.Production.{Limit, Language, Fault, cut_at, taken, IsFrom}
 use Rattle.grammar_core.specs.Reading.{Read, FaultFromEnd, judge}
-use Rattle.grammar_core.proofs.ReadCases.{ok_is, no_ok, judge_ok, judge_err}
+use Rattle.grammar_core.proofs.ReadCases.{judge_ok, judge_err}
 use Rattle.grammar_core.proofs.Sound.{Accepted, Faulted, Late, SameHead, Sound, first_is, late_here, same_head_after, second_is, taken_is}
+use Rattle.list_lemmas.proofs.Options.{same_Ok, Ok≢Err, same_Err}
 
 abbrev pub failed : {A : Type 0} → FaultFromEnd → Read A
 failed n = Err n
@@ -194,18 +195,15 @@ module _ {A : Type 0} (L : Limit) (c : Code) (G : Language A) (p : List Token �
                   let k : length s - length u.0.1 ≡ length t.word = ap (λ (l : List Token). length l - length u.0.1) t.parts ∙ taken_is t.word u.0.1 in
                   let lt = ltb-true _ _ u.2 in
                   judge_past s n t.word u.0.1 [] u.0.0 (λ z. None) t.parts (omega (arith, k, lt)) u.3 (λ z. tt) t.derives
-                  (λ x e'. let same = ok_is u.0 x (sym u.1 ∙ e') in let f = ap (λ (y : A × List Token). length y.1) same in omega (arith, f))
-                  (λ d e'. absurd (no_ok u.0 d (sym u.1 ∙ e')))
+                  (λ x e'. let same = same_Ok u.0 x (sym u.1 ∙ e') in let f = ap (λ (y : A × List Token). length y.1) same in omega (arith, f))
+                  (λ d e'. absurd (Ok≢Err u.0 d (sym u.1 ∙ e')))
               | inr (inl u) ↦
                   let t = (sound s).faulted u.0 u.1 in
                   let k : length s - u.0.0 ≡ length t.word = ap (λ (l : List Token). length l - u.0.0) t.parts ∙ ap (λ (m : ℕ). length (t.word ++ t.rest) - m) (sym t.left) ∙ taken_is t.word t.rest in
                   let lt = ltb-true _ _ u.2 in
                   judge_past s n t.word t.rest t.more t.tree t.fault t.parts (omega (arith, k, lt)) u.3 (λ z. (t.late z).from) t.derives
-                  (λ x e'. absurd (no_ok x u.0 (sym e' ∙ u.1)))
-                  (λ d e'. let same : u.0 ≡ d = err_is u.0 d (sym u.1 ∙ e') in let f = ap (λ (y : FaultFromEnd). y.0) same in omega (arith, f, t.left))
+                  (λ x e'. absurd (Ok≢Err x u.0 (sym e' ∙ u.1)))
+                  (λ d e'. let same : u.0 ≡ d = same_Err u.0 d (sym u.1 ∙ e') in let f = ap (λ (y : FaultFromEnd). y.0) same in omega (arith, f, t.left))
               | inr (inr u) ↦ judge_inside s n u.0 (ltb-false _ _ u.1)
             ];
       }
-    where
-      err_is : (a b : FaultFromEnd) → failed {A = A} a ≡ Err b → a ≡ b
-      err_is a b e = cc

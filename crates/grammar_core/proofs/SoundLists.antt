@@ -7,12 +7,13 @@ use Rattle.grammar_core.specs.declared.code.Code.{Code}
 use Rattle.grammar_core.specs.declared.code.Code.TheVariants.{Syntax}
 use Rattle.grammar_core.specs.Production.{Language, Fault, then_fault, or_fault, at_start, taken, Many}
 use Rattle.grammar_core.specs.Reading.{◌>>=◌, Read, FaultFromEnd, refuse, starts, many_at}
-use Rattle.grammar_core.proofs.ReadCases.{bind_ok, bind_err, ok_is, no_ok, refuse_ok, refuse_err}
+use Rattle.grammar_core.proofs.ReadCases.{bind_ok, bind_err, refuse_ok, refuse_err}
 use Rattle.grammar_core.proofs.Fuel.{Consumes, many_is}
 use Rattle.grammar_core.proofs.Passes.{Passes}
 use Rattle.grammar_core.proofs.Sound.{Accepted, Faulted, Late, SameHead, Sound, first_is, late_after, late_here, late_then, same_head_after, second_is, starts_same, taken_is}
 use Rattle.grammar_core.proofs.SoundChoices.{starts_along}
 use Rattle.list_lemmas.proofs.Truth.{chosen}
+use Rattle.list_lemmas.proofs.Options.{same_Ok, Ok≢Err}
 
 -- some text that begins with this token
 record Led {A : Type 0} (G : Language A) (x : Token) : Type 0 where
@@ -154,9 +155,9 @@ module _ {A : Type 0} (full : ℕ → Option Code) (G : Language A) (p : List To
                   let ge = refuse_ok (full i) s (p s >>= rest_of i) x u.1 in
                   let a = bind_ok (p s) (rest_of i) x ge.1 in
                   let b = bind_ok (many (suc i) a.0.1) (λ more. Ok (a.0.0 ∷ more.0, more.1)) x a.2 in
-                  let same = ok_is (a.0.0 ∷ b.0.0, b.0.1) x b.2 in
+                  let same = same_Ok (a.0.0 ∷ b.0.0, b.0.1) x b.2 in
                   subst (λ (y : List A × List Token). Accepted (Many full G i) (many i) s y) same (many_accepted i s a.0 b.0 u.0 ge.0 ((sound s).accepted a.0 a.1) ((later a.0.1 (consumes s a.0 a.1)).accepted b.0 b.1))
-              | inr u ↦ subst (λ (y : List A × List Token). Accepted (Many full G i) (many i) s y) (ok_is ([], s) x u.1) (none_accepted i s u.0)
+              | inr u ↦ subst (λ (y : List A × List Token). Accepted (Many full G i) (many i) s y) (same_Ok ([], s) x u.1) (none_accepted i s u.0)
             ];
         faulted = λ n e.
             elim (chosen (starts f s) (refuse (full i) s (p s >>= rest_of i)) (Ok ([], s)) (Err n) (sym (many_is full f p consumes i s) ∙ e)) [
@@ -166,11 +167,11 @@ module _ {A : Type 0} (full : ℕ → Option Code) (G : Language A) (p : List To
                   | inl v ↦ one_faulted i s n u.0 ge.0 ((sound s).faulted n v)
                   | inr a ↦ elim (bind_err (many (suc i) a.0.1) (λ more. Ok (a.0.0 ∷ more.0, more.1)) n a.2) [
                     | inl v ↦ many_faulted i s n a.0 u.0 ge.0 ((sound s).accepted a.0 a.1) ((later a.0.1 (consumes s a.0 a.1)).faulted n v)
-                    | inr v ↦ absurd (no_ok _ n v.2)
+                    | inr v ↦ absurd (Ok≢Err _ n v.2)
                   ]
                 ]
               ]
-              | inr u ↦ absurd (no_ok _ n u.1)
+              | inr u ↦ absurd (Ok≢Err _ n u.1)
             ];
       }
 

@@ -7,9 +7,10 @@ use Rattle.grammar_core.specs.declared.code.Code.{Code}
 use Rattle.grammar_core.specs.Terminals.{terminal_count, some_is}
 use Rattle.grammar_core.specs.Production.{Language, Fault, then_fault, IsOne}
 use Rattle.grammar_core.specs.Reading.{◌>>=◌, Read, token_at}
-use Rattle.grammar_core.proofs.ReadCases.{bind_ok, bind_err, ok_is, no_ok, token_ok, token_err}
+use Rattle.grammar_core.proofs.ReadCases.{bind_ok, bind_err, token_ok, token_err}
 use Rattle.grammar_core.proofs.Sound.{Sound, Text, first_is, from_zero, late_after, late_syntax, second_is, starts_same}
 use Rattle.grammar_core.proofs.SoundTokens.{one_text, token_refuses}
+use Rattle.list_lemmas.proofs.Options.{same_Ok, Ok≢Err}
 
 abbrev pub AfterToken : {A : Type 0} → (Terminal → Bool) → Language A → Language (Token × A)
 AfterToken q G s t o r = (m : List Token) × (y : Fault) × IsOne q s t.0 m × G m t.1 y r × (o ≡ then_fault None 1 y)
@@ -22,7 +23,7 @@ after_token_sound q G p some g text s =
           let t = token_ok q s a.0 a.1 in
           let d = bind_ok (p a.0.1) (λ b. Ok ((a.0.0, b.0), b.1)) x a.2 in
           let b = (g a.0.1).accepted d.0 d.1 in
-          rw (← (ok_is ((a.0.0, d.0.0), d.0.1) x d.2)) (record {
+          rw (← (same_Ok ((a.0.0, d.0.0), d.0.1) x d.2)) (record {
             word = a.0.0 ∷ b.word;
             parts = t.0 ∙ ap (λ (l : List Token). a.0.0 ∷ l) b.parts;
             derives = λ z. (b.word ++ z, None, (refl, t.1), b.derives z, refl);
@@ -64,7 +65,7 @@ after_token_sound q G p some g text s =
                     derives = λ z. (b.word ++ (b.more ++ z), b.fault z, (refl, t.1), b.derives z, refl);
                     same = λ r same. rw (t.1, b.same r same) refl;
                   }
-              | inr v ↦ absurd (no_ok _ n v.2)
+              | inr v ↦ absurd (Ok≢Err _ n v.2)
             ]
           ];
     }

@@ -4,8 +4,9 @@ use Rattle.std.specs.Prelude.{None}
 use Rattle.grammar_core.specs.declared.token.Token.{Token}
 use Rattle.grammar_core.specs.Production.{Language, Fault, then_fault, taken}
 use Rattle.grammar_core.specs.Reading.{◌>>=◌, Read, FaultFromEnd}
-use Rattle.grammar_core.proofs.ReadCases.{bind_ok, bind_err, ok_is, no_ok}
+use Rattle.grammar_core.proofs.ReadCases.{bind_ok, bind_err}
 use Rattle.grammar_core.proofs.Sound.{Accepted, Faulted, SameHead, Sound, Text, extends_more, late_after, late_then, same_head_after, taken_is}
+use Rattle.list_lemmas.proofs.Options.{same_Ok, Ok≢Err}
 
 abbrev pub Both : {A B : Type 0} → Language A → Language B → Language (A × B)
 Both G H s t o r = (m : List Token) × (x y : Fault) × G s t.0 x m × H m t.1 y r × (o ≡ then_fault x (taken s m) y)
@@ -82,14 +83,14 @@ module _ {A B : Type 0} (G : Language A) (H : Language B) (p : List Token → Re
         accepted = λ x e.
             let a = bind_ok (p s) (λ a. q a.1 >>= λ b. Ok ((a.0, b.0), b.1)) x e in
             let b = bind_ok (q a.0.1) (λ b. Ok ((a.0.0, b.0), b.1)) x a.2 in
-            let same = ok_is ((a.0.0, b.0.0), b.0.1) x b.2 in
+            let same = same_Ok ((a.0.0, b.0.0), b.0.1) x b.2 in
             subst (λ (y : (A × B) × List Token). Accepted (Both G H) (both_at p q) s y) same (both_accepted s ((a.0.0, b.0.0), b.0.1) a.0 (g.accepted a.0 a.1) ((h a.0.1).accepted b.0 b.1) refl);
         faulted = λ n e.
             elim (bind_err (p s) (λ a. q a.1 >>= λ b. Ok ((a.0, b.0), b.1)) n e) [
               | inl u ↦ both_faulted_first s n (g.faulted n u) text
               | inr a ↦ elim (bind_err (q a.0.1) (λ b. Ok ((a.0.0, b.0), b.1)) n a.2) [
                 | inl u ↦ both_faulted_second s n a.0 (g.accepted a.0 a.1) ((h a.0.1).faulted n u)
-                | inr b ↦ absurd (no_ok _ n b.2)
+                | inr b ↦ absurd (Ok≢Err _ n b.2)
               ]
             ];
       }

@@ -12,7 +12,7 @@ use Rattle.grammar_core.specs.Reading.{FaultFromEnd, may_be_empty, first, starts
 use Rattle.grammar_core.specs.Predictive.{Claims, continuing, is_limit, are_limits, is_fine, has_plain, are_names}
 pub use Rattle.grammar_core.specs.Predictive.{LimitsOnly}
 use Rattle.grammar_core.proofs.Sets.{starts_into, starts_within}
-use Rattle.grammar_core.proofs.ReadCases.{bind_ok, bind_err, ok_is, no_ok}
+use Rattle.grammar_core.proofs.ReadCases.{bind_ok, bind_err}
 use Rattle.grammar_core.proofs.Begins.{surely_begins}
 use Rattle.grammar_core.proofs.Fuel.{within_shrinks, within_is_stable, nonterminal_is, nonterminal_shrinks, run_shrinks}
 use Rattle.grammar_core.proofs.Passes.{FaultsWithin, run_faults}
@@ -21,6 +21,7 @@ use Rattle.grammar_core.proofs.Sound.{SameHead, Faulted, Sound, Text}
 use Rattle.grammar_core.proofs.SoundLimits.{front}
 use Rattle.grammar_core.proofs.SoundProductions.{plain_text, run_sound}
 use Rattle.list_lemmas.proofs.Truth.{chosen}
+use Rattle.list_lemmas.proofs.Options.{same_Ok, Ok≢Err, same_Err}
 
 -- a list is split in one way into a word and a rest of given length
 same_cut : (w w' r r' : List Token) → w ++ r ≡ w' ++ r' → length r ≡ length r' → (w ≡ w') × (r ≡ r')
@@ -33,12 +34,6 @@ same_cut w w' r r' e l =
 from_zero : (o : Fault) → IsFrom 0 o
 from_zero None = tt
 from_zero (Some f) = omega arith
-
-abbrev failed : {A : Type 0} → FaultFromEnd → Result A FaultFromEnd
-failed n = Err n
-
-stop_is : {B : Type 0} {a b : FaultFromEnd} → failed {A = B} a ≡ failed b → a ≡ b
-stop_is e = cc
 
 -- ---- no first fault of a text is Syntax
 
@@ -212,7 +207,7 @@ module _ {N : Type 0} {Tree : N → Type 0} (body : (n : N) → Production N Tre
           | inl u ↦
               let none : a.0.1 ≡ [] = nil_from_length a.0.1 (eqb-true (length a.0.1) 0 u.0) in
               let k = (sound g ok s).accepted a.0 a.1 in
-              let is : a.0.0 ≡ t = ok_is a.0.0 t u.1 in
+              let is : a.0.0 ≡ t = same_Ok a.0.0 t u.1 in
               let all : s ≡ k.word ++ [] = k.parts ∙ ap (λ (l : List Token). k.word ++ l) none in
               let at : IsText body g s a.0.0 None = subst (λ (l : List Token). IsText body g l a.0.0 None) (sym all) (k.derives []) in
               subst (λ (y : A). IsText body g s y None) is at
@@ -227,8 +222,8 @@ module _ {N : Type 0} {Tree : N → Type 0} (body : (n : N) → Production N Tre
         elim (bind_err (reading body g s) (λ x. cond (length x.1 == 0) (Ok x.0) (Err (length x.1, Syntax))) n e) [
           | inl u ↦ run_faults (nonterminal_at body) (nonterminal_shrinks body) nonterminal_faults g s n u
           | inr a ↦ elim (chosen (length a.0.1 == 0) (Ok a.0.0) (Err (length a.0.1, Syntax)) (Err n) a.2) [
-            | inl v ↦ absurd (no_ok a.0.0 n v.1)
-            | inr v ↦ let left : (length a.0.1, Syntax) ≡ n = stop_is v.1 in let f = ap (λ (y : FaultFromEnd). y.0) left in let k = (run_shrinks (nonterminal_at body) (nonterminal_shrinks body) g s a.0 a.1).0 in omega (arith, f, k)
+            | inl v ↦ absurd (Ok≢Err a.0.0 n v.1)
+            | inr v ↦ let left : (length a.0.1, Syntax) ≡ n = same_Err _ n v.1 in let f = ap (λ (y : FaultFromEnd). y.0) left in let k = (run_shrinks (nonterminal_at body) (nonterminal_shrinks body) g s a.0 a.1).0 in omega (arith, f, k)
           ]
         ]
 
@@ -237,18 +232,15 @@ module _ {N : Type 0} {Tree : N → Type 0} (body : (n : N) → Production N Tre
     meets s t o h n e = go o (text_limits s t o h) (reads g ok s t o [] h refl)
       where
         go : (o : Fault) → NotSyntax o → reading body g s ≡ outcome s t o [] → ⊥
-        go None l r = no_ok (t, []) (n, Syntax) (sym r ∙ e)
-        go (Some f) l r = l (code_is (sym r ∙ e))
-          where
-            code_is : {B : Type 0} {a b : FaultFromEnd} → failed {A = B} a ≡ failed b → a.1 ≡ b.1
-            code_is e = ap (λ (y : FaultFromEnd). y.1) (stop_is e)
+        go None l r = Ok≢Err (t, []) (n, Syntax) (sym r ∙ e)
+        go (Some f) l r = l (ap (λ (y : FaultFromEnd). y.1) (same_Err _ _ (sym r ∙ e)))
 
     ends : (s : List Token) (t : A) (o : Fault) → IsText body g s t o → (x : A × List Token) → reading body g s ≡ Ok x → length x.1 ≡ 0
     ends s t o h x e = go o (reads g ok s t o [] h refl)
       where
         go : (o : Fault) → reading body g s ≡ outcome s t o [] → length x.1 ≡ 0
-        go None r = ap (λ (y : A × List Token). length y.1) (ok_is x (t, []) (sym e ∙ r))
-        go (Some f) r = absurd (no_ok x (length s - f.0, f.1) (sym e ∙ r))
+        go None r = ap (λ (y : A × List Token). length y.1) (same_Ok x (t, []) (sym e ∙ r))
+        go (Some f) r = absurd (Ok≢Err x (length s - f.0, f.1) (sym e ∙ r))
 
     self : (r : List Token) → SameHead r r
     self [] = tt
@@ -297,10 +289,10 @@ module _ {N : Type 0} {Tree : N → Type 0} (body : (n : N) → Production N Tre
         elim (bind_err (reading body g s) (λ x. cond (length x.1 == 0) (Ok x.0) (Err (length x.1, Syntax))) n e) [
           | inl u ↦ by_code n.1 refl u
           | inr a ↦ elim (chosen (length a.0.1 == 0) (Ok a.0.0) (Err (length a.0.1, Syntax)) (Err n) a.2) [
-            | inl v ↦ absurd (no_ok a.0.0 n v.1)
+            | inl v ↦ absurd (Ok≢Err a.0.0 n v.1)
             | inr v ↦
                 let k = (sound g ok s).accepted a.0 a.1 in
-                let is : (length a.0.1, Syntax) ≡ n = stop_is v.1 in
+                let is : (length a.0.1, Syntax) ≡ n = same_Err _ n v.1 in
                 let full : length a.0.1 ≡ 0 → ⊥ = eqb-false (length a.0.1) 0 v.0 in
                 let fault = syntax_fault s k.word a.0.1 [] a.0.0 None k.parts tt (k.derives []) (λ r t o h text. full (empty a.0.1 r h (ends (k.word ++ r) t o text (a.0.0, r) (k.same r h)))) in
                 subst (λ (m : FaultFromEnd). IsFirstFault body g s (length s - m.0) m.1) is fault
@@ -380,11 +372,11 @@ module _ {N : Type 0} {Tree : N → Type 0} (body : (n : N) → Production N Tre
         ]
           where
             later : (o : Fault) (s3 : List Token) (t : A) → IsText body g s3 t o → IsFrom p o → p ≤ length s3 → q < p → whole body g s3 ≡ Err (length s3 - q, d) → ⊥
-            later None s3 t text from le lt r = no_ok t (length s3 - q, d) (sym (text_only s3 t text) ∙ r)
+            later None s3 t text from le lt r = Ok≢Err t (length s3 - q, d) (sym (text_only s3 t text) ∙ r)
             later (Some f) s3 t text from le lt r =
                 let fit = fits (Derived body) (λ n s t o r d. within_fits d.depth n s t o r d.derives) g s3 t (Some f) [] text in
                 let r' : whole body g s3 ≡ Err (length s3 - f.0, f.1) = rw (reads g ok s3 t (Some f) [] text refl) refl in
-                let e = ap (λ (y : FaultFromEnd). y.0) (stop_is (sym r' ∙ r)) in
+                let e = ap (λ (y : FaultFromEnd). y.0) (same_Err _ _ (sym r' ∙ r)) in
                 omega (arith, e, from, lt, fit.1, le)
 
         go : (r : Result A FaultFromEnd) → whole body g s ≡ r → whole body g s ≡ Err (length s - p, Syntax)
@@ -396,13 +388,13 @@ module _ {N : Type 0} {Tree : N → Type 0} (body : (n : N) → Production N Tre
             ]
         go (Err n) e = e ∙ by_code n.1 refl (fault_is s n e)
           where
-            by_code : (d : Code) → n.1 ≡ d → IsFirstFault body g s (length s - n.0) n.1 → failed {A = A} n ≡ Err (length s - p, Syntax)
+            by_code : (d : Code) → n.1 ≡ d → IsFirstFault body g s (length s - n.0) n.1 → ◌≡◌ {A = Result A FaultFromEnd} (Err n) (Err (length s - p, Syntax))
             by_code Syntax is f =
                 let f' : IsSyntaxFault body g s (length s - n.0) = subst (λ (d : Code). IsFirstFault body g s (length s - n.0) d) is f in
                 let same = from_syntax (length s - n.0) f' in
                 let w = fault_within s n e in
                 let n0 : n.0 ≡ length s - p = omega (arith, same, w) in
-                ap (λ (m : FaultFromEnd). failed {A = A} m) (λ i. (n0 i, is i))
+                λ i. Err (n0 i, is i)
             by_code d is f = absurd (from_limit (length s - n.0) d (subst (λ (c : Code). IsFirstFault body g s (length s - n.0) c) is f))
 
     -- The first fault is the one that reading gives.

@@ -41,11 +41,17 @@ module _ (q : Terminal → Bool) where
   keeps_from (x ∷ w) i cap n r r' h = go (q (terminal_of x)) refl n (λ m. keeps_from w (i + 1) cap m r r') h
     where
       go : (b : Bool) → q (terminal_of x) ≡ b → (m : ℕ)
-          → ((l : ℕ) → i + 1 + length w ≤ min cap (get_or (token_indices q (i + 1) (w ++ r)) l cap) → i + 1 + length w ≤ min cap (get_or (token_indices q (i + 1) (w ++ r')) l cap))
-          → i + suc (length w) ≤ min cap (get_or (token_indices q i (x ∷ w ++ r)) m cap) → i + suc (length w) ≤ min cap (get_or (token_indices q i (x ∷ w ++ r')) m cap)
+          → ((l : ℕ) → i + 1 + length w ≤ min cap (get_or (token_indices q (i + 1) (w ++ r)) l cap)
+          → i + 1 + length w ≤ min cap (get_or (token_indices q (i + 1) (w ++ r')) l cap))
+          → i + suc (length w) ≤ min cap (get_or (token_indices q i (x ∷ w ++ r)) m cap)
+          → i + suc (length w) ≤ min cap (get_or (token_indices q i (x ∷ w ++ r')) m cap)
       go true e zero f h = let k = rw (indices_kept i x (w ++ r) e) at h in absurd (omega (arith, k))
-      go true e (suc m) f h = let k = rw (indices_kept i x (w ++ r) e) at h in rw (indices_kept i x (w ++ r') e) (omega (arith, f m (omega (arith, k))))
-      go false e m f h = let k = rw (indices_passed i x (w ++ r) e) at h in rw (indices_passed i x (w ++ r') e) (omega (arith, f m (omega (arith, k))))
+      go true e (suc m) f h =
+          let k = rw (indices_kept i x (w ++ r) e) at h in
+          rw (indices_kept i x (w ++ r') e) (omega (arith, f m (omega (arith, k))))
+      go false e m f h =
+          let k = rw (indices_passed i x (w ++ r) e) at h in
+          rw (indices_passed i x (w ++ r') e) (omega (arith, f m (omega (arith, k))))
 
   stays_from : (w : List Token) (i cap n : ℕ) (x : Token) (r r' : List Token)
       → min cap (get_or (token_indices q i (w ++ x ∷ r)) n cap) ≡ i + length w
@@ -55,16 +61,26 @@ module _ (q : Terminal → Bool) where
       go : (b : Bool) → q (terminal_of x) ≡ b → (m : ℕ) → min cap (get_or (token_indices q i (x ∷ r)) m cap) ≡ i + 0
           → min cap (get_or (token_indices q i (x ∷ r')) m cap) ≡ i + 0
       go true e zero h = let k = rw (indices_kept i x r e) at h in rw (indices_kept i x r' e) k
-      go true e (suc m) h = let k = rw (indices_kept i x r e) at h in rw (indices_kept i x r' e) (omega (arith, k, not_before r (i + 1) m cap, not_before r' (i + 1) m cap))
-      go false e m h = let k = rw (indices_passed i x r e) at h in rw (indices_passed i x r' e) (omega (arith, k, not_before r (i + 1) m cap, not_before r' (i + 1) m cap))
+      go true e (suc m) h =
+          let k = rw (indices_kept i x r e) at h in
+          rw (indices_kept i x r' e) (omega (arith, k, not_before r (i + 1) m cap, not_before r' (i + 1) m cap))
+      go false e m h =
+          let k = rw (indices_passed i x r e) at h in
+          rw (indices_passed i x r' e) (omega (arith, k, not_before r (i + 1) m cap, not_before r' (i + 1) m cap))
   stays_from (y ∷ w) i cap n x r r' h = go (q (terminal_of y)) refl n (λ m. stays_from w (i + 1) cap m x r r') h
     where
       go : (b : Bool) → q (terminal_of y) ≡ b → (m : ℕ)
-          → ((l : ℕ) → min cap (get_or (token_indices q (i + 1) (w ++ x ∷ r)) l cap) ≡ i + 1 + length w → min cap (get_or (token_indices q (i + 1) (w ++ x ∷ r')) l cap) ≡ i + 1 + length w)
-          → min cap (get_or (token_indices q i (y ∷ w ++ x ∷ r)) m cap) ≡ i + suc (length w) → min cap (get_or (token_indices q i (y ∷ w ++ x ∷ r')) m cap) ≡ i + suc (length w)
+          → ((l : ℕ) → min cap (get_or (token_indices q (i + 1) (w ++ x ∷ r)) l cap) ≡ i + 1 + length w
+          → min cap (get_or (token_indices q (i + 1) (w ++ x ∷ r')) l cap) ≡ i + 1 + length w)
+          → min cap (get_or (token_indices q i (y ∷ w ++ x ∷ r)) m cap) ≡ i + suc (length w)
+          → min cap (get_or (token_indices q i (y ∷ w ++ x ∷ r')) m cap) ≡ i + suc (length w)
       go true e zero f h = let k = rw (indices_kept i y (w ++ x ∷ r) e) at h in absurd (omega (arith, k))
-      go true e (suc m) f h = let k = rw (indices_kept i y (w ++ x ∷ r) e) at h in rw (indices_kept i y (w ++ x ∷ r') e) (omega (arith, f m (omega (arith, k))))
-      go false e m f h = let k = rw (indices_passed i y (w ++ x ∷ r) e) at h in rw (indices_passed i y (w ++ x ∷ r') e) (omega (arith, f m (omega (arith, k))))
+      go true e (suc m) f h =
+          let k = rw (indices_kept i y (w ++ x ∷ r) e) at h in
+          rw (indices_kept i y (w ++ x ∷ r') e) (omega (arith, f m (omega (arith, k))))
+      go false e m f h =
+          let k = rw (indices_passed i y (w ++ x ∷ r) e) at h in
+          rw (indices_passed i y (w ++ x ∷ r') e) (omega (arith, f m (omega (arith, k))))
 
   pub limit_keeps : (w : List Token) (cap n : ℕ) (r r' : List Token) → length w ≤ limit_at q cap n (w ++ r)
       → length w ≤ limit_at q cap n (w ++ r')

@@ -122,7 +122,8 @@ DerivedWithin body zero n s t o r = ⊥
 DerivedWithin body (suc k) n s t o r = Derives (DerivedWithin body k) (body n) s t o r
 
 -- what a nonterminal derives
-pub record Derived {N : Type 0} {Tree : N → Type 0} (body : (n : N) → Production N Tree (Tree n)) (n : N) (s : List Token) (t : Tree n) (o : Fault) (r : List Token) : Type 0 where
+pub record Derived {N : Type 0} {Tree : N → Type 0} (body : (n : N) → Production N Tree (Tree n))
+    (n : N) (s : List Token) (t : Tree n) (o : Fault) (r : List Token) : Type 0 where
   pub depth : ℕ
   pub derives : DerivedWithin body depth n s t o r
 
@@ -132,7 +133,8 @@ abbrev pub IsText : {N : Type 0} {Tree : N → Type 0} → ((n : N) → Producti
 IsText body g s t o = Derives (Derived body) g s t o []
 
 -- Some text of the production begins with these tokens, and has this first fault.
-pub record Begins {N : Type 0} {Tree : N → Type 0} (body : (n : N) → Production N Tree (Tree n)) {A : Type 0} (g : Production N Tree A) (s : List Token) (o : Fault) : Type 0 where
+pub record Begins {N : Type 0} {Tree : N → Type 0} (body : (n : N) → Production N Tree (Tree n))
+    {A : Type 0} (g : Production N Tree A) (s : List Token) (o : Fault) : Type 0 where
   pub more : List Token
   pub tree : A
   pub text : IsText body g (s ++ more) tree o
@@ -144,14 +146,16 @@ IsFrom n (Some f) = n ≤ f.0
 
 -- A fault Syntax: the first token with which no text begins any more, or the end of tokens that begin a text and are
 -- none; and there is no other fault before.
-pub record IsSyntaxFault {N : Type 0} {Tree : N → Type 0} (body : (n : N) → Production N Tree (Tree n)) {A : Type 0} (g : Production N Tree A) (s : List Token) (index : ℕ) : Type 0 where
+pub record IsSyntaxFault {N : Type 0} {Tree : N → Type 0} (body : (n : N) → Production N Tree (Tree n))
+    {A : Type 0} (g : Production N Tree A) (s : List Token) (index : ℕ) : Type 0 where
   pub within : index ≤ length s
   pub before : (o : Fault) × Begins body g (take index s) o × IsFrom index o
   pub with_it : index < length s → (o : Fault) → Begins body g (take (index + 1) s) o → ⊥
   pub at_end : index ≡ length s → (t : A) (o : Fault) → IsText body g s t o → ⊥
 
 -- A fault with another code: a text begins with the tokens up to this one, and has its first fault at it.
-pub record IsLimitFault {N : Type 0} {Tree : N → Type 0} (body : (n : N) → Production N Tree (Tree n)) {A : Type 0} (g : Production N Tree A) (s : List Token) (index : ℕ) (c : Code) : Type 0 where
+pub record IsLimitFault {N : Type 0} {Tree : N → Type 0} (body : (n : N) → Production N Tree (Tree n))
+    {A : Type 0} (g : Production N Tree A) (s : List Token) (index : ℕ) (c : Code) : Type 0 where
   pub within : index < length s
   pub there : Begins body g (take (index + 1) s) (Some (index, c))
 

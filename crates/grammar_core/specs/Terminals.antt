@@ -10,9 +10,9 @@ Terminal = ℕ
 abbrev pub terminal_count : ℕ
 terminal_count = 64
 
--- The terminal of a token: its number, reduced to 0 to 63 so that every token has one.
+-- The terminal of a token: its number, reduced to those below `terminal_count`, so that every token has one.
 unfoldable pub terminal_of : Token → Terminal
-terminal_of x = x.terminal % 64
+terminal_of x = x.terminal % terminal_count
 
 -- Are all terminals below n in the set?
 abbrev pub all_are : (Terminal → Bool) → ℕ → Bool

@@ -3,10 +3,8 @@
 
 mod code;
 mod fault;
-mod laws;
 mod token;
 
 pub use code::Code;
 pub use fault::{ReadFault, ReadRefusal, refusal_at};
-pub use laws::{PredictiveGrammar, is_read_exactly};
 pub use token::{Spot, Token};

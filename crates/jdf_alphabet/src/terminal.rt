@@ -113,6 +113,9 @@ pub enum Terminal {
     Not,
 }
 
+// How many terminals a grammar may have. The number of a token counts as its remainder by it.
+const TERMINAL_COUNT: u8 = 64;
+
 // The terminals, each at the index that is its number.
 const TERMINALS: [Terminal; 51] = [
     Terminal::Name,
@@ -272,6 +275,6 @@ impl Terminal {
     pub fn of(token: &Token) -> Terminal
         ensures { result ≡ terminal_of token.now }
     {
-        entry(&TERMINALS, (token.terminal % 64) as usize)
+        entry(&TERMINALS, (token.terminal % TERMINAL_COUNT) as usize)
     }
 }

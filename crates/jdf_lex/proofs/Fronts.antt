@@ -5,6 +5,7 @@ use Rattle.std.specs.Prelude.{codes}
 use Rattle.std.specs.List.{starts_with}
 use Rattle.std.proofs.lemmas.Bool.{cases_Bool, both_ways, false≢true, or_cases, cond-true, cond-false}
 use Rattle.std.proofs.lemmas.List.Sums.{prefix_len-le-length}
+use Rattle.std.proofs.lemmas.Option.{none-some}
 use Rattle.jdf_lex.specs.declared.lexical_unit.LexicalUnit.{LexicalUnit}
 use Rattle.jdf_lex.specs.declared.lexical_unit.LexicalUnit.TheVariants.{Blank, LineComment, BlockComment, TokenOf}
 use Rattle.jdf_alphabet.specs.declared.kind.TokenKind.TheVariants.{Name, Number, Quoted, Raw, OptionLine, Mark, Other}
@@ -197,9 +198,6 @@ unit_is_front (TokenOf OptionLine) b bs n first e = run_at (TokenOf OptionLine) 
 unit_is_front (TokenOf Mark) b bs n first e = at_length (TokenOf Mark) (b ∷ bs) (mark_len (b ∷ bs)) n (mark_is_front (b ∷ bs) (first_mark b bs first)) e
 unit_is_front (TokenOf Other) b bs n first e = run_at (TokenOf Other) (λ b w. refl) b bs n e
 
-some_is_some : (n : ℕ) → ◌≡◌ {A = Option ℕ} (Some n) None → ⊥
-some_is_some n e = cc
-
 -- No word of a unit is empty.
 pub spelling_is_some : (p : LexicalUnit) → is_spelling p [] ≡ true → ⊥
 spelling_is_some Blank e = false≢true e
@@ -214,16 +212,16 @@ spelling_is_some (TokenOf Mark) e = false≢true e
 spelling_is_some (TokenOf Other) e = false≢true e
 
 no_word_after : (p : LexicalUnit) (bs : List ℕ) (d : ℕ) (w after : List ℕ) → (b : ℕ) → unit_len p (b ∷ bs) ≡ None → bs ≡ w ++ after → is_spelling p (d ∷ w) ≡ true → ⊥
-no_word_after Blank bs d w after b e is spelled = some_is_some _ e
-no_word_after LineComment bs d w after b e is spelled = some_is_some _ e
+no_word_after Blank bs d w after b e is spelled = none-some _ (sym e)
+no_word_after LineComment bs d w after b e is spelled = none-some _ (sym e)
 no_word_after BlockComment bs d w after b e is spelled = opened_none BlockComment (λ b w. refl) bs (add_length_none 2 (closed_len BlockComment false (drop 1 bs)) e) d w after is spelled
-no_word_after (TokenOf Name) bs d w after b e is spelled = some_is_some _ e
-no_word_after (TokenOf Number) bs d w after b e is spelled = some_is_some _ e
+no_word_after (TokenOf Name) bs d w after b e is spelled = none-some _ (sym e)
+no_word_after (TokenOf Number) bs d w after b e is spelled = none-some _ (sym e)
 no_word_after (TokenOf Quoted) bs d w after b e is spelled = closed_none (TokenOf Quoted) false bs (add_length_none 1 (closed_len (TokenOf Quoted) false bs) e) w after is spelled
 no_word_after (TokenOf Raw) bs d w after b e is spelled = opened_none (TokenOf Raw) (λ b w. refl) bs (add_length_none 2 (closed_len (TokenOf Raw) false (drop 1 bs)) e) d w after is spelled
-no_word_after (TokenOf OptionLine) bs d w after b e is spelled = some_is_some _ e
-no_word_after (TokenOf Mark) bs d w after b e is spelled = some_is_some _ e
-no_word_after (TokenOf Other) bs d w after b e is spelled = some_is_some _ e
+no_word_after (TokenOf OptionLine) bs d w after b e is spelled = none-some _ (sym e)
+no_word_after (TokenOf Mark) bs d w after b e is spelled = none-some _ (sym e)
+no_word_after (TokenOf Other) bs d w after b e is spelled = none-some _ (sym e)
 
 -- A unit without a length has no word at the front.
 unit_is_none : (p : LexicalUnit) (b : ℕ) (bs : List ℕ) → unit_len p (b ∷ bs) ≡ None → (word after : List ℕ) → b ∷ bs ≡ word ++ after → is_spelling p word ≡ true → ⊥

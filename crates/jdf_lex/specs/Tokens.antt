@@ -52,10 +52,11 @@ is_dropped (TokenOf kind) = false
 pub data IsLexedTo (front left : List ℕ) : List ℕ → List ℕ → List Token → Type 0 where
   nothing_more : IsLexedTo front left front left []
   dropped_then : (before rest : List ℕ) (tokens : List Token) (unit : LexicalUnit) (word later : List ℕ)
-      → IsTrue (is_dropped unit) → rest ≡ word ++ later
-      → IsUnit unit word later → IsLexedTo front left (before ++ word) later tokens → IsLexedTo front left before rest tokens
+      → IsTrue (is_dropped unit) → rest ≡ word ++ later → IsUnit unit word later
+      → IsLexedTo front left (before ++ word) later tokens → IsLexedTo front left before rest tokens
   token_then : (before rest : List ℕ) (tokens : List Token) (token : Token) (word later : List ℕ) → rest ≡ word ++ later
-      → IsToken before word later token → IsLexedTo front left (before ++ word) later tokens → IsLexedTo front left before rest (token ∷ tokens)
+      → IsToken before word later token → IsLexedTo front left (before ++ word) later tokens
+      → IsLexedTo front left before rest (token ∷ tokens)
 
 -- These are the tokens of the text, in order, and `end` is the spot after its last byte.
 abbrev pub IsLexed : List ℕ → List Token → Spot → Type 0
@@ -72,7 +73,8 @@ OneListOfTokens =
 abbrev pub LongestIsTaken : Type 0
 LongestIsTaken =
     (unit other : LexicalUnit) (word left longer after : List ℕ)
-    → IsUnit unit word left → word ++ left ≡ longer ++ after → unit_at longer ≡ Some other → IsTrue (is_spelling other longer)
+    → IsUnit unit word left → word ++ left ≡ longer ++ after
+    → unit_at longer ≡ Some other → IsTrue (is_spelling other longer)
     → (other ≡ TokenOf OptionLine → IsFalse (begins_part after)) → length longer ≤ length word
 
 -- A unit begins here that the text does not end: no front of the rest is spelled as it.

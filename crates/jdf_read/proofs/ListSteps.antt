@@ -1,7 +1,7 @@
 -- Lists of the grammar with a limit and lists of at least one, element by element, as a loop reads them.
 use Rattle.std.proofs.Common.{◌≡◌, ℕ, suc, ◌<◌, Bool, true, false, cond, List, [], ◌∷◌, ◌++◌, length, Ok, Err, refl, sym, ap, ◌∙◌, arith}
 use Rattle.std.specs.Prelude.{Option, Some, None, nat_le}
-use Rattle.std.proofs.lemmas.Bool.Decides.{nat_tests}
+use Rattle.std.proofs.lemmas.Bool.{cond-true, cond-false, lt-leb, le-leb}
 use Rattle.grammar_core.specs.declared.token.Token.{Token}
 use Rattle.grammar_core.specs.Terminals.{Terminal}
 use Rattle.grammar_core.specs.declared.code.Code.{Code}
@@ -54,18 +54,6 @@ some_fail (errors.Fault x) full g h s f = some_is full g h s ∙ rw f refl
 unfoldable pub counted : {A : Type 0} → ℕ → Code → Grammar A → ℕ → List Token → Read (List A)
 counted n c g i s = many_from productions (full_at n c) g i s
 
-few : (n i : ℕ) (c : Code) → i < n → full_at n c i ≡ None
-few n i c h = go (nat_le n i) (grind (arith, nat_tests))
-  where
-    go : (b : Bool) → b ≡ false → cond b (Some c) None ≡ None
-    go b e = rw e refl
-
-many : (n i : ℕ) (c : Code) → i ≡ n → full_at n c i ≡ Some c
-many n i c h = go (nat_le n i) (grind (arith, nat_tests))
-  where
-    go : (b : Bool) → b ≡ true → cond b (Some c) None ≡ Some c
-    go b e = rw e refl
-
 pub counted_begins : {A : Type 0} (n : ℕ) (c : Code) (g : Grammar A) (s : List Token) → so_far [] (counted n c g 0 s) ≡ reading productions (star (full_at n c) g) s
 unfolding counted
 counted_begins n c g s = many_begins productions (full_at n c) g s
@@ -74,15 +62,15 @@ pub counted_goes_on : {A : Type 0} (n : ℕ) (c : Code) {g : Grammar A} {f : Ter
     → so_far old (counted n c g i s) ≡ total → so_far new (counted n c g j next) ≡ total
 unfolding counted
 counted_goes_on {A} n c {g} {f} i j old s x next total new l e room up t r before =
-    ap (λ (k : ℕ). so_far new (many_from productions (full_at n c) g k next)) up ∙ many_goes_on productions (full_at n c) g f l i old s x next total new e (few n i c room) t r before
+    ap (λ (k : ℕ). so_far new (many_from productions (full_at n c) g k next)) up ∙ many_goes_on productions (full_at n c) g f l i old s x next total new e (cond-false (nat_le n i) (Some c) None (lt-leb n i room)) t r before
 
 pub counted_fails : {A : Type 0} (n : ℕ) (c : Code) {g : Grammar A} {f : Terminal → Bool} (e : ReadRefusal) (i : ℕ) (old : List A) (s : List Token) (total : Read (List A)) → IsListed productions g f → i < n → starts f s ≡ true → Fails e (reading productions g s) → so_far old (counted n c g i s) ≡ total → Fails e total
 unfolding counted
-counted_fails {A} n c {g} {f} e i old s total l room t h before = many_fails productions (full_at n c) g f l e i old s total (few n i c room) t h before
+counted_fails {A} n c {g} {f} e i old s total l room t h before = many_fails productions (full_at n c) g f l e i old s total (cond-false (nat_le n i) (Some c) None (lt-leb n i room)) t h before
 
 pub counted_is_full : {A : Type 0} (n : ℕ) (c : Code) {g : Grammar A} {f : Terminal → Bool} (i : ℕ) (old : List A) (s : List Token) (total : Read (List A)) → IsListed productions g f → i ≡ n → starts f s ≡ true → so_far old (counted n c g i s) ≡ total → total ≡ Err (length s, c)
 unfolding counted
-counted_is_full {A} n c {g} {f} i old s total l over t before = many_is_full productions (full_at n c) g f l c i old s total (many n i c over) t before
+counted_is_full {A} n c {g} {f} i old s total l over t before = many_is_full productions (full_at n c) g f l c i old s total (cond-true (nat_le n i) (Some c) None (le-leb n i (omega (arith, over)))) t before
 
 pub counted_ends : {A : Type 0} (n : ℕ) (c : Code) {g : Grammar A} {f : Terminal → Bool} (i : ℕ) (old : List A) (s : List Token) (total : Read (List A)) → IsListed productions g f → starts f s ≡ false → so_far old (counted n c g i s) ≡ total → total ≡ Ok (old, s)
 unfolding counted

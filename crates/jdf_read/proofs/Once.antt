@@ -1,8 +1,9 @@
 -- Each text has a tree or a first fault, one at most of each, and not both.
-use Rattle.std.proofs.Common.{◌≡◌, ℕ, ◌<◌, ◌≤◌, List, length, take, Result, Ok, Err, sym, ap, ◌∙◌, subst, inl, inr, arith}
-use Rattle.std.specs.Prelude.{Option, Some, None, ◌⊎◌, slice_get}
+use Rattle.std.proofs.Common.{◌≡◌, ℕ, ◌<◌, ◌≤◌, List, length, take, Ok, Err, sym, ap, ◌∙◌, subst, inl, inr, arith}
+use Rattle.std.specs.Prelude.{Some, None, ◌⊎◌, slice_get}
 use Rattle.std.proofs.lemmas.List.{take_all}
 use Rattle.std.specs.Str.{IsUtf8}
+use Rattle.std.proofs.lemmas.Option.{same_Some, none-some}
 use Rattle.jdf_lex.specs.declared.fault.JdfCode.TheVariants as jdf
 use Rattle.jdf_lex.specs.declared.fault.JdfFault.{JdfFault}
 use Rattle.grammar_core.specs.declared.token.Spot.{Spot}
@@ -11,7 +12,6 @@ use Rattle.jdf_lex.specs.Tokens.{spot_after}
 use Rattle.jdf_lex.proofs.Uniqueness.{one_list, no_fault}
 use Rattle.jdf_lex.proofs.Uniqueness as lex
 use Rattle.grammar_core.specs.declared.code.Code.{Code}
-use Rattle.grammar_core.specs.declared.code.Code.TheVariants.{Syntax}
 use Rattle.grammar_core.specs.Reading.{FaultFromEnd, whole}
 use Rattle.jdf_tree.specs.declared.tree.Jdf.{Jdf}
 use Rattle.jdf_tree.specs.Grammar.{productions, file}
@@ -19,39 +19,14 @@ use Rattle.jdf_tree.specs.Jdf.{IsJdf}
 use Rattle.jdf_tree.specs.Fault.{StopsBeingUtf8, code_at_token, IsGrammarFault, HasGrammarFault}
 use Rattle.jdf_read.specs.Laws.{OneTree, OneFault, NotBoth}
 use Rattle.jdf_read.proofs.Limits.{only, fault_read, fault_index}
-
-abbrev tree : Jdf → Result Jdf FaultFromEnd
-tree jdf = Ok jdf
-
-abbrev failed : ℕ → Code → Result Jdf FaultFromEnd
-failed n c = Err (n, c)
-
-abbrev left_of : Result Jdf FaultFromEnd → ℕ
-left_of (Ok t) = 0
-left_of (Err n) = n.0
-
-abbrev code_of : Result Jdf FaultFromEnd → Code
-code_of (Ok t) = Syntax
-code_of (Err n) = n.1
-
-same_tree : (a b : Jdf) → tree a ≡ tree b → a ≡ b
-same_tree a b e = cc
-
-not_failed : (a : Jdf) (n : ℕ) (c : Code) → tree a ≡ failed n c → ⊥
-not_failed a n c e = cc
-
-same_left : (n m : ℕ) (c d : Code) → failed n c ≡ failed m d → n ≡ m
-same_left n m c d e = ap left_of e
-
-same_code : (n m : ℕ) (c d : Code) → failed n c ≡ failed m d → c ≡ d
-same_code n m c d e = ap code_of e
+use Rattle.list_lemmas.proofs.Options.{same_Ok, same_Err, Ok≢Err}
 
 pub one_tree : OneTree
 one_tree bytes a b x y =
     let same = (one_list bytes x.tokens y.tokens x.end y.end x.lexed y.lexed).0 in
     let first : whole productions file x.tokens ≡ Ok a = only x.tokens a x.text in
     let second : whole productions file x.tokens ≡ Ok b = ap (whole productions file) same ∙ only y.tokens b y.text in
-    same_tree a b (sym first ∙ second)
+    same_Ok a b (sym first ∙ second)
 
 -- ---- UTF-8
 
@@ -76,7 +51,7 @@ no_grammar_fault : (bytes : List ℕ) (a : Jdf) (f : JdfFault) → IsJdf bytes a
 no_grammar_fault bytes a f x y =
     let same = (one_list bytes x.tokens y.tokens x.end y.end x.lexed y.lexed).0 in
     let read : whole productions file y.tokens ≡ Ok a = ap (whole productions file) (sym same) ∙ only x.tokens a x.text in
-    not_failed a _ _ (sym read ∙ fault_read y.tokens y.fault_is.token_index y.fault_is.code y.fault_is.first)
+    Ok≢Err a _ (sym read ∙ fault_read y.tokens y.fault_is.token_index y.fault_is.code y.fault_is.first)
 
 pub not_both : NotBoth
 not_both bytes a f x (inl y) = let short = x.bytes_at_most in let long = y.long in omega (arith, short, long)
@@ -92,32 +67,23 @@ IsNamed tokens end token_index c f =
     ((token : Token) × (slice_get tokens token_index ≡ Some token) × (f ≡ record { spot = token.spot; code = code_at_token c }))
     ⊎ ((slice_get tokens token_index ≡ None) × (f ≡ record { spot = end; code = jdf.Truncated }))
 
-abbrev some_of : Token → Option Token
-some_of t = Some t
-
-same_token : (a b : Token) → some_of a ≡ some_of b → a ≡ b
-same_token a b e = cc
-
-some_token : (a : Token) → some_of a ≡ None → ⊥
-some_token a e = cc
-
 too_short : (bytes : List ℕ) → 16777216 < length bytes → length bytes ≤ 16777216 → ⊥
 too_short bytes a b = omega (arith, a, b)
 
 -- a token index and a code have one JDF fault
 same_named : (tokens : List Token) (end : Spot) (token_index : ℕ) (c : Code) (f g : JdfFault) → IsNamed tokens end token_index c f → IsNamed tokens end token_index c g → f ≡ g
 same_named tokens end token_index c f g (inl x) (inl y) =
-    let same : x.0 ≡ y.0 = same_token x.0 y.0 (sym x.1 ∙ y.1) in
+    let same : x.0 ≡ y.0 = same_Some x.0 y.0 (sym x.1 ∙ y.1) in
     x.2 ∙ (ap (λ (t : Token). record { spot = t.spot; code = code_at_token c }) same ∙ sym y.2)
-same_named tokens end token_index c f g (inl x) (inr y) = absurd (some_token x.0 (sym x.1 ∙ y.0))
-same_named tokens end token_index c f g (inr x) (inl y) = absurd (some_token y.0 (sym y.1 ∙ x.0))
+same_named tokens end token_index c f g (inl x) (inr y) = absurd (none-some x.0 (sym y.0 ∙ x.1))
+same_named tokens end token_index c f g (inr x) (inl y) = absurd (none-some y.0 (sym x.0 ∙ y.1))
 same_named tokens end token_index c f g (inr x) (inr y) = x.1 ∙ sym y.1
 
 same_wrong : (tokens : List Token) (end : Spot) (f g : JdfFault) → IsGrammarFault tokens end f → IsGrammarFault tokens end g → f ≡ g
 same_wrong tokens end f g x y =
-    let e = sym (fault_read tokens x.token_index x.code x.first) ∙ fault_read tokens y.token_index y.code y.first in
-    let left = same_left _ _ x.code y.code e in
-    let code : x.code ≡ y.code = same_code _ _ x.code y.code e in
+    let same = same_Err _ _ (sym (fault_read tokens x.token_index x.code x.first) ∙ fault_read tokens y.token_index y.code y.first) in
+    let left = ap (λ (n : FaultFromEnd). n.0) same in
+    let code : x.code ≡ y.code = ap (λ (n : FaultFromEnd). n.1) same in
     let a = fault_index tokens x.token_index x.code x.first in
     let b = fault_index tokens y.token_index y.code y.first in
     let token_index : x.token_index ≡ y.token_index = omega (arith, left, a, b) in

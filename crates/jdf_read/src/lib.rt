@@ -12,5 +12,5 @@ mod opening;
 mod target;
 mod text;
 
-pub use laws::{JdfGrammar, one_fault, one_tree};
+pub use laws::{one_fault, one_tree};
 pub use text::read;

@@ -152,7 +152,8 @@ pub some_tokens : 1 ≤ most_parameter_tokens
 some_tokens = omega arith
 
 abbrev pub parameter_limit : Limit
-parameter_limit = record { at = λ s. most_parameter_tokens; one = λ s. some_tokens; keeps = λ w r r' h. h; stays = λ w x r r' h. h }
+parameter_limit =
+    record { at = λ s. most_parameter_tokens; one = λ s. some_tokens; keeps = λ w r r' h. h; stays = λ w x r r' h. h }
 
 -- parameters = name ("," name)*, at most 8
 unfoldable pub parameters : Grammar (List Word)

@@ -1,69 +1,12 @@
 -- An injective code of expressions as trees of numbers, which the model of an expression needs. Its proof stands here
 -- since the model holds it.
-use Rattle.std.specs.Prelude.{◌≡◌, ℕ, List, [], ◌∷◌, refl}
-use Rattle.std.proofs.Common.{ap, sym, ◌∙◌, get_or}
+use Rattle.std.specs.Prelude.{◌≡◌, ℕ, List, refl}
 use Rattle.std.specs.Coded.{Coded, code_by, coded×, coded_list, coded_ℕ, coded_ℤ}
 use base.Stored.{Gv, gnum, gcons}
 use Rattle.grammar_core.specs.declared.token.Spot.{Spot}
 use Rattle.jdf_tree.specs.declared.expression.Word.{Word}
 use Rattle.jdf_tree.specs.Expression.{Expression, Num, Name, Elem, Unary, Binary, Choose}
-use Rattle.term_core.specs.declared.operator.UnOp.{UnOp}
-use Rattle.term_core.specs.declared.operator.UnOp.TheVariants.{Neg, Not}
-use Rattle.term_core.specs.declared.operator.BinOp.{BinOp}
-use Rattle.term_core.specs.declared.operator.BinOp.TheVariants.{Add, Sub, Mul, Div, Rem, Eq, Ne, Lt, Le, Gt, Ge, And, Or}
-
--- a number for each operator
-unaries : List UnOp
-unaries = Neg ∷ Not ∷ []
-
-unary_number : UnOp → ℕ
-unary_number Neg = 0
-unary_number Not = 1
-
-unary_back : (o : UnOp) → get_or unaries (unary_number o) Neg ≡ o
-unfolding unaries unary_number
-unary_back Neg = refl
-unary_back Not = refl
-
-one_unary : (o p : UnOp) → unary_number o ≡ unary_number p → o ≡ p
-one_unary o p e = sym (unary_back o) ∙ ap (λ (n : ℕ). get_or unaries n Neg) e ∙ unary_back p
-
-operators : List BinOp
-operators = Add ∷ Sub ∷ Mul ∷ Div ∷ Rem ∷ Eq ∷ Ne ∷ Lt ∷ Le ∷ Gt ∷ Ge ∷ And ∷ Or ∷ []
-
-number_of : BinOp → ℕ
-number_of Add = 0
-number_of Sub = 1
-number_of Mul = 2
-number_of Div = 3
-number_of Rem = 4
-number_of Eq = 5
-number_of Ne = 6
-number_of Lt = 7
-number_of Le = 8
-number_of Gt = 9
-number_of Ge = 10
-number_of And = 11
-number_of Or = 12
-
-back : (o : BinOp) → get_or operators (number_of o) Add ≡ o
-unfolding operators number_of
-back Add = refl
-back Sub = refl
-back Mul = refl
-back Div = refl
-back Rem = refl
-back Eq = refl
-back Ne = refl
-back Lt = refl
-back Le = refl
-back Gt = refl
-back Ge = refl
-back And = refl
-back Or = refl
-
-one_operator : (o p : BinOp) → number_of o ≡ number_of p → o ≡ p
-one_operator o p e = sym (back o) ∙ ap (λ (n : ℕ). get_or operators n Add) e ∙ back p
+use Rattle.term_core.specs.TermCode.{unary_number, one_unary, binary_number, one_binary}
 
 spot_code : Coded Spot
 spot_code =
@@ -81,12 +24,14 @@ ghost_of (Num z s) = gcons (gnum 0) (gcons (coded_ℤ.code z) (spot_code.code s)
 ghost_of (Name w) = gcons (gnum 1) (word_code.code w)
 ghost_of (Elem w a) = gcons (gnum 2) (gcons (word_code.code w) (ghost_of a))
 ghost_of (Unary o a s) = gcons (gnum 3) (gcons (gnum (unary_number o)) (gcons (ghost_of a) (spot_code.code s)))
-ghost_of (Binary o a b) = gcons (gnum 4) (gcons (gnum (number_of o)) (gcons (ghost_of a) (ghost_of b)))
+ghost_of (Binary o a b) = gcons (gnum 4) (gcons (gnum (binary_number o)) (gcons (ghost_of a) (ghost_of b)))
 ghost_of (Choose a b c) = gcons (gnum 5) (gcons (ghost_of a) (gcons (ghost_of b) (ghost_of c)))
 
 pub one_expression : (x y : Expression) → ghost_of x ≡ ghost_of y → x ≡ y
 unfolding ghost_of
-one_expression (Num x0 x1) (Num y0 y1) e = let h0 : x0 ≡ y0 = coded_ℤ.inj x0 y0 cc in let h1 : x1 ≡ y1 = spot_code.inj x1 y1 cc in cc
+one_expression (Num x0 x1) (Num y0 y1) e =
+    let h0 : x0 ≡ y0 = coded_ℤ.inj x0 y0 cc in
+    let h1 : x1 ≡ y1 = spot_code.inj x1 y1 cc in cc
 one_expression (Num x0 x1) (Name y0) e = absurd cc
 one_expression (Num x0 x1) (Elem y0 y1) e = absurd cc
 one_expression (Num x0 x1) (Unary y0 y1 y2) e = absurd cc
@@ -100,28 +45,39 @@ one_expression (Name x0) (Binary y0 y1 y2) e = absurd cc
 one_expression (Name x0) (Choose y0 y1 y2) e = absurd cc
 one_expression (Elem x0 x1) (Num y0 y1) e = absurd cc
 one_expression (Elem x0 x1) (Name y0) e = absurd cc
-one_expression (Elem x0 x1) (Elem y0 y1) e = let h1 : x1 ≡ y1 = one_expression x1 y1 cc in let h0 : x0 ≡ y0 = word_code.inj x0 y0 cc in cc
+one_expression (Elem x0 x1) (Elem y0 y1) e =
+    let h1 : x1 ≡ y1 = one_expression x1 y1 cc in
+    let h0 : x0 ≡ y0 = word_code.inj x0 y0 cc in cc
 one_expression (Elem x0 x1) (Unary y0 y1 y2) e = absurd cc
 one_expression (Elem x0 x1) (Binary y0 y1 y2) e = absurd cc
 one_expression (Elem x0 x1) (Choose y0 y1 y2) e = absurd cc
 one_expression (Unary x0 x1 x2) (Num y0 y1) e = absurd cc
 one_expression (Unary x0 x1 x2) (Name y0) e = absurd cc
 one_expression (Unary x0 x1 x2) (Elem y0 y1) e = absurd cc
-one_expression (Unary x0 x1 x2) (Unary y0 y1 y2) e = let h1 : x1 ≡ y1 = one_expression x1 y1 cc in let h0 : x0 ≡ y0 = one_unary x0 y0 cc in let h2 : x2 ≡ y2 = spot_code.inj x2 y2 cc in cc
+one_expression (Unary x0 x1 x2) (Unary y0 y1 y2) e =
+    let h1 : x1 ≡ y1 = one_expression x1 y1 cc in
+    let h0 : x0 ≡ y0 = one_unary x0 y0 cc in
+    let h2 : x2 ≡ y2 = spot_code.inj x2 y2 cc in cc
 one_expression (Unary x0 x1 x2) (Binary y0 y1 y2) e = absurd cc
 one_expression (Unary x0 x1 x2) (Choose y0 y1 y2) e = absurd cc
 one_expression (Binary x0 x1 x2) (Num y0 y1) e = absurd cc
 one_expression (Binary x0 x1 x2) (Name y0) e = absurd cc
 one_expression (Binary x0 x1 x2) (Elem y0 y1) e = absurd cc
 one_expression (Binary x0 x1 x2) (Unary y0 y1 y2) e = absurd cc
-one_expression (Binary x0 x1 x2) (Binary y0 y1 y2) e = let h1 : x1 ≡ y1 = one_expression x1 y1 cc in let h2 : x2 ≡ y2 = one_expression x2 y2 cc in let h0 : x0 ≡ y0 = one_operator x0 y0 cc in cc
+one_expression (Binary x0 x1 x2) (Binary y0 y1 y2) e =
+    let h1 : x1 ≡ y1 = one_expression x1 y1 cc in
+    let h2 : x2 ≡ y2 = one_expression x2 y2 cc in
+    let h0 : x0 ≡ y0 = one_binary x0 y0 cc in cc
 one_expression (Binary x0 x1 x2) (Choose y0 y1 y2) e = absurd cc
 one_expression (Choose x0 x1 x2) (Num y0 y1) e = absurd cc
 one_expression (Choose x0 x1 x2) (Name y0) e = absurd cc
 one_expression (Choose x0 x1 x2) (Elem y0 y1) e = absurd cc
 one_expression (Choose x0 x1 x2) (Unary y0 y1 y2) e = absurd cc
 one_expression (Choose x0 x1 x2) (Binary y0 y1 y2) e = absurd cc
-one_expression (Choose x0 x1 x2) (Choose y0 y1 y2) e = let h0 : x0 ≡ y0 = one_expression x0 y0 cc in let h1 : x1 ≡ y1 = one_expression x1 y1 cc in let h2 : x2 ≡ y2 = one_expression x2 y2 cc in cc
+one_expression (Choose x0 x1 x2) (Choose y0 y1 y2) e =
+    let h0 : x0 ≡ y0 = one_expression x0 y0 cc in
+    let h1 : x1 ≡ y1 = one_expression x1 y1 cc in
+    let h2 : x2 ≡ y2 = one_expression x2 y2 cc in cc
 
 abbrev pub expression_code : Coded Expression
 expression_code = record { code = ghost_of; inj = one_expression }

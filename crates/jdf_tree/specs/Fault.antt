@@ -49,7 +49,8 @@ pub record IsGrammarFault (tokens : List Token) (end : Spot) (fault : JdfFault) 
   pub code : Code
   pub first : IsFirstFault productions file tokens token_index code
   pub fault_is :
-      ((token : Token) × (slice_get tokens token_index ≡ Some token) × (fault ≡ record { spot = token.spot; code = code_at_token code }))
+      ((token : Token) × (slice_get tokens token_index ≡ Some token)
+      × (fault ≡ record { spot = token.spot; code = code_at_token code }))
       ⊎ ((slice_get tokens token_index ≡ None) × (fault ≡ record { spot = end; code = jdf.Truncated }))
 
 -- the text has more than 16 MiB

@@ -55,7 +55,8 @@ opening_after_option = map (λ x. x.1) (after_token (is terminal.OptionLine) an_
 unfoldable pub opening_after_properties : Grammar Jdf
 opening_after_properties =
     map (λ x. with_global x.0 x.1.1.1.1)
-    (seq (name Class) (seq (word terminal.LeftBracket) (seq (star any (one_of is_no_right_bracket)) (after_token (is terminal.RightBracket) an_opening))))
+    (seq (name Class) (seq (word terminal.LeftBracket)
+    (seq (star any (one_of is_no_right_bracket)) (after_token (is terminal.RightBracket) an_opening))))
 
 -- name opening
 unfoldable pub opening_after_global : Grammar Jdf

@@ -34,7 +34,10 @@ one_statements Done (IfThen a' b' c' d') same = absurd cc
 one_statements Done (ForThen a' b' c' d' e') same = absurd cc
 one_statements Done (TrapThen a' b') same = absurd cc
 one_statements (DeclareThen a b c) Done same = absurd cc
-one_statements (DeclareThen a b c) (DeclareThen a' b' c') same = let ha : a ≡ a' = word_code.inj a a' cc in let hb : b ≡ b' = one_expression b b' cc in let hc : c ≡ c' = one_statements c c' cc in cc
+one_statements (DeclareThen a b c) (DeclareThen a' b' c') same =
+    let ha : a ≡ a' = word_code.inj a a' cc in
+    let hb : b ≡ b' = one_expression b b' cc in
+    let hc : c ≡ c' = one_statements c c' cc in cc
 one_statements (DeclareThen a b c) (SetThen a' b' c') same = absurd cc
 one_statements (DeclareThen a b c) (PutThen a' b' c' d') same = absurd cc
 one_statements (DeclareThen a b c) (IfThen a' b' c' d') same = absurd cc
@@ -42,7 +45,10 @@ one_statements (DeclareThen a b c) (ForThen a' b' c' d' e') same = absurd cc
 one_statements (DeclareThen a b c) (TrapThen a' b') same = absurd cc
 one_statements (SetThen a b c) Done same = absurd cc
 one_statements (SetThen a b c) (DeclareThen a' b' c') same = absurd cc
-one_statements (SetThen a b c) (SetThen a' b' c') same = let ha : a ≡ a' = word_code.inj a a' cc in let hb : b ≡ b' = one_expression b b' cc in let hc : c ≡ c' = one_statements c c' cc in cc
+one_statements (SetThen a b c) (SetThen a' b' c') same =
+    let ha : a ≡ a' = word_code.inj a a' cc in
+    let hb : b ≡ b' = one_expression b b' cc in
+    let hc : c ≡ c' = one_statements c c' cc in cc
 one_statements (SetThen a b c) (PutThen a' b' c' d') same = absurd cc
 one_statements (SetThen a b c) (IfThen a' b' c' d') same = absurd cc
 one_statements (SetThen a b c) (ForThen a' b' c' d' e') same = absurd cc
@@ -50,7 +56,11 @@ one_statements (SetThen a b c) (TrapThen a' b') same = absurd cc
 one_statements (PutThen a b c d) Done same = absurd cc
 one_statements (PutThen a b c d) (DeclareThen a' b' c') same = absurd cc
 one_statements (PutThen a b c d) (SetThen a' b' c') same = absurd cc
-one_statements (PutThen a b c d) (PutThen a' b' c' d') same = let ha : a ≡ a' = word_code.inj a a' cc in let hb : b ≡ b' = one_expression b b' cc in let hc : c ≡ c' = one_expression c c' cc in let hd : d ≡ d' = one_statements d d' cc in cc
+one_statements (PutThen a b c d) (PutThen a' b' c' d') same =
+    let ha : a ≡ a' = word_code.inj a a' cc in
+    let hb : b ≡ b' = one_expression b b' cc in
+    let hc : c ≡ c' = one_expression c c' cc in
+    let hd : d ≡ d' = one_statements d d' cc in cc
 one_statements (PutThen a b c d) (IfThen a' b' c' d') same = absurd cc
 one_statements (PutThen a b c d) (ForThen a' b' c' d' e') same = absurd cc
 one_statements (PutThen a b c d) (TrapThen a' b') same = absurd cc
@@ -58,7 +68,11 @@ one_statements (IfThen a b c d) Done same = absurd cc
 one_statements (IfThen a b c d) (DeclareThen a' b' c') same = absurd cc
 one_statements (IfThen a b c d) (SetThen a' b' c') same = absurd cc
 one_statements (IfThen a b c d) (PutThen a' b' c' d') same = absurd cc
-one_statements (IfThen a b c d) (IfThen a' b' c' d') same = let ha : a ≡ a' = one_expression a a' cc in let hb : b ≡ b' = one_statements b b' cc in let hc : c ≡ c' = one_statements c c' cc in let hd : d ≡ d' = one_statements d d' cc in cc
+one_statements (IfThen a b c d) (IfThen a' b' c' d') same =
+    let ha : a ≡ a' = one_expression a a' cc in
+    let hb : b ≡ b' = one_statements b b' cc in
+    let hc : c ≡ c' = one_statements c c' cc in
+    let hd : d ≡ d' = one_statements d d' cc in cc
 one_statements (IfThen a b c d) (ForThen a' b' c' d' e') same = absurd cc
 one_statements (IfThen a b c d) (TrapThen a' b') same = absurd cc
 one_statements (ForThen a b c d e) Done same = absurd cc
@@ -66,7 +80,12 @@ one_statements (ForThen a b c d e) (DeclareThen a' b' c') same = absurd cc
 one_statements (ForThen a b c d e) (SetThen a' b' c') same = absurd cc
 one_statements (ForThen a b c d e) (PutThen a' b' c' d') same = absurd cc
 one_statements (ForThen a b c d e) (IfThen a' b' c' d') same = absurd cc
-one_statements (ForThen a b c d e) (ForThen a' b' c' d' e') same = let ha : a ≡ a' = word_code.inj a a' cc in let hb : b ≡ b' = one_expression b b' cc in let hc : c ≡ c' = one_expression c c' cc in let hd : d ≡ d' = one_statements d d' cc in let he : e ≡ e' = one_statements e e' cc in cc
+one_statements (ForThen a b c d e) (ForThen a' b' c' d' e') same =
+    let ha : a ≡ a' = word_code.inj a a' cc in
+    let hb : b ≡ b' = one_expression b b' cc in
+    let hc : c ≡ c' = one_expression c c' cc in
+    let hd : d ≡ d' = one_statements d d' cc in
+    let he : e ≡ e' = one_statements e e' cc in cc
 one_statements (ForThen a b c d e) (TrapThen a' b') same = absurd cc
 one_statements (TrapThen a b) Done same = absurd cc
 one_statements (TrapThen a b) (DeclareThen a' b' c') same = absurd cc
@@ -74,7 +93,9 @@ one_statements (TrapThen a b) (SetThen a' b' c') same = absurd cc
 one_statements (TrapThen a b) (PutThen a' b' c' d') same = absurd cc
 one_statements (TrapThen a b) (IfThen a' b' c' d') same = absurd cc
 one_statements (TrapThen a b) (ForThen a' b' c' d' e') same = absurd cc
-one_statements (TrapThen a b) (TrapThen a' b') same = let ha : a ≡ a' = word_code.inj a a' cc in let hb : b ≡ b' = one_statements b b' cc in cc
+one_statements (TrapThen a b) (TrapThen a' b') same =
+    let ha : a ≡ a' = word_code.inj a a' cc in
+    let hb : b ≡ b' = one_statements b b' cc in cc
 
 abbrev pub statements_code : Coded Statements
 statements_code = record { code = ghost_of_statements; inj = one_statements }

@@ -1,2 +1,3 @@
 pub mod WellData
 pub mod Always
+pub mod Judged

@@ -6,16 +6,13 @@ use Rattle.coll_data.specs.declared.fault.DataFault.{DataFault}
 use Rattle.data_read.specs.Draft.{Draft, begun, data_after}
 use Rattle.data_read.specs.Records.{first_record, later_record}
 use Rattle.data_read.specs.Reading.{all_records, as_data, data_of, later_records, records_of}
-use Rattle.list_lemmas.proofs.Options.{by_result}
+use Rattle.list_lemmas.proofs.Options.{by_result, same_Ok}
 use Rattle.data_read.proofs.Soundness.{IsSound, well_made}
 use Rattle.data_read.proofs.SoundRecords.{begun_sound}
 use Rattle.data_read.proofs.SoundTiles.{later_sound}
 
-same_draft : (a b : Draft) → ◌≡◌ {A = Result Draft DataFault} (Ok a) (Ok b) → a ≡ b
-same_draft a b e = cc
-
 later_all_sound : (row : ℕ) (d e : Draft) (rows : List (List (List ℕ))) → IsSound d → later_records row d rows ≡ Ok e → IsSound e
-later_all_sound row d e [] sound is = subst IsSound (same_draft d e is) sound
+later_all_sound row d e [] sound is = subst IsSound (same_Ok d e is) sound
 later_all_sound row d e (fields ∷ rows) sound is =
     by_result (later_record d fields) (λ next h. later_all_sound (row + 1) next e rows (later_sound d next fields sound h) (rw h at is)) (λ code h. absurd (let s = rw h at is in cc))
 

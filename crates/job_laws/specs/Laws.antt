@@ -1,10 +1,14 @@
--- That texts, and a JDF with its data, always denote a verdict.
-use Rattle.std.specs.Prelude.{ℕ, List}
+-- That texts, and a JDF with its data, always denote a verdict; and what a verdict does not depend on.
+use Rattle.std.specs.Prelude.{ℕ, List, ◌≡◌}
 use Rattle.jdf_tree.specs.TreeLimits.{IsWithinLimits}
 use Rattle.coll_data.specs.WellMade as well_data
 use Rattle.check_names.specs.Names.{Job}
 use Rattle.job_stages.specs.declared.verdict.JobVerdict.{JobVerdict}
-use Rattle.job_stages.specs.Verdict.{JobDenotes, TextsDenote}
+use Rattle.job_stages.specs.Verdict.{JobDenotes, TextsDenote, JdfTextDenotes}
+use Rattle.coll_data.specs.Data.{Data}
+use Rattle.plan_core.specs.declared.plan.Plan.{Plan}
+use Rattle.plan_data.specs.Fit.{DataFit}
+use Rattle.job_stages.specs.declared.verdict.JobVerdict.TheVariants as verdicts
 
 -- A JDF within the limits of its text denotes a verdict with data that are well made.
 abbrev pub SomeVerdictOfJob : Type 0
@@ -14,3 +18,15 @@ SomeVerdictOfJob =
 -- Two texts denote a verdict.
 abbrev pub SomeVerdict : Type 0
 SomeVerdict = (jdf_text data_text : List ℕ) → (v : JobVerdict) × TextsDenote jdf_text data_text v
+
+-- A fault of the JDF's text is the verdict whatever the data's text is.
+abbrev pub JdfIsJudgedAlone : Type 0
+JdfIsJudgedAlone =
+    (jdf_text data_text : List ℕ) (v w : JobVerdict) → JdfTextDenotes jdf_text v → TextsDenote jdf_text data_text w
+    → w ≡ v
+
+-- The data of a consistent plan are those that it was resolved with.
+abbrev pub DataFitPlan : Type 0
+DataFitPlan =
+    (jdf_text data_text : List ℕ) (P : Plan) (given : Data)
+    → TextsDenote jdf_text data_text (verdicts.Consistent P given) → DataFit P.colls P.elems given

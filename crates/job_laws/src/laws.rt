@@ -1,10 +1,20 @@
 //! Laws of the verdict on two texts.
 
-ghost use Rattle.job_laws.specs.Laws.{SomeVerdict, SomeVerdictOfJob};
+ghost use Rattle.job_laws.specs.Laws.{SomeVerdict, SomeVerdictOfJob, JdfIsJudgedAlone, DataFitPlan};
 
 /// A law: the text of a JDF and the text of its data denote a verdict, whatever their bytes are; and so does each JDF
 /// within the limits of its text, with data that are well made.
 pub fn every_job_has_a_verdict()
     ensures texts { SomeVerdict }
     ensures job { SomeVerdictOfJob }
+{}
+
+/// A law: a fault of the JDF's text is the verdict whatever the data's text is.
+pub fn the_jdf_is_judged_alone()
+    ensures { JdfIsJudgedAlone }
+{}
+
+/// A law: the data of a consistent plan are those that it was resolved with.
+pub fn the_data_fit_the_plan()
+    ensures { DataFitPlan }
 {}

@@ -6,7 +6,6 @@ use Rattle.coll_data.specs.Data.{Data}
 use Rattle.coll_data.specs.declared.fault.DataFault.{DataFault}
 use Rattle.data_read.specs.Reading.{data_of}
 use Rattle.check_names.specs.Names.{Job}
-use Rattle.plan_data.specs.Fit.{DataFit}
 use Rattle.flow_check.proofs.Unique.{one_first_fault}
 use Rattle.flow_check.proofs.Plans.{one_plan, a_plan_has_no_fault}
 use Rattle.plan_core.specs.declared.plan.Plan.{Plan}
@@ -18,7 +17,7 @@ use Rattle.job_stages.specs.declared.verdict.JobVerdict.TheVariants as verdicts
 use Rattle.job_stages.specs.DataText.{IsData, IsDataFault}
 use Rattle.job_stages.specs.Stages.{HasJob, HasGlobals, HasPlan, IsLacking}
 use Rattle.job_stages.specs.Verdict.{JobDenotes, JdfTextDenotes}
-use Rattle.job_stages.specs.Laws.{OneVerdict, OneVerdictOfJob, JdfIsJudgedAlone, DataFitPlan}
+use Rattle.job_stages.specs.Laws.{OneVerdict, OneVerdictOfJob}
 
 -- ---- the data's text
 
@@ -104,12 +103,4 @@ texts_once jdf_text data_text v w (inr (inr (job, read, h))) (inr (inl (J, g, tr
 texts_once jdf_text data_text v w (inr (inr (job, read, h))) (inr (inr (other, again, k))) =
     job_once other v w (subst (λ (j : Job). JobDenotes j v) (one_job jdf_text data_text job other read again) h) k
 
-pub judged_alone : JdfIsJudgedAlone
-judged_alone jdf_text data_text v w h k = sym (texts_once jdf_text data_text v w (inl h) k)
-
 -- ---- the data of a consistent plan
-
-pub data_fit : DataFitPlan
-data_fit jdf_text data_text P given (inl (f, first, e)) = absurd cc
-data_fit jdf_text data_text P given (inr (inl (J, f, tree, first, e))) = absurd cc
-data_fit jdf_text data_text P given (inr (inr (job, read, h))) = subst (DataFit P.colls P.elems) (sym h.2) h.0.plan.fit

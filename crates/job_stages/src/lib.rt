@@ -11,5 +11,5 @@ mod verdict;
 pub use data_text::{data_too_long, given_of};
 pub use jdf_text::{jdf_too_long, tree_of};
 pub use judging::{judge_data, judge_texts};
-pub use laws::{one_verdict, the_data_fit_the_plan, the_jdf_is_judged_alone};
+pub use laws::one_verdict;
 pub use verdict::JobVerdict;

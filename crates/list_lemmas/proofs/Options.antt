@@ -40,6 +40,16 @@ pub some_from_one_more : (o : Option ℕ) (at : ℕ) → option_map (λ n. n + 1
 some_from_one_more None at e = absurd cc
 some_from_one_more (Some m) at e = (m, refl, cc)
 
+-- what equal results hold, and an `Ok` is no `Err`
+pub same_Ok : {A E : Type 0} (x y : A) → ◌≡◌ {A = Result A E} (Ok x) (Ok y) → x ≡ y
+same_Ok x y e = cc
+
+pub same_Err : {A E : Type 0} (d e : E) → ◌≡◌ {A = Result A E} (Err d) (Err e) → d ≡ e
+same_Err d e same = cc
+
+pub Ok≢Err : {A E : Type 0} (x : A) (e : E) → ◌≡◌ {A = Result A E} (Ok x) (Err e) → ⊥
+Ok≢Err x e same = cc
+
 -- what an `OnOk` says of an `Ok`
 pub on_success : {T E P : Type 0} (r : Result T E) (x : T) → r ≡ Ok x → OnOk r P → P
 on_success {T} {E} {P} r x e h = subst (λ (s : Result T E). OnOk s P) e h

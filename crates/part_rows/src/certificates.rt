@@ -131,10 +131,10 @@ const EDITS: [Edit; 5] = [
 
 // A line with what came of lists that were tried.
 fn add_tried(text: &mut String, word: &str, itself: bool, tried: Tried) -> Result<(), Why> {
-    let said = if itself { "accepted" } else { "refused" };
+    let verdict = if itself { "accepted" } else { "refused" };
     write!(
         text,
-        "{word} {said}, and of {} others {}\n",
+        "{word} {verdict}, and of {} others {}\n",
         tried.tried, tried.accepted
     )?;
     Ok(())

@@ -50,7 +50,7 @@ fn add_head(text: &mut String, matched: &Matched, task: &TaskId) -> Result<(), W
 fn add_sources(text: &mut String, plan: &Plan, task: &TaskId) -> Result<(), Why>
     requires { IsTask plan.now task.now }
 {
-    for number in 0..8 {
+    for number in 0..flows_of(plan, task).len() as u8 {
         add_source(text, plan, task, number)?;
     }
     Ok(())

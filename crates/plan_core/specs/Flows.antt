@@ -79,11 +79,13 @@ is_datatype types Ctl n = n == 0
 -- whether a target exists, has the flow's datatype, and may be that of an in dependence, or of an out dependence
 abbrev pub is_source : List ClassPlan → List ClassSpace → List Shape → ℕ → FlowPlan → Target → Bool
 is_source classes spaces colls locals f t =
-    exists_target classes spaces colls locals t && has_datatype classes colls f.datatype t && is_in_target classes f.kind t
+    exists_target classes spaces colls locals t && has_datatype classes colls f.datatype t
+    && is_in_target classes f.kind t
 
 abbrev pub is_destination : List ClassPlan → List ClassSpace → List Shape → ℕ → FlowPlan → Target → Bool
 is_destination classes spaces colls locals f t =
-    exists_target classes spaces colls locals t && has_datatype classes colls f.datatype t && is_out_target classes f.kind t
+    exists_target classes spaces colls locals t && has_datatype classes colls f.datatype t
+    && is_out_target classes f.kind t
 
 -- whether a flow of a class with so many locals has one of so many datatypes, and at most 16 dependences, each with
 -- targets that it may have

@@ -35,7 +35,8 @@ is_element colls locals coll indices = has_dimensions colls coll (length indices
 -- expressions are over so many locals
 abbrev pub exists_target : List ClassPlan → List ClassSpace → List Shape → ℕ → Target → Bool
 exists_target classes spaces colls locals (Task class flow args) =
-    is_some (flow_of classes class flow) && has_params spaces class (length args) && list_all (is_closed_arg locals) args
+    is_some (flow_of classes class flow) && has_params spaces class (length args)
+    && list_all (is_closed_arg locals) args
 exists_target classes spaces colls locals (Element coll indices) = is_element colls locals coll indices
 exists_target classes spaces colls locals New = true
 exists_target classes spaces colls locals Null = true

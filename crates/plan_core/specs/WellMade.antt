@@ -18,7 +18,8 @@ use Rattle.plan_core.specs.Bodies.{respects_kinds, has_words, keeps_loop_variabl
 
 -- a class with this space, in a job with these classes, spaces, collections and so many datatypes; that its body is
 -- well made bounds its flows by 8
-pub record IsWellClass (classes : List ClassPlan) (spaces : List ClassSpace) (colls : List Shape) (types : ℕ) (s : ClassSpace) (c : ClassPlan) : Type 0 where
+pub record IsWellClass (classes : List ClassPlan) (spaces : List ClassSpace) (colls : List Shape) (types : ℕ)
+    (s : ClassSpace) (c : ClassPlan) : Type 0 where
   pub space : IsWellSpace s
   pub affinity : IsTrue (is_element colls (length s.defs) c.affinity.0 c.affinity.1)
   pub flows : IsTrue (list_all (is_flow classes spaces colls types (length s.defs)) c.flows)
@@ -36,7 +37,8 @@ is_shape types s =
 
 -- at most 64 classes of different names, each with its space; 1 to 16 datatypes, given by the length of their tiles;
 -- collections of these
-pub record IsWellMade (classes : List ClassPlan) (spaces : List ClassSpace) (colls : List Shape) (elems : List ℕ) : Type 0 where
+pub record IsWellMade (classes : List ClassPlan) (spaces : List ClassSpace) (colls : List Shape)
+    (elems : List ℕ) : Type 0 where
   pub classes_at_most : length classes ≤ most_classes
   pub one_space_each : length spaces ≡ length classes
   pub class_names : IsTrue (are_distinct (map (λ (c : ClassPlan). c.name) classes))

@@ -1,8 +1,8 @@
 -- Derivations by the small productions that the grammar is made of.
-use Rattle.std.proofs.Common.{◌≡◌, ℕ, suc, ◌+◌, ◌≤◌, ◌<◌, Bool, true, false, cond, List, [], ◌∷◌, ◌++◌, length, map, refl, sym, ap, subst, ◌∙◌, arith}
+use Rattle.std.proofs.Common.{◌≡◌, ℕ, suc, ◌+◌, ◌≤◌, ◌<◌, true, List, [], ◌∷◌, ◌++◌, length, map, refl, sym, ap, subst, ◌∙◌, arith}
 use Rattle.std.specs.Prelude.{Option, Some, None, nat_le, codes}
 use Rattle.std.specs.List.{flat_map}
-use Rattle.std.proofs.lemmas.Bool.{leb-true}
+use Rattle.std.proofs.lemmas.Bool.{cond-false, lt-leb}
 use Rattle.grammar_core.specs.declared.token.Token.{Token}
 use Rattle.jdf_alphabet.specs.declared.terminal.Terminal.{Terminal}
 use Rattle.jdf_alphabet.specs.declared.terminal.Terminal.TheVariants as terminal
@@ -129,11 +129,7 @@ listed_reads_back g erase formed spelled each x xs m ms s r h =
     record { tree = k.first ∷ k.later; derives = ((k.first, k.later), (k.middle, None, None, k.derives_first, k.derives_later 0, refl), refl); like = k.like }
 
 pub not_full : (n i : ℕ) (c : Code) → i < n → full_at n c i ≡ None
-not_full n i c h = go (nat_le n i) refl
-  where
-    go : (b : Bool) → nat_le n i ≡ b → cond b (Some c) None ≡ None
-    go true e = let k = leb-true n i e in absurd (omega (arith, k))
-    go false e = refl
+not_full n i c h = cond-false (nat_le n i) (Some c) None (lt-leb n i h)
 
 abbrev none : Fault
 none = None

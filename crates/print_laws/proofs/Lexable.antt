@@ -4,6 +4,7 @@ use Rattle.std.specs.Prelude.{Option, Some, None, codes, nat_lt, ◌==◌, ◌||
 use Rattle.std.specs.List.{flat_map, list_all}
 use Rattle.std.specs.Fmt.{signed_decimal}
 use Rattle.std.proofs.lemmas.Bool.{and_parts, and_from, or_right, or_left}
+use Rattle.std.proofs.lemmas.Option.{same_Some}
 use Rattle.jdf_lex.specs.declared.lexical_unit.LexicalUnit.TheVariants as lex
 use Rattle.jdf_alphabet.specs.declared.kind.TokenKind.TheVariants as kinds
 use Rattle.grammar_core.specs.declared.token.Token.{Token}
@@ -85,9 +86,6 @@ started_by b bs false false e f h = let k = no_mark_is_name (b ∷ bs) in absurd
 name_word : (w : List ℕ) → IsName w → IsWord w
 name_word [] h = absurd (cc)
 name_word (b ∷ bs) h = (h.0, started_by b bs (is_letter b) (is_digit b) refl refl h.1)
-
-some_same : {A : Type 0} {a b : A} → Some a ≡ Some b → a ≡ b
-some_same e = cc
 
 digits_parts : (bs : List ℕ) → list_all is_digit bs ≡ true → list_all is_part bs ≡ true
 digits_parts [] h = refl
@@ -270,10 +268,10 @@ choice_lexes : (c : Choice) → IsChoice c → (rest : List Fragment) (after : L
 choice_lexes (None, t, None) formed rest after stop h = both_lex (print.target t) rest after (target_lexes t formed _ stop) h
 choice_lexes (None, t, Some u) formed rest after stop h = absurd formed
 choice_lexes (Some c, t, None) formed rest after stop h =
-    both_lex (print.guard (Some c)) (print.target t ++ rest) after (guard_lexes (Some c) (λ e k. subst IsOuter (some_same k) formed.0) _) (both_lex (print.target t) rest after (target_lexes t formed.1 _ stop) h)
+    both_lex (print.guard (Some c)) (print.target t ++ rest) after (guard_lexes (Some c) (λ e k. subst IsOuter (same_Some _ _ k) formed.0) _) (both_lex (print.target t) rest after (target_lexes t formed.1 _ stop) h)
 choice_lexes (Some c, t, Some u) formed rest after stop h =
     let tail = between (codes ":") ++ print.target u in
-    both_lex (print.guard (Some c)) (print.target t ++ (tail ++ rest)) after (guard_lexes (Some c) (λ e k. subst IsOuter (some_same k) formed.0) _)
+    both_lex (print.guard (Some c)) (print.target t ++ (tail ++ rest)) after (guard_lexes (Some c) (λ e k. subst IsOuter (same_Some _ _ k) formed.0) _)
     (both_lex (print.target t) (tail ++ rest) after (target_lexes t formed.1 _ refl) (both_lex tail rest after (between_lexes (codes ":") (print.target u) _ refl (target_lexes u formed.2 _ stop)) h))
 
 arrow_written : (b : Bool) → IsWritten (print.arrow b)

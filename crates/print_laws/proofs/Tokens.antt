@@ -2,6 +2,7 @@
 use Rattle.std.proofs.Common.{◌≡◌, ℕ, Bool, true, false, cond, List, [], ◌∷◌, ◌++◌, refl, sym, ap, ◌∙◌, subst}
 use Rattle.std.specs.Prelude.{Some, nat_eq, ◌==◌, codes}
 use Rattle.std.specs.List.{starts_with}
+use Rattle.std.proofs.lemmas.Option.{same_Some}
 use Rattle.jdf_lex.specs.declared.lexical_unit.LexicalUnit.{LexicalUnit}
 use Rattle.jdf_lex.specs.declared.lexical_unit.LexicalUnit.TheVariants.{Blank, LineComment, BlockComment, TokenOf}
 use Rattle.grammar_core.specs.declared.token.Token.{Token}
@@ -22,13 +23,10 @@ peel false false true v p k raw option e = absurd (raw (cc))
 peel false false false true p k raw option e = absurd (option (cc))
 peel false false false false p k raw option e = e
 
-inner_of : (p q : LexicalUnit) → Some p ≡ Some q → p ≡ q
-inner_of p q e = cc
-
 plain_is : (b : ℕ) (rest : List ℕ) (k : TokenKind) → (Raw ≡ k → ⊥) → (OptionLine ≡ k → ⊥) → Some (first_unit b rest) ≡ Some (TokenOf k) → plain_unit b rest ≡ TokenOf k
 plain_is b rest k raw option e =
     peel (starts_with nat_eq (b ∷ rest) (codes "//")) (starts_with nat_eq (b ∷ rest) (codes "/*")) (starts_with nat_eq (b ∷ rest) (codes "%{")) (begins_option (b ∷ rest)) (plain_unit b rest) k raw option
-    (inner_of (first_unit b rest) (TokenOf k) e)
+    (same_Some (first_unit b rest) (TokenOf k) e)
 
 abbrev Plain : Bool → Bool → Bool → Bool → Bool → LexicalUnit
 Plain a c l d m = cond a (TokenOf Quoted) (cond c Blank (cond l (TokenOf Name) (cond d (TokenOf Number) (cond m (TokenOf Mark) (TokenOf Other)))))

@@ -21,7 +21,8 @@ Returns view (Err refusal) given = ReturnsRefusal refusal given
 
 -- A call that looks for the value of its input, or for its fault: it returns only such a value, only such a fault, and
 -- where there is one, this one; only want of memory is always allowed.
-pub record FindsOrRefuses {A F : Type 0} (IsValue : A → Type 0) (IsFault : F → Type 0) (result : Result A (Refusal F)) : Type 0 where
+pub record FindsOrRefuses {A F : Type 0} (IsValue : A → Type 0) (IsFault : F → Type 0)
+    (result : Result A (Refusal F)) : Type 0 where
   pub found : IfOk result IsValue
   pub only : (value : A) → IsValue value → (result ≡ Ok value) ⊎ (result ≡ Err OutOfMemory)
   pub fault : (fault : F) → result ≡ Err (Fault fault) → IsFault fault

@@ -20,7 +20,8 @@ task_cmp-total =
 -- tasks are the same where the comparison answers Equal
 pub same_task-ties : (a b : Task) → same_task a b ≡ is_eq (task_cmp a b)
 same_task-ties a b =
-    both_tied (nat_eq a.class b.class) (pointwise int_eq a.params b.params) (nat_cmp a.class b.class) (slice_cmp int_cmp a.params b.params)
+    both_tied (nat_eq a.class b.class) (pointwise int_eq a.params b.params)
+    (nat_cmp a.class b.class) (slice_cmp int_cmp a.params b.params)
     (unsigned_ties a.class b.class) (lists_ties int_cmp (λ x y. refl) a.params b.params)
 
 -- the test of sameness holds of one task alone
@@ -29,14 +30,20 @@ same_task-decides a b = (one, itself)
   where
     one : IsTrue (same_task a b) → a ≡ b
     one e =
-        let class_is : a.class ≡ b.class = (unsigned_Decides a.class b.class).0 (first_so (nat_eq a.class b.class) (pointwise int_eq a.params b.params) e) in
-        let params_are : a.params ≡ b.params = (signed_items a.params b.params).0 (second_so (nat_eq a.class b.class) (pointwise int_eq a.params b.params) e) in
+        let class_is : a.class ≡ b.class =
+        (unsigned_Decides a.class b.class).0
+        (first_so (nat_eq a.class b.class) (pointwise int_eq a.params b.params) e) in
+        let params_are : a.params ≡ b.params =
+        (signed_items a.params b.params).0
+        (second_so (nat_eq a.class b.class) (pointwise int_eq a.params b.params) e) in
         λ i. record { class = class_is i; params = params_are i }
 
     itself : a ≡ b → IsTrue (same_task a b)
     itself e =
-        let class_is : nat_eq a.class b.class ≡ true = (unsigned_Decides a.class b.class).1 (ap (λ (t : Task). t.class) e) in
-        let params_are : pointwise int_eq a.params b.params ≡ true = (signed_items a.params b.params).1 (ap (λ (t : Task). t.params) e) in
+        let class_is : nat_eq a.class b.class ≡ true =
+        (unsigned_Decides a.class b.class).1 (ap (λ (t : Task). t.class) e) in
+        let params_are : pointwise int_eq a.params b.params ≡ true =
+        (signed_items a.params b.params).1 (ap (λ (t : Task). t.params) e) in
         λ i. class_is i && params_are i
 
 -- a first number decides, and else what follows it
@@ -90,6 +97,9 @@ task_cmp-compares a b =
     let back = less_is (task_cmp b a) (task_before b a) (task_before-cmp b a) in
     record {
       before = less_is (task_cmp a b) (task_before a b) (task_before-cmp a b);
-      same = (λ h. (same_task-decides a b).0 (same_task-ties a b ∙ level.1 h), λ h. level.0 (sym (same_task-ties a b) ∙ (same_task-decides a b).1 h));
+      same = (
+        λ h. (same_task-decides a b).0 (same_task-ties a b ∙ level.1 h),
+        λ h. level.0 (sym (same_task-ties a b) ∙ (same_task-decides a b).1 h),
+      );
       after = (λ h. back.0 (turned.0 h), λ h. turned.1 (back.1 h));
     }

@@ -18,13 +18,15 @@ ReadsInTurn {Files} gives name start (n ∷ counts) end =
     (before : Files) × ReadsInTurn gives name start counts before × gives before name (sum counts) n end
 
 -- Reads of one file in turn, which gave so many bytes together.
-pub record HasRead {Files : Type 0} (gives : Files → List ℕ → ℕ → ℕ → Files → Type 0) (name : List ℕ) (start : Files) (size : ℕ) (end : Files) : Type 0 where
+pub record HasRead {Files : Type 0} (gives : Files → List ℕ → ℕ → ℕ → Files → Type 0)
+    (name : List ℕ) (start : Files) (size : ℕ) (end : Files) : Type 0 where
   pub counts : List ℕ
   pub reads : ReadsInTurn gives name start counts end
   pub together : sum counts ≡ size
 
 -- Reads of one file in turn. The last is the first to go past so many bytes: none is made after it.
-pub record StopsPast {Files : Type 0} (gives : Files → List ℕ → ℕ → ℕ → Files → Type 0) (name : List ℕ) (limit : ℕ) (start end : Files) : Type 0 where
+pub record StopsPast {Files : Type 0} (gives : Files → List ℕ → ℕ → ℕ → Files → Type 0)
+    (name : List ℕ) (limit : ℕ) (start end : Files) : Type 0 where
   pub last : ℕ
   pub earlier : List ℕ
   pub reads : ReadsInTurn gives name start (last ∷ earlier) end
@@ -33,7 +35,9 @@ pub record StopsPast {Files : Type 0} (gives : Files → List ℕ → ℕ → �
 
 -- Reads of one file in turn, which gave at most so many bytes together, and then one from where they ended, which
 -- failed.
-pub record FailsWithin {Files : Type 0} (gives : Files → List ℕ → ℕ → ℕ → Files → Type 0) (fails : Files → List ℕ → ℕ → Files → Type 0) (name : List ℕ) (limit : ℕ) (start end : Files) : Type 0 where
+pub record FailsWithin {Files : Type 0} (gives : Files → List ℕ → ℕ → ℕ → Files → Type 0)
+    (fails : Files → List ℕ → ℕ → Files → Type 0)
+    (name : List ℕ) (limit : ℕ) (start end : Files) : Type 0 where
   pub size : ℕ
   pub before : Files
   pub reads : HasRead gives name start size before

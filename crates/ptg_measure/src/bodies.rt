@@ -1,6 +1,9 @@
 //! Bodies of tasks, run.
+ghost use Rattle.std.specs.Prelude.{IfOk};
+ghost use Rattle.term_core.specs.WellBody.{IsWellBody};
+
 use crate::count::{Count, Counts, Failure};
-use body_eval::{Scratch, is_well_body, run_body};
+use body_eval::{Scratch, run_body};
 use ptg_base::{Seq, Tile};
 use std::alloc::Global;
 use term_core::{BinOp, Block, Body, Expr, Stmt};
@@ -11,7 +14,9 @@ const X: u16 = 0;
 const I: u16 = 1;
 
 /// The body `int x = 0; for i = 1 .. size { x = x + i; } A[0] = x;`, where `A` is its one flow.
-fn turns(alloc: Global, size: u32) -> Result<Body, Failure> {
+fn turns(alloc: Global, size: u32) -> Result<Body, Failure>
+    ensures { IfOk result (IsWellBody 0 1) }
+{
     let sum = Expr::binary(alloc, BinOp::Add, Expr::local(X), Expr::local(I))?;
     let turn = Block::of(Seq::of(vec![in alloc; Stmt::Set(X, sum)]?));
     let last = Expr::num(i64::from(size));
@@ -30,9 +35,6 @@ fn turns(alloc: Global, size: u32) -> Result<Body, Failure> {
 pub fn body(alloc: Global, size: u32) -> Result<Counts, Failure> {
     let body = turns(alloc, size)?;
     let mut tiles = vec![in alloc; Some(Tile::zeros(alloc, 1)?)]?;
-    if !is_well_body(&body, 0, 1) {
-        return Err(Failure::NotWellMade);
-    }
     run_body(&body, &[], tiles.as_mut_slice(), &mut Scratch::new()).map_err(Failure::Trapped)?;
     let value = match &tiles[0] {
         Some(tile) if tile.len() > 0 => tile.get(0),

@@ -35,7 +35,8 @@ fn rising(alloc: Global, count: u32) -> Result<Vec<(TaskId, u64)>, Failure> {
     Ok(rows)
 }
 
-fn said(accepted: bool) -> Counts {
+// What is counted of a check: 1 where it accepts.
+fn accepted_count(accepted: bool) -> Counts {
     Counts::one(Count::of("accepted", u64::from(accepted)))
 }
 
@@ -45,7 +46,7 @@ pub fn checked_chain(alloc: Global, size: u32) -> Result<Counts, Failure> {
     let chain = tasks_below(alloc, size)?;
     let levels = rising(alloc, size)?;
     let is_heaviest = check_chain(&m, &[1], chain.as_slice(), levels.as_slice())?;
-    Ok(said(is_heaviest))
+    Ok(accepted_count(is_heaviest))
 }
 
 /// The same lists, without the check.
@@ -64,5 +65,5 @@ pub fn chain_lists(alloc: Global, size: u32) -> Result<Counts, Failure> {
 pub fn checked_cycle(alloc: Global, size: u32) -> Result<Counts, Failure> {
     let m = matched(alloc, ring(alloc, size)?)?;
     let cycle = tasks_below(alloc, size)?;
-    Ok(said(check_cycle(&m, cycle.as_slice())))
+    Ok(accepted_count(check_cycle(&m, cycle.as_slice())))
 }

@@ -1,14 +1,11 @@
 -- The check of a job's two files: how its steps make the verdict that the files denote, and that there is one.
-use Rattle.std.proofs.Common.{◌≡◌, ℕ, ◌<◌, ◌≤◌, List, length, Some, Result, Ok, Err, refl, sym, ◌∙◌, ap, subst, inl, inr, arith}
+use Rattle.std.proofs.Common.{◌≡◌, ℕ, ◌≤◌, List, Some, Result, Ok, Err, refl, sym, ◌∙◌, ap, subst, inl, inr, arith}
 use Rattle.std.specs.Prelude.{Option, None, IfOk}
 use Rattle.ptg_base.specs.declared.memory.OutOfMemory.{OutOfMemory}
 use Rattle.ptg_io.specs.Faults.{Rose}
 use Rattle.ptg_io.specs.Files.{file_of, IsLonger}
-use Rattle.jdf_lex.specs.declared.fault.JdfFault.{JdfFault}
-use Rattle.jdf_lex.specs.declared.fault.JdfCode.TheVariants as jdf_codes
 use Rattle.jdf_tree.specs.declared.tree.Jdf.{Jdf}
 use Rattle.jdf_tree.specs.Jdf.{IsJdf}
-use Rattle.jdf_tree.specs.Fault.{IsJdfFault, first_spot}
 use Rattle.coll_data.specs.Data.{Data}
 use Rattle.coll_data.specs.declared.fault.DataFault.{DataFault}
 use Rattle.plan_core.specs.declared.plan.Plan.{Plan}
@@ -24,28 +21,14 @@ use Rattle.ptg_top.specs.Denotation as verdicts
 use Rattle.ptg_top.specs.declared.verdict.Verdict.{Verdict}
 use Rattle.ptg_top.specs.Denotation.{Denotation, denoted}
 use Rattle.ptg_top.specs.JobFiles.{Entries, RefusesText, ContentsDenote, FilesDenote, JobTextsDenote}
-use Rattle.ptg_top.specs.Steps.{CheckOfDataEndsWith, CheckOfTextEndsWith}
-use Rattle.ptg_top.specs.Reports.{IsOfTexts, IsVerdictOnRequest}
+use Rattle.ptg_top.specs.Steps.{CheckOfDataEndsWith, IsTreeRead, TreeIsRefused}
+use Rattle.ptg_top.specs.Reports.{IsVerdictOnRequest}
+use Rattle.ptg_top.proofs.JdfFiles.{job_is_of_texts}
 
 -- if a count rose after b >= a, it rose since a
 pub rose_since : (a b c : ℕ) → a ≤ b → Rose b c → Rose a c
 rose_since a b c le (inl lt) = inl (omega arith)
 rose_since a b c le (inr top) = inr top
-
--- the first fault of a text, too long or not
-pub fault_refuses : (text : List ℕ) (fault : JdfFault) → IsJdfFault text fault → RefusesText text (verdicts.Job (jobs.Jdf fault))
-fault_refuses text fault h = (jobs.Jdf fault, (fault, h, refl), refl)
-
--- the same of a fault that is this one
-pub same_fault_refuses : (text : List ℕ) (f g : JdfFault) → g ≡ f → IsJdfFault text f → RefusesText text (verdicts.Job (jobs.Jdf g))
-same_fault_refuses text f g e h = fault_refuses text g (subst (IsJdfFault text) (sym e) h)
-
-pub long_refuses : (text : List ℕ) (fault : JdfFault) → fault ≡ record { spot = first_spot; code = jdf_codes.TooLong } → 16777216 < length text → RefusesText text (verdicts.Job (jobs.Jdf fault))
-long_refuses text fault e long = fault_refuses text fault (inl (record { long = long; fault_is = e }))
-
--- a verdict on a job is one on texts
-pub job_is_of_texts : (v : Denotation) (job : JobVerdict) → v ≡ verdicts.Job job → IsOfTexts v
-job_is_of_texts v job e = subst IsOfTexts (sym e) tt
 
 module _ (contents : Option Entries) (old new : ℕ) (text data_name : List ℕ) where
   -- a data file that was loaded
@@ -65,12 +48,6 @@ module _ (contents : Option Entries) (old new : ℕ) (text data_name : List ℕ)
             (at.0, at.1, inr (inl (J, fault, tree, inl (record { long = at.2; fault_is = e }), refl))),
       )
 
-  -- a JDF's text that is that of a tree
-  pub tree_ends : (J : Jdf) (r : Result Verdict OutOfMemory) → IsJdf text J → IfOk r (λ v. CheckOfDataEndsWith contents old new text data_name (denoted v))
-      → IfOk r (λ v. CheckOfTextEndsWith contents old new text data_name (denoted v))
-  tree_ends J (Ok v) tree h = inr (J, tree, h)
-  tree_ends J (Err x) tree h = tt
-
 -- a fault of the JDF's text is denoted whatever the data file is, and whether it is there or not
 refused_whatever : (jdf data_name text : List ℕ) (other : Option (List ℕ)) (v : Denotation) → RefusesText text v → ContentsDenote jdf data_name (Some text) other v
 refused_whatever jdf data_name text None v h = inl h
@@ -81,36 +58,34 @@ files_denote : (files : Entries) (jdf data_name text : List ℕ) (v : Denotation
 files_denote files jdf data_name text v there h = subst (λ (o : Option (List ℕ)). ContentsDenote jdf data_name o (file_of files data_name) v) (sym there) h
 
 module _ (contents : Option Entries) (old new : List ℕ → ℕ) (jdf data_name : List ℕ) where
-  -- the check of the JDF's text, which was read, is the check of the files
-  text_ends : (mid : ℕ) (text : List ℕ) (v : Denotation) → old data_name ≤ mid → ((files : Entries) → contents ≡ Some files → file_of files jdf ≡ Some text)
-      → CheckOfTextEndsWith contents mid (new data_name) text data_name v → IsVerdictOnRequest contents old new (Check jdf data_name) v
-  text_ends mid text v le there (inl h) =
-      inr (job_is_of_texts v h.0 h.2, λ files t. files_denote files jdf data_name text v (there files t) (refused_whatever jdf data_name text (file_of files data_name) v h))
-  text_ends mid text v le there (inr (J, tree, inl (e, rose))) =
-      inl (data_name, rose_since (old data_name) mid (new data_name) le rose, inr (refl, λ files t. (J, (text, there files t, tree))), e)
-  text_ends mid text v le there (inr (J, tree, inr (job, e, known))) =
+  -- the check of the data file is the check of the files, where the tree of the JDF file was read
+  tree_ends : (mid : ℕ) (J : Jdf) (v : Denotation) (read : IsTreeRead contents jdf J) → old data_name ≤ mid
+      → CheckOfDataEndsWith contents mid (new data_name) read.0 data_name v → IsVerdictOnRequest contents old new (Check jdf data_name) v
+  tree_ends mid J v read le (inl (e, rose)) =
+      inl (data_name, rose_since (old data_name) mid (new data_name) le rose, inr (refl, λ files t. (J, (read.0, read.2 files t, read.1))), e)
+  tree_ends mid J v read le (inr (job, e, known)) =
       inr (
         job_is_of_texts v job e,
         λ files t.
             let at = known files t in
-            files_denote files jdf data_name text v (there files t) (subst (λ (o : Option (List ℕ)). ContentsDenote jdf data_name (Some text) o v) (sym at.1) (job, at.2, e)),
+            files_denote files jdf data_name read.0 v (read.2 files t) (subst (λ (o : Option (List ℕ)). ContentsDenote jdf data_name (Some read.0) o v) (sym at.1) (job, at.2, e)),
       )
 
-  pub text_result_ends : (mid : ℕ) (text : List ℕ) (r : Result Verdict OutOfMemory) → old data_name ≤ mid → ((files : Entries) → contents ≡ Some files → file_of files jdf ≡ Some text)
-      → IfOk r (λ v. CheckOfTextEndsWith contents mid (new data_name) text data_name (denoted v)) → IfOk r (λ v. IsVerdictOnRequest contents old new (Check jdf data_name) (denoted v))
-  text_result_ends mid text (Ok v) le there h = text_ends mid text (denoted v) le there h
-  text_result_ends mid text (Err x) le there h = tt
+  pub tree_result_ends : (mid : ℕ) (J : Jdf) (r : Result Verdict OutOfMemory) → IsTreeRead contents jdf J → old data_name ≤ mid
+      → ((text : List ℕ) → IsJdf text J → IfOk r (λ v. CheckOfDataEndsWith contents mid (new data_name) text data_name (denoted v)))
+      → IfOk r (λ v. IsVerdictOnRequest contents old new (Check jdf data_name) (denoted v))
+  tree_result_ends mid J (Ok v) read le h = tree_ends mid J (denoted v) read le (h read.0 read.1)
+  tree_result_ends mid J (Err x) read le h = tt
 
-  -- a JDF file that is too long
-  pub long_ends : (fault : JdfFault) → fault ≡ record { spot = first_spot; code = jdf_codes.TooLong } → ((files : Entries) → contents ≡ Some files → IsLonger files jdf 16777216)
-      → IsVerdictOnRequest contents old new (Check jdf data_name) (verdicts.Job (jobs.Jdf fault))
-  long_ends fault e long =
+  -- a JDF file without a tree
+  pub refusal_ends : (v : Denotation) → TreeIsRefused contents (old jdf) (new jdf) jdf v → IsVerdictOnRequest contents old new (Check jdf data_name) v
+  refusal_ends v (inl (e, rose)) = inl (jdf, rose, inl refl, e)
+  refusal_ends v (inr (is, known)) =
       inr (
-        tt,
+        is,
         λ files t.
-            let at = long files t in
-            let v : Denotation = verdicts.Job (jobs.Jdf fault) in
-            files_denote files jdf data_name at.0 v at.1 (refused_whatever jdf data_name at.0 (file_of files data_name) v (long_refuses at.0 fault e at.2)),
+            let at = known files t in
+            files_denote files jdf data_name at.0 v at.1 (refused_whatever jdf data_name at.0 (file_of files data_name) v at.2),
       )
 
 -- ---- two files denote one verdict at most

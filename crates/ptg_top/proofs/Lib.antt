@@ -1,4 +1,5 @@
 pub mod Requested
+pub mod JdfFiles
 pub mod Checked
 pub mod Answered
 pub mod Replayed

@@ -21,7 +21,7 @@ use Rattle.ptg_top.specs.Findings.{IsAnswered, IsFindingOf}
 use Rattle.ptg_top.specs.JobFiles.{Entries}
 use Rattle.ptg_top.specs.Reports.{IsOfTexts, IsVerdictOnRequest}
 use Rattle.ptg_top.proofs.Answered.{kept, on_texts}
-use Rattle.ptg_top.proofs.Checked.{job_is_of_texts}
+use Rattle.ptg_top.proofs.JdfFiles.{job_is_of_texts}
 
 -- what is found of an answer is of its plan
 pub summed_is_finding : (n : ℕ) (P : Plan) (outcome : Outcome) → IsAnswered P outcome → IsFindingOf P (summed n outcome)

@@ -27,4 +27,5 @@ certified ws outcome c = findings.Answer outcome
 -- the verdict of `certify` on a consistent job, by the weights that its data give
 abbrev pub IsCertified : Plan → Data → Denotation → Type 0
 IsCertified P given v =
-    (c : Certificate) × IsCertificate P given (class_weights P given) c × (v ≡ verdicts.Ran P (certified (class_weights P given) (answer P given) c))
+    (c : Certificate) × IsCertificate P given (class_weights P given) c
+    × (v ≡ verdicts.Ran P (certified (class_weights P given) (answer P given) c))

@@ -65,7 +65,8 @@ IsExact TraceRefused = Unit {0}
 
 -- the sink grew by exactly the text of a verdict that the arguments and the files denote (one at most, but for traces),
 -- and this is its status
-pub record Prints (words : List (List ℕ)) (files : Entries) (before after : Option (List ℕ)) (status : Status) : Type 0 where
+pub record Prints (words : List (List ℕ)) (files : Entries) (before after : Option (List ℕ))
+    (status : Status) : Type 0 where
   pub verdict : Denotation
   pub denoted : Denotes words files verdict
   pub text : after ≡ appended before (text_of verdict)
@@ -73,7 +74,8 @@ pub record Prints (words : List (List ℕ)) (files : Entries) (before after : Op
 
 -- a failed write cut the text of a verdict short: the one that the arguments and the files denote, or the name of a
 -- file that could not be read
-pub record IsCut (words : List (List ℕ)) (contents : Option Entries) (old new : List ℕ → ℕ) (before after : Option (List ℕ)) : Type 0 where
+pub record IsCut (words : List (List ℕ)) (contents : Option Entries) (old new : List ℕ → ℕ)
+    (before after : Option (List ℕ)) : Type 0 where
   pub verdict : Denotation
   pub due : IsVerdictOnWords words contents old new verdict
   pub prefix : HasPrefix before after (text_of verdict)

@@ -48,7 +48,8 @@ RequestDenotes files (Demo rows) v = DemoDenotes rows v
 RequestDenotes files (Trace jdf data_name settings) v =
     (checked : Denotation) × FilesDenote files jdf data_name checked × OnConsistent IsTraced checked v
 RequestDenotes files (Replay jdf data_name trace) v =
-    (checked : Denotation) × FilesDenote files jdf data_name checked × OnConsistent (IsReplayed trace (file_of files trace)) checked v
+    (checked : Denotation) × FilesDenote files jdf data_name checked
+    × OnConsistent (IsReplayed trace (file_of files trace)) checked v
 RequestDenotes files (Certify jdf data_name) v =
     (checked : Denotation) × FilesDenote files jdf data_name checked × OnConsistent IsCertified checked v
 RequestDenotes files (Ranks jdf data_name settings) v =
@@ -58,7 +59,8 @@ RequestDenotes files (Ranks jdf data_name settings) v =
 -- for what the arguments ask. Of a trace they may denote several.
 abbrev pub Denotes : List (List ℕ) → Entries → Denotation → Type 0
 Denotes words files v =
-    (IsNoOrder words × (v ≡ verdicts.Usage)) ⊎ ((request : Request) × Requests words request × RequestDenotes files request v)
+    (IsNoOrder words × (v ≡ verdicts.Usage))
+    ⊎ ((request : Request) × Requests words request × RequestDenotes files request v)
 
 -- this is the JDF file, or it is the data file and the JDF is the text of a tree, where the contents are known
 abbrev pub IsUnreadOf : Option Entries → List ℕ → List ℕ → List ℕ → Type 0
@@ -69,7 +71,8 @@ IsUnreadOf contents jdf data_name name =
 abbrev pub IsUnreadTrace : Option Entries → List ℕ → List ℕ → List ℕ → List ℕ → Type 0
 IsUnreadTrace contents jdf data_name trace name =
     (name ≡ trace)
-    × ((files : Entries) → contents ≡ Some files → (P : Plan) × (given : Data) × FilesDenote files jdf data_name (verdicts.Job (jobs.Consistent P given)))
+    × ((files : Entries) → contents ≡ Some files
+    → (P : Plan) × (given : Data) × FilesDenote files jdf data_name (verdicts.Job (jobs.Consistent P given)))
 
 -- the names that `unread` may have for what is asked
 abbrev pub MayBeUnreadFor : Option Entries → Request → List ℕ → Type 0

@@ -7,7 +7,6 @@ ghost use Rattle.plan_core.specs.declared.plan.Plan.{Plan};
 ghost use Rattle.plan_data.specs.Fit.{DataFit};
 ghost use Rattle.flow_meaning.specs.Answer.{answer};
 ghost use Rattle.chain_cert.specs.Certificates.{IsCertificate};
-ghost use Rattle.chain_cert.specs.Checked as checking;
 ghost use Rattle.chain_cert.specs.Checked.{ShowsHeaviest};
 ghost use Rattle.chain_cert.specs.declared.certificate.Certificate.TheVariants as certificates;
 ghost use Rattle.chain_cert.specs.Checking.{AreWeights};
@@ -25,7 +24,7 @@ use crate::consistent::consistent_job;
 use crate::host::Host;
 use crate::table_run::run_as_usual;
 use crate::verdict::{Finding, RanBy, Verdict};
-use chain_cert::{Certificate, certify as certificate_of, weights};
+use chain_cert::{Certificate, certify as certificate_of, greatest_level, weights};
 use coll_data::Given;
 use dep_iter::Matched;
 use flow_meaning::Outcome;
@@ -135,15 +134,4 @@ fn with_cycle(outcome: Outcome, cycle: Seq<TaskId>) -> Finding
         Outcome::Stalled(ran, tasks, _) => Finding::Cycle(FoundCycle { ran, tasks, cycle }),
         outcome => Finding::Answer(outcome),
     }
-}
-
-// The greatest level of these rows, 0 where there is none.
-fn greatest_level(rows: &[(TaskId, u64)]) -> u64
-    ensures { result ≡ checking.greatest_level rows.now }
-{
-    let mut greatest = 0;
-    for row in rows {
-        greatest = row.1.max(greatest);
-    }
-    greatest
 }

@@ -7,14 +7,14 @@ ghost use Rattle.jdf_tree.specs.TreeLimits.{IsWithinLimits};
 ghost use Rattle.ptg_top.specs.declared.request.Request.TheVariants as asked;
 ghost use Rattle.ptg_top.specs.Denotation.{denoted};
 ghost use Rattle.ptg_top.specs.JobFiles.{IsChecked};
-ghost use Rattle.ptg_top.specs.Steps.{CheckOfDataEndsWith, CheckOfTextEndsWith};
+ghost use Rattle.ptg_top.specs.Steps.{CheckOfDataEndsWith};
 ghost use Rattle.ptg_top.specs.Reports.{IsVerdictOnRequest};
 
+use crate::jdf_file::tree_of_file;
 use crate::reading::{name_of, unread};
 use crate::verdict::Verdict;
-use jdf_lex::JdfRefusal;
 use jdf_tree::Jdf;
-use job_stages::{JobVerdict, data_too_long, jdf_too_long, judge_data, tree_of};
+use job_stages::{JobVerdict, data_too_long, judge_data};
 use ptg_base::{OutOfMemory, Text};
 use ptg_io::{Files, LoadFault, load};
 use std::alloc::Global;
@@ -36,33 +36,10 @@ pub fn check<F: Files>(
         (asked.Check jdf.now data_name.now) (denoted v)) }
     ensures fit { IfOk result (λ v. IsChecked (denoted v)) }
 {
-    match load(alloc, files, name_of(jdf)) {
-        Ok(text) => check_text(alloc, text.as_slice(), data_name, files),
-        Err(LoadFault::TooLong) => Ok(Verdict::Job(JobVerdict::Jdf(jdf_too_long()))),
-        Err(LoadFault::Failed) => unread(alloc, jdf),
-        Err(LoadFault::OutOfMemory) => Err(OutOfMemory),
-    }
-}
-
-// The verdict on the text of a JDF and a data file.
-fn check_text<F: Files>(
-    alloc: Global,
-    text: &[u8],
-    data_name: &Text,
-    files: &mut F,
-) -> Result<Verdict, OutOfMemory>
-    requires { IsUtf8 data_name.now }
-    ensures stays { F.contents files.new ≡ F.contents files.old }
-    ensures grows { (other : List ℕ) → F.faults files.old other ≤ F.faults files.new other }
-    ensures verdict { IfOk result (λ v.
-        CheckOfTextEndsWith (F.contents files.old) (F.faults files.old data_name.now) (F.faults files.new data_name.now)
-        text.now data_name.now (denoted v)) }
-    ensures fit { IfOk result (λ v. IsChecked (denoted v)) }
-{
-    match tree_of(alloc, text) {
+    let read = tree_of_file(alloc, jdf, files)?;
+    match read {
         Ok(tree) => check_data(alloc, &tree, data_name, files),
-        Err(JdfRefusal::Fault(fault)) => Ok(Verdict::Job(JobVerdict::Jdf(fault))),
-        Err(JdfRefusal::OutOfMemory) => Err(OutOfMemory),
+        Err(refused) => Ok(refused),
     }
 }
 
@@ -78,7 +55,9 @@ fn check_data<F: Files>(
     ensures stays { F.contents files.new ≡ F.contents files.old }
     ensures grows { (other : List ℕ) → F.faults files.old other ≤ F.faults files.new other }
     ensures verdict { (text : List ℕ) → IsJdf text tree.now
-        → IfOk result (λ v. CheckOfDataEndsWith (F.contents files.old) (F.faults files.old data_name.now) (F.faults files.new data_name.now) text data_name.now (denoted v)) }
+        → IfOk result (λ v.
+        CheckOfDataEndsWith (F.contents files.old) (F.faults files.old data_name.now)
+        (F.faults files.new data_name.now) text data_name.now (denoted v)) }
     ensures fit { IfOk result (λ v. IsChecked (denoted v)) }
 {
     match load(alloc, files, name_of(data_name)) {

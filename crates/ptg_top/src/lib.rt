@@ -7,6 +7,7 @@ mod consistent;
 mod ended;
 mod finding_printing;
 mod host;
+mod jdf_file;
 mod job_printing;
 mod judge;
 mod names;

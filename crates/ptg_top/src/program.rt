@@ -62,14 +62,16 @@ pub fn ptg_main<R: Threads + Wait + Sync, F: Files, O: Sink, G: Gate>(
         × (O.bytes out.new ≡ appended (O.bytes out.old) (unread_line name)) }
     // A write fault comes only where a write failed, and then a prefix of what was due was written.
     ensures cut { result.status ≡ Status.WriteFault → Rose (O.faults out.old) (O.faults out.new)
-        × IsCut words.now (F.contents files.old) (F.faults files.old) (F.faults files.new) (O.bytes out.old) (O.bytes out.new) }
+        × IsCut words.now (F.contents files.old) (F.faults files.old) (F.faults files.new)
+        (O.bytes out.old) (O.bytes out.new) }
     // If memory runs out, nothing is written.
     ensures silent { result.status ≡ Status.OutOfMemory → O.bytes out.new ≡ O.bytes out.old }
     // Where no read and no write failed: what arguments and files denote, unless memory runs out.
     ensures complete { (entries : Entries) → F.contents files.old ≡ Some entries
         → ((name : List ℕ) → Rose (F.faults files.old name) (F.faults files.new name) → ⊥)
         → (Rose (O.faults out.old) (O.faults out.new) → ⊥)
-        → Prints words.now entries (O.bytes out.old) (O.bytes out.new) result.status ⊎ (result.status ≡ Status.OutOfMemory) }
+        → Prints words.now entries (O.bytes out.old) (O.bytes out.new) result.status
+        ⊎ (result.status ≡ Status.OutOfMemory) }
     // Whatever the files: usage, with its line, is the answer only to arguments that form no command, and to those
     // nothing else is, unless a write failed or memory ran out.
     ensures usage_only { result.status ≡ Status.Usage → IsNoOrder words.now }

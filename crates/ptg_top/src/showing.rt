@@ -5,17 +5,14 @@ ghost use Rattle.std.specs.Str.{IsUtf8};
 ghost use Rattle.ptg_top.specs.declared.request.Request.TheVariants as asked;
 ghost use Rattle.ptg_top.specs.Denotation.{denoted};
 ghost use Rattle.ptg_top.specs.JobFiles.{HasFittingJob};
-ghost use Rattle.ptg_top.specs.Meaning.{Shows};
-ghost use Rattle.ptg_top.specs.Reports.{IsOfTexts, IsVerdictOnRequest};
+ghost use Rattle.ptg_top.specs.Reports.{IsVerdictOnRequest};
 ghost use Rattle.ptg_top.specs.Receipts.{receipt_of};
 
-use crate::reading::{name_of, unread};
+use crate::jdf_file::tree_of_file;
 use crate::verdict::Verdict;
-use jdf_lex::JdfRefusal;
 use jdf_print::print;
-use job_stages::{JobVerdict, jdf_too_long, tree_of};
 use ptg_base::{OutOfMemory, Text};
-use ptg_io::{Files, LoadFault, load};
+use ptg_io::Files;
 use std::alloc::Global;
 
 /// The verdict of `show` on a JDF file.
@@ -29,27 +26,12 @@ pub fn show<F: Files>(alloc: Global, jdf: &Text, files: &mut F) -> Result<Verdic
     ensures fit { IfOk result (λ v. HasFittingJob (denoted v)) }
     ensures not_run { IfOk result (λ v. receipt_of v ≡ None) }
 {
-    match load(alloc, files, name_of(jdf)) {
-        Ok(text) => shown(alloc, text.as_slice()),
-        Err(LoadFault::TooLong) => Ok(Verdict::Job(JobVerdict::Jdf(jdf_too_long()))),
-        Err(LoadFault::Failed) => unread(alloc, jdf),
-        Err(LoadFault::OutOfMemory) => Err(OutOfMemory),
-    }
-}
-
-// The verdict of `show` on the text of a JDF.
-fn shown(alloc: Global, text: &[u8]) -> Result<Verdict, OutOfMemory>
-    ensures shows { IfOk result (λ v. Shows text.now (denoted v)) }
-    ensures of_texts { IfOk result (λ v. IsOfTexts (denoted v)) }
-    ensures fit { IfOk result (λ v. HasFittingJob (denoted v)) }
-    ensures not_run { IfOk result (λ v. receipt_of v ≡ None) }
-{
-    match tree_of(alloc, text) {
+    let read = tree_of_file(alloc, jdf, files)?;
+    match read {
         Ok(tree) => {
             let text = print(alloc, &tree)?;
             Ok(Verdict::Spelling(text))
         }
-        Err(JdfRefusal::Fault(fault)) => Ok(Verdict::Job(JobVerdict::Jdf(fault))),
-        Err(JdfRefusal::OutOfMemory) => Err(OutOfMemory),
+        Err(refused) => Ok(refused),
     }
 }

@@ -5,6 +5,7 @@ use Rattle.std.specs.Option.{option_map_or}
 use Rattle.std.specs.List.{list_any, list_all}
 use Rattle.std.specs.Str.{bytes_eq}
 use Rattle.std.proofs.lemmas.List.{append-nil}
+use Rattle.std.proofs.Math.Bool.{not-not}
 use Rattle.clap.specs.Walk.{Row, Rule, Text, first_of, has_row, with_default, nothing_held, settled, walked}
 use Rattle.clap.specs.Facts.{explicit_source}
 use Rattle.clap.specs.Takes.{is_given}
@@ -108,10 +109,6 @@ each_given (i ∷ is) us t h a =
     ap (λ b. b && list_all (λ i. is_given i (map use_row us ++ t)) is) (given_seen i us t (h i a.1))
     ∙ ap (λ b. is_some (value_in i us) && b) (each_given is us t h a.4)
 
-not_not : (b : Bool) → not (not b) ≡ b
-not_not true = refl
-not_not false = refl
-
 module _ (name : Text) (c : List Rule) (ids : List Text) (opts : Options) (fits : Fits c ids opts) where
   all_views : (ws : List Text) → AllProper ws → Views name c opts ws
   all_views [] p = tt
@@ -132,11 +129,11 @@ module _ (name : Text) (c : List Rule) (ids : List Text) (opts : Options) (fits 
       go true e = rw e (sym (flip (sym (fits.required rows) ∙ e)))
         where
           flip : not (list_all (λ i. is_given i rows) ids) ≡ true → list_all (λ i. is_given i rows) ids ≡ false
-          flip h = sym (not_not _) ∙ ap not h
+          flip h = sym (not-not _) ∙ ap not h
       go false e = rw e (sym (flip (sym (fits.required rows) ∙ e)))
         where
           flip : not (list_all (λ i. is_given i rows) ids) ≡ false → list_all (λ i. is_given i rows) ids ≡ true
-          flip h = sym (not_not _) ∙ ap not h
+          flip h = sym (not-not _) ∙ ap not h
 
   level_is : (ws : List Text) → none (level_fault (shape name c opts) [] nothing_held ws false [])
       ≡ (none (total name c opts (here [] (quiet None) 1) ws) && list_all (λ i. is_given i (rows_at_end ws)) ids)

@@ -24,9 +24,6 @@ first_char x xs u = go (chars (x ∷ xs)) refl
     go [] e = let bad : [] ≡ x ∷ xs = sym (ap encode_utf8_all e) ∙ encodes-chars (x ∷ xs) u in absurd cc
     go (y ∷ ys) e = (y, ap (λ l. slice_get l 0) e)
 
-same_bytes : (a b : List ℕ) → bytes_eq a b ≡ true → a ≡ b
-same_bytes a b e = (bytes_eq-Decides a b).0 e
-
 module _ (c : List Rule) (no_short : (x : ℕ) → arg_by_short c x ≡ None) where
   bundle_fails : (x : ℕ) (xs : List ℕ) → IsUtf8 (x ∷ xs) → (k : ℕ) (h : Held) → none (flags_fault c false (suc k) (x ∷ xs) 0 h) ≡ false
   unfolding flags_fault none
@@ -97,21 +94,21 @@ module _ (c : List Rule) where
   option_view Counts by_long by_id y ys = go (bytes_eq (codes "workers") (name_part y ys)) (bytes_eq (codes "shards") (name_part y ys)) refl refl
     where
       go : (a b : Bool) → bytes_eq (codes "workers") (name_part y ys) ≡ a → bytes_eq (codes "shards") (name_part y ys) ≡ b → View c Counts (45 ∷ 45 ∷ y ∷ ys)
-      go true b ea eb = named_view Counts workers y ys _ refl (same_bytes _ _ ea) (rw ea refl) (by_long (codes "workers")) (by_id refl workers)
-      go false true ea eb = named_view Counts shards y ys _ refl (same_bytes _ _ eb) (rw (ea, eb) refl) (by_long (codes "shards")) (by_id refl shards)
+      go true b ea eb = named_view Counts workers y ys _ refl ((bytes_eq-Decides _ _).0 ea) (rw ea refl) (by_long (codes "workers")) (by_id refl workers)
+      go false true ea eb = named_view Counts shards y ys _ refl ((bytes_eq-Decides _ _).0 eb) (rw (ea, eb) refl) (by_long (codes "shards")) (by_id refl shards)
       go false false ea eb = is_refused (rw (ea, eb) refl) refl (λ rows p. rw (by_long (name_part y ys), ea, eb) refl)
   option_view CountsAndPreload by_long by_id y ys =
       go (bytes_eq (codes "workers") (name_part y ys)) (bytes_eq (codes "shards") (name_part y ys)) (bytes_eq (codes "preload") (name_part y ys)) (text_after (y ∷ ys)) refl refl refl refl
     where
       go : (a b d : Bool) (text : Option Text) → bytes_eq (codes "workers") (name_part y ys) ≡ a → bytes_eq (codes "shards") (name_part y ys) ≡ b → bytes_eq (codes "preload") (name_part y ys) ≡ d
           → text_after (y ∷ ys) ≡ text → View c CountsAndPreload (45 ∷ 45 ∷ y ∷ ys)
-      go true b d text ea eb ed e = named_view CountsAndPreload workers y ys text e (same_bytes _ _ ea) (rw ea refl) (by_long (codes "workers")) (by_id refl workers)
-      go false true d text ea eb ed e = named_view CountsAndPreload shards y ys text e (same_bytes _ _ eb) (rw (ea, eb) refl) (by_long (codes "shards")) (by_id refl shards)
+      go true b d text ea eb ed e = named_view CountsAndPreload workers y ys text e ((bytes_eq-Decides _ _).0 ea) (rw ea refl) (by_long (codes "workers")) (by_id refl workers)
+      go false true d text ea eb ed e = named_view CountsAndPreload shards y ys text e ((bytes_eq-Decides _ _).0 eb) (rw (ea, eb) refl) (by_long (codes "shards")) (by_id refl shards)
       go false false true None ea eb ed e =
-          is_flag (rw (ea, eb, ed, e) refl) refl (ap₂ (λ (a : Text) (t : Option Text). Some (a, t)) (sym (same_bytes _ _ ed)) e) (by_long (codes "preload"))
+          is_flag (rw (ea, eb, ed, e) refl) refl (ap₂ (λ (a : Text) (t : Option Text). Some (a, t)) (sym ((bytes_eq-Decides _ _).0 ed)) e) (by_long (codes "preload"))
       go false false true (Some t) ea eb ed e =
           is_refused (rw (ea, eb, ed, e) refl) refl
-          (λ rows p. ap (λ o. none (flag_word_fault c false o (45 ∷ 45 ∷ y ∷ ys) (held rows p))) (ap₂ (λ (a : Text) (t : Option Text). Some (a, t)) (sym (same_bytes _ _ ed)) e)
+          (λ rows p. ap (λ o. none (flag_word_fault c false o (45 ∷ 45 ∷ y ∷ ys) (held rows p))) (ap₂ (λ (a : Text) (t : Option Text). Some (a, t)) (sym ((bytes_eq-Decides _ _).0 ed)) e)
           ∙ ap (λ r. none (long_fault c false r (Some t) (held rows p))) (by_long (codes "preload")))
       go false false false text ea eb ed e =
           is_refused (rw (ea, eb, ed) refl) refl (λ rows p. rw (by_long (name_part y ys), ea, eb, ed) refl)

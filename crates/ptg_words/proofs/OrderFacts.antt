@@ -9,12 +9,12 @@ use Rattle.ptg_words.specs.declared.options.Options.{Options}
 use Rattle.ptg_words.specs.declared.order.Order.{Order}
 use Rattle.ptg_words.specs.Parts.{Part, NumberOption, Form, plain, named, flag, unknown, workers, shards, after, form_of, parts, parts_from, operands, texts_of}
 use Rattle.ptg_words.specs.Words as words
-use Rattle.ptg_words.specs.Words.{Verb, IsProper, Orders, bad_number, improper_word, formed, has_bad_count, has_bad_number, has_bad_operand, has_no_number, is_number, number_or, operands_of, options_of, read, shards_of, verb_of, workers_of}
+use Rattle.ptg_words.specs.Words.{Verb, IsProper, bad_number, improper_word, formed, has_bad_count, has_bad_number, has_bad_operand, has_no_number, is_number, number_or, operands_of, options_of, read, shards_of, verb_of, workers_of}
 use Rattle.ptg_words.specs.Laws.{AreCounts, AreText, FilesAreText, HasNumbersInRange, NumbersInRange, files_of}
 use Rattle.ptg_words.specs.Readings.{AllProper}
 use Rattle.ptg_words.proofs.Rules.{all_proper, number_at_most, to_rule}
 use Rattle.ptg_words.proofs.Either.{all_or_any}
-use Rattle.std.proofs.lemmas.Bool.{or_parts}
+use Rattle.std.proofs.lemmas.Bool.{or_parts, not-false}
 
 -- ---- the operands of proper words are proper
 
@@ -92,15 +92,11 @@ files_are_text (w ∷ ws) o h = go (all_or_any (w ∷ ws))
 
 numbered : (least most : ℕ) (text : List ℕ) → not (is_number least most text) ≡ false → (least ≤ decimal text) × (decimal text ≤ most)
 numbered least most text h =
-    let yes : is_number least most text ≡ true = on (is_number least most text) h in
+    let yes : is_number least most text ≡ true = not-false (is_number least most text) h in
     let up : nat_le (decimal text) most ≡ true = number_at_most least most text yes in
     let down : nat_le least (decimal text) ≡ true = last (nat_le (length text) 20) (is_decimal most text) (nat_le least (decimal text)) yes in
     (grind (arith, nat_tests), grind (arith, nat_tests))
   where
-    on : (b : Bool) → not b ≡ false → b ≡ true
-    on true e = refl
-    on false e = absurd cc
-
     last : (a b c : Bool) → (a && (b && c)) ≡ true → c ≡ true
     last true true c e = e
     last true false c e = absurd cc

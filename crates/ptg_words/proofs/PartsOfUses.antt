@@ -9,7 +9,7 @@ use Rattle.ptg_words.specs.Parts.{NumberOption, Part, name_of, workers, shards, 
 use Rattle.std.proofs.lemmas.Bool.Decides.{nat_tests}
 use Rattle.ptg_words.proofs.ClapUses.{Use, use_row, fresh}
 use Rattle.ptg_words.proofs.ClapStates.{good, uses}
-use Rattle.list_lemmas.proofs.Truth.{second_false}
+use Rattle.list_lemmas.proofs.Truth.{second_false, first_false, or-false}
 
 -- no id occurs twice
 abbrev pub distinct : List Use → Bool
@@ -17,11 +17,7 @@ distinct [] = true
 distinct (u ∷ us) = not (list_any (λ v. bytes_eq u.0 v.0) us) && distinct us
 
 has_more : (id : Text) (rows : List Row) (u : Use) → has_row id (rows ++ use_row u ∷ []) ≡ (has_row id rows || bytes_eq u.0 id)
-has_more id [] u = go (bytes_eq u.0 id)
-  where
-    go : (b : Bool) → (b || false) ≡ b
-    go true = refl
-    go false = refl
+has_more id [] u = or-false (bytes_eq u.0 id)
 has_more id (r ∷ rs) u = go (bytes_eq r.id id) (has_more id rs u)
   where
     go : (b : Bool) → has_row id (rs ++ use_row u ∷ []) ≡ (has_row id rs || bytes_eq u.0 id) → (b || has_row id (rs ++ use_row u ∷ [])) ≡ ((b || has_row id rs) || bytes_eq u.0 id)
@@ -139,11 +135,7 @@ free_at (i ∷ is) (suc k) id a e = free_at is k id a.4 e
 
 differs_at : (i : Text) (ids : List Text) (k : ℕ) (id : Text) → list_any (bytes_eq i) ids ≡ false → slice_get ids k ≡ Some id → bytes_eq i id ≡ false
 differs_at i [] k id d e = absurd cc
-differs_at i (j ∷ js) zero id d e = let here : j ≡ id = cc in ap (bytes_eq i) (sym here) ∙ left_of (bytes_eq i j) _ d
-  where
-    left_of : (a b : Bool) → (a || b) ≡ false → a ≡ false
-    left_of false b e = refl
-    left_of true b e = let bad : true ≡ false = e in absurd cc
+differs_at i (j ∷ js) zero id d e = let here : j ≡ id = cc in ap (bytes_eq i) (sym here) ∙ first_false (bytes_eq i j) _ d
 differs_at i (j ∷ js) (suc k) id d e = differs_at i js k id (second_false (bytes_eq i j) _ d) e
 
 -- each operand is the first value of its id

@@ -15,7 +15,7 @@ use Rattle.clap.specs.declared.parser.matches.MatchedArg.{MatchedArg}
 use Rattle.ptg_words.specs.Parts.{NumberOption, Part, name_of, workers, shards, operand, given, lacking, preload, stray, operands, texts_of, is_lacking, is_stray, is_named, has_twice}
 use Rattle.ptg_words.specs.Readings.{is_read, texts_in}
 use Rattle.ptg_words.proofs.ClapUses.{none}
-use Rattle.std.proofs.lemmas.Bool.{or_parts}
+use Rattle.std.proofs.lemmas.Bool.{or_parts, not-true}
 
 pub none_is : (k : Kinds) → k ≡ [] → none k ≡ true
 unfolding none
@@ -60,11 +60,7 @@ pub counted : (n : ℕ) (ps : List Part) → is_read n ps ≡ true → (length (
 counted n ps e =
     let f = four (not (list_any is_stray ps)) (not (list_any is_lacking ps)) (not (has_twice ps)) (length (operands ps) == n) e in
     let same : (length (operands ps) == n) ≡ true = f.3 in
-    (grind (arith, nat_tests), no_twice (has_twice ps) f.2)
-  where
-    no_twice : (b : Bool) → not b ≡ true → b ≡ false
-    no_twice false h = refl
-    no_twice true h = absurd cc
+    (grind (arith, nat_tests), not-true (has_twice ps) f.2)
 
 -- an option that does not occur twice has one text at most
 no_texts : (s : NumberOption) (ps : List Part) → list_any (is_named (name_of s)) ps ≡ false → texts_of s ps ≡ []

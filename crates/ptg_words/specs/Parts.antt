@@ -55,7 +55,8 @@ text_after word = if list_any (λ b. b == 61) word then Some (after_first (λ b.
 -- the form of a word that begins with `-`, by what follows it
 abbrev pub dashed_form : Options → List ℕ → Form
 dashed_form options word =
-    if is_dashed word then option_named options (before_first (λ b. b == 61) (drop 1 word)) (text_after (drop 1 word)) else unknown
+    if is_dashed word then option_named options (before_first (λ b. b == 61) (drop 1 word)) (text_after (drop 1 word))
+    else unknown
 
 abbrev pub form_of : Options → List ℕ → Form
 form_of options word = if is_dashed word then dashed_form options (drop 1 word) else plain

@@ -142,7 +142,8 @@ pub(crate) fn verb_words<'a>(
     requires proper { AllProper (drop 1 (texts words.now)) }
     requires ids { are_ids (texts ids.now) ≡ true }
     requires at_most { length ids.now ≤ 4 }
-    ensures found { IfOk result (λ r. (is_read (length ids.entry.now) (parts options (drop 1 (texts words.entry.now))) ≡ true)
+    ensures found { IfOk result (λ r.
+        (is_read (length ids.entry.now) (parts options (drop 1 (texts words.entry.now))) ≡ true)
         × HasWords (parts options (drop 1 (texts words.entry.now))) r) }
     ensures usage { result ≡ Err WordsRefusal.Usage
         → is_read (length ids.entry.now) (parts options (drop 1 (texts words.entry.now))) ≡ false }

@@ -41,7 +41,8 @@ pub(crate) fn read_verb<'a>(
     requires ids { are_ids (texts ids.now) ≡ true }
     requires at_most { length ids.now ≤ 4 }
     ensures found { IfOk result (IsReadOf (length ids.entry.now) (parts options (drop 1 (texts words.entry.now)))) }
-    ensures usage { result ≡ Err WordsRefusal.Usage → (is_read (length ids.entry.now) (parts options (drop 1 (texts words.entry.now))) ≡ false)
+    ensures usage { result ≡ Err WordsRefusal.Usage
+        → (is_read (length ids.entry.now) (parts options (drop 1 (texts words.entry.now))) ≡ false)
         ⊎ (has_bad_count (parts options (drop 1 (texts words.entry.now))) ≡ true) }
 {
     let found = verb_words(alloc, name, ids, options, words)?;
@@ -62,7 +63,8 @@ pub(crate) fn read_verb<'a>(
 // The number of the text, or `default` where there is none. None where the text is no number from 1 to `most`.
 fn count(text: Option<&str>, most: u32, default: u32) -> Option<u32>
     ensures { MatchOption result (has_no_number 1 most (texts_in text.entry) ≡ true)
-        (λ n. (has_no_number 1 most (texts_in text.entry) ≡ false) × (n ≡ Words.number_or default (texts_in text.entry))) }
+        (λ n. (has_no_number 1 most (texts_in text.entry) ≡ false)
+        × (n ≡ Words.number_or default (texts_in text.entry))) }
 {
     match text {
         None => Some(default),

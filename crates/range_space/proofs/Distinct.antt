@@ -51,11 +51,11 @@ distinct_values : (lo hi step : ℤ) → HasNoRepeats (values lo hi step)
 unfolding values
 distinct_values lo hi step = distinct_while hi step _ lo
 
-distinct_range : (r : Result Bounds SpanFault) → HasNoRepeats (or_empty (and_then r (λ b. Ok (values b.lo b.hi b.step))))
+pub distinct_range : (r : Result Bounds SpanFault) → HasNoRepeats (or_empty (and_then r (λ b. Ok (values b.lo b.hi b.step))))
 distinct_range (Ok b) = distinct_values b.lo b.hi b.step
 distinct_range (Err e) = tt
 
-distinct_number : (r : Result ℤ SpanFault) → HasNoRepeats (or_empty (and_then r (λ z. Ok (z ∷ []))))
+pub distinct_number : (r : Result ℤ SpanFault) → HasNoRepeats (or_empty (and_then r (λ z. Ok (z ∷ []))))
 distinct_number (Ok z) = (λ w. w, tt)
 distinct_number (Err e) = tt
 

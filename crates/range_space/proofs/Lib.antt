@@ -1,6 +1,5 @@
 pub mod Stepping
 pub mod Members
-pub mod Progression
 pub mod Nesting
 pub mod MemberLists
 pub mod Counting

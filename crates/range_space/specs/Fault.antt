@@ -30,7 +30,10 @@ pub record Bounds : Type 0 where
 -- lo, hi and the step, evaluated in this order
 abbrev pub bounds : Range → List ℤ → Result Bounds SpanFault
 bounds r env =
-    and_then (number r.lo env) (λ lo. and_then (number r.hi env) (λ hi. and_then (step_number r.step env) (λ step. Ok (record { lo = lo; hi = hi; step = step }))))
+    and_then (number r.lo env) (λ lo.
+    and_then (number r.hi env) (λ hi.
+    and_then (step_number r.step env) (λ step.
+    Ok (record { lo = lo; hi = hi; step = step }))))
 
 -- the values of a range
 abbrev pub range_values : Range → List ℤ → Result (List ℤ) SpanFault

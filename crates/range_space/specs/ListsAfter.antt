@@ -43,7 +43,8 @@ pub record IsFirstOf (ds : List Def) (outer now : List ℤ) (lists : List (List 
   pub first : lists ≡ now ∷ lists_after ds outer locals
 
 -- the same, where the first definition is a range with these bounds
-pub record IsFirstOver (bounds : Result Bounds SpanFault) (ds : List Def) (outer now : List ℤ) (lists : List (List ℤ)) : Type 0 where
+pub record IsFirstOver (bounds : Result Bounds SpanFault) (ds : List Def) (outer now : List ℤ)
+    (lists : List (List ℤ)) : Type 0 where
   pub value : ℤ
   pub locals : List ℤ
   pub extends : now ≡ outer ++ value ∷ locals

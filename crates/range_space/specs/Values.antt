@@ -22,8 +22,3 @@ values lo hi step = while_within hi step (suc (unsigned_abs (hi -ℤ lo))) lo
 abbrev pub values_from : Option ℤ → ℤ → ℤ → List ℤ
 values_from None hi step = []
 values_from (Some v) hi step = values v hi step
-
--- the number that is so many steps from lo
-abbrev pub steps_from : ℤ → ℤ → ℕ → ℤ
-steps_from lo step zero = lo
-steps_from lo step (suc k) = steps_from (lo +ℤ step) step k

@@ -1,21 +1,13 @@
 //! Laws about ranges, tasks, their locals and faults.
 
-ghost use Rattle.std.specs.Prelude.{◌≡◌, ℕ, ℤ, List, Some, None, slice_get, if◌then◌else◌};
+ghost use Rattle.std.specs.Prelude.{◌≡◌, ℤ, List};
 ghost use Rattle.ptg_base.specs.Lists.{IsIn, HasNoRepeats};
 ghost use Rattle.term_core.specs.declared.space.ClassSpace.{ClassSpace};
 ghost use Rattle.term_core.specs.WellSpace.{IsWellSpace};
 ghost use Rattle.range_space.specs.declared.fault.SpaceFault.{SpaceFault};
-ghost use Rattle.range_space.specs.Values.{is_within, steps_from, values};
 ghost use Rattle.range_space.specs.Tasks.{tasks};
 ghost use Rattle.range_space.specs.Locals.{IsLocalsOf};
 ghost use Rattle.range_space.specs.Walk.{walk_all, IsFirstFault};
-
-/// A law: the value of a range at an index is the number so many steps from its start, where that is within its end.
-pub fn values_are_a_progression()
-    ensures { (lo hi step : ℤ) (index : ℕ)
-        → slice_get (values lo hi step) index
-        ≡ (if is_within hi step (steps_from lo step index) then Some (steps_from lo step index) else None) }
-{}
 
 /// A law: no task occurs twice in the space of its class.
 pub fn tasks_are_distinct()

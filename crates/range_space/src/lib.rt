@@ -14,9 +14,7 @@ mod walk;
 
 pub use all_locals::AllLocals;
 pub use fault::{SpaceFault, SpanFault};
-pub use laws::{
-    a_task_has_one_list_of_locals, one_first_fault, tasks_are_distinct, values_are_a_progression,
-};
+pub use laws::{a_task_has_one_list_of_locals, one_first_fault, tasks_are_distinct};
 pub use member::{find_locals, in_space, locals_of};
 pub use numbers::Numbers;
 pub use size::space_size;

@@ -1,6 +1,5 @@
 -- The items of a task: those within its rank, and its edges to other ranks.
-use Rattle.std.proofs.Common.{◌≡◌, ◌⊎◌, ℕ, not, List, [], ◌∷◌, map, refl, ap, sym, ◌∙◌, subst, inl, inr}
-use Rattle.std.specs.List.{filter_map, flat_map}
+use Rattle.std.proofs.Common.{◌≡◌, ◌⊎◌, ℕ, not, map, refl, ap, sym, ◌∙◌, subst, inl, inr}
 use Rattle.ptg_base.specs.Lists.{HasNoRepeats, IsIn}
 use Rattle.ptg_base.specs.Task.{Task}
 use Rattle.ptg_base.specs.declared.edge.Edge.{Edge}
@@ -9,47 +8,15 @@ use Rattle.ptg_base.specs.declared.edge.Item.{Item}
 use Rattle.ptg_base.specs.declared.edge.Item.TheVariants as item
 use Rattle.plan_core.specs.declared.plan.Plan.{Plan}
 use Rattle.dep_iter.specs.Consistent.{IsConsistent}
-use Rattle.dep_iter.specs.Items.{edge_of, items, out_edges, write_backs, write_of}
-use Rattle.dep_iter.specs.Tasks.{IsTask, all_tasks}
-use Rattle.dep_iter.proofs.Belonging.{out_edge_is}
-use Rattle.dep_iter.proofs.Listing.{listed}
+use Rattle.dep_iter.specs.Items.{items, out_edges, write_backs}
+use Rattle.dep_iter.specs.Tasks.{IsTask}
+use Rattle.dep_iter.proofs.Items.{Edge-injective, Write-injective, edge_item, item_edge, item_write, write_item}
+use Rattle.dep_iter.proofs.Once.{once-out_edges, once-write_backs}
 use Rattle.list_lemmas.proofs.Members.{IsIn-append_left, IsIn-append_right, IsIn-map, from_append, from_map, IsIn-filter}
 use Rattle.list_lemmas.proofs.Truth.{by_test}
-use Rattle.list_lemmas.proofs.Distinct.{HasNoRepeats-append, HasNoRepeats-filter, HasNoRepeats-from_map, HasNoRepeats-map, HasNoRepeats-part}
+use Rattle.list_lemmas.proofs.Distinct.{HasNoRepeats-append, HasNoRepeats-filter, HasNoRepeats-map}
 use Rattle.rank_core.specs.World.{edges_between, edges_within, is_between, items_within}
-
--- edges and write-backs among items
-edge_item : (is : List Item) (e : Edge) → IsIn e (filter_map edge_of is) → IsIn (item.Edge e) is
-edge_item [] e h = absurd h
-edge_item (item.Edge d ∷ is) e h = elim h [ inl q ↦ inl (ap (λ (x : Edge). item.Edge x) q) | inr t ↦ inr (edge_item is e t) ]
-edge_item (item.Write w ∷ is) e h = inr (edge_item is e h)
-
-item_edge : (is : List Item) (e : Edge) → IsIn (item.Edge e) is → IsIn e (filter_map edge_of is)
-item_edge [] e h = absurd h
-item_edge (item.Edge d ∷ is) e h = elim h [ inl q ↦ inl (same e d q) | inr t ↦ inr (item_edge is e t) ]
-  where
-    same : (a b : Edge) → item.Edge a ≡ item.Edge b → a ≡ b
-    same a b q = cc
-item_edge (item.Write w ∷ is) e h = elim h [ inl q ↦ absurd cc | inr t ↦ item_edge is e t ]
-
-write_item : (is : List Item) (w : WriteBack) → IsIn w (filter_map write_of is) → IsIn (item.Write w) is
-write_item [] w h = absurd h
-write_item (item.Edge e ∷ is) w h = inr (write_item is w h)
-write_item (item.Write v ∷ is) w h = elim h [ inl q ↦ inl (ap (λ (x : WriteBack). item.Write x) q) | inr t ↦ inr (write_item is w t) ]
-
-item_write : (is : List Item) (w : WriteBack) → IsIn (item.Write w) is → IsIn w (filter_map write_of is)
-item_write [] w h = absurd h
-item_write (item.Edge e ∷ is) w h = elim h [ inl q ↦ absurd cc | inr t ↦ item_write is w t ]
-item_write (item.Write v ∷ is) w h = elim h [ inl q ↦ inl (same w v q) | inr t ↦ inr (item_write is w t) ]
-  where
-    same : (a b : WriteBack) → item.Write a ≡ item.Write b → a ≡ b
-    same a b q = cc
-
-one_edge : (a b : Edge) → item.Edge a ≡ item.Edge b → a ≡ b
-one_edge a b q = cc
-
-one_write : (a b : WriteBack) → item.Write a ≡ item.Write b → a ≡ b
-one_write a b q = cc
+pub use Rattle.flow_meaning.proofs.Members.{out_edge_from as out_from}
 
 module _ (P : Plan) (t : Task) where
   -- an edge out of a task is one of its items, and the other way round
@@ -58,9 +25,6 @@ module _ (P : Plan) (t : Task) where
 
   pub item_is_out : (e : Edge) → IsIn (item.Edge e) (items P t) → IsIn e (out_edges P t)
   item_is_out e h = item_edge (items P t) e h
-
-  pub out_from : (e : Edge) → IsIn e (out_edges P t) → e.from ≡ t
-  out_from e h = ((out_edge_is P t e).0 h).0
 
   module _ (r : ℕ) where
     pub between_is_out : (e : Edge) → IsIn e (edges_between P r t) → IsIn e (out_edges P t)
@@ -94,19 +58,13 @@ module _ (P : Plan) (t : Task) where
 
 module _ (P : Plan) (con : IsConsistent P) (t : Task) (job : IsTask P t) where
   -- no edge and no item of a task occurs twice
-  pub outs_once : HasNoRepeats (out_edges P t)
-  outs_once = HasNoRepeats-part (out_edges P) (all_tasks P) con.no_out_edge_twice t ((listed P t).0 job)
-
-  writes_once : HasNoRepeats (write_backs P t)
-  writes_once = HasNoRepeats-part (write_backs P) (all_tasks P) (HasNoRepeats-from_map (λ (w : WriteBack). w.place) (flat_map (write_backs P) (all_tasks P)) con.written_once) t ((listed P t).0 job)
-
   pub between_once : (r : ℕ) → HasNoRepeats (edges_between P r t)
-  between_once r = HasNoRepeats-filter (is_between P r) (out_edges P t) outs_once
+  between_once r = HasNoRepeats-filter (is_between P r) (out_edges P t) (once-out_edges P con t job)
 
   pub within_once : (r : ℕ) → HasNoRepeats (items_within P r t)
   within_once r =
-      HasNoRepeats-append (map item.Write (write_backs P t)) (map item.Edge (edges_within P r t)) (HasNoRepeats-map (λ (w : WriteBack). item.Write w) (write_backs P t) writes_once one_write)
-      (HasNoRepeats-map (λ (e : Edge). item.Edge e) (edges_within P r t) (HasNoRepeats-filter (λ e. not (is_between P r e)) (out_edges P t) outs_once) one_edge)
+      HasNoRepeats-append (map item.Write (write_backs P t)) (map item.Edge (edges_within P r t)) (HasNoRepeats-map (λ (w : WriteBack). item.Write w) (write_backs P t) (once-write_backs P con t job) Write-injective)
+      (HasNoRepeats-map (λ (e : Edge). item.Edge e) (edges_within P r t) (HasNoRepeats-filter (λ e. not (is_between P r e)) (out_edges P t) (once-out_edges P con t job)) Edge-injective)
       (λ i left right.
       let p = from_map (λ (w : WriteBack). item.Write w) (write_backs P t) i left in
       let q = from_map (λ (e : Edge). item.Edge e) (edges_within P r t) i right in

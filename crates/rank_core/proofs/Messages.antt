@@ -21,12 +21,13 @@ use Rattle.flow_meaning.specs.Backward.{ended}
 use Rattle.flow_meaning.specs.Comparing.{same_edge}
 use Rattle.list_lemmas.specs.Counting.{HasSameMembers, as_number, count, weigh}
 use Rattle.flow_meaning.specs.Ending.{Ended, has_outputs, output_tile}
-use Rattle.flow_meaning.proofs.Comparing.{same_edge-decides}
+use Rattle.ptg_base.proofs.Comparisons.{same_edge-decides}
 use Rattle.flow_meaning.proofs.Once.{claims_members}
+use Rattle.flow_meaning.proofs.Members.{out_edge_from}
 use Rattle.rank_core.specs.declared.message.Message.{Message}
 use Rattle.rank_core.specs.World.{IsQuiet, WorldState, edges_between, is_between, message_from, messages_by}
 use Rattle.rank_core.specs.Sound.{IsSoundWorld, message_count}
-use Rattle.rank_core.proofs.Items.{between_is_out, between_once, out_from}
+use Rattle.rank_core.proofs.Items.{between_is_out, between_once}
 use Rattle.rank_core.proofs.Quiet.{quiet_iff}
 use Rattle.rank_core.proofs.Running.{message_is, messages_with, messages_without}
 
@@ -91,10 +92,10 @@ module _ (P : Plan) (G : Data) (r : ℕ) where
       ap length (messages_with P r t (ended P G t) o)
       ∙ length-map (edges_between P r t) (message_from (ended P G t))
       ∙ length-filter (is_between P r) (out_edges P t)
-      ∙ weigh-same (λ e. as_number (has_outputs (ended P G e.from) && is_between P r e)) (λ e. as_number (is_between P r e)) (out_edges P t) (λ e h. ap (λ b. as_number (b && is_between P r e)) (sym (ap (λ u. has_outputs (ended P G u)) (out_from P t e h) ∙ o))))
+      ∙ weigh-same (λ e. as_number (has_outputs (ended P G e.from) && is_between P r e)) (λ e. as_number (is_between P r e)) (out_edges P t) (λ e h. ap (λ b. as_number (b && is_between P r e)) (sym (ap (λ u. has_outputs (ended P G u)) (out_edge_from P t e h) ∙ o))))
       (λ o.
       ap length (messages_without P r t (ended P G t) o)
-      ∙ sym (weigh-zero (λ e. as_number (has_outputs (ended P G e.from) && is_between P r e)) (out_edges P t) (λ e h. ap (λ b. as_number (b && is_between P r e)) (ap (λ u. has_outputs (ended P G u)) (out_from P t e h) ∙ o))))
+      ∙ sym (weigh-zero (λ e. as_number (has_outputs (ended P G e.from) && is_between P r e)) (out_edges P t) (λ e h. ap (λ b. as_number (b && is_between P r e)) (ap (λ u. has_outputs (ended P G u)) (out_edge_from P t e h) ∙ o))))
 
   module _ (con : IsConsistent P) (w : WorldState) (sound : IsSoundWorld P G r w) where
     pub messages_counted : IsQuiet P w → length w.messages ≡ message_count P G r
@@ -114,7 +115,7 @@ module _ (P : Plan) (G : Data) (r : ℕ) where
         by_test (has_outputs (ended P G t))
         (λ o.
         let q = from_map (message_from (ended P G t)) (edges_between P r t) m (subst (λ ms. IsIn m ms) (messages_with P r t (ended P G t) o) h) in
-        ap (λ (x : Message). x.edge.from) q.2 ∙ out_from P t q.0 (between_is_out P t r q.0 q.1))
+        ap (λ (x : Message). x.edge.from) q.2 ∙ out_edge_from P t q.0 (between_is_out P t r q.0 q.1))
         (λ o. let never : IsIn m [] = subst (λ ms. IsIn m ms) (messages_without P r t (ended P G t) o) h in absurd never)
 
     once_by : (t : Task) → IsIn t w.machine.claims → HasNoRepeats (messages_by P r t (ended P G t))

@@ -36,7 +36,7 @@ module _ (P : Plan) (G : Data) (con : IsConsistent P) (r : ℕ) (w : WorldState)
     each_sent : (t : Task) → IsIn t w.machine.claims → has_outputs (ended P G t) ≡ true → (i : Item) → IsIn i (items P t) → is_sent w.machine i ≡ true
     each_sent t c o i m = elim (within_or_between P t r i m) [
       | inl here ↦ sound.within t i c o here
-      | inr away ↦ subst (λ j. is_sent w.machine j ≡ true) (sym away.is) (quiet.all_stand (message_from (ended P G t) away.edge) (is_message t c o away.edge away.among))
+      | inr away ↦ subst (λ j. is_sent w.machine j ≡ true) (sym away.is) (quiet.all_delivered (message_from (ended P G t) away.edge) (is_message t c o away.edge away.among))
     ]
 
     quiet_rests : IsAtRest P G w.machine
@@ -45,7 +45,7 @@ module _ (P : Plan) (G : Data) (con : IsConsistent P) (r : ℕ) (w : WorldState)
   rest_quiet : IsAtRest P G w.machine → IsQuiet P w
   rest_quiet rest = record {
     none_may_run = rest.none_ready;
-    all_stand = λ m h.
+    all_delivered = λ m h.
         let is = message_is P G con r w sound m h in
         elim (rest.all_finished m.edge.from is.claimed) [
           | inl trap ↦ absurd (false≢true (sym trap ∙ is.outputs))

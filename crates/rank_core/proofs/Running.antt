@@ -17,20 +17,17 @@ use Rattle.flow_meaning.specs.Backward.{ended}
 use Rattle.flow_meaning.specs.Comparing.{same_item}
 use Rattle.list_lemmas.specs.Counting.{as_number}
 use Rattle.flow_meaning.specs.Ending.{Ended, has_outputs, output_tile}
-use Rattle.flow_meaning.specs.Machine.{Claim, Event, Happen, MachineState, MayClaim, MaySend, Send, Sent, claim_count, end_in, is_sent, send_count, sender, sent_with, state_after}
+use Rattle.flow_meaning.specs.Machine.{Claim, Event, Happen, MachineState, MayClaim, MaySend, Send, Sent, claim_count, end_in, send_count, sender, sent_with, state_after}
 use Rattle.flow_meaning.specs.Sound.{HasAllArrived, IsSoundState}
 use Rattle.flow_meaning.proofs.Comparing.{same_item-decides}
-use Rattle.flow_meaning.proofs.Events.{claim_sound, ends_so, member_claim, send_member, send_sound, unsent}
+use Rattle.flow_meaning.proofs.Events.{claim_sound, ends_so, send_sound, unsent}
 use Rattle.flow_meaning.proofs.Rest.{item_sender}
+use Rattle.flow_meaning.proofs.Members.{out_edge_from}
 use Rattle.rank_core.specs.declared.message.Message.{Message}
-use Rattle.rank_core.specs.World.{WorldState, after_run, edges_between, item_from, items_by, items_within, message_from, messages_by, stands, with_message}
+use Rattle.rank_core.specs.World.{WorldState, after_run, edges_between, item_from, items_by, items_within, message_from, messages_by, is_delivered, with_message}
 use Rattle.rank_core.specs.Sound.{IsSoundWorld}
-use Rattle.rank_core.proofs.Items.{between_is_out, out_from, out_is_item, within_is_item, within_once}
-
--- events that happen one after another
-pub happen-append : (P : Plan) (G : Data) (es fs : List Event) (S T U : MachineState) → Happen P G es S T → Happen P G fs T U → Happen P G (es ++ fs) S U
-happen-append P G [] fs S T U h k = subst (λ V. Happen P G fs V U) (sym h) k
-happen-append P G (e ∷ es) fs S T U h k = (h.0, happen-append P G es fs (state_after P G S e) T U h.1 k)
+use Rattle.rank_core.proofs.Items.{between_is_out, out_is_item, within_is_item, within_once}
+pub use Rattle.flow_meaning.proofs.Events.{unclaimed_unsent}
 
 -- what stands and what is sent after a task has ended so
 pub items_with : (P : Plan) (r : ℕ) (t : Task) (end : Option Ended) → has_outputs end ≡ true → items_by P r t end ≡ map (item_from end) (items_within P r t)
@@ -44,17 +41,6 @@ messages_with P r t end k = ap (λ b. cond b (map (message_from end) (edges_betw
 
 pub messages_without : (P : Plan) (r : ℕ) (t : Task) (end : Option Ended) → has_outputs end ≡ false → messages_by P r t end ≡ []
 messages_without P r t end k = ap (λ b. cond b (map (message_from end) (edges_between P r t)) []) k
-
--- the items of a task that is not claimed were not sent
-pub unclaimed_unsent : (P : Plan) (G : Data) (S : MachineState) → IsSoundState P G S → (i : Item) → claim_count S (sender i) ≡ 0 → send_count S i ≡ 0
-unclaimed_unsent P G S sound i none =
-    by_test (is_sent S i)
-    (λ k.
-    let p = send_member S i k in
-    let o = sound.sent_are_outputs p.0 p.1 in
-    let more = member_claim S (sender i) (subst (λ j. IsIn (sender j) S.claims) p.2 o.claimed) in
-    absurd (omega (arith, more, none)))
-    (λ k. unsent S i k)
 
 module _ (P : Plan) (G : Data) (con : IsConsistent P) where
   sends_after : MachineState → Task → List Item → MachineState
@@ -135,7 +121,7 @@ module _ (P : Plan) (G : Data) (con : IsConsistent P) where
         (λ o.
         let q = from_map (message_from (ended P G p.0)) (edges_between P r p.0) m (subst (λ ms. IsIn m ms) (messages_with P r p.0 (ended P G p.0) o) p.2) in
         let edge : m.edge ≡ q.0 = ap (λ (x : Message). x.edge) q.2 in
-        let from : m.edge.from ≡ p.0 = ap (λ (e : Edge). e.from) edge ∙ out_from P p.0 q.0 (between_is_out P p.0 r q.0 q.1) in
+        let from : m.edge.from ≡ p.0 = ap (λ (e : Edge). e.from) edge ∙ out_edge_from P p.0 q.0 (between_is_out P p.0 r q.0 q.1) in
         record {
           claimed = subst (λ u. IsIn u w.machine.claims) (sym from) p.1;
           outputs = ap (λ u. has_outputs (ended P G u)) from ∙ o;
@@ -148,8 +134,8 @@ module _ (P : Plan) (G : Data) (con : IsConsistent P) where
       pub message_ends : end_in P G w.machine m.edge.from ≡ ended P G m.edge.from
       message_ends = sym (ends_so P G con w.machine sound.state m.edge.from (sound.state.claimed_have_all m.edge.from (message_is m h).claimed))
 
-      -- the edge of a message that does not stand may be sent
-      pub message_may : stands w.machine m ≡ false → MaySend P G w.machine (item.Edge m.edge)
+      -- the edge of a message that was not delivered may be sent
+      pub message_may : is_delivered w.machine m ≡ false → MaySend P G w.machine (item.Edge m.edge)
       message_may none =
           let is = message_is m h in
           record {
@@ -162,7 +148,7 @@ module _ (P : Plan) (G : Data) (con : IsConsistent P) where
       -- a delivery is the send of an edge, or nothing
       pub delivered : (es : List Event) × Happen P G es w.machine (with_message w.machine m)
       delivered =
-          by_test (stands w.machine m)
+          by_test (is_delivered w.machine m)
           (λ k. ([], sym (ap (λ b. cond b w.machine (record { claims = w.machine.claims; sends = w.machine.sends ++ record { item = item.Edge m.edge; tile = m.tile } ∷ [] })) k)))
           (λ k.
           let is = message_is m h in

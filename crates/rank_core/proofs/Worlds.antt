@@ -19,14 +19,12 @@ use Rattle.flow_meaning.specs.Backward.{ended}
 use Rattle.flow_meaning.specs.Comparing.{same_item}
 use Rattle.list_lemmas.specs.Counting.{as_number}
 use Rattle.flow_meaning.specs.Ending.{has_outputs}
-use Rattle.flow_meaning.specs.Machine.{Event, Happen, MachineState, MayClaim, Sent, end_in, is_sent, opening_state, send_count}
-use Rattle.flow_meaning.specs.Order.{IsLegalOrder}
+use Rattle.flow_meaning.specs.Machine.{MachineState, MayClaim, Sent, end_in, is_sent, send_count}
 use Rattle.flow_meaning.proofs.Events.{happen_sound, member_send, opening_sound}
-use Rattle.flow_meaning.proofs.Orders.{happen_legal}
 use Rattle.rank_core.specs.declared.message.Message.{Message}
-use Rattle.rank_core.specs.World.{Deliver, HappenIn, IsPossibleIn, Run, WorldEvent, WorldState, after_delivery, after_run, item_from, items_by, items_within, messages_by, opening_world, stands, with_message, world_after}
+use Rattle.rank_core.specs.World.{Deliver, IsPossibleIn, Run, WorldEvent, WorldState, after_delivery, after_run, item_from, items_by, items_within, messages_by, opening_world, is_delivered, with_message, world_after}
 use Rattle.rank_core.specs.Sound.{IsSoundWorld}
-use Rattle.rank_core.proofs.Running.{delivered, happen-append, items_with, run_ends, run_happens}
+use Rattle.rank_core.proofs.Running.{delivered, items_with, run_ends, run_happens}
 
 -- what was sent is sent later
 pub still_sent : (S : MachineState) (claims : List Task) (more : List Sent) (i : Item) → is_sent S i ≡ true → is_sent (record { claims = claims; sends = S.sends ++ more }) i ≡ true
@@ -37,14 +35,14 @@ still_sent S claims more i h =
 
 -- a delivery changes no claim, and undoes nothing
 pub delivery_claims : (S : MachineState) (m : Message) → (with_message S m).claims ≡ S.claims
-delivery_claims S m = by (stands S m)
+delivery_claims S m = by (is_delivered S m)
   where
     by : (b : Bool) → (cond b S (record { claims = S.claims; sends = S.sends ++ record { item = item.Edge m.edge; tile = m.tile } ∷ [] })).claims ≡ S.claims
     by true = refl
     by false = refl
 
 pub delivery_keeps : (S : MachineState) (m : Message) (i : Item) → is_sent S i ≡ true → is_sent (with_message S m) i ≡ true
-delivery_keeps S m i h = by (stands S m)
+delivery_keeps S m i h = by (is_delivered S m)
   where
     by : (b : Bool) → is_sent (cond b S (record { claims = S.claims; sends = S.sends ++ record { item = item.Edge m.edge; tile = m.tile } ∷ [] })) i ≡ true
     by true = h
@@ -102,30 +100,6 @@ module _ (P : Plan) (G : Data) (con : IsConsistent P) (r : ℕ) where
     event_sound (Run t) may = run_sound t may
     event_sound (Deliver n) h = let p = slice_get_member w.messages n h in subst (IsSoundWorld P G r) (sym (delivery_is n p.0 p.1)) (message_sound p.0 p.2)
 
-    -- what happens is what some events of the event machine do
-    pub event_happens : (e : WorldEvent) → IsPossibleIn P w e → (es : List Event) × Happen P G es w.machine (world_after P G r w e).machine
-    event_happens (Run t) may = run_happens P G con r w sound t may
-    event_happens (Deliver n) h =
-        let p = slice_get_member w.messages n h in
-        subst (λ (v : WorldState). (es : List Event) × Happen P G es w.machine v.machine) (sym (delivery_is n p.0 p.1)) (delivered P G con r w sound p.0 p.2)
-
-  pub events_sound : (es : List WorldEvent) (w v : WorldState) → IsSoundWorld P G r w → HappenIn P G r es w v → IsSoundWorld P G r v
-  events_sound [] w v sound h = subst (IsSoundWorld P G r) h sound
-  events_sound (e ∷ es) w v sound h = events_sound es (world_after P G r w e) v (event_sound w sound e h.0) h.1
-
-  pub events_happen : (es : List WorldEvent) (w v : WorldState) → IsSoundWorld P G r w → HappenIn P G r es w v → (fs : List Event) × Happen P G fs w.machine v.machine
-  events_happen [] w v sound h = ([], ap (λ (u : WorldState). u.machine) h)
-  events_happen (e ∷ es) w v sound h =
-      let first = event_happens w sound e h.0 in
-      let later = events_happen es (world_after P G r w e) v (event_sound w sound e h.0) h.1 in
-      (first.0 ++ later.0, happen-append P G first.0 later.0 w.machine (world_after P G r w e).machine v.machine first.1 later.1)
-
 -- nothing has happened yet, so nothing is wrong
 pub opening_sound_world : (P : Plan) (G : Data) (r : ℕ) → IsSoundWorld P G r opening_world
 opening_sound_world P G r = record { state = opening_sound P G; within = λ t i c o h. absurd c; messages = refl }
-
--- the tasks ran in a legal order
-pub runs_legal : (P : Plan) (G : Data) (r : ℕ) (es : List WorldEvent) (w : WorldState) → IsConsistent P → HappenIn P G r es opening_world w → IsLegalOrder P w.machine.claims
-runs_legal P G r es w con h =
-    let p = events_happen P G con r es opening_world w (opening_sound_world P G r) h in
-    happen_legal P G con p.0 opening_state w.machine (opening_sound P G) tt p.1

@@ -76,18 +76,21 @@ IsPossibleIn P w (Deliver n) = n < length w.messages
 -- outputs on the tiles that stand
 abbrev pub after_run : Plan → Data → ℕ → WorldState → Task → WorldState
 after_run P G r w t = record {
-  machine = record { claims = w.machine.claims ++ t ∷ []; sends = w.machine.sends ++ items_by P r t (end_in P G w.machine t) };
+  machine = record {
+    claims = w.machine.claims ++ t ∷ [];
+    sends = w.machine.sends ++ items_by P r t (end_in P G w.machine t);
+  };
   messages = w.messages ++ messages_by P r t (end_in P G w.machine t);
 }
 
--- whether the edge of a message stands
-abbrev pub stands : MachineState → Message → Bool
-stands S m = is_sent S (item.Edge m.edge)
+-- whether a message was delivered: its edge is among the items that were sent
+abbrev pub is_delivered : MachineState → Message → Bool
+is_delivered S m = is_sent S (item.Edge m.edge)
 
--- after a message has come, its edge stands with its tile; where it stood before, nothing changes
+-- after a message is delivered, its edge was sent with its tile; where it was delivered before, nothing changes
 abbrev pub with_message : MachineState → Message → MachineState
 with_message S m =
-    if stands S m
+    if is_delivered S m
     then S
     else record { claims = S.claims; sends = S.sends ++ record { item = item.Edge m.edge; tile = m.tile } ∷ [] }
 
@@ -108,7 +111,7 @@ abbrev pub HappenIn : Plan → Data → ℕ → List WorldEvent → WorldState �
 HappenIn P G r [] w v = w ≡ v
 HappenIn P G r (e ∷ es) w v = IsPossibleIn P w e × HappenIn P G r es (world_after P G r w e) v
 
--- a quiescent world: no task may run, and the edge of each message stands
+-- a quiescent world: no task may run, and each message was delivered
 pub record IsQuiet (P : Plan) (w : WorldState) : Type 0 where
   pub none_may_run : (t : Task) → MayClaim P w.machine t → ⊥
-  pub all_stand : (m : Message) → IsIn m w.messages → IsTrue (stands w.machine m)
+  pub all_delivered : (m : Message) → IsIn m w.messages → IsTrue (is_delivered w.machine m)

@@ -1,7 +1,7 @@
 //! Laws of worlds of ranks: whatever the network does, a world is a run of the event machine, and a quiescent one has
 //! the answer.
 
-ghost use Rattle.std.specs.Prelude.{◌≡◌, ◌≤◌, ◌↔◌, ℕ, List, IsFalse, IsSome, length, map};
+ghost use Rattle.std.specs.Prelude.{◌≡◌, ◌↔◌, ℕ, IsFalse, IsSome, length, map};
 ghost use Rattle.ptg_base.specs.Lists.{HasNoRepeats, IsIn};
 ghost use Rattle.ptg_base.specs.Task.{Task};
 ghost use Rattle.ptg_base.specs.declared.edge.Item.TheVariants as item;
@@ -12,36 +12,12 @@ ghost use Rattle.flow_meaning.specs.Answer.{answer, ran};
 ghost use Rattle.flow_meaning.specs.Backward.{ended, inputs};
 ghost use Rattle.list_lemmas.specs.Counting.{HasSameMembers};
 ghost use Rattle.flow_meaning.specs.Ending.{output_tile};
-ghost use Rattle.flow_meaning.specs.Machine.{Event, Happen, IsQuiescent, MayClaim, MaySend, claim_count, end_in, sent_tile};
-ghost use Rattle.flow_meaning.specs.Order.{IsLegalOrder};
+ghost use Rattle.flow_meaning.specs.Machine.{IsQuiescent, MayClaim, MaySend, end_in, sent_tile};
 ghost use Rattle.flow_meaning.specs.Starting.{delivered_tiles};
 ghost use Rattle.flow_meaning.specs.StateAnswer.{state_answer};
 ghost use Rattle.rank_core.specs.declared.message.Message.{Message};
-ghost use Rattle.rank_core.specs.World.{HappenIn, IsPossibleIn, IsQuiet, WorldEvent, WorldState, opening_world, stands, world_after};
+ghost use Rattle.rank_core.specs.World.{IsQuiet, WorldState, is_delivered};
 ghost use Rattle.rank_core.specs.Sound.{IsSoundWorld, message_count};
-
-/// A law: the opening world is sound, and every list of events leads from a sound world to a sound world. So no task
-/// runs twice, and the tasks that ran did so in a legal order.
-pub fn events_keep_worlds_sound()
-    ensures opening { (P : Plan) (G : Data) (r : ℕ) → IsSoundWorld P G r opening_world }
-    ensures event { (P : Plan) (G : Data) (r : ℕ) (w : WorldState) (e : WorldEvent) → IsConsistent P
-        → IsSoundWorld P G r w → IsPossibleIn P w e → IsSoundWorld P G r (world_after P G r w e) }
-    ensures events { (P : Plan) (G : Data) (r : ℕ) (es : List WorldEvent) (w v : WorldState) → IsConsistent P
-        → IsSoundWorld P G r w → HappenIn P G r es w v → IsSoundWorld P G r v }
-    ensures once { (P : Plan) (G : Data) (r : ℕ) (w : WorldState) (t : Task) → IsSoundWorld P G r w
-        → claim_count w.machine t ≤ 1 }
-    ensures legal { (P : Plan) (G : Data) (r : ℕ) (es : List WorldEvent) (w : WorldState) → IsConsistent P
-        → HappenIn P G r es opening_world w → IsLegalOrder P w.machine.claims }
-{}
-
-/// A law: what happens in a sound world is what some events of the event machine do, so a world is a run of it.
-pub fn world_events_are_machine_events()
-    ensures event { (P : Plan) (G : Data) (r : ℕ) (w : WorldState) (e : WorldEvent) → IsConsistent P
-        → IsSoundWorld P G r w → IsPossibleIn P w e
-        → (es : List Event) × Happen P G es w.machine (world_after P G r w e).machine }
-    ensures events { (P : Plan) (G : Data) (r : ℕ) (es : List WorldEvent) (w v : WorldState) → IsConsistent P
-        → IsSoundWorld P G r w → HappenIn P G r es w v → (fs : List Event) × Happen P G fs w.machine v.machine }
-{}
 
 /// A law: the tiles that stand for a task that may run, or that ran, are its inputs. On these it ends as the backward
 /// meaning says.
@@ -71,12 +47,12 @@ pub fn a_quiet_world_has_the_meaning()
         → IsQuiet P w → length w.messages ≡ message_count P G r }
 {}
 
-/// A law: no two messages of a world are of one edge. The edge of a message that does not stand may be sent, with its
-/// tile.
+/// A law: no two messages of a world are of one edge. The edge of a message that was not delivered may be sent, with
+/// its tile.
 pub fn a_message_is_an_edge_of_its_own()
     ensures once { (P : Plan) (G : Data) (r : ℕ) (w : WorldState) → IsConsistent P → IsSoundWorld P G r w
         → HasNoRepeats (map (λ (m : Message). m.edge) w.messages) }
     ensures may { (P : Plan) (G : Data) (r : ℕ) (w : WorldState) (m : Message) → IsConsistent P → IsSoundWorld P G r w
-        → IsIn m w.messages → IsFalse (stands w.machine m)
+        → IsIn m w.messages → IsFalse (is_delivered w.machine m)
         → MaySend P G w.machine (item.Edge m.edge) × (m.tile ≡ output_tile (ended P G m.edge.from) m.edge.out_flow) }
 {}

@@ -34,10 +34,10 @@ use Rattle.shard_meaning.proofs.Targets.{target_flow, target_goal, target_is_tas
 use Rattle.shard_meaning.proofs.Typing.{edge_empty, edge_flow, edge_typed}
 use Rattle.rank_core.specs.declared.message.Message.{Message}
 use Rattle.rank_core.specs.Sound.{IsSoundWorld}
-use Rattle.rank_core.specs.World.{WorldState, after_delivery, rank_of, stands, with_message}
+use Rattle.rank_core.specs.World.{WorldState, after_delivery, rank_of, is_delivered, with_message}
 use Rattle.rank_core.proofs.Messages.{edges_once}
 use Rattle.rank_core.proofs.Running.{message_is, message_may}
-use Rattle.rank_world.specs.Keeping.{IsUnderWay, at_rest, unless_it_stands}
+use Rattle.rank_world.specs.Keeping.{IsUnderWay, at_rest, unless_delivered}
 use Rattle.rank_world.specs.Sending.{MayTakeEdge, TakesEdge}
 
 -- an edge that may be sent may come to the rank of its target, with the tile that its task leaves
@@ -82,7 +82,7 @@ module _ (P : Plan) (G : Data) (con : IsConsistent P) (r : ℕ) (w : WorldState)
   among : IsIn m w.messages
   among = IsIn-slice_get w.messages n m is
 
-  module _ (new : stands w.machine m ≡ false) where
+  module _ (new : is_delivered w.machine m ≡ false) where
     pub may : MaySend P G w.machine (item.Edge m.edge)
     may = message_may P G con r w sound m among new
 
@@ -116,14 +116,14 @@ module _ (P : Plan) (G : Data) (con : IsConsistent P) (r : ℕ) (w : WorldState)
     counted : (i : Item) → send_count (after_delivery w n).machine i ≡ send_count w.machine i + as_number (same_item i (item.Edge m.edge))
     counted i = ap (λ S. send_count S i) (sym sends) ∙ weigh-push (λ (x : Sent). as_number (same_item i x.item)) w.machine.sends (sent_with P G w.machine (item.Edge m.edge))
 
-    stands_now : stands (after_delivery w n).machine m ≡ true
-    stands_now = lt-ltb 0 (send_count (after_delivery w n).machine (item.Edge m.edge)) (omega (arith, counted (item.Edge m.edge), ap as_number ((same_item-decides (item.Edge m.edge) (item.Edge m.edge)).1 refl)))
+    delivered_now : is_delivered (after_delivery w n).machine m ≡ true
+    delivered_now = lt-ltb 0 (send_count (after_delivery w n).machine (item.Edge m.edge)) (omega (arith, counted (item.Edge m.edge), ap as_number ((same_item-decides (item.Edge m.edge) (item.Edge m.edge)).1 refl)))
 
     as_before : (i : Item) → same_item i (item.Edge m.edge) ≡ false → is_sent (after_delivery w n).machine i ≡ is_sent w.machine i
     as_before i k = ap (λ c. nat_lt 0 c) (counted i ∙ omega (arith, ap as_number k))
 
-    -- another message stands exactly where it stood
-    others : (q : ℕ) (o : Option Message) → slice_get w.messages q ≡ o → n ≢ q → unless_it_stands w.machine o ≡ unless_it_stands (after_delivery w n).machine o
+    -- another message is delivered exactly where it was
+    others : (q : ℕ) (o : Option Message) → slice_get w.messages q ≡ o → n ≢ q → unless_delivered w.machine o ≡ unless_delivered (after_delivery w n).machine o
     others q None e differ = refl
     others q (Some x) e differ =
         by_test (same_item (item.Edge x.edge) (item.Edge m.edge))
@@ -143,7 +143,7 @@ module _ (P : Plan) (G : Data) (con : IsConsistent P) (r : ℕ) (w : WorldState)
         (λ k.
         let same : n ≡ q = (unsigned_Decides n q).0 k in
         changes q ∙ ap (λ b. cond b None (lookup (nat_eq q) old)) k
-        ∙ sym (ap (unless_it_stands (after_delivery w n).machine) (ap (slice_get w.messages) (sym same) ∙ is) ∙ ap (λ b. cond b None (Some m)) stands_now))
+        ∙ sym (ap (unless_delivered (after_delivery w n).machine) (ap (slice_get w.messages) (sym same) ∙ is) ∙ ap (λ b. cond b None (Some m)) delivered_now))
         (λ k.
         changes q ∙ ap (λ b. cond b None (lookup (nat_eq q) old)) k ∙ under q
         ∙ others q (slice_get w.messages q) refl (λ same. false≢true (sym k ∙ (unsigned_Decides n q).1 same)))

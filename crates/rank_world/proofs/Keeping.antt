@@ -20,37 +20,37 @@ use Rattle.shard_meaning.proofs.Placing.{shard_below}
 use Rattle.shard_answer.specs.Ending.{HoldAnEnd}
 use Rattle.rank_core.specs.declared.message.Message.{Message}
 use Rattle.rank_core.specs.Sound.{IsSoundWorld}
-use Rattle.rank_core.specs.World.{IsQuiet, WorldState, opening_world, rank_of, stands}
+use Rattle.rank_core.specs.World.{IsQuiet, WorldState, opening_world, rank_of, is_delivered}
 use Rattle.rank_core.proofs.Quiet.{quiet_iff}
-use Rattle.rank_world.specs.Keeping.{HoldShares, IsUnderWay, at_rest, unless_it_stands}
+use Rattle.rank_world.specs.Keeping.{HoldShares, IsUnderWay, at_rest, unless_delivered}
 use Rattle.shard_calls.specs.Opened.{AreOpeningShards}
 
 -- what is under way
-pub under_way_none : (S : MachineState) (m : Message) → None ≡ unless_it_stands S (Some m) → stands S m ≡ true
-under_way_none S m e = by_test (stands S m) (λ k. k) (λ k. let some : None ≡ Some m = e ∙ ap (λ b. cond b None (Some m)) k in absurd cc)
+pub under_way_none : (S : MachineState) (m : Message) → None ≡ unless_delivered S (Some m) → is_delivered S m ≡ true
+under_way_none S m e = by_test (is_delivered S m) (λ k. k) (λ k. let some : None ≡ Some m = e ∙ ap (λ b. cond b None (Some m)) k in absurd cc)
 
-pub under_way_some : (S : MachineState) (o : Option Message) (m : Message) → Some m ≡ unless_it_stands S o → (o ≡ Some m) × (stands S m ≡ false)
+pub under_way_some : (S : MachineState) (o : Option Message) (m : Message) → Some m ≡ unless_delivered S o → (o ≡ Some m) × (is_delivered S m ≡ false)
 under_way_some S None m e = absurd cc
 under_way_some S (Some x) m e =
-    by_test (stands S x)
+    by_test (is_delivered S x)
     (λ k. let none : Some m ≡ None = e ∙ ap (λ b. cond b None (Some x)) k in absurd cc)
     (λ k.
     let some : Some m ≡ Some x = e ∙ ap (λ b. cond b None (Some x)) k in
     let same : m ≡ x = cc in
-    (ap (λ z. Some z) (sym same), ap (stands S) same ∙ k))
+    (ap (λ z. Some z) (sym same), ap (is_delivered S) same ∙ k))
 
 nothing_at : {A : Type 0} (n : ℕ) → slice_get {X = A} [] n ≡ None
 nothing_at n = refl
 
 pub opening_mail : IsUnderWay opening_world.machine opening_world.messages []
-opening_mail n = ap (unless_it_stands opening_world.machine) (sym (nothing_at n))
+opening_mail n = ap (unless_delivered opening_world.machine) (sym (nothing_at n))
 
--- nothing is under way where each message stands, and then only
-all_none : (S : MachineState) (ms : List Message) → ((m : Message) → IsIn m ms → stands S m ≡ true) → (n : ℕ) (o : Option Message) → slice_get ms n ≡ o → unless_it_stands S o ≡ None
+-- nothing is under way where each message was delivered, and then only
+all_none : (S : MachineState) (ms : List Message) → ((m : Message) → IsIn m ms → is_delivered S m ≡ true) → (n : ℕ) (o : Option Message) → slice_get ms n ≡ o → unless_delivered S o ≡ None
 all_none S ms all n None e = refl
 all_none S ms all n (Some m) e = ap (λ b. cond b None (Some m)) (all m (IsIn-slice_get ms n m e))
 
-pub mail_empty : (S : MachineState) (ms : List Message) (table : List (ℕ × Message)) → IsUnderWay S ms table → ((m : Message) → IsIn m ms → stands S m ≡ true) → table ≡ []
+pub mail_empty : (S : MachineState) (ms : List Message) (table : List (ℕ × Message)) → IsUnderWay S ms table → ((m : Message) → IsIn m ms → is_delivered S m ≡ true) → table ≡ []
 mail_empty S ms [] under all = refl
 mail_empty S ms (p ∷ ps) under all =
     let here : lookup (nat_eq p.0) (p ∷ ps) ≡ Some p.1 = ap (λ b. cond b (Some p.1) (lookup (nat_eq p.0) ps)) ((unsigned_Decides p.0 p.0).1 refl) in
@@ -58,11 +58,11 @@ mail_empty S ms (p ∷ ps) under all =
     let never : Some p.1 ≡ None = sym here ∙ none in
     absurd cc
 
-pub empty_stands : (S : MachineState) (ms : List Message) (table : List (ℕ × Message)) → IsUnderWay S ms table → table ≡ [] → (m : Message) → IsIn m ms → stands S m ≡ true
-empty_stands S ms table under none m i =
+pub empty_all_delivered : (S : MachineState) (ms : List Message) (table : List (ℕ × Message)) → IsUnderWay S ms table → table ≡ [] → (m : Message) → IsIn m ms → is_delivered S m ≡ true
+empty_all_delivered S ms table under none m i =
     let p = place_of_member ms m i in
     let at : lookup (nat_eq p.0) table ≡ None = ap (lookup (nat_eq p.0)) none in
-    under_way_none S m (sym at ∙ under p.0 ∙ ap (unless_it_stands S) p.1)
+    under_way_none S m (sym at ∙ under p.0 ∙ ap (unless_delivered S) p.1)
 
 module _ (P : Plan) (G : Data) (w : WorldState) (ys : List Content) (some : 0 < length ys) (shares : HoldShares P G w ys) where
   -- a task that may run has a ready entry at its rank, and the other way round

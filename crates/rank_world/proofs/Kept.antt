@@ -18,7 +18,7 @@ use Rattle.shard_meaning.proofs.Targets.{target_is_task}
 use Rattle.task_run.specs.Bench.{IsBenchOf, Laid}
 use Rattle.rank_core.specs.declared.message.Message.{Message}
 use Rattle.rank_core.specs.Sound.{IsSoundWorld}
-use Rattle.rank_core.specs.World.{Deliver, WorldState, after_delivery, opening_world, rank_of, stands}
+use Rattle.rank_core.specs.World.{Deliver, WorldState, after_delivery, opening_world, rank_of, is_delivered}
 use Rattle.rank_core.proofs.Worlds.{event_sound, opening_sound_world}
 use Rattle.rank_world.specs.declared.mail.Mail.{Mail}
 use Rattle.rank_world.specs.Changes.{StaysAt, TakesEdgeAt}
@@ -95,7 +95,7 @@ module _ (P : Plan) (G : Data) (w : WorldState) (old : List Content) (laid : Lai
       none y.0 y.1 t e.0 e.1 e.2
 
   -- a message that is under way
-  module _ (n : ℕ) (m : Message) (is : slice_get w.messages n ≡ Some m) (fresh : stands w.machine m ≡ false) where
+  module _ (n : ℕ) (m : Message) (is : slice_get w.messages n ≡ Some m) (fresh : is_delivered w.machine m ≡ false) where
     pub target : IsTask P m.edge.to
     target = target_is_task P G k.consistent (rank_of P (length old)) (rank_of P (length old) m.edge.to) (at_rest w.machine) k.sound.state m.edge (may P G k.consistent (length old) w k.sound n m is fresh)
 

@@ -2,7 +2,6 @@ pub mod Keeping
 pub mod Delivering
 pub mod Parts
 pub mod Posted
-pub mod Types
 pub mod Outgoings
 pub mod LeftWithin
 pub mod Kept

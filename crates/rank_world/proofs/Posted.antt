@@ -22,11 +22,11 @@ use Rattle.flow_meaning.proofs.Comparing.{same_item-decides}
 use Rattle.flow_meaning.proofs.Events.{member_claim}
 use Rattle.flow_meaning.proofs.Rest.{item_sender}
 use Rattle.rank_core.specs.declared.message.Message.{Message}
-use Rattle.rank_core.specs.World.{edges_between, edges_within, is_between, item_from, items_by, items_within, message_from, stands}
+use Rattle.rank_core.specs.World.{edges_between, edges_within, is_between, item_from, items_by, items_within, message_from, is_delivered}
 use Rattle.rank_core.proofs.Items.{out_from, within_is_item}
 use Rattle.rank_core.proofs.Running.{items_with, items_without, message_is, unclaimed_unsent}
 use Rattle.rank_world.specs.declared.visit.Visit.{Visit}
-use Rattle.rank_world.specs.Keeping.{IsUnderWay, unless_it_stands}
+use Rattle.rank_world.specs.Keeping.{IsUnderWay, unless_delivered}
 use Rattle.rank_world.specs.Visits.{IsVisit, after, before, data_of, plan_of}
 
 -- a longer list, at its end and elsewhere
@@ -41,17 +41,17 @@ not_last (y ∷ ys) x zero other = refl
 not_last (y ∷ ys) x (suc q) other = not_last ys x q (λ e. other (ap suc e))
 
 -- one message more is under way
-pub one_posted : (S : MachineState) (ms : List Message) (m : Message) (n : ℕ) (old new_table : List (ℕ × Message)) → IsUnderWay S ms old → n ≡ length ms → stands S m ≡ false
+pub one_posted : (S : MachineState) (ms : List Message) (m : Message) (n : ℕ) (old new_table : List (ℕ × Message)) → IsUnderWay S ms old → n ≡ length ms → is_delivered S m ≡ false
     → ((q : ℕ) → lookup (nat_eq q) new_table ≡ cond (nat_eq n q) (Some m) (lookup (nat_eq q) old)) → IsUnderWay S (ms ++ m ∷ []) new_table
 one_posted S ms m n old new_table under number fresh changes q =
     by_test (nat_eq n q)
     (λ k.
     let same : n ≡ q = (unsigned_Decides n q).0 k in
     changes q ∙ ap (λ b. cond b (Some m) (lookup (nat_eq q) old)) k
-    ∙ sym (ap (unless_it_stands S) (ap (slice_get (ms ++ m ∷ [])) (sym same ∙ number) ∙ last_at ms m) ∙ ap (λ b. cond b None (Some m)) fresh))
+    ∙ sym (ap (unless_delivered S) (ap (slice_get (ms ++ m ∷ [])) (sym same ∙ number) ∙ last_at ms m) ∙ ap (λ b. cond b None (Some m)) fresh))
     (λ k.
     changes q ∙ ap (λ b. cond b (Some m) (lookup (nat_eq q) old)) k ∙ under q
-    ∙ ap (unless_it_stands S) (sym (not_last ms m q (λ e. false≢true (sym k ∙ (unsigned_Decides n q).1 (number ∙ e))))))
+    ∙ ap (unless_delivered S) (sym (not_last ms m q (λ e. false≢true (sym k ∙ (unsigned_Decides n q).1 (number ∙ e))))))
 
 -- an item that is none of those sent
 none_sent : (i : Item) (xs : List Sent) → ((x : Sent) → IsIn x xs → x.item ≡ i → ⊥) → weigh (λ (x : Sent). as_number (same_item i x.item)) xs ≡ 0
@@ -79,7 +79,7 @@ module _ (v : Visit) (h : IsVisit v) where
       subst (λ j. IsIn j (items_within (plan_of v) v.ranks v.task.now)) (sym (ap (λ (y : Sent). y.item) p.2)) p.1)
       (λ o. let never : IsIn x [] = subst (IsIn x) (items_without (plan_of v) v.ranks v.task.now end o) i in absurd never)
 
-  -- the messages that were sent before stand exactly where they stood
+  -- of the messages that were sent before, those are delivered that were
   earlier : (m : Message) → IsIn m (before v).messages → send_count (after v).machine (item.Edge m.edge) ≡ send_count (before v).machine (item.Edge m.edge)
   earlier m i = as_before (item.Edge m.edge) (λ x j same.
       let within = sent_within (end_in (plan_of v) (data_of v) (before v).machine v.task.now) x j in
@@ -91,12 +91,12 @@ module _ (v : Visit) (h : IsVisit v) where
   pub mail_kept : (table : List (ℕ × Message)) → IsUnderWay (before v).machine (before v).messages table → IsUnderWay (after v).machine (before v).messages table
   mail_kept table under q = under q ∙ same (slice_get (before v).messages q) refl
     where
-      same : (o : Option Message) → slice_get (before v).messages q ≡ o → unless_it_stands (before v).machine o ≡ unless_it_stands (after v).machine o
+      same : (o : Option Message) → slice_get (before v).messages q ≡ o → unless_delivered (before v).machine o ≡ unless_delivered (after v).machine o
       same None e = refl
       same (Some m) e = ap (λ c. cond (nat_lt 0 c) None (Some m)) (sym (earlier m (IsIn-slice_get (before v).messages q m e)))
 
-  -- an edge to another rank does not stand after the run
-  pub between_waits : (end : Option Ended) (e : Edge) → IsIn e (edges_between (plan_of v) v.ranks v.task.now) → stands (after v).machine (message_from end e) ≡ false
+  -- the message of an edge to another rank is not delivered after the run
+  pub between_waits : (end : Option Ended) (e : Edge) → IsIn e (edges_between (plan_of v) v.ranks v.task.now) → is_delivered (after v).machine (message_from end e) ≡ false
   between_waits end e i =
       let p = (IsIn-filter (is_between (plan_of v) v.ranks) (out_edges (plan_of v) v.task.now) e).0 i in
       let from : e.from ≡ v.task.now = out_from (plan_of v) v.task.now e p.0 in

@@ -22,9 +22,9 @@ use Rattle.flow_meaning.specs.Sound.{IsSoundState}
 use Rattle.flow_meaning.proofs.Comparing.{same_item-decides}
 use Rattle.rank_core.specs.declared.message.Message.{Message}
 use Rattle.rank_core.specs.Sound.{IsSoundWorld}
-use Rattle.rank_core.specs.World.{Deliver, HappenIn, Run, WorldEvent, WorldState, edges_between, items_by, message_from, messages_by, rank_of, stands, with_message, world_after}
+use Rattle.rank_core.specs.World.{Deliver, HappenIn, Run, WorldEvent, WorldState, edges_between, items_by, message_from, messages_by, rank_of, is_delivered, with_message, world_after}
 use Rattle.rank_core.proofs.Worlds.{delivery_claims, delivery_keeps, still_sent}
-use Rattle.rank_world.specs.Driving.{LeadsTo, turns_left, turns_of}
+use Rattle.rank_world.specs.Driving.{IsLaterWorld, turns_left, turns_of}
 use Rattle.rank_world.specs.Views.{WorldView, with_delivery, with_run}
 use Rattle.shard_meaning.proofs.Placing.{shard_below}
 
@@ -33,11 +33,11 @@ happen-append : (P : Plan) (G : Data) (r : ℕ) (es fs : List WorldEvent) (w v u
 happen-append P G r [] fs w v u h k = subst (λ x. HappenIn P G r fs x u) (sym h) k
 happen-append P G r (e ∷ es) fs w v u h k = (h.0, happen-append P G r es fs (world_after P G r w e) v u h.1 k)
 
-pub leads_nowhere : (w : WorldView) → LeadsTo w w
-leads_nowhere w = record { plan = refl; given = refl; ranks = refl; events = []; happen = refl }
+pub later_itself : (w : WorldView) → IsLaterWorld w w
+later_itself w = record { plan = refl; given = refl; ranks = refl; events = []; happen = refl }
 
-pub leads_on : (a b c : WorldView) → LeadsTo a b → LeadsTo b c → LeadsTo a c
-leads_on a b c h k = record {
+pub later_still : (a b c : WorldView) → IsLaterWorld a b → IsLaterWorld b c → IsLaterWorld a c
+later_still a b c h k = record {
   plan = k.plan ∙ h.plan;
   given = k.given ∙ h.given;
   ranks = k.ranks ∙ h.ranks;
@@ -47,11 +47,11 @@ leads_on a b c h k = record {
       (subst (λ G. HappenIn b.plan G a.ranks k.events b.state c.state) h.given (subst (λ r. HappenIn b.plan b.given r k.events b.state c.state) h.ranks k.happen)));
 }
 
-pub leads_by_run : (w : WorldView) (t : Task) → MayClaim w.plan w.state.machine t → LeadsTo w (with_run t w)
-leads_by_run w t may = record { plan = refl; given = refl; ranks = refl; events = Run t ∷ []; happen = (may, refl) }
+pub later_by_run : (w : WorldView) (t : Task) → MayClaim w.plan w.state.machine t → IsLaterWorld w (with_run t w)
+later_by_run w t may = record { plan = refl; given = refl; ranks = refl; events = Run t ∷ []; happen = (may, refl) }
 
-pub leads_by_delivery : (w : WorldView) (n : ℕ) → n < length w.state.messages → LeadsTo w (with_delivery n w)
-leads_by_delivery w n near = record { plan = refl; given = refl; ranks = refl; events = Deliver n ∷ []; happen = (near, refl) }
+pub later_by_delivery : (w : WorldView) (n : ℕ) → n < length w.state.messages → IsLaterWorld w (with_delivery n w)
+later_by_delivery w n near = record { plan = refl; given = refl; ranks = refl; events = Deliver n ∷ []; happen = (near, refl) }
 
 -- a list without repeats whose members are all in another weighs no more than it
 weighs_less : {A : Type 0} (f : A → ℕ) (xs ys : List A) → HasNoRepeats xs → ((t : A) → IsIn t xs → IsIn t ys) → weigh f xs ≤ weigh f ys
@@ -67,10 +67,10 @@ claims_weigh : (P : Plan) (G : Data) (f : Task → ℕ) (S : MachineState) → I
 claims_weigh P G f S sound = weighs_less f S.claims (all_tasks P) (distinct_once S.claims sound.claimed_once) (λ t i. (listed P t).0 (sound.claimed_have_all t i).task)
 
 -- no message is late later that was not before
-later_late : (S T : MachineState) (ms : List Message) → ((m : Message) → stands S m ≡ true → stands T m ≡ true) → count (λ m. not (stands T m)) ms ≤ count (λ m. not (stands S m)) ms
-later_late S T ms keeps = count-le (λ m. not (stands T m)) (λ m. not (stands S m)) ms (λ m i k. contrapositive (stands S m) (stands T m) (keeps m) k)
+later_late : (S T : MachineState) (ms : List Message) → ((m : Message) → is_delivered S m ≡ true → is_delivered T m ≡ true) → count (λ m. not (is_delivered T m)) ms ≤ count (λ m. not (is_delivered S m)) ms
+later_late S T ms keeps = count-le (λ m. not (is_delivered T m)) (λ m. not (is_delivered S m)) ms (λ m i k. contrapositive (is_delivered S m) (is_delivered T m) (keeps m) k)
 
--- where one more message stands, fewer are late
+-- where one more message is delivered, fewer are late
 one_less : {A : Type 0} (p q : A → Bool) (xs : List A) (n : ℕ) (x : A) → slice_get xs n ≡ Some x → p x ≡ false → q x ≡ true → ((y : A) → p y ≡ true → q y ≡ true) → count p xs < count q xs
 one_less p q [] n x e none some keeps = absurd cc
 one_less {A} p q (y ∷ ys) zero x e none some keeps =
@@ -102,10 +102,10 @@ run_leaves_less w t sound =
     let T : MachineState = (with_run t w).state.machine in
     let all = claims_weigh w.plan w.given (turns_of w.plan w.ranks) (with_run t w).state.machine sound.state in
     let one = weigh-push (turns_of w.plan w.ranks) w.state.machine.claims t in
-    let parts = weigh-append (λ (m : Message). as_number (not (stands (with_run t w).state.machine m))) w.state.messages more in
+    let parts = weigh-append (λ (m : Message). as_number (not (is_delivered (with_run t w).state.machine m))) w.state.messages more in
     let old = later_late w.state.machine (with_run t w).state.machine w.state.messages
     (λ m k. still_sent w.state.machine (w.state.machine.claims ++ t ∷ []) (items_by w.plan w.ranks t (end_in w.plan w.given w.state.machine t)) (item.Edge m.edge) k) in
-    let new = count-at_most (λ (m : Message). not (stands (with_run t w).state.machine m)) more in
+    let new = count-at_most (λ (m : Message). not (is_delivered (with_run t w).state.machine m)) more in
     let few = few_messages w.plan w.ranks t end in
     omega (arith, all, one, parts, old, new, few)
 
@@ -116,41 +116,41 @@ module _ (w : WorldView) (n : ℕ) (m : Message) (is : slice_get w.state.message
   same_claims : (with_delivery n w).state.machine.claims ≡ w.state.machine.claims
   same_claims = ap (λ (S : MachineState). S.claims) come ∙ delivery_claims w.state.machine m
 
-  keeps : (x : Message) → stands w.state.machine x ≡ true → stands (with_delivery n w).state.machine x ≡ true
-  keeps x k = ap (λ S. stands S x) come ∙ delivery_keeps w.state.machine m (item.Edge x.edge) k
+  keeps : (x : Message) → is_delivered w.state.machine x ≡ true → is_delivered (with_delivery n w).state.machine x ≡ true
+  keeps x k = ap (λ S. is_delivered S x) come ∙ delivery_keeps w.state.machine m (item.Edge x.edge) k
 
   -- a delivery leaves no more turns
   pub delivery_leaves_no_more : turns_left (with_delivery n w) ≤ turns_left w
   unfolding turns_left
   delivery_leaves_no_more = omega (arith, ap (weigh (turns_of w.plan w.ranks)) same_claims, later_late w.state.machine (with_delivery n w).state.machine w.state.messages keeps)
 
-  stands_then : stands w.state.machine m ≡ false → stands (with_delivery n w).state.machine m ≡ true
-  stands_then new =
+  delivered_then : is_delivered w.state.machine m ≡ false → is_delivered (with_delivery n w).state.machine m ≡ true
+  delivered_then new =
       let T : MachineState = record { claims = w.state.machine.claims; sends = w.state.machine.sends ++ record { item = item.Edge m.edge; tile = m.tile } ∷ [] } in
       let sum = weigh-push (λ (x : Sent). as_number (same_item (item.Edge m.edge) x.item)) w.state.machine.sends (record { item = item.Edge m.edge; tile = m.tile }) in
-      ap (λ S. stands S m) (come ∙ ap (λ b. cond b w.state.machine (record { claims = w.state.machine.claims; sends = w.state.machine.sends ++ record { item = item.Edge m.edge; tile = m.tile } ∷ [] })) new)
+      ap (λ S. is_delivered S m) (come ∙ ap (λ b. cond b w.state.machine (record { claims = w.state.machine.claims; sends = w.state.machine.sends ++ record { item = item.Edge m.edge; tile = m.tile } ∷ [] })) new)
       ∙ lt-ltb 0 (send_count (record { claims = w.state.machine.claims; sends = w.state.machine.sends ++ record { item = item.Edge m.edge; tile = m.tile } ∷ [] }) (item.Edge m.edge))
       (omega (arith, sum, ap as_number ((same_item-decides (item.Edge m.edge) (item.Edge m.edge)).1 refl)))
 
   -- the delivery of a late message leaves fewer
-  pub delivery_leaves_less : stands w.state.machine m ≡ false → turns_left (with_delivery n w) < turns_left w
+  pub delivery_leaves_less : is_delivered w.state.machine m ≡ false → turns_left (with_delivery n w) < turns_left w
   unfolding turns_left
   delivery_leaves_less new =
-      let late = one_less (λ x. not (stands (with_delivery n w).state.machine x)) (λ x. not (stands w.state.machine x)) w.state.messages n m is (ap not (stands_then new)) (ap not new)
-      (λ x k. contrapositive (stands w.state.machine x) (stands (with_delivery n w).state.machine x) (keeps x) k) in
+      let late = one_less (λ x. not (is_delivered (with_delivery n w).state.machine x)) (λ x. not (is_delivered w.state.machine x)) w.state.messages n m is (ap not (delivered_then new)) (ap not new)
+      (λ x k. contrapositive (is_delivered w.state.machine x) (is_delivered (with_delivery n w).state.machine x) (keeps x) k) in
       omega (arith, ap (weigh (turns_of w.plan w.ranks)) same_claims, late)
 
 -- what a call of `deliver` does
 module _ {E : Type 0} (a b : WorldView) (n : ℕ) (near : n < length a.state.messages) where
-  pub delivered_leads : (r : Result Bool E) → OnOk r (b ≡ with_delivery n a) → OnErr r (b ≡ a) → LeadsTo a b
-  delivered_leads (Ok came) ok err = subst (λ w. LeadsTo a w) (sym ok) (leads_by_delivery a n near)
-  delivered_leads (Err e) ok err = subst (λ w. LeadsTo a w) (sym err) (leads_nowhere a)
+  pub delivered_later : (r : Result Bool E) → OnOk r (b ≡ with_delivery n a) → OnErr r (b ≡ a) → IsLaterWorld a b
+  delivered_later (Ok came) ok err = subst (λ w. IsLaterWorld a w) (sym ok) (later_by_delivery a n near)
+  delivered_later (Err e) ok err = subst (λ w. IsLaterWorld a w) (sym err) (later_itself a)
 
   pub delivered_no_more : (r : Result Bool E) → OnOk r (b ≡ with_delivery n a) → OnErr r (b ≡ a) → turns_left b ≤ turns_left a
   delivered_no_more (Ok came) ok err = let p = slice_get_member a.state.messages n near in omega (arith, ap turns_left ok, delivery_leaves_no_more a n p.0 p.1)
   delivered_no_more (Err e) ok err = omega (arith, ap turns_left err)
 
-  pub delivered_less : (m : Message) → slice_get a.state.messages n ≡ Some m → stands a.state.machine m ≡ false → (r : Result Bool E) → OnOk r (b ≡ with_delivery n a) → IfOk r (λ came. came ≡ true → turns_left b < turns_left a)
+  pub delivered_less : (m : Message) → slice_get a.state.messages n ≡ Some m → is_delivered a.state.machine m ≡ false → (r : Result Bool E) → OnOk r (b ≡ with_delivery n a) → IfOk r (λ came. came ≡ true → turns_left b < turns_left a)
   delivered_less m is late (Ok came) ok = λ k. omega (arith, ap turns_left ok, delivery_leaves_less a n m is late)
   delivered_less m is late (Err e) ok = ok
 
@@ -160,9 +160,9 @@ ran_so a b t true holds is = is
 ran_so a b t false holds is = absurd (false≢true holds)
 
 module _ {E : Type 0} (a b : WorldView) (t : Task) (may : MayClaim a.plan a.state.machine t) where
-  pub ran_leads : (r : Result Bool E) → IfOk r (λ ran. IsTrue ran ↔ MayClaim a.plan a.state.machine t) → IfOk r (λ ran. b ≡ cond ran (with_run t a) a) → OnErr r (b ≡ a) → LeadsTo a b
-  ran_leads (Ok ran) exact ok err = subst (λ w. LeadsTo a w) (sym (ran_so a b t ran (exact.1 may) ok)) (leads_by_run a t may)
-  ran_leads (Err e) exact ok err = subst (λ w. LeadsTo a w) (sym err) (leads_nowhere a)
+  pub ran_later : (r : Result Bool E) → IfOk r (λ ran. IsTrue ran ↔ MayClaim a.plan a.state.machine t) → IfOk r (λ ran. b ≡ cond ran (with_run t a) a) → OnErr r (b ≡ a) → IsLaterWorld a b
+  ran_later (Ok ran) exact ok err = subst (λ w. IsLaterWorld a w) (sym (ran_so a b t ran (exact.1 may) ok)) (later_by_run a t may)
+  ran_later (Err e) exact ok err = subst (λ w. IsLaterWorld a w) (sym err) (later_itself a)
 
   pub ran_less : IsSoundWorld b.plan b.given b.ranks b.state → (r : Result Bool E) → IfOk r (λ ran. b ≡ cond ran (with_run t a) a) → IfOk r (λ ran. ran ≡ true → turns_left b < turns_left a)
   ran_less sound (Ok ran) ok = λ holds.

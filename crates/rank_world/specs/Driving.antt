@@ -6,11 +6,11 @@ use Rattle.plan_core.specs.declared.plan.Plan.{Plan}
 use Rattle.dep_iter.specs.Tasks.{all_tasks}
 use Rattle.list_lemmas.specs.Counting.{count, weigh}
 use Rattle.rank_core.specs.declared.message.Message.{Message}
-use Rattle.rank_core.specs.World.{HappenIn, WorldEvent, edges_between, stands}
+use Rattle.rank_core.specs.World.{HappenIn, WorldEvent, edges_between, is_delivered}
 use Rattle.rank_world.specs.Views.{WorldView}
 
 -- some events lead from a world to another one, of the same job and of as many ranks
-pub record LeadsTo (old new : WorldView) : Type 0 where
+pub record IsLaterWorld (old new : WorldView) : Type 0 where
   pub plan : new.plan ≡ old.plan
   pub given : new.given ≡ old.given
   pub ranks : new.ranks ≡ old.ranks
@@ -21,9 +21,9 @@ pub record LeadsTo (old new : WorldView) : Type 0 where
 abbrev pub turns_of : Plan → ℕ → Task → ℕ
 turns_of P r t = 1 + length (edges_between P r t)
 
--- the turns that are left at most: those of the tasks that have not run, and one for each message whose edge does not
--- stand
+-- the turns that are left at most: those of the tasks that have not run, and one for each message that was not
+-- delivered
 unfoldable pub turns_left : WorldView → ℕ
 turns_left w =
     (weigh (turns_of w.plan w.ranks) (all_tasks w.plan) - weigh (turns_of w.plan w.ranks) w.state.machine.claims)
-    + count (λ (m : Message). not (stands w.state.machine m)) w.state.messages
+    + count (λ (m : Message). not (is_delivered w.state.machine m)) w.state.messages

@@ -14,21 +14,21 @@ use Rattle.shard_meaning.specs.Share.{IsShardOf}
 use Rattle.task_run.specs.Bench.{IsBenchOf, Laid}
 use Rattle.rank_core.specs.declared.message.Message.{Message}
 use Rattle.rank_core.specs.Sound.{IsSoundWorld}
-use Rattle.rank_core.specs.World.{WorldState, rank_of, stands}
+use Rattle.rank_core.specs.World.{WorldState, rank_of, is_delivered}
 use Rattle.rank_world.specs.declared.mail.Mail.{Mail}
 
 -- a world between two events: no task runs
 abbrev pub at_rest : MachineState → Moment
 at_rest S = record { state = S; running = [] }
 
--- a message that was sent, if its edge does not stand
-abbrev pub unless_it_stands : MachineState → Option Message → Option Message
-unless_it_stands S None = None
-unless_it_stands S (Some m) = if stands S m then None else Some m
+-- a message that was sent, if it was not delivered
+abbrev pub unless_delivered : MachineState → Option Message → Option Message
+unless_delivered S None = None
+unless_delivered S (Some m) = if is_delivered S m then None else Some m
 
--- under way are the messages whose edges do not stand, each by its number
+-- under way are the messages that were not delivered, each by its number
 abbrev pub IsUnderWay : MachineState → List Message → List (ℕ × Message) → Type 0
-IsUnderWay S messages table = (n : ℕ) → lookup (nat_eq n) table ≡ unless_it_stands S (slice_get messages n)
+IsUnderWay S messages table = (n : ℕ) → lookup (nat_eq n) table ≡ unless_delivered S (slice_get messages n)
 
 -- the mail of a world in this state: the messages that are under way, and how many were sent
 pub record IsMailOf (w : WorldState) (m : Mail) : Type 0 where
@@ -41,7 +41,8 @@ HoldShares P G w ys =
     (k : ℕ) (y : Content) → slice_get ys k ≡ Some y → IsShardOf P G (rank_of P (length ys)) k (at_rest w.machine) y
 
 -- what a world keeps for its job and what has happened
-pub record Keeps (P : Plan) (G : Data) (w : WorldState) (ys : List Content) (laid : Laid) (letters : Mail) : Type 0 where
+pub record Keeps (P : Plan) (G : Data) (w : WorldState) (ys : List Content)
+    (laid : Laid) (letters : Mail) : Type 0 where
   pub consistent : IsConsistent P
   pub fit : DataFit P.colls P.elems G
   pub some_ranks : 0 < length ys

@@ -54,7 +54,10 @@ pub record IsVisit (v : Visit) : Type 0 where
 -- the moment at which the task runs and these of its items were sent
 abbrev pub part_way : Visit → List Item → Moment
 part_way v is = record {
-  state = record { claims = (before v).machine.claims ++ v.task.now ∷ []; sends = (before v).machine.sends ++ map (item_from (ended (plan_of v) (data_of v) v.task.now)) is };
+  state = record {
+    claims = (before v).machine.claims ++ v.task.now ∷ [];
+    sends = (before v).machine.sends ++ map (item_from (ended (plan_of v) (data_of v) v.task.now)) is;
+  };
   running = v.task.now ∷ [];
 }
 

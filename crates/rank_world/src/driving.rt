@@ -5,8 +5,8 @@ ghost use Rattle.ptg_base.specs.Lists.{IsIn};
 ghost use Rattle.ptg_base.specs.Task.{Task};
 ghost use Rattle.flow_meaning.specs.Machine.{MayClaim};
 ghost use Rattle.rank_core.specs.declared.message.Message.{Message};
-ghost use Rattle.rank_core.specs.World.{IsQuiet, rank_of, stands};
-ghost use Rattle.rank_world.specs.Driving.{LeadsTo, turns_left};
+ghost use Rattle.rank_core.specs.World.{IsQuiet, rank_of, is_delivered};
+ghost use Rattle.rank_world.specs.Driving.{IsLaterWorld, turns_left};
 
 use crate::choices::{next_choice, pick_of, prefers_task, repeats};
 use crate::world::World;
@@ -47,7 +47,7 @@ fn ready_from(world: &mut World<'_>, first: u32) -> Option<TaskId>
 
 // Runs a task that may run, if there is one.
 fn run_some(world: &mut World<'_>, pick: u64) -> Result<bool, OutOfMemory>
-    ensures events { LeadsTo world.old world.new }
+    ensures events { IsLaterWorld world.old world.new }
     ensures fewer { IfOk result (λ ran. IsTrue ran → turns_left world.new < turns_left world.old) }
     ensures same { IfOk result (λ ran. IsFalse ran → world.new ≡ world.old) }
     ensures none { IfOk result (λ ran.
@@ -60,13 +60,14 @@ fn run_some(world: &mut World<'_>, pick: u64) -> Result<bool, OutOfMemory>
     }
 }
 
-// Delivers a message whose edge does not stand, if there is one.
+// Delivers a message that was not delivered before, if there is one.
 fn deliver_some(world: &mut World<'_>, pick: u64) -> Result<bool, OutOfMemory>
-    ensures events { LeadsTo world.old world.new }
+    ensures events { IsLaterWorld world.old world.new }
     ensures fewer { IfOk result (λ came. IsTrue came → turns_left world.new < turns_left world.old) }
     ensures same { IfOk result (λ came. IsFalse came → world.new ≡ world.old) }
     ensures none { IfOk result (λ came.
-        IsFalse came → (m : Message) → IsIn m world.old.state.messages → IsTrue (stands world.old.state.machine m)) }
+        IsFalse came → (m : Message) → IsIn m world.old.state.messages
+        → IsTrue (is_delivered world.old.state.machine m)) }
 {
     match world.late_message(pick) {
         Some(number) => world.deliver(number),
@@ -76,20 +77,20 @@ fn deliver_some(world: &mut World<'_>, pick: u64) -> Result<bool, OutOfMemory>
 
 // Now and then delivers a message of all that were sent, mostly one that was delivered before.
 fn deliver_again(world: &mut World<'_>, x: u64) -> Result<(), OutOfMemory>
-    ensures events { LeadsTo world.old world.new }
+    ensures events { IsLaterWorld world.old world.new }
     ensures no_more { turns_left world.new ≤ turns_left world.old }
 {
     let sent = world.messages();
     if !repeats(x) || sent == 0 {
         return Ok(());
     }
-    let _stood_not = world.deliver(pick_of(x) % sent)?;
+    let _is_first = world.deliver(pick_of(x) % sent)?;
     Ok(())
 }
 
-// Delivers a message whose edge does not stand; if there is none, runs a task that may run.
+// Delivers a message that was not delivered before; if there is none, runs a task that may run.
 fn message_first(world: &mut World<'_>, pick: u64) -> Result<bool, OutOfMemory>
-    ensures events { LeadsTo world.old world.new }
+    ensures events { IsLaterWorld world.old world.new }
     ensures fewer { IfOk result (λ more. IsTrue more → turns_left world.new < turns_left world.old) }
     ensures quiet { IfOk result (λ more. IsFalse more → IsQuiet world.new.plan world.new.state) }
 {
@@ -101,7 +102,7 @@ fn message_first(world: &mut World<'_>, pick: u64) -> Result<bool, OutOfMemory>
 
 // The same, with the task first.
 fn task_first(world: &mut World<'_>, pick: u64) -> Result<bool, OutOfMemory>
-    ensures events { LeadsTo world.old world.new }
+    ensures events { IsLaterWorld world.old world.new }
     ensures fewer { IfOk result (λ more. IsTrue more → turns_left world.new < turns_left world.old) }
     ensures quiet { IfOk result (λ more. IsFalse more → IsQuiet world.new.plan world.new.state) }
 {
@@ -112,9 +113,9 @@ fn task_first(world: &mut World<'_>, pick: u64) -> Result<bool, OutOfMemory>
 }
 
 // One turn with a number of the generator: now and then an old message comes again, then a task runs or a message
-// comes whose edge does not stand. False only if nothing more can happen.
+// is delivered for the first time. False only if nothing more can happen.
 fn take_turn(world: &mut World<'_>, x: u64) -> Result<bool, OutOfMemory>
-    ensures events { LeadsTo world.old world.new }
+    ensures events { IsLaterWorld world.old world.new }
     ensures fewer { IfOk result (λ more. IsTrue more → turns_left world.new < turns_left world.old) }
     ensures quiet { IfOk result (λ more. IsFalse more → IsQuiet world.new.plan world.new.state) }
 {
@@ -128,7 +129,7 @@ fn take_turn(world: &mut World<'_>, x: u64) -> Result<bool, OutOfMemory>
 /// Runs tasks and delivers messages until the world is quiescent, in an order that a seed chooses; now and then an old
 /// message comes again. Without memory the world is left after the events so far.
 pub fn drive(world: &mut World<'_>, seed: u64) -> Result<(), OutOfMemory>
-    ensures events { LeadsTo world.old world.new }
+    ensures events { IsLaterWorld world.old world.new }
     ensures quiet { OnOk result (IsQuiet world.new.plan world.new.state) }
 {
     let mut x = next_choice(seed);

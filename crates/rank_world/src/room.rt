@@ -1,10 +1,8 @@
 //! The memory of a run, taken before it.
 
-ghost use Rattle.std.specs.Prelude.{◌≡◌, ◌+◌, ◌<◌, true, false, IfOk, IfSome, None, OnOk, Some, length, option_map, slice_get, slice_index, if◌then◌else◌};
-ghost use Rattle.std.specs.Option.{option_copied};
+ghost use Rattle.std.specs.Prelude.{◌≡◌, ◌+◌, ◌<◌, true, false, IfOk, None, OnOk, Some, length, option_map, slice_index, if◌then◌else◌};
 ghost use Rattle.plan_core.specs.Kinds as kinds;
 ghost use Rattle.dep_iter.specs.Items as items;
-ghost use Rattle.dep_iter.specs.Tasks as tasks;
 ghost use Rattle.dep_iter.specs.Tasks.{IsTask};
 ghost use Rattle.dep_shard.specs.Content.{IsUnchanged};
 ghost use Rattle.rank_core.specs.World.{is_between};
@@ -13,12 +11,12 @@ ghost use Rattle.rank_world.specs.Sending.{HasRoomFor};
 ghost use Rattle.rank_world.specs.Visits.{AreBlank, IsShapeOf, IsVisit, between_among, plan_of, within_among};
 
 use crate::visit::Visit;
-use dep_iter::{Matched, flows_of, out_edges_under, write_backs_under};
+use dep_iter::{Matched, out_edges_under, write_backs_under};
 use dep_shard::Shard;
-use plan_core::{FlowPlan, Plan};
-use ptg_base::{Edge, OutOfMemory, TaskId, Tile};
+use plan_core::FlowPlan;
+use ptg_base::{Edge, OutOfMemory, Tile};
 use rank_core::Message;
-use shard_calls::shard_at;
+use shard_calls::{flow_at, shard_at};
 use std::alloc::Global;
 
 // What a task will send: the messages to other ranks, whose tiles are still blank, and how many edges stay within its
@@ -51,15 +49,6 @@ fn blank_tile(alloc: Global, m: &Matched, flow: &FlowPlan) -> Result<Option<Tile
     }
     let elems = m.plan().elems.as_slice()[flow.datatype as usize];
     Ok(Some(Tile::zeros(alloc, elems)?))
-}
-
-// The flow of a task with this number, if it has one. Its type is one of the plan's.
-fn flow_at<'a>(plan: &'a Plan, t: &TaskId, number: u8) -> Option<&'a FlowPlan>
-    requires { IsTask plan.now t.now }
-    ensures flow { option_copied result ≡ slice_get (tasks.flows_of plan.now t.now) number }
-    ensures known { IfSome result (λ flow. flow.now.datatype < length plan.now.elems) }
-{
-    flows_of(plan, t).get(number as usize)
 }
 
 // A tile for the flow that an edge goes to, whose numbers are any. None for a CTL flow.

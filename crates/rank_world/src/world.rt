@@ -1,6 +1,6 @@
 //! A world of ranks.
 
-ghost use Rattle.std.specs.Prelude.{◌≡◌, ◌<◌, ◌≤◌, ◌↔◌, ℕ, IfOk, IfNone, IfSome, IsTrue, IsFalse, OnErr, OnOk, Some, length, slice_get};
+ghost use Rattle.std.specs.Prelude.{◌≡◌, ◌<◌, ◌≤◌, ◌↔◌, IfOk, IfNone, IfSome, IsTrue, IsFalse, OnErr, OnOk, Some, length, slice_get};
 ghost use Rattle.ptg_base.specs.Limits.{most_ranks};
 ghost use Rattle.ptg_base.specs.Lists.{IsIn};
 ghost use Rattle.ptg_base.specs.Task.{Task};
@@ -9,11 +9,10 @@ ghost use Rattle.dep_iter.specs.Tasks.{IsTask};
 ghost use Rattle.dep_shard.specs.Content.{Content, HasNoReady, IsBest};
 ghost use Rattle.flow_meaning.specs.Answer as meaning;
 ghost use Rattle.flow_meaning.specs.Machine.{MayClaim};
-ghost use Rattle.shard_meaning.specs.Calm.{HasNoWork};
 ghost use Rattle.rank_core.specs.declared.message.Message.{Message as MessageValue};
 ghost use Rattle.rank_core.specs.Sound.{IsSoundWorld, message_count};
 ghost use Rattle.rank_core.specs.World as world;
-ghost use Rattle.rank_core.specs.World.{IsQuiet, stands};
+ghost use Rattle.rank_core.specs.World.{IsQuiet, is_delivered};
 ghost use Rattle.rank_world.specs.Changes.{StaysAt, TakesEdgeAt};
 ghost use Rattle.rank_world.specs.Sending.{MayTakeEdge};
 ghost use Rattle.rank_world.specs.Views.{opened, with_delivery};
@@ -29,7 +28,7 @@ use indexmap::IndexMap;
 use ptg_base::{OutOfMemory, TaskId};
 use rank_core::Message;
 use shard_answer::{Room, outcome_of};
-use shard_calls::{opened_shards, shard_at};
+use shard_calls::{have_no_work, opened_shards, shard_at};
 use std::alloc::Global;
 use std::marker::Model;
 use task_run::Bench;
@@ -105,18 +104,6 @@ fn best_at(ranks: &mut Vec<Shard>, k: usize) -> Option<TaskId>
     ranks[k].best_ready()
 }
 
-// Whether no rank has work.
-fn are_calm(ranks: &[Shard]) -> bool
-    ensures { IsTrue result ↔ ((k : ℕ) (y : Content) → slice_get ranks.now k ≡ Some y → HasNoWork y) }
-{
-    for k in 0..ranks.len() {
-        if !ranks[k].is_calm() {
-            return false;
-        }
-    }
-    true
-}
-
 impl<'m> World<'m> {
     /// A world of from 1 to 64 ranks for a job and its data, in which nothing has happened.
     pub fn new(
@@ -174,14 +161,14 @@ impl<'m> World<'m> {
         self.mail.sent
     }
 
-    /// The number of a message whose edge does not stand; if there are several, the pick says which. `None` exactly
+    /// The number of a message that was not delivered; if there are several, the pick says which. `None` exactly
     /// where there is none.
     pub fn late_message(&self, pick: u64) -> Option<u64>
         ensures some { IfSome result (λ n.
             (m : MessageValue) × (slice_get self.now.state.messages n ≡ Some m)
-            × IsFalse (stands self.now.state.machine m)) }
+            × IsFalse (is_delivered self.now.state.machine m)) }
         ensures none { IfNone result
-            ((m : MessageValue) → IsIn m self.now.state.messages → IsTrue (stands self.now.state.machine m)) }
+            ((m : MessageValue) → IsIn m self.now.state.messages → IsTrue (is_delivered self.now.state.machine m)) }
     {
         let late = self.mail.under_way.len() as u64;
         if late == 0 {
@@ -207,20 +194,20 @@ impl<'m> World<'m> {
         best_at(&mut self.ranks, rank as usize)
     }
 
-    /// Whether no task may run and the edge of each message stands.
+    /// Whether no task may run and each message was delivered.
     pub fn quiescent(&self) -> bool
         ensures { IsTrue result ↔ IsQuiet self.now.plan self.now.state }
     {
-        self.mail.under_way.is_empty() && are_calm(self.ranks.as_slice())
+        self.mail.under_way.is_empty() && have_no_work(self.ranks.as_slice())
     }
 
-    /// Delivers the message of a number: true exactly where its edge did not stand, which then stands with the
-    /// message's tile. Else nothing changes, nor does it without memory.
+    /// Delivers the message of a number: true exactly where it was not delivered before, and then its edge is sent
+    /// with its tile. Else nothing changes, nor does it without memory.
     pub fn deliver(&mut self, n: u64) -> Result<bool, OutOfMemory>
         requires { n < length self.old.state.messages }
-        ensures exact { IfOk result (λ stood_not.
+        ensures exact { IfOk result (λ is_first.
             (m : MessageValue) → slice_get self.old.state.messages n ≡ Some m
-            → IsTrue stood_not ↔ IsFalse (stands self.old.state.machine m)) }
+            → IsTrue is_first ↔ IsFalse (is_delivered self.old.state.machine m)) }
         ensures state { OnOk result (self.new ≡ with_delivery n self.old) }
         ensures err { OnErr result (self.new ≡ self.old) }
         ensures sound { IsSoundWorld self.new.plan self.new.given self.new.ranks self.new.state }

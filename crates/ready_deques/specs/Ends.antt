@@ -2,6 +2,11 @@
 use Rattle.std.specs.Prelude.{◌≡◌, ◌≢◌, ℕ, ◌+◌, ◌-◌, ◌<◌, List, [], Some, length, map, slice_get}
 use Rattle.std.specs.declared.alloc.Global.{Global}
 use Rattle.ptg_base.specs.Task.{Task}
+use Rattle.ready_deques.specs.Rule.{all_parts}
+
+-- How many ids a deque has room for from the start.
+abbrev pub initial_capacity : ℕ
+initial_capacity = 16
 
 -- Which deque it is. Clauses only compare these.
 abbrev pub DequeId : Type 0
@@ -37,6 +42,6 @@ OthersHaveParts number thieves =
 
 -- Nothing was pushed or taken, and so many parts are given away.
 pub record IsNew (given : ℕ) (b : Owner) : Type 0 where
-  pub parts : b.parts + given ≡ 65
+  pub parts : b.parts + given ≡ all_parts
   pub pushed : b.pushed ≡ []
   pub taken : b.taken ≡ []

@@ -1,9 +1,15 @@
 -- The rule of a deque of ready tasks, over all who hold an end of it: an id is taken from it at most as often as it was
 -- pushed to it. Source: work stealing as in DAGuE 2012; the rule is this project's own choice.
 use Rattle.std.specs.Prelude.{◌≡◌, ℕ, ◌+◌, ◌≤◌, ⊤, List, [], ◌∷◌, ◌++◌, length, Contains, All, sum_by, count_by}
+use Rattle.ptg_base.specs.Limits.{most_workers}
 use Rattle.ptg_base.specs.Task.{Task}
 use Rattle.ptg_base.specs.TaskComparing.{same_task}
 use Rattle.ready_deques.specs.declared.tally.Tally.{Tally}
+
+-- How many parts the right to know the whole of a deque has: one for each of the most workers that share it, and one
+-- for its owner.
+abbrev pub all_parts : ℕ
+all_parts = most_workers + 1
 
 -- How often an id is in a list.
 abbrev pub times : Task → List Task → ℕ
@@ -24,11 +30,11 @@ abbrev pub OnlyFirstPushes : List Tally → Type 0
 OnlyFirstPushes [] = ⊤
 OnlyFirstPushes (own ∷ others) = All HasNotPushed others
 
--- Each id was pushed as often as it was taken and is held, by all tallies together. There are 65 parts.
+-- Each id was pushed as often as it was taken and is held, by all tallies together. They have all parts.
 pub record Balanced (held : List Task) (tallies : List Tally) : Type 0 where
   pub ids : (id : Task)
       → sum_by (λ t. times id t.pushed) tallies ≡ sum_by (λ t. times id t.taken) tallies + times id held
-  pub parts : sum_by (λ t. t.parts) tallies ≡ 65
+  pub parts : sum_by (λ t. t.parts) tallies ≡ all_parts
   pub idle : All IdleIsEmpty tallies
   pub pushes : OnlyFirstPushes tallies
 

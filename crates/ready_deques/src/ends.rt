@@ -2,8 +2,8 @@
 ghost use Rattle.std.specs.Prelude.{◌≡◌, ◌+◌, ◌-◌, ◌<◌, ◌≤◌, [], ◌∷◌, ◌++◌, length, IfOk, IfErr, MatchOption, MatchResult, OnErr};
 ghost use Rattle.ptg_base.specs.Task.{Task};
 ghost use Rattle.crossbeam_deque.specs.Steals.{MatchSteal};
-ghost use Rattle.ready_deques.specs.Ends.{Owner, Thief, IsNew, less, new_thief};
-ghost use Rattle.ready_deques.specs.Rule.{times, HeldAtMost, WasEmpty};
+ghost use Rattle.ready_deques.specs.Ends.{Owner, Thief, IsNew, initial_capacity, less, new_thief};
+ghost use Rattle.ready_deques.specs.Rule.{times, HeldAtMost, WasEmpty, all_parts};
 ghost use Rattle.ready_deques.specs.Stolen.{MatchStolen};
 
 use crate::stolen::Stolen;
@@ -16,7 +16,7 @@ use std::mem;
 use std::sync::Wait;
 
 // The ids that a deque has room for from the start.
-const ROOM: usize = 16;
+const INITIAL_CAPACITY: usize = 16;
 
 // The end of a deque where its worker pushes and pops.
 #[derive(Drop)]
@@ -27,7 +27,7 @@ pub(crate) struct OwnerEnd {
 impl Model for OwnerEnd {
     ghost use Rattle.std.specs.Prelude.{◌≡◌, ◌<◌, ◌≤◌, length};
     ghost use Rattle.crossbeam_deque.specs.Handles.{worker_deque, worker_flavor, worker_port, worker_view, worker_capacity, worker_index};
-    ghost use Rattle.ready_deques.specs.Ends.{Owner};
+    ghost use Rattle.ready_deques.specs.Ends.{Owner, initial_capacity};
 
     ghost Value = { Owner };
 
@@ -38,7 +38,8 @@ impl Model for OwnerEnd {
       taken = (worker_view b.worker).taken;
     } };
 
-    ghost invariant = { λ b. (worker_flavor b.worker ≡ 1) × (worker_port b.worker ≡ 0) × (16 ≤ worker_capacity b.worker)
+    ghost invariant = { λ b. (worker_flavor b.worker ≡ 1) × (worker_port b.worker ≡ 0)
+        × (initial_capacity ≤ worker_capacity b.worker)
         × (worker_index b.worker ≤ length (worker_view b.worker).pushed) × (0 < (worker_view b.worker).parts) };
 }
 
@@ -48,7 +49,7 @@ impl OwnerEnd {
         ensures { IfOk result (IsNew 0) }
     {
         Ok(OwnerEnd {
-            worker: Worker::lifo_as(alloc, ROOM)?,
+            worker: Worker::lifo_as(alloc, INITIAL_CAPACITY)?,
         })
     }
 
@@ -63,11 +64,11 @@ impl OwnerEnd {
         Ok(ThiefEnd { stealer, pass })
     }
 
-    // Adds at the back. The id comes back only where at least 16 were pushed before.
+    // Adds at the back. The id comes back only where at least `initial_capacity` were pushed before.
     pub(crate) fn push(&mut self, id: TaskId) -> Result<(), TaskId>
         ensures pushed { MatchResult result (λ _. self.new ≡ record self.old { pushed = self.old.pushed ++ id ∷ [] })
             (λ back. (back ≡ id) × (self.new ≡ self.old)) }
-        ensures refused { IfErr result (λ _. 16 ≤ length self.old.pushed) }
+        ensures refused { IfErr result (λ _. initial_capacity ≤ length self.old.pushed) }
     {
         self.worker.push_as::<Pushed>(id)
     }
@@ -104,7 +105,7 @@ impl OwnerEnd {
 
     // Who has all parts knows of every id that was taken: none was taken more often than it was pushed.
     pub(crate) fn audit(&mut self)
-        requires { self.old.parts ≡ 65 }
+        requires { self.old.parts ≡ all_parts }
         ensures same { self.new ≡ self.old }
         ensures bounded { (id : Task) → times id self.old.taken ≤ times id self.old.pushed }
     {

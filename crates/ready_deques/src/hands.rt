@@ -1,7 +1,7 @@
 //! One worker's ends of the deques: where it pushes, pops and steals.
 ghost use Rattle.std.specs.Prelude.{◌≡◌, ◌≢◌, ◌+◌, ◌<◌, ◌≤◌, ℕ, [], ◌∷◌, length, ⊤, All, map, sum_by, slice_get, Some, IfErr, IfNone, MatchOption, MatchResult};
 ghost use Rattle.ptg_base.specs.Task.{Task};
-ghost use Rattle.ready_deques.specs.Ends.{IsNew};
+ghost use Rattle.ready_deques.specs.Ends.{IsNew, initial_capacity};
 ghost use Rattle.ready_deques.specs.Hands.{AreTheOthers, SameWorker, TakenAtMostAsPushed, fresh, taken_from, after_push, after_take};
 ghost use Rattle.ready_deques.specs.Rule.{AllTaken, HeldAtMost, WasEmpty, times};
 ghost use Rattle.ready_deques.specs.Stolen.{MatchStolen};
@@ -40,7 +40,8 @@ impl Model for Hands {
     } };
 
     ghost invariant = { λ h. (h.number < length h.thieves.items) × (h.own.parts + length h.thieves.items ≡ 66)
-        × (slice_get (map (λ f. f.deque) h.thieves.items) h.number ≡ Some h.own.deque) × OthersHaveParts h.number h.thieves.items };
+        × (slice_get (map (λ f. f.deque) h.thieves.items) h.number ≡ Some h.own.deque)
+        × OthersHaveParts h.number h.thieves.items };
 }
 
 impl Hands {
@@ -76,11 +77,11 @@ impl Hands {
     }
 
     /// Adds at the back of the worker's own deque. It may take memory; an id that it cannot take comes back, and only
-    /// after 16 were pushed.
+    /// after `initial_capacity` were pushed.
     pub fn push(&mut self, id: TaskId) -> Result<(), TaskId>
         ensures pushed { MatchResult result (λ _. self.new ≡ after_push self.old id) (λ back.
             (back ≡ id) × (self.new ≡ self.old)) }
-        ensures refused { IfErr result (λ _. 16 ≤ length self.old.pushed) }
+        ensures refused { IfErr result (λ _. initial_capacity ≤ length self.old.pushed) }
         ensures same { SameWorker self.old self.new }
     {
         self.own.push(id)

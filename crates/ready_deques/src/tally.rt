@@ -17,11 +17,11 @@ pub struct DequeRule;
 
 impl Protocol<TaskId, Tally> for DequeRule {
     ghost use Rattle.std.specs.Prelude.{[]};
-    ghost use Rattle.ready_deques.specs.Rule.{Balanced, tally};
+    ghost use Rattle.ready_deques.specs.Rule.{Balanced, all_parts, tally};
 
     ghost holds = { Balanced };
 
-    ghost first = { tally 65 [] [] };
+    ghost first = { tally all_parts [] [] };
 
     ghost guest = { tally 0 [] [] };
 }

@@ -34,7 +34,8 @@ fn new_owners(alloc: Global, workers: u32) -> Result<Vec<OwnerEnd>, OutOfMemory>
 // For each worker a row of thieves' ends, one of each deque.
 fn thief_rows(alloc: Global, owners: &mut Vec<OwnerEnd>) -> Result<Vec<Vec<ThiefEnd>>, OutOfMemory>
     requires { All (λ b. length owners.old.items < b.parts) owners.old.items }
-    ensures { IfOk result (λ rows. (length rows.items ≡ length owners.old.items) × All (λ row. row.items ≡ map new_thief owners.old.items) rows.items
+    ensures { IfOk result (λ rows. (length rows.items ≡ length owners.old.items)
+        × All (λ row. row.items ≡ map new_thief owners.old.items) rows.items
         × (owners.new.items ≡ map (less (length owners.old.items)) owners.old.items)) }
 {
     let mut rows = Vec::new(alloc);

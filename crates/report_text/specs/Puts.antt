@@ -3,13 +3,18 @@ use Rattle.std.specs.Prelude.{◌≡◌, ℕ, ◌≤◌, List, length, take, Opt
 use Rattle.ptg_io.specs.Faults.{Rose}
 use Rattle.ptg_io.specs.Sink.{appended}
 
+-- how many bytes go out at once
+abbrev pub piece_size : ℕ
+piece_size = 4096
+
 -- the first are the first bytes of the second, or neither is known
 abbrev pub Precedes : Option (List ℕ) → Option (List ℕ) → Type 0
 Precedes front whole = (rest : List ℕ) × (appended front rest ≡ whole)
 
 -- a call put a text: the sink's bytes, with those after them that are kept back, grew by the text;
 -- where the call failed, the sink has some first bytes of all that, and no others
-pub record Puts {S T E : Type 0} (bytes : S → Option (List ℕ)) (faults : S → ℕ) (result : Result T E) (sink : S) (kept : List ℕ) (sink_after : S) (kept_after : List ℕ) (text : List ℕ) : Type 0 where
+pub record Puts {S T E : Type 0} (bytes : S → Option (List ℕ)) (faults : S → ℕ) (result : Result T E)
+    (sink : S) (kept : List ℕ) (sink_after : S) (kept_after : List ℕ) (text : List ℕ) : Type 0 where
   pub ok : OnOk result (appended (bytes sink_after) kept_after ≡ appended (appended (bytes sink) kept) text)
   pub cut : OnErr result (Precedes (bytes sink_after) (appended (appended (bytes sink) kept) text))
   pub onward : Precedes (bytes sink) (bytes sink_after)

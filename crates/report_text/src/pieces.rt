@@ -1,34 +1,35 @@
 //! Bytes that are kept back until there are enough for a piece, and written then.
 
 ghost use Rattle.std.specs.Prelude.{◌≡◌, ◌∷◌, [], ◌++◌, ◌<◌, length, IsFalse, OnOk};
-ghost use Rattle.report_text.specs.Puts.{Puts};
+ghost use Rattle.report_text.specs.Puts.{Puts, piece_size};
 
 use ptg_io::{Failed, Sink, write_all};
 use std::marker::Model;
 
 // How many bytes go out at once.
-const PIECE: usize = 4096;
+const PIECE_SIZE: usize = 4096;
 
 /// The bytes that are kept back until there are enough for a piece, seen as the list of them.
 #[derive(Drop)]
 pub struct Pieces {
-    buffer: [u8; PIECE],
+    buffer: [u8; PIECE_SIZE],
     count: usize,
 }
 
 impl Model for Pieces {
     ghost use Rattle.std.specs.Prelude.{List, ℕ, take, ◌≤◌};
+    ghost use Rattle.report_text.specs.Puts.{piece_size};
 
     ghost Value = { List ℕ };
 
     ghost view = { λ p. take p.count p.buffer };
 
-    ghost invariant = { λ p. p.count ≤ 4096 };
+    ghost invariant = { λ p. p.count ≤ piece_size };
 }
 
 // A buffer of zeros. Contracts see none of its bytes before one is put.
-fn any_buffer() -> [u8; PIECE] {
-    [0; PIECE]
+fn any_buffer() -> [u8; PIECE_SIZE] {
+    [0; PIECE_SIZE]
 }
 
 impl Pieces {
@@ -42,9 +43,9 @@ impl Pieces {
     }
 
     fn is_full(&self) -> bool
-        ensures { IsFalse result → length self.now < 4096 }
+        ensures { IsFalse result → length self.now < piece_size }
     {
-        self.count == PIECE
+        self.count == PIECE_SIZE
     }
 
     fn as_slice(&self) -> &[u8]
@@ -60,7 +61,7 @@ impl Pieces {
     }
 
     fn push(&mut self, byte: u8)
-        requires { length self.old < 4096 }
+        requires { length self.old < piece_size }
         ensures { self.new ≡ self.old ++ byte ∷ [] }
     {
         self.buffer[self.count] = byte;
@@ -81,7 +82,7 @@ pub fn flush<O: Sink>(sink: &mut O, out: &mut Pieces) -> Result<(), Failed>
 // Writes what is kept back if there is no room for one more byte.
 fn make_room<O: Sink>(sink: &mut O, out: &mut Pieces) -> Result<(), Failed>
     ensures puts { Puts O.bytes O.faults result sink.old out.old sink.new out.new [] }
-    ensures room { OnOk result (length out.new < 4096) }
+    ensures room { OnOk result (length out.new < piece_size) }
 {
     if out.is_full() {
         flush(sink, out)

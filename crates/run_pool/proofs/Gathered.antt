@@ -17,7 +17,7 @@ use Rattle.dep_table.specs.Closing.{AreAllPasses}
 use Rattle.dep_table.specs.Tables.{id_of}
 use Rattle.dep_table.specs.Passes.{IsPassOf}
 use Rattle.dep_table.specs.Views.{PassView, shown}
-use Rattle.run_pool.specs.Desks.{AnswerSays, HasWorkedAt, HaveWorked}
+use Rattle.run_pool.specs.Desks.{IsAnswerOfPass, HasWorkedAt, HaveWorked}
 use Rattle.run_pool.specs.Seated.{AreSeated, HaveAnswered, IsDone, OneWasRefused, PaddedDesk, answer_on, pass_on, record_on}
 use Rattle.run_pool.proofs.Places.{has_both, index_or, same_looks}
 
@@ -48,15 +48,15 @@ module _ (T : DepTable) (plan : Plan) (preloaded : Bool) (ds es : List PaddedDes
       let b = has_both ds es e count i in
       (b.other, at b.place b.other e b.before b.after)
 
-  says_some : (v : PassRecord) (o : Option (Result Worked OutOfMemory)) → AnswerSays (IsWorkerPass T) shown preloaded v o → IsSome o
-  says_some v None h = absurd h
-  says_some v (Some r) h = refl
+  has_answer : (v : PassRecord) (o : Option (Result Worked OutOfMemory)) → IsAnswerOfPass (IsWorkerPass T) shown preloaded v o → IsSome o
+  has_answer v None h = absurd h
+  has_answer v (Some r) h = refl
 
   pub have_answered : HaveAnswered es
-  have_answered e i = let p = worked_at e i in says_some (record_on e) (answer_on e) p.1.answer
+  have_answered e i = let p = worked_at e i in has_answer (record_on e) (answer_on e) p.1.answer
 
   -- a preloaded run wants no memory
-  not_preloaded : (v : PassRecord) (o : Option (Result Worked OutOfMemory)) (out : OutOfMemory) → o ≡ Some (Err out) → AnswerSays (IsWorkerPass T) shown preloaded v o → preloaded ≡ false
+  not_preloaded : (v : PassRecord) (o : Option (Result Worked OutOfMemory)) (out : OutOfMemory) → o ≡ Some (Err out) → IsAnswerOfPass (IsWorkerPass T) shown preloaded v o → preloaded ≡ false
   not_preloaded v None out e h = absurd h
   not_preloaded v (Some (Ok worked)) out e h = absurd cc
   not_preloaded v (Some (Err out₂)) out e h = h.1
@@ -65,7 +65,7 @@ module _ (T : DepTable) (plan : Plan) (preloaded : Bool) (ds es : List PaddedDes
   refused_unloaded r = let p = worked_at r.desk r.among in not_preloaded (record_on r.desk) (answer_on r.desk) r.refused r.answer p.1.answer
 
   -- a worker that is done has seen quiet
-  has_seen : (v : PassRecord) (o : Option (Result Worked OutOfMemory)) (worked : Worked) → o ≡ Some (Ok worked) → AnswerSays (IsWorkerPass T) shown preloaded v o → v.quiet ≡ true
+  has_seen : (v : PassRecord) (o : Option (Result Worked OutOfMemory)) (worked : Worked) → o ≡ Some (Ok worked) → IsAnswerOfPass (IsWorkerPass T) shown preloaded v o → v.quiet ≡ true
   has_seen v None worked e h = absurd h
   has_seen v (Some (Ok worked₂)) worked e h = h.0
   has_seen v (Some (Err out)) worked e h = absurd cc

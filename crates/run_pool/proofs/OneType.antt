@@ -1,5 +1,5 @@
 -- The bytes of a preload where all tiles are of one type.
-use Rattle.std.proofs.Common.{zero-add, ◌≡◌, ℕ, ◌+◌, ◌*◌, ◌<◌, true, List, [], ◌∷◌, length, refl, ap, sym, ◌∙◌, subst, Option, Some, None, slice_get, slice_index, sum, option_map, arith}
+use Rattle.std.proofs.Common.{◌≡◌, ℕ, ◌+◌, ◌*◌, ◌<◌, true, List, [], ◌∷◌, length, refl, ap, sym, ◌∙◌, subst, Option, Some, None, slice_get, slice_index, option_map, arith}
 use Rattle.std.proofs.lemmas.Bool.{false≢true}
 use Rattle.ptg_base.specs.Lists.{IsIn}
 use Rattle.ptg_base.specs.Task.{Task}
@@ -17,7 +17,7 @@ use Rattle.dep_iter.specs.Tasks.{IsTask, all_tasks, flows_of}
 use Rattle.dep_iter.proofs.Listing.{listed}
 use Rattle.shard_meaning.proofs.Destinations.{flow_is, writes_from}
 use Rattle.task_run.proofs.FlowSizes.{known}
-use Rattle.run_pool.specs.Bytes.{edge_elements, elements_of, preload_bytes, sent_elements, write_elements}
+use Rattle.run_pool.specs.Bytes.{edge_elements, elements_of, sent_elements, write_elements}
 use Rattle.run_pool.proofs.Totals.{into, out_of, write_item}
 
 module _ (P : Plan) (elems : ℕ) (one : P.elems ≡ elems ∷ []) where
@@ -56,16 +56,6 @@ module _ (P : Plan) (elems : ℕ) (one : P.elems ≡ elems ∷ []) where
       let ins = weigh-each (edge_elements P) elems (all_data P) of_edge in
       let outs = weigh-each (write_elements P) elems (all_writes P) of_write in
       omega (arith, ins, outs)
-
-  pub bytes_are : (workers : ℕ) → preload_bytes P workers ≡ 8 * elems * (length (all_data P) + length (all_writes P) + 8 * workers)
-  unfolding preload_bytes
-  bytes_are workers =
-      let types : sum P.elems ≡ elems = ap sum one ∙ zero-add elems in
-      ap (λ n. 8 * (n + 8 * workers * sum P.elems)) sent_are ∙ ap (λ n. 8 * (elems * (length (all_data P) + length (all_writes P)) + 8 * workers * n)) types
-      ∙ regroup elems (length (all_data P) + length (all_writes P)) workers
-    where
-      regroup : (e s w : ℕ) → 8 * (e * s + 8 * w * e) ≡ 8 * e * (s + 8 * w)
-      regroup e s w = omega arith
 
 -- a list with one number
 pub only_one : (ns : List ℕ) (n : ℕ) → length ns ≡ 1 → slice_get ns 0 ≡ Some n → ns ≡ n ∷ []

@@ -19,18 +19,18 @@ module _ {P : Type 0} (is_pass : P → Type 0) (shown : P → PassRecord) where
     pub idle : (shown d.pass).running ≡ []
     pub bench : IsBenchOf plan d.bench
 
-  -- what the answer of a worker's work says of its pass: it has seen quiet and runs nothing, or the board is halted,
-  -- which a preloaded board never is
-  abbrev pub AnswerSays : Bool → PassRecord → Option (Result Worked OutOfMemory) → Type 0
-  AnswerSays preloaded w None = ⊥
-  AnswerSays preloaded w (Some (Ok worked)) = (w.quiet ≡ true) × (w.running ≡ [])
-  AnswerSays preloaded w (Some (Err refused)) = KnowsHalted w × (preloaded ≡ false)
+  -- a worker with this pass has answered so: where it has worked to the end, the pass has seen quiet and runs
+  -- nothing; else the board is halted, which a preloaded board never is
+  abbrev pub IsAnswerOfPass : Bool → PassRecord → Option (Result Worked OutOfMemory) → Type 0
+  IsAnswerOfPass preloaded w None = ⊥
+  IsAnswerOfPass preloaded w (Some (Ok worked)) = (w.quiet ≡ true) × (w.running ≡ [])
+  IsAnswerOfPass preloaded w (Some (Err refused)) = KnowsHalted w × (preloaded ≡ false)
 
   -- a worker has worked: its pass is clean and has what it had and maybe more, and its answer is on the desk
   pub record HasWorkedAt (preloaded : Bool) (d e : Desk P) : Type 0 where
     pub pass : is_pass e.pass
     pub later : IsLaterRecord (shown d.pass) (shown e.pass)
-    pub answer : AnswerSays preloaded (shown e.pass) e.answer
+    pub answer : IsAnswerOfPass preloaded (shown e.pass) e.answer
 
   -- each desk is ready
   abbrev pub AreReady : Plan → List (CachePadded (Desk P)) → Type 0

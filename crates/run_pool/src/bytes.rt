@@ -1,9 +1,6 @@
 //! How much memory a preload takes.
 
-ghost use Rattle.std.specs.Prelude.{◌≡◌, ◌<◌, ◌+◌, ◌*◌, ◌^◌, ℕ, [], ◌∷◌, length, sum};
-ghost use Rattle.ptg_base.specs.Limits.{most_flows};
-ghost use Rattle.plan_core.specs.declared.plan.Plan.{Plan as PlanValue};
-ghost use Rattle.dep_iter.specs.Consistent.{all_data, all_writes};
+ghost use Rattle.std.specs.Prelude.{◌≡◌, ◌<◌, ◌+◌, ◌*◌, ◌^◌, sum};
 ghost use Rattle.run_pool.specs.Bytes as bytes;
 
 use crate::elements::sent_elements;
@@ -32,9 +29,3 @@ pub fn preload_bytes(m: &Matched, workers: u32) -> u64
     let each = type_elements(m.plan());
     8 * (sent + MOST_FLOWS as u64 * u64::from(workers) * each)
 }
-
-/// A law: where DEFAULT is the only type, each tile has as many numbers, and the bytes are a product.
-pub fn with_one_type_the_preload_is_a_product()
-    ensures { (P : PlanValue) (elems workers : ℕ) → P.elems ≡ elems ∷ []
-        → bytes.preload_bytes P workers ≡ 8 * elems * (length (all_data P) + length (all_writes P) + most_flows * workers) }
-{}

@@ -12,7 +12,7 @@ mod settings;
 mod tracing;
 mod workers;
 
-pub use bytes::{preload_bytes, with_one_type_the_preload_is_a_product};
+pub use bytes::preload_bytes;
 pub use desk::Desk;
 pub use prepared::Prepared;
 pub use preparing::{PrepareFault, prepare};

@@ -1,1 +1,4 @@
 pub mod Writing
+pub mod Moments
+pub mod Ready
+pub mod Free

@@ -1,5 +1,5 @@
 -- What an item carries: a tile, where its flow is a data flow, and else none.
-use Rattle.std.proofs.Common.{◌≡◌, ◌⊎◌, ℕ, zero, suc, ℤ, true, false, cond, List, [], ◌∷◌, length, get_or, refl, ap, sym, ◌∙◌, Option, Some, None, slice_get, Ok, Err, inl, inr}
+use Rattle.std.proofs.Common.{◌≡◌, ◌⊎◌, ℕ, zero, suc, ℤ, true, false, cond, List, [], ◌∷◌, length, get_or, refl, ap, ◌∙◌, Option, Some, None, slice_get, Ok, Err, inl, inr}
 use Rattle.std.proofs.lemmas.Bool.{false≢true}
 use Rattle.std.specs.Prelude.{option_map}
 use Rattle.ptg_base.specs.Lists.{IsIn}
@@ -7,23 +7,20 @@ use Rattle.ptg_base.specs.Task.{Task}
 use Rattle.ptg_base.specs.declared.edge.Edge.{Edge}
 use Rattle.ptg_base.specs.declared.edge.Item.TheVariants as item
 use Rattle.list_lemmas.proofs.Truth.{by_test}
-use Rattle.list_lemmas.proofs.Members.{IsIn-filter_map}
 use Rattle.list_lemmas.proofs.Options.{none_from_length}
-use Rattle.body_eval.specs.Meaning.{body_meaning}
-use Rattle.plan_core.specs.declared.class.ClassPlan.{ClassPlan}
 use Rattle.plan_core.specs.declared.flow.FlowPlan.{FlowPlan}
 use Rattle.plan_core.specs.declared.plan.Plan.{Plan}
 use Rattle.plan_core.specs.Kinds.{flow_of, is_data}
 use Rattle.coll_data.specs.Data.{Data}
 use Rattle.dep_iter.specs.Edges.{data_source}
-use Rattle.dep_iter.specs.Items.{edge_of, items}
-use Rattle.dep_iter.specs.Tasks.{IsTask, flows_of, locals_of}
+use Rattle.dep_iter.specs.Items.{items}
+use Rattle.dep_iter.specs.Tasks.{IsTask, flows_of}
+use Rattle.dep_iter.proofs.Items.{item_edge}
 use Rattle.flow_meaning.specs.Ending.{Ended, ended_on, output_tile}
 use Rattle.flow_meaning.specs.Machine.{MachineState, end_in}
 use Rattle.flow_meaning.specs.Starting.{Delivery, starting_tiles, tile_from, tiles_from}
-use Rattle.flow_meaning.proofs.Shapes.{body_shape}
-use Rattle.flow_meaning.proofs.SourceEdges.{class_of}
-use Rattle.shard_meaning.proofs.Destinations.{flow_is, sends_to}
+use Rattle.flow_meaning.proofs.Sizes.{ended_shape, flow_is}
+use Rattle.shard_meaning.proofs.Destinations.{sends_to}
 
 -- the tile that an edge carries
 abbrev pub edge_tile : Plan → Data → MachineState → Edge → Option (List ℤ)
@@ -43,23 +40,17 @@ no_start P G d t n (f ∷ fs) (suc k) g e ctl = no_start P G d t (suc n) fs k g 
 
 -- and a task leaves none in it
 pub no_output : (P : Plan) (G : Data) (d : Delivery) (t : Task) → IsTask P t → (k : ℕ) (g : FlowPlan) → slice_get (flows_of P t) k ≡ Some g → is_data (Some g.kind) ≡ false → (o : Option Ended) → ended_on P G d t ≡ o → output_tile o k ≡ None
-unfolding ended_on starting_tiles
+unfolding starting_tiles
 no_output P G d t job k g here ctl None is = refl
 no_output P G d t job k g here ctl (Some (Err cause)) is = refl
 no_output P G d t job k g here ctl (Some (Ok tiles)) is =
-    let h = class_of P t job in
-    let body : body_meaning h.class.body (locals_of P t) (starting_tiles P G d t) ≡ Ok tiles =
-    inside (ap (λ o. option_map (λ (c : ClassPlan). body_meaning c.body (locals_of P t) (starting_tiles P G d t)) o) (sym h.class_is) ∙ is) in
     let start : get_or (tiles_from P G d t 0 (flows_of P t)) k None ≡ None = no_start P G d t 0 (flows_of P t) k g here ctl in
-    none_from_length _ ((body_shape h.class.body (locals_of P t) (starting_tiles P G d t) tiles body).sizes k ∙ ap (λ o. option_map length o) start)
-  where
-    inside : {A : Type 0} {x y : A} → Some x ≡ Some y → x ≡ y
-    inside e = cc
+    none_from_length _ ((ended_shape P G d t tiles job is).sizes k ∙ ap (λ o. option_map length o) start)
 
 -- an edge that may be sent carries a tile only to a data flow
 pub carries : (P : Plan) (G : Data) (S : MachineState) (e : Edge) → IsTask P e.from → IsIn (item.Edge e) (items P e.from) → Carries P G S e
 carries P G S e job among =
-    let to = sends_to P e.from job e (IsIn-filter_map edge_of (items P e.from) (item.Edge e) e among refl) in
+    let to = sends_to P e.from job e (item_edge (items P e.from) e among) in
     by_test (is_data (Some to.flow.kind))
     (λ d. to_flow (flow_of P.classes e.to.class e.in_flow) (flow_is P e.to e.in_flow) (to.same_kind ∙ d) (edge_tile P G S e) refl)
     (λ ctl. inl (none e.from job e.out_flow to.flow to.here ctl))

@@ -10,13 +10,11 @@ use Rattle.ptg_base.specs.TaskComparing.{same_task}
 use Rattle.ptg_base.specs.TaskLaws.{same_task-decides}
 use Rattle.ptg_base.specs.declared.edge.Edge.{Edge}
 use Rattle.ptg_base.specs.declared.edge.WriteBack.{WriteBack}
-use Rattle.ptg_base.specs.declared.edge.Item.{Item}
 use Rattle.ptg_base.specs.declared.edge.Item.TheVariants as item
 use Rattle.dep_iter.specs.declared.source.Source.{Source}
 use Rattle.dep_iter.specs.declared.source.Source.TheVariants as source
 use Rattle.list_lemmas.proofs.Truth.{by_test}
 use Rattle.list_lemmas.proofs.Counts.{count-at_most, count-some, weigh-push}
-use Rattle.list_lemmas.proofs.Members.{IsIn-filter_map}
 use Rattle.plan_core.specs.declared.flow.FlowPlan.{FlowPlan}
 use Rattle.plan_core.specs.declared.plan.Plan.{Plan}
 use Rattle.plan_core.specs.Kinds.{is_data}
@@ -24,12 +22,13 @@ use Rattle.coll_data.specs.Data.{Data}
 use Rattle.dep_iter.specs.Consistent.{IsConsistent}
 use Rattle.dep_iter.specs.Edges.{data_source, goal, in_edges}
 use Rattle.dep_iter.specs.Hints.{priority}
-use Rattle.dep_iter.specs.Items.{edge_of, items}
+use Rattle.dep_iter.specs.Items.{items}
 use Rattle.dep_iter.specs.Tasks.{IsTask, flows_of}
+use Rattle.dep_iter.proofs.Items.{Edge-injective, item_edge}
 use Rattle.dep_shard.specs.Content.{Content, Entry, Updates, entry_before, entry_in, entry_of, fresh, tiles_after, with_arrival}
-use Rattle.list_lemmas.specs.Counting.{as_number, count}
+use Rattle.list_lemmas.specs.Counting.{as_number}
 use Rattle.flow_meaning.specs.Comparing.{same_item}
-use Rattle.flow_meaning.specs.Machine.{Claim, MachineState, MaySend, Send, Sent, arrived, claim_count, first_tile, is_sent, sent_tile, state_after}
+use Rattle.flow_meaning.specs.Machine.{Claim, MachineState, MaySend, Send, arrived, claim_count, is_sent, sent_tile, state_after}
 use Rattle.flow_meaning.specs.Sound.{IsSoundState}
 use Rattle.flow_meaning.specs.Starting.{delivered_from, delivered_tiles, delivered_to}
 use Rattle.flow_meaning.specs.Table.{TableEntry, table_entry}
@@ -38,6 +37,7 @@ use Rattle.flow_meaning.proofs.Comparing.{same_item-decides}
 use Rattle.flow_meaning.proofs.Members.{in_edge_to}
 use Rattle.flow_meaning.proofs.Events.{claim_member, unsent}
 use Rattle.flow_meaning.proofs.Rounds.{delivered_tiles-same}
+use Rattle.flow_meaning.proofs.Reordering.{first_none}
 use Rattle.shard_meaning.specs.Share.{Placement, as_entry}
 use Rattle.shard_meaning.proofs.Carrying.{Carries, edge_tile}
 use Rattle.shard_meaning.proofs.Delivering.{in_order}
@@ -47,14 +47,6 @@ use Rattle.shard_meaning.proofs.TableEntries.{by_same, no_entry, none_came, some
 pub record HoldsEntries (P : Plan) (of : Placement) (k : ℕ) (S : MachineState) (y : Content) : Type 0 where
   pub there : (t : Task) → IsTask P t → of t ≡ k → entry_of y t ≡ option_map as_entry (table_entry P S t)
   pub only : (t : Task) (e : Entry) → entry_of y t ≡ Some e → IsTask P t × (of t ≡ k)
-
--- nothing was sent with an item that was not sent
-first_none : (i : Item) (xs : List Sent) → count (λ (x : Sent). same_item i x.item) xs ≡ 0 → first_tile i xs ≡ None
-first_none i [] h = refl
-first_none i (x ∷ xs) h =
-    by_test (same_item i x.item)
-    (λ k. absurd (omega (arith, ap as_number k)))
-    (λ k. ap (λ b. cond b x.tile (first_tile i xs)) k ∙ first_none i xs (omega (arith, ap as_number k)))
 
 -- where nothing is delivered there is no tile
 nothing_from : (P : Plan) (t : Task) (n : ℕ) (fs : List FlowPlan) → delivered_to P (λ _. None) t n fs ≡ []
@@ -72,10 +64,6 @@ nothing_from P t n (f ∷ fs) = ap (λ x. x ++ delivered_to P (λ _. None) t (su
 pub nothing_comes : (P : Plan) (t : Task) → delivered_tiles P (λ _. None) t ≡ []
 unfolding delivered_tiles
 nothing_comes P t = nothing_from P t 0 (flows_of P t)
-
-abbrev edge_within : Edge → Item → Edge
-edge_within d (item.Edge e) = e
-edge_within d (item.Write w) = d
 
 -- an entry that is there still
 pub still_there : (y y' : Content) (t u : Task) (w : Option Entry) → Updates y.entries y'.entries t w → same_task t u ≡ false → entry_of y' u ≡ entry_of y u
@@ -125,7 +113,7 @@ module _ (P : Plan) (G : Data) (con : IsConsistent P) (S : MachineState) (sound 
     into = sent_edge_in P con e job may.is_item
 
     pub target : IsTask P e.to
-    target = (con.connected e.from job).to_tasks e (IsIn-filter_map edge_of (items P e.from) (item.Edge e) e may.is_item refl)
+    target = (con.connected e.from job).to_tasks e (item_edge (items P e.from) e may.is_item)
 
     -- the edge is missing before
     pub missing : arrived P S e.to + 1 ≤ goal P e.to
@@ -135,7 +123,7 @@ module _ (P : Plan) (G : Data) (con : IsConsistent P) (S : MachineState) (sound 
     target_unclaimed = dite (ℕ_discrete (claim_count S e.to) 0) (λ z. z) (λ nz. absurd (omega (arith, missing, (sound.claimed_have_all e.to (claim_member S e.to (omega arith))).all_arrived)))
 
     tiles_elsewhere : (u : Task) → IsTask P u → (u ≡ e.to → ⊥) → delivered_tiles P (sent_tile (state_after P G S (Send (item.Edge e)))) u ≡ delivered_tiles P (sent_tile S) u
-    tiles_elsewhere u task other = delivered_tiles-same P G con u task (sent_tile (state_after P G S (Send (item.Edge e)))) (sent_tile S) (λ d i. delivers_as_before P G S (item.Edge e) d (λ q. other (sym (in_edge_to P u d i) ∙ sym (ap (λ z. (edge_within e z).to) q))))
+    tiles_elsewhere u task other = delivered_tiles-same P G con u task (sent_tile (state_after P G S (Send (item.Edge e)))) (sent_tile S) (λ d i. delivers_as_before P G S (item.Edge e) d (λ q. other (sym (in_edge_to P u d i) ∙ sym (ap (λ (x : Edge). x.to) (Edge-injective e d q)))))
 
     elsewhere : (u : Task) → IsTask P u → (u ≡ e.to → ⊥) → table_entry P S u ≡ table_entry P (state_after P G S (Send (item.Edge e))) u
     elsewhere u task other = by_same P u (claim_count S u) (claim_count S u) _ _ _ _ refl (sym (arrives_not P G con S sound e may u other)) (sym (tiles_elsewhere u task other))
@@ -150,21 +138,18 @@ module _ (P : Plan) (G : Data) (con : IsConsistent P) (S : MachineState) (sound 
     nothing_yet = first_none (item.Edge e) S.sends may.unsent
 
     others : (x : Edge) → (x ≡ e → ⊥) → sent_tile (state_after P G S (Send (item.Edge e))) x ≡ sent_tile S x
-    others x ne = delivers_as_before P G S (item.Edge e) x (λ q. ne (sym (ap (edge_within x) q)))
+    others x ne = delivers_as_before P G S (item.Edge e) x (λ q. ne (sym (Edge-injective e x q)))
 
     -- the tile of the edge is one more of the tiles of its target, if it has one
     tiles_there : Carries P G S e → delivered_tiles P (sent_tile (state_after P G S (Send (item.Edge e)))) e.to ≡ tiles_after (delivered_tiles P (sent_tile S) e.to) e.in_flow tile
     tiles_there carries = elim carries [
       | inl no_tile ↦ delivered_tiles-same P G con e.to target (sent_tile (state_after P G S (Send (item.Edge e)))) (sent_tile S) (λ d i. by_test (same_item (item.Edge d) (item.Edge e))
-          (λ q. let same : d ≡ e = edge_is d e ((same_item-decides (item.Edge d) (item.Edge e)).0 q) in ap (sent_tile (state_after P G S (Send (item.Edge e)))) same ∙ (now ∙ (no_tile ∙ (sym nothing_yet ∙ sym (ap (sent_tile S) same)))))
+          (λ q. let same : d ≡ e = Edge-injective d e ((same_item-decides (item.Edge d) (item.Edge e)).0 q) in ap (sent_tile (state_after P G S (Send (item.Edge e)))) same ∙ (now ∙ (no_tile ∙ (sym nothing_yet ∙ sym (ap (sent_tile S) same)))))
           (λ q. others d (λ same. false≢true (sym q ∙ (same_item-decides (item.Edge d) (item.Edge e)).1 (ap (λ z. item.Edge z) same)))))
           ∙ sym (ap (tiles_after (delivered_tiles P (sent_tile S) e.to) e.in_flow) no_tile)
       | inr some ↦ in_order P e.to target (con.connected e.to target).well e some.0 (sent_tile S) (sent_tile (state_after P G S (Send (item.Edge e)))) nothing_yet (now ∙ some.2) others some.1 into some.3 some.4
           ∙ sym (ap (tiles_after (delivered_tiles P (sent_tile S) e.to) e.in_flow) some.2)
     ]
-      where
-        edge_is : (a b : Edge) → item.Edge a ≡ item.Edge b → a ≡ b
-        edge_is a b q = ap (edge_within a) q
 
     -- what the edge finds in the shard of its target: as the table has it
     pub finds : (y : Content) → of e.to ≡ k → HoldsEntries P of k S y → entry_before y e.to (goal P e.to) (priority P e.to) ≡ record { goal = goal P e.to; arrived = arrived P S e.to; priority = priority P e.to; tiles = delivered_tiles P (sent_tile S) e.to }

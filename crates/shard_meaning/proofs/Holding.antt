@@ -22,10 +22,11 @@ use Rattle.list_lemmas.proofs.Counts.{count-at_most, weigh-member}
 use Rattle.list_lemmas.proofs.Tasks.{counted_member}
 use Rattle.std.proofs.lemmas.Option.{same_Some}
 use Rattle.flow_meaning.proofs.Events.{has_inputs, it_ends}
+use Rattle.flow_meaning.proofs.Once.{claims_at_most}
 use Rattle.shard_meaning.specs.Moment.{Moment, run_count}
 use Rattle.shard_meaning.specs.Share.{IsShardOf, Placement, as_entry, is_of}
 use Rattle.shard_meaning.proofs.Claims.{one_here}
-use Rattle.shard_meaning.proofs.SoundMoments.{claims_at_most, claims_below}
+use Rattle.shard_meaning.proofs.SoundMoments.{claims_below}
 use Rattle.shard_meaning.proofs.TableEntries.{by_same, full_entry}
 
 abbrev whole_entry : Plan → MachineState → Task → Entry

@@ -27,13 +27,14 @@ use Rattle.shard_meaning.specs.Share.{IsShardOf, Placement, as_entry, is_of}
 use Rattle.shard_meaning.proofs.Entries.{nothing_comes}
 use Rattle.shard_meaning.proofs.TableEntries.{by_same, entry_by, full_entry, none_came}
 
-none_sent : (P : Plan) (t : Task) → arrived P opening_state t ≡ 0
-none_sent P t = weigh-zero _ (in_edges P t) (λ e i. refl)
+-- no edge has come before the first event
+pub none_arrived : (P : Plan) (t : Task) → arrived P opening_state t ≡ 0
+none_arrived P t = weigh-zero _ (in_edges P t) (λ e i. refl)
 
 -- the entry of a task before the first event is that of the table
 opening_is : (P : Plan) (t : Task) → opening_entry P t ≡ option_map as_entry (table_entry P opening_state t)
 opening_is P t =
-    let table : table_entry P opening_state t ≡ entry_by P t 0 0 [] = by_same P t 0 0 (arrived P opening_state t) 0 (delivered_tiles P (sent_tile opening_state) t) [] refl (none_sent P t) (nothing_comes P t) in
+    let table : table_entry P opening_state t ≡ entry_by P t 0 0 [] = by_same P t 0 0 (arrived P opening_state t) 0 (delivered_tiles P (sent_tile opening_state) t) [] refl (none_arrived P t) (nothing_comes P t) in
     dite (ℕ_discrete (goal P t) 0)
     (λ z. ap (λ b. cond b (Some (fresh 0 (priority P t))) None) (eq-eqb (goal P t) 0 z)
     ∙ ((λ i. Some (record { goal = sym z i; arrived = 0; priority = priority P t; tiles = [] }))

@@ -1,18 +1,16 @@
 -- How many tasks are ready: one fewer after a claim, one more after a send that makes a task ready.
-use Rattle.std.proofs.Common.{◌≡◌, ◌≢◌, ◌+◌, ◌<◌, ◌≤◌, Bool, true, false, ◌&&◌, ◌==◌, not, List, [], ◌∷◌, length, refl, ap, sym, ◌∙◌, subst, arith, eq-eqb, ne_eqb}
-use Rattle.std.specs.List.{filter}
+use Rattle.std.proofs.Common.{◌≡◌, ◌≢◌, ◌+◌, ◌<◌, true, false, ◌&&◌, ◌==◌, length, refl, ap, sym, ◌∙◌, subst, arith, eq-eqb, ne_eqb}
 use Rattle.std.proofs.lemmas.Bool.{and_from, false_from_ne_true, false≢true}
-use Rattle.ptg_base.specs.Lists.{HasNoRepeats, IsIn}
+use Rattle.ptg_base.specs.Lists.{HasNoRepeats}
 use Rattle.ptg_base.specs.Task.{Task}
 use Rattle.ptg_base.specs.TaskComparing.{same_task}
 use Rattle.ptg_base.specs.TaskLaws.{same_task-decides}
 use Rattle.ptg_base.specs.declared.edge.Edge.{Edge}
 use Rattle.ptg_base.specs.declared.edge.WriteBack.{WriteBack}
 use Rattle.ptg_base.specs.declared.edge.Item.TheVariants as item
-use Rattle.list_lemmas.proofs.Truth.{by_test}
-use Rattle.list_lemmas.proofs.Counts.{count-some, one_at_most, weigh-push, count-same, length-filter}
-use Rattle.list_lemmas.proofs.Members.{IsIn-filter}
-use Rattle.list_lemmas.proofs.Distinct.{count-falls, no_longer}
+use Rattle.list_lemmas.proofs.Truth.{and-false, by_test}
+use Rattle.list_lemmas.proofs.Counts.{weigh-push, count-same, length-filter}
+use Rattle.list_lemmas.proofs.Distinct.{count-falls}
 use Rattle.list_lemmas.proofs.Tasks.{distinct_once}
 use Rattle.plan_core.specs.declared.plan.Plan.{Plan}
 use Rattle.coll_data.specs.Data.{Data}
@@ -25,9 +23,7 @@ use Rattle.flow_meaning.specs.Machine.{MachineState, MayClaim, MaySend, Send, ar
 use Rattle.flow_meaning.specs.Sound.{IsSoundState}
 use Rattle.flow_meaning.specs.Table.{is_ready, is_unclaimed, ready_tasks}
 use Rattle.flow_meaning.proofs.Arriving.{arrives, arrives_not, writes_not}
-use Rattle.flow_meaning.proofs.Events.{member_claim}
 use Rattle.flow_meaning.proofs.Once.{tasks_once}
-use Rattle.shard_meaning.specs.Calm.{IsCalm}
 use Rattle.shard_meaning.specs.Moment.{Moment, with_claim}
 use Rattle.shard_meaning.proofs.Entries.{missing, target, target_unclaimed}
 
@@ -43,11 +39,7 @@ not_ready-claimed : (P : Plan) (S : MachineState) (t : Task) → 0 < claim_count
 not_ready-claimed P S t some = ap (λ b. b && (arrived P S t == goal P t)) (ne_eqb (claim_count S t) 0 (λ z. absurd (omega (arith, z))))
 
 not_ready-waits : (P : Plan) (S : MachineState) (t : Task) → arrived P S t ≢ goal P t → is_ready P S t ≡ false
-not_ready-waits P S t ne = ap (λ b. is_unclaimed S t && b) (ne_eqb (arrived P S t) (goal P t) ne) ∙ never (is_unclaimed S t)
-  where
-    never : (b : Bool) → (b && false) ≡ false
-    never true = refl
-    never false = refl
+not_ready-waits P S t ne = ap (λ b. is_unclaimed S t && b) (ne_eqb (arrived P S t) (goal P t) ne) ∙ and-false (is_unclaimed S t)
 
 -- a task is as ready where it is claimed as often and as many edges came
 same_ready : (P : Plan) (S T : MachineState) (t : Task) → claim_count T t ≡ claim_count S t → arrived P T t ≡ arrived P S t → is_ready P T t ≡ is_ready P S t
@@ -98,31 +90,3 @@ module _ (P : Plan) (G : Data) (con : IsConsistent P) (S : MachineState) (sound 
 
   pub ready-write : (w : WriteBack) → MaySend P G S (item.Write w) → count (is_ready P (state_after P G S (Send (item.Write w)))) (all_tasks P) ≡ count (is_ready P S) (all_tasks P)
   ready-write w may = count-same (is_ready P S) (is_ready P (state_after P G S (Send (item.Write w)))) (all_tasks P) (λ u i. same_ready P S (state_after P G S (Send (item.Write w))) u refl (writes_not P G con S sound w may u))
-
--- no member passes two tests that exclude each other
-disjoint : {A : Type 0} (p q : A → Bool) (xs : List A) → ((x : A) → q x ≡ true → p x ≡ false) → count p xs + count q xs ≤ length xs
-disjoint p q [] h = omega arith
-disjoint p q (x ∷ xs) h =
-    by_test (q x)
-    (λ k. omega (arith, ap as_number k, ap as_number (h x k), disjoint p q xs h))
-    (λ k. omega (arith, ap as_number k, one_at_most (p x), disjoint p q xs h))
-
--- the tasks that are ready and those that were claimed are no more than there are
-pub ready_at_most : (P : Plan) (G : Data) (S : MachineState) → IsSoundState P G S → length (ready_tasks P S) + length S.claims ≤ length (all_tasks P)
-ready_at_most P G S sound =
-    let claimed : Task → Bool = λ t. not (is_unclaimed S t) in
-    let taken : (t : Task) → IsIn t S.claims → claimed t ≡ true = λ t i. ap not (ne_eqb (claim_count S t) 0 (λ z. absurd (omega (arith, z, member_claim S t i)))) in
-    let claims : length S.claims ≤ length (filter claimed (all_tasks P)) =
-    no_longer S.claims (filter claimed (all_tasks P)) (distinct_once S.claims sound.claimed_once) (λ t i. (IsIn-filter claimed (all_tasks P) t).1 ((listed P t).0 (sound.claimed_have_all t i).task, taken t i)) in
-    omega (arith, claims, length-filter claimed (all_tasks P), ready_count P S, disjoint (is_ready P S) claimed (all_tasks P) (λ t h. not_one (is_unclaimed S t) (arrived P S t == goal P t) h))
-  where
-    not_one : (a b : Bool) → not a ≡ true → (a && b) ≡ false
-    not_one true b h = absurd (false≢true h)
-    not_one false b h = refl
-
--- where no task is ready and none runs, the moment is calm
-pub calm_by_count : (P : Plan) (R : Moment) → length (ready_tasks P R.state) ≡ 0 → R.running ≡ [] → IsCalm P R
-calm_by_count P R none idle = record {
-  none_ready = λ t may. absurd (omega (arith, none, ready_count P R.state, count-some (is_ready P R.state) (all_tasks P) t ((listed P t).0 may.task) (is_ready-may P R.state t may.unclaimed may.all_arrived)));
-  none_runs = idle;
-}

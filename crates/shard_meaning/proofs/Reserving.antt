@@ -5,7 +5,7 @@ use Rattle.ptg_base.specs.Task.{Task}
 use Rattle.ptg_base.specs.TaskComparing.{same_task}
 use Rattle.ptg_base.specs.TaskLaws.{same_task-decides}
 use Rattle.ptg_base.specs.declared.edge.Item.{Item}
-use Rattle.list_lemmas.proofs.Truth.{by_test}
+use Rattle.list_lemmas.proofs.Truth.{and-false, by_test}
 use Rattle.list_lemmas.proofs.Counts.{count-some, weigh-push}
 use Rattle.list_lemmas.proofs.Distinct.{count-falls}
 use Rattle.list_lemmas.proofs.Tasks.{distinct_once}
@@ -83,11 +83,7 @@ module _ (P : Plan) (of : Placement) (k : ℕ) where
 
     gone_now : is_due_end of k (with_end R t) t ≡ false
     gone_now = ap (λ b. is_of of k t && (b || nat_lt 0 (run_count (with_end R t) t))) (ne_eqb (claim_count R.state t) 0 (λ e. absurd (omega (arith, e))))
-        ∙ ap (λ b. is_of of k t && b) (le-ltb 0 (run_count (with_end R t) t) (omega (arith, runs_once_less R t (omega arith)))) ∙ never (is_of of k t)
-      where
-        never : (b : Bool) → (b && false) ≡ false
-        never true = refl
-        never false = refl
+        ∙ ap (λ b. is_of of k t && b) (le-ltb 0 (run_count (with_end R t) t) (omega (arith, runs_once_less R t (omega arith)))) ∙ and-false (is_of of k t)
 
     -- there is a row to spare for a task that runs
     pub spare-trap : (y : Content) → HasReserve P of k R y → 0 < y.spare.traps

@@ -12,7 +12,7 @@ use Rattle.ptg_base.specs.declared.edge.Edge.{Edge}
 use Rattle.ptg_base.specs.declared.edge.WriteBack.{WriteBack}
 use Rattle.ptg_base.specs.declared.edge.Item.{Item}
 use Rattle.ptg_base.specs.declared.edge.Item.TheVariants as item
-use Rattle.list_lemmas.proofs.Members.{IsIn-flat_map, IsIn-filter, IsIn-filter_map}
+use Rattle.list_lemmas.proofs.Members.{IsIn-flat_map, IsIn-filter}
 use Rattle.list_lemmas.proofs.Truth.{by_test, and-false}
 use Rattle.list_lemmas.proofs.Counts.{count-some}
 use Rattle.list_lemmas.proofs.Distinct.{count-falls, HasNoRepeats-filter, HasNoRepeats-from_map}
@@ -23,9 +23,10 @@ use Rattle.plan_core.specs.Kinds.{flow_of, is_data}
 use Rattle.coll_data.specs.Data.{Data}
 use Rattle.dep_iter.specs.Consistent.{IsConsistent, all_data, all_in, all_writes, is_data_edge}
 use Rattle.dep_iter.specs.Edges.{in_edges}
-use Rattle.dep_iter.specs.Items.{items, write_backs, write_of}
+use Rattle.dep_iter.specs.Items.{items, write_backs}
 use Rattle.dep_iter.specs.Tasks.{IsTask, all_tasks}
 use Rattle.dep_iter.proofs.Listing.{listed}
+use Rattle.dep_iter.proofs.Items.{item_write}
 use Rattle.dep_shard.specs.Content.{Content, Entry, KeepsAllButWritten, Updates, Uses, entry_in, entry_of}
 use Rattle.dep_shard.specs.Stock.{tiles_used}
 use Rattle.flow_meaning.specs.Backward.{ended}
@@ -37,11 +38,11 @@ use Rattle.flow_meaning.specs.Table.{is_unclaimed}
 use Rattle.flow_meaning.proofs.Arriving.{sent_edge_in}
 use Rattle.flow_meaning.proofs.Events.{ends_so}
 use Rattle.flow_meaning.proofs.Once.{tasks_once}
+use Rattle.flow_meaning.proofs.Sizes.{flow_is}
 use Rattle.shard_meaning.specs.Moment.{Moment, with_send}
 use Rattle.shard_meaning.specs.Share.{Placement, is_of}
 use Rattle.shard_meaning.specs.Reserve.{HasReserve, has_type, is_due_edge, is_due_entry, is_due_write, is_due_write_tile, is_edge_of_type, is_write_of_type}
 use Rattle.shard_meaning.proofs.Carrying.{Carries, carries, edge_tile}
-use Rattle.shard_meaning.proofs.Destinations.{flow_is}
 use Rattle.shard_meaning.proofs.Due.{IsDueBefore, due-send, edges_due, ends_due, entries_due, sent_as_before, sent_now, unsent_yet, write_tiles_due, writes_due}
 use Rattle.shard_meaning.proofs.Entries.{now_there, still_there, target, target_unclaimed}
 
@@ -153,7 +154,7 @@ module _ (P : Plan) (G : Data) (con : IsConsistent P) (of : Placement) (k : ℕ)
     due = due-send P G R (item.Write w) may
 
     among_writes : IsIn w (all_writes P)
-    among_writes = IsIn-flat_map (write_backs P) (all_tasks P) w.from w ((listed P w.from).0 (sound.claimed_have_all w.from may.claimed).task) (IsIn-filter_map write_of (items P w.from) (item.Write w) w may.is_item refl)
+    among_writes = IsIn-flat_map (write_backs P) (all_tasks P) w.from w ((listed P w.from).0 (sound.claimed_have_all w.from may.claimed).task) (item_write (items P w.from) w may.is_item)
 
     once : HasNoRepeats (all_writes P)
     once = HasNoRepeats-from_map (λ (v : WriteBack). v.place) (all_writes P) con.written_once

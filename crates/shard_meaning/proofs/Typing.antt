@@ -12,19 +12,21 @@ use Rattle.coll_data.specs.Data.{Data}
 use Rattle.coll_data.specs.WellMade.{IsWellMade}
 use Rattle.plan_data.specs.Fit.{DataFit}
 use Rattle.dep_iter.specs.Consistent.{IsConsistent}
-use Rattle.dep_iter.specs.Items.{edge_of, items}
+use Rattle.dep_iter.specs.Items.{items}
 use Rattle.dep_iter.specs.Tasks.{IsTask}
+use Rattle.dep_iter.proofs.Items.{item_edge}
 use Rattle.dep_shard.specs.Content.{IsTileOf}
 use Rattle.flow_meaning.specs.Backward.{ended}
 use Rattle.flow_meaning.specs.Ending.{has_outputs, output_tile}
 use Rattle.flow_meaning.specs.Machine.{MachineState, MaySend, end_in}
 use Rattle.flow_meaning.specs.Sound.{IsSoundState}
 use Rattle.flow_meaning.proofs.Events.{ends_so}
-use Rattle.flow_meaning.proofs.Sizes.{item_sized}
+use Rattle.flow_meaning.proofs.Destinations.{writing_flow}
+use Rattle.flow_meaning.proofs.Sizes.{flow_is, item_sized}
+use Rattle.flow_meaning.proofs.Starting.{known_datatype}
 use Rattle.shard_meaning.specs.Reserve.{has_type}
 use Rattle.shard_meaning.proofs.Carrying.{no_output}
-use Rattle.shard_meaning.proofs.Destinations.{SendsTo, flow_is, known_type, sends_to, writes_from}
-use Rattle.list_lemmas.proofs.Members.{IsIn-filter_map}
+use Rattle.shard_meaning.proofs.Destinations.{SendsTo, sends_to}
 
 -- a tile with a size is there
 sized : (o : Option (List ℤ)) (n : ℕ) → option_map length o ≡ Some n → (x : List ℤ) × (o ≡ Some x) × (length x ≡ n)
@@ -44,7 +46,7 @@ module _ (P : Plan) (G : Data) (con : IsConsistent P) (S : MachineState) (sound 
     so = ends_so P G con S sound e.from (sound.claimed_have_all e.from may.claimed)
 
     to : SendsTo P e
-    to = sends_to P e.from job e (IsIn-filter_map edge_of (items P e.from) (item.Edge e) e may.is_item refl)
+    to = sends_to P e.from job e (item_edge (items P e.from) e may.is_item)
 
     -- the flow that an edge goes to
     pub edge_flow : (f : FlowPlan) × (flow_of P.classes e.to.class e.in_flow ≡ Some f)
@@ -65,13 +67,13 @@ module _ (P : Plan) (G : Data) (con : IsConsistent P) (S : MachineState) (sound 
     edge_typed fit well f is data_flow =
         let d : is_data (Some to.flow.kind) ≡ true = sym (kinds f is) ∙ data_flow in
         let p = sized _ _ (item_sized P G con fit well e.from job (ap has_outputs so ∙ may.outputs) (item.Edge e) may.is_item to.flow to.here d) in
-        (p.0, p.1, subst (λ n. IsTileOf P.elems n p.0) (sym (types f is)) (record { known = known_type P e.from job e.out_flow to.flow to.here d; fits = p.2 }))
+        (p.0, p.1, subst (λ n. IsTileOf P.elems n p.0) (sym (types f is)) (record { known = known_datatype P e.from e.out_flow to.flow job to.here; fits = p.2 }))
 
   -- a write-back has a tile of the type of its flow
   pub write_typed : (w : WriteBack) → MaySend P G S (item.Write w) → DataFit P.colls P.elems G → IsWellMade G
       → (f : FlowPlan) × (x : List ℤ) × (flow_of P.classes w.from.class w.flow ≡ Some f) × (output_tile (ended P G w.from) w.flow ≡ Some x) × IsTileOf P.elems f.datatype x
   write_typed w may fit well =
       let fed = sound.claimed_have_all w.from may.claimed in
-      let from = writes_from P w.from fed.task w may.is_item in
+      let from = writing_flow P w.from fed.task w may.is_item in
       let p = sized _ _ (item_sized P G con fit well w.from fed.task (ap has_outputs (ends_so P G con S sound w.from fed) ∙ may.outputs) (item.Write w) may.is_item from.flow from.here from.carries) in
-      (from.flow, p.0, sym (flow_is P w.from w.flow) ∙ from.here, p.1, record { known = known_type P w.from fed.task w.flow from.flow from.here from.carries; fits = p.2 })
+      (from.flow, p.0, sym (flow_is P w.from w.flow) ∙ from.here, p.1, record { known = known_datatype P w.from w.flow from.flow fed.task from.here; fits = p.2 })

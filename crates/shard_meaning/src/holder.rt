@@ -1,22 +1,18 @@
-//! Laws of what the holder of a shard knows before a call: which tasks may be claimed, what a claim hands out, what an
-//! edge finds.
+//! Laws of what the holder of a shard knows before a call: which tasks may be claimed, what a claim hands out, and the
+//! bounds of its two numbers.
 
-ghost use Rattle.std.specs.Prelude.{◌≡◌, ◌<◌, ◌≤◌, ◌+◌, ◌↔◌, ℕ, ℤ, IsSome, List, None, Option, Some};
-ghost use Rattle.ptg_base.specs.Limits.{most_flows, most_tasks};
+ghost use Rattle.std.specs.Prelude.{◌≡◌, ◌<◌, ◌≤◌, ◌+◌, ℕ, IsSome, List, Some};
+ghost use Rattle.ptg_base.specs.Limits.{most_tasks};
 ghost use Rattle.ptg_base.specs.Task.{Task};
-ghost use Rattle.ptg_base.specs.declared.edge.Edge.{Edge};
-ghost use Rattle.ptg_base.specs.declared.edge.Item.TheVariants as item;
 ghost use Rattle.ptg_base.specs.declared.edge.Item.{Item};
 ghost use Rattle.plan_core.specs.declared.plan.Plan.{Plan};
 ghost use Rattle.coll_data.specs.Data.{Data};
 ghost use Rattle.dep_iter.specs.Consistent.{IsConsistent};
-ghost use Rattle.dep_iter.specs.Edges.{goal};
-ghost use Rattle.dep_iter.specs.Hints.{priority};
 ghost use Rattle.dep_iter.specs.Tasks.{IsTask};
-ghost use Rattle.dep_shard.specs.Arrivals.{FlowTile, tile_of};
-ghost use Rattle.dep_shard.specs.Content.{Content, Entry, IsReady, IsWaiting, Takes, entry_before, entry_of, with_arrival};
+ghost use Rattle.dep_shard.specs.Arrivals.{FlowTile};
+ghost use Rattle.dep_shard.specs.Content.{Content, Entry, IsReady, Takes, entry_of};
 ghost use Rattle.flow_meaning.specs.Backward.{ended, inputs};
-ghost use Rattle.flow_meaning.specs.Machine.{MayClaim, MaySend, arrived, claim_count, send_count, sender};
+ghost use Rattle.flow_meaning.specs.Machine.{MayClaim, claim_count, send_count, sender};
 ghost use Rattle.flow_meaning.specs.Sound.{IsSoundState};
 ghost use Rattle.shard_meaning.specs.Moment.{Moment, run_count};
 ghost use Rattle.shard_meaning.specs.Share.{IsShardOf, Placement};
@@ -52,29 +48,4 @@ pub fn the_numbers_of_a_shard_are_bounded()
     ensures running { (P : Plan) (G : Data) (of : Placement) (k : ℕ) (R : Moment) (y : Content) (t : Task)
         → IsConsistent P → IsSoundState P G R.state → IsShardOf P G of k R y → of t ≡ k → 0 < run_count R t
         → (0 < y.running) × (y.ended < most_tasks) }
-{}
-
-/// A law: the target of an edge that may be sent is a task that waits for it. Its entry, if it has one, has the goal
-/// and the priority of the plan and no tile of the edge's flow yet; the edge makes it ready exactly where it is the
-/// last.
-pub fn an_edge_finds_its_target()
-    ensures target { (P : Plan) (G : Data) (R : Moment) (e : Edge) → IsConsistent P → IsSoundState P G R.state
-        → MaySend P G R.state (item.Edge e) → IsTask P e.to × (e.in_flow < most_flows) × (0 < goal P e.to) }
-    ensures waits { (P : Plan) (G : Data) (of : Placement) (k : ℕ) (R : Moment) (e : Edge) (y : Content)
-        → IsConsistent P → IsSoundState P G R.state → MaySend P G R.state (item.Edge e) → of e.to ≡ k
-        → IsShardOf P G of k R y → IsWaiting (entry_before y e.to (goal P e.to) (priority P e.to)) }
-    ensures fires { (P : Plan) (G : Data) (of : Placement) (k : ℕ) (R : Moment) (e : Edge) (y : Content)
-        (x : Option (List ℤ))
-        → IsConsistent P → IsSoundState P G R.state → MaySend P G R.state (item.Edge e) → of e.to ≡ k
-        → IsShardOf P G of k R y
-        → IsReady (with_arrival (entry_before y e.to (goal P e.to) (priority P e.to)) e.in_flow x)
-        ↔ (arrived P R.state e.to + 1 ≡ goal P e.to) }
-    ensures free { (P : Plan) (G : Data) (of : Placement) (k : ℕ) (R : Moment) (e : Edge) (y : Content) → IsConsistent P
-        → IsSoundState P G R.state → MaySend P G R.state (item.Edge e) → of e.to ≡ k → IsShardOf P G of k R y
-        → tile_of (entry_before y e.to (goal P e.to) (priority P e.to)).tiles e.in_flow ≡ None }
-    ensures entry { (P : Plan) (G : Data) (of : Placement) (k : ℕ) (R : Moment) (e : Edge) (y : Content) (v : Entry)
-        → IsConsistent P → IsSoundState P G R.state → MaySend P G R.state (item.Edge e) → of e.to ≡ k
-        → IsShardOf P G of k R y → entry_of y e.to ≡ Some v
-        → (v.goal ≡ goal P e.to) × (v.priority ≡ priority P e.to)
-        × (entry_before y e.to (goal P e.to) (priority P e.to) ≡ v) }
 {}

@@ -7,22 +7,15 @@ mod holder;
 mod items;
 mod moments;
 mod opening;
-mod ready;
 mod reserves;
 mod shares;
 mod threads;
 
 pub use calm::{a_calm_moment_is_at_rest, shards_without_work_are_calm};
-pub use holder::{
-    a_claim_hands_out_the_inputs, an_edge_finds_its_target, the_numbers_of_a_shard_are_bounded,
-};
+pub use holder::{a_claim_hands_out_the_inputs, the_numbers_of_a_shard_are_bounded};
 pub use items::items_carry_tiles_of_their_types;
-pub use moments::{
-    events_keep_moments_sound, finished_tasks_stay_finished, order_changes_no_shard,
-    running_tasks_may_send,
-};
+pub use moments::{finished_tasks_stay_finished, order_changes_no_shard, running_tasks_may_send};
 pub use opening::the_opening_shards_hold_the_opening;
-pub use ready::the_ready_tasks_are_counted;
 pub use reserves::{
     a_claim_keeps_the_reserve, a_send_of_a_write_back_keeps_the_reserve,
     a_send_of_an_edge_keeps_the_reserve, an_end_keeps_the_reserve, the_reserve_is_enough,

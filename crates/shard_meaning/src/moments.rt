@@ -10,23 +10,12 @@ ghost use Rattle.dep_iter.specs.Items.{item_flow};
 ghost use Rattle.dep_shard.specs.Content.{Content};
 ghost use Rattle.flow_meaning.specs.Backward.{ended};
 ghost use Rattle.flow_meaning.specs.Ending.{output_tile};
-ghost use Rattle.flow_meaning.specs.Machine.{MayClaim, MaySend, sender, sent_with};
+ghost use Rattle.flow_meaning.specs.Machine.{MaySend, sender, sent_with};
 ghost use Rattle.flow_meaning.specs.Sound.{IsFinished, IsSoundState};
 ghost use Rattle.shard_meaning.specs.Calm.{AreFinished, IsCalm};
 ghost use Rattle.shard_meaning.specs.Moment.{IsReorderedMoment, IsSoundMoment, MaySendNext, Moment, opening_moment, run_count, with_claim, with_end, with_send};
 ghost use Rattle.shard_meaning.specs.Reserve.{HasReserve};
 ghost use Rattle.shard_meaning.specs.Share.{IsShardOf, Placement};
-
-/// A law: the opening moment is sound, and each event leads from a sound moment to a sound moment.
-pub fn events_keep_moments_sound()
-    ensures opening { (P : Plan) (G : Data) → IsSoundMoment P G opening_moment }
-    ensures claim { (P : Plan) (G : Data) (R : Moment) (t : Task) → IsConsistent P → IsSoundMoment P G R
-        → MayClaim P R.state t → IsSoundMoment P G (with_claim R t) }
-    ensures send { (P : Plan) (G : Data) (R : Moment) (i : Item) → IsConsistent P → IsSoundMoment P G R
-        → MaySend P G R.state i → IsSoundMoment P G (with_send P G R i) }
-    ensures end { (P : Plan) (G : Data) (R : Moment) (t : Task) → IsSoundMoment P G R → 0 < run_count R t
-        → IsSoundMoment P G (with_end R t) }
-{}
 
 /// A law: what a running task may send next, the event machine may send, and what is sent is the tile that the task
 /// leaves.

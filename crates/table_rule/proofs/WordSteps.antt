@@ -27,7 +27,7 @@ use Rattle.table_rule.specs.Plays.{HasName, Seated, lowered_live, raised_halt, r
 use Rattle.table_rule.specs.Quiet.{IsQuieted, raised}
 use Rattle.table_rule.specs.Rule.{Parts, Rule, Table}
 use Rattle.table_rule.specs.Words.{halt_word, live_word, stamp_word, turn_word}
-use Rattle.table_rule.proofs.Living.{live_few, live_moved, stamps_few}
+use Rattle.table_rule.proofs.Living.{live_few, live_moved}
 use Rattle.table_rule.proofs.Looking.{live_same, looked, quiet_kept, seen_quiet}
 use Rattle.table_rule.proofs.Moving.{aside, board}
 use Rattle.table_rule.proofs.Naming.{named_not_empty}
@@ -78,9 +78,6 @@ mod_down x h l = omega arith
 -- how large the live word and the stamp word get
 pub live_at_most : (j : Job) (s : Table) (R : Moment) → Parts j s R → get_or s.words (live_word j.shards) 0 ≤ length (all_tasks j.matched) + j.shards
 live_at_most j s R r = omega (arith, live_few j.matched j.given R (get_or s.words (live_word j.shards) 0) (get_or s.words (stamp_word j.shards) 0) s.words s.homes s.views r.sound r.records r.live r.turns, r.slots)
-
-pub stamp_at_most : (j : Job) (s : Table) (R : Moment) → Parts j s R → get_or s.words (stamp_word j.shards) 0 ≤ length (all_tasks j.matched)
-stamp_at_most j s R r = stamps_few j.matched j.given R (get_or s.words (live_word j.shards) 0) (get_or s.words (stamp_word j.shards) 0) s.words s.homes s.views r.sound r.records r.live
 
 live_small : (j : Job) (s : Table) (R : Moment) → Parts j s R → get_or s.words (live_word j.shards) 0 ≤ 1000256
 live_small j s R r = omega (arith, live_at_most j s R r, r.consistent.tasks_at_most, r.shards_at_most)

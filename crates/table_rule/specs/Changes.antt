@@ -82,7 +82,18 @@ split_off v = new_pass (names_split_off v.names)
 
 -- a pass that has taken over what another one did and holds, and that other one
 abbrev pub both : PassRecord → PassRecord → PassRecord
-both v w = record v { names = v.names ++ w.names; claims = v.claims ++ w.claims; sends = v.sends ++ w.sends; running = v.running ++ w.running; turns = v.turns ++ w.turns; quiet = v.quiet || w.quiet; halts = v.halts || w.halts; credit = v.credit + w.credit; stamps = v.stamps ++ w.stamps }
+both v w =
+    record v {
+      names = v.names ++ w.names;
+      claims = v.claims ++ w.claims;
+      sends = v.sends ++ w.sends;
+      running = v.running ++ w.running;
+      turns = v.turns ++ w.turns;
+      quiet = v.quiet || w.quiet;
+      halts = v.halts || w.halts;
+      credit = v.credit + w.credit;
+      stamps = v.stamps ++ w.stamps;
+    }
 
 abbrev pub joined_away : PassRecord
 joined_away = new_pass []

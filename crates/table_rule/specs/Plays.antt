@@ -103,7 +103,8 @@ lowered_live st m r n = n ≡ (without_credit m.0, m.1)
 abbrev pub read_live : Option Job → Step Content → Seated → ℕ → Seated → Type 0
 read_live j st m r n =
     (st.word ≡ live_word st.slots)
-    × (r ≡ 0 → (n ≡ (with_quiet (with_look m.0 Live r), m.1)) × OfJob j (λ (i : Job). WasPass i (with_quiet (with_look m.0 Live r))))
+    × (r ≡ 0 → (n ≡ (with_quiet (with_look m.0 Live r), m.1))
+    × OfJob j (λ (i : Job). WasPass i (with_quiet (with_look m.0 Live r))))
     × (r ≢ 0 → n ≡ (with_look m.0 Live r, m.1))
 
 -- a stamp is drawn for a task

@@ -32,7 +32,8 @@ abbrev pub Reserve : Job → Moment → ℕ → Content → Type 0
 Reserve j R k y = HasReserve j.matched (shard_of j.matched j.shards) k R y
 
 -- a preloaded table: no pass has given up, and each shard has its spares, at rest and when a turn was taken
-pub record IsReserved (j : Job) (R : Moment) (halted : ℕ) (words : List ℕ) (slots : List (Option Content)) (vs : List PassRecord) : Type 0 where
+pub record IsReserved (j : Job) (R : Moment) (halted : ℕ)
+    (words : List ℕ) (slots : List (Option Content)) (vs : List PassRecord) : Type 0 where
   pub halt : halted ≡ 0
   pub at_rest : AtRest (Reserve j R) words slots
   pub held : AreHeld (Reserve j R) vs

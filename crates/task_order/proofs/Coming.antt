@@ -1,7 +1,7 @@
 -- Edges that have come, and how many of them go to a task.
 use Rattle.std.proofs.Common.{◌≡◌, ◌+◌, ◌≤◌, List, [], ◌∷◌, ◌++◌, refl, sym, subst, inl, inr, arith}
 use Rattle.std.specs.List.{filter}
-use Rattle.ptg_base.specs.Lists.{HasNoRepeats, IsIn}
+use Rattle.ptg_base.specs.Lists.{IsIn}
 use Rattle.ptg_base.specs.Task.{Task}
 use Rattle.ptg_base.specs.TaskComparing.{same_task}
 use Rattle.ptg_base.specs.TaskLaws.{same_task-decides}
@@ -9,21 +9,18 @@ use Rattle.ptg_base.specs.declared.edge.Edge.{Edge}
 use Rattle.plan_core.specs.declared.plan.Plan.{Plan}
 use Rattle.list_lemmas.proofs.Members.{IsIn-append_left, IsIn-append_right, IsIn-flat_map, from_append, from_flat_map, IsIn-filter}
 use Rattle.list_lemmas.proofs.Counts.{weigh-push, length-filter}
-use Rattle.list_lemmas.proofs.Distinct.{HasNoRepeats-apart, no_longer, HasNoRepeats-filter, HasNoRepeats-part, HasNoRepeats-append, HasNoRepeats-left, onto}
+use Rattle.list_lemmas.proofs.Distinct.{HasNoRepeats-apart, no_longer, HasNoRepeats-filter, HasNoRepeats-append, HasNoRepeats-left, onto}
 use Rattle.dep_iter.specs.Tasks.{IsTask, all_tasks}
 use Rattle.dep_iter.specs.Edges.{goal, in_edges}
 use Rattle.dep_iter.specs.Items.{out_edges}
 use Rattle.dep_iter.specs.Consistent.{IsConsistent}
-use Rattle.dep_iter.proofs.Belonging.{out_edge_is}
 use Rattle.dep_iter.proofs.Listing.{listed}
+use Rattle.dep_iter.proofs.Once.{once-in_edges}
 use Rattle.list_lemmas.specs.Counting.{as_number}
 use Rattle.flow_meaning.specs.Order.{IsLegalOrder}
-use Rattle.flow_meaning.proofs.Members.{in_edge_to}
+use Rattle.flow_meaning.proofs.Members.{in_edge_to, out_edge_from}
 use Rattle.task_order.specs.Growing.{HaveCome, MayCome, edges_to}
 use Rattle.task_order.proofs.Orders.{legal_tasks}
-
-pub out_from : (P : Plan) (s : Task) (e : Edge) → IsIn e (out_edges P s) → e.from ≡ s
-out_from P s e h = ((out_edge_is P s e).0 h).0
 
 -- edges that have come, and the first of them
 pub come_first : (P : Plan) (order : List Task) (es fs : List Edge) → HaveCome P order (es ++ fs) → HaveCome P order es
@@ -63,13 +60,7 @@ module _ (P : Plan) (con : IsConsistent P) where
   pub comes_from : (t : Task) → IsTask P t → (e : Edge) → IsIn e (in_edges P t) → IsIn e (out_edges P e.from)
   comes_from t job e h =
       let p = from_flat_map (out_edges P) (all_tasks P) e ((con.same_edges e).0 (IsIn-flat_map (in_edges P) (all_tasks P) t e ((listed P t).0 job) h)) in
-      subst (λ s. IsIn e (out_edges P s)) (sym (out_from P p.0 e p.2)) p.2
-
-  pub ins_once : (t : Task) → IsTask P t → HasNoRepeats (in_edges P t)
-  ins_once t job = HasNoRepeats-part (in_edges P) (all_tasks P) con.no_in_edge_twice t ((listed P t).0 job)
-
-  pub outs_once : (t : Task) → IsTask P t → HasNoRepeats (out_edges P t)
-  outs_once t job = HasNoRepeats-part (out_edges P) (all_tasks P) con.no_out_edge_twice t ((listed P t).0 job)
+      subst (λ s. IsIn e (out_edges P s)) (sym (out_edge_from P p.0 e p.2)) p.2
 
   module _ (order : List Task) (legal : IsLegalOrder P order) (came : List Edge) (h : HaveCome P order came) (t : Task) where
     these_in : (e : Edge) → IsIn e (filter (λ (d : Edge). same_task t d.to) came) → IsIn e (in_edges P t)
@@ -93,6 +84,6 @@ module _ (P : Plan) (con : IsConsistent P) where
     -- and the other way round
     pub as_many : IsTask P t → ((e : Edge) → IsIn e (in_edges P t) → IsIn e came) → goal P t ≤ edges_to t came
     as_many job all =
-        let few = no_longer (in_edges P t) (filter (λ (d : Edge). same_task t d.to) came) (ins_once t job)
+        let few = no_longer (in_edges P t) (filter (λ (d : Edge). same_task t d.to) came) (once-in_edges P con t job)
         (λ e i. (IsIn-filter (λ (d : Edge). same_task t d.to) came e).1 (all e i, (same_task-decides t e.to).1 (sym (in_edge_to P t e i)))) in
         omega (arith, few, length-filter (λ (d : Edge). same_task t d.to) came)

@@ -18,13 +18,16 @@ use Rattle.dep_iter.specs.Edges.{goal, in_edges}
 use Rattle.dep_iter.specs.Items.{out_edges}
 use Rattle.dep_iter.specs.Consistent.{IsConsistent, roots}
 use Rattle.dep_iter.proofs.Listing.{listed}
+use Rattle.dep_iter.proofs.Once.{once-out_edges}
 use Rattle.list_lemmas.specs.Counting.{as_number}
 use Rattle.flow_meaning.specs.Order.{IsLegalAfter, MayFollow}
 use Rattle.flow_meaning.proofs.Once.{tasks_once}
+use Rattle.flow_meaning.proofs.Members.{out_edge_from}
+use Rattle.flow_meaning.proofs.Orders.{legal_push}
 use Rattle.task_order.specs.Greatest.{IsGreatestOrder}
 use Rattle.task_order.specs.Growing.{GrowsBy, HasGrown, HaveCome, IsNext, MayCome, edges_of, edges_to, lacking}
-use Rattle.task_order.proofs.Orders.{legal_once, legal_push, legal_tasks}
-use Rattle.task_order.proofs.Coming.{all_came, as_many, come_first, come_longer, come_next, comes_from, may_come, out_from, outs_once, to_at_most, to_push}
+use Rattle.task_order.proofs.Orders.{legal_once, legal_tasks}
+use Rattle.task_order.proofs.Coming.{all_came, as_many, come_first, come_longer, come_next, comes_from, may_come, to_at_most, to_push}
 
 -- an edge into a task was noted: how many it lacks then
 pub record IsNoted (P : Plan) (e : Edge) (table new : List (Task × ℕ)) (left : ℕ) : Type 0 where
@@ -129,9 +132,9 @@ module _ (P : Plan) (con : IsConsistent P) where
   pub next_come : (came : List Edge) (order : List Task) (table : List (Task × ℕ)) (t : Task) → HasGrown P came order table → IsNext P came order t → HaveCome P order (came ++ out_edges P t)
   next_come came order table t g next =
       let job = legal_tasks P [] order g.legal t next.member in
-      let from : (e : Edge) → IsIn e (out_edges P t) → e.from ≡ t = λ e i. out_from P t e i in
+      let from : (e : Edge) → IsIn e (out_edges P t) → e.from ≡ t = λ e i. out_edge_from P t e i in
       record {
-        once = HasNoRepeats-append came (out_edges P t) g.edges.once (outs_once P con t job) (λ e i j. next.new e i (from e j));
+        once = HasNoRepeats-append came (out_edges P t) g.edges.once (once-out_edges P con t job) (λ e i j. next.new e i (from e j));
         from = λ e i. elim (from_append e came (out_edges P t) i) [ inl old ↦ g.edges.from e old | inr here ↦ subst (λ s. IsIn s order) (sym (from e here)) next.member ];
         out = λ e i. elim (from_append e came (out_edges P t) i) [ inl old ↦ g.edges.out e old | inr here ↦ subst (λ s. IsIn e (out_edges P s)) (sym (from e here)) here ];
       }
@@ -190,7 +193,7 @@ module _ (P : Plan) (con : IsConsistent P) where
         member = subst (IsIn t) (sym p.1) (IsIn-append_right t (take n order) (t ∷ p.0) (inl refl));
         new = λ e i same.
             let q = from_flat_map (out_edges P) (take n order) e i in
-            HasNoRepeats-apart (take n order) (t ∷ p.0) split t (subst (λ u. IsIn u (take n order)) (sym (out_from P q.0 e q.2) ∙ same) q.1) (inl refl);
+            HasNoRepeats-apart (take n order) (t ∷ p.0) split t (subst (λ u. IsIn u (take n order)) (sym (out_edge_from P q.0 e q.2) ∙ same) q.1) (inl refl);
       }
 
   -- and then one more has passed

@@ -1,21 +1,16 @@
 -- What legal orders are like, and greatest ones.
-use Rattle.std.proofs.Common.{List, [], ◌∷◌, ◌++◌, refl, sym, subst, append_assoc, ◌⊎◌, inl, inr}
-use Rattle.std.proofs.lemmas.List.{append-nil}
+use Rattle.std.proofs.Common.{List, [], ◌∷◌, ◌++◌, refl, sym, subst, ◌⊎◌, inl, inr}
 use Rattle.ptg_base.specs.Lists.{HasNoRepeats, IsIn}
 use Rattle.ptg_base.specs.Task.{Task}
 use Rattle.ptg_base.specs.declared.edge.Edge.{Edge}
 use Rattle.plan_core.specs.declared.plan.Plan.{Plan}
-use Rattle.list_lemmas.proofs.Members.{IsIn-append_left, IsIn-append_right, from_append}
+use Rattle.list_lemmas.proofs.Members.{IsIn-append_left, IsIn-append_right}
 use Rattle.list_lemmas.proofs.Tasks.{member_or_not}
 use Rattle.dep_iter.specs.Tasks.{IsTask}
 use Rattle.dep_iter.specs.Edges.{in_edges}
-use Rattle.flow_meaning.specs.Order.{IsLegalAfter, MayFollow}
+use Rattle.flow_meaning.specs.Order.{IsLegalAfter}
 use Rattle.task_order.specs.Greatest.{IsGreatestOrder}
-
--- one more task that may follow
-pub legal_push : (P : Plan) (before ts : List Task) (t : Task) → IsLegalAfter P before ts → MayFollow P (before ++ ts) t → IsLegalAfter P before (ts ++ t ∷ [])
-legal_push P before [] t l m = (subst (λ us. MayFollow P us t) (append-nil before) m, tt)
-legal_push P before (u ∷ us) t l m = (l.0, legal_push P (before ++ u ∷ []) us t l.1 (subst (λ vs. MayFollow P vs t) (sym (append_assoc before (u ∷ []) us)) m))
+pub use Rattle.flow_meaning.proofs.Orders.{legal_push}
 
 -- the members are tasks of the job
 pub legal_tasks : (P : Plan) (before ts : List Task) → IsLegalAfter P before ts → (t : Task) → IsIn t ts → IsTask P t
@@ -44,20 +39,6 @@ module _ (P : Plan) (ts : List Task) (g : IsGreatestOrder P ts) where
     | inl i ↦ i
     | inr absent ↦ absurd (g.greatest t (record { task = job; first_time = absent; after_sources = sources }))
   ]
-
-  -- a legal order has no other members
-  pub has_those : (before us : List Task) → IsLegalAfter P before us → ((t : Task) → IsIn t before → IsIn t ts) → (t : Task) → IsIn t us → IsIn t ts
-  has_those before [] l has t i = absurd i
-  has_those before (u ∷ us) l has t i =
-      let here = joins u l.0.task (λ e h. has e.from (l.0.after_sources e h)) in
-      elim i [
-        | inl e ↦ subst (λ v. IsIn v ts) (sym e) here
-        | inr later ↦ has_those (before ++ u ∷ []) us l.1
-            (λ v j. elim (from_append v before (u ∷ []) j) [
-              | inl old ↦ has v old
-              | inr new ↦ elim new [ inl q ↦ subst (λ w. IsIn w ts) (sym q) here | inr never ↦ absurd never ]
-            ]) t later
-      ]
 
   -- of edges some comes from outside, or all come from members
   outside : (es : List Edge) → ((e : Edge) × IsIn e es × (IsIn e.from ts → ⊥)) ⊎ ((e : Edge) → IsIn e es → IsIn e.from ts)

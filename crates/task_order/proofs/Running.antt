@@ -1,41 +1,29 @@
 -- Where no task traps, a greatest legal order has the tasks that run.
-use Rattle.std.proofs.Common.{◌≡◌, ℕ, zero, suc, ◌↔◌, Bool, true, false, cond, List, [], ◌∷◌, ◌++◌, length, refl, ap, sym, ◌∙◌, subst, inl, inr, Option, Some, None, Ok, Err, is_some, arith}
+use Rattle.std.proofs.Common.{◌≡◌, ℕ, zero, suc, ◌↔◌, Bool, true, false, cond, List, [], ◌∷◌, ◌++◌, length, refl, sym, subst, inl, inr, Option, Some, None, Ok, Err, is_some}
 use Rattle.std.proofs.lemmas.Bool.{false≢true}
-use Rattle.std.specs.List.{filter, flat_map}
-use Rattle.std.specs.Prelude.{option_map}
+use Rattle.std.specs.List.{flat_map}
 use Rattle.ptg_base.specs.Lists.{IsIn}
 use Rattle.ptg_base.specs.Task.{Task}
-use Rattle.ptg_base.specs.TaskComparing.{same_task}
-use Rattle.ptg_base.specs.TaskLaws.{same_task-decides}
 use Rattle.ptg_base.specs.TaskOrder.{in_task_order, insert_by}
 use Rattle.ptg_base.specs.declared.edge.Edge.{Edge}
 use Rattle.plan_core.specs.declared.plan.Plan.{Plan}
-use Rattle.plan_core.specs.declared.class.ClassPlan.{ClassPlan}
 use Rattle.coll_data.specs.Data.{Data}
-use Rattle.body_eval.specs.Meaning.{body_meaning}
-use Rattle.list_lemmas.proofs.Members.{IsIn-flat_map, from_append, member_passes, list_all-from_members, IsIn-filter}
-use Rattle.list_lemmas.proofs.Counts.{count-some, same_counts}
+use Rattle.list_lemmas.proofs.Members.{IsIn-flat_map, from_append, member_passes, IsIn-filter}
 use Rattle.list_lemmas.proofs.Options.{some_value}
-use Rattle.list_lemmas.proofs.Distinct.{HasNoRepeats-filter}
-use Rattle.list_lemmas.proofs.Tasks.{distinct_once, member_or_not, uncounted, once_each}
-use Rattle.dep_iter.specs.Tasks.{IsTask, all_tasks, locals_of}
+use Rattle.dep_iter.specs.Tasks.{IsTask, all_tasks}
 use Rattle.dep_iter.specs.Edges.{in_edges}
 use Rattle.dep_iter.specs.Consistent.{IsConsistent}
 use Rattle.dep_iter.proofs.Listing.{listed}
 use Rattle.flow_meaning.specs.declared.outcome.TrapRow.{TrapRow}
-use Rattle.list_lemmas.specs.Counting.{HasSameMembers, count}
-use Rattle.flow_meaning.specs.Starting.{starting_tiles}
-use Rattle.flow_meaning.specs.Ending.{Ended, ended_on, has_outputs}
-use Rattle.flow_meaning.specs.Backward.{ended, ended_within, has_all_sources, source_tile}
+use Rattle.flow_meaning.specs.Ending.{Ended, has_outputs}
+use Rattle.flow_meaning.specs.Backward.{ended, ended_within}
 use Rattle.flow_meaning.specs.Answer.{ran, trap_rows, trapped}
 use Rattle.flow_meaning.specs.Order.{IsLegalAfter}
-use Rattle.flow_meaning.proofs.Enough.{fixed, with_outputs}
+use Rattle.flow_meaning.proofs.Enough.{ends_after, with_outputs}
 use Rattle.flow_meaning.proofs.Members.{source_is_task}
-use Rattle.flow_meaning.proofs.Once.{tasks_once}
 use Rattle.flow_meaning.proofs.Rounds.{has_sources}
-use Rattle.flow_meaning.proofs.SourceEdges.{class_of}
 use Rattle.task_order.specs.Greatest.{IsGreatestOrder}
-use Rattle.task_order.proofs.Orders.{joins, legal_once, legal_tasks}
+use Rattle.task_order.proofs.Orders.{joins, legal_tasks}
 
 -- a list that is put in order is not empty where the list is not
 not_empty : (rows : List TrapRow) (r : TrapRow) → IsIn r rows → in_task_order (λ (x : TrapRow). x.task) rows ≡ [] → ⊥
@@ -64,20 +52,11 @@ module _ (P : Plan) (G : Data) (con : IsConsistent P) (calm : trapped P G ≡ []
           let here : IsIn row (trap_rows t (ended P G t)) = subst (λ o. IsIn row (trap_rows t o)) (sym is) (inl refl) in
           absurd (not_empty (flat_map (λ u. trap_rows u (ended P G u)) (all_tasks P)) row (IsIn-flat_map (λ u. trap_rows u (ended P G u)) (all_tasks P) t row ((listed P t).0 job) here) calm)
 
-  -- a task ends whose sources all have outputs
-  ends_after : (t : Task) → IsTask P t → ((e : Edge) → IsIn e (in_edges P t) → has_outputs (ended P G e.from) ≡ true) → is_some (ended P G t) ≡ true
-  unfolding ended_on
-  ends_after t job sources =
-      let all : has_all_sources P (ended P G) t ≡ true = list_all-from_members (λ (e : Edge). has_outputs (ended P G e.from)) (in_edges P t) sources in
-      let h = class_of P t job in
-      ap is_some (fixed P G con t job ∙ ap (λ b. cond b (ended_on P G (source_tile (ended P G)) t) None) all
-      ∙ ap (λ o. option_map (λ (c : ClassPlan). body_meaning c.body (locals_of P t) (starting_tiles P G (source_tile (ended P G)) t)) o) h.class_is)
-
   -- each member of a legal order ends
   pub legal_ends : (before ts : List Task) → IsLegalAfter P before ts → ((t : Task) → IsIn t before → is_some (ended P G t) ≡ true) → (t : Task) → IsIn t ts → is_some (ended P G t) ≡ true
   legal_ends before [] l had t i = absurd i
   legal_ends before (u ∷ us) l had t i =
-      let here = ends_after u l.0.task (λ e j. all_outputs e.from (source_is_task P con u l.0.task e j) (had e.from (l.0.after_sources e j))) in
+      let here = ends_after P G con u l.0.task (λ e j. all_outputs e.from (source_is_task P con u l.0.task e j) (had e.from (l.0.after_sources e j))) in
       elim i [
         | inl e ↦ subst (λ v. is_some (ended P G v) ≡ true) (sym e) here
         | inr later ↦ legal_ends (before ++ u ∷ []) us l.1
@@ -113,17 +92,3 @@ module _ (P : Plan) (G : Data) (con : IsConsistent P) (calm : trapped P G ≡ []
           λ i. f.1 ((listed P t).0 (legal_tasks P [] ts g.legal t i), member_ends t i),
           λ i. let p = f.0 i in ends_member t ((listed P t).1 p.0) p.1,
         )
-
-    -- each is listed once
-    same_count : (t : Task) → count (same_task t) ts ≡ count (same_task t) (ran P G)
-    unfolding ran
-    same_count t =
-        let there = once_each (filter (λ u. is_some (ended P G u)) (all_tasks P)) (HasNoRepeats-filter (λ u. is_some (ended P G u)) (all_tasks P) (distinct_once (all_tasks P) (tasks_once P))) t in
-        let here = once_each ts (legal_once P [] ts g.legal) t in
-        elim (member_or_not t ts) [
-          | inl i ↦ omega (arith, here, there, count-some (same_task t) ts t i ((same_task-decides t t).1 refl), count-some (same_task t) (ran P G) t ((members_ran t).0 i) ((same_task-decides t t).1 refl))
-          | inr absent ↦ uncounted t ts absent ∙ sym (uncounted t (ran P G) (λ i. absent ((members_ran t).1 i)))
-        ]
-
-    pub same_members : HasSameMembers ts (ran P G)
-    same_members = (same_counts same_task same_task-decides ts (ran P G)).1 same_count

@@ -52,7 +52,8 @@ pub record IsNext (P : Plan) (came : List Edge) (order : List Task) (t : Task) :
   pub new : (e : Edge) → IsIn e came → e.from ≡ t → ⊥
 
 -- an order that has grown by these edges, with more tasks at its end
-pub record GrowsBy (P : Plan) (edges : List Edge) (old : List Task) (old_table : List (Task × ℕ)) (new : List Task) (new_table : List (Task × ℕ)) : Type 0 where
+pub record GrowsBy (P : Plan) (edges : List Edge) (old : List Task) (old_table : List (Task × ℕ))
+    (new : List Task) (new_table : List (Task × ℕ)) : Type 0 where
   pub more : List Task
   pub extends : new ≡ old ++ more
   pub grown : (came : List Edge) → HasGrown P came old old_table → HaveCome P old (came ++ edges)

@@ -7,8 +7,5 @@ mod laws;
 mod order;
 mod roots;
 
-pub use laws::{
-    a_greatest_order_has_the_tasks_that_run, a_task_outside_has_a_source_outside,
-    no_legal_order_has_more,
-};
+pub use laws::a_task_outside_has_a_source_outside;
 pub use order::order_of;

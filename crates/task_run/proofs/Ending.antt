@@ -1,58 +1,30 @@
 -- How a task ends whose body was run.
-use Rattle.std.proofs.Common.{◌≡◌, ℕ, zero, suc, ◌+◌, ◌≤◌, ℤ, Bool, true, false, List, [], ◌∷◌, ◌++◌, add-one, length, take, refl, ap, sym, ◌∙◌, subst, Option, Some, None, slice_get, IsSomeAnd, arith}
+use Rattle.std.proofs.Common.{◌≡◌, ℕ, zero, suc, ◌+◌, ◌≤◌, ℤ, Bool, true, false, List, [], ◌∷◌, ◌++◌, add-one, length, take, refl, ap, sym, ◌∙◌, subst, Option, Some, None, slice_get, arith}
 use Rattle.std.specs.Option.{option_map_or}
 use Rattle.std.proofs.Math.Seq.{take-suc}
 use Rattle.std.proofs.lemmas.Option.{get_or_from_slice_get, slice_get_within}
 use Rattle.std.specs.Prelude.{option_map, IsSome, cond}
-use Rattle.ptg_base.specs.Lists.{IsIn}
 use Rattle.ptg_base.specs.Task.{Task}
-use Rattle.term_core.specs.declared.space.ClassSpace.{ClassSpace}
 use Rattle.term_core.specs.WellBody.{IsWellBody}
 use Rattle.body_eval.specs.Meaning.{body_meaning}
-use Rattle.range_space.specs.Locals.{IsLocalsOf}
-use Rattle.range_space.specs.Tasks.{all_locals, params_of, tasks}
-use Rattle.range_space.proofs.Distinct.{one_locals}
-use Rattle.range_space.proofs.MemberLists.{length-locals, locals_from_full}
 use Rattle.plan_core.specs.declared.class.ClassPlan.{ClassPlan}
 use Rattle.plan_core.specs.declared.flow.FlowPlan.{FlowPlan}
 use Rattle.plan_core.specs.declared.plan.Plan.{Plan}
 use Rattle.coll_data.specs.Data.{Data}
-use Rattle.dep_iter.specs.Tasks.{IsTask, flows_of, locals_of, locals_with}
+use Rattle.dep_iter.specs.Tasks.{IsTask, flows_of, locals_of}
 use Rattle.dep_iter.specs.Consistent.{IsConsistent}
-use Rattle.dep_iter.proofs.Fitting.{locals_with-only}
 use Rattle.flow_meaning.specs.Starting.{Delivery, starting_tile, starting_tiles, tiles_from}
 use Rattle.flow_meaning.specs.Ending.{Ended, ended_on}
 use Rattle.flow_meaning.specs.Backward.{ended, has_all_sources, source_tile}
 use Rattle.flow_meaning.proofs.Enough.{fixed}
 use Rattle.flow_meaning.proofs.SourceEdges.{class_of}
+use Rattle.flow_meaning.proofs.Starting.{length-locals_of, length-starting_tiles, length-tiles_from}
 use Rattle.task_run.specs.Start.{delivered}
-use Rattle.list_lemmas.proofs.Members.{from_map}
-
-tiles_each : (P : Plan) (G : Data) (d : Delivery) (t : Task) (n : ℕ) (fs : List FlowPlan) → length (tiles_from P G d t n fs) ≡ length fs
-tiles_each P G d t n [] = refl
-tiles_each P G d t n (f ∷ fs) = ap suc (tiles_each P G d t (suc n) fs)
-
--- there is a tile, or none, for each flow
-pub length-starting_tiles : (P : Plan) (G : Data) (d : Delivery) (t : Task) → length (starting_tiles P G d t) ≡ length (flows_of P t)
-unfolding starting_tiles
-length-starting_tiles P G d t = tiles_each P G d t 0 (flows_of P t)
 
 -- the tiles of all flows are what the task starts on
 pub all_tiles : (P : Plan) (G : Data) (d : Delivery) (t : Task) (fs : List FlowPlan) → fs ≡ flows_of P t → tiles_from P G d t 0 fs ≡ starting_tiles P G d t
 unfolding starting_tiles
 all_tiles P G d t fs e = ap (tiles_from P G d t 0) e
-
--- a task has a local for each definition of its class
-length-locals_of : (P : Plan) (t : Task) (job : IsTask P t) → length (locals_of P t) ≡ length (class_of P t job).space.defs
-length-locals_of P t job =
-    let h = class_of P t job in
-    let among : IsIn t.params (tasks h.space) = subst (λ o. IsSomeAnd o (λ (s : ClassSpace). IsIn t.params (tasks s))) h.space_is job in
-    let m = from_map (params_of h.space.params) (all_locals h.space) t.params among in
-    let are : IsLocalsOf h.space t.params m.0 = record { full = m.1; same_params = sym m.2 } in
-    let well = (P.well_made.fit t.class h.class h.space h.class_is h.space_is).space in
-    let only = locals_with-only h.space t.params m.0 are (λ others u. one_locals h.space well t.params m.0 others are u) in
-    let q = locals_from_full h.space.defs [] m.0 m.1 in
-    ap length (ap (λ o. option_map_or (λ (s : ClassSpace). locals_with s t.params) o []) h.space_is ∙ only ∙ q.1) ∙ length-locals h.space.defs [] q.0 q.2
 
 -- the body of a task is well made for its locals and its tiles
 pub well_body : (P : Plan) (G : Data) (d : Delivery) (t : Task) (job : IsTask P t) (class : ClassPlan) (locals : List ℤ) (tiles : List (Option (List ℤ))) → slice_get P.classes t.class ≡ Some class → locals ≡ locals_of P t
@@ -95,7 +67,7 @@ pub laid_next : (P : Plan) (G : Data) (d : Delivery) (t : Task) (fs : List FlowP
     → new ≡ old ++ starting_tile P G d t (length old) f ∷ [] → new ≡ tiles_from P G d t 0 (take (i + 1) fs)
 laid_next P G d t fs i f old new are is at more =
     let first : length (take i fs) ≡ 0 + length (take i fs) = omega arith in
-    let old_count : length old ≡ 0 + length (take i fs) = ap length are ∙ tiles_each P G d t 0 (take i fs) ∙ first in
+    let old_count : length old ≡ 0 + length (take i fs) = ap length are ∙ length-tiles_from P G d t 0 (take i fs) ∙ first in
     more ∙ (λ j. are j ++ starting_tile P G d t (old_count j) f ∷ []) ∙ sym (one_flow_more P G d t 0 (take i fs) f) ∙ ap (tiles_from P G d t 0) (sym (take_more fs i f is))
   where
     take_more : (xs : List FlowPlan) (k : ℕ) (x : FlowPlan) → slice_get xs k ≡ Some x → take (k + 1) xs ≡ take k xs ++ x ∷ []

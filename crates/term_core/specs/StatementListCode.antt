@@ -30,35 +30,53 @@ one_statement_list Done (IfThen a' b' c' d') same = absurd cc
 one_statement_list Done (ForThen a' b' c' d' e') same = absurd cc
 one_statement_list Done (TrapThen a' b') same = absurd cc
 one_statement_list (SetThen a b c) Done same = absurd cc
-one_statement_list (SetThen a b c) (SetThen a' b' c') same = let ha : a ≡ a' = cc in let hb : b ≡ b' = one_term b b' cc in let hc : c ≡ c' = one_statement_list c c' cc in cc
+one_statement_list (SetThen a b c) (SetThen a' b' c') same =
+    let ha : a ≡ a' = cc in
+    let hb : b ≡ b' = one_term b b' cc in
+    let hc : c ≡ c' = one_statement_list c c' cc in cc
 one_statement_list (SetThen a b c) (PutThen a' b' c' d') same = absurd cc
 one_statement_list (SetThen a b c) (IfThen a' b' c' d') same = absurd cc
 one_statement_list (SetThen a b c) (ForThen a' b' c' d' e') same = absurd cc
 one_statement_list (SetThen a b c) (TrapThen a' b') same = absurd cc
 one_statement_list (PutThen a b c d) Done same = absurd cc
 one_statement_list (PutThen a b c d) (SetThen a' b' c') same = absurd cc
-one_statement_list (PutThen a b c d) (PutThen a' b' c' d') same = let ha : a ≡ a' = cc in let hb : b ≡ b' = one_term b b' cc in let hc : c ≡ c' = one_term c c' cc in let hd : d ≡ d' = one_statement_list d d' cc in cc
+one_statement_list (PutThen a b c d) (PutThen a' b' c' d') same =
+    let ha : a ≡ a' = cc in
+    let hb : b ≡ b' = one_term b b' cc in
+    let hc : c ≡ c' = one_term c c' cc in
+    let hd : d ≡ d' = one_statement_list d d' cc in cc
 one_statement_list (PutThen a b c d) (IfThen a' b' c' d') same = absurd cc
 one_statement_list (PutThen a b c d) (ForThen a' b' c' d' e') same = absurd cc
 one_statement_list (PutThen a b c d) (TrapThen a' b') same = absurd cc
 one_statement_list (IfThen a b c d) Done same = absurd cc
 one_statement_list (IfThen a b c d) (SetThen a' b' c') same = absurd cc
 one_statement_list (IfThen a b c d) (PutThen a' b' c' d') same = absurd cc
-one_statement_list (IfThen a b c d) (IfThen a' b' c' d') same = let ha : a ≡ a' = one_term a a' cc in let hb : b ≡ b' = one_statement_list b b' cc in let hc : c ≡ c' = one_statement_list c c' cc in let hd : d ≡ d' = one_statement_list d d' cc in cc
+one_statement_list (IfThen a b c d) (IfThen a' b' c' d') same =
+    let ha : a ≡ a' = one_term a a' cc in
+    let hb : b ≡ b' = one_statement_list b b' cc in
+    let hc : c ≡ c' = one_statement_list c c' cc in
+    let hd : d ≡ d' = one_statement_list d d' cc in cc
 one_statement_list (IfThen a b c d) (ForThen a' b' c' d' e') same = absurd cc
 one_statement_list (IfThen a b c d) (TrapThen a' b') same = absurd cc
 one_statement_list (ForThen a b c d e) Done same = absurd cc
 one_statement_list (ForThen a b c d e) (SetThen a' b' c') same = absurd cc
 one_statement_list (ForThen a b c d e) (PutThen a' b' c' d') same = absurd cc
 one_statement_list (ForThen a b c d e) (IfThen a' b' c' d') same = absurd cc
-one_statement_list (ForThen a b c d e) (ForThen a' b' c' d' e') same = let ha : a ≡ a' = cc in let hb : b ≡ b' = one_term b b' cc in let hc : c ≡ c' = one_term c c' cc in let hd : d ≡ d' = one_statement_list d d' cc in let he : e ≡ e' = one_statement_list e e' cc in cc
+one_statement_list (ForThen a b c d e) (ForThen a' b' c' d' e') same =
+    let ha : a ≡ a' = cc in
+    let hb : b ≡ b' = one_term b b' cc in
+    let hc : c ≡ c' = one_term c c' cc in
+    let hd : d ≡ d' = one_statement_list d d' cc in
+    let he : e ≡ e' = one_statement_list e e' cc in cc
 one_statement_list (ForThen a b c d e) (TrapThen a' b') same = absurd cc
 one_statement_list (TrapThen a b) Done same = absurd cc
 one_statement_list (TrapThen a b) (SetThen a' b' c') same = absurd cc
 one_statement_list (TrapThen a b) (PutThen a' b' c' d') same = absurd cc
 one_statement_list (TrapThen a b) (IfThen a' b' c' d') same = absurd cc
 one_statement_list (TrapThen a b) (ForThen a' b' c' d' e') same = absurd cc
-one_statement_list (TrapThen a b) (TrapThen a' b') same = let ha : a ≡ a' = cc in let hb : b ≡ b' = one_statement_list b b' cc in cc
+one_statement_list (TrapThen a b) (TrapThen a' b') same =
+    let ha : a ≡ a' = cc in
+    let hb : b ≡ b' = one_statement_list b b' cc in cc
 
 abbrev pub statement_list_code : Coded StatementList
 statement_list_code = record { code = code_of_statement_list; inj = one_statement_list }

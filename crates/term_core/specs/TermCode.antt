@@ -1,6 +1,6 @@
 -- A code for expressions: equal codes belong to equal trees.
-use Rattle.std.specs.Prelude.{◌≡◌, ℕ, refl}
-use Rattle.std.proofs.Common.{ap, sym, ◌∙◌, zero, suc}
+use Rattle.std.specs.Prelude.{◌≡◌, ℕ, List, [], ◌∷◌, refl}
+use Rattle.std.proofs.Common.{ap, sym, ◌∙◌, zero, suc, get_or}
 use Rattle.std.specs.Coded.{Coded, coded_ℤ}
 use base.Stored.{Gv, gnum, gcons}
 use Rattle.term_core.specs.Term.{Term, Num, Local, Elem, Unary, Binary, Choose}
@@ -10,7 +10,7 @@ use Rattle.term_core.specs.declared.operator.BinOp.{BinOp}
 use Rattle.term_core.specs.declared.operator.BinOp.TheVariants.{Add, Sub, Mul, Div, Rem, Eq, Ne, Lt, Le, Gt, Ge, And, Or}
 
 -- operators by number
-unary_number : UnOp → ℕ
+pub unary_number : UnOp → ℕ
 unary_number Neg = 0
 unary_number Not = 1
 
@@ -23,7 +23,7 @@ unfolding unary_of unary_number
 unary-back Neg = refl
 unary-back Not = refl
 
-binary_number : BinOp → ℕ
+pub binary_number : BinOp → ℕ
 binary_number Add = 0
 binary_number Sub = 1
 binary_number Mul = 2
@@ -38,23 +38,11 @@ binary_number Ge = 10
 binary_number And = 11
 binary_number Or = 12
 
-binary_of : ℕ → BinOp
-binary_of zero = Add
-binary_of (suc zero) = Sub
-binary_of (suc (suc zero)) = Mul
-binary_of (suc (suc (suc zero))) = Div
-binary_of (suc (suc (suc (suc zero)))) = Rem
-binary_of (suc (suc (suc (suc (suc zero))))) = Eq
-binary_of (suc (suc (suc (suc (suc (suc zero)))))) = Ne
-binary_of (suc (suc (suc (suc (suc (suc (suc zero))))))) = Lt
-binary_of (suc (suc (suc (suc (suc (suc (suc (suc zero)))))))) = Le
-binary_of (suc (suc (suc (suc (suc (suc (suc (suc (suc zero))))))))) = Gt
-binary_of (suc (suc (suc (suc (suc (suc (suc (suc (suc (suc zero)))))))))) = Ge
-binary_of (suc (suc (suc (suc (suc (suc (suc (suc (suc (suc (suc zero))))))))))) = And
-binary_of (suc (suc (suc (suc (suc (suc (suc (suc (suc (suc (suc (suc n)))))))))))) = Or
+operators : List BinOp
+operators = Add ∷ Sub ∷ Mul ∷ Div ∷ Rem ∷ Eq ∷ Ne ∷ Lt ∷ Le ∷ Gt ∷ Ge ∷ And ∷ Or ∷ []
 
-binary-back : (o : BinOp) → binary_of (binary_number o) ≡ o
-unfolding binary_of binary_number
+binary-back : (o : BinOp) → get_or operators (binary_number o) Add ≡ o
+unfolding operators binary_number
 binary-back Add = refl
 binary-back Sub = refl
 binary-back Mul = refl
@@ -78,11 +66,11 @@ ghost_of (Unary o a) = gcons (gnum 3) (gcons (gnum (unary_number o)) (ghost_of a
 ghost_of (Binary o a b) = gcons (gnum 4) (gcons (gnum (binary_number o)) (gcons (ghost_of a) (ghost_of b)))
 ghost_of (Choose a b c) = gcons (gnum 5) (gcons (ghost_of a) (gcons (ghost_of b) (ghost_of c)))
 
-one_unary : (o p : UnOp) → unary_number o ≡ unary_number p → o ≡ p
+pub one_unary : (o p : UnOp) → unary_number o ≡ unary_number p → o ≡ p
 one_unary o p e = sym (unary-back o) ∙ ap unary_of e ∙ unary-back p
 
-one_binary : (o p : BinOp) → binary_number o ≡ binary_number p → o ≡ p
-one_binary o p e = sym (binary-back o) ∙ ap binary_of e ∙ binary-back p
+pub one_binary : (o p : BinOp) → binary_number o ≡ binary_number p → o ≡ p
+one_binary o p e = sym (binary-back o) ∙ ap (λ (n : ℕ). get_or operators n Add) e ∙ binary-back p
 
 pub one_term : (x y : Term) → ghost_of x ≡ ghost_of y → x ≡ y
 unfolding ghost_of
@@ -114,14 +102,20 @@ one_term (Binary o a b) (Num c) e = absurd cc
 one_term (Binary o a b) (Local c) e = absurd cc
 one_term (Binary o a b) (Elem n c) e = absurd cc
 one_term (Binary o a b) (Unary p c) e = absurd cc
-one_term (Binary o a b) (Binary p c d) e = let h : a ≡ c = one_term a c cc in let i : b ≡ d = one_term b d cc in let k : o ≡ p = one_binary o p cc in cc
+one_term (Binary o a b) (Binary p c d) e =
+    let h : a ≡ c = one_term a c cc in
+    let i : b ≡ d = one_term b d cc in
+    let k : o ≡ p = one_binary o p cc in cc
 one_term (Binary o a b) (Choose c d f) e = absurd cc
 one_term (Choose a b c) (Num d) e = absurd cc
 one_term (Choose a b c) (Local d) e = absurd cc
 one_term (Choose a b c) (Elem n d) e = absurd cc
 one_term (Choose a b c) (Unary o d) e = absurd cc
 one_term (Choose a b c) (Binary o d f) e = absurd cc
-one_term (Choose a b c) (Choose d f g) e = let h : a ≡ d = one_term a d cc in let i : b ≡ f = one_term b f cc in let j : c ≡ g = one_term c g cc in cc
+one_term (Choose a b c) (Choose d f g) e =
+    let h : a ≡ d = one_term a d cc in
+    let i : b ≡ f = one_term b f cc in
+    let j : c ≡ g = one_term c g cc in cc
 
 abbrev pub term_code : Coded Term
 term_code = record { code = ghost_of; inj = one_term }

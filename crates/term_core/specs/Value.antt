@@ -33,7 +33,8 @@ value_with fault element locals (Unary o a) =
 value_with fault element locals (Binary o a b) =
     binary_with fault o (value_with fault element locals a) (value_with fault element locals b)
 value_with fault element locals (Choose c a b) =
-    and_then (value_with fault element locals c) (λ x. if holds x then value_with fault element locals a else value_with fault element locals b)
+    and_then (value_with fault element locals c) (λ x.
+    if holds x then value_with fault element locals a else value_with fault element locals b)
 
 -- the value of an expression that has no element; an element counts as 0
 abbrev pub value : Term → List ℤ → Result ℤ ExprFault

@@ -16,11 +16,14 @@ are_well_made locals slots flows Done = true
 are_well_made locals slots flows (SetThen n e rest) =
     is_variable locals slots n && is_closed_with slots flows e && are_well_made locals slots flows rest
 are_well_made locals slots flows (PutThen flow at e rest) =
-    nat_lt flow flows && is_closed_with slots flows at && is_closed_with slots flows e && are_well_made locals slots flows rest
+    nat_lt flow flows && is_closed_with slots flows at && is_closed_with slots flows e
+    && are_well_made locals slots flows rest
 are_well_made locals slots flows (IfThen c first second rest) =
-    is_closed_with slots flows c && are_well_made locals slots flows first && are_well_made locals slots flows second && are_well_made locals slots flows rest
+    is_closed_with slots flows c && are_well_made locals slots flows first && are_well_made locals slots flows second
+    && are_well_made locals slots flows rest
 are_well_made locals slots flows (ForThen n lo hi turn rest) =
-    is_variable locals slots n && is_closed_with slots flows lo && is_closed_with slots flows hi && are_well_made locals slots flows turn && are_well_made locals slots flows rest
+    is_variable locals slots n && is_closed_with slots flows lo && is_closed_with slots flows hi
+    && are_well_made locals slots flows turn && are_well_made locals slots flows rest
 are_well_made locals slots flows (TrapThen w rest) = are_well_made locals slots flows rest
 
 -- a body for so many locals (at most 16) and so many flows (at most 8), with at most 256 variables of its own

@@ -144,11 +144,4 @@ impl Expr {
         let Expr { node } = self;
         node
     }
-
-    /// The root of the tree.
-    pub fn node(&self) -> &Node
-        ensures { term_of result.now ≡ self.now }
-    {
-        &self.node
-    }
 }

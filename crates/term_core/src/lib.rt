@@ -14,7 +14,7 @@ mod trap;
 pub use arithmetic::{arith, decide, unary};
 pub use body::{Block, Body, Stmt};
 pub use evaluate::{ReadElement, eval, eval_with, local};
-pub use expr::{Expr, Leaf, Node};
+pub use expr::Expr;
 pub use fault::ExprFault;
 pub use flow::FlowKind;
 pub use operator::{BinOp, UnOp};

@@ -5,3 +5,4 @@ mod Longest
 mod WrittenForms
 mod TokensOrFault
 pub mod TreeOrFault
+pub mod Exact

@@ -1,9 +1,10 @@
 -- The same unit begins with each longer word at a position, so the longest word is taken.
-use Rattle.std.proofs.Common.{◌≡◌, ℕ, ◌≤◌, ◌⊎◌, Bool, true, false, cond, not, eqb, List, [], ◌∷◌, ◌++◌, length, drop, Option, Some, refl, sym, ◌∙◌, ap, subst, inl, inr, arith}
+use Rattle.std.proofs.Common.{◌≡◌, ℕ, ◌≤◌, ◌⊎◌, Bool, true, false, cond, not, eqb, List, [], ◌∷◌, ◌++◌, length, drop, Some, refl, sym, ◌∙◌, ap, subst, inl, inr, arith}
 use Rattle.std.specs.Prelude.{codes}
 use Rattle.std.specs.List.{starts_with}
 use Rattle.std.proofs.lemmas.Bool.{and_parts, and_from, cases_lt, cases_Bool, false≢true, eqb-true, not-true, not_from_false}
 use Rattle.std.proofs.lemmas.List.{append-nil, drop-append-le}
+use Rattle.std.proofs.lemmas.Option.{same_Some}
 use Rattle.jdf_lex.specs.declared.lexical_unit.LexicalUnit.{LexicalUnit}
 use Rattle.jdf_lex.specs.declared.lexical_unit.LexicalUnit.TheVariants.{LineComment, BlockComment, TokenOf}
 use Rattle.jdf_alphabet.specs.declared.kind.TokenKind.TheVariants.{Raw, OptionLine}
@@ -104,12 +105,6 @@ same_begin a b x after other is spelled follows =
           ]
     ]
 
-abbrev some_unit : LexicalUnit → Option LexicalUnit
-some_unit p = Some p
-
-same_some : (p q : LexicalUnit) → some_unit p ≡ some_unit q → p ≡ q
-same_some p q e = cc
-
 -- No word of the same unit is longer.
 no_longer : (p : LexicalUnit) (word left longer after : List ℕ) → IsUnit p word left → word ++ left ≡ longer ++ after → is_spelling p longer ≡ true → length longer ≤ length word
 no_longer p word left longer after unit same spelled =
@@ -130,7 +125,7 @@ pub longest : LongestIsTaken
 longest unit other word left [] after is same begins spelled follows = omega arith
 longest unit other word left (a ∷ []) after is same begins spelled follows = omega (arith, some_word unit word left is)
 longest unit other word left (a ∷ b ∷ x) after is same begins spelled follows =
-    let here : unit_of a b x (begins_option (a ∷ b ∷ (x ++ after))) ≡ other = same_begin a b x after other (same_some (first_unit a (b ∷ x)) other begins) spelled follows in
-    let whole : some_unit unit ≡ some_unit (first_unit a (b ∷ (x ++ after))) = sym is.begins ∙ ap unit_at same in
-    let one : unit ≡ other = same_some unit (first_unit a (b ∷ (x ++ after))) whole ∙ here in
+    let here : unit_of a b x (begins_option (a ∷ b ∷ (x ++ after))) ≡ other = same_begin a b x after other (same_Some (first_unit a (b ∷ x)) other begins) spelled follows in
+    let whole : Some unit ≡ Some (first_unit a (b ∷ (x ++ after))) = sym is.begins ∙ ap unit_at same in
+    let one : unit ≡ other = same_Some unit (first_unit a (b ∷ (x ++ after))) whole ∙ here in
     no_longer unit word left (a ∷ b ∷ x) after is same (subst (λ p. is_spelling p (a ∷ b ∷ x) ≡ true) (sym one) spelled)

@@ -1,9 +1,10 @@
 -- The lexical units of a text are those of the written forms.
-use Rattle.std.proofs.Common.{◌≡◌, ℕ, Bool, true, false, cond, eqb, List, [], ◌∷◌, ◌++◌, length, take, drop, Option, Some, None, refl, sym, ◌∙◌, ap, subst, inl, inr, arith}
+use Rattle.std.proofs.Common.{◌≡◌, ℕ, Bool, true, false, cond, eqb, List, [], ◌∷◌, ◌++◌, length, take, drop, Some, None, refl, sym, ◌∙◌, ap, subst, inl, inr, arith}
 use Rattle.std.specs.Prelude.{codes, ◌||◌, not}
 use Rattle.std.specs.List.{starts_with}
-use Rattle.std.proofs.lemmas.Bool.{and_parts, cases_lt, false≢true, eqb-true, not-true}
+use Rattle.std.proofs.lemmas.Bool.{and_parts, cases_lt, false≢true, eqb-true, not-true, or_parts}
 use Rattle.std.proofs.lemmas.List.{append_cancel_left, append-nil, take-append-drop}
+use Rattle.std.proofs.lemmas.Option.{same_Some}
 use Rattle.jdf_lex.specs.declared.lexical_unit.LexicalUnit.{LexicalUnit}
 use Rattle.jdf_lex.specs.declared.lexical_unit.LexicalUnit.TheVariants.{Blank, LineComment, BlockComment, TokenOf}
 use Rattle.jdf_alphabet.specs.declared.kind.TokenKind.TheVariants.{Name, Number, Quoted, Raw, OptionLine, Mark, Other}
@@ -71,15 +72,9 @@ abbrev DecidedBy : LexicalUnit → ℕ → List ℕ → Type 0
 DecidedBy u b rest =
     Decides u (starts_with eqb (b ∷ rest) (codes "//")) (starts_with eqb (b ∷ rest) (codes "/*")) (starts_with eqb (b ∷ rest) (codes "%{")) (begins_option (b ∷ rest)) (eqb b 34) (is_blank b) (is_letter b) (is_digit b) (begins_mark (b ∷ rest))
 
-abbrev some_unit : LexicalUnit → Option LexicalUnit
-some_unit u = Some u
-
-same_some : (p q : LexicalUnit) → some_unit p ≡ some_unit q → p ≡ q
-same_some p q e = cc
-
 decided_by : (u : LexicalUnit) (b : ℕ) (rest : List ℕ) → unit_at (b ∷ rest) ≡ Some u → DecidedBy u b rest
 decided_by u b rest e =
-    subst (λ v. DecidedBy v b rest) (same_some (first_unit b rest) u e)
+    subst (λ v. DecidedBy v b rest) (same_Some (first_unit b rest) u e)
     (decides (starts_with eqb (b ∷ rest) (codes "//")) (starts_with eqb (b ∷ rest) (codes "/*")) (starts_with eqb (b ∷ rest) (codes "%{")) (begins_option (b ∷ rest)) (eqb b 34) (is_blank b) (is_letter b) (is_digit b) (begins_mark (b ∷ rest)))
 
 starts_split : (xs front : List ℕ) → starts_with eqb xs front ≡ true → (rest : List ℕ) × (xs ≡ front ++ rest)
@@ -156,11 +151,7 @@ quoted_form b w first spelled =
 
 no_mark : (b : ℕ) (rest : List ℕ) → begins_mark (b ∷ rest) ≡ false → is_mark (b ∷ []) ≡ false
 no_mark b [] e = e
-no_mark b (c ∷ rest) e = second (is_mark (b ∷ c ∷ [])) (is_mark (b ∷ [])) e
-  where
-    second : (x y : Bool) → (x || y) ≡ false → y ≡ false
-    second false y e = e
-    second true y e = absurd (false≢true (sym e))
+no_mark b (c ∷ rest) e = (or_parts (is_mark (b ∷ c ∷ [])) (is_mark (b ∷ [])) e).1
 
 none_of : (q k n d m : Bool) → q ≡ false → k ≡ false → n ≡ false → d ≡ false → m ≡ false → (q || (k || (n || (d || m)))) ≡ false
 none_of q k n d m e f g h j = rw (e, f, g, h, j) refl
@@ -215,7 +206,7 @@ unit_of_word u word left v y unit same words =
 
 written_from : (u : LexicalUnit) (b : ℕ) (w left : List ℕ) (o : Found) → IsWrittenUnit u (b ∷ w) left → front_unit (b ∷ (w ++ left)) ≡ o → IsUnit u (b ∷ w) left
 written_from u b w left None written found =
-    let first : first_unit b (w ++ left) ≡ u = same_some (first_unit b (w ++ left)) u written.begins in
+    let first : first_unit b (w ++ left) ≡ u = same_Some (first_unit b (w ++ left)) u written.begins in
     let spelled : is_spelling (first_unit b (w ++ left)) (b ∷ w) ≡ true = subst (λ z. is_spelling z (b ∷ w) ≡ true) (sym first) (form_is_spelling u (b ∷ w) written.form) in
     absurd (front_none b (w ++ left) found (b ∷ w) left refl spelled)
 written_from u b w left (Some (q, n)) written found =

@@ -38,7 +38,8 @@ use Rattle.ptg_top.specs.declared.verdict.Finding.TheVariants.{Answer, Order as 
 use Rattle.run_pool.specs.declared.settings.Settings.{Settings}
 use Rattle.ptg_top.specs.Preload.{is_too_large}
 use Rattle.ptg_top.proofs.Answered.{some_on}
-use Rattle.ptg_top.proofs.Checked.{contents_consistent, fault_refuses}
+use Rattle.ptg_top.proofs.Checked.{contents_consistent}
+use Rattle.ptg_top.proofs.JdfFiles.{fault_refuses}
 
 -- ---- what is asked
 

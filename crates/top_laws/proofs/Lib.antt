@@ -1,3 +1,4 @@
 pub mod Once
 pub mod Always
 pub mod Settings
+pub mod OneType

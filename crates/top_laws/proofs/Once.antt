@@ -22,11 +22,11 @@ use Rattle.dep_iter.specs.Consistent.{IsConsistent}
 use Rattle.flow_meaning.specs.Answer.{answer}
 use Rattle.chain_cert.specs.Weights.{class_weights}
 use Rattle.chain_cert.specs.declared.certificate.Certificate.{Certificate}
-use Rattle.chain_cert.proofs.Unique.{one}
+use Rattle.chain_exists.proofs.Unique.{one}
 use Rattle.ptg_top.specs.Certify.{IsCertified, certified}
 use Rattle.ptg_top.specs.Demo.{DemoDenotes, IsSummary}
 use Rattle.trace_core.proofs.OneFault.{one_fault}
-use Rattle.trace_exists.proofs.Either.{trace_or_fault}
+use Rattle.trace_laws.proofs.Traces.{trace_or_fault}
 use Rattle.ptg_top.specs.Replay.{IsReplayed, IsReplayOf}
 use Rattle.ptg_top.specs.Trace.{IsTraced}
 use Rattle.job_stages.specs.declared.verdict.JobVerdict.TheVariants as jobs

@@ -32,7 +32,9 @@ OneMeaning =
 -- two verdicts are texts of whole orders of one consistent job, which two of the files denote
 abbrev pub AreTracesOfOneJob : Entries → Denotation → Denotation → Type 0
 AreTracesOfOneJob files v w =
-    (jdf data_name : List ℕ) × (P : Plan) × (given : Data) × FilesDenote files jdf data_name (verdicts.Job (jobs.Consistent P given)) × IsTraced P given v × IsTraced P given w
+    (jdf data_name : List ℕ) × (P : Plan) × (given : Data)
+    × FilesDenote files jdf data_name (verdicts.Job (jobs.Consistent P given))
+    × IsTraced P given v × IsTraced P given w
 
 -- two verdicts that any arguments and files denote are the same, or traces of one job
 abbrev pub OneJob : Type 0
@@ -48,9 +50,11 @@ SomeMeaning = (words : List (List ℕ)) (files : Entries) → (v : Denotation) �
 abbrev pub OneOutput : Type 0
 OneOutput =
     (words : List (List ℕ)) (files : Entries) (before after other : Option (List ℕ)) (status another : Status)
-    → AskForNoTrace words → Prints words files before after status → Prints words files before other another → (after ≡ other) × (status ≡ another)
+    → AskForNoTrace words → Prints words files before after status → Prints words files before other another
+    → (after ≡ other) × (status ≡ another)
 
 -- and whatever they are, something is printed for them, with a status
 abbrev pub SomeOutput : Type 0
 SomeOutput =
-    (words : List (List ℕ)) (files : Entries) (before : Option (List ℕ)) → (after : Option (List ℕ)) × (status : Status) × Prints words files before after status
+    (words : List (List ℕ)) (files : Entries) (before : Option (List ℕ))
+    → (after : Option (List ℕ)) × (status : Status) × Prints words files before after status

@@ -9,14 +9,16 @@ use Rattle.ptg_top.specs.Meaning.{Denotes}
 -- two runs of the same files denote the same where they differ in their shards alone
 abbrev pub ShardsChangeNothing : Type 0
 ShardsChangeNothing =
-    (one other : List (List ℕ)) (jdf data_name : List ℕ) (workers shards others : ℕ) (preload : Bool) (files : Entries) (v : Denotation)
+    (one other : List (List ℕ)) (jdf data_name : List ℕ) (workers shards others : ℕ) (preload : Bool)
+    (files : Entries) (v : Denotation)
     → Orders one (Run jdf data_name workers shards preload) → Orders other (Run jdf data_name workers others preload)
     → Denotes one files v → Denotes other files v
 
 -- and where they differ in their workers and their shards, without a preload
 abbrev pub WorkersChangeNothing : Type 0
 WorkersChangeNothing =
-    (one other : List (List ℕ)) (jdf data_name : List ℕ) (workers more shards others : ℕ) (files : Entries) (v : Denotation)
+    (one other : List (List ℕ)) (jdf data_name : List ℕ) (workers more shards others : ℕ)
+    (files : Entries) (v : Denotation)
     → Orders one (Run jdf data_name workers shards false) → Orders other (Run jdf data_name more others false)
     → Denotes one files v → Denotes other files v
 

@@ -1,7 +1,12 @@
-//! Laws of the meaning of a command.
+//! Laws of the meaning of a command, and of the bytes of a preload.
 
 ghost use Rattle.top_laws.specs.Meanings.{OneJob, OneMeaning, OneOutput, SomeMeaning, SomeOutput};
 ghost use Rattle.top_laws.specs.Settings.{SeedsChangeNothing, ShardsChangeNothing, WorkersChangeNothing};
+ghost use Rattle.std.specs.Prelude.{◌≡◌, ◌+◌, ◌*◌, ℕ, [], ◌∷◌, length};
+ghost use Rattle.ptg_base.specs.Limits.{most_flows};
+ghost use Rattle.plan_core.specs.declared.plan.Plan.{Plan as PlanValue};
+ghost use Rattle.dep_iter.specs.Consistent.{all_data, all_writes};
+ghost use Rattle.run_pool.specs.Bytes as bytes;
 
 use ptg_words::words_give_one_order;
 
@@ -31,4 +36,10 @@ pub fn settings_change_nothing_else()
     ensures shards { ShardsChangeNothing }
     ensures workers { WorkersChangeNothing }
     ensures seeds { SeedsChangeNothing }
+{}
+
+/// A law: where DEFAULT is the only type, each tile has as many numbers, and the bytes are a product.
+pub fn with_one_type_the_preload_is_a_product()
+    ensures { (P : PlanValue) (elems workers : ℕ) → P.elems ≡ elems ∷ []
+        → bytes.preload_bytes P workers ≡ 8 * elems * (length (all_data P) + length (all_writes P) + most_flows * workers) }
 {}

@@ -1,6 +1,10 @@
-//! Laws of the meaning of a command that no program cites: it is one, and every input has one.
+//! Laws of the meaning of a command that no program cites: it is one, and every input has one; and of the bytes of a
+//! preload.
 #![tactic(auto)]
 
 mod laws;
 
-pub use laws::{one_job, one_meaning, settings_change_nothing_else, some_meaning};
+pub use laws::{
+    one_job, one_meaning, settings_change_nothing_else, some_meaning,
+    with_one_type_the_preload_is_a_product,
+};

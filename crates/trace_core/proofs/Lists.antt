@@ -1,5 +1,5 @@
--- The text of a list of tasks is well spelled, and that of no other list.
-use Rattle.std.proofs.Common.{◌≡◌, ℕ, ◌+◌, ◌≤◌, List, [], ◌∷◌, ◌++◌, map, length, refl, ap, sym, ◌∙◌, subst, arith}
+-- A well spelled text is that of the tasks whose rows it has, and of no other list.
+use Rattle.std.proofs.Common.{◌≡◌, ℕ, ◌+◌, ◌≤◌, List, [], ◌∷◌, ◌++◌, map, length, refl, ap, ◌∙◌, arith}
 use Rattle.std.specs.List.{AllByRecursion}
 use Rattle.std.proofs.lemmas.List.{append-nil}
 use Rattle.ptg_base.specs.Task.{Task}
@@ -7,25 +7,13 @@ use Rattle.plan_core.specs.declared.plan.Plan.{Plan}
 use Rattle.dep_iter.specs.Tasks.{IsTask}
 use Rattle.trace_core.specs.Naming.{AreRowsOf}
 use Rattle.trace_core.specs.Reading.{IsListOf}
-use Rattle.trace_core.specs.Spelling.{BeginsWith, IsSpelled, IsWellSpelled}
+use Rattle.trace_core.specs.Spelling.{BeginsWith, IsWellSpelled}
 use Rattle.trace_core.specs.Text.{Entry, entry_of, head_line, rows_text, trace_text}
 use Rattle.trace_core.proofs.Named.{one_task}
-use Rattle.trace_core.proofs.OneText.{one_spelling}
 
 entries_length : (P : Plan) (ts : List Task) → length (map (entry_of P) ts) ≡ length ts
 entries_length P [] = refl
 entries_length P (t ∷ ts) = omega (arith, entries_length P ts)
-
-pub spelled_text : (P : Plan) (ts : List Task) → AllByRecursion IsSpelled (map (entry_of P) ts) → length ts ≤ 1000000 → IsWellSpelled (trace_text P ts) (map (entry_of P) ts)
-unfolding trace_text
-spelled_text P ts rows le =
-    let es = map (entry_of P) ts in
-    let n = entries_length P ts in
-    record {
-      at_most = omega (arith, n);
-      split = ap (λ k. head_line k ++ rows_text es) (sym n) ∙ ap (λ l. head_line (length es) ++ l) (sym (append-nil (rows_text es)));
-      spelled = rows;
-    }
 
 pub same_list : (P : Plan) (ts us : List Task) → AllByRecursion (IsTask P) ts → AllByRecursion (IsTask P) us → map (entry_of P) ts ≡ map (entry_of P) us → ts ≡ us
 same_list P [] [] h k e = refl
@@ -38,12 +26,6 @@ same_list P (t ∷ ts) (u ∷ us) h k e =
     let same = one_task P (entry_of P t) t u (h.0, refl) (k.0, first) in
     let later = same_list P ts us h.1 k.1 rest in
     λ i. same i ∷ later i
-
-pub one_list : (P : Plan) (ts us : List Task) → AllByRecursion (IsTask P) ts → AllByRecursion (IsTask P) us → AllByRecursion IsSpelled (map (entry_of P) ts) → AllByRecursion IsSpelled (map (entry_of P) us) → length ts ≤ 1000000 → length us ≤ 1000000 → trace_text P ts ≡ trace_text P us → ts ≡ us
-one_list P ts us h k rows lines le ge e =
-    let w = spelled_text P ts rows le in
-    let v = spelled_text P us lines ge in
-    same_list P ts us h k (one_spelling (trace_text P us) (map (entry_of P) ts) (map (entry_of P) us) (subst (λ text. IsWellSpelled text (map (entry_of P) ts)) e w) v)
 
 -- a well spelled text whose rows are those of these tasks is their text
 pub is_list : (P : Plan) (text : List ℕ) (es : List Entry) (ts : List Task) → length text ≤ 16777216 → IsWellSpelled text es → AreRowsOf P es ts → IsListOf P text ts

@@ -108,13 +108,13 @@ module _ (P : Plan) (e : Entry) (name numbers : List ℕ) (row : IsRowOf e name 
     its_class t h = one_name P.classes e.name P.well_made.class_names t.class n (named_class P e t h) (subst (λ l. IsNamed P.classes l n) row.same_name named)
 
     -- more numbers than its class has parameters
-    pub too_many : (count : ℕ) → ((s : ClassSpace) → slice_get P.spaces n ≡ Some s → count ≡ length s.params) → count ≤ 8 → 8 < length e.params → (t : Task) → Names P e t → ⊥
-    too_many count is le more t h =
+    pub too_many : ((s : ClassSpace) → slice_get P.spaces n ≡ Some s → length s.params ≤ 8) → 8 < length e.params → (t : Task) → Names P e t → ⊥
+    too_many fits more t h =
         let k = class_of P t h.0 in
         let there : IsIn t.params (tasks k.space) = (rw k.space_is at h.0) in
         let same = ap (λ (x : Entry). length x.params) h.1 in
         let arity = arity_of_task k.space t.params there in
-        let sized = is k.space (ap (slice_get P.spaces) (sym (its_class t h)) ∙ k.space_is) in
+        let sized = fits k.space (ap (slice_get P.spaces) (sym (its_class t h)) ∙ k.space_is) in
         absurd (omega arith)
 
     pub it_is : (params : List ℤ) → params ≡ e.params → (t : Task) → Names P e t → t ≡ task n params

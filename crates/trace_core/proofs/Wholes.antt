@@ -1,5 +1,5 @@
 -- Orders in which tasks may run, and whole orders.
-use Rattle.std.proofs.Common.{◌≡◌, ◌+◌, ◌<◌, ◌≤◌, ◌↔◌, true, cond, List, [], ◌∷◌, ◌++◌, length, refl, ap, sym, ◌∙◌, subst, ◌⊎◌, inl, inr, append_assoc, None, is_some, arith}
+use Rattle.std.proofs.Common.{◌≡◌, ◌+◌, ◌<◌, ◌↔◌, true, cond, List, [], ◌∷◌, ◌++◌, refl, ap, sym, ◌∙◌, subst, ◌⊎◌, inl, inr, append_assoc, None, is_some, arith}
 use Rattle.std.specs.Prelude.{option_map}
 use Rattle.std.specs.List.{filter}
 use Rattle.std.proofs.lemmas.List.{append-nil}
@@ -16,7 +16,7 @@ use Rattle.list_lemmas.proofs.Truth.{by_test}
 use Rattle.list_lemmas.proofs.Counts.{count-some, some_passes, same_counts}
 use Rattle.list_lemmas.proofs.Options.{some_value}
 use Rattle.list_lemmas.proofs.Members.{member_passes, list_all-from_members, IsIn-filter}
-use Rattle.list_lemmas.proofs.Distinct.{no_longer, HasNoRepeats-filter}
+use Rattle.list_lemmas.proofs.Distinct.{HasNoRepeats-filter}
 use Rattle.list_lemmas.proofs.Growing.{all_or_one}
 use Rattle.list_lemmas.proofs.Tasks.{distinct_once, member_or_not, uncounted, once_each}
 use Rattle.dep_iter.specs.Tasks.{IsTask, all_tasks, locals_of}
@@ -33,7 +33,7 @@ use Rattle.flow_meaning.proofs.Enough.{fixed}
 use Rattle.flow_meaning.proofs.Once.{tasks_once}
 use Rattle.flow_meaning.proofs.Rounds.{has_sources}
 use Rattle.flow_meaning.proofs.SourceEdges.{class_of}
-use Rattle.task_order.proofs.Orders.{legal_once, legal_tasks}
+use Rattle.task_order.proofs.Orders.{legal_once}
 use Rattle.trace_core.specs.Faults.{IsMissing}
 use Rattle.trace_core.specs.Orders.{IsWholeOrder, MayAllRunAfter, MayRunAfter}
 
@@ -125,9 +125,3 @@ module _ (P : Plan) (G : Data) (con : IsConsistent P) where
 
   pub whole_all : (ts : List Task) → IsWholeOrder P G ts → (t : Task) → IsIn t (ran P G) → IsIn t ts
   whole_all ts w t i = (members ts w.all t).1 i
-
-  pub whole_length : (ts : List Task) → IsWholeOrder P G ts → length ts ≤ 1000000
-  whole_length ts w =
-      let few = no_longer ts (all_tasks P) (legal_once P [] ts w.legal) (λ t i. (listed P t).0 (legal_tasks P [] ts w.legal t i)) in
-      let limit = con.tasks_at_most in
-      omega arith

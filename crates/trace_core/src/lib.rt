@@ -12,8 +12,6 @@ mod spelling;
 mod text;
 
 pub use fault::{TraceCode, TraceFault, TraceRefusal};
-pub use laws::{
-    a_text_has_one_first_fault, a_text_is_that_of_one_list, the_text_of_a_whole_order_has_no_fault,
-};
+pub use laws::a_text_has_one_first_fault;
 pub use reading::{Reading, read_rows, read_trace};
 pub use text::trace_text;

@@ -38,13 +38,12 @@ fn class_named(plan: &Plan, name: &[u8]) -> Option<u32>
     class_among(plan.classes.as_slice(), name, 0)
 }
 
-// How many parameters a task of a class has.
-fn parameter_count(plan: &Plan, class: u32) -> usize
+// A law: a class has at most 8 parameters.
+fn parameters_fit(plan: &Plan, class: u32)
     requires { class < length plan.now.classes }
-    ensures count { (s : ClassSpace) → slice_get plan.now.spaces class ≡ Some s → result ≡ length s.params }
-    ensures at_most { result ≤ most_params }
+    ensures { (s : ClassSpace) → slice_get plan.now.spaces class ≡ Some s → length s.params ≤ most_params }
 {
-    plan.space(class).params.as_slice().len()
+    let _ = plan.space(class).params.as_slice().len();
 }
 
 // The task that a row names, if the job has it.
@@ -55,7 +54,7 @@ pub(crate) fn task_of(plan: &Plan, row: &Row) -> Option<TaskId>
     let Some(class) = class_named(plan, row.name) else {
         return None;
     };
-    let _at_most = parameter_count(plan, class);
+    parameters_fit(plan, class);
     let mut params = Numbers::new();
     if !push_numbers(row.numbers, &mut params) {
         return None;

@@ -71,7 +71,8 @@ pub(crate) fn are_numbers(fields: &[u8]) -> bool
 // Adds the numbers of these fields. False where they are more than there is room for.
 pub(crate) fn push_numbers(fields: &[u8], numbers: &mut Numbers<MOST_PARAMS>) -> bool
     ensures all { (ns : List ℤ) → AreNumbers fields.now ns → IsTrue result → numbers.new ≡ numbers.old ++ ns }
-    ensures more { (ns : List ℤ) → AreNumbers fields.now ns → IsFalse result → most_params < length numbers.old + length ns }
+    ensures more { (ns : List ℤ) → AreNumbers fields.now ns → IsFalse result
+        → most_params < length numbers.old + length ns }
 {
     let Some((n, later)) = next_number(fields) else {
         return true;

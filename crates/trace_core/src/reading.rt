@@ -116,7 +116,8 @@ pub fn read_rows(alloc: Global, m: &Matched, bytes: &[u8]) -> Result<Reading, Tr
 
 /// Reads a text as a list of tasks of the job that are different: its tasks, or its first fault as such a list.
 pub fn read_trace(alloc: Global, m: &Matched, bytes: &[u8]) -> Result<Seq<TaskId>, TraceRefusal>
-    ensures exact { FindsOrRefuses (λ tasks. IsReading m.now bytes.now tasks None) (IsReadFault m.now bytes.now) result }
+    ensures exact { FindsOrRefuses (λ tasks. IsReading m.now bytes.now tasks None)
+        (IsReadFault m.now bytes.now) result }
     ensures found { IfOk result (λ tasks. IsListOf m.now bytes.now tasks) }
 {
     let reading = match read_rows(alloc, m, bytes) {

@@ -9,6 +9,7 @@ use Rattle.ptg_words.specs.Parts.{Form, NumberOption, dashed_form, flag, form_of
 use Rattle.ptg_words.specs.Words.{Verb, options_of, run, show, check, demo, trace, replay, certify, ranks}
 use Rattle.word_laws.specs.Forms.{HasForm, begins_with_dash, has_flag, has_numbers, operand_or_value, preload_alone, shards_alone, shards_with, takes_next, workers_alone, workers_with}
 use Rattle.word_laws.proofs.Cutting.{cut}
+use Rattle.list_lemmas.proofs.Truth.{and-false}
 
 pub counts_are : (verb : Verb) → has_counts (options_of verb) ≡ has_numbers verb
 counts_are run = refl
@@ -206,11 +207,7 @@ module _ (verb : Verb) (word : List ℕ) where
   takes_of has other is test = and_from (has_numbers verb) (bytes_eq word (codes "--workers") || bytes_eq word (codes "--shards")) has (ap (λ w. bytes_eq w (codes "--workers") || bytes_eq w (codes "--shards")) is ∙ test)
 
   not_by : (other : List ℕ) → word ≡ other → (bytes_eq other (codes "--workers") || bytes_eq other (codes "--shards")) ≡ false → takes_next verb word ≡ false
-  not_by other is test = ap (λ w. has_numbers verb && (bytes_eq w (codes "--workers") || bytes_eq w (codes "--shards"))) is ∙ ap (λ x. has_numbers verb && x) test ∙ never (has_numbers verb)
-    where
-      never : (x : Bool) → (x && false) ≡ false
-      never true = refl
-      never false = refl
+  not_by other is test = ap (λ w. has_numbers verb && (bytes_eq w (codes "--workers") || bytes_eq w (codes "--shards"))) is ∙ ap (λ x. has_numbers verb && x) test ∙ and-false (has_numbers verb)
 
   dash_is : (f : Form) → Says verb word f → begins_with_dash word ≡ not (is_plain f)
   dash_is plain s = s

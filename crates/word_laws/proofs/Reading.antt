@@ -1,14 +1,15 @@
 -- The parts of words by the forms of the words.
 use Rattle.std.proofs.Common.{◌≡◌, ℕ, ◌+◌, Bool, true, false, not, cond, ◌&&◌, ◌||◌, List, [], ◌∷◌, ◌++◌, ◌↔◌, inl, inr, Option, Some, None, is_some, length, map, refl, sym, ap, ◌∙◌, arith}
-use Rattle.std.proofs.lemmas.Bool.{false≢true}
+use Rattle.std.proofs.lemmas.Bool.{false≢true, or_right}
 use Rattle.std.specs.List.{filter, list_any, zip}
 use Rattle.std.specs.Prelude.{IsTrue}
+use Rattle.std.proofs.Math.Bool.{not-not}
 use Rattle.ptg_base.specs.Lists.{IsIn}
 use Rattle.ptg_words.specs.Parts.{Form, NumberOption, Part, after, flag, form_of, is_lacking, is_stray, named, operands, parts, parts_from, plain, unknown}
 use Rattle.ptg_words.specs.Words.{Verb, options_of}
 use Rattle.word_laws.specs.Forms.{HasForm, LacksValue, NoValueFollows, begins_with_dash, has_numbers, is_other, is_value, takes_next, with_previous}
 use Rattle.word_laws.proofs.Forms.{dashed, is_name_alone, is_plain, is_unknown, known_has_form, taking, unknown_has_none}
-use Rattle.list_lemmas.proofs.Truth.{by_test}
+use Rattle.list_lemmas.proofs.Truth.{by_test, and-false}
 
 -- ---- stray options
 
@@ -43,12 +44,8 @@ pub one_passes : (test : List ℕ → Bool) (words : List (List ℕ)) (word : Li
 one_passes test [] word among e = absurd among
 one_passes test (w ∷ ws) word among e = elim among [
   | inl same ↦ ap (λ x. x || list_any test ws) (ap test (sym same) ∙ e)
-  | inr later ↦ ap (λ x. test w || x) (one_passes test ws word later e) ∙ either (test w)
+  | inr later ↦ ap (λ x. test w || x) (one_passes test ws word later e) ∙ or_right (test w) true refl
 ]
-  where
-    either : (x : Bool) → (x || true) ≡ true
-    either true = refl
-    either false = refl
 
 pub stray_iff : (verb : Verb) (words : List (List ℕ)) → IsTrue (list_any is_stray (parts (options_of verb) words)) ↔ ((word : List ℕ) × IsIn word words × (HasForm verb word → ⊥))
 stray_iff verb words = (
@@ -115,11 +112,7 @@ module _ (verb : Verb) where
       ∙ ap (λ x. x || lacks verb rest) (follows_none rest none)
   from_lacks (word ∷ before) option rest takes none =
       ap (λ x. (is_name_alone (form_of (options_of verb) word) && none_next verb (before ++ option ∷ rest)) || x) (from_lacks before option rest takes none)
-      ∙ either (is_name_alone (form_of (options_of verb) word) && none_next verb (before ++ option ∷ rest))
-    where
-      either : (x : Bool) → (x || true) ≡ true
-      either true = refl
-      either false = refl
+      ∙ or_right (is_name_alone (form_of (options_of verb) word) && none_next verb (before ++ option ∷ rest)) true refl
 
   pub lacks_iff : (words : List (List ℕ)) → IsTrue (list_any is_lacking (parts (options_of verb) words)) ↔ LacksValue verb words
   lacks_iff words = (
@@ -156,12 +149,8 @@ module _ (verb : Verb) where
   operands_are (Some s) [] = refl
   operands_are due (word ∷ words) = operands_next due (form_of (options_of verb) word) word (λ next. parts_from (options_of verb) next words) (λ next. from_word next words) (λ next. operands_are next words)
 
-  not_not : (x : Bool) → not (not x) ≡ x
-  not_not true = refl
-  not_not false = refl
-
   plain_is : (word : List ℕ) → is_plain (form_of (options_of verb) word) ≡ not (begins_with_dash word)
-  plain_is word = sym (ap not (dashed verb word) ∙ not_not (is_plain (form_of (options_of verb) word)))
+  plain_is word = sym (ap not (dashed verb word) ∙ not-not (is_plain (form_of (options_of verb) word)))
 
   map_cond : (b : Bool) (p : List ℕ × List ℕ) (ps : List (List ℕ × List ℕ)) → map (λ (q : List ℕ × List ℕ). q.1) (cond b (p ∷ ps) ps) ≡ cond b (p.1 ∷ map (λ (q : List ℕ × List ℕ). q.1) ps) (map (λ (q : List ℕ × List ℕ). q.1) ps)
   map_cond true p ps = refl
@@ -177,10 +166,7 @@ module _ (verb : Verb) where
       ∙ sym (map_cond (is_other verb (previous, word)) (previous, word) (filter (is_other verb) (zip (word ∷ words) words)))
 
   first_is : takes_next verb [] ≡ false
-  first_is = never (has_numbers verb) where
-    never : (x : Bool) → (x && false) ≡ false
-    never true = refl
-    never false = refl
+  first_is = and-false (has_numbers verb)
 
   pub which : (words : List (List ℕ)) → operands (parts (options_of verb) words) ≡ map (λ (p : List ℕ × List ℕ). p.1) (filter (is_other verb) (with_previous words))
   which words = operands_are None words ∙ others_are false [] words first_is

@@ -1,6 +1,6 @@
 -- Options that occur twice, by the names of the words.
 use Rattle.std.proofs.Common.{◌≡◌, ℕ, Bool, true, false, ◌||◌, List, [], ◌∷◌, ◌++◌, ◌⊎◌, ◌↔◌, inl, inr, Option, Some, None, ◌==◌, codes, refl, sym, ap, ◌∙◌, eq-eqb}
-use Rattle.std.proofs.lemmas.Bool.{false≢true}
+use Rattle.std.proofs.lemmas.Bool.{false≢true, or_right}
 use Rattle.std.proofs.lemmas.Slice.Eq.{bytes_eq-Decides}
 use Rattle.std.specs.List.{filter_map, list_any}
 use Rattle.std.specs.Str.{bytes_eq}
@@ -127,17 +127,13 @@ module _ (verb : Verb) where
     by on None at k = later (on k)
     by on (Some n) at k = one n at (list_any (bytes_eq n) (word_names words)) refl on k
 
-  either : (b : Bool) → (b || true) ≡ true
-  either true = refl
-  either false = refl
-
   has_one : (name : List ℕ) (before : List (List ℕ)) (word : List ℕ) (rest : List (List ℕ)) → word_name word ≡ Some name → list_any (bytes_eq name) (word_names (before ++ word ∷ rest)) ≡ true
   has_one name [] word rest is =
       ap (λ o. list_any (bytes_eq name) (with_name o (word_names rest))) is ∙ ap (λ b. b || list_any (bytes_eq name) (word_names rest)) ((bytes_eq-Decides name name).1 refl)
   has_one name (w ∷ before) word rest is = more (word_name w) (has_one name before word rest is) where
     more : (o : Option (List ℕ)) → list_any (bytes_eq name) (word_names (before ++ word ∷ rest)) ≡ true → list_any (bytes_eq name) (with_name o (word_names (before ++ word ∷ rest))) ≡ true
     more None e = e
-    more (Some n) e = ap (λ b. bytes_eq name n || b) e ∙ either (bytes_eq name n)
+    more (Some n) e = ap (λ b. bytes_eq name n || b) e ∙ or_right (bytes_eq name n) true refl
 
   has_two : (name : List ℕ) (before : List (List ℕ)) (first : List ℕ) (between : List (List ℕ)) (second : List ℕ) (rest : List (List ℕ)) → word_name first ≡ Some name → word_name second ≡ Some name
       → twice (word_names (before ++ first ∷ (between ++ second ∷ rest))) ≡ true
@@ -147,7 +143,7 @@ module _ (verb : Verb) where
   has_two name (w ∷ before) first between second rest e f = more (word_name w) (has_two name before first between second rest e f) where
     more : (o : Option (List ℕ)) → twice (word_names (before ++ first ∷ (between ++ second ∷ rest))) ≡ true → twice (with_name o (word_names (before ++ first ∷ (between ++ second ∷ rest)))) ≡ true
     more None k = k
-    more (Some n) k = ap (λ b. list_any (bytes_eq n) (word_names (before ++ first ∷ (between ++ second ∷ rest))) || b) k ∙ either (list_any (bytes_eq n) (word_names (before ++ first ∷ (between ++ second ∷ rest))))
+    more (Some n) k = ap (λ b. list_any (bytes_eq n) (word_names (before ++ first ∷ (between ++ second ∷ rest))) || b) k ∙ or_right (list_any (bytes_eq n) (word_names (before ++ first ∷ (between ++ second ∷ rest)))) true refl
 
   -- a word of a name is that option
   abbrev IsNamed : List ℕ → List ℕ → Type 0

@@ -86,8 +86,12 @@ pub record OccursTwice (Is : List ℕ → Type 0) (words : List (List ℕ)) : Ty
 -- a text is given to an option: by `=`, or as the value after it
 abbrev pub IsTextOfWorkers : Verb → List (List ℕ) → List ℕ → Type 0
 IsTextOfWorkers verb words text =
-    (has_numbers verb ≡ true) × (IsIn (codes "--workers=" ++ text) words ⊎ (IsIn (codes "--workers", text) (with_previous words) × (begins_with_dash text ≡ false)))
+    (has_numbers verb ≡ true)
+    × (IsIn (codes "--workers=" ++ text) words
+    ⊎ (IsIn (codes "--workers", text) (with_previous words) × (begins_with_dash text ≡ false)))
 
 abbrev pub IsTextOfShards : Verb → List (List ℕ) → List ℕ → Type 0
 IsTextOfShards verb words text =
-    (has_numbers verb ≡ true) × (IsIn (codes "--shards=" ++ text) words ⊎ (IsIn (codes "--shards", text) (with_previous words) × (begins_with_dash text ≡ false)))
+    (has_numbers verb ≡ true)
+    × (IsIn (codes "--shards=" ++ text) words
+    ⊎ (IsIn (codes "--shards", text) (with_previous words) × (begins_with_dash text ≡ false)))

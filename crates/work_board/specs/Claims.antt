@@ -71,7 +71,8 @@ Claimed P G k t claim.Gone v w = FoundGone k t v w
 Claimed P G k t claim.Busy v w = FoundBusy (Turn k) v w
 
 -- The pass claimed the best ready task of shard k.
-pub record HasClaimedBest (P : Plan) (G : Data) (k : ℕ) (t : Task) (tiles : List FlowTile) (v w : PassRecord) : Type 0 where
+pub record HasClaimedBest (P : Plan) (G : Data) (k : ℕ) (t : Task) (tiles : List FlowTile)
+    (v w : PassRecord) : Type 0 where
   pub claimed : HasClaimed P G k t tiles v w
   pub best : IsBest claimed.shard.entries t
 

@@ -1,6 +1,6 @@
 -- The items of a task, sent one after another.
 use Rattle.std.proofs.Common.{◌≡◌, ℕ, ◌+◌, ◌<◌, Bool, true, false, List, [], ◌∷◌, ◌++◌, map, refl, ap, sym, ◌∙◌, subst, append_assoc, IsTrue, inl, inr, ◌⊎◌, nat_lt, arith}
-use Rattle.std.specs.List.{filter_map, flat_map}
+use Rattle.std.specs.List.{filter_map}
 use Rattle.std.proofs.lemmas.Bool.Decides.{nat_tests}
 use Rattle.std.proofs.lemmas.List.{append-nil, map-append}
 use Rattle.ptg_base.specs.Lists.{HasNoRepeats, IsIn}
@@ -11,13 +11,14 @@ use Rattle.ptg_base.specs.declared.edge.Item.{Item}
 use Rattle.ptg_base.specs.declared.edge.Item.TheVariants as item
 use Rattle.plan_core.specs.declared.plan.Plan.{Plan}
 use Rattle.coll_data.specs.Data.{Data}
-use Rattle.dep_iter.specs.Tasks.{IsTask, all_tasks}
+use Rattle.dep_iter.specs.Tasks.{IsTask}
 use Rattle.dep_iter.specs.Items.{edge_of, items, out_edges, write_backs, write_of}
 use Rattle.dep_iter.specs.Consistent.{IsConsistent}
-use Rattle.dep_iter.proofs.Listing.{listed}
-use Rattle.list_lemmas.proofs.Members.{IsIn-map}
+use Rattle.dep_iter.proofs.Items.{Edge-injective, Write-injective, edge_item, item_edge, item_write, write_item}
+use Rattle.dep_iter.proofs.Once.{once-out_edges, once-write_backs}
+use Rattle.list_lemmas.proofs.Members.{IsIn-map, from_map}
 use Rattle.list_lemmas.proofs.Counts.{weigh-append}
-use Rattle.list_lemmas.proofs.Distinct.{HasNoRepeats-part, HasNoRepeats-from_map}
+use Rattle.list_lemmas.proofs.Distinct.{HasNoRepeats-map}
 use Rattle.list_lemmas.specs.Counting.{as_number, count, weigh}
 use Rattle.flow_meaning.specs.Comparing.{same_item}
 use Rattle.flow_meaning.specs.Ending.{has_outputs}
@@ -136,82 +137,30 @@ module _ (P : Plan) (G : Data) where
         tile = refl;
       }
 
--- an item of a list that is an edge is one of its edges; likewise a write-back
-edge_among : (is : List Item) (e : Edge) → IsIn (item.Edge e) is → IsIn e (filter_map edge_of is)
-edge_among [] e h = absurd h
-edge_among (item.Edge d ∷ is) e h = elim h [ inl q ↦ inl (same_edge_item e d q) | inr t ↦ inr (edge_among is e t) ]
-  where
-    same_edge_item : (a b : Edge) → item.Edge a ≡ item.Edge b → a ≡ b
-    same_edge_item a b q = cc
-edge_among (item.Write w ∷ is) e h = elim h [ inl q ↦ absurd cc | inr t ↦ edge_among is e t ]
-
-write_among : (is : List Item) (w : WriteBack) → IsIn (item.Write w) is → IsIn w (filter_map write_of is)
-write_among [] w h = absurd h
-write_among (item.Edge d ∷ is) w h = elim h [ inl q ↦ absurd cc | inr t ↦ write_among is w t ]
-write_among (item.Write u ∷ is) w h = elim h [ inl q ↦ inl (same_write_item w u q) | inr t ↦ inr (write_among is w t) ]
-  where
-    same_write_item : (a b : WriteBack) → item.Write a ≡ item.Write b → a ≡ b
-    same_write_item a b q = cc
-
+-- an item that is an edge of a list is one of the items; likewise a write-back
 edge_item_of : (is : List Item) (i : Item) → IsIn i (as_edges (filter_map edge_of is)) → IsIn i is
-edge_item_of [] i h = absurd h
-edge_item_of (item.Edge d ∷ is) i h = elim h [ inl q ↦ inl q | inr t ↦ inr (edge_item_of is i t) ]
-edge_item_of (item.Write w ∷ is) i h = inr (edge_item_of is i h)
+edge_item_of is i h =
+    let p = from_map (λ (e : Edge). item.Edge e) (filter_map edge_of is) i h in
+    subst (λ j. IsIn j is) (sym p.2) (edge_item is p.0 p.1)
 
 write_item_of : (is : List Item) (i : Item) → IsIn i (as_writes (filter_map write_of is)) → IsIn i is
-write_item_of [] i h = absurd h
-write_item_of (item.Edge d ∷ is) i h = inr (write_item_of is i h)
-write_item_of (item.Write w ∷ is) i h = elim h [ inl q ↦ inl q | inr t ↦ inr (write_item_of is i t) ]
-
-is_edge : (es : List Edge) (i : Item) → IsIn i (as_edges es) → (e : Edge) × IsIn e es × (i ≡ item.Edge e)
-is_edge [] i h = absurd h
-is_edge (e ∷ es) i h = elim h [ inl q ↦ (e, inl refl, q) | inr t ↦ (let p = is_edge es i t in (p.0, inr p.1, p.2)) ]
-
-edges_once : (es : List Edge) → HasNoRepeats es → HasNoRepeats (as_edges es)
-edges_once [] h = tt
-edges_once (e ∷ es) h = (λ i. h.0 (back es e i), edges_once es h.1)
-  where
-    back : (ds : List Edge) (d : Edge) → IsIn (item.Edge d) (as_edges ds) → IsIn d ds
-    back [] d i = absurd i
-    back (x ∷ ds) d i = elim i [ inl q ↦ inl (same d x q) | inr t ↦ inr (back ds d t) ]
-      where
-        same : (a b : Edge) → item.Edge a ≡ item.Edge b → a ≡ b
-        same a b q = cc
-
-writes_once : (ws : List WriteBack) → HasNoRepeats ws → HasNoRepeats (as_writes ws)
-writes_once [] h = tt
-writes_once (w ∷ ws) h = (λ i. h.0 (back ws w i), writes_once ws h.1)
-  where
-    back : (us : List WriteBack) (u : WriteBack) → IsIn (item.Write u) (as_writes us) → IsIn u us
-    back [] u i = absurd i
-    back (x ∷ us) u i = elim i [ inl q ↦ inl (same u x q) | inr t ↦ inr (back us u t) ]
-      where
-        same : (a b : WriteBack) → item.Write a ≡ item.Write b → a ≡ b
-        same a b q = cc
+write_item_of is i h =
+    let p = from_map (λ (w : WriteBack). item.Write w) (filter_map write_of is) i h in
+    subst (λ j. IsIn j is) (sym p.2) (write_item is p.0 p.1)
 
 no_write_among : (es : List Edge) (w : WriteBack) → IsIn (item.Write w) (as_edges es) → ⊥
 no_write_among es w h =
-    let p = is_edge es (item.Write w) h in
+    let p = from_map (λ (e : Edge). item.Edge e) es (item.Write w) h in
     absurd cc
 
-is_write : (ws : List WriteBack) (i : Item) → IsIn i (as_writes ws) → (w : WriteBack) × (i ≡ item.Write w)
-is_write [] i h = absurd h
-is_write (w ∷ ws) i h = elim h [ inl q ↦ (w, q) | inr t ↦ is_write ws i t ]
-
 module _ (P : Plan) (G : Data) (con : IsConsistent P) (t : Task) (job : IsTask P t) where
-  edges_distinct : HasNoRepeats (out_edges P t)
-  edges_distinct = HasNoRepeats-part (out_edges P) (all_tasks P) con.no_out_edge_twice t ((listed P t).0 job)
-
-  writes_distinct : HasNoRepeats (write_backs P t)
-  writes_distinct = HasNoRepeats-part (write_backs P) (all_tasks P) (HasNoRepeats-from_map (λ (w : WriteBack). w.place) (flat_map (write_backs P) (all_tasks P)) con.written_once) t ((listed P t).0 job)
-
   -- the edges may be sent first, and then the write-backs
   pub edges_may : (v : PassRecord) → IsTrue (has_outputs (ended P G t)) → RunsUnsent P t v → MaySendAll P G t (as_edges (out_edges P t)) v
   edges_may v outputs runs = record {
     runs = runs.runs;
     outputs = outputs;
     are_items = λ i h. edge_item_of (items P t) i h;
-    once = edges_once (out_edges P t) edges_distinct;
+    once = HasNoRepeats-map (λ (e : Edge). item.Edge e) (out_edges P t) (once-out_edges P con t job) Edge-injective;
     unsent = λ i h. runs.unsent i (edge_item_of (items P t) i h);
   }
 
@@ -220,10 +169,10 @@ module _ (P : Plan) (G : Data) (con : IsConsistent P) (t : Task) (job : IsTask P
     runs = sent.running ∙ runs.runs;
     outputs = outputs;
     are_items = λ i h. write_item_of (items P t) i h;
-    once = writes_once (write_backs P t) writes_distinct;
+    once = HasNoRepeats-map (λ (w : WriteBack). item.Write w) (write_backs P t) (once-write_backs P con t job) Write-injective;
     unsent = λ i h.
-        let q = is_write (write_backs P t) i h in
-        let none = not_among i (as_edges (out_edges P t)) (λ k. no_write_among (out_edges P t) q.0 (subst (λ j. IsIn j (as_edges (out_edges P t))) q.1 k)) in
+        let q = from_map (λ (w : WriteBack). item.Write w) (write_backs P t) i h in
+        let none = not_among i (as_edges (out_edges P t)) (λ k. no_write_among (out_edges P t) q.0 (subst (λ j. IsIn j (as_edges (out_edges P t))) q.2 k)) in
         let counts = count_after P G (as_edges (out_edges P t)) v w i sent in
         let unsent = runs.unsent i (write_item_of (items P t) i h) in
         counts ∙ omega (arith, none, unsent);
@@ -231,8 +180,8 @@ module _ (P : Plan) (G : Data) (con : IsConsistent P) (t : Task) (job : IsTask P
 
   -- then all items were sent
   to_edge : (i : Item) → IsIn i (items P t) → IsIn i (as_edges (out_edges P t)) ⊎ IsIn i (as_writes (write_backs P t))
-  to_edge (item.Edge e) h = inl (IsIn-map (λ (d : Edge). item.Edge d) (out_edges P t) e (edge_among (items P t) e h))
-  to_edge (item.Write w) h = inr (IsIn-map (λ (u : WriteBack). item.Write u) (write_backs P t) w (write_among (items P t) w h))
+  to_edge (item.Edge e) h = inl (IsIn-map (λ (d : Edge). item.Edge d) (out_edges P t) e (item_edge (items P t) e h))
+  to_edge (item.Write w) h = inr (IsIn-map (λ (u : WriteBack). item.Write u) (write_backs P t) w (item_write (items P t) w h))
 
   positive : (n : ℕ) → 0 < n → nat_lt 0 n ≡ true
   positive n h = grind (arith, nat_tests)

@@ -31,6 +31,7 @@ Looked P G look.Quiet v w = IsQuietAfter v w
 Looked P G look.Nothing v w = IsStill v w
 
 -- The same, and where the log keeps what is noted, it has gained the claim with its stamp.
-pub record HasGotLogged (P : Plan) (G : Data) (keeps : Bool) (f : Found) (v w : PassRecord) (old new : List (ℕ × Task)) : Type 0 where
+pub record HasGotLogged (P : Plan) (G : Data) (keeps : Bool) (f : Found)
+    (v w : PassRecord) (old new : List (ℕ × Task)) : Type 0 where
   pub got : HasGot P G f v w
   pub noted : keeps ≡ true → new ≡ old ++ (got.added.stamp, f.task) ∷ []

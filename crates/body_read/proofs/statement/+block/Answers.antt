@@ -1,4 +1,4 @@
-use Rattle.std.proofs.Common.{◌<◌, ◌≤◌, length, sym, ◌∙◌, arith}
+use Rattle.std.proofs.Common.{sym, ◌∙◌, arith}
 use Rattle.jdf_alphabet.specs.declared.terminal.Terminal.TheVariants as terminal
 use Rattle.jdf_alphabet.specs.Terminals.{is}
 use Rattle.jdf_tree.specs.declared.part.Part.TheVariants.{Body}
@@ -6,8 +6,9 @@ use Rattle.jdf_tree.specs.GrammarParts.{name}
 use Rattle.jdf_tree.specs.ExpressionGrammar.{outer}
 use Rattle.jdf_tree.specs.BodyGrammar.{statement}
 use Rattle.jdf_tree.proofs.Lists.{list_moves}
-use Rattle.body_read.proofs.Begins.{token_shrinks, reading_shrinks, statements_listed, statements_go_on}
+use Rattle.body_read.proofs.Begins.{statements_listed, statements_go_on}
 use Rattle.body_read.proofs.statement.+block.Goals as goal
+use Rattle.expr_read.proofs.Loops.{reading_shrinks, token_shrinks}
 
 pub for_loop-block-requires : goal.for_loop-block-requires
 for_loop-block-requires t c =

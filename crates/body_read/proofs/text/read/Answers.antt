@@ -1,7 +1,8 @@
 use Rattle.std.proofs.Common.{ℕ, ap, ◌∙◌}
 use Rattle.expr_read.specs.Front.{fault_at}
-use Rattle.body_read.proofs.Whole.{fault_is, read_tree, read_no_memory, read_fault}
+use Rattle.body_read.proofs.Whole.{read_tree, read_no_memory, read_fault}
 use Rattle.body_read.proofs.text.read.Goals as goal
+use Rattle.grammar_core.proofs.Refusals.{fault_is}
 
 pub returns-in-Ok : goal.returns-in-Ok
 returns-in-Ok c = record { exact = read_tree c.args.tokens.now c.args.finish c.in-Ok.tree c.in-Ok.ensures }

@@ -1,4 +1,4 @@
-use Rattle.std.proofs.Common.{Ok, Err, Some, ap, sym, ◌∙◌}
+use Rattle.std.proofs.Common.{Ok, Err}
 use Rattle.check_names.specs.Contexts.{job_of}
 use Rattle.check_names.proofs.Joins.{of_both, still_err}
 use Rattle.flow_check.specs.Classes.{head_from}
@@ -7,10 +7,9 @@ use Rattle.flow_check.proofs.head.head.Goals as goal
 
 pub returns-in-Ok : goal.returns-in-Ok
 returns-in-Ok c =
-    head_at (job_of c.args.context.now) c.args.class.now c.args.context.now.seen.now c.as_slice.result.now c.as_slice-2.result.now (Ok c.head_from.result) c.requires.seen c.as_slice.ensures c.as_slice-2.ensures
-    (let both_halves = of_both head_from c.in-Ok.place c.in-Ok.rest _ _ _
-    (c.in-Ok.ensures _ _ _ _ (c.join-place.ensures _ _ _ _ c.space.ensures c.element.ensures) (c.join-rest.ensures _ _ _ _ c.flows.ensures c.option_term.ensures)) in
-    (both_halves.0 ∙ ap (λ head. Some head) (sym c.head_from.ensures), both_halves.1))
+    head_at (job_of c.args.context.now) c.args.class.now c.args.context.now.seen.now c.as_slice.result.now c.as_slice-2.result.now (Ok (head_from c.in-Ok.place c.in-Ok.rest)) c.requires.seen c.as_slice.ensures c.as_slice-2.ensures
+    (of_both head_from c.in-Ok.place c.in-Ok.rest _ _ _
+    (c.in-Ok.ensures _ _ _ _ (c.join-place.ensures _ _ _ _ c.space.ensures c.element.ensures) (c.join-rest.ensures _ _ _ _ c.flows.ensures c.option_term.ensures)))
 
 pub returns-in-Err : goal.returns-in-Err
 returns-in-Err c =

@@ -3,5 +3,5 @@ use Rattle.check_names.specs.Contexts.{job_of}
 use Rattle.flow_check.specs.Check.{AreRead}
 use Rattle.flow_check.proofs.whole.read_classes.Given as goal
 
-abbrev pub invariant-loop-one : goal.invariant-loop-one
-invariant-loop-one l = AreRead (job_of l.context) (take l.one-index l.classes) l.results
+abbrev pub invariant-loop-class : goal.invariant-loop-class
+invariant-loop-class l = AreRead (job_of l.context) (take l.class-index l.classes) l.results

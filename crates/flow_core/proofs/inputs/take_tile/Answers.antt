@@ -1,11 +1,12 @@
 use Rattle.std.proofs.Common.{◌≡◌, suc, ap, sym, ◌∙◌, None, slice_set}
 use Rattle.ptg_base.specs.declared.edge.Edge.{Edge}
 use Rattle.ptg_base.specs.declared.edge.Item.TheVariants as item
+use Rattle.dep_iter.proofs.Items.{Edge-injective}
 use Rattle.flow_meaning.specs.Machine.{first_tile}
 use Rattle.flow_meaning.specs.Starting.{starting_tile, tiles_from}
 use Rattle.flow_core.specs.Inputs.{delivered_by, edge_into, nothing_delivered}
 use Rattle.flow_core.proofs.Kept.{other_tile as other_item, takes_none, takes_one}
-use Rattle.flow_core.proofs.Taking.{an_item, edge_goes, edge_tile, no_item, one_done, other_tile, same_edge_item, set_at}
+use Rattle.flow_core.proofs.Taking.{an_item, edge_goes, edge_tile, no_item, one_done, other_tile, set_at}
 use Rattle.flow_core.proofs.inputs.take_tile.Goals as goal
 
 pub returns-in-None-clause-tiles : goal.returns-in-None-clause-tiles
@@ -32,7 +33,7 @@ returns-clause-others c = λ P t f is e differs.
     let n = c.args.number in
     let found = an_item (edge_into P t n f) c.in-Some.edge (sym is ∙ c.in-Some.is) in
     let goes = edge_goes P t n f found.0 found.1 in
-    let other = c.take.ensures.others (item.Edge e) (λ q. differs (sym (ap (λ (x : Edge). x.in_flow) (same_edge_item found.0 e (found.2 ∙ q))) ∙ goes.in_flow)) in
+    let other = c.take.ensures.others (item.Edge e) (λ q. differs (sym (ap (λ (x : Edge). x.in_flow) (Edge-injective found.0 e (found.2 ∙ q))) ∙ goes.in_flow)) in
     other_item c.in-Some.edge (item.Edge e) c.args.sent.now.edges c.take.new.self.edges other
 
 pub returns-clause-kept : goal.returns-clause-kept

@@ -11,9 +11,7 @@ use Rattle.jdf_lex.specs.Reading.{front_unit}
 use Rattle.jdf_lex.proofs.Fronts.{found_unit, nothing}
 use Rattle.jdf_lex.proofs.Scanning.{found_at, unit_here, no_token_is_dropped, scanned_dropped, scanned_token, fault_unclosed, fault_many}
 use Rattle.jdf_lex.proofs.lex.read_unit.Goals as goal
-
-same_err : (d e : Refusal JdfFault) → ◌≡◌ {A = Result Cursor (Refusal JdfFault)} (Err d) (Err e) → d ≡ e
-same_err d e same = cc
+use Rattle.list_lemmas.proofs.Options.{same_Err}
 
 same_fault : (f g : JdfFault) → Fault f ≡ Fault g → f ≡ g
 same_fault f g same = cc
@@ -22,7 +20,7 @@ pub returns-in_default-clause-refused : goal.returns-in_default-clause-refused
 returns-in_default-clause-refused c = λ f is.
     let text = c.args.text.now in
     let none : nothing ≡ front_unit (drop c.args.here.index text) = found_at text c.args.here.index nothing (sym c.in_default.is ∙ c.front_unit.ensures) in
-    let same : Fault (record { spot = c.args.here.spot; code = Unclosed }) ≡ Fault f = sym c.fault.ensures ∙ same_err c.fault.result (Fault f) is in
+    let same : Fault (record { spot = c.args.here.spot; code = Unclosed }) ≡ Fault f = sym c.fault.ensures ∙ same_Err c.fault.result (Fault f) is in
     let faults : record { spot = c.args.here.spot; code = Unclosed } ≡ f = same_fault (record { spot = c.args.here.spot; code = Unclosed }) f same in
     subst (λ g. IsTokenFault text g) faults (fault_unclosed text c.args.tokens.now c.args.here c.requires.scanned c.requires.inside (sym none))
 
@@ -37,7 +35,7 @@ returns-in_err-add_token-clause-refused c = λ f is.
     let text = c.args.text.now in
     let exit = err_from_is_err_and c.from_residual.result c.from_residual.ensures.1 in
     let whole : ◌≡◌ {A = Result Cursor (Refusal JdfFault)} (Err exit.0) (Err (Fault f)) = sym exit.1 ∙ is in
-    let same : c.in_err-add_token.field-0.0 ≡ Fault f = sym exit.2 ∙ same_err exit.0 (Fault f) whole in
+    let same : c.in_err-add_token.field-0.0 ≡ Fault f = sym exit.2 ∙ same_Err exit.0 (Fault f) whole in
     let refused = c.in_err-add_token.ensures.refused f (ap (λ e. Err e) same) in
     let found = found_at text c.args.here.index (found_unit c.in-Some.unit c.in-Some.len) (sym c.in-Some.is ∙ c.front_unit.ensures) in
     let token : front_unit (drop c.args.here.index text) ≡ found_unit (TokenOf c.in-TokenOf.kind) c.in-Some.len = sym found ∙ ap (λ p. found_unit p c.in-Some.len) c.in-TokenOf.is in

@@ -1,28 +1,34 @@
-use Rattle.std.proofs.Common.{ℕ, List, Some, Err, ap, sym, ◌∙◌, subst}
-use Rattle.std.specs.Prelude.{Option, IfOk}
-use Rattle.ptg_io.specs.Files.{file_of, IsLonger}
+use Rattle.std.proofs.Common.{ℕ, List, Result, subst}
+use Rattle.std.specs.Prelude.{Option, IfOk, IfErr}
+use Rattle.jdf_tree.specs.declared.tree.Jdf.{Jdf}
+use Rattle.jdf_tree.specs.Jdf.{IsJdf}
+use Rattle.ptg_top.specs.declared.verdict.Verdict.{Verdict}
 use Rattle.ptg_top.specs.Denotation.{denoted}
 use Rattle.ptg_top.specs.JobFiles.{Entries}
-use Rattle.ptg_top.specs.Steps.{CheckOfTextEndsWith}
-use Rattle.ptg_top.proofs.Checked.{text_result_ends, long_ends}
+use Rattle.ptg_top.specs.Steps.{CheckOfDataEndsWith, IsTreeRead, TreeIsRefused}
+use Rattle.ptg_top.proofs.Checked.{tree_result_ends, refusal_ends}
 use Rattle.ptg_top.proofs.checking.check.Goals as goal
 
--- the verdict on the text that was read
+-- the check of the data file
 pub returns-in-Ok-clause-verdict : goal.returns-in-Ok-clause-verdict
 returns-in-Ok-clause-verdict g c =
     let jdf = c.args.jdf.now in
     let data_name = c.args.data_name.now in
-    let mid = g.F.Files.faults c.load.new.files data_name in
-    let new = g.F.Files.faults c.check_text.new.files in
-    let Ends : Option Entries → Type 0 = λ t. IfOk c.check_text.result (λ v. CheckOfTextEndsWith t mid (new data_name) c.as_slice.result.now data_name (denoted v)) in
-    text_result_ends (g.F.Files.contents c.args.files.now) (g.F.Files.faults c.args.files.now) new jdf data_name mid c.as_slice.result.now c.check_text.result
-    (c.in-Ok.ensures.grows data_name)
-    (λ files e. ap (file_of files) (sym c.name_of.ensures) ∙ (c.in-Ok.ensures.given files e ∙ ap Some (sym c.as_slice.ensures)))
-    (subst Ends c.in-Ok.ensures.stays c.check_text.ensures.verdict)
+    let mid = g.F.Files.faults c.tree_of_file.new.files data_name in
+    let new = g.F.Files.faults c.check_data.new.files in
+    let Ends : Option Entries → Type 0 = λ t. (text : List ℕ) → IsJdf text c.in-Ok.tree
+    → IfOk c.check_data.result (λ v. CheckOfDataEndsWith t mid (new data_name) text data_name (denoted v)) in
+    let Tree : Result Jdf Verdict → Type 0 = λ r. IfOk r (IsTreeRead (g.F.Files.contents c.args.files.now) jdf) in
+    tree_result_ends (g.F.Files.contents c.args.files.now) (g.F.Files.faults c.args.files.now) new jdf data_name mid c.in-Ok.tree c.check_data.result
+    (subst Tree c.in-Ok.is c.in_ok-read.ensures.tree) (c.tree_of_file.ensures.grows data_name)
+    (subst Ends c.tree_of_file.ensures.stays c.check_data.ensures.verdict)
 
--- a JDF file that is too long
-pub returns-in-Err-TooLong-clause-verdict : goal.returns-in-Err-TooLong-clause-verdict
-returns-in-Err-TooLong-clause-verdict g c =
-    long_ends (g.F.Files.contents c.args.files.now) (g.F.Files.faults c.args.files.now) (g.F.Files.faults c.load.new.files)
-    c.args.jdf.now c.args.data_name.now c.jdf_too_long.result c.jdf_too_long.ensures
-    (λ files e. subst (λ (name : List ℕ). IsLonger files name 16777216) c.name_of.ensures (c.in-Err-TooLong.ensures.too_long (ap Err c.in-Err-TooLong.field-0-is) files e))
+-- a refusal of the JDF file
+pub returns-in-Err-clause-verdict : goal.returns-in-Err-clause-verdict
+returns-in-Err-clause-verdict g c =
+    let contents = g.F.Files.contents c.args.files.now in
+    let old = g.F.Files.faults c.args.files.now c.args.jdf.now in
+    let new = g.F.Files.faults c.tree_of_file.new.files c.args.jdf.now in
+    let Refusal : Result Jdf Verdict → Type 0 = λ r. IfErr r (λ v. TreeIsRefused contents old new c.args.jdf.now (denoted v)) in
+    refusal_ends (g.F.Files.contents c.args.files.now) (g.F.Files.faults c.args.files.now) (g.F.Files.faults c.tree_of_file.new.files)
+    c.args.jdf.now c.args.data_name.now (denoted c.in-Err.refused) (subst Refusal c.in-Err.is c.in_ok-read.ensures.refused)

@@ -1,11 +1,11 @@
 use Rattle.std.proofs.Common.{length, ap, arith}
-use Rattle.task_run.proofs.FlowSizes.{known}
+use Rattle.flow_meaning.proofs.Starting.{known_datatype}
 use Rattle.task_run.proofs.start.lend_from.Goals as goal
 
 pub lend-requires-clause-known : goal.lend-requires-clause-known
 lend-requires-clause-known c =
-    omega (arith, known c.args.start.now.plan.now c.args.start.now.task.now (length c.args.pools.now.lent) c.args.flow.now c.requires.start.task c.requires.flow, ap length c.requires.elems)
+    omega (arith, known_datatype c.args.start.now.plan.now c.args.start.now.task.now (length c.args.pools.now.lent) c.args.flow.now c.requires.start.task c.requires.flow, ap length c.requires.elems)
 
 pub lend_unsourced-requires-clause-known : goal.lend_unsourced-requires-clause-known
 lend_unsourced-requires-clause-known c =
-    omega (arith, known c.args.start.now.plan.now c.args.start.now.task.now (length c.args.pools.now.lent) c.args.flow.now c.requires.start.task c.requires.flow, ap length c.requires.elems)
+    omega (arith, known_datatype c.args.start.now.plan.now c.args.start.now.task.now (length c.args.pools.now.lent) c.args.flow.now c.requires.start.task c.requires.flow, ap length c.requires.elems)

@@ -1,11 +1,12 @@
 use Rattle.std.proofs.Common.{◌≡◌, length, ap, sym, ◌∙◌, Some, arith, slice_index}
-use Rattle.task_run.proofs.FlowSizes.{known, place_size}
+use Rattle.flow_meaning.proofs.Starting.{known_datatype}
+use Rattle.task_run.proofs.FlowSizes.{place_size}
 use Rattle.task_run.proofs.Lending.{some_fits}
 use Rattle.task_run.proofs.start.lend_place.Goals as goal
 
 pub lend-requires-clause-known : goal.lend-requires-clause-known
 lend-requires-clause-known c =
-    omega (arith, known c.args.start.now.plan.now c.args.start.now.task.now (length c.args.pools.now.lent) c.args.flow.now c.requires.start.task c.requires.flow, ap length c.requires.elems)
+    omega (arith, known_datatype c.args.start.now.plan.now c.args.start.now.task.now (length c.args.pools.now.lent) c.args.flow.now c.requires.start.task c.requires.flow, ap length c.requires.elems)
 
 pub lend-requires-clause-length : goal.lend-requires-clause-length
 lend-requires-clause-length c =

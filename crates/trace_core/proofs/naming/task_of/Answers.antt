@@ -7,15 +7,15 @@ use Rattle.trace_core.proofs.naming.task_of.Goals as goal
 pub returns-in_default : goal.returns-in_default
 returns-in_default c = λ e row. no_such_class c.args.plan.now e c.args.row.now.name.now c.args.row.now.numbers.now row c.in_default.ensures
 
-pub parameter_count-at_most-requires : goal.parameter_count-at_most-requires
-parameter_count-at_most-requires c = named_below c.args.plan.now.classes c.args.row.now.name.now c.in-Some.class c.in-Some.ensures
+pub parameters_fit-requires : goal.parameters_fit-requires
+parameters_fit-requires c = named_below c.args.plan.now.classes c.args.row.now.name.now c.in-Some.class c.in-Some.ensures
 
 pub returns-then-not-push_numbers : goal.returns-then-not-push_numbers
 returns-then-not-push_numbers c = λ e row.
     let its = are_its_numbers c.args.plan.now e c.args.row.now.name.now c.args.row.now.numbers.now row in
     let none = ap length c.new-params.ensures in
     let more = c.push_numbers.ensures.more e.params its c.if-not-push_numbers.true in
-    too_many c.args.plan.now e c.args.row.now.name.now c.args.row.now.numbers.now row c.in-Some.class c.in-Some.ensures c.parameter_count-at_most.result c.parameter_count-at_most.ensures.count c.parameter_count-at_most.ensures.at_most (omega arith)
+    too_many c.args.plan.now e c.args.row.now.name.now c.args.row.now.numbers.now row c.in-Some.class c.in-Some.ensures c.parameters_fit.ensures (omega arith)
 
 pub returns-then-not-is_task : goal.returns-then-not-is_task
 returns-then-not-is_task c = λ e row t h.

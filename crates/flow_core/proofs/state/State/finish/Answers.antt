@@ -7,6 +7,7 @@ use Rattle.dep_iter.specs.Tasks.{IsTask, flows_of}
 use Rattle.flow_meaning.specs.Backward.{ended}
 use Rattle.flow_meaning.specs.Machine.{first_tile}
 use Rattle.flow_meaning.specs.Starting.{starting_tiles}
+use Rattle.flow_meaning.proofs.Starting.{length-starting_tiles}
 use Rattle.flow_core.specs.Arrivals.{edges_to}
 use Rattle.flow_core.specs.Fits.{Fits, trap_of}
 use Rattle.flow_core.specs.Inputs.{delivered_by, nothing_delivered}
@@ -14,7 +15,7 @@ use Rattle.flow_core.specs.Kept.{AreKept}
 use Rattle.flow_core.specs.RunState.{RunState, mark_of, with_tiles}
 use Rattle.flow_core.proofs.Fitting.{counts_end, end_fits, ended_run, running_end, running_task}
 use Rattle.flow_core.proofs.Kept.{kept_end, kept_tile, unread}
-use Rattle.flow_core.proofs.Starting.{length-starting_tiles, ran}
+use Rattle.flow_core.proofs.Starting.{ran}
 use Rattle.flow_core.proofs.Taking.{length-edges_from}
 use Rattle.flow_core.proofs.state.State.finish.Goals as goal
 
@@ -83,7 +84,7 @@ returns-clause-ok c =
     let marks : c.mark.new.claims.entries ≡ set_value (same_task t) claims (Some c.run_task-ran.result.end) = c.mark.ensures ∙ ap (λ e. set_value (same_task t) claims (Some e)) c.of-end.ensures in
     let left : c.keep_tiles.new.table.entries ≡ with_tiles t c.run_task-ran.result.end c.self.inside.outputs.entries = c.keep_tiles.ensures ∙ ap (with_tiles t c.run_task-ran.result.end) c.in_ok-reserve.ensures.entries in
     let marked = ended_run claims c.mark.new.claims.entries sent.sends c.take_tiles.new.sent.sends c.self.inside.outputs.entries c.keep_tiles.new.table.entries r t c.run_task-ran.result.end c.self.view_is marks c.take_tiles.ensures.sends left in
-    record { end = c.run_task-ran.result.end; as_meant = meant; marked = marked; trapped = c.trap-trap.ensures ∙ ap trap_of c.of-end.ensures }
+    record { end = c.run_task-ran.result.end; end_is = meant; marked = marked; trapped = c.trap-trap.ensures ∙ ap trap_of c.of-end.ensures }
 
 pub returns-clause-fits : goal.returns-clause-fits
 unfolding starting_tiles

@@ -1,0 +1,44 @@
+-- No task is listed twice, and in a consistent job no edge and no write-back of a task.
+use Rattle.std.proofs.Common.{◌≡◌, ℕ, suc, ◌≤◌, List, [], ◌∷◌, map, refl, ap, Some, slice_get, inl, inr, arith}
+use Rattle.std.specs.List.{flat_map}
+use Rattle.ptg_base.specs.Lists.{HasNoRepeats, IsIn}
+use Rattle.ptg_base.specs.Task.{Task}
+use Rattle.ptg_base.specs.declared.edge.WriteBack.{WriteBack}
+use Rattle.term_core.specs.declared.space.ClassSpace.{ClassSpace}
+use Rattle.term_core.specs.WellSpace.{IsWellSpace}
+use Rattle.range_space.specs.Tasks.{tasks}
+use Rattle.range_space.proofs.Distinct.{distinct_tasks}
+use Rattle.list_lemmas.proofs.Members.{from_append, from_map}
+use Rattle.list_lemmas.proofs.Distinct.{HasNoRepeats-append, HasNoRepeats-from_map, HasNoRepeats-map, HasNoRepeats-part}
+use Rattle.plan_core.specs.declared.plan.Plan.{Plan}
+use Rattle.dep_iter.specs.Consistent.{IsConsistent}
+use Rattle.dep_iter.specs.Edges.{in_edges}
+use Rattle.dep_iter.specs.Items.{out_edges, write_backs}
+use Rattle.dep_iter.specs.Tasks.{IsTask, all_tasks, task, tasks_from}
+use Rattle.dep_iter.proofs.Listing.{listed}
+
+class_from : (n : ℕ) (ss : List ClassSpace) (t : Task) → IsIn t (tasks_from n ss) → n ≤ t.class
+class_from n [] t h = absurd h
+class_from n (s ∷ ss) t h = elim (from_append t (map (task n) (tasks s)) (tasks_from (suc n) ss) h) [
+  | inl a ↦ let p = from_map (task n) (tasks s) t a in let e : t.class ≡ n = ap (λ (t : Task). t.class) p.2 in omega arith
+  | inr b ↦ let k = class_from (suc n) ss t b in omega arith
+]
+
+pub once-tasks_from : (n : ℕ) (ss : List ClassSpace) → ((k : ℕ) (s : ClassSpace) → slice_get ss k ≡ Some s → IsWellSpace s) → HasNoRepeats (tasks_from n ss)
+once-tasks_from n [] well = tt
+once-tasks_from n (s ∷ ss) well =
+    HasNoRepeats-append (map (task n) (tasks s)) (tasks_from (suc n) ss) (HasNoRepeats-map (task n) (tasks s) (distinct_tasks s (well 0 s refl)) (λ x y e. ap (λ (t : Task). t.params) e)) (once-tasks_from (suc n) ss (λ k z h. well (suc k) z h)) (λ t h k.
+    let p = from_map (task n) (tasks s) t h in
+    let e : t.class ≡ n = ap (λ (t : Task). t.class) p.2 in
+    let b = class_from (suc n) ss t k in
+    omega arith)
+
+module _ (P : Plan) (con : IsConsistent P) (t : Task) (job : IsTask P t) where
+  pub once-in_edges : HasNoRepeats (in_edges P t)
+  once-in_edges = HasNoRepeats-part (in_edges P) (all_tasks P) con.no_in_edge_twice t ((listed P t).0 job)
+
+  pub once-out_edges : HasNoRepeats (out_edges P t)
+  once-out_edges = HasNoRepeats-part (out_edges P) (all_tasks P) con.no_out_edge_twice t ((listed P t).0 job)
+
+  pub once-write_backs : HasNoRepeats (write_backs P t)
+  once-write_backs = HasNoRepeats-part (write_backs P) (all_tasks P) (HasNoRepeats-from_map (λ (w : WriteBack). w.place) (flat_map (write_backs P) (all_tasks P)) con.written_once) t ((listed P t).0 job)

@@ -1,0 +1,33 @@
+//! The program with a gate that counts the bodies that begin. With a preload a run that wants memory has begun no body.
+//! Where one has, this is printed, so that a run with status 9 and no text shows that none had.
+
+use crate::begun::Begun;
+use ptg_base::Text;
+use ptg_os::{OsFiles, OsSink};
+use ptg_top::{Status, ptg_main};
+use std::alloc::Global;
+use std::io;
+use std::process::ExitCode;
+use std::rt::Files;
+use std::sync::Wait;
+use std::thread::Threads;
+
+/// Carries out a command, over the system's files.
+pub fn carried_out<R: Threads + Wait + Files + Print + Sync>(
+    rt: &R,
+    alloc: Global,
+    words: &[Text],
+) -> ExitCode {
+    let mut files = OsFiles::new(rt, alloc);
+    let mut out = OsSink::new(io::writer(rt));
+    let gate = Begun::new();
+    let ended = ptg_main(rt, alloc, words, &mut files, &mut out, &gate);
+    let bodies = gate.bodies();
+    if ended.status == Status::OutOfMemory && bodies > 0 {
+        // A line that can't be written gives way to a status that no run without memory has.
+        if println!(rt; "no memory after the begin of {bodies} bodies").is_err() {
+            return ExitCode::FAILURE;
+        }
+    }
+    ExitCode::from(ended.status.code())
+}

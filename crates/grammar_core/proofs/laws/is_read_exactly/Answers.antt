@@ -1,5 +1,0 @@
-use Rattle.grammar_core.proofs.Exact.{exact}
-use Rattle.grammar_core.proofs.laws.is_read_exactly.Goals as goal
-
-pub returns : goal.returns
-returns g c = exact g.G.PredictiveGrammar.productions g.G.PredictiveGrammar.claims g.G.PredictiveGrammar.start g.G.PredictiveGrammar.predictive

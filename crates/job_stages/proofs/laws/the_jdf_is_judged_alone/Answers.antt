@@ -1,5 +1,0 @@
-use Rattle.job_stages.proofs.Once.{judged_alone}
-use Rattle.job_stages.proofs.laws.the_jdf_is_judged_alone.Goals as goal
-
-pub returns : goal.returns
-returns c = judged_alone

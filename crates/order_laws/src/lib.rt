@@ -1,0 +1,7 @@
+//! Laws of greatest legal orders that no program cites: no legal order has more tasks, and without traps they are those
+//! that run.
+#![tactic(auto)]
+
+mod laws;
+
+pub use laws::{a_greatest_order_has_the_tasks_that_run, no_legal_order_has_more};

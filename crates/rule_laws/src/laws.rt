@@ -1,0 +1,60 @@
+//! Laws of what a pass knows by the rule of the table, and of the words of a table.
+
+ghost use Rattle.std.specs.Prelude.{◌≡◌, ◌+◌, ◌<◌, ◌↔◌, ℕ, ℤ, List, [], ◌∷◌, Option, true, IsTrue, ◌≤◌, length, slice_index};
+ghost use Rattle.ptg_base.specs.Task.{Task};
+ghost use Rattle.ptg_base.specs.declared.edge.Edge.{Edge};
+ghost use Rattle.ptg_base.specs.declared.edge.Item.{Item};
+ghost use Rattle.ptg_base.specs.declared.edge.Item.TheVariants as item;
+ghost use Rattle.dep_iter.specs.Edges.{goal};
+ghost use Rattle.dep_shard.specs.Content.{Content};
+ghost use Rattle.flow_meaning.specs.Machine.{MaySend, arrived, IsQuiescent};
+ghost use Rattle.shard_meaning.specs.Moment.{run_count};
+ghost use Rattle.work_board.specs.Sends.{IsNext};
+ghost use Rattle.work_board.specs.declared.record.PassRecord.{PassRecord};
+ghost use Rattle.table_rule.specs.declared.job.Job.{Job};
+ghost use Rattle.shard_meaning.specs.Placing.{shard_of};
+ghost use Rattle.table_rule.specs.Plays.{WasSeen, fires};
+ghost use Rattle.table_rule.specs.Records.{joined};
+ghost use Rattle.table_rule.specs.Rule.{Reserve, Share, Rule, Table};
+ghost use mathlib.Core.Option.{some};
+ghost use lib.ListN.{get_elem?};
+ghost use Rattle.shard_meaning.specs.Calm.{IsCalm};
+ghost use Rattle.dep_iter.specs.Tasks.{all_tasks};
+ghost use Rattle.table_rule.specs.Words.{live_word, stamp_word};
+
+/// A law: a pass that has taken a turn knows that the shard had its part of the moment of all passes, and its spares;
+/// that a task that it runs is one that runs; that what is next to send by its own record may be sent; and that an edge
+/// fires exactly where it is the last one into its target that is sent.
+pub fn a_taken_turn_tells_what_its_shard_had()
+    ensures shard { (j : Job) (k : ℕ) (v : PassRecord) (y : Content) (w : WasSeen j k v y) → k < j.shards }
+    ensures share { (j : Job) (k : ℕ) (v : PassRecord) (y : Content) (w : WasSeen j k v y)
+        → Share j (joined w.table.views) k y }
+    ensures reserve { (j : Job) (k : ℕ) (v : PassRecord) (y : Content) (w : WasSeen j k v y) → j.preloaded ≡ true
+        → Reserve j (joined w.table.views) k y }
+    ensures runs { (j : Job) (k : ℕ) (v : PassRecord) (y : Content) (w : WasSeen j k v y) (t : Task)
+        → v.running ≡ t ∷ [] → 0 < run_count (joined w.table.views) t }
+    ensures next { (j : Job) (k : ℕ) (v : PassRecord) (y : Content) (w : WasSeen j k v y) (i : Item)
+        (tile : Option (List ℤ))
+        → IsNext j.matched j.given i tile v → MaySend j.matched j.given (joined w.table.views).state i }
+    ensures fires { (j : Job) (k : ℕ) (v : PassRecord) (y : Content) (w : WasSeen j k v y) (e : Edge)
+        (tile : Option (List ℤ))
+        → IsNext j.matched j.given (item.Edge e) tile v → shard_of j.matched j.shards e.to ≡ k
+        → IsTrue (fires j.matched y e)
+        ↔ (arrived j.matched (joined w.table.views).state e.to + 1 ≡ goal j.matched e.to) }
+{}
+
+/// A law: where a pass has seen quiet, then and from then on, no task of all passes is ready or runs, and no event is
+/// possible.
+pub fn quiet_is_seen_for_good()
+    ensures { (j : Job) (s : Table) (id : ℕ) (v : PassRecord) → Rule j s → get_elem? s.views id ≡ some v
+        → v.quiet ≡ true → IsCalm j.matched (joined s.views) × IsQuiescent j.matched j.given (joined s.views).state }
+{}
+
+/// A law: the live word is at most the number of tasks and the number of shards together, and the stamp word at most
+/// the number of tasks.
+pub fn the_words_stay_small()
+    ensures live { (j : Job) (s : Table) → Rule j s
+        → slice_index s.words (live_word j.shards) ≤ length (all_tasks j.matched) + j.shards }
+    ensures stamp { (j : Job) (s : Table) → Rule j s
+        → slice_index s.words (stamp_word j.shards) ≤ length (all_tasks j.matched) }
+{}

@@ -1,9 +1,0 @@
-use Rattle.trace_core.proofs.OneFault.{faultless}
-use Rattle.trace_core.proofs.Lists.{spelled_text}
-use Rattle.trace_core.proofs.Wholes.{whole_all, whole_length, whole_may}
-use Rattle.trace_core.specs.Text.{trace_text}
-use Rattle.trace_core.proofs.laws.the_text_of_a_whole_order_has_no_fault.Goals as goal
-
-pub returns : goal.returns
-returns c = λ P G ts f con w rows le fault.
-    faultless P G (trace_text P ts) ts le (spelled_text P ts rows (whole_length P G con ts w)) (whole_may P G con ts w) (whole_all P G con ts w) f fault
