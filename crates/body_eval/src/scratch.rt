@@ -1,6 +1,7 @@
 //! What a body has of its own while it runs: its slots, and the units that it has left.
 
 ghost use Rattle.std.specs.Prelude.{◌≡◌, ◌+◌, ◌-◌, ◌≤◌, ◌++◌, pos, length, replicate, slice_set, OnOk, IfErr};
+ghost use Rattle.ptg_base.specs.Limits.{most_locals, most_variables};
 ghost use Rattle.body_eval.specs.State.{Frame};
 
 use ptg_base::{MOST_LOCALS, MOST_VARIABLES};
@@ -20,14 +21,15 @@ pub struct Scratch {
 }
 
 impl Model for Scratch {
-    ghost use Rattle.std.specs.Prelude.{◌≤◌, take};
+    ghost use Rattle.std.specs.Prelude.{◌+◌, ◌≤◌, take};
+    ghost use Rattle.ptg_base.specs.Limits.{most_locals, most_variables};
     ghost use Rattle.body_eval.specs.State.{Frame};
 
     ghost Value = { Frame };
 
     ghost view = { λ s. record { slots = take s.used s.slots; units_left = s.units_left } };
 
-    ghost invariant = { λ s. s.used ≤ 272 };
+    ghost invariant = { λ s. s.used ≤ most_locals + most_variables };
 }
 
 impl Scratch {
@@ -43,7 +45,7 @@ impl Scratch {
     /// As a body starts: the first slots hold the locals of the task, and each other one, a variable's, holds 0.
     pub(crate) fn start(&mut self, locals: &[i64], slots: u16, units: u32)
         requires fit { length locals.now ≤ slots }
-        requires bound { slots ≤ 272 }
+        requires bound { slots ≤ most_locals + most_variables }
         ensures slots { self.new.slots ≡ locals.now ++ replicate (slots - length locals.now) (pos 0) }
         ensures units { self.new.units_left ≡ units }
     {

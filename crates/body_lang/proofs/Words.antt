@@ -94,7 +94,7 @@ any_if_value (Ok x) = tt
 any_if_value (Err e) = tt
 
 -- a first step that says nothing of words
-past : {A B : Type 0} (Q : B → Type 0) (r : Resolved A) (f : A → Resolved B) → ((x : A) → IfValue Q (f x)) → IfValue Q (and_then r f)
+pub past : {A B : Type 0} (Q : B → Type 0) (r : Resolved A) (f : A → Resolved B) → ((x : A) → IfValue Q (f x)) → IfValue Q (and_then r f)
 past Q r f k = after_if_value Anything Q r f (any_if_value r) (λ x _. k x)
 
 -- the numbers of the traps of one statement

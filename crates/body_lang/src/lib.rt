@@ -4,5 +4,5 @@
 mod laws;
 mod whole;
 
-pub use laws::{one_answer, traps_have_their_words};
+pub use laws::one_answer;
 pub use whole::read_body;

@@ -29,10 +29,9 @@ use Rattle.body_names.specs.Expressions.{value_of, slot_of, read_flow, written_f
 use Rattle.body_names.specs.Bindings.{Bindings, block_opened, block_closed, next_slot, with_variable, require_room, require_fresh, numbered}
 use Rattle.body_names.specs.Statements.{Resolver, declare, set, put, in_block, if_else, for_loop, trap, follow, resolved}
 use Rattle.body_laws.specs.Renaming.{named, renamed_word, with_words, renamed_term, renamed, reads, occurs, DeclaredSame, LoopedSame}
-use Rattle.expr_names.proofs.Closed.{after_ok}
 use Rattle.list_lemmas.proofs.Truth.{first_false, second_false, or-false, or-assoc}
 use Rattle.list_lemmas.proofs.Texts.{bytes_eq-sym_false}
-use Rattle.list_lemmas.proofs.Options.{same_Ok}
+use Rattle.list_lemmas.proofs.Options.{same_Ok, steps_of}
 
 -- ---- tests
 
@@ -275,8 +274,8 @@ module _ (scope : Environment) (old new : List ℕ) (pre : List Variable) (v : V
       → ((y : Stmt × Bindings) → first ≡ Ok y → (a : Along post y other_first) × (has old (post ++ a.more) ≡ f)) → Goes rest other_rest
       → (x : StatementList × Bindings) → follow first rest ≡ Ok x → Along post x (follow other_first (other_rest f))
   follow_goes post first other_first rest other_rest f one goes x e =
-      let a = after_ok first (λ s. and_then (rest s.1) (λ y. Ok (then s.0 y.0, y.1))) x e in
-      let b = after_ok (rest a.0.1) (λ y. Ok (then a.0.0 y.0, y.1)) x a.2 in
+      let a = steps_of first (λ s. and_then (rest s.1) (λ y. Ok (then s.0 y.0, y.1))) x e in
+      let b = steps_of (rest a.0.1) (λ y. Ok (then a.0.0 y.0, y.1)) x a.2 in
       let g = one a.0 a.1 in
       let seen_so : a.0.1 ≡ seeing a.0.1 (under_old (post ++ g.0.more)) = ap (seeing a.0.1) g.0.seen in
       let q = goes f (post ++ g.0.more) g.1 g.0.apart a.0.1 b.0 (ap rest (sym seen_so) ∙ b.1) in
@@ -310,8 +309,8 @@ module _ (scope : Environment) (old new : List ℕ) (pre : List Variable) (v : V
     set_goes : (k : Bindings) (w : Word) (e : Expression) → bytes_eq w.text new ≡ false → reads new e ≡ false → (y : Stmt × Bindings) → set scope w e (old_of post k) ≡ Ok y
         → One h y (set scope (changed h w) (e_new e) (new_of post k))
     set_goes k w e aw ae y is =
-        let a = after_ok (slot_of w (meaning_of scope (under_old post) w.text)) (λ n. and_then (term_of scope (under_old post) e) (λ x. Ok (stmt.Set n x, (old_of post k)))) y is in
-        let b = after_ok (term_of scope (under_old post) e) (λ x. Ok (stmt.Set a.0 x, (old_of post k))) y a.2 in
+        let a = steps_of (slot_of w (meaning_of scope (under_old post) w.text)) (λ n. and_then (term_of scope (under_old post) e) (λ x. Ok (stmt.Set n x, (old_of post k)))) y is in
+        let b = steps_of (term_of scope (under_old post) e) (λ x. Ok (stmt.Set a.0 x, (old_of post k))) y a.2 in
         adds_none k (stmt.Set a.0 b.0) (set scope (changed h w) (e_new e) (new_of post k))
         (ap (λ (r : Resolved ℕ). and_then r (λ n. and_then (term_of scope (under_new post) (e_new e)) (λ x. Ok (stmt.Set n x, (new_of post k))))) (slot_same post no_new h hidden w aw ∙ a.1)
         ∙ ap (λ (r : Resolved Term). and_then r (λ x. Ok (stmt.Set a.0 x, (new_of post k)))) (term_same post no_new h hidden e ae ∙ b.1)) y b.2
@@ -319,9 +318,9 @@ module _ (scope : Environment) (old new : List ℕ) (pre : List Variable) (v : V
     put_goes : (k : Bindings) (w : Word) (at e : Expression) → reads new at ≡ false → reads new e ≡ false → (y : Stmt × Bindings) → put scope w at e (old_of post k) ≡ Ok y
         → One h y (put scope w (e_new at) (e_new e) (new_of post k))
     put_goes k w at e ai ae y is =
-        let a = after_ok (written_flow scope w) (λ f. and_then (term_of scope (under_old post) at) (λ i. and_then (term_of scope (under_old post) e) (λ x. Ok (stmt.Put f i x, (old_of post k))))) y is in
-        let b = after_ok (term_of scope (under_old post) at) (λ i. and_then (term_of scope (under_old post) e) (λ x. Ok (stmt.Put a.0 i x, (old_of post k)))) y a.2 in
-        let d = after_ok (term_of scope (under_old post) e) (λ x. Ok (stmt.Put a.0 b.0 x, (old_of post k))) y b.2 in
+        let a = steps_of (written_flow scope w) (λ f. and_then (term_of scope (under_old post) at) (λ i. and_then (term_of scope (under_old post) e) (λ x. Ok (stmt.Put f i x, (old_of post k))))) y is in
+        let b = steps_of (term_of scope (under_old post) at) (λ i. and_then (term_of scope (under_old post) e) (λ x. Ok (stmt.Put a.0 i x, (old_of post k)))) y a.2 in
+        let d = steps_of (term_of scope (under_old post) e) (λ x. Ok (stmt.Put a.0 b.0 x, (old_of post k))) y b.2 in
         adds_none k (stmt.Put a.0 b.0 d.0) (put scope w (e_new at) (e_new e) (new_of post k))
         (ap (λ (r : Resolved ℕ). and_then r (λ f. and_then (term_of scope (under_new post) (e_new at)) (λ i. and_then (term_of scope (under_new post) (e_new e)) (λ x. Ok (stmt.Put f i x, (new_of post k)))))) a.1
         ∙ (ap (λ (r : Resolved Term). and_then r (λ i. and_then (term_of scope (under_new post) (e_new e)) (λ x. Ok (stmt.Put a.0 i x, (new_of post k))))) (term_same post no_new h hidden at ai ∙ b.1)
@@ -360,9 +359,9 @@ module _ (scope : Environment) (old new : List ℕ) (pre : List Variable) (v : V
         → One (h || bytes_eq w.text old) y (declare scope w (e_new e) (new_of post k))
     declare_goes k w e aw ae y is =
         let end : Bindings → Term → Resolved (Stmt × Bindings) = λ m x. Ok (stmt.Set (next_slot scope m) x, with_variable scope w.text false m) in
-        let a = after_ok (require_room w (old_of post k)) (λ _. and_then (require_fresh w (old_of post k)) (λ _. and_then (term_of scope (under_old post) e) (end (old_of post k)))) y is in
-        let b = after_ok (require_fresh w (old_of post k)) (λ _. and_then (term_of scope (under_old post) e) (end (old_of post k))) y a.2 in
-        let d = after_ok (term_of scope (under_old post) e) (end (old_of post k)) y b.2 in
+        let a = steps_of (require_room w (old_of post k)) (λ _. and_then (require_fresh w (old_of post k)) (λ _. and_then (term_of scope (under_old post) e) (end (old_of post k)))) y is in
+        let b = steps_of (require_fresh w (old_of post k)) (λ _. and_then (term_of scope (under_old post) e) (end (old_of post k))) y a.2 in
+        let d = steps_of (term_of scope (under_old post) e) (end (old_of post k)) y b.2 in
         let u = added k w false in
         let same : declare scope w (e_new e) (new_of post k) ≡ Ok (stmt.Set (next_slot scope k) d.0, seeing (with_variable scope w.text false k) (under_new (post ++ u ∷ []))) =
         ap (λ (r : Resolved (Unit {0})). and_then r (λ _. and_then (require_fresh w (new_of post k)) (λ _. and_then (term_of scope (under_new post) (e_new e)) (end (new_of post k))))) a.1
@@ -391,7 +390,7 @@ module _ (scope : Environment) (old new : List ℕ) (pre : List Variable) (v : V
         → (y : StatementList × Bindings) → in_block opening block (old_of post k) ≡ Ok y
         → (m : Bindings) × (y.1 ≡ old_of post m) × (in_block opening other_block (new_of post k) ≡ Ok (y.0, new_of post m))
     block_goes k opening block other_block goes y is =
-        let a = after_ok (block (opening (old_of post k))) (λ x. Ok (x.0, block_closed (old_of post k) x.1)) y is in
+        let a = steps_of (block (opening (old_of post k))) (λ x. Ok (x.0, block_closed (old_of post k) x.1)) y is in
         let g = goes a.0 a.1 in
         let m = record a.0.1 { outside = k.outside } in
         let y_is = same_Ok (a.0.0, block_closed (old_of post k) a.0.1) y a.2 in (
@@ -408,9 +407,9 @@ module _ (scope : Environment) (old new : List ℕ) (pre : List Variable) (v : V
     if_goes : (k : Bindings) (c : Expression) (first second : Resolver) (other_first other_second : Bool → Resolver) → reads new c ≡ false → Goes first other_first → Goes second other_second
         → (y : Stmt × Bindings) → if_else scope c first second (old_of post k) ≡ Ok y → One h y (if_else scope (e_new c) (other_first h) (other_second h) (new_of post k))
     if_goes k c first second other_first other_second ac one two y is =
-        let a = after_ok (term_of scope (under_old post) c) (λ x. and_then (in_block block_opened first (old_of post k)) (λ p. and_then (in_block block_opened second p.1) (λ q. Ok (stmt.If x p.0 q.0, q.1)))) y is in
-        let b = after_ok (in_block block_opened first (old_of post k)) (λ p. and_then (in_block block_opened second p.1) (λ q. Ok (stmt.If a.0 p.0 q.0, q.1))) y a.2 in
-        let d = after_ok (in_block block_opened second b.0.1) (λ q. Ok (stmt.If a.0 b.0.0 q.0, q.1)) y b.2 in
+        let a = steps_of (term_of scope (under_old post) c) (λ x. and_then (in_block block_opened first (old_of post k)) (λ p. and_then (in_block block_opened second p.1) (λ q. Ok (stmt.If x p.0 q.0, q.1)))) y is in
+        let b = steps_of (in_block block_opened first (old_of post k)) (λ p. and_then (in_block block_opened second p.1) (λ q. Ok (stmt.If a.0 p.0 q.0, q.1))) y a.2 in
+        let d = steps_of (in_block block_opened second b.0.1) (λ q. Ok (stmt.If a.0 b.0.0 q.0, q.1)) y b.2 in
         let f = block_goes k block_opened first (other_first h) (opened_goes k first other_first one) b.0 b.1 in
         let g = block_goes f.0 block_opened second (other_second h) (opened_goes f.0 second other_second two) d.0 (ap (in_block block_opened second) (sym f.1) ∙ d.1) in
         let same : if_else scope (e_new c) (other_first h) (other_second h) (new_of post k) ≡ Ok (stmt.If a.0 b.0.0 d.0.0, new_of post g.0) =
@@ -437,10 +436,10 @@ module _ (scope : Environment) (old new : List ℕ) (pre : List Variable) (v : V
     for_goes k w lo hi turn other_turn aw al ah goes y is =
         let opening : Bindings → Bindings = λ m. with_variable scope w.text true (block_opened m) in
         let o = other_turn (h || bytes_eq w.text old) in
-        let a = after_ok (require_room w (old_of post k)) (λ _. and_then (term_of scope (under_old post) lo) (λ p. and_then (term_of scope (under_old post) hi) (λ q. and_then (in_block opening turn (old_of post k)) (λ t. Ok (stmt.For (next_slot scope k) p q t.0, t.1))))) y is in
-        let b = after_ok (term_of scope (under_old post) lo) (λ p. and_then (term_of scope (under_old post) hi) (λ q. and_then (in_block opening turn (old_of post k)) (λ t. Ok (stmt.For (next_slot scope k) p q t.0, t.1)))) y a.2 in
-        let c = after_ok (term_of scope (under_old post) hi) (λ q. and_then (in_block opening turn (old_of post k)) (λ t. Ok (stmt.For (next_slot scope k) b.0 q t.0, t.1))) y b.2 in
-        let d = after_ok (in_block opening turn (old_of post k)) (λ t. Ok (stmt.For (next_slot scope k) b.0 c.0 t.0, t.1)) y c.2 in
+        let a = steps_of (require_room w (old_of post k)) (λ _. and_then (term_of scope (under_old post) lo) (λ p. and_then (term_of scope (under_old post) hi) (λ q. and_then (in_block opening turn (old_of post k)) (λ t. Ok (stmt.For (next_slot scope k) p q t.0, t.1))))) y is in
+        let b = steps_of (term_of scope (under_old post) lo) (λ p. and_then (term_of scope (under_old post) hi) (λ q. and_then (in_block opening turn (old_of post k)) (λ t. Ok (stmt.For (next_slot scope k) p q t.0, t.1)))) y a.2 in
+        let c = steps_of (term_of scope (under_old post) hi) (λ q. and_then (in_block opening turn (old_of post k)) (λ t. Ok (stmt.For (next_slot scope k) b.0 q t.0, t.1))) y b.2 in
+        let d = steps_of (in_block opening turn (old_of post k)) (λ t. Ok (stmt.For (next_slot scope k) b.0 c.0 t.0, t.1)) y c.2 in
         let g = block_goes k opening turn o (looped_goes k w turn other_turn aw goes) d.0 d.1 in
         let same : for_loop scope w (e_new lo) (e_new hi) o (new_of post k) ≡ Ok (stmt.For (next_slot scope k) b.0 c.0 d.0.0, new_of post g.0) =
         ap (λ (r : Resolved (Unit {0})). and_then r (λ _. and_then (term_of scope (under_new post) (e_new lo)) (λ p. and_then (term_of scope (under_new post) (e_new hi)) (λ q. and_then (in_block opening o (new_of post k)) (λ t. Ok (stmt.For (next_slot scope k) p q t.0, t.1)))))) a.1
@@ -565,9 +564,9 @@ declare_other : (scope : Environment) (k : Bindings) (new : List ℕ) (w : Word)
     → (t : Stmt) × (y ≡ (t, with_variable scope w.text false k)) × (declare scope (named new w) e k ≡ Ok (t, with_variable scope new false k))
 declare_other scope k new w e none y is =
     let end : List ℕ → Term → Resolved (Stmt × Bindings) = λ name x. Ok (stmt.Set (next_slot scope k) x, with_variable scope name false k) in
-    let a = after_ok (require_room w k) (λ _. and_then (require_fresh w k) (λ _. and_then (term_of scope k.seen e) (end w.text))) y is in
-    let b = after_ok (require_fresh w k) (λ _. and_then (term_of scope k.seen e) (end w.text)) y a.2 in
-    let d = after_ok (term_of scope k.seen e) (end w.text) y b.2 in
+    let a = steps_of (require_room w k) (λ _. and_then (require_fresh w k) (λ _. and_then (term_of scope k.seen e) (end w.text))) y is in
+    let b = steps_of (require_fresh w k) (λ _. and_then (term_of scope k.seen e) (end w.text)) y a.2 in
+    let d = steps_of (term_of scope k.seen e) (end w.text) y b.2 in
     let fresh : require_fresh (named new w) k ≡ Ok tt = ap (fresh_test w) (has_drop new k.outside k.seen none) in (
       stmt.Set (next_slot scope k) d.0,
       sym (same_Ok (stmt.Set (next_slot scope k) d.0, with_variable scope w.text false k) y d.2),
@@ -579,8 +578,8 @@ pub declared_same : DeclaredSame
 declared_same scope k new w e rest x none apart is =
     let more = second_false (bytes_eq w.text new) (reads new e || occurs new rest) apart in
     let ar = second_false (reads new e) (occurs new rest) more in
-    let a = after_ok (declare scope w e k) (λ s. and_then (resolved scope rest s.1) (λ y. Ok (then s.0 y.0, y.1))) x is in
-    let b = after_ok (resolved scope rest a.0.1) (λ y. Ok (then a.0.0 y.0, y.1)) x a.2 in
+    let a = steps_of (declare scope w e k) (λ s. and_then (resolved scope rest s.1) (λ y. Ok (then s.0 y.0, y.1))) x is in
+    let b = steps_of (resolved scope rest a.0.1) (λ y. Ok (then a.0.0 y.0, y.1)) x a.2 in
     let d = declare_other scope k new w e none a.0 a.1 in
     let k1 = with_variable scope w.text false k in
     let u = added_by scope w.text false k in
@@ -599,11 +598,11 @@ looped_same scope k new w lo hi turn x apart is =
     let opening : List ℕ → Bindings → Bindings = λ name m. with_variable scope name true (block_opened m) in
     let turned : Resolver = resolved scope turn in
     let other_turn : Resolver = resolved scope (renamed w.text new turn) in
-    let a = after_ok (require_room w k) (λ _. and_then (term_of scope k.seen lo) (λ p. and_then (term_of scope k.seen hi) (λ q. and_then (in_block (opening w.text) turned k) (λ t. Ok (stmt.For (next_slot scope k) p q t.0, t.1))))) x is in
-    let b = after_ok (term_of scope k.seen lo) (λ p. and_then (term_of scope k.seen hi) (λ q. and_then (in_block (opening w.text) turned k) (λ t. Ok (stmt.For (next_slot scope k) p q t.0, t.1)))) x a.2 in
-    let c = after_ok (term_of scope k.seen hi) (λ q. and_then (in_block (opening w.text) turned k) (λ t. Ok (stmt.For (next_slot scope k) b.0 q t.0, t.1))) x b.2 in
-    let d = after_ok (in_block (opening w.text) turned k) (λ t. Ok (stmt.For (next_slot scope k) b.0 c.0 t.0, t.1)) x c.2 in
-    let e = after_ok (turned (opening w.text k)) (λ y. Ok (y.0, block_closed k y.1)) d.0 d.1 in
+    let a = steps_of (require_room w k) (λ _. and_then (term_of scope k.seen lo) (λ p. and_then (term_of scope k.seen hi) (λ q. and_then (in_block (opening w.text) turned k) (λ t. Ok (stmt.For (next_slot scope k) p q t.0, t.1))))) x is in
+    let b = steps_of (term_of scope k.seen lo) (λ p. and_then (term_of scope k.seen hi) (λ q. and_then (in_block (opening w.text) turned k) (λ t. Ok (stmt.For (next_slot scope k) p q t.0, t.1)))) x a.2 in
+    let c = steps_of (term_of scope k.seen hi) (λ q. and_then (in_block (opening w.text) turned k) (λ t. Ok (stmt.For (next_slot scope k) b.0 q t.0, t.1))) x b.2 in
+    let d = steps_of (in_block (opening w.text) turned k) (λ t. Ok (stmt.For (next_slot scope k) b.0 c.0 t.0, t.1)) x c.2 in
+    let e = steps_of (turned (opening w.text k)) (λ y. Ok (y.0, block_closed k y.1)) d.0 d.1 in
     let u = added_by scope w.text true k in
     let q = goes scope w.text new k.seen u refl turn apart false [] refl refl (opening w.text k) e.0 e.1 in
     let front : (vs ws : List Variable) → take (length k.seen) (k.seen ++ vs) ≡ take (length k.seen) (k.seen ++ ws) = λ vs ws. take_at k.seen vs (length k.seen) refl ∙ sym (take_at k.seen ws (length k.seen) refl) in

@@ -1,5 +1,5 @@
--- What follows from the definitions of a body, of its first fault and of the names in it.
-use Rattle.std.specs.Prelude.{◌≡◌, ◌≢◌, ℕ, ◌+◌, List, length, None, ◌<◌, ◌++◌, ◌⊎◌, Ok}
+-- What follows from the definitions of a body, of its first fault, and of the names and trap words in it.
+use Rattle.std.specs.Prelude.{◌≡◌, ◌≢◌, ℕ, ◌+◌, List, [], length, map, slice_get, Some, None, ◌<◌, ◌++◌, ◌⊎◌, Ok}
 use Rattle.jdf_lex.specs.declared.fault.JdfCode.TheVariants.{TooManyVars}
 use Rattle.jdf_lex.specs.declared.fault.JdfFault.{JdfFault}
 use Rattle.grammar_core.specs.declared.token.Token.{Token}
@@ -12,6 +12,7 @@ use Rattle.body_names.specs.Environment.{Environment}
 use Rattle.body_names.specs.Statements.{body_of}
 use Rattle.body_names.specs.TokenScan.{fault_of, front_fault}
 use Rattle.body_lang.specs.Body.{IsBody, IsNameFault}
+use Rattle.body_lang.specs.TrapWords.{words_of, numbers_of, words_in_order}
 use Rattle.body_laws.specs.Declarations.{declarations}
 
 -- A text never declares too many variables where it has no fault, so no name is refused because of their number.
@@ -42,3 +43,14 @@ abbrev pub OnlyTheNextCounts : Type 0
 OnlyTheNextCounts =
     (scope : Environment) (front rest other : List Token) (n : ℕ) → n < length front
     → front_fault scope (front ++ rest) n ≡ front_fault scope (front ++ other) n
+
+-- Each trap of a body has the number of the word that its text has.
+abbrev pub OwnWords : Type 0
+OwnWords = (scope : Environment) (tokens : List Token) (x : Body × List (List ℕ)) (h : IsBody scope tokens x)
+    → map (λ (n : ℕ). slice_get x.1 n) (numbers_of x.0.statements) ≡ map (λ (w : List ℕ). Some w) (words_of h.tree)
+
+-- The trap words of a body are those of its text, each once, in the order of their first use.
+abbrev pub WordsOnce : Type 0
+WordsOnce =
+    (scope : Environment) (tokens : List Token) (x : Body × List (List ℕ)) (h : IsBody scope tokens x)
+    → x.1 ≡ words_in_order [] (words_of h.tree)

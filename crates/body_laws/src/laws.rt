@@ -2,7 +2,7 @@
 
 ghost use Rattle.std.specs.Prelude.{ℕ, ℤ, List, Option};
 ghost use Rattle.term_core.specs.declared.body.Body.{Body};
-ghost use Rattle.body_laws.specs.Laws.{NameNeverTooMany, SlotForEach, TokensAgreeWithTree, FrontsAgreeWithTree, OnlyTheNextCounts};
+ghost use Rattle.body_laws.specs.Laws.{NameNeverTooMany, SlotForEach, TokensAgreeWithTree, FrontsAgreeWithTree, OnlyTheNextCounts, OwnWords, WordsOnce};
 ghost use Rattle.body_laws.specs.MoreUnits.{DoesTheSame};
 ghost use Rattle.body_laws.specs.Renaming.{DeclaredSame, LoopedSame};
 
@@ -34,4 +34,11 @@ pub fn names_agree()
 pub fn more_units_change_nothing()
     ensures { (units more : ℕ) (body : Body) (locals : List ℤ) (tiles : List (Option (List ℤ)))
         → DoesTheSame units more body locals tiles }
+{}
+
+/// A law: each trap of a body has the number of its own word, and the words are those of the text, each once, in the
+/// order of their first use.
+pub fn traps_have_their_words()
+    ensures own { OwnWords }
+    ensures once { WordsOnce }
 {}

@@ -23,9 +23,8 @@ use Rattle.body_names.specs.Expressions.{slot_of, written_flow, term_of}
 use Rattle.body_names.specs.Bindings.{Bindings, no_bindings, block_opened, block_closed, next_slot, with_variable, require_room, require_fresh, numbered, word_number}
 use Rattle.body_names.specs.Statements.{Resolver, declare, set, put, in_block, if_else, for_loop, trap, follow, resolved}
 use Rattle.body_names.proofs.Slots.{AreSlots, slots_append, slots_take, slots_raise}
-use Rattle.expr_names.proofs.Closed.{after_ok}
 use Rattle.body_names.proofs.Well.{set_there, written_below, term_closed}
-use Rattle.list_lemmas.proofs.Options.{same_Ok}
+use Rattle.list_lemmas.proofs.Options.{same_Ok, steps_of}
 
 slot_test : (locals end n : ℕ) → locals ≤ n → n < end → is_variable locals end n ≡ true
 slot_test locals end n h k = and_from (nat_le locals n) (nat_lt n end) (grind (arith, nat_tests)) (lt-ltb n end k)
@@ -89,9 +88,9 @@ module _ (scope : Environment) where
 
   declare_well : (w : Word) (e : Expression) (k : Bindings) → IsSound k → IsStatement k (declare scope w e k)
   declare_well w e k sound x h =
-      let a = after_ok (require_room w k) (λ _. and_then (require_fresh w k) (λ _. and_then (term_of scope k.seen e) (λ t. Ok (stmt.Set (next_slot scope k) t, with_variable scope w.text false k)))) x h in
-      let b = after_ok (require_fresh w k) (λ _. and_then (term_of scope k.seen e) (λ t. Ok (stmt.Set (next_slot scope k) t, with_variable scope w.text false k))) x a.2 in
-      let d = after_ok (term_of scope k.seen e) (λ t. Ok (stmt.Set (next_slot scope k) t, with_variable scope w.text false k)) x b.2 in
+      let a = steps_of (require_room w k) (λ _. and_then (require_fresh w k) (λ _. and_then (term_of scope k.seen e) (λ t. Ok (stmt.Set (next_slot scope k) t, with_variable scope w.text false k)))) x h in
+      let b = steps_of (require_fresh w k) (λ _. and_then (term_of scope k.seen e) (λ t. Ok (stmt.Set (next_slot scope k) t, with_variable scope w.text false k))) x a.2 in
+      let d = steps_of (term_of scope k.seen e) (λ t. Ok (stmt.Set (next_slot scope k) t, with_variable scope w.text false k)) x b.2 in
       subst (λ (y : Stmt × Bindings). Keeps k y.1 (λ end. is_well end y.0)) (same_Ok (stmt.Set (next_slot scope k) d.0, with_variable scope w.text false k) x d.2)
       (record {
         rises = omega arith;
@@ -103,8 +102,8 @@ module _ (scope : Environment) where
 
   set_well : (w : Word) (e : Expression) (k : Bindings) → IsSound k → IsStatement k (set scope w e k)
   set_well w e k sound x h =
-      let a = after_ok (slot_of w (meaning_of scope k.seen w.text)) (λ n. and_then (term_of scope k.seen e) (λ t. Ok (stmt.Set n t, k))) x h in
-      let b = after_ok (term_of scope k.seen e) (λ t. Ok (stmt.Set a.0 t, k)) x a.2 in
+      let a = steps_of (slot_of w (meaning_of scope k.seen w.text)) (λ n. and_then (term_of scope k.seen e) (λ t. Ok (stmt.Set n t, k))) x h in
+      let b = steps_of (term_of scope k.seen e) (λ t. Ok (stmt.Set a.0 t, k)) x a.2 in
       let there = set_there scope (length scope.locals + k.declared) (omega arith) k.seen sound.slots w a.0 a.1 in
       subst (λ (y : Stmt × Bindings). Keeps k y.1 (λ end. is_well end y.0)) (same_Ok (stmt.Set a.0 b.0, k) x b.2)
       (record {
@@ -117,9 +116,9 @@ module _ (scope : Environment) where
 
   put_well : (w : Word) (at e : Expression) (k : Bindings) → IsSound k → IsStatement k (put scope w at e k)
   put_well w at e k sound x h =
-      let a = after_ok (written_flow scope w) (λ flow. and_then (term_of scope k.seen at) (λ i. and_then (term_of scope k.seen e) (λ t. Ok (stmt.Put flow i t, k)))) x h in
-      let b = after_ok (term_of scope k.seen at) (λ i. and_then (term_of scope k.seen e) (λ t. Ok (stmt.Put a.0 i t, k))) x a.2 in
-      let d = after_ok (term_of scope k.seen e) (λ t. Ok (stmt.Put a.0 b.0 t, k)) x b.2 in
+      let a = steps_of (written_flow scope w) (λ flow. and_then (term_of scope k.seen at) (λ i. and_then (term_of scope k.seen e) (λ t. Ok (stmt.Put flow i t, k)))) x h in
+      let b = steps_of (term_of scope k.seen at) (λ i. and_then (term_of scope k.seen e) (λ t. Ok (stmt.Put a.0 i t, k))) x a.2 in
+      let d = steps_of (term_of scope k.seen e) (λ t. Ok (stmt.Put a.0 b.0 t, k)) x b.2 in
       let there = written_below scope (length scope.locals + k.declared) (omega arith) k.seen sound.slots w a.0 a.1 in
       subst (λ (y : Stmt × Bindings). Keeps k y.1 (λ end. is_well end y.0)) (same_Ok (stmt.Put a.0 b.0 d.0, k) x d.2)
       (record {
@@ -136,7 +135,7 @@ module _ (scope : Environment) where
   inside_well : (opening : Bindings → Bindings) (block : Resolver) → IsBlock block → (k : Bindings) → IsSound (opening k) → k.declared ≤ (opening k).declared → (x : StatementList × Bindings) → in_block opening block k ≡ Ok x
       → ((opening k).declared ≤ x.1.declared) × Keeps k x.1 (λ end. are_well_made (length scope.locals) end (length scope.flows) x.0)
   inside_well opening block good k sound rises x h =
-      let a = after_ok (block (opening k)) (λ y. Ok (y.0, block_closed k y.1)) x h in
+      let a = steps_of (block (opening k)) (λ y. Ok (y.0, block_closed k y.1)) x h in
       let g = good (opening k) sound a.0 a.1 in
       let up = g.rises in
       subst (λ (y : StatementList × Bindings). ((opening k).declared ≤ y.1.declared) × Keeps k y.1 (λ end. are_well_made (length scope.locals) end (length scope.flows) y.0)) (same_Ok (a.0.0, block_closed k a.0.1) x a.2) (
@@ -150,9 +149,9 @@ module _ (scope : Environment) where
 
   choice_well : (c : Expression) (first second : Resolver) → IsBlock first → IsBlock second → (k : Bindings) → IsSound k → IsStatement k (if_else scope c first second k)
   choice_well c first second one two k sound x h =
-      let a = after_ok (term_of scope k.seen c) (λ t. and_then (in_block block_opened first k) (λ u. and_then (in_block block_opened second u.1) (λ v. Ok (stmt.If t u.0 v.0, v.1)))) x h in
-      let b = after_ok (in_block block_opened first k) (λ u. and_then (in_block block_opened second u.1) (λ v. Ok (stmt.If a.0 u.0 v.0, v.1))) x a.2 in
-      let d = after_ok (in_block block_opened second b.0.1) (λ v. Ok (stmt.If a.0 b.0.0 v.0, v.1)) x b.2 in
+      let a = steps_of (term_of scope k.seen c) (λ t. and_then (in_block block_opened first k) (λ u. and_then (in_block block_opened second u.1) (λ v. Ok (stmt.If t u.0 v.0, v.1)))) x h in
+      let b = steps_of (in_block block_opened first k) (λ u. and_then (in_block block_opened second u.1) (λ v. Ok (stmt.If a.0 u.0 v.0, v.1))) x a.2 in
+      let d = steps_of (in_block block_opened second b.0.1) (λ v. Ok (stmt.If a.0 b.0.0 v.0, v.1)) x b.2 in
       let g = (inside_well block_opened first one k (opened_sound k sound) (omega arith) b.0 b.1).1 in
       let i = (inside_well block_opened second two b.0.1 (opened_sound b.0.1 g.sound) (omega arith) d.0 d.1).1 in
       let up = g.rises in
@@ -169,10 +168,10 @@ module _ (scope : Environment) where
   counted_well : (w : Word) (lo hi : Expression) (turn : Resolver) → IsBlock turn → (k : Bindings) → IsSound k → IsStatement k (for_loop scope w lo hi turn k)
   counted_well w lo hi turn good k sound x h =
       let opening : Bindings → Bindings = λ m. with_variable scope w.text true (block_opened m) in
-      let a = after_ok (require_room w k) (λ _. and_then (term_of scope k.seen lo) (λ t. and_then (term_of scope k.seen hi) (λ u. and_then (in_block opening turn k) (λ v. Ok (stmt.For (next_slot scope k) t u v.0, v.1))))) x h in
-      let b = after_ok (term_of scope k.seen lo) (λ t. and_then (term_of scope k.seen hi) (λ u. and_then (in_block opening turn k) (λ v. Ok (stmt.For (next_slot scope k) t u v.0, v.1)))) x a.2 in
-      let d = after_ok (term_of scope k.seen hi) (λ u. and_then (in_block opening turn k) (λ v. Ok (stmt.For (next_slot scope k) b.0 u v.0, v.1))) x b.2 in
-      let f = after_ok (in_block opening turn k) (λ v. Ok (stmt.For (next_slot scope k) b.0 d.0 v.0, v.1)) x d.2 in
+      let a = steps_of (require_room w k) (λ _. and_then (term_of scope k.seen lo) (λ t. and_then (term_of scope k.seen hi) (λ u. and_then (in_block opening turn k) (λ v. Ok (stmt.For (next_slot scope k) t u v.0, v.1))))) x h in
+      let b = steps_of (term_of scope k.seen lo) (λ t. and_then (term_of scope k.seen hi) (λ u. and_then (in_block opening turn k) (λ v. Ok (stmt.For (next_slot scope k) t u v.0, v.1)))) x a.2 in
+      let d = steps_of (term_of scope k.seen hi) (λ u. and_then (in_block opening turn k) (λ v. Ok (stmt.For (next_slot scope k) b.0 u v.0, v.1))) x b.2 in
+      let f = steps_of (in_block opening turn k) (λ v. Ok (stmt.For (next_slot scope k) b.0 d.0 v.0, v.1)) x d.2 in
       let room = has_room w k a.0 a.1 in
       let g = inside_well opening turn good k (declared_sound (block_opened k) w.text true (opened_sound k sound) room) (omega arith) f.0 f.1 in
       let up : k.declared + 1 ≤ f.0.1.declared = g.0 in
@@ -197,8 +196,8 @@ module _ (scope : Environment) where
   follow_well : (k : Bindings) (first : Resolved (Stmt × Bindings)) (rest : Resolver) → IsStatement k first → IsBlock rest → (x : StatementList × Bindings) → follow first rest ≡ Ok x
       → Keeps k x.1 (λ end. are_well_made (length scope.locals) end (length scope.flows) x.0)
   follow_well k first rest one more x h =
-      let a = after_ok first (λ s. and_then (rest s.1) (λ y. Ok (then s.0 y.0, y.1))) x h in
-      let b = after_ok (rest a.0.1) (λ y. Ok (then a.0.0 y.0, y.1)) x a.2 in
+      let a = steps_of first (λ s. and_then (rest s.1) (λ y. Ok (then s.0 y.0, y.1))) x h in
+      let b = steps_of (rest a.0.1) (λ y. Ok (then a.0.0 y.0, y.1)) x a.2 in
       let g = one a.0 a.1 in
       let i = more a.0.1 g.sound b.0 b.1 in
       let up = g.rises in

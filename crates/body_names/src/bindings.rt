@@ -10,8 +10,7 @@ ghost use Rattle.body_names.specs.Bindings.{bindings_of, no_bindings, next_slot,
 
 use crate::scope::{Context, Scope};
 use crate::variable::{BindingTable, Variable};
-use expr_names::fault_at;
-use jdf_lex::{JdfCode, JdfRefusal};
+use jdf_lex::{JdfCode, JdfRefusal, fault_at};
 use jdf_tree::Word;
 use name_table::NameSet;
 use ptg_base::{MOST_VARIABLES, OutOfMemory, Text};

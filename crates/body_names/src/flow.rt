@@ -6,8 +6,7 @@ ghost use Rattle.body_names.specs.Expressions.{read_flow, written_flow};
 
 use crate::lookup::flow_named;
 use crate::scope::Scope;
-use expr_names::fault_at;
-use jdf_lex::{JdfCode, JdfRefusal};
+use jdf_lex::{JdfCode, JdfRefusal, fault_at};
 use jdf_tree::Word;
 use term_core::FlowKind;
 

@@ -1,3 +1,4 @@
+pub mod FarTasks
 pub mod Walks
 pub mod Linking
 pub mod Places

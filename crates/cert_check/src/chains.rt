@@ -5,7 +5,8 @@ ghost use Rattle.dep_iter.specs.Tasks.{IsTask};
 ghost use Rattle.chain_cert.specs.Chains.{IsChain, IsSourceOf};
 ghost use Rattle.cert_check.specs.Checking.{IsLinked};
 
-use dep_iter::{has_source_under, is_task, task_locals};
+use crate::sources::has_source_under;
+use dep_iter::{is_task, task_locals};
 use plan_core::Plan;
 use ptg_base::TaskId;
 

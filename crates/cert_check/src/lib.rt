@@ -6,6 +6,7 @@ mod cycles;
 mod heaviest;
 mod laws;
 mod levels;
+mod sources;
 
 pub use cycles::check_cycle;
 pub use heaviest::check_chain;

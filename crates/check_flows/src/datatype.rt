@@ -7,8 +7,7 @@ ghost use Rattle.check_names.specs.Returns.{ReturnsChecked};
 ghost use Rattle.check_flows.specs.Datatypes.{default_name, type_is, type_number, allowed_type, type_of_written, written_faults, first_written, type_of_flow, flow_type};
 
 use coll_data::Given;
-use expr_names::fault_at;
-use jdf_lex::{JdfCode, JdfRefusal};
+use jdf_lex::{JdfCode, JdfRefusal, fault_at};
 use jdf_tree::{DepTree, FlowTree, Word};
 use ptg_base::Text;
 use term_core::FlowKind;

@@ -52,7 +52,7 @@ fn second(
     }
 }
 
-// The place of the datatype of a dependence.
+// The spot of the datatype of a dependence.
 fn type_spot(yes: &TargetTree, written: &Option<Word>) -> Spot
     ensures { result ≡ type_spot yes.now written.now }
 {

@@ -9,8 +9,7 @@ ghost use Rattle.check_flows.specs.Places.{dimensions_of, collection_faults, ele
 
 use check_names::{Context, and_rules, coll_named, fault_if, indices, int_named, join};
 use coll_data::Given;
-use expr_names::fault_at;
-use jdf_lex::{JdfCode, JdfRefusal};
+use jdf_lex::{JdfCode, JdfRefusal, fault_at};
 use jdf_tree::{ArgTree, Word};
 use ptg_base::{Seq, Text};
 use term_core::Expr;

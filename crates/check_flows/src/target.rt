@@ -13,13 +13,12 @@ ghost use Rattle.check_flows.specs.Targets.{first_spot, task_faults, class_at, t
 
 use crate::place::element;
 use check_names::{Context, and_rules, arguments, class_named, fault_if, join};
-use expr_names::fault_at;
-use jdf_lex::{JdfCode, JdfRefusal, Spot};
+use jdf_lex::{JdfCode, JdfRefusal, Spot, fault_at};
 use jdf_tree::{ArgTree, ClassTree, TargetTree, Word};
 use plan_core::Target;
 use ptg_base::Text;
 
-/// The place of a target: its first token.
+/// The spot of a target: its first token.
 pub(crate) fn first_spot(target: &TargetTree) -> Spot
     ensures { result ≡ first_spot target.now }
 {

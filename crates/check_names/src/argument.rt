@@ -9,8 +9,7 @@ ghost use Rattle.check_names.specs.Arguments.{argument_faults, argument_of, rang
 use crate::context::Context;
 use crate::expression::{option_term, term_of};
 use crate::part::{and_rules, join, refused, with_part};
-use expr_names::fault_at;
-use jdf_lex::{JdfCode, JdfRefusal};
+use jdf_lex::{JdfCode, JdfRefusal, fault_at};
 use jdf_tree::{ArgTree, ExprTree};
 use plan_core::Arg;
 use ptg_base::Seq;

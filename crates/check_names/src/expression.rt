@@ -6,8 +6,8 @@ ghost use Rattle.check_names.specs.Expressions.{symbols_of, expression_faults, t
 
 use crate::context::{Context, meaning_of};
 use crate::fault::earlier;
-use expr_names::{Meaning, Symbols, fault_at};
-use jdf_lex::{JdfCode, JdfFault, JdfRefusal};
+use expr_names::{Meaning, Symbols};
+use jdf_lex::{JdfCode, JdfFault, JdfRefusal, fault_at};
 use jdf_tree::{ExprTree, Word};
 use ptg_base::Text;
 use term_core::Expr;

@@ -4,10 +4,9 @@ ghost use Rattle.std.specs.Prelude.{◌≡◌, Some};
 ghost use Rattle.check_names.specs.Faults.{is_before, earlier, fault_if};
 ghost use Rattle.check_names.specs.Returns.{ReturnsChecked};
 
-use expr_names::fault_at;
-use jdf_lex::{JdfCode, JdfFault, JdfRefusal, Spot};
+use jdf_lex::{JdfCode, JdfFault, JdfRefusal, Spot, fault_at};
 
-/// Does a fault come before another, by its place and then by its code?
+/// Does a fault come before another, by its spot and then by its code?
 fn is_before(f: &JdfFault, g: &JdfFault) -> bool
     ensures { result ≡ is_before f.now g.now }
 {

@@ -7,7 +7,7 @@ ghost use Rattle.term_core.specs.declared.space.ClassSpace.{ClassSpace};
 ghost use Rattle.jdf_tree.specs.declared.expression.Word.{Word};
 ghost use Rattle.jdf_tree.specs.declared.tree.DefTree.{DefTree};
 ghost use Rattle.check_names.specs.Names.{Job};
-ghost use Rattle.check_names.specs.Laws.{NamesAreDistinct, ArgumentsAreClosed, IndicesAreClosed, OptionIsClosed, ArgumentsAreNoRanges};
+ghost use Rattle.check_names.specs.Laws.{NamesAreDistinct};
 ghost use Rattle.check_names.specs.Definitions.{space_faults, space_of};
 
 /// A law: where at most 16 definitions and the parameters of a class break no rule, the space that they are is well
@@ -20,13 +20,4 @@ pub fn a_resolved_space_is_well_made()
 /// A law: words of which none is given twice are distinct names.
 pub fn names_given_once_are_distinct()
     ensures { NamesAreDistinct }
-{}
-
-/// A law: arguments, indices and expressions that are resolved name only definitions that are seen; and where no
-/// argument is a range none is resolved to one.
-pub fn what_is_resolved_is_closed()
-    ensures arguments { ArgumentsAreClosed }
-    ensures indices { IndicesAreClosed }
-    ensures option { OptionIsClosed }
-    ensures ranges { ArgumentsAreNoRanges }
 {}

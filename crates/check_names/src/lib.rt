@@ -16,8 +16,6 @@ pub use context::{Context, Globals, class_named, coll_named, int_named};
 pub use definition::space;
 pub use expression::{option_term, term_of};
 pub use fault::fault_if;
-pub use laws::{
-    a_resolved_space_is_well_made, names_given_once_are_distinct, what_is_resolved_is_closed,
-};
+pub use laws::{a_resolved_space_is_well_made, names_given_once_are_distinct};
 pub use part::{and_rules, join, refused, with_part};
 pub use repeat::{HasName, repeats};

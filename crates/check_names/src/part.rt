@@ -7,8 +7,7 @@ ghost use Rattle.check_names.specs.Returns.{ReturnsChecked, both};
 ghost use Rattle.check_names.specs.Faults.{earlier, fault};
 
 use crate::fault::earlier;
-use expr_names::fault_at;
-use jdf_lex::{JdfCode, JdfRefusal, Spot};
+use jdf_lex::{JdfCode, JdfRefusal, Spot, fault_at};
 use ptg_base::Seq;
 
 // The earlier fault of two; or that there was no memory, if either says so.

@@ -1,10 +1,22 @@
-//! Laws of the event machine: of claims and of what a table holds, of the states that are reached, and of their order.
+//! Laws of the event machine: of claims and of what a table holds, of the states that are reached, and of their order;
+//! and of the sizes of the tiles that tasks leave.
 
-ghost use Rattle.std.specs.Prelude.{◌≡◌, ◌≢◌, None, Some, List};
+ghost use Rattle.std.specs.Prelude.{◌≡◌, ◌≢◌, ℕ, ℤ, IsTrue, List, None, Ok, Option, Some, length, option_map, slice_get, slice_index};
+ghost use Rattle.ptg_base.specs.Lists.{IsIn};
 ghost use Rattle.ptg_base.specs.Task.{Task};
+ghost use Rattle.ptg_base.specs.declared.edge.Item.{Item};
+ghost use Rattle.body_eval.specs.Sizes.{size_of};
+ghost use Rattle.plan_core.specs.declared.flow.FlowPlan.{FlowPlan};
 ghost use Rattle.plan_core.specs.declared.plan.Plan.{Plan};
+ghost use Rattle.plan_core.specs.Kinds.{is_data};
 ghost use Rattle.coll_data.specs.Data.{Data};
+ghost use Rattle.coll_data.specs.WellMade.{IsWellMade};
+ghost use Rattle.plan_data.specs.Fit.{DataFit};
 ghost use Rattle.dep_iter.specs.Consistent.{IsConsistent};
+ghost use Rattle.dep_iter.specs.Items.{item_flow, items};
+ghost use Rattle.dep_iter.specs.Tasks.{IsTask, flows_of};
+ghost use Rattle.flow_meaning.specs.Backward.{ended};
+ghost use Rattle.flow_meaning.specs.Ending.{flow_size, has_outputs, output_tile};
 ghost use Rattle.flow_meaning.specs.Machine.{Claim, MachineState, MayClaim, state_after, Event, Happen, IsLater, opening_state};
 ghost use Rattle.flow_meaning.specs.Sound.{IsReached, IsSoundState};
 ghost use Rattle.flow_meaning.specs.Table.{entry_of, table_entry, waiting_rows, written};
@@ -39,4 +51,19 @@ pub fn nothing_is_undone()
 pub fn claims_are_a_legal_order()
     ensures { (P : Plan) (G : Data) (es : List Event) (S : MachineState) → IsConsistent P
         → Happen P G es opening_state S → IsLegalOrder P S.claims }
+{}
+
+/// A law: the tiles that a task leaves are as many as it has flows, and each has as many numbers as its flow's type has
+/// elements. A CTL flow has none, and neither has a flow whose source is `NULL`; each item of a data flow has one.
+pub fn tiles_have_the_sizes_of_their_flows()
+    ensures places { (P : Plan) (G : Data) (t : Task) (tiles : List (Option (List ℤ))) → IsConsistent P
+        → DataFit P.colls P.elems G → IsWellMade G → IsTask P t → ended P G t ≡ Some (Ok tiles)
+        → length tiles ≡ length (flows_of P t) }
+    ensures sizes { (P : Plan) (G : Data) (t : Task) (tiles : List (Option (List ℤ))) (n : ℕ) (f : FlowPlan)
+        → IsConsistent P → DataFit P.colls P.elems G → IsWellMade G → IsTask P t → ended P G t ≡ Some (Ok tiles)
+        → slice_get (flows_of P t) n ≡ Some f → size_of tiles n ≡ flow_size P t n f }
+    ensures sent { (P : Plan) (G : Data) (t : Task) (i : Item) (f : FlowPlan) → IsConsistent P
+        → DataFit P.colls P.elems G → IsWellMade G → IsTask P t → IsTrue (has_outputs (ended P G t))
+        → IsIn i (items P t) → slice_get (flows_of P t) (item_flow i) ≡ Some f → IsTrue (is_data (Some f.kind))
+        → option_map length (output_tile (ended P G t) (item_flow i)) ≡ Some (slice_index P.elems f.datatype) }
 {}

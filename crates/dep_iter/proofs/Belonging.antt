@@ -128,29 +128,29 @@ pub to_edges_out : (t : Task) (ls : List Link) (e : Edge) → e.from ≡ t → I
 to_edges_out t ls e q h = subst (λ u. IsIn e (map (edge_out u) ls)) q (IsIn-map (edge_out e.from) ls (link_out e) h)
 
 -- the links of a task whose flow has the number of the link
-pub from_task : (P : Plan) (t : Task) (inward : Bool) (l : Link) → IsIn l (task_links P t inward) → IsSomeAnd (slice_get (flows_of P t) l.near) (λ f. IsIn l (flat_map (links_to (locals_of P t) l.near) (flow_targets inward (locals_of P t) f)))
-from_task P t inward l h =
+pub from_task : (P : Plan) (t : Task) (way : Direction) (l : Link) → IsIn l (task_links P t way) → IsSomeAnd (slice_get (flows_of P t) l.near) (λ f. IsIn l (flat_map (links_to (locals_of P t) l.near) (flow_targets way (locals_of P t) f)))
+from_task P t way l h =
     let env = locals_of P t in
-    let p = from_flows env (flow_targets inward env) 0 (flows_of P t) l h in
+    let p = from_flows env (flow_targets way env) 0 (flows_of P t) l h in
     let e : p.0 ≡ l.near = let k = p.1 in omega arith in
-    subst (λ i. IsSomeAnd (slice_get (flows_of P t) i) (λ f. IsIn l (flat_map (links_to env l.near) (flow_targets inward env f)))) e p.2
+    subst (λ i. IsSomeAnd (slice_get (flows_of P t) i) (λ f. IsIn l (flat_map (links_to env l.near) (flow_targets way env f)))) e p.2
 
-pub to_task : (P : Plan) (t : Task) (inward : Bool) (l : Link) → IsSomeAnd (slice_get (flows_of P t) l.near) (λ f. IsIn l (flat_map (links_to (locals_of P t) l.near) (flow_targets inward (locals_of P t) f))) → IsIn l (task_links P t inward)
-to_task P t inward l h =
+pub to_task : (P : Plan) (t : Task) (way : Direction) (l : Link) → IsSomeAnd (slice_get (flows_of P t) l.near) (λ f. IsIn l (flat_map (links_to (locals_of P t) l.near) (flow_targets way (locals_of P t) f))) → IsIn l (task_links P t way)
+to_task P t way l h =
     let env = locals_of P t in
-    to_flows env (flow_targets inward env) 0 (flows_of P t) l l.near (subst (λ m. IsSomeAnd (slice_get (flows_of P t) l.near) (λ f. IsIn l (flat_map (links_to env m) (flow_targets inward env f)))) (omega arith) h)
+    to_flows env (flow_targets way env) 0 (flows_of P t) l l.near (subst (λ m. IsSomeAnd (slice_get (flows_of P t) l.near) (λ f. IsIn l (flat_map (links_to env m) (flow_targets way env f)))) (omega arith) h)
 
 -- an edge into a task is a link of the flow that it goes into
-pub in_edge_is : (P : Plan) (t : Task) (e : Edge) → IsIn e (in_edges P t) ↔ ((e.to ≡ t) × IsSomeAnd (slice_get (flows_of P t) e.in_flow) (λ f. IsIn (link_in e) (flat_map (links_to (locals_of P t) e.in_flow) (flow_targets true (locals_of P t) f))))
+pub in_edge_is : (P : Plan) (t : Task) (e : Edge) → IsIn e (in_edges P t) ↔ ((e.to ≡ t) × IsSomeAnd (slice_get (flows_of P t) e.in_flow) (λ f. IsIn (link_in e) (flat_map (links_to (locals_of P t) e.in_flow) (flow_targets In (locals_of P t) f))))
 in_edge_is P t e = (
-  λ h. let p = from_edges_in t (task_links P t true) e (rw (sym (in_edges-links P t)) at h) in (p.0, from_task P t true (link_in e) p.1),
-  λ h. rw (sym (in_edges-links P t)) (to_edges_in t (task_links P t true) e h.0 (to_task P t true (link_in e) h.1)),
+  λ h. let p = from_edges_in t (task_links P t In) e (rw (sym (in_edges-links P t)) at h) in (p.0, from_task P t In (link_in e) p.1),
+  λ h. rw (sym (in_edges-links P t)) (to_edges_in t (task_links P t In) e h.0 (to_task P t In (link_in e) h.1)),
 )
 
-pub out_edge_is : (P : Plan) (t : Task) (e : Edge) → IsIn e (out_edges P t) ↔ ((e.from ≡ t) × IsSomeAnd (slice_get (flows_of P t) e.out_flow) (λ f. IsIn (link_out e) (flat_map (links_to (locals_of P t) e.out_flow) (flow_targets false (locals_of P t) f))))
+pub out_edge_is : (P : Plan) (t : Task) (e : Edge) → IsIn e (out_edges P t) ↔ ((e.from ≡ t) × IsSomeAnd (slice_get (flows_of P t) e.out_flow) (λ f. IsIn (link_out e) (flat_map (links_to (locals_of P t) e.out_flow) (flow_targets Out (locals_of P t) f))))
 out_edge_is P t e = (
-  λ h. let p = from_edges_out t (task_links P t false) e (rw (sym (out_edges-links P t)) at h) in (p.0, from_task P t false (link_out e) p.1),
-  λ h. rw (sym (out_edges-links P t)) (to_edges_out t (task_links P t false) e h.0 (to_task P t false (link_out e) h.1)),
+  λ h. let p = from_edges_out t (task_links P t Out) e (rw (sym (out_edges-links P t)) at h) in (p.0, from_task P t Out (link_out e) p.1),
+  λ h. rw (sym (out_edges-links P t)) (to_edges_out t (task_links P t Out) e h.0 (to_task P t Out (link_out e) h.1)),
 )
 
 -- the targets that count of dependences, by whether the first one holds

@@ -1,11 +1,12 @@
 -- Lists that are joined from parts, and the edges of a task as its links.
-use Rattle.std.proofs.Common.{◌≡◌, ℕ, ℤ, List, [], ◌∷◌, map, refl, ap, sym, ◌∙◌, true, false}
+use Rattle.std.proofs.Common.{◌≡◌, ℕ, ℤ, List, [], ◌∷◌, map, refl, ap, sym, ◌∙◌}
 use Rattle.std.specs.List.{filter_map, flat_map}
 use Rattle.ptg_base.specs.Task.{Task}
 use Rattle.ptg_base.specs.declared.edge.Item.TheVariants as item
 use Rattle.plan_core.specs.declared.plan.Plan.{Plan}
 use Rattle.plan_core.specs.declared.target.Target.{Target}
 use Rattle.plan_core.specs.declared.target.Target.TheVariants as target
+use Rattle.dep_iter.specs.declared.direction.Direction.TheVariants.{In, Out}
 use Rattle.dep_iter.specs.Tasks.{locals_of, task}
 use Rattle.dep_iter.specs.Active.{active_ins, active_outs}
 use Rattle.dep_iter.specs.Arguments.{combinations}
@@ -41,14 +42,14 @@ items_to-writes t env n (target.Element coll indices) = refl
 items_to-writes t env n target.New = refl
 items_to-writes t env n target.Null = refl
 
-pub in_edges-links : (P : Plan) (t : Task) → map (edge_in t) (task_links P t true) ≡ in_edges P t
+pub in_edges-links : (P : Plan) (t : Task) → map (edge_in t) (task_links P t In) ≡ in_edges P t
 unfolding in_edges
 in_edges-links P t =
     let env = locals_of P t in
     map-flat_map (edge_in t) (λ (a : ℕ × Target). links_to env a.0 a.1) (active_ins P t)
     ∙ flat_map-same (λ (a : ℕ × Target). map (edge_in t) (links_to env a.0 a.1)) (λ a. edges_into t env a.0 a.1) (λ a. sym (edges_into-links t env a.0 a.1)) (active_ins P t)
 
-pub out_edges-links : (P : Plan) (t : Task) → map (edge_out t) (task_links P t false) ≡ out_edges P t
+pub out_edges-links : (P : Plan) (t : Task) → map (edge_out t) (task_links P t Out) ≡ out_edges P t
 unfolding items
 out_edges-links P t =
     let env = locals_of P t in

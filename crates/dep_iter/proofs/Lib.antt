@@ -6,4 +6,4 @@ pub mod Listing
 pub mod Once
 pub mod Items
 pub mod Distinctness
-pub mod FarTasks
+pub mod Directed

@@ -1,6 +1,6 @@
 -- The edges of a task seen from the task: the tasks at the other ends. A link is an edge in without the task that it
 -- goes into, or an edge out without the task that it comes from.
-use Rattle.std.specs.Prelude.{ℕ, ℤ, List, [], map, flat_map, Bool, true, false, ◌&&◌, is_some, length}
+use Rattle.std.specs.Prelude.{ℕ, ℤ, List, [], map, flat_map, Bool, true, ◌&&◌, is_some, length}
 use Rattle.std.specs.List.{list_all}
 use Rattle.std.specs.Option.{option_map_or}
 use Rattle.ptg_base.specs.Task.{Task}
@@ -12,6 +12,8 @@ use Rattle.plan_core.specs.declared.target.Target.{Target}
 use Rattle.plan_core.specs.declared.target.Target.TheVariants as target
 use Rattle.plan_core.specs.Kinds.{flow_of}
 use Rattle.plan_core.specs.Targets.{has_params}
+use Rattle.dep_iter.specs.declared.direction.Direction.{Direction}
+use Rattle.dep_iter.specs.declared.direction.Direction.TheVariants.{In, Out}
 use Rattle.dep_iter.specs.declared.link.Link.{Link}
 use Rattle.dep_iter.specs.Tasks.{flows_of, locals_of, task}
 use Rattle.dep_iter.specs.Active.{by_flow, flow_ins, flow_outs}
@@ -40,10 +42,10 @@ edge_in t l = edge l.far l.far_flow t l.near
 abbrev pub edge_out : Task → Link → Edge
 edge_out t l = edge t l.near l.far l.far_flow
 
--- the targets of a flow's active dependences: its in dependences where `inward` is true, else its out dependences
-abbrev pub flow_targets : Bool → List ℤ → FlowPlan → List Target
-flow_targets true env f = flow_ins env f
-flow_targets false env f = flow_outs env f
+-- the targets of a flow's active dependences in one direction
+abbrev pub flow_targets : Direction → List ℤ → FlowPlan → List Target
+flow_targets In env f = flow_ins env f
+flow_targets Out env f = flow_outs env f
 
 -- whether a target names a flow of a class and has as many arguments as the class has parameters, if it names a task
 abbrev pub fits : Plan → Target → Bool
@@ -62,6 +64,6 @@ dependences_fit P ds = list_all (dependence_fits P) ds
 abbrev pub flows_fit : Plan → List FlowPlan → Bool
 flows_fit P fs = list_all (λ (f : FlowPlan). dependences_fit P f.ins && dependences_fit P f.outs) fs
 
--- all links of a task: inward those of its in dependences, else those of its out dependences
-abbrev pub task_links : Plan → Task → Bool → List Link
-task_links P t inward = all_links (locals_of P t) (by_flow (flow_targets inward (locals_of P t)) 0 (flows_of P t))
+-- all links of a task in one direction
+abbrev pub task_links : Plan → Task → Direction → List Link
+task_links P t way = all_links (locals_of P t) (by_flow (flow_targets way (locals_of P t)) 0 (flows_of P t))

@@ -1,7 +1,8 @@
--- A walk over the active targets of a task: what it has left at a position.
+-- A walk over the active targets of a task in one direction: what it has left at a position.
 use Rattle.std.specs.Prelude.{ℕ, ℤ, List, [], ◌∷◌, ◌++◌, flat_map, map, Bool, ◌&&◌}
 use Rattle.plan_core.specs.declared.plan.Plan.{Plan}
 use Rattle.plan_core.specs.declared.target.Target.{Target}
+use Rattle.dep_iter.specs.declared.direction.Direction.{Direction}
 use Rattle.dep_iter.specs.declared.position.Position.{Position}
 use Rattle.plan_core.specs.declared.target.Target.TheVariants as target
 use Rattle.ptg_base.specs.Task.{Task}
@@ -11,10 +12,10 @@ use Rattle.dep_iter.specs.Active.{by_flow, held_targets}
 use Rattle.dep_iter.specs.Links.{dependences_fit, flow_targets, flows_fit}
 
 -- the targets left: those of the dependences left of the flow at hand, and those of the flows after it
-abbrev pub targets_left : Bool → List ℤ → Position → List (ℕ × Target)
-targets_left inward env p =
+abbrev pub targets_left : Direction → List ℤ → Position → List (ℕ × Target)
+targets_left way env p =
     map (λ x. (p.flow, x)) (held_targets p.first_only p.deps.now env)
-    ++ by_flow (flow_targets inward env) p.next_flow p.flows.now
+    ++ by_flow (flow_targets way env) p.next_flow p.flows.now
 
 -- whether the targets of all dependences left fit the plan
 abbrev pub position_fits : Plan → Position → Bool

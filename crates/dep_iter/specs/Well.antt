@@ -63,7 +63,7 @@ first_ill_flow env n (f ∷ fs) = if is_well_flow env f then first_ill_flow env 
 
 -- whether the affinity and the priority of a task of the class have their values
 abbrev pub has_hints : List ℤ → ClassPlan → Bool
-has_hints env c = list_all (has_value env) c.affinity.1 && has_priority env c.priority
+has_hints env c = list_all (has_value env) c.affinity.indices && has_priority env c.priority
 
 -- what of a task of the class is ill first, if anything: Some None is its affinity or its priority, and Some (Some n)
 -- its flow n

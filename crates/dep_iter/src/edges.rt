@@ -7,6 +7,7 @@ ghost use Rattle.dep_iter.specs.Tasks.{IsTask};
 ghost use Rattle.dep_iter.specs.Edges as edges;
 ghost use Rattle.dep_iter.specs.Items as items;
 
+use crate::direction::Direction;
 use crate::links::Links;
 use crate::locals::Locals;
 use crate::task::locals_of;
@@ -39,7 +40,7 @@ pub fn in_edges<'a>(plan: &'a Plan, t: &TaskId) -> InEdges<'a>
 {
     InEdges {
         task: t.copy(),
-        links: Links::new(plan, t, Locals::Own(locals_of(plan, t)), true),
+        links: Links::new(plan, t, Locals::Own(locals_of(plan, t)), Direction::In),
     }
 }
 
@@ -51,7 +52,7 @@ pub fn in_edges_under<'a>(plan: &'a Plan, t: &TaskId, env: &'a [i64]) -> InEdges
 {
     InEdges {
         task: t.copy(),
-        links: Links::new(plan, t, Locals::Lent(env), true),
+        links: Links::new(plan, t, Locals::Lent(env), Direction::In),
     }
 }
 
@@ -98,7 +99,7 @@ pub fn out_edges<'a>(plan: &'a Plan, t: &TaskId) -> OutEdges<'a>
 {
     OutEdges {
         task: t.copy(),
-        links: Links::new(plan, t, Locals::Own(locals_of(plan, t)), false),
+        links: Links::new(plan, t, Locals::Own(locals_of(plan, t)), Direction::Out),
     }
 }
 
@@ -110,7 +111,7 @@ pub fn out_edges_under<'a>(plan: &'a Plan, t: &TaskId, env: &'a [i64]) -> OutEdg
 {
     OutEdges {
         task: t.copy(),
-        links: Links::new(plan, t, Locals::Lent(env), false),
+        links: Links::new(plan, t, Locals::Lent(env), Direction::Out),
     }
 }
 

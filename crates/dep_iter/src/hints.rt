@@ -29,7 +29,7 @@ pub fn affinity_under(plan: &Plan, t: &TaskId, env: &[i64]) -> Place
     ensures { result ≡ hints.affinity plan.now t.now }
 {
     let class = plan.class(t.class());
-    place_of(class.affinity.0, class.affinity.1.as_slice(), env)
+    place_of(class.affinity.coll, class.affinity.indices.as_slice(), env)
 }
 
 // The number of a row and a column among the places of a collection with so many columns.

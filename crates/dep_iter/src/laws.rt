@@ -1,11 +1,12 @@
 //! Laws of tasks and edges.
 
-ghost use Rattle.std.specs.Prelude.{◌≡◌, ◌≤◌, ◌↔◌, true, false, ℕ, ℤ, List, filter_map, length, map};
+ghost use Rattle.std.specs.Prelude.{◌≡◌, ◌≤◌, ◌↔◌, ℕ, ℤ, List, filter_map, length, map};
 ghost use Rattle.ptg_base.specs.Lists.{HasNoRepeats, IsIn};
 ghost use Rattle.ptg_base.specs.Task.{Task};
 ghost use Rattle.range_space.specs.Walk.{task_total};
 ghost use Rattle.plan_core.specs.declared.plan.Plan.{Plan};
 ghost use Rattle.plan_core.specs.declared.target.Target.{Target};
+ghost use Rattle.dep_iter.specs.declared.direction.Direction.TheVariants.{In, Out};
 ghost use Rattle.dep_iter.specs.Tasks.{IsTask, all_tasks};
 ghost use Rattle.dep_iter.specs.Links.{edge_in, edge_out, task_links};
 ghost use Rattle.dep_iter.specs.Edges as edges;
@@ -26,11 +27,11 @@ pub fn a_task_has_no_more_edges_than_the_job()
 
 /// A law: the edges of a task are its links, of its in dependences and of its out dependences.
 pub fn edges_are_links()
-    ensures ins { (P : Plan) (t : Task) → map (edge_in t) (task_links P t true) ≡ edges.in_edges P t }
-    ensures outs { (P : Plan) (t : Task) → map (edge_out t) (task_links P t false) ≡ items.out_edges P t }
+    ensures ins { (P : Plan) (t : Task) → map (edge_in t) (task_links P t In) ≡ edges.in_edges P t }
+    ensures outs { (P : Plan) (t : Task) → map (edge_out t) (task_links P t Out) ≡ items.out_edges P t }
 {}
 
-/// A law: within one dependence no edge occurs twice, inward and outward.
+/// A law: within one dependence no edge occurs twice, in either direction.
 pub fn edges_of_a_dependence_differ()
     ensures ins { (t : Task) (env : List ℤ) (n : ℕ) (x : Target) → HasNoRepeats (edges.edges_into t env n x) }
     ensures outs { (t : Task) (env : List ℤ) (n : ℕ) (x : Target)

@@ -12,6 +12,7 @@ ghost use Rattle.dep_iter.specs.Walking.{position_fits, targets_left};
 ghost use Rattle.plan_core.specs.declared.target.Target.TheVariants.{Task};
 
 use crate::combining::Combinations;
+use crate::direction::Direction;
 use crate::link::Link;
 use crate::locals::Locals;
 use crate::position::{Position, next_target, start};
@@ -102,7 +103,7 @@ impl TargetLinks {
 // The next link of a walk under these locals: of those left of the target at hand, or of the targets after it.
 fn next_link<'a>(
     plan: &Plan,
-    inward: bool,
+    way: Direction,
     env: &[i64],
     p: &mut Position<'a>,
     at_hand: &mut TargetLinks,
@@ -110,25 +111,25 @@ fn next_link<'a>(
     requires room { p.old.next_flow + length p.old.flows.now ≤ most_flows }
     requires fit { IsTrue (position_fits plan.now p.old) }
     ensures found { YieldsFirst (λ (left : List LinkValue). left)
-        (at_hand.old ++ all_links env.now (targets_left inward env.now p.old)) result
-        (at_hand.new ++ all_links env.now (targets_left inward env.now p.new)) }
+        (at_hand.old ++ all_links env.now (targets_left way env.now p.old)) result
+        (at_hand.new ++ all_links env.now (targets_left way env.now p.new)) }
     ensures room { p.new.next_flow + length p.new.flows.now ≤ most_flows }
     ensures fit { IsTrue (position_fits plan.now p.new) }
 {
     if let Some(link) = at_hand.next() {
         return Some(link);
     }
-    let (target, later) = next_target(inward, env, *p)?;
+    let (target, later) = next_target(way, env, *p)?;
     at_hand.restart(plan, later.flow, target, env);
     *p = later;
-    next_link(plan, inward, env, p, at_hand)
+    next_link(plan, way, env, p, at_hand)
 }
 
-/// The links of a task that are not yet given, of its in dependences or of its out dependences. It takes no memory.
+/// The links of a task in one direction that are not yet given. It takes no memory.
 #[derive(Drop)]
 pub(crate) struct Links<'a> {
     plan: &'a Plan,
-    inward: bool,
+    way: Direction,
     env: Locals<'a>,
     position: Position<'a>,
     at_hand: TargetLinks,
@@ -145,7 +146,7 @@ impl<'a> Model for Links<'a> {
     ghost Value = { List Link };
 
     ghost view = { λ l.
-        l.at_hand ++ all_links (given_locals l.env) (targets_left l.inward (given_locals l.env) l.position) };
+        l.at_hand ++ all_links (given_locals l.env) (targets_left l.way (given_locals l.env) l.position) };
 
     ghost invariant = { λ l.
         (l.position.next_flow + length l.position.flows.now ≤ most_flows)
@@ -153,16 +154,16 @@ impl<'a> Model for Links<'a> {
 }
 
 impl<'a> Links<'a> {
-    // All links of a task with these locals.
-    pub(crate) fn new(plan: &'a Plan, t: &TaskId, env: Locals<'a>, inward: bool) -> Links<'a>
+    // All links of a task with these locals in one direction.
+    pub(crate) fn new(plan: &'a Plan, t: &TaskId, env: Locals<'a>, way: Direction) -> Links<'a>
         requires task { IsTask plan.now t.now }
         requires locals { given_locals env ≡ locals_of plan.now t.now }
-        ensures { result ≡ task_links plan.now t.now inward }
+        ensures { result ≡ task_links plan.now t.now way }
     {
         let flows = flows_of(plan, t);
         Links {
             plan,
-            inward,
+            way,
             env,
             position: start(flows),
             at_hand: TargetLinks::none(),
@@ -175,7 +176,7 @@ impl<'a> Links<'a> {
         let env = self.env.as_slice();
         next_link(
             self.plan,
-            self.inward,
+            self.way,
             env,
             &mut self.position,
             &mut self.at_hand,

@@ -20,8 +20,9 @@ use crate::task::flows_of;
 use plan_core::{Arg, DepPlan, FlowPlan, Plan, Target};
 use ptg_base::TaskId;
 
-// Whether these numbers are one of the combinations of the values of these arguments.
-pub(crate) fn has_combination(args: &[Arg], env: &[i64], params: &[i64]) -> bool
+/// Whether these numbers are one of the combinations of the values of these arguments. Takes time according to the
+/// arguments, however many values they have.
+pub fn has_combination(args: &[Arg], env: &[i64], params: &[i64]) -> bool
     ensures { IsTrue result ↔ IsIn params.now (combinations args.now env.now) }
 {
     let Some((arg, others)) = args.split_first() else {

@@ -1,12 +1,14 @@
-//! A walk over the active targets of a task, from one to the next.
+//! A walk over the active targets of a task in one direction, from one to the next.
 
-ghost use Rattle.std.specs.Prelude.{Bool, ◌≡◌, ◌+◌, ◌<◌, ◌≤◌, [], ◌∷◌, ℤ, List, length, IfSome, IsTrue, MatchOption, ◌&&◌};
+ghost use Rattle.std.specs.Prelude.{◌≡◌, ◌+◌, ◌<◌, ◌≤◌, [], ◌∷◌, ℤ, List, length, IfSome, IsTrue, MatchOption, ◌&&◌};
 ghost use Rattle.ptg_base.specs.Limits.{most_flows};
 ghost use Rattle.plan_core.specs.declared.plan.Plan.{Plan};
+ghost use Rattle.dep_iter.specs.declared.direction.Direction.{Direction as DirectionValue};
 ghost use Rattle.dep_iter.specs.Active.{by_flow, held_targets};
 ghost use Rattle.dep_iter.specs.Links.{dependences_fit, fits, flow_targets, flows_fit};
 ghost use Rattle.dep_iter.specs.Walking.{position_fits, targets_left};
 
+use crate::direction::Direction;
 use crate::guard::held_target;
 use plan_core::{DepPlan, FlowPlan, Target};
 
@@ -28,8 +30,8 @@ pub struct Position<'a> {
 // The start of a walk over these flows.
 pub(crate) fn start<'a>(flows: &'a [FlowPlan]) -> Position<'a>
     requires { length flows.now ≤ most_flows }
-    ensures targets { (inward : Bool) (env : List ℤ)
-        → targets_left inward env result ≡ by_flow (flow_targets inward env) 0 flows.now }
+    ensures targets { (way : DirectionValue) (env : List ℤ)
+        → targets_left way env result ≡ by_flow (flow_targets way env) 0 flows.now }
     ensures room { result.next_flow + length result.flows.now ≤ most_flows }
     ensures fits { (P : Plan) → IsTrue (flows_fit P flows.now) → IsTrue (position_fits P result) }
 {
@@ -61,39 +63,34 @@ pub(crate) fn next_held<'a>(
 }
 
 // The walk where it enters a flow, with the flows after it.
-fn enter<'a>(inward: bool, flow: &'a FlowPlan, number: u8, others: &'a [FlowPlan]) -> Position<'a>
+fn enter<'a>(way: Direction, flow: &'a FlowPlan, number: u8, others: &'a [FlowPlan]) -> Position<'a>
     requires { number < most_flows }
     ensures flow { result.flow ≡ number }
     ensures next { result.next_flow ≡ number + 1 }
     ensures flows { result.flows.now ≡ others.now }
     ensures targets { (env : List ℤ)
-        → held_targets result.first_only result.deps.now env ≡ flow_targets inward env flow.now }
+        → held_targets result.first_only result.deps.now env ≡ flow_targets way env flow.now }
     ensures fits { (P : Plan) → IsTrue (dependences_fit P flow.now.ins && dependences_fit P flow.now.outs)
         → IsTrue (dependences_fit P result.deps.now) }
 {
-    let deps = if inward {
-        flow.ins.as_slice()
-    } else {
-        flow.outs.as_slice()
-    };
     Position {
         flow: number,
-        first_only: inward && flow.kind.takes_first(),
-        deps,
+        first_only: way.first_alone(flow.kind),
+        deps: way.dependences(flow),
         next_flow: number + 1,
         flows: others,
     }
 }
 
-// The next active target of a walk, inward or outward, under these locals, and where the walk stands after it.
+// The next active target of a walk in one direction, under these locals, and where the walk stands after it.
 pub(crate) fn next_target<'a>(
-    inward: bool,
+    way: Direction,
     env: &[i64],
     p: Position<'a>,
 ) -> Option<(&'a Target, Position<'a>)>
     requires { p.next_flow + length p.flows.now ≤ most_flows }
-    ensures found { MatchOption result (targets_left inward env.now p.entry ≡ []) (λ r.
-        targets_left inward env.now p.entry ≡ (r.1.flow, r.0.now) ∷ targets_left inward env.now r.1) }
+    ensures found { MatchOption result (targets_left way env.now p.entry ≡ []) (λ r.
+        targets_left way env.now p.entry ≡ (r.1.flow, r.0.now) ∷ targets_left way env.now r.1) }
     ensures room { IfSome result (λ r. r.1.next_flow + length r.1.flows.now ≤ most_flows) }
     ensures fits { (P : Plan) → IsTrue (position_fits P p.entry)
         → IfSome result (λ r. IsTrue (fits P r.0.now) × IsTrue (position_fits P r.1)) }
@@ -102,5 +99,5 @@ pub(crate) fn next_target<'a>(
         return Some((target, Position { deps: later, ..p }));
     }
     let (flow, others) = p.flows.split_first()?;
-    next_target(inward, env, enter(inward, flow, p.next_flow, others))
+    next_target(way, env, enter(way, flow, p.next_flow, others))
 }

@@ -107,7 +107,7 @@ fn first_ill_flow(env: &[i64], number: u8, flows: &[FlowPlan]) -> Option<u8>
 fn has_hints(env: &[i64], class: &ClassPlan) -> bool
     ensures { result ≡ well.has_hints env.now class.now }
 {
-    have_values(env, class.affinity.1.as_slice()) && has_priority(env, &class.priority)
+    have_values(env, class.affinity.indices.as_slice()) && has_priority(env, &class.priority)
 }
 
 /// Whether each expression that a task needs has a value and no range that it needs has step 0: those of its affinity,

@@ -1,14 +1,16 @@
 //! The write-backs of a task, one after another.
 
-ghost use Rattle.std.specs.Prelude.{◌≡◌, ◌+◌, ◌≤◌, length, List, false};
+ghost use Rattle.std.specs.Prelude.{◌≡◌, ◌+◌, ◌≤◌, length, List};
 ghost use Rattle.std.specs.Iterator.{YieldsFirst, item_count};
 ghost use Rattle.ptg_base.specs.Limits.{most_flows};
 ghost use Rattle.ptg_base.specs.declared.edge.WriteBack.{WriteBack as WriteBackValue};
+ghost use Rattle.dep_iter.specs.declared.direction.Direction.TheVariants.{Out};
 ghost use Rattle.dep_iter.specs.Tasks as tasks;
 ghost use Rattle.dep_iter.specs.Tasks.{IsTask};
 ghost use Rattle.dep_iter.specs.Items as items;
 ghost use Rattle.dep_iter.specs.Walking.{all_writes_to, targets_left};
 
+use crate::direction::Direction;
 use crate::locals::Locals;
 use crate::place::place_of;
 use crate::position::{Position, next_target, start};
@@ -26,16 +28,17 @@ pub struct WriteBacks<'a> {
 }
 
 impl<'a> Model for WriteBacks<'a> {
-    ghost use Rattle.std.specs.Prelude.{◌+◌, ◌≤◌, List, length, false};
+    ghost use Rattle.std.specs.Prelude.{◌+◌, ◌≤◌, List, length};
     ghost use Rattle.ptg_base.specs.Limits.{most_flows};
     ghost use Rattle.ptg_base.specs.declared.edge.WriteBack.{WriteBack};
+    ghost use Rattle.dep_iter.specs.declared.direction.Direction.TheVariants.{Out};
     ghost use Rattle.dep_iter.specs.Walking.{all_writes_to, targets_left};
     ghost use Rattle.dep_iter.specs.Given.{given_locals};
 
     ghost Value = { List WriteBack };
 
     ghost view = { λ w.
-        all_writes_to w.task (given_locals w.env) (targets_left false (given_locals w.env) w.position) };
+        all_writes_to w.task (given_locals w.env) (targets_left Out (given_locals w.env) w.position) };
 
     ghost invariant = { λ w. w.position.next_flow + length w.position.flows.now ≤ most_flows };
 }
@@ -44,11 +47,11 @@ impl<'a> Model for WriteBacks<'a> {
 fn next_write<'a>(t: &TaskId, env: &[i64], p: &mut Position<'a>) -> Option<WriteBack>
     requires { p.old.next_flow + length p.old.flows.now ≤ most_flows }
     ensures found { YieldsFirst (λ (left : List WriteBackValue). left)
-        (all_writes_to t.now env.now (targets_left false env.now p.old)) result
-        (all_writes_to t.now env.now (targets_left false env.now p.new)) }
+        (all_writes_to t.now env.now (targets_left Out env.now p.old)) result
+        (all_writes_to t.now env.now (targets_left Out env.now p.new)) }
     ensures room { p.new.next_flow + length p.new.flows.now ≤ most_flows }
 {
-    let (target, later) = next_target(false, env, *p)?;
+    let (target, later) = next_target(Direction::Out, env, *p)?;
     *p = later;
     if let Target::Element(coll, indices) = target {
         return Some(WriteBack {

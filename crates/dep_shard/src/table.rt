@@ -21,10 +21,10 @@ use std::mem;
 type TaskMap = IndexMap<TaskId, Entry>;
 
 // Room for so many entries is never too much for the map in use.
-const SMALL: usize = 64;
+const SMALL_RESERVE: usize = 64;
 
 // Of the entries that were promised, one in so many is expected at a time.
-const SHARE: usize = 16;
+const EXPECTED_FRACTION: usize = 16;
 
 // The entries of a shard by task: the map in use, and an empty one that is reserved and takes its place when it is
 // full. So the map in use stays small, and look-ups fast, while few of the entries that were promised are there.
@@ -89,14 +89,14 @@ impl Table {
         if n <= self.spare() {
             return Ok(());
         }
-        if n <= SMALL {
+        if n <= SMALL_RESERVE {
             self.used.reserve(n)?;
             return Ok(());
         }
         match self.used.len().checked_add(n) {
             Some(all) => {
                 self.reserved.reserve(all)?;
-                self.used.reserve(n / SHARE)?;
+                self.used.reserve(n / EXPECTED_FRACTION)?;
                 Ok(())
             }
             None => Err(OutOfMemory),

@@ -26,7 +26,7 @@ use Rattle.flow_meaning.specs.Comparing.{same_edge, same_item}
 use Rattle.list_lemmas.specs.Counting.{as_number, count}
 use Rattle.flow_meaning.specs.Ending.{has_outputs}
 use Rattle.flow_meaning.specs.Machine.{IsQuiescent, MachineState, Sent, same_sent, same_tile, sender}
-use Rattle.flow_meaning.specs.Sound.{IsSoundState}
+use Rattle.flow_meaning.specs.Sound.{IsSoundState, with_its_tile}
 use Rattle.flow_meaning.proofs.Comparing.{same_item-decides}
 use Rattle.flow_meaning.proofs.Events.{has_inputs, send_member}
 use Rattle.flow_meaning.proofs.Once.{claims_members}
@@ -35,7 +35,7 @@ use Rattle.flow_meaning.proofs.Reordering.{same_sent-decides}
 use Rattle.flow_meaning.proofs.Rest.{item_sender}
 use Rattle.shard_meaning.specs.Moment.{Moment}
 use Rattle.table_rule.specs.declared.job.Job.{Job}
-use Rattle.dep_table.specs.ClosedMeaning.{HasTheMeaning, all_sent, sent_by, with_its_tile}
+use Rattle.dep_table.specs.ClosedMeaning.{HasTheMeaning, all_sent, sent_by}
 use Rattle.dep_table.specs.Closing.{HaveNoWork, IsClosedAt}
 use Rattle.dep_table.proofs.Quiets.{closed_calm, closed_quiescent}
 

@@ -1,22 +1,20 @@
 -- What shards need, counted task by task.
-use Rattle.std.proofs.Common.{◌≡◌, ◌≢◌, ℕ, ◌+◌, ◌&&◌, Bool, true, false, cond, List, [], ◌∷◌, ◌++◌, length, refl, ap, sym, ◌∙◌, inl, inr, arith, eq-eqb, ne_eqb}
-use Rattle.std.specs.List.{filter, flat_map, filter_map}
+use Rattle.std.proofs.Common.{◌≡◌, ◌≢◌, ℕ, ◌+◌, ◌&&◌, Bool, true, false, cond, List, [], ◌∷◌, ◌++◌, length, refl, ap, sym, ◌∙◌, arith, eq-eqb, ne_eqb}
+use Rattle.std.specs.List.{filter, flat_map}
 use Rattle.ptg_base.specs.Lists.{IsIn}
 use Rattle.ptg_base.specs.Task.{Task}
 use Rattle.ptg_base.specs.declared.edge.Edge.{Edge}
 use Rattle.ptg_base.specs.declared.edge.WriteBack.{WriteBack}
-use Rattle.ptg_base.specs.declared.edge.Item.{Item}
-use Rattle.ptg_base.specs.declared.edge.Item.TheVariants as item
 use Rattle.plan_core.specs.declared.plan.Plan.{Plan}
 use Rattle.dep_iter.specs.Consistent.{is_data_edge}
 use Rattle.dep_iter.specs.Edges.{in_edges}
-use Rattle.dep_iter.specs.Items.{items, write_backs, write_of}
+use Rattle.dep_iter.specs.Items.{write_backs}
 use Rattle.list_lemmas.specs.Counting.{as_number, count, weigh}
 use Rattle.list_lemmas.proofs.Counts.{count-all, weigh-append, weigh-push, count-same, weigh-zero}
 use Rattle.list_lemmas.proofs.Members.{IsIn-filter}
 use Rattle.list_lemmas.proofs.Joins.{flat_map_push}
 use Rattle.flow_meaning.proofs.Members.{in_edge_to}
-use Rattle.flow_meaning.proofs.Rest.{item_sender}
+use Rattle.flow_meaning.proofs.Rest.{write_from}
 use Rattle.shard_meaning.specs.Opening.{is_edge_to, is_to_enter, is_write_from}
 use Rattle.shard_meaning.specs.Reserve.{is_edge_of_type, is_write_of_type}
 use Rattle.shard_meaning.specs.Share.{Placement, is_of}
@@ -32,15 +30,6 @@ count-filter {A} test keep (x ∷ xs) ys = by (keep x) (count-filter test keep x
         → count test (cond b (x ∷ filter keep (xs ++ ys)) (filter keep (xs ++ ys))) ≡ count test (cond b (x ∷ filter keep xs) (filter keep xs)) + count test (filter keep ys)
     by true more = omega (arith, more)
     by false more = omega (arith, more)
-
-write_item : (is : List Item) (w : WriteBack) → IsIn w (filter_map write_of is) → IsIn (item.Write w) is
-write_item [] w h = absurd h
-write_item (item.Edge e ∷ is) w h = inr (write_item is w h)
-write_item (item.Write v ∷ is) w h = elim h [ inl q ↦ inl (ap (λ (x : WriteBack). item.Write x) q) | inr t ↦ inr (write_item is w t) ]
-
--- a write-back of a task comes from it
-pub write_from : (P : Plan) (t : Task) (w : WriteBack) → IsIn w (write_backs P t) → w.from ≡ t
-write_from P t w i = item_sender P t (item.Write w) (write_item (items P t) w i)
 
 module _ (P : Plan) (of : Placement) (k : ℕ) (t : Task) where
   edges_more : (done : List Task) (d : ℕ) → count (is_edge_to P of k d) (data_into P (done ++ t ∷ [])) ≡ count (is_edge_to P of k d) (data_into P done) + count (is_edge_to P of k d) (filter (is_data_edge P) (in_edges P t))

@@ -1,5 +1,5 @@
 -- A table that was opened.
-use Rattle.std.proofs.Common.{◌≡◌, ℕ, zero, suc, ◌<◌, ◌≤◌, ◌==◌, true, List, [], ◌∷◌, length, refl, ap, sym, ◌∙◌, Some, slice_get, eq-eqb, ne_eqb}
+use Rattle.std.proofs.Common.{◌≡◌, ℕ, zero, suc, ◌<◌, ◌≤◌, ◌==◌, true, List, [], ◌∷◌, length, ap, sym, ◌∙◌, Some, slice_get, eq-eqb, ne_eqb}
 use Rattle.std.specs.List.{filter}
 use mathlib.Core.Logic.{dite}
 use mathlib.Core.Option.{some, some-injective, some-ne-none}
@@ -8,25 +8,22 @@ use lib.ListN.{get_elem?}
 use Rattle.ptg_base.specs.Task.{Task}
 use Rattle.plan_core.specs.declared.plan.Plan.{Plan}
 use Rattle.dep_iter.specs.Consistent.{IsConsistent, roots}
-use Rattle.dep_iter.specs.Edges.{goal, in_edges}
+use Rattle.dep_iter.specs.Edges.{goal}
 use Rattle.dep_iter.specs.Tasks.{all_tasks}
 use Rattle.dep_shard.specs.Content.{Content}
-use Rattle.flow_meaning.specs.Machine.{arrived, opening_state}
+use Rattle.flow_meaning.specs.Machine.{opening_state}
 use Rattle.flow_meaning.specs.Table.{is_ready, ready_tasks}
-use Rattle.list_lemmas.proofs.Counts.{weigh-zero}
 use Rattle.shard_calls.specs.Opened.{AreOpeningShards}
 use Rattle.table_rule.specs.declared.job.Job.{Job}
 use Rattle.table_rule.specs.Opening.{IsOpening}
 use Rattle.dep_table.specs.Opened.{AreOpeningWords, HaveOpeningReserve}
+use Rattle.shard_meaning.proofs.Openings.{none_arrived}
 
 -- a look-up that finds something, in both forms
 pub found_both : {A : Type 0} (xs : List A) (k : ℕ) (x : A) → get_elem? xs k ≡ some x → slice_get xs k ≡ Some x
 found_both [] k x e = absurd (some-ne-none x (sym e))
 found_both (y ∷ xs) zero x e = ap (λ z. Some z) (some-injective y x e)
 found_both (y ∷ xs) (suc k) x e = found_both xs k x e
-
-none_arrived : (P : Plan) (t : Task) → arrived P opening_state t ≡ 0
-none_arrived P t = weigh-zero _ (in_edges P t) (λ e i. refl)
 
 zero_first : (g : ℕ) → (0 == g) ≡ (g == 0)
 zero_first g = dite (ℕ_discrete g 0) (λ z. eq-eqb 0 g (sym z) ∙ sym (eq-eqb g 0 z)) (λ ne. ne_eqb 0 g (λ z. ne (sym z)) ∙ sym (ne_eqb g 0 ne))

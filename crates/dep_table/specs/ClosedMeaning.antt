@@ -3,21 +3,17 @@
 use Rattle.std.specs.Prelude.{◌≡◌, List, [], map, flat_map, if◌then◌else◌}
 use Rattle.ptg_base.specs.Lists.{IsIn}
 use Rattle.ptg_base.specs.Task.{Task}
-use Rattle.ptg_base.specs.declared.edge.Item.{Item}
 use Rattle.plan_core.specs.declared.plan.Plan.{Plan}
 use Rattle.coll_data.specs.Data.{Data}
-use Rattle.dep_iter.specs.Items.{item_flow, items}
+use Rattle.dep_iter.specs.Items.{items}
 use Rattle.dep_iter.specs.Tasks.{all_tasks}
 use Rattle.flow_meaning.specs.Answer.{ran}
 use Rattle.flow_meaning.specs.Backward.{ended, inputs}
 use Rattle.list_lemmas.specs.Counting.{HasSameMembers}
-use Rattle.flow_meaning.specs.Ending.{has_outputs, output_tile}
-use Rattle.flow_meaning.specs.Machine.{MachineState, Sent, sender, sent_tile}
+use Rattle.flow_meaning.specs.Ending.{has_outputs}
+use Rattle.flow_meaning.specs.Machine.{MachineState, Sent, sent_tile}
+use Rattle.flow_meaning.specs.Sound.{with_its_tile}
 use Rattle.flow_meaning.specs.Starting.{delivered_tiles}
-
--- an item with the tile that its task leaves in the flow of the item
-abbrev pub with_its_tile : Plan → Data → Item → Sent
-with_its_tile P G i = record { item = i; tile = output_tile (ended P G (sender i)) (item_flow i) }
 
 -- what a task sends: its items with their tiles, if it has outputs
 abbrev pub sent_by : Plan → Data → Task → List Sent

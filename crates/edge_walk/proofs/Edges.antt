@@ -8,6 +8,8 @@ use Rattle.plan_core.specs.declared.plan.Plan.{Plan}
 use Rattle.plan_core.specs.declared.target.Target.{Target}
 use Rattle.plan_core.specs.declared.target.Target.TheVariants as target
 use Rattle.ptg_base.specs.declared.edge.Item.TheVariants as item
+use Rattle.dep_iter.specs.declared.direction.Direction.{Direction}
+use Rattle.dep_iter.specs.declared.direction.Direction.TheVariants.{In, Out}
 use Rattle.dep_iter.specs.Active.{by_flow, held_target, held_targets, held_then, takes_first}
 use Rattle.dep_iter.specs.Arguments.{combinations}
 use Rattle.dep_iter.specs.Edges.{edge, edges_into, in_edges}
@@ -60,9 +62,9 @@ seconds first_only k (d ∷ ds) env =
     seconds_then first_only k (held_target d env) (numbered_targets first_only (suc k) ds env)
     ∙ ap (held_then first_only (held_target d env)) (seconds first_only (suc k) ds env)
 
-seconds_flow : (inward : Bool) (env : List ℤ) (f : FlowPlan) → map second (numbered_flow inward env f) ≡ flow_targets inward env f
-seconds_flow true env f = seconds (takes_first f.kind) 0 f.ins env
-seconds_flow false env f = seconds false 0 f.outs env
+seconds_flow : (way : Direction) (env : List ℤ) (f : FlowPlan) → map second (numbered_flow way env f) ≡ flow_targets way env f
+seconds_flow In env f = seconds (takes_first f.kind) 0 f.ins env
+seconds_flow Out env f = seconds false 0 f.outs env
 
 -- ---- what is chosen of each target is chosen of all
 module _ {X : Type 0} (env : List ℤ) (choose : Tie → Option X) (chosen : ℕ → Target → List X) (h : (n k : ℕ) (x : Target) → filter_map choose (ties_to env n k x) ≡ chosen n x) where
@@ -73,28 +75,28 @@ module _ {X : Type 0} (env : List ℤ) (choose : Tie → Option X) (chosen : ℕ
       ∙ ap (λ l. l ++ filter_map choose (all_ties env (map (numbered n) xs))) (h n x.0 x.1)
       ∙ ap (λ l. chosen n x.1 ++ l) (of_flow n xs)
 
-  of_flow_from : (inward : Bool) (n : ℕ) (f : FlowPlan) → filter_map choose (all_ties env (map (numbered n) (numbered_flow inward env f))) ≡ flat_map (λ (a : ℕ × Target). chosen a.0 a.1) (map (λ (x : Target). (n, x)) (flow_targets inward env f))
-  of_flow_from inward n f =
-      of_flow n (numbered_flow inward env f)
-      ∙ ap (flat_map (chosen n)) (seconds_flow inward env f)
-      ∙ sym (flat_map-map (λ (a : ℕ × Target). chosen a.0 a.1) (λ (x : Target). (n, x)) (flow_targets inward env f))
+  of_flow_from : (way : Direction) (n : ℕ) (f : FlowPlan) → filter_map choose (all_ties env (map (numbered n) (numbered_flow way env f))) ≡ flat_map (λ (a : ℕ × Target). chosen a.0 a.1) (map (λ (x : Target). (n, x)) (flow_targets way env f))
+  of_flow_from way n f =
+      of_flow n (numbered_flow way env f)
+      ∙ ap (flat_map (chosen n)) (seconds_flow way env f)
+      ∙ sym (flat_map-map (λ (a : ℕ × Target). chosen a.0 a.1) (λ (x : Target). (n, x)) (flow_targets way env f))
 
-  of_flows : (inward : Bool) (n : ℕ) (fs : List FlowPlan) → filter_map choose (all_ties env (active_from inward env n fs)) ≡ flat_map (λ (a : ℕ × Target). chosen a.0 a.1) (by_flow (flow_targets inward env) n fs)
-  of_flows inward n [] = refl
-  of_flows inward n (f ∷ fs) =
-      let here = map (numbered n) (numbered_flow inward env f) in
-      let later = active_from inward env (suc n) fs in
-      let targets = map (λ (x : Target). (n, x)) (flow_targets inward env f) in
+  of_flows : (way : Direction) (n : ℕ) (fs : List FlowPlan) → filter_map choose (all_ties env (active_from way env n fs)) ≡ flat_map (λ (a : ℕ × Target). chosen a.0 a.1) (by_flow (flow_targets way env) n fs)
+  of_flows way n [] = refl
+  of_flows way n (f ∷ fs) =
+      let here = map (numbered n) (numbered_flow way env f) in
+      let later = active_from way env (suc n) fs in
+      let targets = map (λ (x : Target). (n, x)) (flow_targets way env f) in
       ap (filter_map choose) (flat_map-append (λ (a : Numbered). ties_to env a.flow a.dependence a.target) here later)
       ∙ filter_map-append choose (all_ties env here) (all_ties env later)
-      ∙ ap (λ l. l ++ filter_map choose (all_ties env later)) (of_flow_from inward n f)
-      ∙ ap (λ l. flat_map (λ (a : ℕ × Target). chosen a.0 a.1) targets ++ l) (of_flows inward (suc n) fs)
-      ∙ sym (flat_map-append (λ (a : ℕ × Target). chosen a.0 a.1) targets (by_flow (flow_targets inward env) (suc n) fs))
+      ∙ ap (λ l. l ++ filter_map choose (all_ties env later)) (of_flow_from way n f)
+      ∙ ap (λ l. flat_map (λ (a : ℕ × Target). chosen a.0 a.1) targets ++ l) (of_flows way (suc n) fs)
+      ∙ sym (flat_map-append (λ (a : ℕ × Target). chosen a.0 a.1) targets (by_flow (flow_targets way env) (suc n) fs))
 
-pub ins : (P : Plan) (t : Task) → filter_map (edge_by_in t) (ties P t true) ≡ in_edges P t
+pub ins : (P : Plan) (t : Task) → filter_map (edge_by_in t) (ties P t In) ≡ in_edges P t
 unfolding in_edges
-ins P t = of_flows (locals_of P t) (edge_by_in t) (edges_into t (locals_of P t)) (ins_to t (locals_of P t)) true 0 (flows_of P t)
+ins P t = of_flows (locals_of P t) (edge_by_in t) (edges_into t (locals_of P t)) (ins_to t (locals_of P t)) In 0 (flows_of P t)
 
-pub outs : (P : Plan) (t : Task) → filter_map (item_by_out t) (ties P t false) ≡ items P t
+pub outs : (P : Plan) (t : Task) → filter_map (item_by_out t) (ties P t Out) ≡ items P t
 unfolding items
-outs P t = of_flows (locals_of P t) (item_by_out t) (items_to t (locals_of P t)) (outs_to t (locals_of P t)) false 0 (flows_of P t)
+outs P t = of_flows (locals_of P t) (item_by_out t) (items_to t (locals_of P t)) (outs_to t (locals_of P t)) Out 0 (flows_of P t)

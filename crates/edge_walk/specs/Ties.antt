@@ -10,8 +10,10 @@ use Rattle.plan_core.specs.declared.flow.FlowPlan.{FlowPlan}
 use Rattle.plan_core.specs.declared.plan.Plan.{Plan}
 use Rattle.plan_core.specs.declared.target.Target.{Target}
 use Rattle.plan_core.specs.declared.target.Target.TheVariants as target
-use Rattle.dep_iter.specs.Active.{held_target, takes_first}
+use Rattle.dep_iter.specs.declared.direction.Direction.{Direction}
+use Rattle.dep_iter.specs.Active.{held_target}
 use Rattle.dep_iter.specs.Arguments.{combinations, place_of}
+use Rattle.dep_iter.specs.Directions.{dependences, first_alone}
 use Rattle.dep_iter.specs.Edges.{edge}
 use Rattle.dep_iter.specs.Tasks.{flows_of, locals_of, task}
 use Rattle.edge_walk.specs.declared.tie.Far.{Far}
@@ -38,18 +40,17 @@ numbered_targets first_only k [] env = []
 numbered_targets first_only k (d ∷ ds) env =
     numbered_then first_only k (held_target d env) (numbered_targets first_only (suc k) ds env)
 
--- the targets of a flow's active dependences: its in dependences where `inward` is true, else its out dependences
-abbrev pub numbered_flow : Bool → List ℤ → FlowPlan → List (ℕ × Target)
-numbered_flow true env f = numbered_targets (takes_first f.kind) 0 f.ins env
-numbered_flow false env f = numbered_targets false 0 f.outs env
+-- the targets of a flow's active dependences in one direction
+abbrev pub numbered_flow : Direction → List ℤ → FlowPlan → List (ℕ × Target)
+numbered_flow way env f = numbered_targets (first_alone way f.kind) 0 (dependences way f) env
 
 abbrev pub numbered : ℕ → ℕ × Target → Numbered
 numbered n x = record { flow = n; dependence = x.0; target = x.1 }
 
 -- the active dependences of these flows, which are numbered from n on
-abbrev pub active_from : Bool → List ℤ → ℕ → List FlowPlan → List Numbered
-active_from inward env n [] = []
-active_from inward env n (f ∷ fs) = map (numbered n) (numbered_flow inward env f) ++ active_from inward env (suc n) fs
+abbrev pub active_from : Direction → List ℤ → ℕ → List FlowPlan → List Numbered
+active_from way env n [] = []
+active_from way env n (f ∷ fs) = map (numbered n) (numbered_flow way env f) ++ active_from way env (suc n) fs
 
 -- what a target names that is no task
 abbrev pub single : List ℤ → Target → Option Far
@@ -81,9 +82,9 @@ ties_to env n k target.Null = tie n k far.Null ∷ []
 abbrev pub all_ties : List ℤ → List Numbered → List Tie
 all_ties env actives = flat_map (λ (a : Numbered). ties_to env a.flow a.dependence a.target) actives
 
--- all ties of a task: inward those of its in dependences, else those of its out dependences
-abbrev pub ties : Plan → Task → Bool → List Tie
-ties P t inward = all_ties (locals_of P t) (active_from inward (locals_of P t) 0 (flows_of P t))
+-- all ties of a task in one direction
+abbrev pub ties : Plan → Task → Direction → List Tie
+ties P t way = all_ties (locals_of P t) (active_from way (locals_of P t) 0 (flows_of P t))
 
 -- the edge into flow n of the task t that what a dependence of the flow names is, if it is one
 abbrev pub edge_from : Task → ℕ → Far → Option Edge

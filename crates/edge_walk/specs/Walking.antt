@@ -1,15 +1,16 @@
--- A walk over the active dependences of a task: what it has left at a position. Source: this project's own choice.
+-- A walk over the active dependences of a task in one direction: what it has left at a position. Source: this project's own choice.
 use Rattle.std.specs.Prelude.{ℤ, List, ◌++◌, map, Bool, ◌&&◌}
 use Rattle.plan_core.specs.declared.plan.Plan.{Plan}
+use Rattle.dep_iter.specs.declared.direction.Direction.{Direction}
 use Rattle.dep_iter.specs.Links.{dependences_fit, flows_fit}
 use Rattle.edge_walk.specs.declared.position.Position.{Position}
 use Rattle.edge_walk.specs.Ties.{Numbered, active_from, numbered, numbered_targets}
 
 -- the active dependences left: those of the flow at hand, and those of the flows after it
-abbrev pub left : Bool → List ℤ → Position → List Numbered
-left inward env p =
+abbrev pub left : Direction → List ℤ → Position → List Numbered
+left way env p =
     map (numbered p.flow) (numbered_targets p.first_only p.dependence p.deps.now env)
-    ++ active_from inward env p.next_flow p.flows.now
+    ++ active_from way env p.next_flow p.flows.now
 
 -- whether the targets of all dependences left fit the plan
 abbrev pub position_fits : Plan → Position → Bool

@@ -1,14 +1,15 @@
 //! A walk over the active dependences of a task, from one to the next.
 
-ghost use Rattle.std.specs.Prelude.{Bool, ℤ, List, [], ◌∷◌, length, ◌≡◌, ◌+◌, ◌<◌, ◌≤◌, ◌^◌, ◌&&◌};
+ghost use Rattle.std.specs.Prelude.{ℤ, List, [], ◌∷◌, length, ◌≡◌, ◌+◌, ◌<◌, ◌≤◌, ◌^◌, ◌&&◌};
 ghost use Rattle.std.specs.Prelude.{IfSome, IsTrue, MatchOption};
 ghost use Rattle.ptg_base.specs.Limits.{most_flows};
 ghost use Rattle.plan_core.specs.declared.plan.Plan.{Plan};
+ghost use Rattle.dep_iter.specs.declared.direction.Direction.{Direction as DirectionValue};
 ghost use Rattle.dep_iter.specs.Links.{dependences_fit, fits, flows_fit};
 ghost use Rattle.edge_walk.specs.Ties.{active_from, numbered_flow, numbered_targets};
 ghost use Rattle.edge_walk.specs.Walking.{position_fits, left};
 
-use dep_iter::held_target;
+use dep_iter::{Direction, held_target};
 use plan_core::{DepPlan, FlowPlan, Target};
 
 /// Where a walk over the active dependences of a task stands.
@@ -50,8 +51,8 @@ pub struct Held<'a> {
 // The start of a walk over these flows.
 pub(crate) fn start<'a>(flows: &'a [FlowPlan]) -> Position<'a>
     requires { length flows.now ≤ most_flows }
-    ensures targets { (inward : Bool) (env : List ℤ)
-        → left inward env result ≡ active_from inward env 0 flows.now }
+    ensures targets { (way : DirectionValue) (env : List ℤ)
+        → left way env result ≡ active_from way env 0 flows.now }
     ensures room { result.next_flow + length result.flows.now ≤ most_flows }
     ensures count { result.dependence + length result.deps.now < 2 ^ 64 }
     ensures fits { (P : Plan) → IsTrue (flows_fit P flows.now) → IsTrue (position_fits P result) }
@@ -95,27 +96,23 @@ fn count_fits(deps: &[DepPlan])
 }
 
 // The walk where it enters a flow, with the flows after it.
-fn enter<'a>(inward: bool, flow: &'a FlowPlan, number: u8, others: &'a [FlowPlan]) -> Position<'a>
+fn enter<'a>(way: Direction, flow: &'a FlowPlan, number: u8, others: &'a [FlowPlan]) -> Position<'a>
     requires { number < most_flows }
     ensures flow { result.flow ≡ number }
     ensures next { result.next_flow ≡ number + 1 }
     ensures flows { result.flows.now ≡ others.now }
     ensures targets { (env : List ℤ)
         → numbered_targets result.first_only result.dependence result.deps.now env
-        ≡ numbered_flow inward env flow.now }
+        ≡ numbered_flow way env flow.now }
     ensures count { result.dependence + length result.deps.now < 2 ^ 64 }
     ensures fits { (P : Plan) → IsTrue (dependences_fit P flow.now.ins && dependences_fit P flow.now.outs)
         → IsTrue (dependences_fit P result.deps.now) }
 {
-    let deps = if inward {
-        flow.ins.as_slice()
-    } else {
-        flow.outs.as_slice()
-    };
+    let deps = way.dependences(flow);
     count_fits(deps);
     Position {
         flow: number,
-        first_only: inward && flow.kind.takes_first(),
+        first_only: way.first_alone(flow.kind),
         dependence: 0,
         deps,
         next_flow: number + 1,
@@ -123,14 +120,14 @@ fn enter<'a>(inward: bool, flow: &'a FlowPlan, number: u8, others: &'a [FlowPlan
     }
 }
 
-// The next active dependence of a walk, inward or outward, under these locals, and where the walk stands after it.
-pub(crate) fn next_active<'a>(inward: bool, env: &[i64], p: Position<'a>) -> Option<Active<'a>>
+// The next active dependence of a walk in one direction, under these locals, and where the walk stands after it.
+pub(crate) fn next_active<'a>(way: Direction, env: &[i64], p: Position<'a>) -> Option<Active<'a>>
     requires room { p.next_flow + length p.flows.now ≤ most_flows }
     requires count { p.dependence + length p.deps.now < 2 ^ 64 }
-    ensures found { MatchOption result (left inward env.now p.entry ≡ [])
-        (λ r. left inward env.now p.entry
+    ensures found { MatchOption result (left way env.now p.entry ≡ [])
+        (λ r. left way env.now p.entry
         ≡ record { flow = r.after.flow; dependence = r.dependence; target = r.target.now }
-        ∷ left inward env.now r.after) }
+        ∷ left way env.now r.after) }
     ensures room { IfSome result (λ r. r.after.next_flow + length r.after.flows.now ≤ most_flows) }
     ensures count { IfSome result (λ r. r.after.dependence + length r.after.deps.now < 2 ^ 64) }
     ensures fits { (P : Plan) → IsTrue (position_fits P p.entry)
@@ -148,5 +145,5 @@ pub(crate) fn next_active<'a>(inward: bool, env: &[i64], p: Position<'a>) -> Opt
         });
     }
     let (flow, others) = p.flows.split_first()?;
-    next_active(inward, env, enter(inward, flow, p.next_flow, others))
+    next_active(way, env, enter(way, flow, p.next_flow, others))
 }

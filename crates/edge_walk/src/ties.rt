@@ -12,7 +12,7 @@ ghost use Rattle.edge_walk.specs.Walking.{left, position_fits};
 use crate::position::{Position, next_active, start};
 use crate::target_ties::TargetTies;
 use crate::tie::Tie;
-use dep_iter::{flows_of, locals_of};
+use dep_iter::{Direction, flows_of, locals_of};
 use plan_core::Plan;
 use ptg_base::{MOST_LOCALS, TaskId};
 use range_space::Numbers;
@@ -22,7 +22,7 @@ use std::marker::Model;
 #[derive(Drop)]
 pub struct Ties<'a> {
     plan: &'a Plan,
-    inward: bool,
+    way: Direction,
     env: Numbers<MOST_LOCALS>,
     position: Position<'a>,
     at_hand: TargetTies,
@@ -37,7 +37,7 @@ impl<'a> Model for Ties<'a> {
 
     ghost Value = { List Tie };
 
-    ghost view = { λ t. t.at_hand ++ all_ties t.env (left t.inward t.env t.position) };
+    ghost view = { λ t. t.at_hand ++ all_ties t.env (left t.way t.env t.position) };
 
     ghost invariant = { λ t. (t.position.next_flow + length t.position.flows.now ≤ most_flows)
         × (t.position.dependence + length t.position.deps.now < 2 ^ 64)
@@ -47,7 +47,7 @@ impl<'a> Model for Ties<'a> {
 // The next tie of a walk under these locals: of those left of the dependence at hand, or of the dependences after it.
 fn next_tie<'a>(
     plan: &Plan,
-    inward: bool,
+    way: Direction,
     env: &[i64],
     p: &mut Position<'a>,
     at_hand: &mut TargetTies,
@@ -56,8 +56,8 @@ fn next_tie<'a>(
     requires count { p.old.dependence + length p.old.deps.now < 2 ^ 64 }
     requires fit { IsTrue (position_fits plan.now p.old) }
     ensures found { YieldsFirst (λ (ts : List TieValue). ts)
-        (at_hand.old ++ all_ties env.now (left inward env.now p.old)) result
-        (at_hand.new ++ all_ties env.now (left inward env.now p.new)) }
+        (at_hand.old ++ all_ties env.now (left way env.now p.old)) result
+        (at_hand.new ++ all_ties env.now (left way env.now p.new)) }
     ensures room { p.new.next_flow + length p.new.flows.now ≤ most_flows }
     ensures count { p.new.dependence + length p.new.deps.now < 2 ^ 64 }
     ensures fit { IsTrue (position_fits plan.now p.new) }
@@ -65,21 +65,21 @@ fn next_tie<'a>(
     if let Some(tie) = at_hand.next() {
         return Some(tie);
     }
-    let active = next_active(inward, env, *p)?;
+    let active = next_active(way, env, *p)?;
     at_hand.restart(plan, active, env);
     *p = active.after;
-    next_tie(plan, inward, env, p, at_hand)
+    next_tie(plan, way, env, p, at_hand)
 }
 
-/// The ties of a task by its in dependences, or by its out dependences: by flow and dependence in the text's order; of
+/// The ties of a task by its dependences in one direction: by flow and dependence in the text's order; of
 /// a dependence that names many tasks, the first argument outermost. They are evaluated as they are asked for.
-pub fn ties_of<'a>(plan: &'a Plan, t: &TaskId, inward: bool) -> Ties<'a>
+pub fn ties_of<'a>(plan: &'a Plan, t: &TaskId, way: Direction) -> Ties<'a>
     requires { IsTask plan.now t.now }
-    ensures { result ≡ specs.ties plan.now t.now inward }
+    ensures { result ≡ specs.ties plan.now t.now way }
 {
     Ties {
         plan,
-        inward,
+        way,
         env: locals_of(plan, t),
         position: start(flows_of(plan, t)),
         at_hand: TargetTies::none(),
@@ -97,7 +97,7 @@ impl Iterator for Ties<'_> {
         let env = self.env.as_slice();
         next_tie(
             self.plan,
-            self.inward,
+            self.way,
             env,
             &mut self.position,
             &mut self.at_hand,

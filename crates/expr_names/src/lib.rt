@@ -8,4 +8,4 @@ mod symbols;
 
 pub use expression::term_of;
 pub use meaning::{Meaning, outer_meaning, value_of};
-pub use symbols::{Symbols, fault_at};
+pub use symbols::Symbols;

@@ -5,8 +5,7 @@ ghost use Rattle.ptg_base.specs.Returns.{Returns};
 ghost use Rattle.name_table.specs.Names.{value_named};
 ghost use Rattle.expr_names.specs.Meanings.{outer_meaning, value_of};
 
-use crate::symbols::fault_at;
-use jdf_lex::{JdfCode, JdfRefusal};
+use jdf_lex::{JdfCode, JdfRefusal, fault_at};
 use jdf_tree::Word;
 use name_table::NameTable;
 use ptg_base::Text;

@@ -2,11 +2,10 @@
 
 ghost use Rattle.std.specs.Prelude.{◌≡◌};
 ghost use Rattle.ptg_base.specs.Returns.{Returns};
-ghost use Rattle.ptg_base.specs.declared.refusal.Refusal.TheVariants.{Fault};
 ghost use Rattle.expr_names.specs.Symbols.{SymbolTable};
 
 use crate::meaning::Meaning;
-use jdf_lex::{JdfCode, JdfFault, JdfRefusal, Spot};
+use jdf_lex::{JdfFault, JdfRefusal};
 use jdf_tree::Word;
 use ptg_base::Text;
 
@@ -34,11 +33,4 @@ pub trait Symbols {
     fn reported(&self, first: JdfFault, second: JdfFault) -> JdfFault
         requires { is_sound self.now }
         ensures { result ≡ (table self.now).reported first second };
-}
-
-/// The refusal for a fault with this code at a place.
-pub fn fault_at(spot: Spot, code: JdfCode) -> JdfRefusal
-    ensures { result ≡ Fault (record { spot = spot; code = code }) }
-{
-    JdfRefusal::Fault(JdfFault { spot, code })
 }

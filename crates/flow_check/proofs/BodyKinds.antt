@@ -25,8 +25,8 @@ use Rattle.body_names.specs.Expressions.{value_of, slot_of, readable, writable, 
 use Rattle.body_names.specs.Bindings.{Bindings, block_opened, with_variable, require_room, require_fresh}
 use Rattle.body_names.specs.Statements.{Resolver, declare, set, put, in_block, if_else, for_loop, trap, follow, resolved}
 use Rattle.std.proofs.lemmas.Bool.{and_from}
-use Rattle.flow_check.proofs.BodyParts.{pair_good, past, good_then}
-use Rattle.body_lang.proofs.Words.{IfValue, after_if_value}
+use Rattle.flow_check.proofs.BodyParts.{pair_good, good_then}
+use Rattle.body_lang.proofs.Words.{IfValue, after_if_value, past}
 
 -- the kinds of the flows
 abbrev pub kinds_of : Environment → List FlowKind

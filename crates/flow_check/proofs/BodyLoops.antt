@@ -21,8 +21,8 @@ use Rattle.body_names.specs.Expressions.{slot_of, written_flow, term_of}
 use Rattle.body_names.specs.Bindings.{Bindings, block_opened, next_slot, with_variable, require_room, require_fresh, numbered}
 use Rattle.body_names.specs.Statements.{Resolver, declare, set, put, in_block, if_else, for_loop, trap, follow, resolved}
 use Rattle.list_lemmas.proofs.Places.{each_weaker}
-use Rattle.flow_check.proofs.BodyParts.{past, good_both, all_append, all_take, all_last}
-use Rattle.body_lang.proofs.Words.{IfValue, after_if_value}
+use Rattle.flow_check.proofs.BodyParts.{good_both, all_append, all_take, all_last}
+use Rattle.body_lang.proofs.Words.{IfValue, after_if_value, past}
 
 module _ (scope : Environment) where
   -- ---- a variable that is not set

@@ -3,7 +3,6 @@ use Rattle.std.proofs.Common.{◌≡◌, ℕ, zero, suc, Bool, true, false, cond
 use Rattle.std.specs.Prelude.{reverse, find}
 use Rattle.std.specs.List.{AllByRecursion}
 use Rattle.std.proofs.lemmas.List.{reverse-append}
-use Rattle.ptg_base.specs.Returns.{and_then}
 use Rattle.expr_names.specs.Symbols.{Resolved}
 use Rattle.expr_names.specs.Expressions.{together}
 use Rattle.body_lang.proofs.Words.{IfValue}
@@ -14,11 +13,6 @@ pair_good P Q (Ok x) (Ok y) h k = (h, k)
 pair_good P Q (Ok x) (Err g) h k = tt
 pair_good P Q (Err f) (Ok y) h k = tt
 pair_good P Q (Err f) (Err g) h k = tt
-
--- a first step of which nothing is needed
-pub past : {A B : Type 0} (Q : B → Type 0) (r : Resolved A) (f : A → Resolved B) → ((x : A) → IfValue Q (f x)) → IfValue Q (and_then r f)
-past Q (Ok x) f k = k x
-past Q (Err e) f k = tt
 
 pub good_then : {A : Type 0} (P Q : A → Type 0) (r : Resolved A) → IfValue P r → ((x : A) → P x → Q x) → IfValue Q r
 good_then P Q (Ok x) h k = k x h

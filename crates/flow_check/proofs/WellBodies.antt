@@ -8,7 +8,6 @@ use Rattle.plan_core.specs.Bodies.{respects_kinds, has_words, keeps_loop_variabl
 use Rattle.body_names.specs.Environment.{Environment}
 use Rattle.body_names.specs.Bindings.{Bindings, no_bindings}
 use Rattle.body_names.specs.Statements.{resolved}
-use Rattle.expr_names.proofs.Closed.{after_ok}
 use Rattle.body_names.proofs.WellBlocks.{whole_well}
 use Rattle.body_lang.specs.Body.{IsBody}
 use Rattle.body_lang.specs.TrapWords.{words_of}
@@ -17,7 +16,7 @@ use Rattle.flow_check.proofs.BodyParts.{good_of}
 use Rattle.flow_check.proofs.BodyKinds.{kinds_of, kinds_respected}
 use Rattle.flow_check.proofs.BodyLoops.{AreBelow, loops_kept}
 use Rattle.flow_check.proofs.BodyWords.{words_there}
-use Rattle.list_lemmas.proofs.Options.{same_Ok}
+use Rattle.list_lemmas.proofs.Options.{same_Ok, steps_of}
 
 abbrev Read : Type 0
 Read = Body × List (List ℕ)
@@ -33,7 +32,7 @@ pub record IsFitBody (scope : Environment) (y : Read) : Type 0 where
 
 pub fit_body : (scope : Environment) (tokens : List Token) (y : Read) → IsBody scope tokens y → IsFitBody scope y
 fit_body scope tokens y h =
-    let r = after_ok (resolved scope h.tree no_bindings) (λ (x : StatementList × Bindings). Ok (body_from scope x)) y h.named in
+    let r = steps_of (resolved scope h.tree no_bindings) (λ (x : StatementList × Bindings). Ok (body_from scope x)) y h.named in
     let kinds = good_of (λ (x : StatementList × Bindings). respects_kinds (kinds_of scope) x.0 ≡ true) (resolved scope h.tree no_bindings) r.0 (kinds_respected scope h.tree no_bindings) r.1 in
     let loops = good_of (λ (x : StatementList × Bindings). (keeps_loop_variables x.0 ≡ true) × AreBelow scope x.1) (resolved scope h.tree no_bindings) r.0 (loops_kept scope h.tree no_bindings tt) r.1 in
     subst (IsFitBody scope) (same_Ok (body_from scope r.0) y r.2)

@@ -48,7 +48,7 @@ use Rattle.list_lemmas.proofs.Joins.{first_nil, rest_nil}
 
 pub record IsClassOf (job : Job) (class : ClassTree) (b : BodyResult) (c : ClassPlan) (s : ClassSpace) : Type 0 where
   pub space : space_of job class.params class.defs ≡ Some s
-  pub affinity : element_of job class.defs class.affinity class.affinity_args ≡ Some c.affinity
+  pub affinity : element_of job class.defs class.affinity class.affinity_args ≡ Some (c.affinity.coll, c.affinity.indices)
   pub flows : flows_of job class.defs class.flows ≡ Some c.flows
   pub priority : option_term job class.defs class.priority ≡ Some c.priority
   pub body : body_of b ≡ Some (c.body, c.trap_words)
@@ -130,8 +130,8 @@ module _ (job : Job) (classes : List ClassPlan) (spaces : List ClassSpace) (coll
       record {
         space = well_space job class.params class.defs s within.defs (first_nil space element place) is.space;
         affinity =
-            subst (λ n. IsTrue (is_element colls n c.affinity.0 c.affinity.1)) count
-            (element_exists job classes spaces colls parts class.defs class.affinity class.affinity_args c.affinity (rest_nil space element place) is.affinity);
+            subst (λ n. IsTrue (is_element colls n c.affinity.coll c.affinity.indices)) count
+            (element_exists job classes spaces colls parts class.defs class.affinity class.affinity_args (c.affinity.coll, c.affinity.indices) (rest_nil space element place) is.affinity);
         flows =
             subst (λ n. IsTrue (list_all (is_flow classes spaces colls types n) c.flows)) count
             (parts_sound (flow_plan job class.defs) (flow_faults job class.defs) (is_flow classes spaces colls types (length class.defs)) IsFlowWithinLimits

@@ -26,7 +26,12 @@ flows_faults job seen flows =
 
 -- the parts of a class outside of its body, from its space and its affinity, and from its flows and its priority
 abbrev pub head_from : ClassSpace × (ℕ × List Term) → List FlowPlan × Option Term → ClassHead
-head_from place rest = record { space = place.0; affinity = place.1; flows = rest.0; priority = rest.1 }
+head_from place rest = record {
+  space = place.0;
+  affinity = record { coll = place.1.0; indices = place.1.1 };
+  flows = rest.0;
+  priority = rest.1;
+}
 
 abbrev pub head_of : Job → ClassTree → Option ClassHead
 head_of job class =

@@ -38,7 +38,7 @@ fn answer(alloc: Global, jdf: &Jdf, given: &Given, globals: &Globals) -> Result<
 }
 
 /// The type check: the plan of a JDF with its data, whose globals are given by name; or the first fault of the whole
-/// text, by place and then by code.
+/// text, by spot and then by code.
 pub fn check(alloc: Global, jdf: &Jdf, given: &Given, globals: &Globals) -> Result<Plan, JdfRefusal>
     requires limits { IsWithinLimits jdf.now }
     requires globals { AreGlobals (record { jdf = jdf.now; given = given.now }) globals.now }

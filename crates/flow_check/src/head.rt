@@ -10,7 +10,7 @@ use check_flows::{element, flow};
 use check_names::{Context, and_rules, join, option_term, repeats, space, with_part};
 use jdf_lex::{JdfCode, JdfRefusal};
 use jdf_tree::{ClassTree, FlowTree};
-use plan_core::FlowPlan;
+use plan_core::{AffinityPlan, FlowPlan};
 use ptg_base::Seq;
 use term_core::{ClassSpace, Expr};
 
@@ -18,8 +18,7 @@ use term_core::{ClassSpace, Expr};
 #[derive(Drop)]
 pub(crate) struct ClassHead {
     pub(crate) space: ClassSpace,
-    /// The collection of the affinity, and its indices.
-    pub(crate) affinity: (u32, Seq<Expr>),
+    pub(crate) affinity: AffinityPlan,
     pub(crate) flows: Seq<FlowPlan>,
     pub(crate) priority: Option<Expr>,
 }
@@ -56,7 +55,10 @@ pub(crate) fn head(context: &Context, class: &ClassTree) -> Result<ClassHead, Jd
     match join(place, rest) {
         Ok((place, rest)) => Ok(ClassHead {
             space: place.0,
-            affinity: place.1,
+            affinity: AffinityPlan {
+                coll: place.1.0,
+                indices: place.1.1,
+            },
             flows: rest.0,
             priority: rest.1,
         }),

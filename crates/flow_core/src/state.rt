@@ -123,11 +123,7 @@ impl State {
         ensures err { OnErr result (self.new ≡ self.old) }
         ensures fits { (G : Data) → Fits m.now G self.old → Fits m.now G self.new }
     {
-        if !self.is_ready(m, t) {
-            return Ok(false);
-        }
-        self.enter_task(t)?;
-        Ok(true)
+        self.claim_by(m, t, goal(m, t))
     }
 
     // Claims a task of the job that has this goal, if it may be claimed.
@@ -142,6 +138,7 @@ impl State {
         ensures exact { IfOk result (λ claimed.
             (G : Data) → Fits m.now G self.old → IsTrue claimed ↔ MayClaim m.now (machine self.old) t.now) }
         ensures state { IfOk result (λ claimed. self.new ≡ (if claimed then with_claim t.now self.old else self.old)) }
+        ensures err { OnErr result (self.new ≡ self.old) }
         ensures fits { (G : Data) → Fits m.now G self.old → Fits m.now G self.new }
     {
         if !self.is_ready_by(m, t, goal) {
@@ -158,11 +155,7 @@ impl State {
         ensures unclaimed { IsTrue result → mark_of self.now t.now ≡ None }
         ensures consistent { IsConsistent m.now }
     {
-        m.is_consistent();
-        if self.claims.contains_key(t) {
-            return false;
-        }
-        self.has_all(m, t, goal(m, t))
+        self.is_ready_by(m, t, goal(m, t))
     }
 
     // Whether a task of the job that has this goal may be claimed.

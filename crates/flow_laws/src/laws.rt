@@ -1,4 +1,4 @@
-//! Laws of faults: where there is none.
+//! Laws of faults and of what is resolved: where there is no fault, and which names there can be.
 
 ghost use Rattle.std.specs.Prelude.{◌≡◌, ℕ, IsTrue, List, Option, Some, [], length, suc};
 ghost use Rattle.term_core.specs.Term.{Term};
@@ -19,6 +19,7 @@ ghost use Rattle.check_flows.specs.Datatypes.{type_number};
 ghost use Rattle.check_flows.specs.Dependences.{flow_faults, flow_plan};
 ghost use Rattle.check_flows.specs.PartsOfJob.{HaveParts};
 ghost use Rattle.check_flows.specs.Places.{element_faults, element_of};
+ghost use Rattle.flow_laws.specs.Closed.{ArgumentsAreClosed, ArgumentsAreNoRanges, IndicesAreClosed, OptionIsClosed};
 ghost use Rattle.flow_laws.specs.Datatypes.{HasOneDatatype};
 
 /// A law: arguments, indices and expressions that are resolved have no fault.
@@ -52,4 +53,13 @@ pub fn a_flow_that_fits_has_no_fault()
         → flow_faults job seen flow ≡ [] }
     ensures one_datatype { (job : Job) (seen : List DefTree) (flow : FlowTree) → flow_faults job seen flow ≡ []
         → HasOneDatatype flow }
+{}
+
+/// A law: arguments, indices and expressions that are resolved name only definitions that are seen; and where no
+/// argument is a range none is resolved to one.
+pub fn what_is_resolved_is_closed()
+    ensures arguments { ArgumentsAreClosed }
+    ensures indices { IndicesAreClosed }
+    ensures option { OptionIsClosed }
+    ensures ranges { ArgumentsAreNoRanges }
 {}

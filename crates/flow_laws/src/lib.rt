@@ -1,8 +1,9 @@
-//! The type check refuses no more than its rules.
+//! The type check refuses no more than its rules, and what it resolves names only what is seen.
 #![tactic(auto)]
 
 mod laws;
 
 pub use laws::{
     a_flow_that_fits_has_no_fault, types_of_one_number_have_one_name, what_is_resolved_has_no_fault,
+    what_is_resolved_is_closed,
 };

@@ -14,6 +14,7 @@ use Rattle.body_eval.specs.Element.{index_in, put_element, tile_of, written, wri
 use Rattle.body_eval.specs.Meaning.{body_meaning, first_then, for_meaning, if_meaning, opening, put_meaning, run, set_meaning, task_budget, turn_values, turns}
 use Rattle.body_eval.specs.Sizes.{size_of}
 use Rattle.body_eval.specs.State.{State, assigned, put, spent, value_in}
+use Rattle.list_lemmas.proofs.Options.{steps_of}
 
 -- the second tiles have the shape of the first
 pub record HasShape (old new : List (Option (List ℤ))) : Type 0 where
@@ -25,11 +26,6 @@ shape_same tiles = record { places = refl; sizes = λ flow. refl }
 
 shape_then : (a b c : List (Option (List ℤ))) → HasShape a b → HasShape b c → HasShape a c
 shape_then a b c h k = record { places = k.places ∙ h.places; sizes = λ flow. k.sizes flow ∙ h.sizes flow }
-
--- what an answer of two steps comes from
-steps_of : {A B F : Type 0} (r : Result A F) (next : A → Result B F) (y : B) → and_then r next ≡ Ok y → (x : A) × (r ≡ Ok x) × (next x ≡ Ok y)
-steps_of (Ok x) next y e = (x, refl, e)
-steps_of (Err f) next y e = absurd cc
 
 written_length : (xs ys : List ℤ) (o : Option ℕ) (v : ℤ) → written_at xs o v ≡ Ok ys → length ys ≡ length xs
 written_length xs ys (Some n) v e = let same : set xs n v ≡ ys = cc in ap length (sym same) ∙ length-set xs n v

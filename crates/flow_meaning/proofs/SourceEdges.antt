@@ -30,6 +30,7 @@ use Rattle.plan_core.specs.declared.target.Target.TheVariants as target
 use Rattle.plan_core.specs.Closed.{is_closed_option, is_span}
 use Rattle.plan_core.specs.Flows.{is_dependence, is_flow, is_in_target, is_second, is_source}
 use Rattle.plan_core.specs.Kinds.{is_data}
+use Rattle.dep_iter.specs.declared.direction.Direction.TheVariants.{In}
 use Rattle.dep_iter.specs.declared.source.Source.{Source}
 use Rattle.dep_iter.specs.declared.source.Source.TheVariants as source
 use Rattle.dep_iter.specs.Tasks.{IsTask, flows_of, locals_of, task}
@@ -273,9 +274,9 @@ module _ (P : Plan) (t : Task) (task_of_job : IsTask P t) (well : IsWellTask P t
   only_source e at h =
       let p = (in_edge_is P t e).0 h in
       let env = locals_of P t in
-      let q : IsSomeAnd (slice_get (flows_of P t) n) (λ g. IsIn (link_in e) (flat_map (links_to env n) (flow_targets true env g))) =
-      subst (λ m. IsSomeAnd (slice_get (flows_of P t) m) (λ g. IsIn (link_in e) (flat_map (links_to env m) (flow_targets true env g)))) at p.1 in
-      let r : IsIn (link_in e) (flat_map (links_to env n) (flow_targets true env f)) = rw here at q in
+      let q : IsSomeAnd (slice_get (flows_of P t) n) (λ g. IsIn (link_in e) (flat_map (links_to env n) (flow_targets In env g))) =
+      subst (λ m. IsSomeAnd (slice_get (flows_of P t) m) (λ g. IsIn (link_in e) (flat_map (links_to env m) (flow_targets In env g)))) at p.1 in
+      let r : IsIn (link_in e) (flat_map (links_to env n) (flow_targets In env f)) = rw here at q in
       rw here (by_targets e p.0 r)
 
   flow_among : (xs : List Target) (e : Edge) → source_among t (locals_of P t) n xs ≡ source.Task e → e.in_flow ≡ n

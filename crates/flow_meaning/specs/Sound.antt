@@ -19,6 +19,10 @@ pub record HasAllArrived (P : Plan) (S : MachineState) (t : Task) : Type 0 where
   pub task : IsTask P t
   pub all_arrived : arrived P S t ≡ goal P t
 
+-- an item with the tile that its task leaves in the flow of the item
+abbrev pub with_its_tile : Plan → Data → Item → Sent
+with_its_tile P G i = record { item = i; tile = output_tile (ended P G (sender i)) (item_flow i) }
+
 -- an item of a claimed task that has outputs by the backward meaning, sent with the tile that the task leaves in the
 -- flow of the item
 pub record IsOutput (P : Plan) (G : Data) (S : MachineState) (x : Sent) : Type 0 where

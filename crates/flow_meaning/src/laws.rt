@@ -1,24 +1,19 @@
 //! Laws of the backward meaning of a job.
 
-ghost use Rattle.std.specs.Prelude.{◌≡◌, ◌+◌, ℕ, ℤ, IsTrue, List, Ok, Option, Some, length, option_map, slice_get, slice_index};
+ghost use Rattle.std.specs.Prelude.{◌≡◌, ◌+◌, ℕ, IsTrue, Some, slice_get};
 ghost use Rattle.ptg_base.specs.Lists.{IsIn};
 ghost use Rattle.ptg_base.specs.Task.{Task};
 ghost use Rattle.ptg_base.specs.declared.edge.Edge.{Edge};
-ghost use Rattle.ptg_base.specs.declared.edge.Item.{Item};
-ghost use Rattle.body_eval.specs.Sizes.{size_of};
 ghost use Rattle.plan_core.specs.declared.flow.FlowPlan.{FlowPlan};
 ghost use Rattle.plan_core.specs.declared.plan.Plan.{Plan};
 ghost use Rattle.plan_core.specs.Kinds.{is_data};
 ghost use Rattle.coll_data.specs.Data.{Data};
-ghost use Rattle.coll_data.specs.WellMade.{IsWellMade};
-ghost use Rattle.plan_data.specs.Fit.{DataFit};
 ghost use Rattle.dep_iter.specs.declared.source.Source.TheVariants as source;
 ghost use Rattle.dep_iter.specs.Tasks.{IsTask, flows_of};
 ghost use Rattle.dep_iter.specs.Edges.{data_source, in_edges};
-ghost use Rattle.dep_iter.specs.Items.{item_flow, items};
 ghost use Rattle.dep_iter.specs.Well.{IsWellTask};
 ghost use Rattle.dep_iter.specs.Consistent.{IsConsistent};
-ghost use Rattle.flow_meaning.specs.Ending.{Ended, flow_size, has_outputs, output_tile};
+ghost use Rattle.flow_meaning.specs.Ending.{Ended};
 ghost use Rattle.flow_meaning.specs.Backward.{ended, ended_after, ended_within};
 
 /// A law: in a well task, an edge that is the source of a data flow is one of those into the task, and it is the only
@@ -44,19 +39,4 @@ pub fn what_a_round_finds_stays()
 pub fn a_task_ends_by_its_sources()
     ensures { (P : Plan) (G : Data) (t : Task) → IsConsistent P → IsTask P t
         → ended P G t ≡ ended_after P G (ended P G) t }
-{}
-
-/// A law: the tiles that a task leaves are as many as it has flows, and each has as many numbers as its flow's type has
-/// elements. A CTL flow has none, and neither has a flow whose source is `NULL`; each item of a data flow has one.
-pub fn tiles_have_the_sizes_of_their_flows()
-    ensures places { (P : Plan) (G : Data) (t : Task) (tiles : List (Option (List ℤ))) → IsConsistent P
-        → DataFit P.colls P.elems G → IsWellMade G → IsTask P t → ended P G t ≡ Some (Ok tiles)
-        → length tiles ≡ length (flows_of P t) }
-    ensures sizes { (P : Plan) (G : Data) (t : Task) (tiles : List (Option (List ℤ))) (n : ℕ) (f : FlowPlan)
-        → IsConsistent P → DataFit P.colls P.elems G → IsWellMade G → IsTask P t → ended P G t ≡ Some (Ok tiles)
-        → slice_get (flows_of P t) n ≡ Some f → size_of tiles n ≡ flow_size P t n f }
-    ensures sent { (P : Plan) (G : Data) (t : Task) (i : Item) (f : FlowPlan) → IsConsistent P
-        → DataFit P.colls P.elems G → IsWellMade G → IsTask P t → IsTrue (has_outputs (ended P G t))
-        → IsIn i (items P t) → slice_get (flows_of P t) (item_flow i) ≡ Some f → IsTrue (is_data (Some f.kind))
-        → option_map length (output_tile (ended P G t) (item_flow i)) ≡ Some (slice_index P.elems f.datatype) }
 {}

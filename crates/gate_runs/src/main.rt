@@ -1,7 +1,7 @@
 //! Runs jobs through the program with gates that wait, count or note, and prints how each run ends. Two bodies at once
 //! show that there are two threads, a count of the bodies of each task that each is run once, and the notes of the
-//! tasks of one worker that `trace` prints them in their order. With arguments it is the program with a gate that counts
-//! bodies.
+//! tasks of one worker that `trace` prints them in their order. With arguments it is the program with a gate that
+//! counts bodies.
 #![tactic(auto)]
 
 mod begun;

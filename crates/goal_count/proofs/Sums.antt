@@ -1,5 +1,5 @@
 -- Lengths of joined lists as sums, and of combinations as products.
-use Rattle.std.proofs.Common.{◌≡◌, ℕ, suc, ◌+◌, zero, ◌*◌, ◌≤◌, ℤ, true, List, [], ◌∷◌, ◌++◌, length, map, refl, ap, sym, ◌∙◌, subst, length-append, arith}
+use Rattle.std.proofs.Common.{◌≡◌, ℕ, suc, ◌+◌, zero, ◌*◌, ◌≤◌, ℤ, List, [], ◌∷◌, ◌++◌, length, map, refl, ap, sym, ◌∙◌, subst, length-append, arith}
 use Rattle.std.proofs.Math.Nat.{mul_comm, suc-mul, zero-mul}
 use Rattle.std.proofs.lemmas.List.{length-map}
 use Rattle.std.proofs.lemmas.List.Sums.{sum_by-cons}
@@ -9,6 +9,7 @@ use Rattle.plan_core.specs.declared.flow.FlowPlan.{FlowPlan}
 use Rattle.plan_core.specs.declared.plan.Plan.{Plan}
 use Rattle.plan_core.specs.declared.target.Target.{Target}
 use Rattle.plan_core.specs.declared.target.Target.TheVariants as target
+use Rattle.dep_iter.specs.declared.direction.Direction.TheVariants.{In}
 use Rattle.dep_iter.specs.Tasks.{flows_of, locals_of}
 use Rattle.dep_iter.specs.Active.{by_flow, flow_ins, takes_first}
 use Rattle.dep_iter.specs.Edges.{in_edges}
@@ -48,16 +49,16 @@ length-numbered env n (x ∷ xs) rest =
     let h = sum_by-cons (target_count env) x xs in
     omega arith
 
-length-by_flow : (env : List ℤ) (n : ℕ) (fs : List FlowPlan) → length (all_links env (by_flow (flow_targets true env) n fs)) ≡ flows_count env fs
+length-by_flow : (env : List ℤ) (n : ℕ) (fs : List FlowPlan) → length (all_links env (by_flow (flow_targets In env) n fs)) ≡ flows_count env fs
 length-by_flow env n [] = refl
 length-by_flow env n (f ∷ fs) =
-    let e = length-numbered env n (flow_ins env f) (by_flow (flow_targets true env) (suc n) fs) in
+    let e = length-numbered env n (flow_ins env f) (by_flow (flow_targets In env) (suc n) fs) in
     let g = length-by_flow env (suc n) fs in
     let h = sum_by-cons (λ (f : FlowPlan). held_count (takes_first f.kind) f.ins env) f fs in
     omega arith
 
 -- the number of links of the in dependences of a task
-pub length-task_links : (P : Plan) (t : Task) → length (task_links P t true) ≡ flows_count (locals_of P t) (flows_of P t)
+pub length-task_links : (P : Plan) (t : Task) → length (task_links P t In) ≡ flows_count (locals_of P t) (flows_of P t)
 length-task_links P t = length-by_flow (locals_of P t) 0 (flows_of P t)
 
 -- a product, one factor of which may be too large where the other is 0
@@ -85,5 +86,5 @@ times a b m n r e f h k = (
 )
 
 -- the number of edges into a task, whose links they are
-pub length-in_edges : (P : Plan) (t : Task) → map (edge_in t) (task_links P t true) ≡ in_edges P t → flows_count (locals_of P t) (flows_of P t) ≡ length (in_edges P t)
-length-in_edges P t links = sym (length-task_links P t) ∙ sym (length-map (task_links P t true) (edge_in t)) ∙ ap length links
+pub length-in_edges : (P : Plan) (t : Task) → map (edge_in t) (task_links P t In) ≡ in_edges P t → flows_count (locals_of P t) (flows_of P t) ≡ length (in_edges P t)
+length-in_edges P t links = sym (length-task_links P t) ∙ sym (length-map (task_links P t In) (edge_in t)) ∙ ap length links

@@ -1,5 +1,8 @@
 //! Why a text is refused.
 
+ghost use Rattle.std.specs.Prelude.{◌≡◌};
+ghost use Rattle.ptg_base.specs.declared.refusal.Refusal.TheVariants.{Fault};
+
 use grammar_core::Spot;
 use ptg_base::Refusal;
 
@@ -83,3 +86,10 @@ pub struct JdfFault {
 
 /// Why a text was not read: its fault, or want of memory.
 pub type JdfRefusal = Refusal<JdfFault>;
+
+/// The refusal for a fault with this code at a spot.
+pub fn fault_at(spot: Spot, code: JdfCode) -> JdfRefusal
+    ensures { result ≡ Fault (record { spot = spot; code = code }) }
+{
+    JdfRefusal::Fault(JdfFault { spot, code })
+}

@@ -13,7 +13,7 @@ ghost use Rattle.jdf_lex.specs.Tokens.{IsTokenFault, IsTokensOf};
 ghost use Rattle.jdf_lex.specs.Reading.{front_unit, token_here, IsCursorIn, IsScanned};
 
 use crate::cursor::{Cursor, advance};
-use crate::fault::{JdfCode, JdfFault, JdfRefusal};
+use crate::fault::{JdfCode, JdfRefusal, fault_at};
 use crate::front::front_unit;
 use crate::lexical_unit::LexicalUnit;
 use crate::token::Lexed;
@@ -24,13 +24,6 @@ use std::alloc::Global;
 
 // The most tokens that a text may have.
 const MOST_TOKENS: usize = 1_000_000;
-
-// The refusal for a fault at a spot.
-fn fault(spot: Spot, code: JdfCode) -> JdfRefusal
-    ensures { result ≡ Fault (record { spot = spot; code = code }) }
-{
-    JdfRefusal::Fault(JdfFault { spot, code })
-}
 
 // The kind and the length of the token at a position.
 #[derive(Clone, Copy)]
@@ -55,7 +48,7 @@ fn add_token(
         → (f ≡ record { spot = here.spot; code = TooManyTokens }) × (most_tokens ≤ length tokens.old) }
 {
     if tokens.len() >= MOST_TOKENS {
-        return Err(fault(here.spot, JdfCode::TooManyTokens));
+        return Err(fault_at(here.spot, JdfCode::TooManyTokens));
     }
     let end = here.index + front.len;
     let word = Text::of(alloc, &text[here.index..end])?;
@@ -84,7 +77,7 @@ fn read_unit(
     ensures refused { (f : JdfFault) → result ≡ Err (Fault f) → IsTokenFault text.now f }
 {
     let Some((unit, len)) = front_unit(&text[here.index..]) else {
-        return Err(fault(here.spot, JdfCode::Unclosed));
+        return Err(fault_at(here.spot, JdfCode::Unclosed));
     };
     let next = advance(text, here, len);
     if let LexicalUnit::TokenOf(kind) = unit {

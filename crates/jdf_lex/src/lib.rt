@@ -11,7 +11,7 @@ mod lexical_unit;
 mod opening;
 mod token;
 
-pub use fault::{JdfCode, JdfFault, JdfRefusal};
+pub use fault::{JdfCode, JdfFault, JdfRefusal, fault_at};
 pub use grammar_core::{Spot, Token};
 pub use jdf_alphabet::TokenKind;
 pub use laws::one_list_of_tokens;

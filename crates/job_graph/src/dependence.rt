@@ -1,5 +1,6 @@
 //! Where a dependence of a plan stands in the text.
 
+use dep_iter::Direction;
 use jdf_tree::{ClassTree, DepTree, FlowTree, Jdf, TargetTree};
 
 /// The number of a dependence among all of its flow, from 1, and the line of its first target.
@@ -24,8 +25,9 @@ fn line_of(dependence: &DepTree) -> u32 {
     spot.line
 }
 
-/// Where the in dependence, or the out dependence, with this number stands.
-pub fn in_text(flow: &FlowTree, inward: bool, wanted: usize) -> Option<InText> {
+/// Where the dependence with this number stands among those of its direction.
+pub fn in_text(flow: &FlowTree, way: Direction, wanted: usize) -> Option<InText> {
+    let inward = way == Direction::In;
     let mut left = wanted;
     for (index, dependence) in flow.deps.as_slice().iter().enumerate() {
         if dependence.inward == inward {

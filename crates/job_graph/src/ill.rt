@@ -1,14 +1,14 @@
 //! Which dependence of a task needs an expression that has no value.
 
-use dep_iter::arg_steps;
+use dep_iter::{Direction, arg_steps};
 use plan_core::{Arg, DepPlan, FlowPlan, Target};
 use term_core::{Expr, eval};
 
-/// Whether the first such dependence of a flow is an in dependence, and its number among those of its direction.
-pub fn ill_dependence(flow: &FlowPlan, env: &[i64]) -> Option<(bool, usize)> {
+/// The direction of the first such dependence of a flow, and its number among those of that direction.
+pub fn ill_dependence(flow: &FlowPlan, env: &[i64]) -> Option<(Direction, usize)> {
     match first_ill(flow.kind.takes_first(), flow.ins.as_slice(), env) {
-        Some(number) => Some((true, number)),
-        None => Some((false, first_ill(false, flow.outs.as_slice(), env)?)),
+        Some(number) => Some((Direction::In, number)),
+        None => Some((Direction::Out, first_ill(false, flow.outs.as_slice(), env)?)),
     }
 }
 

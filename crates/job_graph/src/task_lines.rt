@@ -9,7 +9,7 @@ use crate::lines::Lines;
 use crate::names::{add_place, add_task, class_name, flow_name};
 use crate::no_task::add_no_task;
 use crate::request::TaskName;
-use dep_iter::{affinity, flows_of, is_task, locals_of, well_task};
+use dep_iter::{Direction, affinity, flows_of, is_task, locals_of, well_task};
 use edge_walk::{Far, Tie, ties_of};
 use jdf_tree::{FlowTree, Jdf};
 use plan_core::Plan;
@@ -75,11 +75,11 @@ fn add_lines<W: Write + Drop>(
     lines.end()?;
     add_affinity(lines, tree, plan, task)?;
     add_ill(lines, tree, plan, task)?;
-    for tie in ties_of(plan, task, true) {
-        add_tie(lines, tree, plan, task, (true, &tie))?;
+    for tie in ties_of(plan, task, Direction::In) {
+        add_tie(lines, tree, plan, task, (Direction::In, &tie))?;
     }
-    for tie in ties_of(plan, task, false) {
-        add_tie(lines, tree, plan, task, (false, &tie))?;
+    for tie in ties_of(plan, task, Direction::Out) {
+        add_tie(lines, tree, plan, task, (Direction::Out, &tie))?;
     }
     Ok(())
 }
@@ -134,21 +134,21 @@ fn ill_in_text(tree: &Jdf, plan: &Plan, task: &TaskId, flow: u8) -> Option<InTex
 {
     let number = flow as usize;
     let locals = locals_of(plan, task);
-    let (inward, dependence) = ill_dependence(
+    let (way, dependence) = ill_dependence(
         flows_of(plan, task).get(number)?,
         locals.as_slice(),
     )?;
     let class = class_of(tree, task.class())?;
-    in_text(class.flows.as_slice().get(number)?, inward, dependence)
+    in_text(class.flows.as_slice().get(number)?, way, dependence)
 }
 
-// The line of a tie, inward or outward.
+// The line of a tie in one direction.
 fn add_tie<W: Write + Drop>(
     lines: &mut Lines<W>,
     tree: &Jdf,
     plan: &Plan,
     task: &TaskId,
-    (inward, tie): (bool, &Tie),
+    (way, tie): (Direction, &Tie),
 ) -> Result<(), Failure> {
     let Some(class) = class_of(tree, task.class()) else {
         return Ok(());
@@ -156,10 +156,13 @@ fn add_tie<W: Write + Drop>(
     let Some(flow) = class.flows.as_slice().get(tie.flow as usize) else {
         return Ok(());
     };
-    lines.begin(if inward { "in" } else { "out" })?;
+    lines.begin(match way {
+        Direction::In => "in",
+        Direction::Out => "out",
+    })?;
     lines.field(&flow_name(plan, task.class(), tie.flow))?;
     lines.field(&kind_name(flow))?;
-    if let Some(it) = in_text(flow, inward, tie.dependence) {
+    if let Some(it) = in_text(flow, way, tie.dependence) {
         lines.field(&it.number)?;
         lines.field(&it.line)?;
     }

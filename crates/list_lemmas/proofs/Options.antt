@@ -4,6 +4,7 @@ use Rattle.std.proofs.Common.{◌+◌, subst, Err}
 use Rattle.std.proofs.lemmas.Option.{same_Some}
 use Rattle.std.specs.Option.{IsSome}
 use Rattle.std.specs.Prelude.{Ok, OnOk, Result}
+use Rattle.ptg_base.specs.Returns.{and_then}
 
 pub some_value : {A : Type 0} (o : Option A) → IsSome o → (x : A) × (o ≡ Some x)
 some_value None h = absurd cc
@@ -57,3 +58,13 @@ on_success {T} {E} {P} r x e h = subst (λ (s : Result T E). OnOk s P) e h
 pub by_result : {A E P : Type 0} (r : Result A E) → ((a : A) → r ≡ Ok a → P) → ((e : E) → r ≡ Err e → P) → P
 by_result (Ok a) if_ok if_err = if_ok a refl
 by_result (Err e) if_ok if_err = if_err e refl
+
+-- what an answer of two steps comes from
+pub steps_of : {A B F : Type 0} (r : Result A F) (next : A → Result B F) (y : B) → and_then r next ≡ Ok y
+    → (x : A) × (r ≡ Ok x) × (next x ≡ Ok y)
+steps_of (Ok x) next y e = (x, refl, e)
+steps_of (Err f) next y e = absurd cc
+
+pub none_of : {A : Type 0} (o : Option A) → is_some o ≡ false → o ≡ None
+none_of None h = refl
+none_of (Some x) h = absurd cc

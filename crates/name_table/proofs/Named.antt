@@ -39,7 +39,3 @@ found_is name names = ap is_some (position_from-zero (λ (n : List ℕ). bytes_e
 -- a table has a value of the name where the name has an index among its names
 pub value_is_named : {V : Type 0} (name : List ℕ) (table : List (List ℕ × V)) → is_some (value_named table name) ≡ is_some (index_named (keys_of table) name)
 value_is_named name table = has_is name table ∙ sym (found_is name (keys_of table))
-
-pub none_of : {X : Type 0} (r : Option X) → is_some r ≡ false → r ≡ None
-none_of (Some x) h = absurd cc
-none_of None h = refl

@@ -45,9 +45,13 @@ in_bucket names name mark [] = None
 in_bucket names name mark (s ∷ ss) =
     cond (nat_eq s.mark mark && has_number names name s.number) (Some s.number) (in_bucket names name mark ss)
 
+-- how many slots a bucket has room for
+abbrev pub most_slots : ℕ
+most_slots = 7
+
 -- whether a bucket has room for one more slot
 abbrev pub has_room : List Slot → Bool
-has_room bucket = nat_lt (length bucket) 7
+has_room bucket = nat_lt (length bucket) most_slots
 
 -- the bucket that the name belongs in
 abbrev pub bucket_at : List (List Slot) → List ℕ → List Slot

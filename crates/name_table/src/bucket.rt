@@ -1,7 +1,7 @@
 //! The slots of a bucket.
 
 ghost use Rattle.std.specs.Prelude.{◌≡◌, ◌<◌, [], ◌∷◌, ◌++◌, length};
-ghost use Rattle.name_table.specs.Index.{has_room};
+ghost use Rattle.name_table.specs.Index.{has_room, most_slots};
 
 use arrayvec::ArrayVec;
 use std::marker::Model;
@@ -13,10 +13,13 @@ pub struct Slot {
     pub number: u32,
 }
 
+// How many slots a bucket has room for.
+const MOST_SLOTS: usize = 7;
+
 /// At most seven slots, seen as their list.
 #[derive(Drop)]
 pub struct Bucket {
-    slots: ArrayVec<Slot, 7>,
+    slots: ArrayVec<Slot, MOST_SLOTS>,
 }
 
 impl Model for Bucket {
@@ -42,7 +45,7 @@ impl Bucket {
     pub fn has_room(&self) -> bool
         ensures { result ≡ has_room self.now }
     {
-        self.slots.len() < 7
+        self.slots.len() < MOST_SLOTS
     }
 
     /// The slots in the order in which they were added.
@@ -54,7 +57,7 @@ impl Bucket {
 
     /// Adds a slot.
     pub fn push(&mut self, slot: Slot)
-        requires { length self.old < 7 }
+        requires { length self.old < most_slots }
         ensures { self.new ≡ self.old ++ slot ∷ [] }
     {
         self.slots.push(slot);

@@ -3,7 +3,7 @@
 ghost use Rattle.dep_iter.specs.Tasks.{IsTask};
 
 use crate::names::{add_flow, add_place, add_task};
-use dep_iter::{Matched, Source, affinity, all_tasks, data_source, flows_of, is_task, priority};
+use dep_iter::{Direction, Matched, Source, affinity, all_tasks, data_source, flows_of, is_task, priority};
 use edge_walk::{Far, ties_of};
 use goal_count::goal;
 use plan_core::Plan;
@@ -86,7 +86,7 @@ fn add_source(text: &mut String, plan: &Plan, task: &TaskId, number: u8) -> Resu
 fn add_ins(text: &mut String, plan: &Plan, task: &TaskId) -> Result<(), Why>
     requires { IsTask plan.now task.now }
 {
-    for tie in ties_of(plan, task, true) {
+    for tie in ties_of(plan, task, Direction::In) {
         if let Far::Flow(from, out_flow) = &tie.far {
             text.push_str("  ")?;
             add_flow(text, plan, task.class(), tie.flow)?;
@@ -104,7 +104,7 @@ fn add_ins(text: &mut String, plan: &Plan, task: &TaskId) -> Result<(), Why>
 fn add_outs(text: &mut String, plan: &Plan, task: &TaskId) -> Result<(), Why>
     requires { IsTask plan.now task.now }
 {
-    for tie in ties_of(plan, task, false) {
+    for tie in ties_of(plan, task, Direction::Out) {
         if let Far::Flow(to, in_flow) = &tie.far {
             text.push_str("  ")?;
             add_flow(text, plan, task.class(), tie.flow)?;
@@ -122,7 +122,7 @@ fn add_outs(text: &mut String, plan: &Plan, task: &TaskId) -> Result<(), Why>
 fn add_writes(text: &mut String, plan: &Plan, task: &TaskId) -> Result<(), Why>
     requires { IsTask plan.now task.now }
 {
-    for tie in ties_of(plan, task, false) {
+    for tie in ties_of(plan, task, Direction::Out) {
         if let Far::Place(place) = &tie.far {
             text.push_str("  ")?;
             add_flow(text, plan, task.class(), tie.flow)?;

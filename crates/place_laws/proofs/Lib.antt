@@ -1,3 +1,2 @@
 pub mod Indexes
-pub mod Rows
 pub mod Listing

@@ -21,7 +21,7 @@ use Rattle.plan_core.specs.Bodies.{respects_kinds, has_words, keeps_loop_variabl
 pub record IsWellClass (classes : List ClassPlan) (spaces : List ClassSpace) (colls : List Shape) (types : ℕ)
     (s : ClassSpace) (c : ClassPlan) : Type 0 where
   pub space : IsWellSpace s
-  pub affinity : IsTrue (is_element colls (length s.defs) c.affinity.0 c.affinity.1)
+  pub affinity : IsTrue (is_element colls (length s.defs) c.affinity.coll c.affinity.indices)
   pub flows : IsTrue (list_all (is_flow classes spaces colls types (length s.defs)) c.flows)
   pub flow_names : IsTrue (are_distinct (map (λ (f : FlowPlan). f.name) c.flows))
   pub priority : IsTrue (is_closed_option (length s.defs) c.priority)

@@ -4,11 +4,27 @@ use crate::flow::FlowPlan;
 use ptg_base::{Seq, Text};
 use term_core::{Body, Expr};
 
+/// Where the tasks of a class would best run: an element of a collection, by expressions over their locals.
+pub struct AffinityPlan {
+    /// The number of the collection.
+    pub coll: u32,
+    /// An index for each of its dimensions.
+    pub indices: Seq<Expr>,
+}
+
+impl Drop for AffinityPlan {
+    fn drop(self) {
+        let AffinityPlan {
+            coll: _coll,
+            indices: _indices,
+        } = self;
+    }
+}
+
 /// A class of tasks. Its locals are numbered as the definitions of its space.
 pub struct ClassPlan {
     pub name: Text,
-    /// Where its tasks would best run: the number of a collection, and an index for each of its dimensions.
-    pub affinity: (u32, Seq<Expr>),
+    pub affinity: AffinityPlan,
     /// Its flows, in the text's order.
     pub flows: Seq<FlowPlan>,
     /// The priority of its tasks, a hint.

@@ -7,7 +7,7 @@ mod plan;
 mod shape;
 mod target;
 
-pub use class::ClassPlan;
+pub use class::{AffinityPlan, ClassPlan};
 pub use flow::{DepPlan, FlowPlan};
 pub use plan::Plan;
 pub use shape::Shape;

@@ -8,7 +8,11 @@ abbrev pub bytes_of : Bytes → List ℕ
 bytes_of (Short count place) = take count place
 bytes_of (Long bytes) = bytes.value.items
 
+-- how many bytes of a text are held in place
+abbrev pub most_short : ℕ
+most_short = 22
+
 -- a text held in place has no more bytes than fit there
 abbrev pub FitsInPlace : Bytes → Type 0
-FitsInPlace (Short count place) = count ≤ 22
+FitsInPlace (Short count place) = count ≤ most_short
 FitsInPlace (Long bytes) = Unit {0}

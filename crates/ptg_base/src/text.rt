@@ -20,7 +20,7 @@ const MOST_SHORT: usize = 22;
 // The bytes of a text: in place where they are few, so that a short name takes no memory of its own.
 #[derive(Debug, Drop)]
 enum Bytes {
-    Short(u8, [u8; 22]),
+    Short(u8, [u8; MOST_SHORT]),
     Long(Box<Vec<u8>>),
 }
 
@@ -53,7 +53,7 @@ impl Text {
         ensures { IfOk result (λ text. text ≡ bytes.now) }
     {
         if bytes.len() <= MOST_SHORT {
-            let mut place = [0; 22];
+            let mut place = [0; MOST_SHORT];
             place[..bytes.len()].copy_from_slice(bytes);
             return Ok(Text {
                 bytes: Bytes::Short(bytes.len() as u8, place),

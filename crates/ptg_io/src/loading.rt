@@ -12,7 +12,7 @@ use ptg_base::{MOST_BYTES, Seq};
 use std::alloc::{AllocError, AllocFailed, Global};
 
 // How many bytes are asked for at once.
-const PIECE: usize = 65536;
+const READ_SIZE: usize = 65536;
 
 /// Why a file was not loaded.
 #[derive(Clone, Copy, Debug, PartialEq, Eq)]
@@ -68,7 +68,7 @@ pub fn load<F: Files>(alloc: Global, files: &mut F, name: &str) -> Result<Seq<u8
     ensures no_fault { ¬ IsErrOf result LoadFault.Failed →
         (other : List ℕ) → F.faults files.new other ≡ F.faults files.old other }
 {
-    let mut piece = zeros(alloc, PIECE)?;
+    let mut piece = zeros(alloc, READ_SIZE)?;
     let bytes = read_all(alloc, files, name, piece.as_mut_slice())?;
     Ok(Seq::of(bytes))
 }

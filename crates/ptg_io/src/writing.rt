@@ -8,7 +8,7 @@ use crate::files::Failed;
 use crate::sink::Sink;
 
 // How many bytes are written at once, if the sink takes that many.
-const PIECE: usize = 4096;
+const WRITE_SIZE: usize = 4096;
 
 /// Appends all of the bytes, piece by piece. On `Err` a proper prefix was written.
 pub fn write_all<O: Sink>(sink: &mut O, bytes: &[u8]) -> Result<(), Failed>
@@ -21,7 +21,7 @@ pub fn write_all<O: Sink>(sink: &mut O, bytes: &[u8]) -> Result<(), Failed>
 {
     let mut done = 0;
     while done < bytes.len() {
-        let end = bytes.len().min(done.saturating_add(PIECE));
+        let end = bytes.len().min(done.saturating_add(WRITE_SIZE));
         done += sink.write(&bytes[done..end])?;
     }
     Ok(())

@@ -1,8 +1,7 @@
 -- The check of a job's two files: how its steps make the verdict that the files denote, and that there is one.
-use Rattle.std.proofs.Common.{◌≡◌, ℕ, ◌≤◌, List, Some, Result, Ok, Err, refl, sym, ◌∙◌, ap, subst, inl, inr, arith}
+use Rattle.std.proofs.Common.{◌≡◌, ℕ, ◌≤◌, List, Some, Result, Ok, Err, refl, sym, ◌∙◌, ap, subst, inl, inr}
 use Rattle.std.specs.Prelude.{Option, None, IfOk}
 use Rattle.ptg_base.specs.declared.memory.OutOfMemory.{OutOfMemory}
-use Rattle.ptg_io.specs.Faults.{Rose}
 use Rattle.ptg_io.specs.Files.{file_of, IsLonger}
 use Rattle.jdf_tree.specs.declared.tree.Jdf.{Jdf}
 use Rattle.jdf_tree.specs.Jdf.{IsJdf}
@@ -24,11 +23,7 @@ use Rattle.ptg_top.specs.JobFiles.{Entries, RefusesText, ContentsDenote, FilesDe
 use Rattle.ptg_top.specs.Steps.{CheckOfDataEndsWith, IsTreeRead, TreeIsRefused}
 use Rattle.ptg_top.specs.Reports.{IsVerdictOnRequest}
 use Rattle.ptg_top.proofs.JdfFiles.{job_is_of_texts}
-
--- if a count rose after b >= a, it rose since a
-pub rose_since : (a b c : ℕ) → a ≤ b → Rose b c → Rose a c
-rose_since a b c le (inl lt) = inl (omega arith)
-rose_since a b c le (inr top) = inr top
+use Rattle.report_text.proofs.Putting.{rose_from}
 
 module _ (contents : Option Entries) (old new : ℕ) (text data_name : List ℕ) where
   -- a data file that was loaded
@@ -62,7 +57,7 @@ module _ (contents : Option Entries) (old new : List ℕ → ℕ) (jdf data_name
   tree_ends : (mid : ℕ) (J : Jdf) (v : Denotation) (read : IsTreeRead contents jdf J) → old data_name ≤ mid
       → CheckOfDataEndsWith contents mid (new data_name) read.0 data_name v → IsVerdictOnRequest contents old new (Check jdf data_name) v
   tree_ends mid J v read le (inl (e, rose)) =
-      inl (data_name, rose_since (old data_name) mid (new data_name) le rose, inr (refl, λ files t. (J, (read.0, read.2 files t, read.1))), e)
+      inl (data_name, rose_from (old data_name) mid (new data_name) le rose, inr (refl, λ files t. (J, (read.0, read.2 files t, read.1))), e)
   tree_ends mid J v read le (inr (job, e, known)) =
       inr (
         job_is_of_texts v job e,

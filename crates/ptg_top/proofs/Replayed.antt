@@ -24,7 +24,7 @@ use Rattle.ptg_top.specs.Replay.{IsReplayed, IsReplayOf}
 use Rattle.ptg_top.specs.Reports.{IsOfTexts, IsVerdictOnRequest}
 use Rattle.ptg_top.specs.Steps.{ReplayEndsWith}
 use Rattle.ptg_top.proofs.Answered.{kept}
-use Rattle.ptg_top.proofs.Checked.{rose_since}
+use Rattle.report_text.proofs.Putting.{rose_from}
 
 -- a text that is accepted has no fault, and so it is a trace
 pub accepted : (P : Plan) (given : Data) → IsConsistent P → (text : List ℕ) (r : Result Outcome TraceFault) (o : Outcome) → r ≡ Ok o → ((f : TraceFault) → IsTraceFault P given text f → r ≡ Err f)
@@ -56,7 +56,7 @@ module _ (contents : Option Entries) (jdf data_name trace : List ℕ) where
 
     trace_ends : (v : Denotation) → old trace ≤ mid trace → ((files : Entries) → contents ≡ Some files → FilesDenote files jdf data_name (verdicts.Job (jobs.Consistent P given)))
         → ReplayEndsWith contents (mid trace) (new trace) trace P given v → IsVerdictOnRequest contents old new (Replay jdf data_name trace) v
-    trace_ends v le job (inl (e, rose)) = inl (trace, rose_since (old trace) (mid trace) (new trace) le rose, inr (refl, λ files t. (P, given, job files t)), e)
+    trace_ends v le job (inl (e, rose)) = inl (trace, rose_from (old trace) (mid trace) (new trace) le rose, inr (refl, λ files t. (P, given, job files t)), e)
     trace_ends v le job (inr (of, known)) =
         inr (
           of,

@@ -13,7 +13,7 @@ use Rattle.run_pool.specs.Runs.{Run, run_of}
 use Rattle.run_pool.specs.declared.settings.Settings.{Settings}
 use Rattle.trace_core.specs.Text.{trace_text}
 use Rattle.trace_exists.proofs.Either.{order_tasks}
-use Rattle.ptg_top.specs.declared.verdict.Finding.TheVariants.{Order}
+use Rattle.ptg_top.specs.declared.verdict.Finding.TheVariants.{Trace}
 use Rattle.ptg_top.specs.declared.verdict.RanBy.TheVariants.{Table}
 use Rattle.ptg_top.specs.Denotation as verdicts
 use Rattle.ptg_top.specs.Tables.{IsRunOf}
@@ -26,11 +26,11 @@ ran_tasks P Q G ts us plan same order =
 
 -- the text of the tasks of a run, in the order in which they ran
 pub traced_by : (s : Settings) (P : Plan) (G : Data) (p : Run) (r : ReceiptView) (outcome : Outcome) (ts us : List Task) (text : List ℕ) (Q : Plan) → p ≡ run_of P G s → IsRunOf s P G (Table r) outcome
-    → IsRanOrder p.job.matched p.job.given ts → Q ≡ r.plan → us ≡ ts → text ≡ trace_text Q us → IsTraced P G (verdicts.Ran r.plan (Order text))
+    → IsRanOrder p.job.matched p.job.given ts → Q ≡ r.plan → us ≡ ts → text ≡ trace_text Q us → IsTraced P G (verdicts.Ran r.plan (Trace text))
 traced_by s P G p r outcome ts us text Q run of order plan same is =
     let here : IsRanOrder P G ts = subst (λ (j : Job). IsRanOrder j.matched j.given ts) (ap (λ (q : Run). q.job) run) order in
     let printed : text ≡ trace_text P ts = is ∙ (ap (λ (R : Plan). trace_text R us) (plan ∙ of.plan) ∙ ap (trace_text P) same) in (
       ts,
       record { legal = here.legal; all = here.ran },
-      ap (λ (R : Plan). verdicts.Ran R (Order text)) of.plan ∙ ap (λ (x : List ℕ). verdicts.Ran P (Order x)) printed,
+      ap (λ (R : Plan). verdicts.Ran R (Trace text)) of.plan ∙ ap (λ (x : List ℕ). verdicts.Ran P (Trace x)) printed,
     )

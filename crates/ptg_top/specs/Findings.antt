@@ -12,7 +12,7 @@ use Rattle.report_text.specs.Ranked.{ranked_text}
 use Rattle.ptg_top.specs.declared.status.Status.{Status}
 use Rattle.ptg_top.specs.declared.status.Status.TheVariants as status
 use Rattle.ptg_top.specs.declared.verdict.Finding.{Finding}
-use Rattle.ptg_top.specs.declared.verdict.Finding.TheVariants.{Answer, Summary, Chain, Cycle, Order, Ranked}
+use Rattle.ptg_top.specs.declared.verdict.Finding.TheVariants.{Answer, Summary, Chain, Cycle, Trace, Ranked}
 
 -- an answer of this plan, on some data
 abbrev pub IsAnswered : Plan → Outcome → Type 0
@@ -25,7 +25,7 @@ IsFindingOf P (Answer outcome) = IsAnswered P outcome
 IsFindingOf P (Summary found) = Unit {0}
 IsFindingOf P (Chain found) = HasClassesOfChain P found
 IsFindingOf P (Cycle found) = HasClassesOfCycle P found
-IsFindingOf P (Order text) = Unit {0}
+IsFindingOf P (Trace text) = Unit {0}
 IsFindingOf P (Ranked found) = IsAnswered P found.outcome
 
 -- what is printed of it
@@ -34,7 +34,7 @@ finding_text P (Answer outcome) = outcome_text P outcome
 finding_text P (Summary found) = summary_text found
 finding_text P (Chain found) = chain_text P found
 finding_text P (Cycle found) = cycle_text P found
-finding_text P (Order text) = text
+finding_text P (Trace text) = text
 finding_text P (Ranked found) = ranked_text P found
 
 abbrev pub status_of_outcome : Outcome → Status
@@ -48,5 +48,5 @@ status_of_finding (Answer outcome) = status_of_outcome outcome
 status_of_finding (Summary found) = status.Complete
 status_of_finding (Chain found) = status.Complete
 status_of_finding (Cycle found) = status.Stalled
-status_of_finding (Order text) = status.Complete
+status_of_finding (Trace text) = status.Complete
 status_of_finding (Ranked found) = status_of_outcome found.outcome

@@ -25,7 +25,7 @@ flow_name P class (Some flow) = option_map_or (λ (f : FlowPlan). f.name) (flow_
 -- or its numbers of tasks, of edges (those of CTL flows among them) and of write-backs
 abbrev pub job_text : JobVerdict → List ℕ
 job_text (jobs.Jdf fault) = refusal_text (line_of.Jdf fault)
-job_text (jobs.Data fault) = refusal_text (line_of.Rows fault)
+job_text (jobs.Data fault) = refusal_text (line_of.Data fault)
 job_text (jobs.Inconsistent P fault) =
     inconsistent_line fault (class_name P fault.class) (flow_name P fault.class fault.flow)
 job_text (jobs.Consistent P given) = consistent_text (length (all_tasks P)) (length (all_in P)) (length (all_writes P))

@@ -26,7 +26,8 @@ abbrev pub TreeIsRefused : Option Entries → ℕ → ℕ → List ℕ → Denot
 TreeIsRefused contents old new name v =
     ((v ≡ verdicts.Unread name) × Rose old new)
     ⊎ (IsOfTexts v
-    × ((files : Entries) → contents ≡ Some files → (text : List ℕ) × (file_of files name ≡ Some text) × RefusesText text v))
+    × ((files : Entries) → contents ≡ Some files
+    → (text : List ℕ) × (file_of files name ≡ Some text) × RefusesText text v))
 
 -- The check of a JDF, read from this text, with the data file of this name ends so: a read of that file failed, or the
 -- two texts denote the verdict, where the contents are known.

@@ -44,7 +44,7 @@ pub fn print_finding<O: Sink>(by: &RanBy, finding: &Finding, out: &mut O) -> Res
         Finding::Summary(found) => summary_line(found, out),
         Finding::Chain(found) => heaviest_chain(plan_of(by), found, out),
         Finding::Cycle(found) => found_cycle(plan_of(by), found, out),
-        Finding::Order(text) => write_all(out, text.bytes()),
+        Finding::Trace(text) => write_all(out, text.bytes()),
         Finding::Ranked(found) => print_ranked(plan_of(by), found, out),
     }
 }
@@ -82,7 +82,7 @@ pub fn status_of_finding(finding: &Finding) -> Status
         Finding::Summary(_) => Status::Complete,
         Finding::Chain(_) => Status::Complete,
         Finding::Cycle(_) => Status::Stalled,
-        Finding::Order(_) => Status::Complete,
+        Finding::Trace(_) => Status::Complete,
         Finding::Ranked(found) => status_of_outcome(&found.outcome),
     }
 }

@@ -21,7 +21,7 @@ pub fn print_job<O: Sink>(job: &JobVerdict, out: &mut O) -> Result<(), Failed>
 {
     match job {
         JobVerdict::Jdf(fault) => refusal(&Line::Jdf(*fault), out),
-        JobVerdict::Data(fault) => refusal(&Line::Rows(*fault), out),
+        JobVerdict::Data(fault) => refusal(&Line::Data(*fault), out),
         JobVerdict::Inconsistent(plan, fault) => {
             let class = class_name(plan, fault.class);
             let flow = flow_name(plan, fault.class, fault.flow);

@@ -6,7 +6,8 @@ ghost use Rattle.ptg_top.specs.Codes.{code_of};
 /// How a run of the program ended; the exit status of its process is `code`.
 #[derive(Clone, Copy, Debug, PartialEq, Eq)]
 pub enum Status {
-    /// All tasks ran, and the data with what they wrote were printed; or what `show` or `check` gives was printed.
+    /// What was asked for was printed: of `run`, `demo` and `ranks`, where all tasks ran, their answer; of the other verbs
+    /// what they give.
     Complete,
     /// The arguments form no command.
     Usage,

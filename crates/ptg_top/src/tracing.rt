@@ -93,5 +93,5 @@ fn trace_of<R: Threads + Wait + Sync, G: Gate>(
     let (tasks, closed) = run_traced(host.alloc, host.rt, prepared, host.gate)?;
     let (_outcome, receipt) = closed.outcome()?;
     let text = trace_text(host.alloc, receipt.matched().plan(), tasks.as_slice())?;
-    Ok(Verdict::Ran(RanBy::Table(receipt), Finding::Order(text)))
+    Ok(Verdict::Ran(RanBy::Table(receipt), Finding::Trace(text)))
 }

@@ -48,7 +48,7 @@ pub enum Finding {
     /// A cycle of a job that stalled.
     Cycle(FoundCycle),
     /// The text of the tasks that ran, in an order in which they may run.
-    Order(Text),
+    Trace(Text),
     /// The answer, with how many messages the ranks that ran the job sent one another.
     Ranked(RankedAnswer),
 }

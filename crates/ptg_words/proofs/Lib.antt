@@ -8,8 +8,8 @@ mod ClapEnd
 mod Building
 mod ClapRules
 mod ClapCommands
-mod ValuesRead
-mod Rules
+pub mod ValuesRead
+pub mod Rules
 pub mod OneOrder
-mod Either
+pub mod Proper
 mod OrderFacts

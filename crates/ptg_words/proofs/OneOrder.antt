@@ -1,14 +1,13 @@
 -- Words give one order at most; its files are text, and its numbers are in range.
-use Rattle.std.proofs.Common.{◌≡◌, ◌∙◌, List, Option, Some, sym, subst}
+use Rattle.std.proofs.Common.{◌≡◌, ◌∙◌, ℕ, List, Option, Some, sym, subst}
 use Rattle.ptg_words.specs.declared.order.Order.{Order}
 use Rattle.ptg_words.specs.Parts.{Part, operands}
-use Rattle.ptg_words.specs.Words.{Verb, formed}
-use Rattle.ptg_words.specs.Laws.{OneOrder}
+use Rattle.ptg_words.specs.Words.{Verb, Orders, formed}
 
 same_formed : (o : Option Order) (a b : Order) → o ≡ Some a → o ≡ Some b → a ≡ b
 same_formed o a b e f = cc
 
-pub one_order : OneOrder
+pub one_order : (words : List (List ℕ)) (a b : Order) → Orders words a → Orders words b → a ≡ b
 one_order words a b p q =
     let left : Verb × List Part = (p.verb, p.rest) in
     let right : Verb × List Part = (q.verb, q.rest) in

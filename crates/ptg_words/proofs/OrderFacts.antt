@@ -13,7 +13,7 @@ use Rattle.ptg_words.specs.Words.{Verb, IsProper, bad_number, improper_word, for
 use Rattle.ptg_words.specs.Laws.{AreCounts, AreText, FilesAreText, HasNumbersInRange, NumbersInRange, files_of}
 use Rattle.ptg_words.specs.Readings.{AllProper}
 use Rattle.ptg_words.proofs.Rules.{all_proper, number_at_most, to_rule}
-use Rattle.ptg_words.proofs.Either.{all_or_any}
+use Rattle.ptg_words.proofs.Proper.{all_or_any}
 use Rattle.std.proofs.lemmas.Bool.{or_parts, not-false}
 
 -- ---- the operands of proper words are proper

@@ -57,20 +57,6 @@ breaks_none ws v ps e proper good number (operand_number h) =
     clash (length (operands ps) == operand_count v) (kept v ps good).3 (by_parts has_wrong_count ws v ps e h)
 breaks_none ws v ps e proper good number (bad_number h) = let bad = by_parts has_bad_number ws v ps e h in absurd cc
 
--- arguments whose parts break a rule
-pub breaks_rule : (ws : List (List ℕ)) (v : Verb) (ps : List Part) → read ws ≡ Some (v, ps) → is_read (operand_count v) ps ≡ false → IsUsage ws
-breaks_rule ws v ps e h = go (list_any is_stray ps) (list_any is_lacking ps) (has_twice ps) (length (operands ps) == operand_count v) refl refl refl refl
-  where
-    go : (a b c d : Bool) → list_any is_stray ps ≡ a → list_any is_lacking ps ≡ b → has_twice ps ≡ c → (length (operands ps) == operand_count v) ≡ d → IsUsage ws
-    go true b c d ea eb ec ed = stray_word (to_rule (λ v ps. list_any is_stray ps) ws v ps e ea)
-    go false true c d ea eb ec ed = lacking_number (to_rule (λ v ps. list_any is_lacking ps) ws v ps e eb)
-    go false false true d ea eb ec ed = option_twice (to_rule (λ v ps. has_twice ps) ws v ps e ec)
-    go false false false false ea eb ec ed = operand_number (to_rule has_wrong_count ws v ps e (ap not ed))
-    go false false false true ea eb ec ed = let bad : true ≡ false = sym (rw (ea, eb, ec, ed) refl) ∙ h in absurd cc
-
-pub breaks_number : (ws : List (List ℕ)) (v : Verb) (ps : List Part) → read ws ≡ Some (v, ps) → has_bad_number v ps ≡ true → IsUsage ws
-breaks_number ws v ps e h = bad_number (to_rule has_bad_number ws v ps e h)
-
 -- a number in decimal digits is at most the largest
 pub at_most : (most : ℕ) (text : List ℕ) → is_decimal most text ≡ true → nat_le (decimal text) most ≡ true
 unfolding is_decimal

@@ -1,22 +1,10 @@
 -- What follows from the rules of the command line.
-use Rattle.std.specs.Prelude.{◌≡◌, ◌⊎◌, ℕ, ◌<◌, ◌≤◌, ◌^◌, List, [], ◌∷◌}
+use Rattle.std.specs.Prelude.{ℕ, ◌<◌, ◌≤◌, ◌^◌, List, [], ◌∷◌}
 use Rattle.std.specs.Str.{IsUtf8}
 use Rattle.ptg_base.specs.Limits.{most_ranks, most_rows, most_shards, most_workers}
 use Rattle.ptg_words.specs.declared.order.Order.{Order}
 use Rattle.ptg_words.specs.declared.order.Order.TheVariants.{Run, Show, Check, Demo, Trace, Replay, Certify, Ranks}
-use Rattle.ptg_words.specs.Words.{IsUsage, Orders}
-
--- arguments give one order at most
-abbrev pub OneOrder : Type 0
-OneOrder = (words : List (List ℕ)) (a b : Order) → Orders words a → Orders words b → a ≡ b
-
--- and none where they break a rule
-abbrev pub NeverBoth : Type 0
-NeverBoth = (words : List (List ℕ)) (order : Order) → Orders words order → IsUsage words → ⊥
-
--- and one where they break none: arguments form a command or break a rule
-abbrev pub OrderOrUsage : Type 0
-OrderOrUsage = (words : List (List ℕ)) → ((order : Order) × Orders words order) ⊎ IsUsage words
+use Rattle.ptg_words.specs.Words.{Orders}
 
 -- the names of the files of a command
 abbrev pub files_of : Order → List (List ℕ)

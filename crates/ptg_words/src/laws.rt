@@ -1,13 +1,6 @@
 //! Laws of the command line.
 
-ghost use Rattle.ptg_words.specs.Laws.{FilesAreText, NeverBoth, NumbersInRange, OneOrder, OrderOrUsage};
-
-/// A law: arguments form one command, or break a rule, and never both.
-pub fn words_give_one_order()
-    ensures one { OneOrder }
-    ensures never_both { NeverBoth }
-    ensures some { OrderOrUsage }
-{}
+ghost use Rattle.ptg_words.specs.Laws.{FilesAreText, NumbersInRange};
 
 /// A law: the names of files in a command are text.
 pub fn files_are_text()

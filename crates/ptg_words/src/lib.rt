@@ -9,6 +9,6 @@ mod reading;
 mod verb;
 mod verbs;
 
-pub use laws::{files_are_text, orders_have_numbers_in_range, words_give_one_order};
+pub use laws::{files_are_text, orders_have_numbers_in_range};
 pub use order::{Order, WordsRefusal};
 pub use reading::words;

@@ -29,6 +29,7 @@ impl Model for Hands {
     ghost use Rattle.std.specs.Prelude.{◌≡◌, ◌+◌, ◌<◌, length, map, slice_get, slice_set, Some};
     ghost use Rattle.ready_deques.specs.Ends.{OthersHaveParts};
     ghost use Rattle.ready_deques.specs.Hands.{Account};
+    ghost use Rattle.ready_deques.specs.Rule.{all_parts};
 
     ghost Value = { Account };
 
@@ -39,7 +40,8 @@ impl Model for Hands {
       taken = slice_set (map (λ f. f.taken) h.thieves.items) h.number h.own.taken;
     } };
 
-    ghost invariant = { λ h. (h.number < length h.thieves.items) × (h.own.parts + length h.thieves.items ≡ 66)
+    ghost invariant = { λ h. (h.number < length h.thieves.items)
+        × (h.own.parts + length h.thieves.items ≡ all_parts + 1)
         × (slice_get (map (λ f. f.deque) h.thieves.items) h.number ≡ Some h.own.deque)
         × OthersHaveParts h.number h.thieves.items };
 }

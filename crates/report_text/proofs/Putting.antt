@@ -1,5 +1,5 @@
 -- Calls that put texts, one after another.
-use Rattle.std.proofs.Common.{◌≡◌, ℕ, ◌≤◌, List, [], ◌∷◌, ◌++◌, length, take, drop, Option, None, Some, Result, Ok, Err, sym, ap, subst, ◌∙◌, refl, arith, append_assoc, length-append, inl, inr}
+use Rattle.std.proofs.Common.{◌≡◌, ℕ, ◌≤◌, List, [], ◌∷◌, ◌++◌, length, take, drop, Option, None, Some, Result, Ok, Err, sym, ap, subst, ◌∙◌, refl, arith, length-append, inl, inr}
 use Rattle.std.specs.Prelude.{IsErr, OnOk, OnErr}
 use Rattle.std.proofs.Math.Seq.{take-append_seam}
 use Rattle.std.proofs.lemmas.Bool.{false≢true}
@@ -8,11 +8,7 @@ use Rattle.ptg_io.specs.Faults.{Rose}
 use Rattle.ptg_io.specs.Sink.{appended}
 use Rattle.ptg_io.specs.declared.files.Failed.{Failed}
 use Rattle.report_text.specs.Puts.{Precedes, Puts, HasPrefix}
-
--- two texts are appended as one
-pub appended_twice : (old : Option (List ℕ)) (xs ys : List ℕ) → appended (appended old xs) ys ≡ appended old (xs ++ ys)
-appended_twice None xs ys = refl
-appended_twice (Some bytes) xs ys = ap Some (append_assoc bytes xs ys)
+use Rattle.ptg_io.proofs.Pieces.{appended_twice}
 
 pub append_nil : (xs : List ℕ) → xs ++ [] ≡ xs
 append_nil [] = refl

@@ -3,7 +3,7 @@ use Rattle.std.specs.Prelude.{ℕ, List, [], ◌∷◌, ◌++◌, map, codes, Op
 use Rattle.std.specs.Fmt.{decimal, signed_decimal}
 use Rattle.edge_match.specs.declared.fault.MatchFault.{MatchFault}
 use Rattle.report_text.specs.declared.refusal_line.Line.{Line}
-use Rattle.report_text.specs.declared.refusal_line.Line.TheVariants.{Usage, Jdf, Rows, Match, Unread, Preload, Trace}
+use Rattle.report_text.specs.declared.refusal_line.Line.TheVariants.{Usage, Jdf, Data, Match, Unread, Preload, Trace}
 use Rattle.report_text.specs.Field.{line}
 use Rattle.report_text.specs.Codes.{jdf_code, data_code, match_code, trace_code}
 
@@ -24,7 +24,7 @@ abbrev pub refusal_text : Line → List ℕ
 refusal_text Usage = line (codes "usage" ∷ [])
 refusal_text (Jdf fault) =
     line (codes "refused" ∷ decimal fault.spot.line ∷ decimal fault.spot.column ∷ jdf_code fault.code ∷ [])
-refusal_text (Rows fault) = line (codes "data" ∷ decimal fault.row ∷ data_code fault.code ∷ [])
+refusal_text (Data fault) = line (codes "data" ∷ decimal fault.row ∷ data_code fault.code ∷ [])
 refusal_text (Match fault class flow) = inconsistent_line fault.now class.now flow.now
 refusal_text (Unread name) = line (codes "unread" ∷ name.now ∷ [])
 refusal_text Preload = line (codes "preload" ∷ [])

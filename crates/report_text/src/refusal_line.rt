@@ -23,7 +23,7 @@ pub enum Line<'a> {
     /// The JDF is refused.
     Jdf(JdfFault),
     /// The data file is refused.
-    Rows(DataFault),
+    Data(DataFault),
     /// The job is not consistent: its fault, the name of the fault's class, and that of its flow, if the fault is at a
     /// flow.
     Match(&'a MatchFault, &'a [u8], &'a [u8]),
@@ -61,7 +61,7 @@ fn put_refusal<O: Sink>(sink: &mut O, out: &mut Pieces, line: &Line) -> Result<(
             ];
             put_line(sink, out, b"refused", &fields)
         }
-        Line::Rows(fault) => {
+        Line::Data(fault) => {
             let fields = [Field::Number(fault.row), Field::Word(data_code(fault.code))];
             put_line(sink, out, b"data", &fields)
         }

@@ -18,7 +18,9 @@ use Rattle.dep_iter.proofs.Listing.{listed}
 use Rattle.shard_meaning.proofs.Destinations.{flow_is, writes_from}
 use Rattle.task_run.proofs.FlowSizes.{known}
 use Rattle.run_pool.specs.Bytes.{edge_elements, elements_of, sent_elements, write_elements}
-use Rattle.run_pool.proofs.Totals.{into, out_of, write_item}
+use Rattle.run_pool.proofs.Totals.{write_item}
+use Rattle.flow_meaning.proofs.Members.{in_edge_to}
+use Rattle.flow_meaning.proofs.Rest.{write_from}
 
 module _ (P : Plan) (elems : ℕ) (one : P.elems ≡ elems ∷ []) where
   -- a flow of a task of the job has tiles of that length
@@ -36,7 +38,7 @@ module _ (P : Plan) (elems : ℕ) (one : P.elems ≡ elems ∷ []) where
   of_edge e i =
       let p = from_filter (is_data_edge P) (all_in P) e i in
       let q = from_flat_map (in_edges P) (all_tasks P) e p.0 in
-      let to : e.to ≡ q.0 = into P q.0 e q.2 in
+      let to : e.to ≡ q.0 = in_edge_to P q.0 e q.2 in
       let job : IsTask P e.to = subst (IsTask P) (sym to) ((listed P q.0).1 q.1) in
       let f = some_data (flow_of P.classes e.to.class e.in_flow) p.1 in
       of_flow e.to e.in_flow f.0 job (flow_is P e.to e.in_flow ∙ f.1)
@@ -44,7 +46,7 @@ module _ (P : Plan) (elems : ℕ) (one : P.elems ≡ elems ∷ []) where
   of_write : (w : WriteBack) → IsIn w (all_writes P) → write_elements P w ≡ elems
   of_write w i =
       let p = from_flat_map (write_backs P) (all_tasks P) w i in
-      let from : w.from ≡ p.0 = out_of P p.0 w p.2 in
+      let from : w.from ≡ p.0 = write_from P p.0 w p.2 in
       let job : IsTask P p.0 = (listed P p.0).1 p.1 in
       let f = writes_from P p.0 job w (write_item P p.0 w p.2) in
       of_flow w.from w.flow f.flow (subst (IsTask P) (sym from) job) (subst (λ t. slice_get (flows_of P t) w.flow ≡ Some f.flow) (sym from) f.here)

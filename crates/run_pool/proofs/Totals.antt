@@ -18,11 +18,9 @@ use Rattle.dep_iter.specs.Consistent.{IsConsistent, all_data, all_in, all_items,
 use Rattle.dep_iter.specs.Edges.{in_edges}
 use Rattle.dep_iter.specs.Items.{items, write_backs, write_of}
 use Rattle.dep_iter.specs.Tasks.{all_tasks}
-use Rattle.dep_iter.proofs.Belonging.{in_edge_is}
 use Rattle.list_lemmas.proofs.Counts.{weigh-at_most, weigh-filter, weigh-flat_map, weigh-plus}
 use Rattle.list_lemmas.proofs.Members.{from_filter_map}
 use Rattle.list_lemmas.proofs.Joins.{length-filter_le, length-filter_map_le, length-flat_map_le}
-use Rattle.flow_meaning.proofs.Rest.{item_sender}
 use Rattle.list_lemmas.specs.Counting.{weigh}
 use Rattle.run_pool.specs.Bytes.{edge_elements, elements_of, sent_elements, write_elements}
 use Rattle.run_pool.specs.Elements.{carried_elements, in_elements, out_elements, task_elements}
@@ -80,10 +78,6 @@ sum_at_most (n ∷ ns) h =
 pub types_at_most : (P : Plan) → sum P.elems ≤ 65536
 types_at_most P = omega (arith, sum_at_most P.elems P.well_made.tile_lengths, P.well_made.types_at_most)
 
--- the edges into a task come to it, and its write-backs are from it
-pub into : (P : Plan) (t : Task) (e : Edge) → IsIn e (in_edges P t) → e.to ≡ t
-into P t e i = ((in_edge_is P t e).0 i).0
-
 pub write_item : (P : Plan) (t : Task) (w : WriteBack) → IsIn w (write_backs P t) → IsIn (item.Write w) (items P t)
 write_item P t w i =
     let q = from_filter_map write_of (items P t) w i in
@@ -92,9 +86,6 @@ write_item P t w i =
     the_write : (x : Item) → write_of x ≡ Some w → x ≡ item.Write w
     the_write (item.Edge e) h = absurd cc
     the_write (item.Write v) h = let same : v ≡ w = cc in ap (λ u. item.Write u) same
-
-pub out_of : (P : Plan) (t : Task) (w : WriteBack) → IsIn w (write_backs P t) → w.from ≡ t
-out_of P t w i = item_sender P t (item.Write w) (write_item P t w i)
 
 pub benches_at_most : (workers each : ℕ) → workers < 4294967296 → each ≤ 65536 → 8 * workers * each ≤ 2251799813685248
 benches_at_most workers each few small = omega (arith, mul-le-mul_left workers small)

@@ -27,6 +27,10 @@ write_elements P w = elements_of P (flow_of P.classes w.from.class w.flow)
 unfoldable pub sent_elements : Plan → ℕ
 sent_elements P = weigh (edge_elements P) (all_data P) + weigh (write_elements P) (all_writes P)
 
+-- how many there are at most: 4,096 for each of 4,000,000 edges and of 4,000,000 write-backs
+abbrev pub most_sent_elements : ℕ
+most_sent_elements = 32768000000
+
 -- the bytes of a preload for so many workers, at eight for each number
 unfoldable pub preload_bytes : Plan → ℕ → ℕ
 preload_bytes P workers = 8 * (sent_elements P + most_flows * workers * sum P.elems)

@@ -114,7 +114,7 @@ fn elements_of_one_type(m: &Matched) -> u64
 // How many numbers the tiles of all data edges and all write-backs have.
 pub(crate) fn sent_elements(m: &Matched) -> u64
     ensures same { result ≡ bytes.sent_elements m.now }
-    ensures at_most { result ≤ 32768000000 }
+    ensures at_most { result ≤ bytes.most_sent_elements }
 {
     if m.plan().elems.len() == 1 {
         elements_of_one_type(m)

@@ -2,7 +2,7 @@
 
 ghost use Rattle.std.specs.Prelude.{◌≡◌};
 
-use crate::seating::Seat;
+use crate::seating::PaddedDesk;
 use dep_table::pass::Pass;
 use dep_table::table::DepTable;
 use std::marker::Model;
@@ -12,7 +12,7 @@ use std::marker::Model;
 #[derive(Drop)]
 pub struct Prepared {
     pub(crate) table: DepTable,
-    pub(crate) desks: Vec<Seat>,
+    pub(crate) desks: Vec<PaddedDesk>,
     pub(crate) room: Vec<Pass>,
 }
 

@@ -7,7 +7,7 @@ ghost use Rattle.run_pool.specs.Seated.{HaveAnswered, IsDone, OneWasRefused, Pad
 
 use crate::desk::Desk;
 use crate::prepared::Prepared;
-use crate::seating::Seat;
+use crate::seating::PaddedDesk;
 use crate::workers::team;
 use dep_table::an_idle_pass_is_a_workers_pass;
 use dep_table::closed::Closed;
@@ -19,7 +19,7 @@ use table_rule::rules::all_passes_stay_all;
 use worker_core::Gate;
 
 // The passes of workers that have answered. Want of memory exactly where one of them had it.
-pub(crate) fn passes_of(desks: Vec<Seat>, room: Vec<Pass>) -> Result<Vec<Pass>, OutOfMemory>
+pub(crate) fn passes_of(desks: Vec<PaddedDesk>, room: Vec<Pass>) -> Result<Vec<Pass>, OutOfMemory>
     requires answered { HaveAnswered desks.items }
     requires room { (room.items ≡ []) × (length desks.items ≤ vec_capacity room) }
     ensures passes { IfOk result (λ passes. passes.items ≡ map pass_on desks.items) }

@@ -20,10 +20,10 @@ use std::alloc::Global;
 use table_rule::rules::all_passes_stay_all;
 use task_run::Bench;
 
-pub(crate) type Seat = CachePadded<Desk<Pass>>;
+pub(crate) type PaddedDesk = CachePadded<Desk<Pass>>;
 
 // A desk with this pass and these hands, for tasks of a plan.
-fn new_desk(alloc: Global, m: &Matched, pass: Pass, hands: Hands) -> Result<Seat, OutOfMemory>
+fn new_desk(alloc: Global, m: &Matched, pass: Pass, hands: Hands) -> Result<PaddedDesk, OutOfMemory>
     ensures pass { IfOk result (λ d. (padded_value d).pass ≡ pass) }
     ensures bench { IfOk result (λ d. IsBenchOf m.now (padded_value d).bench) }
     ensures log { IfOk result (λ d. log_on d ≡ []) }
@@ -44,7 +44,7 @@ pub(crate) fn seat_workers(
     table: &DepTable,
     first: Pass,
     hands: Vec<Hands>,
-) -> Result<Vec<Seat>, OutOfMemory>
+) -> Result<Vec<PaddedDesk>, OutOfMemory>
     requires workers { 0 < length hands.items }
     requires pass { IsPassOf (id_of table.now) first × (shown first ≡ first_pass) }
     ensures seated { IfOk result (λ desks. AreSeated (id_of table.now) (job_of table.now).matched desks.items) }

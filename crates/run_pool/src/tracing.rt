@@ -12,7 +12,7 @@ ghost use Rattle.run_pool.specs.Traces.{IsTraceOf};
 
 use crate::prepared::Prepared;
 use crate::running::passes_of;
-use crate::seating::Seat;
+use crate::seating::PaddedDesk;
 use crate::workers::team;
 use dep_table::an_idle_pass_is_a_workers_pass;
 use dep_table::closed::Closed;
@@ -39,7 +39,7 @@ fn with_entries(
 }
 
 // The entries of the logs of all desks.
-fn logs_of(alloc: Global, desks: &[Seat]) -> Result<Vec<(u64, TaskId)>, OutOfMemory>
+fn logs_of(alloc: Global, desks: &[PaddedDesk]) -> Result<Vec<(u64, TaskId)>, OutOfMemory>
     ensures { IfOk result (λ r. r.items ≡ flat_map log_on desks.now) }
 {
     let mut log = Vec::new(alloc);

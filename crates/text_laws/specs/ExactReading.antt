@@ -8,7 +8,8 @@ use Rattle.grammar_core.specs.Reading.{whole}
 
 -- Whatever the tokens are, reading gives the one tree that the grammar derives for all of them, or else their one first
 -- fault.
-pub record ReadsExactly {N : Type 0} {Tree : N → Type 0} (body : (n : N) → Production N Tree (Tree n)) {A : Type 0} (g : Production N Tree A) : Type 0 where
+pub record ReadsExactly {N : Type 0} {Tree : N → Type 0} (body : (n : N) → Production N Tree (Tree n)) {A : Type 0}
+    (g : Production N Tree A) : Type 0 where
   -- a tree that is read is derived, without a fault
   pub found : (s : List Token) (t : A) → whole body g s ≡ Ok t → IsText body g s t None
   -- a tree that is derived without a fault is read

@@ -1,9 +1,9 @@
 -- Arguments and files denote a verdict.
-use Rattle.std.proofs.Common.{◌≡◌, ℕ, List, Some, refl, sym, ◌∙◌, ap, subst, ◌⊎◌, inl, inr}
+use Rattle.std.proofs.Common.{ℕ, List, Some, refl, subst, ◌⊎◌, inl, inr}
 use Rattle.std.specs.Prelude.{Option, None, if◌then◌else◌}
 use Rattle.ptg_io.specs.Files.{file_of}
 use Rattle.ptg_io.specs.Sink.{appended}
-use Rattle.ptg_words.specs.Laws.{OrderOrUsage}
+use Rattle.word_laws.specs.Commands.{OrderOrUsage}
 use Rattle.jdf_print.specs.Spelling.{spelling}
 use Rattle.flow_meaning.specs.Answer.{answer}
 use Rattle.text_laws.proofs.TreeOrFault.{tree_or_fault}
@@ -34,7 +34,7 @@ use Rattle.ptg_top.specs.Replay.{IsReplayed}
 use Rattle.rank_core.specs.Sound.{message_count}
 use Rattle.ptg_top.specs.Ranks.{IsRanked}
 use Rattle.ptg_top.specs.Demo.{DemoDenotes, IsSummary, summed}
-use Rattle.ptg_top.specs.declared.verdict.Finding.TheVariants.{Answer, Order as TraceText, Ranked}
+use Rattle.ptg_top.specs.declared.verdict.Finding.TheVariants.{Answer, Trace as TraceText, Ranked}
 use Rattle.run_pool.specs.declared.settings.Settings.{Settings}
 use Rattle.ptg_top.specs.Preload.{is_too_large}
 use Rattle.ptg_top.proofs.Answered.{some_on}

@@ -8,7 +8,7 @@ ghost use Rattle.plan_core.specs.declared.plan.Plan.{Plan as PlanValue};
 ghost use Rattle.dep_iter.specs.Consistent.{all_data, all_writes};
 ghost use Rattle.run_pool.specs.Bytes as bytes;
 
-use ptg_words::words_give_one_order;
+use word_laws::words_give_one_order;
 
 /// A law: arguments that ask for no trace and files denote one verdict at most, and so determine what is printed.
 pub fn one_meaning()
@@ -41,5 +41,6 @@ pub fn settings_change_nothing_else()
 /// A law: where DEFAULT is the only type, each tile has as many numbers, and the bytes are a product.
 pub fn with_one_type_the_preload_is_a_product()
     ensures { (P : PlanValue) (elems workers : ℕ) → P.elems ≡ elems ∷ []
-        → bytes.preload_bytes P workers ≡ 8 * elems * (length (all_data P) + length (all_writes P) + most_flows * workers) }
+        → bytes.preload_bytes P workers
+        ≡ 8 * elems * (length (all_data P) + length (all_writes P) + most_flows * workers) }
 {}

@@ -96,7 +96,7 @@ no_ill_part env c e = by (has_hints env c) (first_ill_flow env 0 c.flows) e wher
 -- what a task of a class needs, under its locals
 module _ (env : List ℤ) (o : Option ClassPlan) where
   pub record HaveClassValues : Type 0 where
-    pub affinity : (c : ClassPlan) (e : Term) → o ≡ Some c → IsIn e c.affinity.1 → HasValue env e
+    pub affinity : (c : ClassPlan) (e : Term) → o ≡ Some c → IsIn e c.affinity.indices → HasValue env e
     pub priority : (c : ClassPlan) (e : Term) → o ≡ Some c → c.priority ≡ Some e → HasValue env e
     pub flows : (f : FlowPlan) → IsIn f (option_map_or (λ (c : ClassPlan). c.flows) o []) → FlowHasValues env f
 
@@ -109,15 +109,15 @@ class_to env None e = record {
 class_to env (Some d) e =
     let parts = no_ill_part env d e in
     record {
-      affinity = λ c t at among. let same : d ≡ c = cc in member_passes (has_value env) d.affinity.1 (first_so (list_all (has_value env) d.affinity.1) (has_priority env d.priority) parts.0) t (subst (λ (k : ClassPlan). IsIn t k.affinity.1) (sym same) among);
-      priority = λ c t at is. let same : d ≡ c = cc in has_priority_to env d.priority t (second_so (list_all (has_value env) d.affinity.1) (has_priority env d.priority) parts.0) (ap (λ (k : ClassPlan). k.priority) same ∙ is);
+      affinity = λ c t at among. let same : d ≡ c = cc in member_passes (has_value env) d.affinity.indices (first_so (list_all (has_value env) d.affinity.indices) (has_priority env d.priority) parts.0) t (subst (λ (k : ClassPlan). IsIn t k.affinity.indices) (sym same) among);
+      priority = λ c t at is. let same : d ≡ c = cc in has_priority_to env d.priority t (second_so (list_all (has_value env) d.affinity.indices) (has_priority env d.priority) parts.0) (ap (λ (k : ClassPlan). k.priority) same ∙ is);
       flows = λ f among. well_flow env f (no_ill_flow env 0 d.flows parts.1 f among);
     }
 
 class_from : (env : List ℤ) (o : Option ClassPlan) → HaveClassValues env o → option_and_then (ill_part_of env) o ≡ None
 class_from env None have = refl
 class_from env (Some c) have =
-    let hints : has_hints env c ≡ true = and_from (list_all (has_value env) c.affinity.1) (has_priority env c.priority) (list_all-from_members (has_value env) c.affinity.1 (λ e among. have.affinity c e refl among)) (has_priority_from env c.priority (λ e is. have.priority c e refl is)) in
+    let hints : has_hints env c ≡ true = and_from (list_all (has_value env) c.affinity.indices) (has_priority env c.priority) (list_all-from_members (has_value env) c.affinity.indices (λ e among. have.affinity c e refl among)) (has_priority_from env c.priority (λ e is. have.priority c e refl is)) in
     ap (λ b. cond b (option_map Some (first_ill_flow env 0 c.flows)) (Some None)) hints
     ∙ ap (λ i. option_map Some i) (each_well env 0 c.flows (λ f among. valued_flow env f (have.flows f among)))
 

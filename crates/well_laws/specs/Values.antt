@@ -49,7 +49,7 @@ pub record FlowHasValues (env : List ℤ) (f : FlowPlan) : Type 0 where
 -- what a task needs has its values
 pub record TaskHasValues (P : Plan) (t : Task) : Type 0 where
   -- each index of the affinity of its class, and the priority, if one is written
-  pub affinity : (c : ClassPlan) (e : Term) → slice_get P.classes t.class ≡ Some c → IsIn e c.affinity.1
+  pub affinity : (c : ClassPlan) (e : Term) → slice_get P.classes t.class ≡ Some c → IsIn e c.affinity.indices
       → HasValue (locals_of P t) e
   pub priority : (c : ClassPlan) (e : Term) → slice_get P.classes t.class ≡ Some c → c.priority ≡ Some e
       → HasValue (locals_of P t) e

@@ -4,3 +4,4 @@ pub mod Reading
 pub mod Twice
 pub mod Texts
 pub mod Rules
+pub mod Commands

@@ -1,12 +1,21 @@
-//! Laws of the words after a verb: which are stray, which lack a value, and which are operands.
+//! Laws of the words of a command: they give one or break a rule, and of those after a verb, which are stray, which lack
+//! a value, and which are operands.
 
 ghost use Rattle.std.specs.Prelude.{◌∷◌, ◌≡◌, ◌⊎◌, ◌↔◌, ◌+◌, ℕ, IsTrue, List, None, Some, [], length, map};
 ghost use Rattle.std.specs.List.{filter, list_any};
 ghost use Rattle.ptg_base.specs.Lists.{IsIn};
 ghost use Rattle.ptg_words.specs.Parts.{has_twice, is_lacking, is_stray, operands, parts, shards, texts_of, workers};
 ghost use Rattle.ptg_words.specs.Words.{IsUsage, Verb, options_of, verb_of};
+ghost use Rattle.word_laws.specs.Commands.{NeverBoth, OneOrder, OrderOrUsage};
 ghost use Rattle.word_laws.specs.Forms.{HasForm, IsPreload, IsShards, IsTextOfShards, IsTextOfWorkers, IsWorkers, LacksValue, OccursTwice, begins_with_dash, is_other, is_value, with_previous};
 ghost use Rattle.word_laws.specs.Rules.{BreaksRule};
+
+/// A law: arguments form one command, or break a rule, and never both.
+pub fn words_give_one_order()
+    ensures one { OneOrder }
+    ensures never_both { NeverBoth }
+    ensures some { OrderOrUsage }
+{}
 
 /// A law: there is a stray option exactly where some word has a form that the verb does not have.
 pub fn a_stray_option_has_no_form_of_the_verb()

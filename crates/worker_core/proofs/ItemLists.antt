@@ -26,10 +26,11 @@ use Rattle.flow_meaning.specs.Backward.{ended}
 use Rattle.flow_meaning.specs.Machine.{Sent, send_count, sender}
 use Rattle.flow_meaning.proofs.Comparing.{same_item-decides}
 use Rattle.flow_meaning.proofs.Rest.{item_sender}
+use Rattle.flow_meaning.specs.Sound.{with_its_tile}
 use Rattle.work_board.specs.declared.record.PassRecord.{PassRecord}
 use Rattle.work_board.specs.Records.{done_by}
 use Rattle.work_board.specs.Sends.{IsNext, MayEnd}
-use Rattle.worker_core.specs.Sending.{HasSentAll, MaySendAll, RunsUnsent, with_output}
+use Rattle.worker_core.specs.Sending.{HasSentAll, MaySendAll, RunsUnsent}
 use Rattle.worker_core.proofs.Steps.{kept_then}
 
 -- what an edge and a write-back are as items
@@ -62,7 +63,7 @@ is_among i (j ∷ js) h = elim h [
 ]
 
 module _ (P : Plan) (G : Data) where
-  sent_count : (i : Item) (js : List Item) → weigh (λ (x : Sent). as_number (same_item i x.item)) (map (with_output P G) js) ≡ count (same_item i) js
+  sent_count : (i : Item) (js : List Item) → weigh (λ (x : Sent). as_number (same_item i x.item)) (map (with_its_tile P G) js) ≡ count (same_item i) js
   sent_count i [] = refl
   sent_count i (j ∷ js) = ap (λ n. as_number (same_item i j) + n) (sent_count i js)
 
@@ -70,7 +71,7 @@ module _ (P : Plan) (G : Data) where
   count_after : (is : List Item) (v w : PassRecord) (i : Item) → HasSentAll P G is v w → send_count (done_by w) i ≡ send_count (done_by v) i + count (same_item i) is
   count_after is v w i sent =
       ap (weigh (λ (x : Sent). as_number (same_item i x.item))) sent.sends
-      ∙ weigh-append (λ (x : Sent). as_number (same_item i x.item)) v.sends (map (with_output P G) is)
+      ∙ weigh-append (λ (x : Sent). as_number (same_item i x.item)) v.sends (map (with_its_tile P G) is)
       ∙ ap (λ n. send_count (done_by v) i + n) (sent_count i is)
 
   -- some of all these items were sent, and the others are left
@@ -97,8 +98,8 @@ module _ (P : Plan) (G : Data) where
     before = far.before ++ i ∷ [];
     split = far.split ∙ sym (append_assoc far.before (i ∷ []) left);
     sent = record {
-      sends = one.sends ∙ ap (λ l. l ++ map (with_output P G) (i ∷ [])) far.sent.sends ∙ append_assoc v.sends (map (with_output P G) far.before) (map (with_output P G) (i ∷ []))
-          ∙ ap (λ l. v.sends ++ l) (sym (map-append (with_output P G) far.before (i ∷ [])));
+      sends = one.sends ∙ ap (λ l. l ++ map (with_its_tile P G) (i ∷ [])) far.sent.sends ∙ append_assoc v.sends (map (with_its_tile P G) far.before) (map (with_its_tile P G) (i ∷ []))
+          ∙ ap (λ l. v.sends ++ l) (sym (map-append (with_its_tile P G) far.before (i ∷ [])));
       claims = one.claims ∙ far.sent.claims;
       stamps = one.stamps ∙ far.sent.stamps;
       running = one.running ∙ far.sent.running;
@@ -122,7 +123,7 @@ module _ (P : Plan) (G : Data) where
   sender_left t all left i v w may far = item_sender P t i (may.are_items i (subst (λ l. IsIn i l) (sym far.split) (in_middle far.before left i)))
 
   -- the next of the items that are left may be sent
-  pub next_left : (t : Task) (all left : List Item) (i : Item) (v w : PassRecord) → MaySendAll P G t all v → IsSentSoFar all (i ∷ left) v w → IsNext P G i (with_output P G i).tile w
+  pub next_left : (t : Task) (all left : List Item) (i : Item) (v w : PassRecord) → MaySendAll P G t all v → IsSentSoFar all (i ∷ left) v w → IsNext P G i (with_its_tile P G i).tile w
   next_left t all left i v w may far =
       let among : IsIn i all = subst (λ l. IsIn i l) (sym far.split) (in_middle far.before left i) in
       let by : sender i ≡ t = item_sender P t i (may.are_items i among) in

@@ -8,8 +8,8 @@ use Rattle.work_board.specs.declared.record.PassRecord.{PassRecord}
 use Rattle.work_board.specs.Records.{IsStill, KeepsDone}
 use Rattle.work_board.specs.Claims.{AddsClaim, MayStart}
 use Rattle.worker_core.specs.declared.claiming.Found.{Found}
-use Rattle.worker_core.specs.declared.next.Look.{Look}
-use Rattle.worker_core.specs.declared.next.Look.TheVariants as look
+use Rattle.worker_core.specs.declared.next.Search.{Search}
+use Rattle.worker_core.specs.declared.next.Search.TheVariants as search
 
 -- The pass claimed this task, which may start on these tiles, and these are its locals.
 pub record HasGot (P : Plan) (G : Data) (f : Found) (v w : PassRecord) : Type 0 where
@@ -24,11 +24,11 @@ pub record IsQuietAfter (v w : PassRecord) : Type 0 where
   pub running : w.running ≡ v.running
   pub done : KeepsDone v w
 
--- what one look for a task found
-abbrev pub Looked : Plan → Data → Look → PassRecord → PassRecord → Type 0
-Looked P G (look.Task f) v w = HasGot P G f v w
-Looked P G look.Quiet v w = IsQuietAfter v w
-Looked P G look.Nothing v w = IsStill v w
+-- what one search for a task found
+abbrev pub Searched : Plan → Data → Search → PassRecord → PassRecord → Type 0
+Searched P G (search.Task f) v w = HasGot P G f v w
+Searched P G search.Quiet v w = IsQuietAfter v w
+Searched P G search.Nothing v w = IsStill v w
 
 -- The same, and where the log keeps what is noted, it has gained the claim with its stamp.
 pub record HasGotLogged (P : Plan) (G : Data) (keeps : Bool) (f : Found)

@@ -6,22 +6,19 @@ use Rattle.ptg_base.specs.Task.{Task}
 use Rattle.ptg_base.specs.declared.edge.Item.{Item}
 use Rattle.plan_core.specs.declared.plan.Plan.{Plan}
 use Rattle.coll_data.specs.Data.{Data}
-use Rattle.dep_iter.specs.Items.{item_flow, items}
+use Rattle.dep_iter.specs.Items.{items}
 use Rattle.dep_iter.specs.Consistent.{IsConsistent}
-use Rattle.flow_meaning.specs.Ending.{has_outputs, output_tile}
+use Rattle.flow_meaning.specs.Ending.{has_outputs}
 use Rattle.flow_meaning.specs.Backward.{ended}
-use Rattle.flow_meaning.specs.Machine.{Sent, send_count, sender}
+use Rattle.flow_meaning.specs.Machine.{Sent, send_count}
+use Rattle.flow_meaning.specs.Sound.{with_its_tile}
 use Rattle.work_board.specs.declared.record.PassRecord.{PassRecord}
 use Rattle.work_board.specs.Records.{KeepsNamesAndMarks, done_by}
-
--- an item with the tile that its task leaves in the item's flow
-abbrev pub with_output : Plan → Data → Item → Sent
-with_output P G i = record { item = i; tile = output_tile (ended P G (sender i)) (item_flow i) }
 
 -- The pass sent these items, each with the tile that its task leaves. All else stays but the looks and the shard taken
 -- last.
 pub record HasSentAll (P : Plan) (G : Data) (is : List Item) (v w : PassRecord) : Type 0 where
-  pub sends : w.sends ≡ v.sends ++ map (with_output P G) is
+  pub sends : w.sends ≡ v.sends ++ map (with_its_tile P G) is
   pub claims : w.claims ≡ v.claims
   pub stamps : w.stamps ≡ v.stamps
   pub running : w.running ≡ v.running

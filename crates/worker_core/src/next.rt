@@ -3,7 +3,7 @@
 ghost use Rattle.std.specs.Prelude.{◌≡◌, [], true, false, OnErr, IfOk, MatchOption};
 ghost use Rattle.ready_deques.specs.Hands.{SameWorker};
 ghost use Rattle.work_board.specs.Records.{IsStill};
-ghost use Rattle.worker_core.specs.Claiming.{HasGot, IsQuietAfter, Looked};
+ghost use Rattle.worker_core.specs.Claiming.{HasGot, IsQuietAfter, Searched};
 
 use crate::claiming::{Found, claim_id, scan};
 use crate::post::Post;
@@ -15,9 +15,9 @@ use std::sync::Wait;
 use std::thread::Threads;
 use work_board::Board;
 
-// What one look for a task found.
+// What one search for a task found.
 #[derive(Drop)]
-pub(crate) enum Look {
+pub(crate) enum Search {
     // A task, which is claimed.
     Task(Found),
     // All is quiet.
@@ -30,16 +30,16 @@ pub(crate) enum Look {
 fn see_quiet<R: Threads + Wait + Sync, B: Board, G>(
     post: &Post<R, B, G>,
     pass: &mut B::Pass,
-) -> Look
+) -> Search
     requires { B.is_pass post.now.board.now pass.old }
     ensures pass { B.is_pass post.now.board.now pass.new }
-    ensures looked { Looked (B.plan post.now.board.now) (B.job_data post.now.board.now) result (B.shown pass.old)
+    ensures looked { Searched (B.plan post.now.board.now) (B.job_data post.now.board.now) result (B.shown pass.old)
         (B.shown pass.new) }
 {
     if post.board.see_quiet(pass) {
-        return Look::Quiet;
+        return Search::Quiet;
     }
-    Look::Nothing
+    Search::Nothing
 }
 
 // Looks for a task once: among the worker's own ids, then those of others, then in the next shard.
@@ -48,22 +48,22 @@ fn look_once<R: Threads + Wait + Sync, B: Board, G>(
     pass: &mut B::Pass,
     hands: &mut Hands,
     next: &mut u32,
-) -> Look
+) -> Search
     requires pass { B.is_pass post.now.board.now pass.old }
     requires idle { (B.shown pass.old).running ≡ [] }
     ensures pass { B.is_pass post.now.board.now pass.new }
     ensures hands { SameWorker hands.old hands.new }
-    ensures looked { Looked (B.plan post.now.board.now) (B.job_data post.now.board.now) result (B.shown pass.old)
+    ensures looked { Searched (B.plan post.now.board.now) (B.job_data post.now.board.now) result (B.shown pass.old)
         (B.shown pass.new) }
 {
     if let Some(id) = take_id(post.rt, hands) {
         return match claim_id(post, pass, id) {
-            Some(found) => Look::Task(found),
-            None => Look::Nothing,
+            Some(found) => Search::Task(found),
+            None => Search::Nothing,
         };
     }
     match scan(post, pass, next) {
-        Some(found) => Look::Task(found),
+        Some(found) => Search::Task(found),
         None => see_quiet(post, pass),
     }
 }
@@ -92,9 +92,9 @@ pub(crate) fn next_task<R: Threads + Wait + Sync, B: Board, G>(
             return Err(OutOfMemory);
         }
         match look_once(post, pass, hands, next) {
-            Look::Task(found) => return Ok(Some(found)),
-            Look::Quiet => return Ok(None),
-            Look::Nothing => backoff.snooze(),
+            Search::Task(found) => return Ok(Some(found)),
+            Search::Quiet => return Ok(None),
+            Search::Nothing => backoff.snooze(),
         }
     }
     unreachable!()

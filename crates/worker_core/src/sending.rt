@@ -9,9 +9,10 @@ ghost use Rattle.dep_iter.specs.Items as items;
 ghost use Rattle.dep_iter.specs.Tasks.{IsTask, locals_of};
 ghost use Rattle.flow_meaning.specs.Backward.{ended};
 ghost use Rattle.ready_deques.specs.Hands.{SameWorker};
+ghost use Rattle.flow_meaning.specs.Sound.{with_its_tile};
 ghost use Rattle.work_board.specs.Records.{IsStill};
 ghost use Rattle.work_board.specs.Sends.{AddsSend, IsNext, MayEnd};
-ghost use Rattle.worker_core.specs.Sending.{HasSentAll, HasSentSome, MaySendAll, RunsUnsent, with_output};
+ghost use Rattle.worker_core.specs.Sending.{HasSentAll, HasSentSome, MaySendAll, RunsUnsent};
 
 use crate::post::{Post, TaskAt};
 use crossbeam_utils::Backoff;
@@ -70,7 +71,7 @@ fn send_edge<R: Threads + Wait + Sync, B: Board, G>(
     requires tiles { ended (B.plan post.now.board.now) (B.job_data post.now.board.now) edge.from
         ≡ Some (Ok bench.now.tiles) }
     requires next { IsNext (B.plan post.now.board.now) (B.job_data post.now.board.now) (item.Edge edge)
-        (with_output (B.plan post.now.board.now) (B.job_data post.now.board.now) (item.Edge edge)).tile
+        (with_its_tile (B.plan post.now.board.now) (B.job_data post.now.board.now) (item.Edge edge)).tile
         (B.shown pass.old) }
     ensures pass { B.is_pass post.now.board.now pass.new }
     ensures hands { SameWorker hands.old hands.new }
@@ -130,7 +131,7 @@ fn send_write<R: Threads + Wait + Sync, B: Board, G>(
     requires tiles { ended (B.plan post.now.board.now) (B.job_data post.now.board.now) write.from
         ≡ Some (Ok bench.now.tiles) }
     requires next { IsNext (B.plan post.now.board.now) (B.job_data post.now.board.now) (item.Write write)
-        (with_output (B.plan post.now.board.now) (B.job_data post.now.board.now) (item.Write write)).tile
+        (with_its_tile (B.plan post.now.board.now) (B.job_data post.now.board.now) (item.Write write)).tile
         (B.shown pass.old) }
     ensures pass { B.is_pass post.now.board.now pass.new }
     ensures sent { OnOk result

@@ -1,7 +1,8 @@
-use Rattle.std.proofs.Common.{length, false}
+use Rattle.std.proofs.Common.{length}
+use Rattle.dep_iter.specs.declared.direction.Direction.TheVariants.{Out}
 use Rattle.dep_iter.specs.Walking.{targets_left}
 use Rattle.dep_iter.proofs.writes.+next_write.Given as goal
 
 -- how many targets are left
 abbrev pub decreases-next_write : goal.decreases-next_write
-decreases-next_write l = length (targets_left false l.env.now l.p.now)
+decreases-next_write l = length (targets_left Out l.env.now l.p.now)

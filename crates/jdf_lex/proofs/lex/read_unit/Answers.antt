@@ -20,7 +20,7 @@ pub returns-in_default-clause-refused : goal.returns-in_default-clause-refused
 returns-in_default-clause-refused c = λ f is.
     let text = c.args.text.now in
     let none : nothing ≡ front_unit (drop c.args.here.index text) = found_at text c.args.here.index nothing (sym c.in_default.is ∙ c.front_unit.ensures) in
-    let same : Fault (record { spot = c.args.here.spot; code = Unclosed }) ≡ Fault f = sym c.fault.ensures ∙ same_Err c.fault.result (Fault f) is in
+    let same : Fault (record { spot = c.args.here.spot; code = Unclosed }) ≡ Fault f = sym c.fault_at.ensures ∙ same_Err c.fault_at.result (Fault f) is in
     let faults : record { spot = c.args.here.spot; code = Unclosed } ≡ f = same_fault (record { spot = c.args.here.spot; code = Unclosed }) f same in
     subst (λ g. IsTokenFault text g) faults (fault_unclosed text c.args.tokens.now c.args.here c.requires.scanned c.requires.inside (sym none))
 

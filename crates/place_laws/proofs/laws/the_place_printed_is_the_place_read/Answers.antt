@@ -1,5 +1,5 @@
 use Rattle.report_text.proofs.Placing.{length_placed}
-use Rattle.place_laws.proofs.Rows.{length_places}
+use Rattle.report_text.proofs.Placing.{length_places}
 use Rattle.place_laws.proofs.Listing.{nth_index, beside_place}
 use Rattle.place_laws.proofs.laws.the_place_printed_is_the_place_read.Goals as goal
 

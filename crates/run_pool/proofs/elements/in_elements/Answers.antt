@@ -6,7 +6,7 @@ use Rattle.dep_iter.specs.Edges.{in_edges}
 use Rattle.list_lemmas.specs.Counting.{weigh}
 use Rattle.run_pool.specs.Bytes.{elements_of}
 use Rattle.run_pool.specs.Elements.{carried_elements}
-use Rattle.run_pool.proofs.Totals.{into}
+use Rattle.flow_meaning.proofs.Members.{in_edge_to}
 use Rattle.run_pool.proofs.elements.in_elements.Goals as goal
 
 pub loop-edge-init : goal.loop-edge-init
@@ -17,7 +17,7 @@ loop-edge-init c =
       can_next = search rules;
       is_finite = search rules;
       so_far = zero-add (weigh (carried_elements P) c.into_iter-edge-iterator.result) ∙ ap (weigh (carried_elements P)) all;
-      to = λ e i. into P c.args.t.now e (subst (IsIn e) all i);
+      to = λ e i. in_edge_to P c.args.t.now e (subst (IsIn e) all i);
     }
 
 -- what this edge adds

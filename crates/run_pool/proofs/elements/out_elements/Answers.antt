@@ -5,7 +5,7 @@ use Rattle.plan_core.specs.Kinds.{flow_of}
 use Rattle.dep_iter.specs.Items.{write_backs}
 use Rattle.list_lemmas.specs.Counting.{weigh}
 use Rattle.run_pool.specs.Bytes.{elements_of, write_elements}
-use Rattle.run_pool.proofs.Totals.{out_of}
+use Rattle.flow_meaning.proofs.Rest.{write_from}
 use Rattle.run_pool.proofs.elements.out_elements.Goals as goal
 
 pub loop-write-init : goal.loop-write-init
@@ -16,7 +16,7 @@ loop-write-init c =
       can_next = search rules;
       is_finite = search rules;
       so_far = zero-add (weigh (write_elements P) c.into_iter-write-iterator.result) ∙ ap (weigh (write_elements P)) all;
-      from = λ w i. out_of P c.args.t.now w (subst (IsIn w) all i);
+      from = λ w i. write_from P c.args.t.now w (subst (IsIn w) all i);
     }
 
 -- what this write-back adds

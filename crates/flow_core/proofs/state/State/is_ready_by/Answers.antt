@@ -1,7 +1,7 @@
 use Rattle.std.proofs.Common.{◌≡◌, ap, sym, ◌∙◌, is_some, true, false}
 use Rattle.flow_core.specs.RunState.{RunState, mark_of}
 use Rattle.flow_core.proofs.Fitting.{claimed_already}
-use Rattle.flow_core.proofs.Lookups.{none_of}
+use Rattle.list_lemmas.proofs.Options.{none_of}
 use Rattle.flow_core.proofs.state.State.is_ready_by.Goals as goal
 
 pub returns-then-contains_key-clause-exact : goal.returns-then-contains_key-clause-exact

@@ -2,7 +2,7 @@ use Rattle.std.proofs.Common.{◌≡◌, ◌++◌, [], ◌∷◌, ap, sym, ◌�
 use Rattle.flow_meaning.specs.declared.outcome.WaitRow.{WaitRow}
 use Rattle.flow_core.specs.Arrivals.{edges_to}
 use Rattle.flow_core.specs.RunState.{RunState, machine, mark_of}
-use Rattle.flow_core.proofs.Lookups.{none_of}
+use Rattle.list_lemmas.proofs.Options.{none_of}
 use Rattle.flow_core.proofs.Rows.{claimed_waits, no_wait, one_wait, row_is, waits_not, waits_so}
 use Rattle.flow_core.proofs.state.State.push_wait.Goals as goal
 

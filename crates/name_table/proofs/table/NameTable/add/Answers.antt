@@ -1,6 +1,7 @@
 use Rattle.std.proofs.Common.{not, is_some, sym, refl, ap, ◌∙◌}
 use Rattle.name_table.proofs.Found.{number_there}
-use Rattle.name_table.proofs.Named.{value_is_named, none_of}
+use Rattle.list_lemmas.proofs.Options.{none_of}
+use Rattle.name_table.proofs.Named.{value_is_named}
 use Rattle.name_table.proofs.table.NameTable.add.Goals as goal
 
 pub returns-then-is_some-clause-added : goal.returns-then-is_some-clause-added

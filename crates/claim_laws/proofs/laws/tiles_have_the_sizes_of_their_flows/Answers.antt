@@ -1,5 +1,5 @@
 use Rattle.flow_meaning.proofs.Sizes.{ended_places, ended_sized, item_sized}
-use Rattle.flow_meaning.proofs.laws.tiles_have_the_sizes_of_their_flows.Goals as goal
+use Rattle.claim_laws.proofs.laws.tiles_have_the_sizes_of_their_flows.Goals as goal
 
 pub returns : goal.returns
 returns c = record {

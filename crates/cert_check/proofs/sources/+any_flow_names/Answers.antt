@@ -1,7 +1,7 @@
 use Rattle.std.proofs.Common.{sym, ◌∙◌, refl, suc}
 use Rattle.std.proofs.lemmas.Bool.{false≢true}
-use Rattle.dep_iter.proofs.FarTasks.{flow_first, flow_rest}
-use Rattle.dep_iter.proofs.sources.+any_flow_names.Goals as goal
+use Rattle.cert_check.proofs.FarTasks.{flow_first, flow_rest}
+use Rattle.cert_check.proofs.sources.+any_flow_names.Goals as goal
 
 pub returns-then-any_names : goal.returns-then-any_names
 returns-then-any_names t c = λ n.

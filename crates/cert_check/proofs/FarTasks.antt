@@ -12,6 +12,7 @@ use Rattle.plan_core.specs.declared.target.Target.{Target}
 use Rattle.list_lemmas.proofs.Members.{IsIn-append_left, IsIn-append_right, IsIn-map, from_append, from_map}
 use Rattle.std.proofs.lemmas.List.{map-append}
 use Rattle.list_lemmas.proofs.Joins.{map-map}
+use Rattle.dep_iter.specs.declared.direction.Direction.TheVariants.{In}
 use Rattle.dep_iter.specs.declared.link.Link.{Link}
 use Rattle.dep_iter.specs.Active.{by_flow, flow_ins, held_target, held_targets}
 use Rattle.dep_iter.specs.Edges.{sources}
@@ -65,15 +66,15 @@ module _ (env : List ℤ) (n : ℕ) (u : Task) (d : DepPlan) (ds : List DepPlan)
 
 -- the links of a flow, and of those after it
 pub flow_first : (env : List ℤ) (n : ℕ) (f : FlowPlan) (fs : List FlowPlan) (u : Task) → IsIn u (map far_of (flat_map (links_to env n) (flow_ins env f)))
-    → IsIn u (map far_of (all_links env (by_flow (flow_targets true env) n (f ∷ fs))))
+    → IsIn u (map far_of (all_links env (by_flow (flow_targets In env) n (f ∷ fs))))
 flow_first env n f fs u h =
-    rw (by_flow-links env (flow_targets true env) n f fs) (in_first (flat_map (links_to env n) (flow_ins env f)) (all_links env (by_flow (flow_targets true env) (suc n) fs)) u h)
+    rw (by_flow-links env (flow_targets In env) n f fs) (in_first (flat_map (links_to env n) (flow_ins env f)) (all_links env (by_flow (flow_targets In env) (suc n) fs)) u h)
 
 pub flow_rest : (env : List ℤ) (n : ℕ) (f : FlowPlan) (fs : List FlowPlan) (u : Task) (b : Bool) → (IsIn u (map far_of (flat_map (links_to env n) (flow_ins env f))) → ⊥)
-    → IsTrue b ↔ IsIn u (map far_of (all_links env (by_flow (flow_targets true env) (suc n) fs))) → IsTrue b ↔ IsIn u (map far_of (all_links env (by_flow (flow_targets true env) n (f ∷ fs))))
+    → IsTrue b ↔ IsIn u (map far_of (all_links env (by_flow (flow_targets In env) (suc n) fs))) → IsTrue b ↔ IsIn u (map far_of (all_links env (by_flow (flow_targets In env) n (f ∷ fs))))
 flow_rest env n f fs u b none w =
-    rw (by_flow-links env (flow_targets true env) n f fs) (in_rest (flat_map (links_to env n) (flow_ins env f)) (all_links env (by_flow (flow_targets true env) (suc n) fs)) u b none w)
+    rw (by_flow-links env (flow_targets In env) n f fs) (in_rest (flat_map (links_to env n) (flow_ins env f)) (all_links env (by_flow (flow_targets In env) (suc n) fs)) u b none w)
 
 -- the sources of the edges into a task are the tasks at the other ends of its links
-pub sources-links : (P : Plan) (t : Task) → map far_of (task_links P t true) ≡ sources P t
-sources-links P t = sym (map-map (λ (e : Edge). e.from) (edge_in t) (task_links P t true)) ∙ ap (map (λ (e : Edge). e.from)) (in_edges-links P t)
+pub sources-links : (P : Plan) (t : Task) → map far_of (task_links P t In) ≡ sources P t
+sources-links P t = sym (map-map (λ (e : Edge). e.from) (edge_in t) (task_links P t In)) ∙ ap (map (λ (e : Edge). e.from)) (in_edges-links P t)

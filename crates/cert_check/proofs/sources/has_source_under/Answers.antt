@@ -1,8 +1,8 @@
 use Rattle.std.proofs.Common.{◌↔◌, List, IsTrue, subst}
 use Rattle.ptg_base.specs.Lists.{IsIn}
 use Rattle.ptg_base.specs.Task.{Task}
-use Rattle.dep_iter.proofs.FarTasks.{sources-links}
-use Rattle.dep_iter.proofs.sources.has_source_under.Goals as goal
+use Rattle.cert_check.proofs.FarTasks.{sources-links}
+use Rattle.cert_check.proofs.sources.has_source_under.Goals as goal
 
 pub returns : goal.returns
 returns c =

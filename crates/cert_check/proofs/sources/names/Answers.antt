@@ -1,8 +1,8 @@
 use Rattle.std.proofs.Common.{sym, ◌∙◌}
 use Rattle.std.proofs.lemmas.Bool.{false≢true}
 use Rattle.dep_iter.specs.Arguments.{combinations}
-use Rattle.dep_iter.proofs.FarTasks.{from_named, to_named}
-use Rattle.dep_iter.proofs.sources.names.Goals as goal
+use Rattle.cert_check.proofs.FarTasks.{from_named, to_named}
+use Rattle.cert_check.proofs.sources.names.Goals as goal
 
 pub returns-then-class : goal.returns-then-class
 returns-then-class c = λ n. (

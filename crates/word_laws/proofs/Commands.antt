@@ -1,49 +1,30 @@
 -- Every list of words is a command, or breaks one of the rules.
-use Rattle.std.proofs.Common.{◌≡◌, ◌≢◌, ℕ, suc, Bool, true, false, List, [], ◌∷◌, length, Option, Some, None, refl, ap, inl, inr, arith, codes}
+use Rattle.std.proofs.Common.{◌≡◌, ℕ, Bool, true, false, not, List, [], ◌∷◌, length, Option, Some, None, refl, sym, ap, ◌∙◌, inl, inr, arith, ◌==◌}
 use Rattle.std.specs.Prelude.{◌⊎◌, option_map}
-use Rattle.std.specs.List.{All, Any}
-use Rattle.std.specs.Str.{IsUtf8, is_utf8}
-use Rattle.std.proofs.lemmas.List.Elements.{All-nil, All-cons}
-use Rattle.std.proofs.lemmas.Str.{IsUtf8-from_is_utf8, is_utf8-from_IsUtf8}
+use Rattle.std.specs.List.{All, Any, list_any}
 use Rattle.ptg_words.specs.declared.order.Order.{Order}
-use Rattle.ptg_words.specs.Parts.{Part, parts, operands}
-use Rattle.ptg_words.specs.Words as words
-use Rattle.ptg_words.specs.Words.{Verb, IsProper, IsUsage, Orders, formed, no_verb, improper_word, read, verb_of, options_of, operand_count, has_bad_number, number_or}
-use Rattle.ptg_words.specs.Laws.{OrderOrUsage}
+use Rattle.ptg_words.specs.Parts.{Part, has_twice, is_lacking, is_stray, operands, parts}
 use Rattle.ptg_words.specs.Readings.{is_read}
-use Rattle.ptg_words.proofs.Rules.{breaks_none, breaks_rule, breaks_number}
+use Rattle.ptg_words.specs.Words as words
+use Rattle.ptg_words.specs.Words.{IsProper, IsUsage, Orders, Verb, bad_number, formed, has_bad_number, has_wrong_count, improper_word, lacking_number, no_verb, operand_count, operand_number, option_twice, options_of, read, stray_word, verb_of}
+use Rattle.ptg_words.proofs.Proper.{all_or_any}
+use Rattle.ptg_words.proofs.Rules.{breaks_none, to_rule}
 use Rattle.ptg_words.proofs.ValuesRead.{counted}
-use Rattle.std.proofs.lemmas.Bool.{both_ways}
-use Rattle.list_lemmas.proofs.Texts.{same_or_not}
+use Rattle.word_laws.specs.Commands.{OrderOrUsage}
 
--- ---- proper words
-
-text_or_not : (w : List ℕ) → IsUtf8 w ⊎ (IsUtf8 w → ⊥)
-text_or_not w = go (is_utf8 w) refl
+-- arguments whose parts break a rule
+pub breaks_rule : (ws : List (List ℕ)) (v : Verb) (ps : List Part) → read ws ≡ Some (v, ps) → is_read (operand_count v) ps ≡ false → IsUsage ws
+breaks_rule ws v ps e h = go (list_any is_stray ps) (list_any is_lacking ps) (has_twice ps) (length (operands ps) == operand_count v) refl refl refl refl
   where
-    go : (b : Bool) → is_utf8 w ≡ b → IsUtf8 w ⊎ (IsUtf8 w → ⊥)
-    go true e = inl (IsUtf8-from_is_utf8 w e)
-    go false e = inr (λ u. both_ways (is_utf8 w) e (is_utf8-from_IsUtf8 w u))
+    go : (a b c d : Bool) → list_any is_stray ps ≡ a → list_any is_lacking ps ≡ b → has_twice ps ≡ c → (length (operands ps) == operand_count v) ≡ d → IsUsage ws
+    go true b c d ea eb ec ed = stray_word (to_rule (λ v ps. list_any is_stray ps) ws v ps e ea)
+    go false true c d ea eb ec ed = lacking_number (to_rule (λ v ps. list_any is_lacking ps) ws v ps e eb)
+    go false false true d ea eb ec ed = option_twice (to_rule (λ v ps. has_twice ps) ws v ps e ec)
+    go false false false false ea eb ec ed = operand_number (to_rule has_wrong_count ws v ps e (ap not ed))
+    go false false false true ea eb ec ed = let bad : true ≡ false = sym (rw (ea, eb, ec, ed) refl) ∙ h in absurd cc
 
-proper_or_not : (w : List ℕ) → IsProper w ⊎ (IsProper w → ⊥)
-proper_or_not w = go (text_or_not w) (same_or_not w []) (same_or_not w (codes "-")) (same_or_not w (codes "--"))
-  where
-    go : IsUtf8 w ⊎ (IsUtf8 w → ⊥) → (w ≡ []) ⊎ (w ≢ []) → (w ≡ codes "-") ⊎ (w ≢ codes "-") → (w ≡ codes "--") ⊎ (w ≢ codes "--") → IsProper w ⊎ (IsProper w → ⊥)
-    go (inl text) (inr some) (inr dash) (inr dashes) = inl (text, some, dash, dashes)
-    go (inr bad) b c d = inr (λ p. bad p.0)
-    go (inl text) (inl e) c d = inr (λ p. p.1 e)
-    go (inl text) (inr some) (inl e) d = inr (λ p. p.2 e)
-    go (inl text) (inr some) (inr dash) (inl e) = inr (λ p. p.3 e)
-
--- all words are proper, or one is not
-pub all_or_any : (ws : List (List ℕ)) → All IsProper ws ⊎ Any (λ w. IsProper w → ⊥) ws
-all_or_any [] = inl (All-nil IsProper)
-all_or_any (w ∷ ws) = go (proper_or_not w) (all_or_any ws)
-  where
-    go : IsProper w ⊎ (IsProper w → ⊥) → All IsProper ws ⊎ Any (λ v. IsProper v → ⊥) ws → All IsProper (w ∷ ws) ⊎ Any (λ v. IsProper v → ⊥) (w ∷ ws)
-    go (inr bad) rest = inr (0, w, omega arith, refl, bad)
-    go (inl p) (inl all) = inl (All-cons IsProper w ws p all)
-    go (inl p) (inr any) = inr (suc any.0, any.1, let lt = any.2 in omega (arith, lt), any.3, any.4)
+pub breaks_number : (ws : List (List ℕ)) (v : Verb) (ps : List Part) → read ws ≡ Some (v, ps) → has_bad_number v ps ≡ true → IsUsage ws
+breaks_number ws v ps e h = bad_number (to_rule has_bad_number ws v ps e h)
 
 -- ---- the command of parts that keep the rules
 

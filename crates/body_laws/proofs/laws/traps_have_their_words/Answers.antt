@@ -1,5 +1,5 @@
 use Rattle.body_lang.proofs.Words.{own_words, words_once}
-use Rattle.body_lang.proofs.laws.traps_have_their_words.Goals as goal
+use Rattle.body_laws.proofs.laws.traps_have_their_words.Goals as goal
 
 pub returns-clause-own : goal.returns-clause-own
 returns-clause-own c scope tokens x h = own_words scope h.tree x h.named

@@ -1,7 +1,7 @@
 use Rattle.std.proofs.Common.{sym, ◌∙◌, refl}
 use Rattle.std.proofs.lemmas.Bool.{false≢true}
-use Rattle.dep_iter.proofs.FarTasks.{names-here, names-later, names-none}
-use Rattle.dep_iter.proofs.sources.+any_names.Goals as goal
+use Rattle.cert_check.proofs.FarTasks.{names-here, names-later, names-none}
+use Rattle.cert_check.proofs.sources.+any_names.Goals as goal
 
 pub returns-in_default-held_target : goal.returns-in_default-held_target
 returns-in_default-held_target t c = λ n.

@@ -1,5 +1,5 @@
 use Rattle.check_names.proofs.ClosedArguments.{closed_option, closed_arguments, closed_indices, no_ranges}
-use Rattle.check_names.proofs.laws.what_is_resolved_is_closed.Goals as goal
+use Rattle.flow_laws.proofs.laws.what_is_resolved_is_closed.Goals as goal
 
 pub returns-clause-arguments : goal.returns-clause-arguments
 returns-clause-arguments c = closed_arguments

@@ -2,6 +2,7 @@
 
 ghost use Rattle.std.specs.Prelude.{◌≡◌, ◌↔◌, ℕ, IsTrue, flat_map, map, true};
 ghost use Rattle.ptg_base.specs.Lists.{IsIn};
+ghost use Rattle.dep_iter.specs.declared.direction.Direction.TheVariants.{In};
 ghost use Rattle.dep_iter.specs.declared.link.Link.{Link as LinkValue};
 ghost use Rattle.dep_iter.specs.Active.{by_flow, held_targets};
 ghost use Rattle.dep_iter.specs.Edges as edges;
@@ -9,9 +10,7 @@ ghost use Rattle.dep_iter.specs.Links.{all_links, flow_targets, links_to};
 ghost use Rattle.dep_iter.specs.Tasks as tasks;
 ghost use Rattle.dep_iter.specs.Tasks.{IsTask};
 
-use crate::guard::held_target;
-use crate::membership::has_combination;
-use crate::task::flows_of;
+use dep_iter::{flows_of, has_combination, held_target};
 use plan_core::{DepPlan, FlowPlan, Plan, Target};
 use ptg_base::TaskId;
 
@@ -56,7 +55,7 @@ fn any_flow_names(flows: &[FlowPlan], env: &[i64], far: &TaskId) -> bool
     ensures { (n : ℕ)
         → IsTrue result
         ↔ IsIn far.now
-        (map (λ (l : LinkValue). l.far) (all_links env.now (by_flow (flow_targets true env.now) n flows.now))) }
+        (map (λ (l : LinkValue). l.far) (all_links env.now (by_flow (flow_targets In env.now) n flows.now))) }
 {
     let Some((flow, others)) = flows.split_first() else {
         return false;
@@ -67,9 +66,9 @@ fn any_flow_names(flows: &[FlowPlan], env: &[i64], far: &TaskId) -> bool
     any_flow_names(others, env, far)
 }
 
-/// Whether an edge into a task with these locals comes from another task. Takes time according to the in dependences of
-/// the task, however many edges they give.
-pub fn has_source_under(plan: &Plan, t: &TaskId, env: &[i64], source: &TaskId) -> bool
+// Whether an edge into a task with these locals comes from another task. Takes time according to the in dependences of
+// the task, however many edges they give.
+pub(crate) fn has_source_under(plan: &Plan, t: &TaskId, env: &[i64], source: &TaskId) -> bool
     requires task { IsTask plan.now t.now }
     requires locals { env.now ≡ tasks.locals_of plan.now t.now }
     ensures { IsTrue result ↔ IsIn source.now (edges.sources plan.now t.now) }

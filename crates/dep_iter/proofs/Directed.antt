@@ -1,0 +1,18 @@
+-- The dependences of a flow in one direction: their targets are those of the flow, and they fit where all of it do.
+use Rattle.std.proofs.Common.{◌≡◌, refl, ℤ, List, IsTrue, ◌&&◌}
+use Rattle.std.proofs.lemmas.Bool.{and_parts}
+use Rattle.plan_core.specs.declared.flow.FlowPlan.{FlowPlan}
+use Rattle.plan_core.specs.declared.plan.Plan.{Plan}
+use Rattle.dep_iter.specs.declared.direction.Direction.{Direction}
+use Rattle.dep_iter.specs.declared.direction.Direction.TheVariants.{In, Out}
+use Rattle.dep_iter.specs.Active.{held_targets}
+use Rattle.dep_iter.specs.Directions.{dependences, first_alone}
+use Rattle.dep_iter.specs.Links.{dependences_fit, flow_targets}
+
+pub held_of : (way : Direction) (env : List ℤ) (f : FlowPlan) → held_targets (first_alone way f.kind) (dependences way f) env ≡ flow_targets way env f
+held_of In env f = refl
+held_of Out env f = refl
+
+pub fit_of : (P : Plan) (way : Direction) (f : FlowPlan) → IsTrue (dependences_fit P f.ins && dependences_fit P f.outs) → IsTrue (dependences_fit P (dependences way f))
+fit_of P In f h = (and_parts (dependences_fit P f.ins) (dependences_fit P f.outs) h).0
+fit_of P Out f h = (and_parts (dependences_fit P f.ins) (dependences_fit P f.outs) h).1
