@@ -6,10 +6,11 @@ use Rattle.grammar_core.specs.declared.token.Spot.{Spot}
 use Rattle.grammar_core.specs.declared.token.Token.{Token}
 use Rattle.grammar_core.specs.declared.code.Code.{Code}
 use Rattle.grammar_core.specs.Production.{IsText}
+use Rattle.grammar_core.proofs.Whole.{fault_index}
 use Rattle.jdf_tree.specs.BodyGrammar.{body}
 use Rattle.jdf_tree.specs.Grammar.{productions}
 use Rattle.jdf_tree.specs.Statements.{Statements}
-use Rattle.body_read.proofs.Whole.{only, fault_read, fault_place, one_tree, no_fault, one_place}
+use Rattle.body_read.proofs.Whole.{only, fault_read, one_tree, no_fault, one_place}
 use Rattle.body_names.specs.Environment.{Environment}
 use Rattle.body_names.specs.Statements.{body_of}
 use Rattle.body_lang.specs.Broken.{broken_fault}
@@ -29,7 +30,7 @@ names_alike scope tokens f g h k = same_Err f g (sym h.named ∙ (same_body scop
 
 texts_alike : (scope : Environment) (tokens : List Token) (finish : Spot) (f g : JdfFault) → IsTextFault scope tokens finish f → IsTextFault scope tokens finish g → f ≡ g
 texts_alike scope tokens finish f g h k =
-    let within = fault_place tokens h.token_index h.code h.broken in
+    let within = fault_index productions body tokens h.token_index h.code h.broken in
     let same = one_place tokens (length tokens - h.token_index) k.token_index h.code k.code (fault_read tokens h.token_index h.code h.broken) k.broken in
     let index : h.token_index ≡ k.token_index = omega (arith, same.0, within) in
     same_Err f g

@@ -65,7 +65,7 @@ module _ (scope : Environment) where
   -- ---- what a fault is made of
 
   -- an operation on what is resolved
-  of_fault : {A B : Type 0} (r : Resolved A) (f : A → B) → fault_of r ≡ fault_of (and_then r (λ x. Ok (f x)))
+  pub of_fault : {A B : Type 0} (r : Resolved A) (f : A → B) → fault_of r ≡ fault_of (and_then r (λ x. Ok (f x)))
   of_fault (Ok x) f = refl
   of_fault (Err e) f = refl
 

@@ -38,7 +38,7 @@ use Rattle.body_laws.proofs.Along.{along, along_append, after_after, after_same,
 use Rattle.body_laws.proofs.Alike.{Alike, names_of, names_append, names_take, names_length, term_alike}
 use Rattle.body_laws.proofs.Declared as count
 use Rattle.body_laws.proofs.VariableCount.{NotTooMany, Adds, declare_bounded, set_bounded, put_bounded, choice_bounded, loop_bounded, trap_bounded, block_bounded}
-use Rattle.body_laws.proofs.Judging.{NoIndex, no_index, Names, outer_judges, names_at, names_judge}
+use Rattle.body_laws.proofs.Judging.{NoIndex, no_index, Names, of_fault, outer_judges, names_at, names_judge}
 use Rattle.body_laws.proofs.Walking.{is_for, silent_as, inside_as, is_silent, silent, left_brace, right_brace, begun, counter_name, expression, Ready, Follows, first_step, known_step, last_step, walked}
 use Rattle.body_laws.proofs.Agreeing.{room_is, last_is, front_is, Walks, Indexes, declaration_walks, assignment_walks, stop_walks}
 use Rattle.list_lemmas.specs.Counting.{weigh}
@@ -435,10 +435,6 @@ module _ (scope : Environment) where
   same_fault around (Err e) (Ok m) h = absurd h
   same_fault around (Err e) (Err f) h = ap (λ e. Err e) (sym h)
 
-  fault_before : {A B : Type 0} (a : Resolved A) (g : A → B) → fault_of (and_then a (λ x. Ok (g x))) ≡ fault_of a
-  fault_before (Ok x) g = refl
-  fault_before (Err e) g = refl
-
   abbrev text_fault : Statements → Resolved (Unit {0})
   text_fault t = fault_of (resolved scope t no_bindings)
 
@@ -457,7 +453,7 @@ module _ (scope : Environment) where
           let b = block_walks (Derived productions) (names_judge scope) blocks_close s t o [] u in
           ap fault_of (all_along b.word s b.parts)
           ∙ (same_fault [] (in_block block_opened (resolved scope t) no_bindings) (along scope at_first b.word []) (b.follows block_opened no_bindings None (ready_inside no_bindings) at_first at_start.alike refl (omega (arith, at_most)))
-          ∙ fault_before (resolved scope t no_bindings) (λ x. (x.0, block_closed no_bindings x.1)))
+          ∙ sym (of_fault scope (resolved scope t no_bindings) (λ x. (x.0, block_closed no_bindings x.1))))
 
       plain : Derives (Derived productions) statements s t o [] → fault_of (along scope at_first s []) ≡ text_fault t
       plain u =
@@ -469,4 +465,4 @@ module _ (scope : Environment) where
   unfolding body
   agrees s t h =
       among_all scope at_first s
-      ∙ (text_agrees s t h.1.0 (count.variables_at_most s t h) h.1.1 ∙ sym (fault_before (resolved scope t no_bindings) (λ x. (record { statements = x.0; slots = length scope.locals + x.1.declared }, x.1.words))))
+      ∙ (text_agrees s t h.1.0 (count.variables_at_most s t h) h.1.1 ∙ of_fault scope (resolved scope t no_bindings) (λ x. (record { statements = x.0; slots = length scope.locals + x.1.declared }, x.1.words)))

@@ -1,5 +1,4 @@
 pub mod Begins
-pub mod Windows
 pub mod Limited
 pub mod LimitSearch
 pub mod AfterLookahead

@@ -1,5 +1,5 @@
 -- The two limits of a body as one: the smaller of their indices, and its code.
-use Rattle.std.proofs.Common.{◌≡◌, ℕ, suc, ◌-◌, ◌+◌, ◌≤◌, ◌<◌, Bool, true, false, cond, List, [], ◌∷◌, ◌++◌, length, take, drop, Ok, Err, refl, inl, inr, sym, ap, ◌∙◌, arith}
+use Rattle.std.proofs.Common.{◌≡◌, ℕ, ◌-◌, ◌+◌, ◌≤◌, ◌<◌, Bool, true, false, cond, List, ◌∷◌, ◌++◌, length, take, drop, Ok, Err, refl, inl, inr, sym, ap, ◌∙◌, arith}
 use Rattle.std.specs.Prelude.{◌==◌, nat_lt, nat_le, min, if◌then◌else◌}
 use Rattle.std.proofs.lemmas.Bool.{le-ltb, lt-ltb, cases_lt, le-leb, lt-leb}
 use Rattle.std.proofs.lemmas.Bool.Decides.{nat_tests}
@@ -14,11 +14,11 @@ use Rattle.grammar_core.proofs.Whole.{sound}
 use Rattle.jdf_alphabet.specs.Terminals.{terminal_at}
 use Rattle.jdf_tree.specs.BodyLimits.{block_limit, variable_limit}
 use Rattle.jdf_tree.specs.ExpressionGrammar.{number, parens, index, reference, signed, unary, product, sum, relation, equality, conjunction, disjunction, branches, expr, outer}
-use Rattle.jdf_tree.specs.BodyGrammar.{block, value, declaration, element, assignment, condition, otherwise, choice, for_loop, trap_statement, statement, statements, block_rest, text, body}
+use Rattle.jdf_tree.specs.BodyGrammar.{block, value, declaration, element, assignment, condition, otherwise, choice, for_loop, trap_statement, statement, statements, text, body}
 use Rattle.jdf_tree.specs.Grammar.{productions, claims}
 use Rattle.jdf_tree.specs.Statements.{Statements}
 use Rattle.jdf_tree.proofs.Fine.{productions_fine}
-use Rattle.body_read.proofs.Windows as windows
+use Rattle.expr_read.proofs.Windows as windows
 
 pub text_fine : is_fine claims text ≡ true
 unfolding terminal_at text block statements statement declaration choice for_loop trap_statement assignment element value condition otherwise outer expr branches disjunction conjunction equality relation sum product unary signed number reference index parens

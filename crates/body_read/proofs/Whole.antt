@@ -4,7 +4,6 @@ use Rattle.std.specs.Prelude.{length, ◌-◌, None}
 use Rattle.grammar_core.specs.declared.token.Spot.{Spot}
 use Rattle.grammar_core.specs.declared.token.Token.{Token}
 use Rattle.grammar_core.specs.declared.code.Code.{Code}
-use Rattle.grammar_core.specs.declared.code.Code.TheVariants.{Syntax}
 use Rattle.grammar_core.specs.Production.{IsText, IsFirstFault}
 use Rattle.grammar_core.specs.Predictive.{is_fine}
 use Rattle.ptg_base.specs.declared.refusal.Refusal.{Refusal}
@@ -12,7 +11,7 @@ use Rattle.ptg_base.specs.declared.refusal.Refusal.TheVariants as errors
 use Rattle.grammar_core.specs.declared.fault.ReadFault.{ReadFault}
 use Rattle.grammar_core.specs.Returns.{ReadRefusal, Returns, Fails}
 use Rattle.grammar_core.specs.Reading.{FaultFromEnd, whole}
-use Rattle.grammar_core.proofs.Whole.{text_found, text_only, fault_is, fault_within, one_fault}
+use Rattle.grammar_core.proofs.Whole.{text_found, text_only, fault_index, fault_is, fault_within, one_fault}
 use Rattle.ptg_base.specs.Returns.{FindsOrRefuses}
 use Rattle.jdf_lex.specs.declared.fault.JdfFault.{JdfFault}
 use Rattle.jdf_tree.specs.BodyGrammar.{body}
@@ -44,11 +43,6 @@ fault_left s n e = fault_within productions claims productions_fine productions_
 pub fault_read : (s : List Token) (place : ℕ) (c : Code) → IsFirstFault productions body s place c → whole productions body s ≡ Err (length s - place, c)
 fault_read s place c h = one_fault productions claims productions_fine productions_limits body body_fine body_text_limits s place c h
 
--- a place of a first fault is in the text, or its end
-pub fault_place : (s : List Token) (place : ℕ) (c : Code) → IsFirstFault productions body s place c → place ≤ length s
-fault_place s place Syntax h = h.within
-fault_place s place c h = let w = h.within in omega (arith, w)
-
 -- ---- the answer is the one there is
 
 pub one_tree : (s : List Token) (t t' : Statements) → whole productions body s ≡ Ok t → IsText productions body s t' None → t ≡ t'
@@ -64,7 +58,7 @@ pub one_place : (s : List Token) (left p : ℕ) (d c : Code) → whole productio
 one_place s left p d c e h =
     let same = same_Err (left, d) (length s - p, c) (sym e ∙ fault_read s p c h) in
     let n = ap (λ (m : FaultFromEnd). m.0) same in
-    let within = fault_place s p c h in
+    let within = fault_index productions body s p c h in
     (omega (arith, n, within), ap (λ (m : FaultFromEnd). m.1) same)
 
 -- ---- what reading answers

@@ -1,14 +1,14 @@
 -- What the checkers find of chains and cycles.
-use Rattle.std.proofs.Common.{◌≡◌, ◌↔◌, Bool, true, false, List, [], ◌∷◌, ◌++◌, refl, ap, sym, ◌∙◌, subst, inl, inr, IsTrue, arith}
+use Rattle.std.proofs.Common.{◌≡◌, ◌↔◌, Bool, false, List, [], ◌∷◌, ◌++◌, refl, sym, ◌∙◌, subst, inl, IsTrue}
 use Rattle.std.proofs.lemmas.Bool.{false≢true}
-use Rattle.std.specs.Prelude.{◌||◌}
 use Rattle.std.specs.List.{list_any}
 use Rattle.ptg_base.specs.Lists.{HasNoRepeats, IsIn}
 use Rattle.ptg_base.specs.Task.{Task}
 use Rattle.ptg_base.specs.TaskComparing.{same_task}
 use Rattle.ptg_base.specs.TaskLaws.{same_task-decides}
 use Rattle.plan_core.specs.declared.plan.Plan.{Plan}
-use Rattle.list_lemmas.proofs.Truth.{by_test}
+use Rattle.list_lemmas.proofs.Members.{some_member_passes, list_any-from_member}
+use Rattle.std.proofs.lemmas.List.{same_from_push}
 use Rattle.dep_iter.specs.Tasks.{IsTask}
 use Rattle.chain_cert.specs.Chains.{IsChain, IsCycle, IsSourceOf}
 use Rattle.cert_check.specs.Checking.{IsLinked}
@@ -33,15 +33,6 @@ once_split x xs h = (λ w. let moved : HasNoRepeats (w.0 ∷ w.1) = subst HasNoR
 pub once_join : (x : Task) (xs : List Task) → (ComesAgain (x ∷ xs) → ⊥) → HasNoRepeats xs → HasNoRepeats (x ∷ xs)
 once_join x xs new h = (λ i. new (x, xs, refl, i), h)
 
--- the last of a list is one
-pub same_last : (xs ys : List Task) (x y : Task) → xs ++ x ∷ [] ≡ ys ++ y ∷ [] → x ≡ y
-same_last [] [] x y e = cc
-same_last [] (z ∷ []) x y e = absurd cc
-same_last [] (z ∷ w ∷ ys) x y e = absurd cc
-same_last (z ∷ []) [] x y e = absurd cc
-same_last (z ∷ w ∷ xs) [] x y e = absurd cc
-same_last (z ∷ xs) (w ∷ ys) x y e = let rest : xs ++ x ∷ [] ≡ ys ++ y ∷ [] = cc in same_last xs ys x y rest
-
 pub same_first : (x y : Task) (xs ys : List Task) → x ∷ xs ≡ y ∷ ys → x ≡ y
 same_first x y xs ys e = cc
 
@@ -50,7 +41,7 @@ module _ (P : Plan) (ts front back : List Task) (first last : Task) (begins : ts
   pub cycle_closed : IsCycle P ts → IsTask P first × IsSourceOf P last first
   cycle_closed c =
       let a : c.first ≡ first = same_first c.first first c.begins.0 back (sym c.begins.1 ∙ begins) in
-      let z : c.last ≡ last = same_last c.ends.0 front c.last last (sym c.ends.1 ∙ ends) in
+      let z : c.last ≡ last = (same_from_push c.ends.0 front c.last last (sym c.ends.1 ∙ ends)).1 in
       (chain_task P ts c.chain first (subst (IsIn first) (sym begins) (inl refl)), subst (λ u. IsSourceOf P last u) a (subst (λ u. IsSourceOf P u c.first) z c.closed))
 
   pub cycle_is : IsTask P first × IsSourceOf P last first → IsChain P ts → HasNoRepeats ts → IsCycle P ts
@@ -68,20 +59,7 @@ module _ (P : Plan) (ts front back : List Task) (first last : Task) (begins : ts
 
 -- a task is one of these where a test finds it
 pub any_in : (t : Task) (ts : List Task) (b : Bool) → b ≡ list_any (λ (u : Task). same_task u t) ts → IsTrue b ↔ IsIn t ts
-any_in t ts b e = (λ k. (by ts).0 (sym e ∙ k), λ i. e ∙ (by ts).1 i)
-  where
-    by : (us : List Task) → (list_any (λ (u : Task). same_task u t) us ≡ true) ↔ IsIn t us
-    by [] = (λ k. absurd (false≢true k), λ i. absurd i)
-    by (u ∷ us) =
-        by_test (same_task u t)
-        (λ k. (
-          λ _. inl (sym ((same_task-decides u t).0 k)),
-          λ _. ap (λ c. c || list_any (λ (v : Task). same_task v t) us) k,
-        ))
-        (λ k. (
-          λ h. inr ((by us).0 (sym (ap (λ c. c || list_any (λ (v : Task). same_task v t) us) k) ∙ h)),
-          λ i. elim i [
-            | inl q ↦ absurd (false≢true (sym k ∙ (same_task-decides u t).1 (sym q)))
-            | inr later ↦ ap (λ c. c || list_any (λ (v : Task). same_task v t) us) k ∙ (by us).1 later
-          ],
-        ))
+any_in t ts b e = (
+  λ k. let p = some_member_passes (λ (u : Task). same_task u t) ts (sym e ∙ k) in subst (λ u. IsIn u ts) ((same_task-decides p.0 t).0 p.2) p.1,
+  λ i. e ∙ list_any-from_member (λ (u : Task). same_task u t) ts t i ((same_task-decides t t).1 refl),
+)

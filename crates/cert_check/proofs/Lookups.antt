@@ -1,5 +1,5 @@
 -- What is found among rows in task order by halves.
-use Rattle.std.proofs.Common.{◌≡◌, ℕ, ◌<◌, IsTrue, slice_index_or, Option, Some, None, MatchOption, zero, suc, take, drop, length, append_assoc, arith, ◌+◌, ◌↔◌, true, List, [], ◌∷◌, ◌++◌, refl, ap, sym, ◌∙◌, subst, inl, inr}
+use Rattle.std.proofs.Common.{◌≡◌, ℕ, ◌<◌, IsTrue, slice_index_or, Option, Some, None, MatchOption, take, drop, length, append_assoc, arith, ◌+◌, ◌↔◌, true, List, [], ◌∷◌, ◌++◌, refl, ap, sym, ◌∙◌, subst, inl, inr}
 use Rattle.std.specs.Prelude.{nat_le}
 use Rattle.std.proofs.lemmas.Bool.{leb-true, le-leb}
 use Rattle.std.proofs.lemmas.List.{append-nil, take-append-drop}
@@ -7,6 +7,7 @@ use Rattle.ptg_base.specs.Lists.{IsIn}
 use Rattle.ptg_base.specs.Task.{Task}
 use Rattle.ptg_base.specs.TaskOrder.{task_before}
 use Rattle.list_lemmas.proofs.Members.{IsIn-append_left, IsIn-append_right, IsIn-map, from_append, from_map}
+use Rattle.list_lemmas.proofs.Places.{IsIn-slice_get, slice_get_at}
 use Rattle.ptg_base.specs.declared.edge.Edge.{Edge}
 use Rattle.plan_core.specs.declared.plan.Plan.{Plan}
 use Rattle.dep_iter.specs.Edges.{in_edges}
@@ -127,6 +128,4 @@ above_by levels s w n level a b d p q r found = (
 
 -- what is read at an index is a member
 pub read_in : {A : Type 0} (k : ℕ) (xs : List A) (x : A) → k < length xs → x ≡ slice_index_or xs k x → IsIn x xs
-read_in k [] x h e = absurd (omega arith)
-read_in zero (y ∷ ys) x h e = inl e
-read_in (suc k) (y ∷ ys) x h e = inr (read_in k ys x (omega arith) e)
+read_in k xs x h e = IsIn-slice_get xs k x (slice_get_at xs k x h e)

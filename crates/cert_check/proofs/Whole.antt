@@ -11,11 +11,11 @@ use Rattle.dep_iter.specs.Tasks.{IsTask, all_tasks}
 use Rattle.dep_iter.specs.Edges.{in_edges}
 use Rattle.dep_iter.specs.Consistent.{IsConsistent}
 use Rattle.dep_iter.proofs.Listing.{listed}
+use Rattle.dep_iter.proofs.Once.{once-all_tasks}
 use Rattle.task_order.specs.Greatest.{IsGreatestOrder}
 use Rattle.task_order.proofs.Orders.{from_outside}
 use Rattle.chain_cert.specs.Chains.{HasNoCycle, IsSourceOf}
 use Rattle.chain_exists.proofs.Completeness.{long_walk}
-use Rattle.chain_cert.proofs.TaskSorting.{all_once}
 use Rattle.chain_cert.proofs.Turning.{IsBackFrom, source_task}
 use Rattle.chain_cert.proofs.Whole.{no_cycle, order_at_most}
 
@@ -46,6 +46,6 @@ module _ (P : Plan) (con : IsConsistent P) (order : List Task) (g : IsGreatestOr
     λ e. no_cycle P order g.legal (omega (arith, e)),
     λ none.
         let few = order_at_most P order g.legal in
-        let many = no_longer (all_tasks P) order (all_once P) (λ t i. all_inside none t ((listed P t).1 i)) in
+        let many = no_longer (all_tasks P) order (once-all_tasks P) (λ t i. all_inside none t ((listed P t).1 i)) in
         omega (arith, few, many),
   )

@@ -1,5 +1,5 @@
 -- What follows from the results of calls.
-use Rattle.std.proofs.Common.{◌≡◌, ◌≢◌, ◌==◌, Bool, true, false, cond, List, [], ◌∷◌, length, refl, sym, ap, ◌∙◌, subst, Result, Ok, Err, IfOk}
+use Rattle.std.proofs.Common.{◌≡◌, ◌≢◌, ◌==◌, Bool, true, false, cond, List, [], ◌∷◌, length, refl, sym, ap, ◌∙◌, subst}
 use Rattle.std.proofs.lemmas.Bool.{false≢true}
 use Rattle.plan_core.specs.declared.plan.Plan.{Plan}
 use Rattle.coll_data.specs.Data.{Data}
@@ -10,10 +10,6 @@ use Rattle.flow_meaning.specs.declared.outcome.TrapRow.{TrapRow}
 use Rattle.flow_meaning.specs.Answer.{answer, answer_by, ran, trapped, waiting}
 use Rattle.flow_meaning.specs.Final.{final_data}
 use Rattle.chain_cert.specs.Finding.{is_trapped}
-
-pub if_ok_then : {T E : Type 0} {A B : T → Type 0} (r : Result T E) → ((x : T) → A x → B x) → IfOk r A → IfOk r B
-if_ok_then (Ok x) f h = f x h
-if_ok_then (Err e) f h = h
 
 module _ (P : Plan) (G : Data) where
   -- an answer says whether a task trapped

@@ -10,10 +10,10 @@ use Rattle.ptg_base.specs.TaskComparing.{task_cmp}
 use Rattle.ptg_base.specs.TaskLaws.{task_cmp-compares}
 use Rattle.plan_core.specs.declared.plan.Plan.{Plan}
 use Rattle.list_lemmas.proofs.Truth.{by_test}
-use Rattle.list_lemmas.proofs.Tasks.{distinct_once, before_trans}
+use Rattle.list_lemmas.proofs.Tasks.{before_trans}
 use Rattle.dep_iter.specs.Tasks.{IsTask, all_tasks}
 use Rattle.dep_iter.proofs.Listing.{listed}
-use Rattle.flow_meaning.proofs.Once.{tasks_once}
+use Rattle.dep_iter.proofs.Once.{once-all_tasks}
 use Rattle.chain_cert.specs.Certificates.{HasTasksInOrder, tasks_in_order}
 use Rattle.chain_cert.specs.Checking.{IsRising, tasks_of}
 
@@ -110,14 +110,11 @@ one_rising (t ∷ ts) (u ∷ us) up also same =
     ap (λ v. v ∷ ts) heads ∙ ap (λ l. u ∷ l) (one_rising ts us up.1 also.1 rest)
 
 module _ (P : Plan) where
-  pub all_once : HasNoRepeats (all_tasks P)
-  all_once = distinct_once (all_tasks P) (tasks_once P)
-
   pub sorted_task : (t : Task) → IsIn t (tasks_in_order P) ↔ IsTask P t
   sorted_task t = (λ i. (listed P t).1 ((in_order t (all_tasks P)).0 i), λ job. (in_order t (all_tasks P)).1 ((listed P t).0 job))
 
   pub sorted_rising : IsRising (tasks_in_order P)
-  sorted_rising = rising_order (all_tasks P) all_once
+  sorted_rising = rising_order (all_tasks P) (once-all_tasks P)
 
   pub order_task : (rows : List (Task × ℕ)) → HasTasksInOrder P rows → (t : Task) → IsIn t (tasks_of rows) ↔ IsTask P t
   order_task rows q t = (λ i. (sorted_task t).0 (subst (IsIn t) q i), λ job. subst (IsIn t) (sym q) ((sorted_task t).1 job))

@@ -8,7 +8,6 @@ use Rattle.ptg_base.specs.Lists.{IsIn}
 use Rattle.ptg_base.specs.Task.{Task}
 use Rattle.ptg_base.specs.TaskComparing.{same_task}
 use Rattle.plan_core.specs.declared.plan.Plan.{Plan}
-use Rattle.list_lemmas.proofs.Members.{from_map}
 use Rattle.list_lemmas.proofs.Counts.{weigh-push}
 use Rattle.list_lemmas.proofs.Distinct.{no_longer as at_most}
 use Rattle.dep_iter.specs.Tasks.{IsTask, all_tasks}
@@ -23,6 +22,7 @@ use Rattle.chain_cert.specs.Levels.{IsLevel}
 use Rattle.chain_cert.specs.Printed.{HasGreatestLevel, IsChainBack, IsHeaviestSource, IsLeast, IsTracedBack}
 use Rattle.chain_cert.specs.Weights.{chain_weight, weight}
 use Rattle.chain_cert.proofs.Completeness.{repeats_or_not}
+use Rattle.chain_cert.proofs.Potentials.{row_of}
 use Rattle.chain_cert.proofs.TableLevels.{Alone, BySource, ComesTo, comes_to, longer}
 use Rattle.chain_cert.proofs.Linking.{chain_task}
 use Rattle.chain_cert.proofs.TaskSorting.{order_task}
@@ -97,11 +97,6 @@ module _ (P : Plan) (ws : List ℕ) (rows : List (Task × ℕ)) (levels : AreLev
       by [] job = refl
       by (t ∷ ts) job = absurd (subst (λ l. IsIn t (tasks_of l)) none ((order_task P rows levels.tasks t).1 (job t (inl refl))))
 
-  row_of : (t : Task) → IsTask P t → (n : ℕ) × IsIn (t, n) rows
-  row_of t job =
-      let p = from_map (λ (row : Task × ℕ). row.0) rows t ((order_task P rows levels.tasks t).1 job) in
-      (p.0.1, subst (λ (row : Task × ℕ). IsIn row rows) (λ i. (sym p.2 i, p.0.1)) p.1)
-
   row_task : (t : Task) (n : ℕ) → IsIn (t, n) rows → IsTask P t
   row_task t n i = (order_task P rows levels.tasks t).0 (in_rows rows t n i)
     where
@@ -113,13 +108,13 @@ module _ (P : Plan) (ws : List ℕ) (rows : List (Task × ℕ)) (levels : AreLev
   last_is best b =
       let level = levels.each best.0 best.1 b.0 in
       let over : (u : Task) (n : ℕ) → IsTask P u → IsLevel P ws u n → n ≤ best.1 = λ u n job is.
-      let r = row_of u job in
+      let r = row_of P ws rows levels.tasks u job in
       let same = level_one P ws u n r.0 is (levels.each u r.0 r.1) in
       omega (arith, same, (b.1 (u, r.0) r.1).0) in
       record {
         kind = record { task = row_task best.0 best.1 b.0; level = best.1; is_level = level; greatest = over };
         least = λ u k.
-            let r = row_of u k.task in
+            let r = row_of P ws rows levels.tasks u k.task in
             let same = level_one P ws u k.level r.0 k.is_level (levels.each u r.0 r.1) in
             let equal : r.0 ≡ best.1 = omega (arith, same, (b.1 (u, r.0) r.1).0, k.greatest best.0 best.1 (row_task best.0 best.1 b.0) level) in
             (b.1 (u, r.0) r.1).1 equal;

@@ -19,12 +19,12 @@ use Rattle.dep_iter.specs.Tasks.{IsTask, all_tasks}
 use Rattle.dep_iter.specs.Edges.{in_edges, sources}
 use Rattle.dep_iter.specs.Consistent.{IsConsistent}
 use Rattle.dep_iter.proofs.Listing.{listed}
+use Rattle.dep_iter.proofs.Once.{once-all_tasks}
 use Rattle.task_order.proofs.Orders.{from_outside}
 use Rattle.indexmap.specs.IndexSet.{insert_key}
 use Rattle.task_order.specs.Greatest.{IsGreatestOrder}
 use Rattle.chain_cert.specs.Finding.{HasLevels, IsLeastWhere, IsLevelAmong, LacksTasks, is_left}
 use Rattle.chain_cert.specs.Printed.{IsLeast, IsPrintedCycle, IsSourceLeft, IsTaskLeft, IsWalkBack, IsWalkedBack}
-use Rattle.chain_cert.proofs.TaskSorting.{all_once}
 use Rattle.chain_cert.proofs.Turning.{source_task}
 
 -- a walk with one more step
@@ -66,7 +66,7 @@ module _ (P : Plan) (order : List Task) (table : List (Task × ℕ)) (l : LacksT
   some_out = by (all_tasks P) (λ t i. (listed P t).1 i) none_all
     where
       none_all : ((t : Task) → IsIn t (all_tasks P) → IsIn t order) → ⊥
-      none_all all = absurd (omega (arith, l.some_left, no_longer (all_tasks P) order (all_once P) all))
+      none_all all = absurd (omega (arith, l.some_left, no_longer (all_tasks P) order (once-all_tasks P) all))
 
       by : (ts : List Task) → ((t : Task) → IsIn t ts → IsTask P t) → (((t : Task) → IsIn t ts → IsIn t order) → ⊥) → (t : Task) × IsTask P t × (IsIn t order → ⊥)
       by [] job not_all = absurd (not_all (λ t i. absurd i))

@@ -1,5 +1,5 @@
 -- The printed chain and the printed cycle exist, each found from its end back.
-use Rattle.std.proofs.Common.{◌≡◌, ℕ, zero, suc, ◌+◌, ◌<◌, ◌≤◌, ◌⊎◌, inl, inr, List, [], ◌∷◌, ◌++◌, length, reverse, refl, ap, sym, subst, ◌∙◌, Option, Some, None, MatchOption, arith, length-append}
+use Rattle.std.proofs.Common.{ℕ, zero, suc, ◌+◌, ◌<◌, ◌≤◌, ◌⊎◌, inl, inr, List, [], ◌∷◌, ◌++◌, length, reverse, refl, ap, sym, subst, ◌∙◌, Option, Some, None, MatchOption, arith, length-append}
 use Rattle.std.specs.Prelude.{◌==◌}
 use Rattle.std.proofs.lemmas.Bool.{false≢true, eqb-true, eq-eqb}
 use Rattle.ptg_base.specs.Lists.{HasNoRepeats, IsIn}
@@ -8,6 +8,7 @@ use Rattle.plan_core.specs.declared.plan.Plan.{Plan}
 use Rattle.list_lemmas.proofs.Truth.{by_test}
 use Rattle.list_lemmas.proofs.Distinct.{no_longer, HasNoRepeats-append}
 use Rattle.list_lemmas.proofs.Tasks.{member_or_not}
+use Rattle.list_lemmas.proofs.Pigeonhole.{cut_at}
 use Rattle.dep_iter.specs.Tasks.{IsTask, all_tasks}
 use Rattle.dep_iter.specs.Edges.{sources}
 use Rattle.dep_iter.specs.Consistent.{IsConsistent}
@@ -47,19 +48,11 @@ module _ (P : Plan) (con : IsConsistent P) (ws : List ℕ) (none : HasNoCycle P)
       let back = last best.0 best.1 in
       (reverse back.0, record { back = back.0; is_back = back.1; turned = refl })
 
--- where a task is in a list
-split_at : (t : Task) (ts : List Task) → IsIn t ts → (before after : List Task) × (ts ≡ before ++ t ∷ after)
-split_at t [] i = absurd i
-split_at t (u ∷ us) i = elim i [
-  | inl e ↦ ([], us, ap (λ v. v ∷ us) (sym e))
-  | inr later ↦ let p = split_at t us later in (u ∷ p.0, p.1, ap (λ l. u ∷ l) p.2)
-]
-
 module _ (P : Plan) (con : IsConsistent P) (order : List Task) (table : List (Task × ℕ)) (lacks : LacksTasks P order table) where
   -- a task that was met closes the cycle, and from another the walk goes on
   closed : (met : List Task) (t : Task) → IsIn t met → IsWalking P order met (Some t) → (c : List Task) × IsPrintedCycle P order c
   closed met t i w =
-      let p = split_at t met i in (
+      let p = cut_at t met i in (
         reverse (t ∷ p.1),
         record {
           before = p.0;

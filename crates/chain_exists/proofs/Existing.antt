@@ -7,6 +7,7 @@ use Rattle.coll_data.specs.Data.{Data}
 use Rattle.dep_iter.specs.Tasks.{all_tasks}
 use Rattle.dep_iter.specs.Consistent.{IsConsistent}
 use Rattle.dep_iter.proofs.Listing.{listed}
+use Rattle.dep_iter.proofs.Once.{once-all_tasks}
 use Rattle.flow_meaning.specs.declared.outcome.TrapRow.{TrapRow}
 use Rattle.flow_meaning.specs.Answer.{ran, trapped}
 use Rattle.task_order.specs.Greatest.{IsGreatestOrder}
@@ -18,7 +19,7 @@ use Rattle.chain_cert.specs.declared.certificate.Certificate.{Certificate}
 use Rattle.chain_cert.specs.declared.certificate.Certificate.TheVariants.{Chain, Cycle, Trapped}
 use Rattle.chain_cert.specs.Certificates.{AreLevels, IsCertificate, tasks_in_order}
 use Rattle.chain_cert.specs.Finding.{LacksTasks}
-use Rattle.chain_cert.proofs.TaskSorting.{all_once, sorted_task}
+use Rattle.chain_cert.proofs.TaskSorting.{sorted_task}
 use Rattle.chain_cert.proofs.WalkingBack.{same_printed}
 use Rattle.chain_cert.proofs.Whole.{no_cycle}
 use Rattle.chain_exists.proofs.Growing.{greatest_order, levels_in}
@@ -29,7 +30,7 @@ module _ (P : Plan) (con : IsConsistent P) (order : List Task) (g : IsGreatestOr
   module _ (G : Data) (ws : List ℕ) (calm : trapped P G ≡ []) where
     chain_certificate : ((t : Task) → IsIn t (all_tasks P) → IsIn t order) → (c : Certificate) × IsCertificate P G ws c
     chain_certificate inside =
-        let none = no_cycle P order g.legal (no_longer (all_tasks P) order (all_once P) inside) in
+        let none = no_cycle P order g.legal (no_longer (all_tasks P) order (once-all_tasks P) inside) in
         let rows = level_rows P ws (tasks_in_order P) (λ t i. levels_in P ws order g.legal t (inside t ((listed P t).0 ((sorted_task P t).0 i)))) in
         let levels : AreLevels P ws rows.0 = record { tasks = rows.1.tasks; each = rows.1.each } in
         let chain = some_chain P con ws none rows.0 levels (λ t job. rows.1.found t ((sorted_task P t).1 job)) in

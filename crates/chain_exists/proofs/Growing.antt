@@ -1,5 +1,5 @@
 -- There is a greatest legal order, and its tasks have levels.
-use Rattle.std.proofs.Common.{◌≡◌, ℕ, ◌+◌, ◌≤◌, List, [], ◌∷◌, ◌++◌, length, refl, sym, subst, ◌⊎◌, inl, inr, arith}
+use Rattle.std.proofs.Common.{◌≡◌, ℕ, ◌+◌, ◌≤◌, List, [], ◌∷◌, ◌++◌, refl, sym, subst, ◌⊎◌, inl, inr, arith}
 use Rattle.std.specs.Prelude.{nat_le}
 use Rattle.std.proofs.lemmas.Bool.{leb-false, leb-true}
 use Rattle.ptg_base.specs.Lists.{IsIn}
@@ -8,7 +8,6 @@ use Rattle.ptg_base.specs.declared.edge.Edge.{Edge}
 use Rattle.plan_core.specs.declared.plan.Plan.{Plan}
 use Rattle.list_lemmas.proofs.Members.{from_append, from_map}
 use Rattle.list_lemmas.proofs.Truth.{by_test}
-use Rattle.list_lemmas.proofs.Distinct.{no_longer}
 use Rattle.list_lemmas.proofs.Growing.{all_or_one, grown_to_the_end}
 use Rattle.list_lemmas.proofs.Tasks.{member_or_not}
 use Rattle.dep_iter.specs.Tasks.{IsTask, all_tasks}
@@ -16,11 +15,12 @@ use Rattle.dep_iter.specs.Edges.{in_edges, sources}
 use Rattle.dep_iter.proofs.Listing.{listed}
 use Rattle.flow_meaning.specs.Order.{IsLegalAfter, IsLegalOrder, MayFollow}
 use Rattle.task_order.specs.Greatest.{IsGreatestOrder}
-use Rattle.task_order.proofs.Orders.{legal_once, legal_push, legal_tasks}
+use Rattle.task_order.proofs.Orders.{legal_push}
 use Rattle.chain_cert.specs.Chains.{IsSourceOf}
 use Rattle.chain_cert.specs.Levels.{IsLevel}
 use Rattle.chain_cert.specs.Weights.{weight}
 use Rattle.chain_cert.proofs.TableLevels.{level_from}
+use Rattle.chain_cert.proofs.Whole.{order_at_most}
 
 module _ (P : Plan) where
   -- a task may not follow these, or it may
@@ -33,13 +33,10 @@ module _ (P : Plan) where
     ]
   ]
 
-  legal_at_most : (ts : List Task) → IsLegalOrder P ts → length ts ≤ length (all_tasks P)
-  legal_at_most ts legal = no_longer ts (all_tasks P) (legal_once P [] ts legal) (λ t i. (listed P t).0 (legal_tasks P [] ts legal t i))
-
   -- a legal order after which no task may follow is a greatest one
   pub greatest_order : (us : List Task) × IsGreatestOrder P us
   greatest_order =
-      let g = grown_to_the_end (all_tasks P) (MayFollow P) (IsLegalOrder P) bars_or_may (legal_push P []) legal_at_most tt in
+      let g = grown_to_the_end (all_tasks P) (MayFollow P) (IsLegalOrder P) bars_or_may (legal_push P []) (order_at_most P) tt in
       (g.0, record { legal = g.1; greatest = λ t m. g.2 t ((listed P t).0 m.task) m })
 
   module _ (ws : List ℕ) where

@@ -1,7 +1,7 @@
 -- A job and its weights have one certificate.
 use Rattle.std.proofs.Common.{◌≡◌, ℕ, List, [], ◌∷◌, ◌++◌, reverse, refl, ap, sym, ◌∙◌, subst, append_assoc, ◌⊎◌, inl, inr}
 use Rattle.std.proofs.lemmas.Bool.{false≢true}
-use Rattle.std.proofs.lemmas.List.{append-nil}
+use Rattle.std.proofs.lemmas.List.{append-nil, same_from_push}
 use Rattle.ptg_base.specs.Lists.{HasNoRepeats, IsIn}
 use Rattle.ptg_base.specs.Task.{Task}
 use Rattle.plan_core.specs.declared.plan.Plan.{Plan}
@@ -70,19 +70,6 @@ module _ (P : Plan) (ws : List ℕ) where
   pub levels_one : (xs ys : List (Task × ℕ)) → AreLevels P ws xs → AreLevels P ws ys → xs ≡ ys
   levels_one xs ys a b = rows_one xs ys (a.tasks ∙ sym b.tasks) a.each b.each
 
--- lists with the same last element have the same front
-same_ends : (xs ys : List Task) (x y : Task) → xs ++ x ∷ [] ≡ ys ++ y ∷ [] → (xs ≡ ys) × (x ≡ y)
-same_ends [] [] x y e = (refl, cc)
-same_ends [] (z ∷ []) x y e = absurd cc
-same_ends [] (z ∷ w ∷ ys) x y e = absurd cc
-same_ends (z ∷ []) [] x y e = absurd cc
-same_ends (z ∷ w ∷ xs) [] x y e = absurd cc
-same_ends (z ∷ xs) (w ∷ ys) x y e =
-    let head : z ≡ w = cc in
-    let tail : xs ++ x ∷ [] ≡ ys ++ y ∷ [] = cc in
-    let rest = same_ends xs ys x y tail in
-    (ap (λ v. v ∷ xs) head ∙ ap (λ l. w ∷ l) rest.0, rest.1)
-
 -- a list without repeats is split in one way at an element
 one_split : (t : Task) (a b c d : List Task) → HasNoRepeats (a ++ t ∷ b) → a ++ t ∷ b ≡ c ++ t ∷ d → b ≡ d
 one_split t [] b [] d once e = cc
@@ -122,10 +109,10 @@ module _ (P : Plan) (R : List Task) where
   -- a walk in which a task came twice goes on in none in which no task did before
   stops : (a b : List Task) (t u : Task) → IsIn t a → HasNoRepeats b → GoesOn (a ++ t ∷ []) (b ++ u ∷ []) → (a ≡ b) × (t ≡ u)
   stops a b t u i once p = elim (last_or_none p.0) [
-    | inl none ↦ same_ends a b t u (sym (p.1 ∙ ap (λ l. a ++ t ∷ [] ++ l) none ∙ append-nil (a ++ t ∷ [])))
+    | inl none ↦ same_from_push a b t u (sym (p.1 ∙ ap (λ l. a ++ t ∷ [] ++ l) none ∙ append-nil (a ++ t ∷ [])))
     | inr q ↦
         let whole : b ++ u ∷ [] ≡ ((a ++ t ∷ []) ++ q.0) ++ q.1 ∷ [] = p.1 ∙ ap (λ l. a ++ t ∷ [] ++ l) q.2 ∙ sym (append_assoc (a ++ t ∷ []) q.0 (q.1 ∷ [])) in
-        let front : b ≡ a ++ (t ∷ [] ++ q.0) = (same_ends b ((a ++ t ∷ []) ++ q.0) u q.1 whole).0 ∙ append_assoc a (t ∷ []) q.0 in
+        let front : b ≡ a ++ (t ∷ [] ++ q.0) = (same_from_push b ((a ++ t ∷ []) ++ q.0) u q.1 whole).0 ∙ append_assoc a (t ∷ []) q.0 in
         absurd (HasNoRepeats-apart a (t ∷ [] ++ q.0) (subst HasNoRepeats front once) t i (inl refl))
   ]
 

@@ -1,29 +1,21 @@
 -- Dependences of one way, in lists that grow by one.
 use Rattle.std.proofs.Common.{◌≡◌, ℕ, ◌+◌, ◌<◌, Bool, true, false, cond, List, [], ◌∷◌, ◌++◌, take, length, get_or, filter, flat_map, Option, Result, sym, ◌∙◌, ap, subst}
-use Rattle.std.proofs.lemmas.List.{take_more}
+use Rattle.std.proofs.lemmas.List.{append-nil, take_more}
+use Rattle.std.proofs.lemmas.List.Elements.{filter-append}
 use Rattle.ptg_base.specs.declared.refusal.Refusal.{Refusal}
+use Rattle.list_lemmas.proofs.Joins.{flat_map_push}
 use Rattle.term_core.specs.Term.{Term}
 use Rattle.plan_core.specs.declared.target.Target.{Target}
 use Rattle.plan_core.specs.declared.flow.DepPlan.{DepPlan}
 use Rattle.check_names.specs.Alphabet.{JdfFault}
 use Rattle.check_names.specs.Returns.{ReturnsChecked, both, each}
-use Rattle.check_names.proofs.Parts.{each_more, faults_more}
+use Rattle.check_names.proofs.Parts.{each_more}
 
 filter_kept : {A : Type 0} (p : A → Bool) (xs : List A) (x : A) → p x ≡ true → filter p (xs ++ x ∷ []) ≡ filter p xs ++ x ∷ []
-filter_kept p [] x e = ap (λ b. cond b (x ∷ []) []) e
-filter_kept {A} p (y ∷ xs) x e = go (p y) (filter_kept p xs x e)
-  where
-    go : (b : Bool) → filter p (xs ++ x ∷ []) ≡ filter p xs ++ x ∷ [] → cond b (y ∷ filter p (xs ++ x ∷ [])) (filter p (xs ++ x ∷ [])) ≡ cond b (y ∷ filter p xs) (filter p xs) ++ x ∷ []
-    go true more = ap (λ l. y ∷ l) more
-    go false more = more
+filter_kept p xs x e = filter-append p xs (x ∷ []) ∙ ap (λ b. filter p xs ++ cond b (x ∷ []) []) e
 
 filter_dropped : {A : Type 0} (p : A → Bool) (xs : List A) (x : A) → p x ≡ false → filter p (xs ++ x ∷ []) ≡ filter p xs
-filter_dropped p [] x e = ap (λ b. cond b (x ∷ []) []) e
-filter_dropped {A} p (y ∷ xs) x e = go (p y) (filter_dropped p xs x e)
-  where
-    go : (b : Bool) → filter p (xs ++ x ∷ []) ≡ filter p xs → cond b (y ∷ filter p (xs ++ x ∷ [])) (filter p (xs ++ x ∷ [])) ≡ cond b (y ∷ filter p xs) (filter p xs)
-    go true more = ap (λ l. y ∷ l) more
-    go false more = more
+filter_dropped p xs x e = filter-append p xs (x ∷ []) ∙ ap (λ b. filter p xs ++ cond b (x ∷ []) []) e ∙ append-nil (filter p xs)
 
 -- what is returned for one element more that is kept
 pub next_kept : {A B : Type 0} (p : A → Bool) (f : A → Option B) (g : A → List JdfFault) (xs : List A) (i : ℕ) (x : A) (r : Result (List B) (Refusal JdfFault)) → i < length xs → x ≡ get_or xs i x → p x ≡ true
@@ -34,7 +26,7 @@ next_kept p f g xs i x r lt at e h =
     let kept : filter p (take i xs) ++ x ∷ [] ≡ filter p (take (i + 1) xs) = sym (filter_kept p (take i xs) x e) ∙ ap (filter p) more in
     subst (λ l. ReturnsChecked r (each f l) (flat_map g l)) kept
     (subst (λ o. ReturnsChecked r o (flat_map g (filter p (take i xs) ++ x ∷ []))) (sym (each_more f (filter p (take i xs)) x))
-    (subst (λ l. ReturnsChecked r (both (λ ys y. ys ++ y ∷ []) (each f (filter p (take i xs))) (f x)) l) (sym (faults_more g (filter p (take i xs)) x)) h))
+    (subst (λ l. ReturnsChecked r (both (λ ys y. ys ++ y ∷ []) (each f (filter p (take i xs))) (f x)) l) (sym (flat_map_push g (filter p (take i xs)) x)) h))
 
 -- what is returned for one element more that is not
 pub next_dropped : {A B : Type 0} (p : A → Bool) (f : A → Option B) (g : A → List JdfFault) (xs : List A) (i : ℕ) (x : A) (r : Result (List B) (Refusal JdfFault)) → i < length xs → x ≡ get_or xs i x → p x ≡ false

@@ -19,8 +19,7 @@ use Rattle.check_names.specs.Alphabet.{JdfFault, DefTree, TargetTree, DepTree, F
 use Rattle.check_names.specs.Names.{Job}
 use Rattle.check_names.specs.Returns.{both, each, each_option}
 use Rattle.check_names.specs.Expressions.{term_of, option_faults, option_term}
-use Rattle.check_names.proofs.Closed.{pair_parts}
-use Rattle.check_names.proofs.ClosedArguments.{closed_option}
+use Rattle.check_names.proofs.Closed.{closed_option, pair_parts}
 use Rattle.check_names.proofs.NoFaults.{parts_of, option_there}
 use Rattle.check_names.proofs.Parts.{each_length}
 use Rattle.check_flows.specs.Datatypes.{written_faults, first_written, type_of_flow, flow_type}

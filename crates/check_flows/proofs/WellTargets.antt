@@ -104,7 +104,7 @@ module _ (job : Job) (classes : List ClassPlan) (spaces : List ClassSpace) (coll
         ap (λ o. not (is_control flow.kind) && option_map_or (is_other_flow (type_of_flow flow)) o false) (sym there.named) ∙ r.type in
         ap (λ o. option_map_or (λ (g : FlowPlan). g.datatype == n) o false) p.1 ∙ eq-eqb p.0.datatype n (flows_agree job.given flow f n p.0.datatype (task_sort r.sort) differs typed p.2.datatype)
 
-    kind_there : kinds.kind_of classes x.0 x.1 ≡ Some there.flow_tree.kind
+    pub kind_there : kinds.kind_of classes x.0 x.1 ≡ Some there.flow_tree.kind
     kind_there =
         let p = parts.flow x.0 x.1 there.class_tree there.flow_tree there.class_is there.flow_is in
         ap (option_map (λ (g : FlowPlan). g.kind)) p.1 ∙ ap (λ k. Some k) p.2.kind

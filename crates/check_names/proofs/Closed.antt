@@ -4,7 +4,7 @@ use Rattle.std.proofs.lemmas.Bool.{lt-ltb, and_from}
 use Rattle.term_core.specs.Term.{Term}
 use Rattle.term_core.specs.Term as term
 use Rattle.term_core.specs.Value.{is_closed}
-use Rattle.term_core.specs.WellSpace.{is_closed_step, is_closed_def}
+use Rattle.term_core.specs.WellSpace.{is_closed_option, is_closed_def}
 use Rattle.term_core.specs.declared.space.Range.{Range}
 use Rattle.term_core.specs.declared.space.Def.{Def}
 use Rattle.term_core.specs.declared.space.Def.TheVariants as def
@@ -14,6 +14,7 @@ use Rattle.check_names.specs.Alphabet.{Word, DefTree, ArgTree}
 use Rattle.check_names.specs.Names.{Job, word_is, int_named, coll_named, local_named}
 use Rattle.check_names.specs.Returns.{both}
 use Rattle.check_names.specs.Expressions.{symbols_of, term_of, option_term}
+use Rattle.check_names.proofs.NoFaults.{option_there}
 use Rattle.check_names.proofs.OneResolver.{agrees, resolved_is}
 use Rattle.expr_names.proofs.Closed as closed
 use Rattle.expr_names.specs.Meanings.{outer_meaning, value_of}
@@ -43,13 +44,11 @@ closed_term job seen e t h =
     (λ w n k. absurd cc) e t (resolved_is _ _ _ (agrees job seen e) t h)
 
 -- the same of an expression that may be left out
-pub closed_step : (job : Job) (seen : List DefTree) (e : Option Expression) (o : Option Term) → option_term job seen e ≡ Some o → IsTrue (is_closed_step (length seen) o)
-closed_step job seen None o h = subst (λ x. IsTrue (is_closed_step (length seen) x)) (same_Some None o h) refl
-closed_step job seen (Some e) o h = go (term_of job seen e) (λ x k. closed_term job seen e x k) h
-  where
-    go : (r : Option Term) → ((x : Term) → r ≡ Some x → IsTrue (is_closed (length seen) x)) → option_map (λ b. Some b) r ≡ Some o → IsTrue (is_closed_step (length seen) o)
-    go None k f = absurd cc
-    go (Some x) k f = subst (λ y. IsTrue (is_closed_step (length seen) y)) (same_Some (Some x) o f) (k x refl)
+pub closed_option : (job : Job) (seen : List DefTree) (e : Option Expression) (o : Option Term) → option_term job seen e ≡ Some o → IsTrue (is_closed_option (length seen) o)
+closed_option job seen None o h = subst (λ x. IsTrue (is_closed_option (length seen) x)) (same_Some None o h) refl
+closed_option job seen (Some e) o h =
+    let p = option_there (term_of job seen) e o h in
+    subst (λ x. IsTrue (is_closed_option (length seen) x)) p.2 (closed_term job seen e p.0 p.1)
 
 pub closed_range : (job : Job) (seen : List DefTree) (lo hi : Expression) (step : Option Expression) (r : Range) → range_of job seen lo hi step ≡ Some r → IsTrue (is_closed_def (length seen) (def.Span r))
 closed_range job seen lo hi step r h = go (term_of job seen lo) (both (λ x y. (x, y)) (term_of job seen hi) (option_term job seen step)) (λ x k. closed_term job seen lo x k) (λ y k. pair_parts (term_of job seen hi) (option_term job seen step) y k) h
@@ -62,8 +61,8 @@ closed_range job seen lo hi step r h = go (term_of job seen lo) (both (λ x y. (
         let q = k y refl in
         let same : record { lo = x; hi = y.0; step = y.1 } ≡ r = same_Some _ r f in
         subst (λ s. IsTrue (is_closed_def (length seen) (def.Span s))) same
-        (and_from (is_closed (length seen) x && is_closed (length seen) y.0) (is_closed_step (length seen) y.1)
-        (and_from (is_closed (length seen) x) (is_closed (length seen) y.0) (h x refl) (closed_term job seen hi y.0 q.0)) (closed_step job seen step y.1 q.1))
+        (and_from (is_closed (length seen) x && is_closed (length seen) y.0) (is_closed_option (length seen) y.1)
+        (and_from (is_closed (length seen) x) (is_closed (length seen) y.0) (h x refl) (closed_term job seen hi y.0 q.0)) (closed_option job seen step y.1 q.1))
 
 pub closed_definition : (job : Job) (seen : List DefTree) (a : ArgTree) (d : Def) → definition_of job seen a ≡ Some d → IsTrue (is_closed_def (length seen) d)
 closed_definition job seen (tree.One e) d h = go (term_of job seen e) (λ x k. closed_term job seen e x k) h

@@ -1,29 +1,22 @@
--- Arguments, indices and expressions that are resolved name only definitions that are seen.
-use Rattle.std.proofs.Common.{◌≡◌, false, ◌||◌, List, [], ◌∷◌, length, flat_map, Option, Some, None, IsTrue, refl, sym, ◌∙◌, ap, subst}
+-- Arguments and indices that are resolved name only definitions that are seen.
+use Rattle.std.proofs.Common.{◌≡◌, false, ◌||◌, List, [], ◌∷◌, length, flat_map, Some, IsTrue, sym, ◌∙◌, ap, subst}
 use Rattle.std.specs.List.{list_all, list_any}
 use Rattle.term_core.specs.Term.{Term}
 use Rattle.term_core.specs.Value.{is_closed}
-use Rattle.jdf_tree.specs.Expression.{Expression}
 use Rattle.jdf_tree.specs.declared.tree.ArgTree.TheVariants as tree
 use Rattle.plan_core.specs.declared.target.Arg.{Arg}
 use Rattle.plan_core.specs.declared.target.Arg.TheVariants as plan
-use Rattle.plan_core.specs.Closed.{is_closed_option, is_closed_arg, is_span}
+use Rattle.plan_core.specs.Closed.{is_closed_arg, is_span}
 use Rattle.check_names.specs.Alphabet.{JdfCode, DefTree, ArgTree}
 use Rattle.check_names.specs.Names.{Job}
 use Rattle.check_names.specs.Returns.{each}
-use Rattle.check_names.specs.Expressions.{term_of, option_term}
+use Rattle.check_names.specs.Expressions.{term_of}
 use Rattle.check_names.specs.Arguments.{range_of, argument_of, range_faults, ranges_faults, index_of, arguments_of, indices_of}
 use Rattle.check_names.proofs.Closed.{closed_term, closed_range}
-use Rattle.check_names.proofs.NoFaults.{parts_of, parts_all, option_there}
+use Rattle.check_names.proofs.NoFaults.{parts_of, parts_all}
 use Rattle.std.proofs.lemmas.Option.{same_Some}
 use Rattle.list_lemmas.proofs.Joins.{first_nil, rest_nil}
 use Rattle.list_lemmas.proofs.Options.{from_option_map}
-
-pub closed_option : (job : Job) (seen : List DefTree) (e : Option Expression) (o : Option Term) → option_term job seen e ≡ Some o → IsTrue (is_closed_option (length seen) o)
-closed_option job seen None o h = subst (λ x. IsTrue (is_closed_option (length seen) x)) (same_Some None o h) refl
-closed_option job seen (Some e) o h =
-    let p = option_there (term_of job seen) e o h in
-    subst (λ x. IsTrue (is_closed_option (length seen) x)) p.2 (closed_term job seen e p.0 p.1)
 
 closed_argument : (job : Job) (seen : List DefTree) (a : ArgTree) (x : Arg) → argument_of job seen a ≡ Some x → IsTrue (is_closed_arg (length seen) x)
 closed_argument job seen (tree.One e) x h =

@@ -1,7 +1,8 @@
 -- Lists of parts that grow by one.
 use Rattle.std.proofs.Common.{◌≡◌, ℕ, suc, ◌+◌, ◌<◌, List, [], ◌∷◌, ◌++◌, take, length, get_or, flat_map, Option, Some, None, Result, refl, sym, ◌∙◌, ap, subst}
-use Rattle.std.proofs.lemmas.List.{take_more, append-nil, append_assoc}
+use Rattle.std.proofs.lemmas.List.{take_more}
 use Rattle.ptg_base.specs.declared.refusal.Refusal.{Refusal}
+use Rattle.list_lemmas.proofs.Joins.{flat_map_push}
 use Rattle.check_names.specs.Alphabet.{JdfFault}
 use Rattle.check_names.specs.Returns.{ReturnsChecked, both, each}
 
@@ -20,11 +21,6 @@ each_more {A} {B} f (z ∷ xs) x = ap (both (λ y ys. y ∷ ys) (f z)) (each_mor
     go (Some y) (Some ys) None = refl
     go (Some y) (Some ys) (Some z) = refl
 
--- the faults of one element more
-pub faults_more : {A : Type 0} (g : A → List JdfFault) (xs : List A) (x : A) → flat_map g (xs ++ x ∷ []) ≡ flat_map g xs ++ g x
-faults_more g [] x = append-nil (g x)
-faults_more g (z ∷ xs) x = ap (λ l. g z ++ l) (faults_more g xs x) ∙ sym (append_assoc (g z) (flat_map g xs) (g x))
-
 -- what is returned for one element more of a list
 pub next_part : {A B : Type 0} (f : A → Option B) (g : A → List JdfFault) (xs : List A) (i : ℕ) (x : A) (r : Result (List B) (Refusal JdfFault)) → i < length xs → x ≡ get_or xs i x
     → ReturnsChecked r (both (λ ys y. ys ++ y ∷ []) (each f (take i xs)) (f x)) (flat_map g (take i xs) ++ g x)
@@ -33,7 +29,7 @@ next_part f g xs i x r lt at h =
     let more : take i xs ++ x ∷ [] ≡ take (i + 1) xs = ap (λ y. take i xs ++ y ∷ []) at ∙ sym (take_more xs i x lt) in
     subst (λ l. ReturnsChecked r (each f l) (flat_map g l)) more
     (subst (λ o. ReturnsChecked r o (flat_map g (take i xs ++ x ∷ []))) (sym (each_more f (take i xs) x))
-    (subst (λ l. ReturnsChecked r (both (λ ys y. ys ++ y ∷ []) (each f (take i xs)) (f x)) l) (sym (faults_more g (take i xs) x)) h))
+    (subst (λ l. ReturnsChecked r (both (λ ys y. ys ++ y ∷ []) (each f (take i xs)) (f x)) l) (sym (flat_map_push g (take i xs) x)) h))
 
 -- what is returned for rules about one element more of a list
 pub next_rule : {A : Type 0} (g : A → List JdfFault) (xs : List A) (i : ℕ) (x : A) (r : Result (Unit {0}) (Refusal JdfFault)) → i < length xs → x ≡ get_or xs i x
@@ -41,7 +37,7 @@ pub next_rule : {A : Type 0} (g : A → List JdfFault) (xs : List A) (i : ℕ) (
     → ReturnsChecked r (Some tt) (flat_map g (take (i + 1) xs))
 next_rule g xs i x r lt at h =
     let more : take i xs ++ x ∷ [] ≡ take (i + 1) xs = ap (λ y. take i xs ++ y ∷ []) at ∙ sym (take_more xs i x lt) in
-    subst (λ l. ReturnsChecked r (Some tt) (flat_map g l)) more (subst (λ l. ReturnsChecked r (Some tt) l) (sym (faults_more g (take i xs) x)) h)
+    subst (λ l. ReturnsChecked r (Some tt) (flat_map g l)) more (subst (λ l. ReturnsChecked r (Some tt) l) (sym (flat_map_push g (take i xs) x)) h)
 
 -- as many parts as elements
 pub each_length : {A B : Type 0} (f : A → Option B) (xs : List A) (ys : List B) → each f xs ≡ Some ys → length ys ≡ length xs

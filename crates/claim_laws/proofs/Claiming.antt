@@ -1,7 +1,7 @@
 -- What a claim changes of the entries of a table.
-use Rattle.std.proofs.Common.{◌≡◌, ◌≢◌, ℕ, ◌<◌, Bool, true, false, cond, ◌==◌, ◌&&◌, ◌||◌, List, [], ◌∷◌, map, nat_lt, Some, None, refl, sym, ap, ◌∙◌, subst, arith, eq-eqb, ne_eqb}
-use Rattle.std.specs.Prelude.{filter}
+use Rattle.std.proofs.Common.{◌≡◌, ◌≢◌, ℕ, ◌<◌, Bool, true, false, cond, ◌==◌, ◌&&◌, ◌||◌, List, map, nat_lt, Some, None, refl, sym, ap, ◌∙◌, subst, arith, eq-eqb, ne_eqb}
 use Rattle.std.proofs.lemmas.Bool.{false_from_ne_true, le-ltb}
+use Rattle.std.proofs.lemmas.List.Elements.{filter_agree}
 use Rattle.list_lemmas.proofs.Truth.{by_test, and-false}
 use Rattle.list_lemmas.proofs.Counts.{weigh-push}
 use Rattle.ptg_base.specs.Task.{Task}
@@ -69,12 +69,8 @@ module _ (P : Plan) (G : Data) (S : MachineState) (t : Task) where
       different : {b : Bool} → b ≡ false → b ≡ true → ⊥
       different e f = cc
 
-  same_filter : (p q : Task → Bool) → ((u : Task) → p u ≡ q u) → (us : List Task) → filter p us ≡ filter q us
-  same_filter p q same [] = refl
-  same_filter p q same (u ∷ us) = ap (λ b. cond b (u ∷ filter p us) (filter p us)) (same u) ∙ ap (λ rest. cond (q u) (u ∷ rest) rest) (same_filter p q same us)
-
   pub waits : MayClaim P S t → waiting_rows P (state_after P G S (Claim t)) ≡ waiting_rows P S
   unfolding waiting_rows waiting_tasks
   waits may =
       ap (λ (us : List Task). in_task_order (λ (r : WaitRow). r.task) (map (λ u. record { task = u; arrived = arrived P S u; goal = goal P u }) us))
-      (same_filter (is_waiting P (state_after P G S (Claim t))) (is_waiting P S) (waits_as_before may) (all_tasks P))
+      (filter_agree (is_waiting P (state_after P G S (Claim t))) (is_waiting P S) (waits_as_before may) (all_tasks P))

@@ -2,16 +2,17 @@
 use Rattle.std.proofs.Common.{◌≡◌, ℕ, ◌+◌, ℤ, Bool, true, false, ◌||◌, List, [], ◌∷◌, ◌++◌, map, slice_get, replicate, bytes_eq, codes, Option, Some, None, option_map, refl, sym, ◌∙◌, ap, subst, inl, inr}
 use Rattle.std.specs.List.{AllByRecursion, list_any, range_with_len}
 use Rattle.std.specs.Cmp.Lexicographic.{bytes_decides}
-use Rattle.std.proofs.lemmas.Bool.{false≢true, false_from_ne_true}
+use Rattle.std.proofs.lemmas.Bool.{false≢true, false_from_ne_true, or_from, or_parts}
 use Rattle.coll_data.specs.Tiles.{tile_count}
 use Rattle.data_read.specs.Draft.{GrowingColl, coll_index, type_among}
 use Rattle.data_read.specs.Fields.{field}
 use Rattle.data_laws.specs.WholeRecords.{Heading, Row, begins, declares, given_tile, heading_at, heading_in, name_at, tile_in, type_name_in, with_tiles}
 use Rattle.data_read.proofs.Choices.{by_option}
+use Rattle.data_read.proofs.Meanings.{any_push}
 use Rattle.data_laws.proofs.WholeLists.{all_of, left_out, map_same, none_kept, range_constant, range_same}
 use Rattle.list_lemmas.proofs.Truth.{by_test, chosen}
 use Rattle.list_lemmas.proofs.Texts.{bytes_eq-sym_false}
-use Rattle.list_lemmas.proofs.Options.{none_from_one_more}
+use Rattle.list_lemmas.proofs.Options.{none_from_option_map}
 
 -- ---- names
 
@@ -24,14 +25,6 @@ AreApart (h ∷ hs) = (list_any (λ (g : Heading). bytes_eq h.name g.name) hs �
 abbrev pub has_name : List ℕ → List Heading → Bool
 has_name name hs = list_any (λ (h : Heading). bytes_eq name h.name) hs
 
-any_push : {X : Type 0} (p : X → Bool) (xs : List X) (x : X) → list_any p xs ≡ false → p x ≡ false → list_any p (xs ++ x ∷ []) ≡ false
-any_push p [] x none one = rw one refl
-any_push p (y ∷ ys) x none one = let parts = parts_of (p y) (list_any p ys) none in rw parts.0 (any_push p ys x parts.1 one)
-  where
-    parts_of : (a b : Bool) → (a || b) ≡ false → (a ≡ false) × (b ≡ false)
-    parts_of true b e = absurd cc
-    parts_of false b e = (refl, e)
-
 pub name_kept : (name : List ℕ) (hs : List Heading) (h : Heading) → has_name name hs ≡ true → has_name name (hs ++ h ∷ []) ≡ true
 name_kept name [] h is = absurd cc
 name_kept name (g ∷ gs) h is = either (bytes_eq name g.name) (has_name name gs) (has_name name (gs ++ h ∷ [])) is (name_kept name gs h)
@@ -43,19 +36,16 @@ name_kept name (g ∷ gs) h is = either (bytes_eq name g.name) (has_name name gs
 pub apart_push : (hs : List Heading) (h : Heading) → AreApart hs → has_name h.name hs ≡ false → AreApart (hs ++ h ∷ [])
 apart_push [] h all none = (refl, tt)
 apart_push (g ∷ gs) h all none =
-    let parts = parts_of (bytes_eq h.name g.name) (has_name h.name gs) none in
-    (any_push (λ (k : Heading). bytes_eq g.name k.name) gs h all.0 (bytes_eq-sym_false h.name g.name parts.0), apart_push gs h all.1 parts.1)
-  where
-    parts_of : (a b : Bool) → (a || b) ≡ false → (a ≡ false) × (b ≡ false)
-    parts_of true b e = absurd cc
-    parts_of false b e = (refl, e)
+    let parts = or_parts (bytes_eq h.name g.name) (has_name h.name gs) none in
+    let same : Heading → Bool = λ k. bytes_eq g.name k.name in
+    (any_push same gs h ∙ or_from (list_any same gs) (same h) all.0 (bytes_eq-sym_false h.name g.name parts.0), apart_push gs h all.1 parts.1)
 
 -- a name without a collection
 pub no_name : (rows : List Row) (name : List ℕ) (hs : List Heading) → coll_index name (map (with_tiles rows) hs) ≡ None → has_name name hs ≡ false
 no_name rows name [] none = refl
 no_name rows name (h ∷ hs) none = elim (chosen (bytes_eq name h.name) (Some 0) (option_map (λ n. n + 1) (coll_index name (map (with_tiles rows) hs))) None none) [
   | inl here ↦ absurd (let never : ◌≡◌ {A = Option ℕ} (Some 0) None = here.1 in cc)
-  | inr later ↦ rw later.0 (no_name rows name hs (none_from_one_more (coll_index name (map (with_tiles rows) hs)) later.1))
+  | inr later ↦ rw later.0 (no_name rows name hs (none_from_option_map (λ (n : ℕ). n + 1) (coll_index name (map (with_tiles rows) hs)) later.1))
 ]
 
 -- a name with a collection

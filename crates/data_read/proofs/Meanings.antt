@@ -10,7 +10,7 @@ use Rattle.data_read.specs.declared.growing.Known.TheVariants.{Integer, Collecti
 use Rattle.data_read.specs.Draft.{coll_index}
 use Rattle.data_read.specs.Growing.{coll_or_int, meaning}
 use Rattle.list_lemmas.proofs.Truth.{chosen, or-false, or-assoc}
-use Rattle.list_lemmas.proofs.Options.{none_from_one_more, some_from_one_more}
+use Rattle.list_lemmas.proofs.Options.{none_from_option_map, some_from_one_more}
 
 abbrev pub of_int : List ℕ → List ℕ × ℤ → Bool
 of_int name int = bytes_eq name int.0
@@ -55,7 +55,7 @@ index_push_new name [] coll none same = cond-true (bytes_eq name coll.name) (Som
 index_push_new name (c ∷ cs) coll none same = elim (chosen (bytes_eq name c.name) (Some 0) (option_map (λ n. n + 1) (coll_index name cs)) None none) [
   | inl here ↦ absurd (let never : ◌≡◌ {A = Option ℕ} (Some 0) None = here.1 in cc)
   | inr later ↦
-      let rest = index_push_new name cs coll (none_from_one_more (coll_index name cs) later.1) same in
+      let rest = index_push_new name cs coll (none_from_option_map (λ (n : ℕ). n + 1) (coll_index name cs) later.1) same in
       let one : length cs + 1 ≡ length (c ∷ cs) = omega arith in
       cond-false (bytes_eq name c.name) (Some 0) (option_map (λ n. n + 1) (coll_index name (cs ++ coll ∷ []))) later.0
       ∙ ap (option_map (λ n. n + 1)) rest ∙ ap (λ (n : ℕ). Some n) one

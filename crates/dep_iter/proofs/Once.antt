@@ -1,6 +1,7 @@
 -- No task is listed twice, and in a consistent job no edge and no write-back of a task.
 use Rattle.std.proofs.Common.{◌≡◌, ℕ, suc, ◌≤◌, List, [], ◌∷◌, map, refl, ap, Some, slice_get, inl, inr, arith}
 use Rattle.std.specs.List.{flat_map}
+use Rattle.std.proofs.lemmas.Option.{slice_get_within}
 use Rattle.ptg_base.specs.Lists.{HasNoRepeats, IsIn}
 use Rattle.ptg_base.specs.Task.{Task}
 use Rattle.ptg_base.specs.declared.edge.WriteBack.{WriteBack}
@@ -10,6 +11,7 @@ use Rattle.range_space.specs.Tasks.{tasks}
 use Rattle.range_space.proofs.Distinct.{distinct_tasks}
 use Rattle.list_lemmas.proofs.Members.{from_append, from_map}
 use Rattle.list_lemmas.proofs.Distinct.{HasNoRepeats-append, HasNoRepeats-from_map, HasNoRepeats-map, HasNoRepeats-part}
+use Rattle.list_lemmas.proofs.Places.{slice_get_there}
 use Rattle.plan_core.specs.declared.plan.Plan.{Plan}
 use Rattle.dep_iter.specs.Consistent.{IsConsistent}
 use Rattle.dep_iter.specs.Edges.{in_edges}
@@ -24,7 +26,7 @@ class_from n (s ∷ ss) t h = elim (from_append t (map (task n) (tasks s)) (task
   | inr b ↦ let k = class_from (suc n) ss t b in omega arith
 ]
 
-pub once-tasks_from : (n : ℕ) (ss : List ClassSpace) → ((k : ℕ) (s : ClassSpace) → slice_get ss k ≡ Some s → IsWellSpace s) → HasNoRepeats (tasks_from n ss)
+once-tasks_from : (n : ℕ) (ss : List ClassSpace) → ((k : ℕ) (s : ClassSpace) → slice_get ss k ≡ Some s → IsWellSpace s) → HasNoRepeats (tasks_from n ss)
 once-tasks_from n [] well = tt
 once-tasks_from n (s ∷ ss) well =
     HasNoRepeats-append (map (task n) (tasks s)) (tasks_from (suc n) ss) (HasNoRepeats-map (task n) (tasks s) (distinct_tasks s (well 0 s refl)) (λ x y e. ap (λ (t : Task). t.params) e)) (once-tasks_from (suc n) ss (λ k z h. well (suc k) z h)) (λ t h k.
@@ -32,6 +34,18 @@ once-tasks_from n (s ∷ ss) well =
     let e : t.class ≡ n = ap (λ (t : Task). t.class) p.2 in
     let b = class_from (suc n) ss t k in
     omega arith)
+
+-- each space of a plan is well made
+pub well_space : (P : Plan) (k : ℕ) (s : ClassSpace) → slice_get P.spaces k ≡ Some s → IsWellSpace s
+well_space P k s h =
+    let n = P.well_made.one_space_each in
+    let l = slice_get_within P.spaces k s h in
+    let c = slice_get_there P.classes k (omega arith) in
+    (P.well_made.fit k c.0 s c.1 h).space
+
+-- no task of a plan is listed twice
+pub once-all_tasks : (P : Plan) → HasNoRepeats (all_tasks P)
+once-all_tasks P = once-tasks_from 0 P.spaces (well_space P)
 
 module _ (P : Plan) (con : IsConsistent P) (t : Task) (job : IsTask P t) where
   pub once-in_edges : HasNoRepeats (in_edges P t)

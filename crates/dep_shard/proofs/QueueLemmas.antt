@@ -7,6 +7,7 @@ use Rattle.std.proofs.lemmas.List.Sorted.{list_any-IsPermutation}
 use Rattle.std.specs.Cmp.{first_so, second_so, unsigned_Decides, signed_Decides}
 use Rattle.ptg_base.specs.Task.{Task}
 use Rattle.ptg_base.specs.TaskComparing.{same_task}
+use Rattle.list_lemmas.proofs.Places.{slice_get_there}
 use Rattle.dep_shard.specs.Content.{Entry, Entries, Content, entry_in, IsReady, IsWaiting, HasNoReady, IsEntryAt, ArrivesAt, Updates, with_arrival}
 use Rattle.dep_shard.specs.Queue.{Candidate, order, is_candidate, is_ready_at, HasEveryReady, HaveAtMostGoal, one_if_waiting, count_waiting, IsQueueOf}
 use Rattle.dep_shard.proofs.Candidates.{same_means, candidate_self}
@@ -231,11 +232,6 @@ arrives_at old es fs i t e f flow tile same at is up u g asked =
     let here : Updates old fs t (Some (with_arrival e flow tile)) = subst (λ (xs : Entries). Updates xs fs t (Some (with_arrival e flow tile))) same (subst (λ (x : Entry). Updates es fs t (Some x)) is up) in
     subst (λ (v : Task). Updates old fs v (Some (with_arrival g flow tile))) one.0 (subst (λ (x : Entry). Updates old fs t (Some (with_arrival x flow tile))) one.1 here)
 
-row_within : (es : Entries) (i : ℕ) → i < length es → (row : Task × Entry) × (slice_get es i ≡ Some row)
-row_within [] i h = absurd (omega (arith, h))
-row_within (x ∷ xs) zero h = (x, refl)
-row_within (x ∷ xs) (suc i) h = row_within xs i (omega (arith, h))
-
 key_of : (es : Entries) (i : ℕ) (t : Task) (e : Entry) → slice_get es i ≡ Some (t, e) → slice_get (keys_of es) i ≡ Some t
 key_of [] i t e is = absurd cc
 key_of (x ∷ xs) zero t e is =
@@ -260,7 +256,7 @@ pub found_at : (y : Content) (es : Entries) (t : Task) (r : Option ℕ) → es �
 found_at y es t None same is = tt
 found_at y es t (Some i) same is =
     let found = Found-position (same_task t) es i (sym is) in
-    let row = row_within es i found.within in
+    let row = slice_get_there es i found.within in
     let named : same_task t row.0.0 ≡ true = key_passes (same_task t) es row.0.0 (found.key ∙ key_of es i row.0.0 row.0.1 row.1) in
     let at : slice_get es i ≡ Some (t, row.0.1) = subst (λ (u : Task). slice_get es i ≡ Some (u, row.0.1)) (sym (same_means t row.0.0 named)) row.1 in
     record {

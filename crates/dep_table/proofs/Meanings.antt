@@ -3,7 +3,7 @@ use Rattle.std.proofs.Common.{◌≡◌, ◌≤◌, Bool, true, cond, List, [], 
 use Rattle.std.proofs.lemmas.Bool.{cases_eq}
 use Rattle.std.specs.List.{filter_map, flat_map}
 use Rattle.std.specs.Cmp.{first_so}
-use Rattle.ptg_base.specs.Lists.{HasNoRepeats, IsIn}
+use Rattle.ptg_base.specs.Lists.{IsIn}
 use Rattle.ptg_base.specs.Task.{Task}
 use Rattle.ptg_base.specs.declared.edge.Edge.{Edge}
 use Rattle.ptg_base.specs.declared.edge.WriteBack.{WriteBack}
@@ -12,7 +12,7 @@ use Rattle.ptg_base.specs.declared.edge.Item.TheVariants as item
 use Rattle.ptg_base.proofs.Comparisons.{same_edge-decides}
 use Rattle.list_lemmas.proofs.Members.{IsIn-flat_map, IsIn-map, from_flat_map, from_map}
 use Rattle.list_lemmas.proofs.Truth.{by_test}
-use Rattle.list_lemmas.proofs.Counts.{count-le, count-some, one_le, some_passes, weigh-append, same_counts}
+use Rattle.list_lemmas.proofs.Counts.{count-le, count-some, one_le, some_passes, weigh-append, same_counts, count-once}
 use Rattle.list_lemmas.proofs.Distinct.{HasNoRepeats-from_map}
 use Rattle.plan_core.specs.declared.plan.Plan.{Plan}
 use Rattle.coll_data.specs.Data.{Data}
@@ -38,19 +38,6 @@ use Rattle.table_rule.specs.declared.job.Job.{Job}
 use Rattle.dep_table.specs.ClosedMeaning.{HasTheMeaning, all_sent, sent_by}
 use Rattle.dep_table.specs.Closing.{HaveNoWork, IsClosedAt}
 use Rattle.dep_table.proofs.Quiets.{closed_calm, closed_quiescent}
-
--- in a list without repeats nothing occurs twice
-once : {A : Type 0} (same : A → A → Bool) → ((a b : A) → same a b ≡ true → a ≡ b) → (xs : List A) → HasNoRepeats xs → (x : A) → count (same x) xs ≤ 1
-once same one [] w x = omega arith
-once same one (y ∷ ys) w x =
-    by_test (same x y)
-    (λ k.
-    let none : count (same x) ys ≡ 0 = elim (cases_eq (count (same x) ys) 0) [
-      | inl z ↦ z
-      | inr more ↦ let p = some_passes (same x) ys (omega (arith, more)) in absurd (w.0 (subst (λ z. IsIn z ys) (sym (one x p.0 p.2) ∙ one x y k) p.1))
-    ] in
-    omega (arith, none, ap as_number k))
-    (λ k. omega (arith, ap as_number k, once same one ys w.1 x))
 
 -- edges and write-backs among items
 edges_among : (e : Edge) (is : List Item) → count (same_item (item.Edge e)) is ≡ count (same_edge e) (filter_map edge_of is)
@@ -96,9 +83,9 @@ module _ (P : Plan) where
 
   -- no item of a consistent job occurs twice
   items_once : IsConsistent P → (i : Item) → count (same_item i) (all_items P) ≤ 1
-  items_once con (item.Edge e) = omega (arith, edges_of e (all_tasks P), once same_edge (λ a b k. (same_edge-decides a b).0 k) (all_out P) con.no_out_edge_twice e)
+  items_once con (item.Edge e) = omega (arith, edges_of e (all_tasks P), count-once same_edge (λ a b k. (same_edge-decides a b).0 k) (all_out P) con.no_out_edge_twice e)
   items_once con (item.Write w) =
-      omega (arith, writes_of w (all_tasks P), once same_write one_write (all_writes P) (HasNoRepeats-from_map (λ (v : WriteBack). v.place) (all_writes P) con.written_once) w)
+      omega (arith, writes_of w (all_tasks P), count-once same_write one_write (all_writes P) (HasNoRepeats-from_map (λ (v : WriteBack). v.place) (all_writes P) con.written_once) w)
 
   module _ (G : Data) where
     -- what is sent is at most the items

@@ -1,6 +1,7 @@
 -- What shards need, counted task by task.
-use Rattle.std.proofs.Common.{◌≡◌, ◌≢◌, ℕ, ◌+◌, ◌&&◌, Bool, true, false, cond, List, [], ◌∷◌, ◌++◌, length, refl, ap, sym, ◌∙◌, arith, eq-eqb, ne_eqb}
+use Rattle.std.proofs.Common.{◌≡◌, ◌≢◌, ℕ, ◌+◌, ◌&&◌, Bool, true, false, List, [], ◌∷◌, ◌++◌, length, refl, ap, sym, ◌∙◌, arith, eq-eqb, ne_eqb}
 use Rattle.std.specs.List.{filter, flat_map}
+use Rattle.std.proofs.lemmas.List.Elements.{filter-append}
 use Rattle.ptg_base.specs.Lists.{IsIn}
 use Rattle.ptg_base.specs.Task.{Task}
 use Rattle.ptg_base.specs.declared.edge.Edge.{Edge}
@@ -22,20 +23,14 @@ use Rattle.dep_table.specs.declared.needs.Needs.{Needs}
 use Rattle.dep_table.specs.Needs.{AddsTask, IsNeedOf, data_into, edge_tiles, has_edges, write_tiles, writes_of}
 
 -- a count over what a filter leaves
-pub count-filter : {A : Type 0} (test keep : A → Bool) (xs ys : List A) → count test (filter keep (xs ++ ys)) ≡ count test (filter keep xs) + count test (filter keep ys)
-count-filter test keep [] ys = omega arith
-count-filter {A} test keep (x ∷ xs) ys = by (keep x) (count-filter test keep xs ys)
-  where
-    by : (b : Bool) → count test (filter keep (xs ++ ys)) ≡ count test (filter keep xs) + count test (filter keep ys)
-        → count test (cond b (x ∷ filter keep (xs ++ ys)) (filter keep (xs ++ ys))) ≡ count test (cond b (x ∷ filter keep xs) (filter keep xs)) + count test (filter keep ys)
-    by true more = omega (arith, more)
-    by false more = omega (arith, more)
+pub count-filter_append : {A : Type 0} (test keep : A → Bool) (xs ys : List A) → count test (filter keep (xs ++ ys)) ≡ count test (filter keep xs) + count test (filter keep ys)
+count-filter_append test keep xs ys = ap (λ l. count test l) (filter-append keep xs ys) ∙ weigh-append (λ x. as_number (test x)) (filter keep xs) (filter keep ys)
 
 module _ (P : Plan) (of : Placement) (k : ℕ) (t : Task) where
   edges_more : (done : List Task) (d : ℕ) → count (is_edge_to P of k d) (data_into P (done ++ t ∷ [])) ≡ count (is_edge_to P of k d) (data_into P done) + count (is_edge_to P of k d) (filter (is_data_edge P) (in_edges P t))
   edges_more done d =
       ap (λ l. count (is_edge_to P of k d) (filter (is_data_edge P) l)) (flat_map_push (in_edges P) done t)
-      ∙ count-filter (is_edge_to P of k d) (is_data_edge P) (flat_map (in_edges P) done) (in_edges P t)
+      ∙ count-filter_append (is_edge_to P of k d) (is_data_edge P) (flat_map (in_edges P) done) (in_edges P t)
 
   writes_more : (f : WriteBack → ℕ) (done : List Task) → weigh f (writes_of P (done ++ t ∷ [])) ≡ weigh f (writes_of P done) + weigh f (write_backs P t)
   writes_more f done = ap (weigh f) (flat_map_push (write_backs P) done t) ∙ weigh-append f (flat_map (write_backs P) done) (write_backs P t)

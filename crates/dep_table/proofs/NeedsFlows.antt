@@ -1,11 +1,10 @@
 -- The tiles that come to a task by edges, counted flow by flow.
 use Rattle.std.proofs.Common.{◌≡◌, ◌≢◌, ℕ, suc, ◌+◌, ◌-◌, ◌<◌, ◌==◌, nat_lt, ℤ, Bool, true, false, cond, ◌&&◌, List, [], ◌∷◌, length, refl, ap, sym, ◌∙◌, subst, add-zero, Option, Some, None, slice_get, inl, inr, arith, eqb-true, eq-eqb, ne_eqb, lt-ltb, le-ltb}
 use Rattle.std.proofs.lemmas.Bool.{cases_eq, cases_lt}
-use Rattle.std.specs.List.{filter}
 use Rattle.ptg_base.specs.Lists.{HasNoRepeats, IsIn}
 use Rattle.ptg_base.specs.Task.{Task}
 use Rattle.ptg_base.specs.declared.edge.Edge.{Edge}
-use Rattle.list_lemmas.proofs.Counts.{weigh-same, weigh-zero}
+use Rattle.list_lemmas.proofs.Counts.{weigh-same, weigh-zero, weigh-filter}
 use Rattle.list_lemmas.proofs.Places.{place_of_member}
 use Rattle.list_lemmas.proofs.Distinct.{HasNoRepeats-part}
 use Rattle.plan_core.specs.declared.flow.FlowPlan.{FlowPlan}
@@ -79,15 +78,6 @@ next_flow : (c : ℕ → ℕ) (n : ℕ) (xs : List Edge) → weigh (from_flow c 
 next_flow c n [] = omega arith
 next_flow c n (e ∷ xs) = omega (arith, one_flow c n e.in_flow, next_flow c n xs)
 
--- a count over what a filter leaves, as a weight
-filtered_weight : {A : Type 0} (keep test : A → Bool) (xs : List A) → count test (filter keep xs) ≡ weigh (λ x. cond (keep x) (as_number (test x)) 0) xs
-filtered_weight keep test [] = refl
-filtered_weight {A} keep test (x ∷ xs) = by (keep x) (filtered_weight keep test xs)
-  where
-    by : (b : Bool) → count test (filter keep xs) ≡ weigh (λ y. cond (keep y) (as_number (test y)) 0) xs → count test (cond b (x ∷ filter keep xs) (filter keep xs)) ≡ cond b (as_number (test x)) 0 + weigh (λ y. cond (keep y) (as_number (test y)) 0) xs
-    by true more = omega (arith, more)
-    by false more = omega (arith, more)
-
 same_either : (b : Bool) (m : ℕ) → cond b m m ≡ m
 same_either true m = refl
 same_either false m = refl
@@ -146,7 +136,7 @@ module _ (P : Plan) (con : IsConsistent P) (t : Task) (job : IsTask P t) where
 
     by_edge : edge_tiles P (in_edges P t) d ≡ weigh (from_flow tiles_at 0) (in_edges P t)
     by_edge =
-        filtered_weight (is_data_edge P) (is_edge_of_type P d) (in_edges P t)
+        weigh-filter (is_data_edge P) (λ (e : Edge). as_number (is_edge_of_type P d e)) (in_edges P t)
         ∙ weigh-same (from_flow tiles_at 0) (λ e. cond (is_data_edge P e) (as_number (is_edge_of_type P d e)) 0) (in_edges P t)
         (λ e i. ap (λ (o : Option FlowPlan). carried o d) (ap (λ (u : Task). flow_of P.classes u.class e.in_flow) (in_edge_to P t e i) ∙ sym (flow_is P t e.in_flow))
         ∙ sym (ap (λ b. cond b 0 (tiles_at e.in_flow)) (le-ltb e.in_flow 0 (omega arith))))

@@ -1,5 +1,5 @@
 -- That the counts of what shards need stay small: the needs of all tasks of a job are at most some millions.
-use Rattle.std.proofs.Common.{◌≡◌, ℕ, ◌+◌, ◌<◌, ◌≤◌, Bool, true, false, cond, List, [], ◌∷◌, ◌++◌, length, ap, sym, ◌∙◌, slice_get, inl, inr, arith, length-append}
+use Rattle.std.proofs.Common.{◌≡◌, ℕ, ◌+◌, ◌<◌, ◌≤◌, List, [], ◌∷◌, ◌++◌, length, ap, sym, ◌∙◌, slice_get, inl, inr, arith, length-append}
 use Rattle.std.proofs.lemmas.Bool.{cases_eq}
 use Rattle.std.specs.List.{filter, filter_map, flat_map}
 use Rattle.ptg_base.specs.Task.{Task}
@@ -11,14 +11,14 @@ use Rattle.dep_iter.specs.Edges.{in_edges}
 use Rattle.dep_iter.specs.Items.{items, write_backs, write_of}
 use Rattle.dep_iter.specs.Tasks.{all_tasks}
 use Rattle.list_lemmas.specs.Counting.{as_number}
-use Rattle.list_lemmas.proofs.Counts.{count-at_most, weigh-append}
+use Rattle.list_lemmas.proofs.Counts.{count-at_most, one_at_most, weigh-append}
 use Rattle.list_lemmas.proofs.Places.{slice_get_there}
 use Rattle.list_lemmas.proofs.Joins.{length-filter_le}
 use Rattle.std.proofs.lemmas.List.Concat.{flat_map-append}
 use Rattle.shard_meaning.specs.Reserve.{is_edge_of_type, is_write_of_type}
 use Rattle.dep_table.specs.declared.needs.Needs.{Needs}
 use Rattle.dep_table.specs.Needs.{AddsTask, AddsTaskAt, AreNoNeeds, HasRoomFor, HaveRoomFor, IsNoNeed, edge_tiles, has_edges, write_tiles, writes_of}
-use Rattle.dep_table.proofs.NeedsCounts.{count-filter}
+use Rattle.dep_table.proofs.NeedsCounts.{count-filter_append}
 
 writes-fewer : (is : List Item) → length (filter_map write_of is) ≤ length is
 writes-fewer [] = omega arith
@@ -34,7 +34,7 @@ module _ (P : Plan) where
   -- the tiles of edges into two lists of tasks, and of their write-backs
   edges_both : (ts us : List Task) (d : ℕ) → edge_tiles P (flat_map (in_edges P) (ts ++ us)) d ≡ edge_tiles P (flat_map (in_edges P) ts) d + edge_tiles P (flat_map (in_edges P) us) d
   edges_both ts us d =
-      ap (λ l. edge_tiles P l d) (flat_map-append (in_edges P) ts us) ∙ count-filter (is_edge_of_type P d) (is_data_edge P) (flat_map (in_edges P) ts) (flat_map (in_edges P) us)
+      ap (λ l. edge_tiles P l d) (flat_map-append (in_edges P) ts us) ∙ count-filter_append (is_edge_of_type P d) (is_data_edge P) (flat_map (in_edges P) ts) (flat_map (in_edges P) us)
 
   writes_both : (ts us : List Task) (d : ℕ) → write_tiles P (writes_of P (ts ++ us)) d ≡ write_tiles P (writes_of P ts) d + write_tiles P (writes_of P us) d
   writes_both ts us d = ap (λ l. write_tiles P l d) (flat_map-append (write_backs P) ts us) ∙ weigh-append _ (writes_of P ts) (writes_of P us)
@@ -59,19 +59,15 @@ module _ (P : Plan) where
     traps = omega (arith, r.traps, length-append ts us);
   }
 
-  as_number_small : (b : Bool) → cond b 1 0 ≤ 1
-  as_number_small true = omega arith
-  as_number_small false = omega arith
-
   -- once a task is counted there is room for the others
   room_then : (t : Task) (us : List Task) (m n : Needs) → HasRoomFor P (t ∷ us) m → AddsTask P t m n → HasRoomFor P us n
   room_then t us m n r a = record {
-    entries = omega (arith, r.entries, a.entries, as_number_small (has_edges P t));
+    entries = omega (arith, r.entries, a.entries, one_at_most (has_edges P t));
     tiles = λ d. omega (
       arith,
       r.tiles d,
       a.tiles d,
-      count-filter (is_edge_of_type P d) (is_data_edge P) (in_edges P t) (flat_map (in_edges P) us),
+      count-filter_append (is_edge_of_type P d) (is_data_edge P) (in_edges P t) (flat_map (in_edges P) us),
       weigh-append (λ w. as_number (is_write_of_type P d w)) (write_backs P t) (writes_of P us),
     );
     writes = omega (arith, r.writes, a.writes, length-append (write_backs P t) (writes_of P us));

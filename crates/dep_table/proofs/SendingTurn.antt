@@ -1,5 +1,5 @@
 -- A send on a turn: what the shard that was taken has for the item, what allows the send, and the pass after it.
-use Rattle.std.proofs.Common.{◌≡◌, ℕ, ℤ, ◌+◌, ◌<◌, ◌==◌, true, List, [], ◌∷◌, ◌++◌, length, sym, ap, ◌∙◌, subst, refl, arith, eq-eqb, ne_eqb, Option, Some, None, IsSome, is_some, if◌then◌else◌}
+use Rattle.std.proofs.Common.{◌≡◌, ℕ, ℤ, ◌+◌, ◌<◌, ◌==◌, true, List, [], ◌∷◌, ◌++◌, length, sym, ap, ◌∙◌, subst, refl, arith, eq-eqb, ne_eqb, Option, Some, None, is_some, if◌then◌else◌}
 use Rattle.std.specs.Option.{IfSome, option_map_or, unwrap_or}
 use Rattle.atomic_table.specs.Table.{rest}
 use Rattle.ptg_base.specs.TaskComparing.{same_task}
@@ -9,6 +9,7 @@ use Rattle.ptg_base.specs.declared.edge.Item.{Item}
 use Rattle.ptg_base.specs.declared.edge.Item.TheVariants as item
 use Rattle.list_lemmas.proofs.Truth.{by_test}
 use Rattle.list_lemmas.proofs.Counts.{weigh-push}
+use Rattle.list_lemmas.proofs.Options.{some_value}
 use Rattle.plan_core.specs.declared.plan.Plan.{Plan}
 use Rattle.plan_core.specs.Kinds.{is_data}
 use Rattle.coll_data.specs.Data.{Data}
@@ -136,10 +137,6 @@ refused t v y z h p is d w here same grown = record {
       record { entries = omega (arith, h.spares.entries, used.entries); tiles = λ k. omega (arith, h.spares.tiles k, used.tiles k); writes = omega (arith, h.spares.writes, used.writes); traps = omega (arith, h.spares.traps, used.traps) };
 }
 
-is_there : (o : Option (List ℤ)) → IsSome o → (x : List ℤ) × (o ≡ Some x)
-is_there None h = absurd cc
-is_there (Some x) h = (x, refl)
-
 module _ (t : Turn) (v : PassRecord) (y z : Content) (h : IsTurnOf t v y z) where
   abbrev job : Job
   job = job_of t.table.now
@@ -189,7 +186,7 @@ module _ (t : Turn) (v : PassRecord) (y z : Content) (h : IsTurnOf t v y z) wher
       let may : MaySend P G moment.state (item.Edge e) = seen_next job t.shard v y h.seen (item.Edge e) tile next in
       let spares : Reserve job moment t.shard y = seen_reserve job t.shard v y h.seen pre in record {
         entry = λ none. spare-entry P G parts.consistent of t.shard moment parts.sound e may at y spares none;
-        tiles = λ d typed some. let x = is_there tile some in spare-edge_tile P G parts.consistent of t.shard moment parts.sound e may at y d x.0 spares typed (sym next.tile ∙ x.1);
+        tiles = λ d typed some. let x = some_value tile some in spare-edge_tile P G parts.consistent of t.shard moment parts.sound e may at y d x.0 spares typed (sym next.tile ∙ x.1);
       }
   has_spare (item.Write w) tile next at pre =
       let P : Plan = job.matched in let G : Data = job.given in let of : Placement = shard_of P job.shards in

@@ -1,5 +1,5 @@
 -- Claims in the order of their stamps are a legal order.
-use Rattle.std.proofs.Common.{◌≡◌, ℕ, suc, ◌<◌, ◌≤◌, List, [], ◌∷◌, ◌++◌, length, map, get_or, refl, sym, ap, ◌∙◌, subst, inl, inr, arith, append_assoc}
+use Rattle.std.proofs.Common.{◌≡◌, ℕ, suc, ◌<◌, ◌≤◌, List, [], ◌∷◌, ◌++◌, map, refl, sym, ap, ◌∙◌, subst, inl, inr, arith, append_assoc}
 use Rattle.std.proofs.lemmas.List.Sorted.{IsNonDecreasingBy-drop}
 use Rattle.std.specs.List.Sorted.{IsNonDecreasingBy}
 use mathlib.Core.Logic.{dite}
@@ -17,6 +17,7 @@ use Rattle.plan_core.specs.declared.plan.Plan.{Plan}
 use Rattle.coll_data.specs.Data.{Data}
 use Rattle.dep_iter.specs.Edges.{in_edges}
 use Rattle.list_lemmas.specs.Counting.{HasSameMembers, as_number, count}
+use Rattle.list_lemmas.proofs.Places.{index_of_member}
 use Rattle.flow_meaning.specs.Machine.{claim_count, sender}
 use Rattle.flow_meaning.specs.Order.{IsLegalAfter, MayFollow}
 use Rattle.flow_meaning.specs.Sound.{IsSoundState}
@@ -27,20 +28,12 @@ use Rattle.table_rule.specs.Live.{AreStamps, Stamp}
 use Rattle.table_rule.proofs.Living.{same_stamp, same_stamp-decides}
 use Rattle.dep_table.specs.StampOrders.{AreInStampOrder, IsClaimOrder, number_of, task_of}
 
--- where a member of a list is
-at_place : {A : Type 0} (y : A) (xs : List A) → IsIn y xs → (k : ℕ) × (k < length xs) × ((d : A) → get_or xs k d ≡ y)
-at_place y [] i = absurd i
-at_place y (x ∷ xs) i = elim i [
-  | inl e ↦ (0, omega arith, λ d. sym e)
-  | inr t ↦ let p = at_place y xs t in (suc p.0, omega (arith, p.1), λ d. p.2 d)
-]
-
 -- where stamps rise, one that is below another comes before it
 earlier : (before after : List Stamp) (x y : Stamp) → IsNonDecreasingBy number_of (before ++ x ∷ after) → IsIn y (before ++ x ∷ after) → y.1 < x.1 → IsIn y before
 earlier [] after x y rise among low = elim among [
   | inl e ↦ absurd (omega (arith, ap number_of e))
   | inr i ↦
-      let p = at_place y after i in
+      let p = index_of_member y after i in
       absurd (omega (arith, low, rise 0 (suc p.0) x (omega arith) (omega (arith, p.1)), ap number_of (p.2 x)))
 ]
 earlier (b ∷ before) after x y rise among low = elim among [

@@ -20,12 +20,12 @@ use Rattle.dep_iter.specs.Edges.{data_source, in_edges}
 use Rattle.dep_iter.specs.Items.{edge_of, item_flow, items, out_edges, write_backs, write_of}
 use Rattle.dep_iter.proofs.Belonging.{in_edge_is}
 use Rattle.dep_iter.proofs.Listing.{listed}
+use Rattle.dep_iter.proofs.Once.{once-all_tasks}
 use Rattle.edge_accept.specs.declared.tally.Tally.{Tally}
 use Rattle.place_set.specs.Sets.{IsSetOf}
 use Rattle.edge_accept.specs.Flows.{IsSoundSource, IsSoundTask, edges_into_flow, items_of_flow}
 use Rattle.edge_accept.specs.Tallies.{WentOver}
 use Rattle.edge_accept.proofs.TaskFlows.{in_edges-flows, into_flow_is, item_flow-sends, length-items, once_by_number, source_flow}
-use Rattle.edge_accept.proofs.TaskLists.{once-all_tasks}
 
 module _ (P : Plan) (s c : Tally) (w : WentOver P s c (all_tasks P)) (edges : s.ins.edges ≡ 0) (outs : s.outs.edges ≡ 0)
     (writes : s.outs.writes ≡ 0) (balanced : c.ins.edges ≡ c.outs.edges) where

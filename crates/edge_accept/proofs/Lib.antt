@@ -1,4 +1,3 @@
-pub mod TaskLists
 pub mod RootCount
 pub mod TaskFlows
 pub mod TakenEdges

@@ -1,6 +1,7 @@
 pub mod Answer
 pub mod Brief
 pub mod Ending
+pub mod Windows
 pub mod InWindow
 pub mod Loops
 pub mod Named

@@ -23,8 +23,7 @@ use Rattle.check_names.specs.Repeats.{repeats}
 use Rattle.check_names.specs.Returns.{both, each}
 use Rattle.check_names.specs.Expressions.{option_faults, option_term}
 use Rattle.check_names.specs.Definitions.{definitions_of, parameter_of, space_of, space_faults}
-use Rattle.check_names.proofs.Closed.{pair_parts}
-use Rattle.check_names.proofs.ClosedArguments.{closed_option}
+use Rattle.check_names.proofs.Closed.{closed_option, pair_parts}
 use Rattle.check_names.proofs.Distinct.{distinct_names}
 use Rattle.check_names.proofs.NoFaults.{parts_of}
 use Rattle.flow_check.proofs.Parts.{parts_map}

@@ -16,6 +16,7 @@ use Rattle.ptg_base.specs.declared.edge.Item.TheVariants as item
 use Rattle.plan_core.specs.declared.plan.Plan.{Plan}
 use Rattle.coll_data.specs.Data.{Data}
 use Rattle.list_lemmas.proofs.Truth.{by_test}
+use Rattle.list_lemmas.proofs.Lookups.{apart, set_other, set_same, turned}
 use Rattle.std.proofs.lemmas.List.{map-append}
 use Rattle.list_lemmas.proofs.Members.{length-part}
 use Rattle.list_lemmas.proofs.Counts.{count-at_most, weigh-push}
@@ -41,7 +42,7 @@ use Rattle.flow_core.specs.SentItems.{IsUnsent}
 use Rattle.flow_core.specs.Arrivals.{CountsArrivals, edges_to, is_edge_to, number_at}
 use Rattle.flow_core.specs.Possible.{GoesToWaiting, IsDue, KeepsTilesFor, goes_to_claimed}
 use Rattle.flow_core.specs.Kept.{is_read}
-use Rattle.flow_core.proofs.Lookups.{apart, end_push, found_in, found_key, key_count, key_found, keys_set, none_before, set_other, set_same, turned}
+use Rattle.flow_core.proofs.Lookups.{end_push, found_in, found_key, key_count, key_found, keys_set, none_before}
 use Rattle.flow_core.proofs.Arriving.{arrived_are}
 
 pub claim_event : (P : Plan) (G : Data) (r : RunState) (t : Task) → machine (with_claim t r) ≡ state_after P G (machine r) (Claim t)

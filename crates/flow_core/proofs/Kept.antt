@@ -13,6 +13,7 @@ use Rattle.ptg_base.specs.declared.edge.WriteBack.{WriteBack}
 use Rattle.ptg_base.specs.declared.edge.Item.{Item}
 use Rattle.ptg_base.specs.declared.edge.Item.TheVariants as item
 use Rattle.list_lemmas.proofs.Truth.{by_test}
+use Rattle.list_lemmas.proofs.Lookups.{apart, set_other, set_same}
 use Rattle.list_lemmas.specs.Counting.{as_number}
 use Rattle.dep_iter.proofs.Items.{Edge-injective}
 use Rattle.flow_meaning.specs.Comparing.{same_item}
@@ -22,7 +23,7 @@ use Rattle.flow_core.specs.Arrivals.{is_edge_to}
 use Rattle.flow_core.specs.Kept.{AreKept, SentAndKept, TakesOnlyTo, is_read, is_write, kept_with, sent_as, with_sent, written}
 use Rattle.flow_core.specs.Rows.{write_with, writes_among}
 use Rattle.flow_core.specs.SentItems.{IsUnsent, all_sent}
-use Rattle.flow_core.proofs.Lookups.{apart, end_push, same, set_other, set_same}
+use Rattle.flow_core.proofs.Lookups.{end_push, same}
 
 -- an item was not sent where it is not found
 pub unsent_as : (i : Item) (xs : List Sent) → (sent_as i xs ≡ None) ↔ IsUnsent xs i

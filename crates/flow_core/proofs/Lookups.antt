@@ -88,26 +88,6 @@ module _ {X : Type 0} where
       (λ k. ap (λ b. keys_of (cond b ((e.0, x) ∷ es) (e ∷ set_value test es x))) k)
       (λ k. ap (λ b. keys_of (cond b ((e.0, x) ∷ es) (e ∷ set_value test es x))) k ∙ ap (λ l. e.0 ∷ l) (keys_set test es x))
 
-  -- what a look-up finds after a write by another key
-  pub set_other : (test other : Task → Bool) → ((k : Task) → test k ≡ true → other k ≡ false) → (es : List (Task × X)) (x : X) → lookup other (set_value test es x) ≡ lookup other es
-  set_other test other apart [] x = refl
-  set_other test other apart (e ∷ es) x =
-      by_test (test e.0)
-      (λ k.
-      let none = apart e.0 k in
-      ap (λ b. lookup other (cond b ((e.0, x) ∷ es) (e ∷ set_value test es x))) k ∙ ap (λ b. cond b (Some x) (lookup other es)) none ∙ sym (ap (λ b. cond b (Some e.1) (lookup other es)) none))
-      (λ k. ap (λ b. lookup other (cond b ((e.0, x) ∷ es) (e ∷ set_value test es x))) k ∙ ap (λ o. cond (other e.0) (Some e.1) o) (set_other test other apart es x))
-
-  -- what a look-up finds after a write by its own key
-  pub set_same : (test : Task → Bool) (es : List (Task × X)) (old x : X) → lookup test es ≡ Some old → lookup test (set_value test es x) ≡ Some x
-  set_same test [] old x h = absurd cc
-  set_same test (e ∷ es) old x h =
-      by_test (test e.0)
-      (λ k. ap (λ b. lookup test (cond b ((e.0, x) ∷ es) (e ∷ set_value test es x))) k ∙ ap (λ b. cond b (Some x) (lookup test es)) k)
-      (λ k.
-      let rest = set_same test es old x (sym (ap (λ b. cond b (Some e.1) (lookup test es)) k) ∙ h) in
-      ap (λ b. lookup test (cond b ((e.0, x) ∷ es) (e ∷ set_value test es x))) k ∙ ap (λ b. cond b (Some e.1) (lookup test (set_value test es x))) k ∙ rest)
-
 -- what a look-up finds after an entry is put in
 pub found_in : {X : Type 0} (u t : Task) (es : List (Task × X)) (x : X) → lookup (same_task u) (insert_entry same_task es t x) ≡ cond (same_task u t) (Some x) (lookup (same_task u) es)
 found_in u t [] x = refl
@@ -150,13 +130,6 @@ end_push u t (e ∷ es) =
     (λ k. ap (λ b. unwrap_or (cond b (Some e.1) (lookup (same_task u) (es ++ (t, None) ∷ []))) None) k ∙ sym (ap (λ b. unwrap_or (cond b (Some e.1) (lookup (same_task u) es)) None) k))
     (λ k. ap (λ b. unwrap_or (cond b (Some e.1) (lookup (same_task u) (es ++ (t, None) ∷ []))) None) k ∙ end_push u t es ∙ sym (ap (λ b. unwrap_or (cond b (Some e.1) (lookup (same_task u) es)) None) k))
 
--- two different tasks pass no test of sameness together
-pub apart : (t u : Task) → same_task t u ≡ false → (k : Task) → same_task t k ≡ true → same_task u k ≡ false
-apart t u h k e =
-    false_from_ne_true (same_task u k) (λ q.
-    let one : t ≡ u = (same_task-decides t k).0 e ∙ sym ((same_task-decides u k).0 q) in
-    false≢true (sym h ∙ (same_task-decides t u).1 one))
-
 -- the numbers of a table after one is added to that of a task
 pub added : (old new : List (Task × ℕ)) (t key u : Task) (n : ℕ) → key ≡ t → n ≡ number_at old t → lookup (same_task u) new ≡ cond (same_task key u) (Some (n + 1)) (lookup (same_task u) old)
     → number_at new u ≡ number_at old u + as_number (same_task u t)
@@ -181,7 +154,3 @@ listed_later b w other left rest e differs later = (
   λ k. subst (IsIn w) (sym e) (inr (later.0 k)),
   λ i. elim (subst (IsIn w) e i) [ inl q ↦ absurd (differs (sym q)) | inr t ↦ later.1 t ],
 )
-
--- tasks are as different one way round as the other
-pub turned : (t u : Task) → same_task t u ≡ false → same_task u t ≡ false
-turned t u h = false_from_ne_true (same_task u t) (λ k. false≢true (sym h ∙ (same_task-decides t u).1 (sym ((same_task-decides u t).0 k))))

@@ -17,6 +17,7 @@ use Rattle.plan_core.specs.declared.plan.Plan.{Plan}
 use Rattle.coll_data.specs.Data.{Data}
 use Rattle.list_lemmas.proofs.Members.{IsIn-append_left, IsIn-append_right, IsIn-map, from_append, from_map}
 use Rattle.list_lemmas.proofs.Truth.{by_test}
+use Rattle.list_lemmas.proofs.Lookups.{apart, set_other, set_same}
 use Rattle.list_lemmas.proofs.Counts.{weigh-push}
 use Rattle.range_space.specs.Tasks.{tasks}
 use Rattle.dep_iter.specs.Tasks.{IsTask, all_tasks}
@@ -38,7 +39,7 @@ use Rattle.flow_core.specs.RunState.{HasLetGo, IsRunning, RunState, Tiles, end_o
 use Rattle.flow_core.specs.Fits.{Fits, HasFinished, MaySendNow, trap_of}
 use Rattle.flow_core.specs.Possible.{IsDue}
 use Rattle.flow_core.specs.OneThread.{HasDone, IsBetweenTasks, MayClaimOnly, OwesOnly, ended_count, running_among, running_tasks}
-use Rattle.flow_core.proofs.Lookups.{apart, end_push, found_key, key_found, set_other, set_same}
+use Rattle.flow_core.proofs.Lookups.{end_push, found_key, key_found}
 use Rattle.flow_core.proofs.Fitting.{end_event, let_go_fits, send_counts, send_event, sendable, sender_task, sends_stay}
 use Rattle.flow_core.proofs.RunningTasks.{counted_among, ended_push, ended_set, last_in, marked_running, running_mark, running_set}
 

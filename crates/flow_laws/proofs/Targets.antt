@@ -1,5 +1,5 @@
 -- A target that is resolved to one which the flow may have breaks no rule.
-use Rattle.std.proofs.Common.{◌≡◌, ℕ, Bool, true, false, not, ◌&&◌, ◌==◌, cond, List, [], ◌++◌, length, Option, Some, None, option_map, option_and_then, is_none, is_some, slice_get, IsTrue, refl, sym, ◌∙◌, ap, subst, eq-eqb}
+use Rattle.std.proofs.Common.{◌≡◌, ℕ, Bool, true, false, not, ◌&&◌, ◌==◌, cond, List, [], ◌++◌, length, Option, Some, None, option_and_then, is_none, is_some, slice_get, IsTrue, refl, sym, ◌∙◌, ap, subst, eq-eqb}
 use Rattle.std.proofs.lemmas.Bool.{eqb-true, false≢true, not-true}
 use Rattle.std.specs.List.{list_all, list_any}
 use Rattle.std.specs.Option.{option_map_or}
@@ -39,7 +39,7 @@ use Rattle.check_flows.specs.Dependences.{target_faults}
 use Rattle.check_flows.specs.PartsOfJob.{HaveParts}
 use Rattle.check_flows.proofs.Elements.{coll_there}
 use Rattle.check_flows.proofs.TaskTargets.{TaskThere, task_there}
-use Rattle.check_flows.proofs.WellTargets.{IsWellTarget, allowed}
+use Rattle.check_flows.proofs.WellTargets.{IsWellTarget, allowed, kind_there}
 use Rattle.check_flows.proofs.TypeRules.{data_type}
 use Rattle.flow_laws.proofs.Resolved.{arguments_no_fault, indices_no_fault, no_ranges, none_joined}
 use Rattle.flow_laws.proofs.Types.{one_name}
@@ -209,11 +209,6 @@ module _ (job : Job) (classes : List ClassPlan) (spaces : List ClassSpace) (coll
         (ap (λ o. fault_if (is_none o) name.spot NoSuchFlow) flow_there))
         (arguments_no_fault job seen args ys closed)
 
-    kind_there : kinds.kind_of classes x.0 x.1 ≡ Some there.flow_tree.kind
-    kind_there =
-        let p = parts.flow x.0 x.1 there.class_tree there.flow_tree there.class_is there.flow_is in
-        ap (option_map (λ (g : FlowPlan). g.kind)) p.1 ∙ ap (λ k. Some k) p.2.kind
-
     type_there : flow_type job.given there.flow_tree ≡ Some n
     type_there =
         let p = parts.flow x.0 x.1 there.class_tree there.flow_tree there.class_is there.flow_is in
@@ -226,7 +221,7 @@ module _ (job : Job) (classes : List ClassPlan) (spaces : List ClassSpace) (coll
 
     task_rules : rule_faults job flow inward (tree.Task name class args) ≡ []
     task_rules = rules_kept job flow inward (tree.Task name class args)
-        (ap (mixes_flows flow.kind) there.named ∙ task_sort classes flow.kind there.flow_tree.kind inward x.0 x.1 ys kind_there well.kind)
+        (ap (mixes_flows flow.kind) there.named ∙ task_sort classes flow.kind there.flow_tree.kind inward x.0 x.1 ys (kind_there job classes spaces colls parts seen flow n typed name class args x ys there closed) well.kind)
         (ap (λ o. not (is_control flow.kind) && option_map_or (is_other_flow (type_of_flow flow)) o false) there.named ∙ same_flow_type job.given flow there.flow_tree n typed type_there)
         (way inward well.kind)
 

@@ -4,6 +4,6 @@
 mod laws;
 
 pub use laws::{
-    a_flow_that_fits_has_no_fault, types_of_one_number_have_one_name, what_is_resolved_has_no_fault,
-    what_is_resolved_is_closed,
+    a_flow_that_fits_has_no_fault, types_of_one_number_have_one_name,
+    what_is_resolved_has_no_fault, what_is_resolved_is_closed,
 };

@@ -9,16 +9,14 @@ use Rattle.ptg_base.specs.TaskComparing.{same_task}
 use Rattle.ptg_base.specs.TaskLaws.{same_task-decides}
 use Rattle.list_lemmas.proofs.Truth.{by_test}
 use Rattle.list_lemmas.proofs.Counts.{count-some, same_counts, HasSameMembers-sym, count-filter}
-use Rattle.list_lemmas.proofs.Places.{slice_get_there}
 use Rattle.list_lemmas.proofs.Tasks.{uncounted, once_each, distinct_once}
 use Rattle.list_lemmas.proofs.Distinct.{no_longer}
-use Rattle.std.proofs.lemmas.Option.{slice_get_within}
 use Rattle.plan_core.specs.declared.plan.Plan.{Plan}
 use Rattle.coll_data.specs.Data.{Data}
 use Rattle.dep_iter.specs.Tasks.{all_tasks}
 use Rattle.dep_iter.specs.Consistent.{IsConsistent}
 use Rattle.dep_iter.proofs.Listing.{listed}
-use Rattle.dep_iter.proofs.Once.{once-tasks_from}
+use Rattle.dep_iter.proofs.Once.{once-all_tasks}
 use Rattle.flow_meaning.specs.declared.outcome.TrapRow.{TrapRow}
 use Rattle.list_lemmas.specs.Counting.{HasSameMembers, count}
 use Rattle.flow_meaning.specs.Ending.{Ended}
@@ -33,10 +31,7 @@ use Rattle.flow_meaning.proofs.TaskRows.{same_rows}
 
 -- no task of a job is listed twice
 pub tasks_once : (P : Plan) (t : Task) → count (same_task t) (all_tasks P) ≤ 1
-tasks_once P t =
-    once_each (all_tasks P)
-    (once-tasks_from 0 P.spaces
-    (λ k s e. let c = slice_get_there P.classes k (omega (arith, slice_get_within P.spaces k s e, P.well_made.one_space_each)) in (P.well_made.fit k c.0 s c.1 e).space)) t
+tasks_once P t = once_each (all_tasks P) (once-all_tasks P) t
 
 -- no more tasks are claimed than there are
 pub claims_at_most : (P : Plan) (G : Data) (S : MachineState) → IsSoundState P G S → length S.claims ≤ length (all_tasks P)

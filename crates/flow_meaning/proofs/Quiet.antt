@@ -11,8 +11,8 @@ use Rattle.ptg_base.specs.declared.edge.Item.TheVariants as item
 use Rattle.plan_core.specs.declared.plan.Plan.{Plan}
 use Rattle.coll_data.specs.Data.{Data}
 use Rattle.list_lemmas.proofs.Truth.{by_test}
-use Rattle.list_lemmas.proofs.Counts.{count-all, count-at_most}
-use Rattle.list_lemmas.proofs.Options.{some_value}
+use Rattle.list_lemmas.proofs.Counts.{count-all, count-at_most, count-same}
+use Rattle.list_lemmas.proofs.Options.{none_of, some_value}
 use Rattle.list_lemmas.proofs.Members.{member_passes, IsIn-filter}
 use Rattle.dep_iter.specs.Tasks.{IsTask, all_tasks}
 use Rattle.dep_iter.specs.Edges.{goal, in_edges}
@@ -20,7 +20,6 @@ use Rattle.dep_iter.specs.Items.{items}
 use Rattle.dep_iter.specs.Consistent.{IsConsistent}
 use Rattle.dep_iter.proofs.Listing.{listed}
 use Rattle.flow_meaning.specs.declared.outcome.WaitRow.{WaitRow}
-use Rattle.list_lemmas.specs.Counting.{count, as_number}
 use Rattle.flow_meaning.specs.Ending.{Ended, has_outputs}
 use Rattle.flow_meaning.specs.Backward.{ended, ended_within}
 use Rattle.flow_meaning.specs.Answer.{satisfied, ran, wait_rows, waiting}
@@ -101,14 +100,10 @@ module _ (P : Plan) (G : Data) (con : IsConsistent P) (S : MachineState) (sound 
     same_test false true f g = g refl
     same_test false false f g = refl
 
-    count-same : {A : Type 0} (p q : A → Bool) (xs : List A) → ((x : A) → IsIn x xs → p x ≡ q x) → count p xs ≡ count q xs
-    count-same p q [] h = refl
-    count-same p q (x ∷ xs) h = omega (arith, ap as_number (h x (inl refl)), count-same p q xs (λ y i. h y (inr i)))
-
     -- as many edges into a task were sent as have a source with outputs
     pub arrived_is : (t : Task) → IsTask P t → arrived P S t ≡ satisfied P G t
     arrived_is t task =
-        count-same (λ e. is_sent S (item.Edge e)) (λ (e : Edge). has_outputs (ended P G e.from)) (in_edges P t) (λ e i.
+        count-same (λ (e : Edge). has_outputs (ended P G e.from)) (λ e. is_sent S (item.Edge e)) (in_edges P t) (λ e i.
         let s = sent_are_items (item.Edge e) (source_is_task P con t task e i) in
         same_test (is_sent S (item.Edge e)) (has_outputs (ended P G e.from)) (λ h. (s.0 h).1) (λ o. s.1 (in_edge_item P con t task e i, o)))
 
@@ -137,10 +132,6 @@ module _ (P : Plan) (G : Data) (con : IsConsistent P) (S : MachineState) (sound 
     abbrev row : Task → WaitRow
     row t = record { task = t; arrived = arrived P S t; goal = goal P t }
 
-    none_is : (o : Option Ended) → is_some o ≡ false → o ≡ None
-    none_is None h = refl
-    none_is (Some v) h = absurd (false≢true (sym h))
-
     rows_at : (t : Task) → IsTask P t → wait_rows P G t (ended P G t) ≡ cond (is_waiting P S t) (row t ∷ []) []
     rows_at t task =
         by_test (is_some (ended P G t))
@@ -150,7 +141,7 @@ module _ (P : Plan) (G : Data) (con : IsConsistent P) (S : MachineState) (sound 
         let claimed : is_unclaimed S t ≡ false = ne_eqb (claim_count S t) 0 (λ z. absurd (omega (arith, z))) in
         ap (wait_rows P G t) o.1 ∙ sym (ap (λ b. cond (b && (nat_lt 0 (arrived P S t) && nat_lt (arrived P S t) (goal P t))) (row t ∷ []) []) claimed))
         (λ h.
-        ap (wait_rows P G t) (none_is (ended P G t) h)
+        ap (wait_rows P G t) (none_of (ended P G t) h)
         ∙ ap (λ k. cond (nat_lt 0 k) (record { task = t; arrived = k; goal = goal P t } ∷ []) []) (sym (arrived_is t task))
         ∙ ap (λ b. cond b (row t ∷ []) []) (sym (waits t task h)))
 

@@ -5,6 +5,7 @@ use Rattle.std.specs.List.{list_all}
 use Rattle.ptg_base.specs.Lists.{IsIn}
 use Rattle.ptg_base.specs.Task.{Task}
 use Rattle.ptg_base.specs.declared.edge.Edge.{Edge}
+use Rattle.list_lemmas.proofs.Truth.{cond-same}
 use Rattle.plan_core.specs.declared.class.ClassPlan.{ClassPlan}
 use Rattle.plan_core.specs.declared.flow.FlowPlan.{FlowPlan}
 use Rattle.plan_core.specs.declared.plan.Plan.{Plan}
@@ -30,16 +31,12 @@ module _ (P : Plan) (G : Data) (con : IsConsistent P) (t : Task) (task : IsTask 
     tile_from-same flow source.Null h = refl
     tile_from-same flow source.Nothing h = refl
 
-    by_kind : {A : Type 0} (b : Bool) (x y z : A) → (b ≡ true → x ≡ y) → cond b x z ≡ cond b y z
-    by_kind true x y z h = h refl
-    by_kind false x y z h = refl
-
     tiles_from-same : (n : ℕ) (fs : List FlowPlan) → ((i : ℕ) (flow : FlowPlan) → slice_get fs i ≡ Some flow → slice_get (flows_of P t) (n + i) ≡ Some flow) → tiles_from P G f t n fs ≡ tiles_from P G g t n fs
     tiles_from-same n [] at = refl
     tiles_from-same n (flow ∷ fs) at =
         let here : slice_get (flows_of P t) n ≡ Some flow = subst (λ m. slice_get (flows_of P t) m ≡ Some flow) (add-zero n) (at 0 flow refl) in
         let first : starting_tile P G f t n flow ≡ starting_tile P G g t n flow =
-        by_kind (is_data (Some flow.kind)) _ _ None (λ carries. tile_from-same flow (data_source P t n) (source_in P t task (con.connected t task).well n flow here carries)) in
+        cond-same (is_data (Some flow.kind)) _ _ None (λ carries. tile_from-same flow (data_source P t n) (source_in P t task (con.connected t task).well n flow here carries)) in
         let rest = tiles_from-same (suc n) fs (λ i other e. subst (λ m. slice_get (flows_of P t) m ≡ Some other) (omega arith) (at (suc i) other e)) in
         ap (λ x. x ∷ tiles_from P G f t (suc n) fs) first ∙ ap (λ l. starting_tile P G g t n flow ∷ l) rest
 
@@ -55,7 +52,7 @@ module _ (P : Plan) (G : Data) (con : IsConsistent P) (t : Task) (task : IsTask 
     delivered_to-same n (flow ∷ fs) at =
         let here : slice_get (flows_of P t) n ≡ Some flow = subst (λ m. slice_get (flows_of P t) m ≡ Some flow) (add-zero n) (at 0 flow refl) in
         let first : delivered_tile P f t n flow ≡ delivered_tile P g t n flow =
-        by_kind (is_data (Some flow.kind)) _ _ [] (λ carries. delivered_from-same n (data_source P t n) (source_in P t task (con.connected t task).well n flow here carries)) in
+        cond-same (is_data (Some flow.kind)) _ _ [] (λ carries. delivered_from-same n (data_source P t n) (source_in P t task (con.connected t task).well n flow here carries)) in
         let rest = delivered_to-same (suc n) fs (λ i other e. subst (λ m. slice_get (flows_of P t) m ≡ Some other) (omega arith) (at (suc i) other e)) in
         ap (λ x. x ++ delivered_to P f t (suc n) fs) first ∙ ap (λ l. delivered_tile P g t n flow ++ l) rest
 

@@ -19,6 +19,7 @@ use Rattle.range_space.specs.declared.fault.SpanFault.TheVariants.{Expr}
 use Rattle.range_space.specs.Tasks.{or_empty}
 use Rattle.list_lemmas.proofs.Members.{IsIn-append_left, IsIn-append_right, IsIn-flat_map, IsIn-map, from_append, member_passes}
 use Rattle.list_lemmas.proofs.Places.{slice_get_there, slice_get_below, IsIn-slice_get}
+use Rattle.list_lemmas.proofs.Options.{none_from_option_map}
 use Rattle.plan_core.specs.declared.class.ClassPlan.{ClassPlan}
 use Rattle.plan_core.specs.declared.flow.DepPlan.{DepPlan}
 use Rattle.plan_core.specs.declared.flow.FlowPlan.{FlowPlan}
@@ -148,12 +149,8 @@ well_flow env n (g ∷ fs) zero f w e =
     subst (λ z. is_well_flow env z ≡ true) same (well_first env g n fs (is_well_flow env g) refl w).0
 well_flow env n (g ∷ fs) (suc i) f w e = well_flow env (suc n) fs i f (well_first env g n fs (is_well_flow env g) refl w).1 e
 
-none_of_some : {A B : Type 0} (f : A → B) (o : Option A) → option_map f o ≡ None → o ≡ None
-none_of_some f None e = refl
-none_of_some f (Some x) e = absurd cc
-
 no_ill_flow : (env : List ℤ) (c : ClassPlan) (b : Bool) → has_hints env c ≡ b → cond b (option_map Some (first_ill_flow env 0 c.flows)) (Some None) ≡ None → first_ill_flow env 0 c.flows ≡ None
-no_ill_flow env c true h e = none_of_some Some (first_ill_flow env 0 c.flows) e
+no_ill_flow env c true h e = none_from_option_map Some (first_ill_flow env 0 c.flows) e
 no_ill_flow env c false h e = absurd cc
 
 -- the class and the space of a task of the job

@@ -1,5 +1,5 @@
 -- Rows of tasks in task order are the same, in whatever order the tasks come.
-use Rattle.std.proofs.Common.{◌≡◌, ◌≢◌, ◌≤◌, true, false, not, cond, List, [], ◌∷◌, ◌++◌, refl, ap, sym, ◌∙◌, ◌⊎◌, inl, inr, arith}
+use Rattle.std.proofs.Common.{◌≡◌, ◌≢◌, ◌≤◌, true, false, not, List, [], ◌∷◌, ◌++◌, refl, ap, sym, ◌∙◌, ◌⊎◌, inl, inr, arith}
 use Rattle.std.proofs.lemmas.Bool.{false≢true, false_from_ne_true}
 use Rattle.std.specs.List.{flat_map}
 use Rattle.std.specs.declared.cmp.Ordering.{Ordering}
@@ -11,7 +11,7 @@ use Rattle.ptg_base.specs.TaskComparing.{ComparesInTaskOrder, same_task, task_cm
 use Rattle.ptg_base.specs.TaskLaws.{same_task-decides, task_cmp-compares}
 use Rattle.list_lemmas.proofs.Truth.{by_test}
 use Rattle.list_lemmas.proofs.Counts.{count-some, without, without-weigh, same_in}
-use Rattle.list_lemmas.proofs.Tasks.{before_trans}
+use Rattle.list_lemmas.proofs.Tasks.{before_trans, insert_here, insert_past}
 use Rattle.list_lemmas.specs.Counting.{HasSameMembers, as_number, count}
 
 -- of two different tasks one is before the other, and not the other way round
@@ -24,29 +24,23 @@ before_other a b ne = by (task_cmp a b) (task_cmp-compares a b)
     by Greater c = false_from_ne_true (task_before a b) (λ h. let k = c.before.1 h in absurd cc) ∙ sym (ap not (c.after.0 refl))
 
 module _ {A : Type 0} (key : A → Task) where
-  insert_past : (x z : A) (zs : List A) → task_before (key z) (key x) ≡ true → insert_by key x (z ∷ zs) ≡ z ∷ insert_by key x zs
-  insert_past x z zs h = ap (λ b. cond b (z ∷ insert_by key x zs) (x ∷ z ∷ zs)) h
-
-  insert_here : (x z : A) (zs : List A) → task_before (key z) (key x) ≡ false → insert_by key x (z ∷ zs) ≡ x ∷ z ∷ zs
-  insert_here x z zs h = ap (λ b. cond b (z ∷ insert_by key x zs) (x ∷ z ∷ zs)) h
-
   insert_swap : (x y : A) → task_before (key x) (key y) ≡ true → task_before (key y) (key x) ≡ false → (l : List A) → insert_by key x (insert_by key y l) ≡ insert_by key y (insert_by key x l)
-  insert_swap x y h k [] = insert_here x y [] k ∙ sym (insert_past y x [] h)
+  insert_swap x y h k [] = insert_here key x y [] k ∙ sym (insert_past key y x [] h)
   insert_swap x y h k (z ∷ zs) =
       by_test (task_before (key z) (key y))
       (λ zy.
       by_test (task_before (key z) (key x))
       (λ zx.
-      ap (insert_by key x) (insert_past y z zs zy) ∙ insert_past x z (insert_by key y zs) zx
+      ap (insert_by key x) (insert_past key y z zs zy) ∙ insert_past key x z (insert_by key y zs) zx
       ∙ ap (λ l. z ∷ l) (insert_swap x y h k zs)
-      ∙ sym (ap (insert_by key y) (insert_past x z zs zx) ∙ insert_past y z (insert_by key x zs) zy))
+      ∙ sym (ap (insert_by key y) (insert_past key x z zs zx) ∙ insert_past key y z (insert_by key x zs) zy))
       (λ zx.
-      ap (insert_by key x) (insert_past y z zs zy) ∙ insert_here x z (insert_by key y zs) zx
-      ∙ sym (ap (insert_by key y) (insert_here x z zs zx) ∙ insert_past y x (z ∷ zs) h ∙ ap (λ l. x ∷ l) (insert_past y z zs zy))))
+      ap (insert_by key x) (insert_past key y z zs zy) ∙ insert_here key x z (insert_by key y zs) zx
+      ∙ sym (ap (insert_by key y) (insert_here key x z zs zx) ∙ insert_past key y x (z ∷ zs) h ∙ ap (λ l. x ∷ l) (insert_past key y z zs zy))))
       (λ zy.
       let zx : task_before (key z) (key x) ≡ false = false_from_ne_true (task_before (key z) (key x)) (λ e. false≢true (sym zy ∙ before_trans (key z) (key x) (key y) e h)) in
-      ap (insert_by key x) (insert_here y z zs zy) ∙ insert_here x y (z ∷ zs) k
-      ∙ sym (ap (insert_by key y) (insert_here x z zs zx) ∙ insert_past y x (z ∷ zs) h ∙ ap (λ l. x ∷ l) (insert_here y z zs zy)))
+      ap (insert_by key x) (insert_here key y z zs zy) ∙ insert_here key x y (z ∷ zs) k
+      ∙ sym (ap (insert_by key y) (insert_here key x z zs zx) ∙ insert_past key y x (z ∷ zs) h ∙ ap (λ l. x ∷ l) (insert_here key y z zs zy)))
 
   insert_either : (x y : A) → key x ≢ key y → (l : List A) → insert_by key x (insert_by key y l) ≡ insert_by key y (insert_by key x l)
   insert_either x y ne l =

@@ -6,8 +6,7 @@ mod machine;
 mod outcome;
 
 pub use laws::{
-    a_task_ends_by_its_sources, the_source_of_a_flow_is_the_edge_into_it,
-    what_a_round_finds_stays,
+    a_task_ends_by_its_sources, the_source_of_a_flow_is_the_edge_into_it, what_a_round_finds_stays,
 };
 pub use machine::{
     a_quiescent_state_has_the_meaning, an_edge_arrives_at_its_target, events_keep_states_sound,

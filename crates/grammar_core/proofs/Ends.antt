@@ -5,23 +5,21 @@ use Rattle.std.specs.Prelude.{Option, Some, None, not}
 use Rattle.std.proofs.lemmas.Bool.{and_parts, and_from, not-true, both_ways, cases_order}
 use Rattle.std.proofs.lemmas.List.{length-append, nil_from_length}
 use Rattle.grammar_core.specs.declared.token.Token.{Token}
-use Rattle.grammar_core.specs.Terminals.{Terminal}
-use Rattle.grammar_core.specs.Terminals.{terminal_of, is_within}
+use Rattle.grammar_core.specs.Terminals.{Terminal, terminal_of}
 use Rattle.grammar_core.specs.declared.code.Code.{Code}
 use Rattle.grammar_core.specs.declared.code.Code.TheVariants.{Syntax}
-use Rattle.grammar_core.specs.Production.{Production, one_of, checked, seq, map, alt, opt, star, pick, after_token, limited, Language, Fault, Derives, DerivedWithin, Derived}
+use Rattle.grammar_core.specs.Production.{Production, one_of, checked, seq, map, alt, opt, star, pick, after_token, limited, Language, Derives, Derived}
 use Rattle.grammar_core.specs.Reading.{◌>>=◌, Read, FaultFromEnd, refuse, check, may_be_empty, first, starts, picks, token_at, many_at, nonterminal_at, reading}
-use Rattle.grammar_core.specs.Predictive.{Claims, alone, both_first, is_limit, are_limits, is_fine, has_plain, are_names}
-use Rattle.grammar_core.proofs.Sets.{starts_into}
+use Rattle.grammar_core.specs.Predictive.{Claims, alone, both_first, is_limit, are_limits, is_fine, are_names}
 use Rattle.grammar_core.proofs.ReadCases.{bind_ok, bind_err, token_ok, refuse_ok, refuse_err, check_err, judge_ok, judge_err}
-use Rattle.grammar_core.proofs.Begins.{surely_begins, seconds}
+use Rattle.grammar_core.proofs.Begins.{seconds}
 use Rattle.grammar_core.proofs.Fuel.{nonterminal_is, nonterminal_shrinks, run_shrinks, many_is}
 use Rattle.grammar_core.proofs.Passes.{FaultsWithin, Passes, passes, safe_true}
 use Rattle.grammar_core.proofs.Sound.{SameHead, Sound}
-use Rattle.grammar_core.proofs.SoundLimits.{front}
-use Rattle.grammar_core.proofs.Whole.{LimitsOnly, sound}
+use Rattle.grammar_core.proofs.Whole.{LimitsOnly, name_fine, nonterminal_faults, sound, within_begins}
 use Rattle.list_lemmas.proofs.Truth.{chosen}
 use Rattle.list_lemmas.proofs.Options.{same_Ok, Ok≢Err}
+use Rattle.list_lemmas.proofs.Joins.{longer_front}
 
 not_syntax : (d : Code) → is_limit d ≡ true → d ≡ Syntax → ⊥
 not_syntax d h e = both_ways (is_limit d) (rw e refl) h
@@ -70,14 +68,14 @@ module _ {A B : Type 0} (G : Language A) (q : List Token → Read A) (known : (s
           by_length x f g (inl same) =
               let t = (known (w ++ r)).accepted x f in
               let n = ap (λ (l : List Token). length l) t.parts in
-              let v = front w r t.word x.1 t.parts (omega (arith, n, same, length-append w r, length-append t.word x.1)) in
+              let v = longer_front w r t.word x.1 t.parts (omega (arith, n, same, length-append w r, length-append t.word x.1)) in
               let none : v.0 ≡ [] = nil_from_length v.0 (omega (arith, ap (λ (l : List Token). length l) v.2, length-append v.0 x.1, same)) in
               let rest : r ≡ x.1 = v.2 ∙ ap (λ (l : List Token). l ++ x.1) none in
               live (ap (λ (l : List Token). K (l ++ r)) is ∙ ap K rest ∙ g)
           by_length x f g (inr (inr lt)) =
               let t = (known (w ++ r)).accepted x f in
               let n = ap (λ (l : List Token). length l) t.parts in
-              let v = front t.word x.1 w r (sym t.parts) (omega (arith, n, lt, length-append w r, length-append t.word x.1)) in
+              let v = longer_front t.word x.1 w r (sym t.parts) (omega (arith, n, lt, length-append w r, length-append t.word x.1)) in
               let some : 0 < length v.0 = omega (arith, ap (λ (l : List Token). length l) v.2, length-append v.0 r, lt) in
               let goes : q w ≡ Ok (x.0, v.0) = ap q v.1 ∙ t.same v.0 (subst (λ (l : List Token). SameHead l v.0) (sym v.2) (heads v.0 some)) in
               let one = same_Ok (x.0, v.0) a (sym goes ∙ e) in
@@ -89,28 +87,15 @@ module _ {A B : Type 0} (G : Language A) (q : List Token → Read A) (known : (s
               heads (y ∷ v) lt = refl
 
 module _ {N : Type 0} {Tree : N → Type 0} (body : (n : N) → Production N Tree (Tree n)) (c : Claims N) (fine : (n : N) → are_names body c n ≡ true) (names_only : (n : N) → LimitsOnly (body n)) where
-  name_fine : (n : N) → is_fine c (body n) ≡ true
-  name_fine n = (and_parts (is_fine c (body n)) _ (fine n)).0
-
-  within_begins : (k : ℕ) (n : N) (s : List Token) (t : Tree n) (o : Fault) (r : List Token) → DerivedWithin body k n s t o r → starts (c.firsts n) s ≡ true
-  within_begins zero n s t o r h = absurd h
-  within_begins (suc k) n s t o r h =
-      let rest = and_parts (not (may_be_empty (body n))) _ (and_parts (has_plain (body n)) _ (and_parts (is_fine c (body n)) _ (fine n)).1).1 in
-      let sets = and_parts (is_within (first (body n)) (c.firsts n)) _ rest.1 in
-      starts_into (first (body n)) (c.firsts n) s sets.0 (surely_begins (DerivedWithin body k) (body n) (not-true (may_be_empty (body n)) rest.0) s t o r h)
-
   form_faults : {A : Type 0} (g : Production N Tree A) → is_fine c g ≡ true → FaultsWithin (reading body g)
   form_faults g ok s n e =
       let k = (sound body c fine g ok s).faulted n e in
       let left = k.left in
       omega (arith, left, ap (λ (l : List Token). length l) k.parts, length-append k.word k.rest)
 
-  nonterminal_faults : (n : N) → FaultsWithin (nonterminal_at body n)
-  nonterminal_faults n s m e = form_faults (body n) (name_fine n) s m (sym (nonterminal_is body n s) ∙ e)
-
   -- where the next token is in the first set, it is no syntax fault
   goes_past : {A : Type 0} (g : Production N Tree A) → is_fine c g ≡ true → (s : List Token) → starts (first g) s ≡ true → Passes true (reading body g) s
-  goes_past g ok s b = passes c (nonterminal_at body) (nonterminal_shrinks body) nonterminal_faults true (λ _. false) g ok (safe_true (λ _. false) g) s (λ e. absurd cc) b
+  goes_past g ok s b = passes c (nonterminal_at body) (nonterminal_shrinks body) (nonterminal_faults body c fine) true (λ _. false) g ok (safe_true (λ _. false) g) s (λ e. absurd cc) b
 
   no_fault_at : {A : Type 0} (g : Production N Tree A) → is_fine c g ≡ true → (s : List Token) → starts (first g) s ≡ true → reading body g s ≡ Err (length s, Syntax) → ⊥
   no_fault_at g ok s b e = let k = (goes_past g ok s b).0 (length s, Syntax) e (λ _. refl) in omega (arith, k)
@@ -120,7 +105,7 @@ module _ {N : Type 0} {Tree : N → Type 0} (body : (n : N) → Production N Tre
   not_alone a y at g ok full single x e none =
       let t = (sound body c fine g ok (y ∷ [])).accepted x e in
       let all : t.word ++ [] ≡ y ∷ [] = ap (λ (l : List Token). t.word ++ l) (sym none) ∙ sym t.parts in
-      elim (seconds c (Derived body) (λ n s t o r d. within_begins d.depth n s t o r d.derives) a y [] at g ok (t.word ++ []) x.0 None [] all (t.derives [])) [
+      elim (seconds c (Derived body) (λ n s t o r d. within_begins body c fine d.depth n s t o r d.derives) a y [] at g ok (t.word ++ []) x.0 None [] all (t.derives [])) [
         | inl u ↦ absurd cc
         | inr (inl u) ↦ both_ways (alone a g) single u.1
         | inr (inr u) ↦ both_ways (may_be_empty g) full u.1
@@ -324,7 +309,7 @@ module _ {N : Type 0} {Tree : N → Type 0} (body : (n : N) → Production N Tre
   name_goes_on : (k : ℕ) (n : N) (w r : List Token) (x : Tree n × List Token) → length w < k → nonterminal_at body n w ≡ Ok x → x.1 ≡ [] → nonterminal_at body n (w ++ r) ≡ Err (length r, Syntax) → ⊥
   name_goes_on zero n w r x lt e none f = omega (arith, lt)
   name_goes_on (suc k) n w r x lt e none f =
-      run_goes_on k (name_goes_on k) (body n) (name_fine n) (names_only n) w r x (omega (arith, lt)) (sym (nonterminal_is body n w) ∙ e) none (sym (nonterminal_is body n (w ++ r)) ∙ f)
+      run_goes_on k (name_goes_on k) (body n) (name_fine body c fine n) (names_only n) w r x (omega (arith, lt)) (sym (nonterminal_is body n w) ∙ e) none (sym (nonterminal_is body n (w ++ r)) ∙ f)
 
   -- Where all of w was read, reading more tokens never has a syntax fault right after w.
   pub no_syntax_fault_after : {A : Type 0} (g : Production N Tree A) → is_fine c g ≡ true → LimitsOnly g → (w r : List Token) (x : A × List Token) → reading body g w ≡ Ok x → x.1 ≡ [] → reading body g (w ++ r) ≡ Err (length r, Syntax) → ⊥

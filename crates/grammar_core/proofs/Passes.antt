@@ -2,11 +2,10 @@
 use Rattle.std.proofs.Common.{◌≡◌, ℕ, zero, suc, ◌<◌, ◌≤◌, Bool, true, false, List, [], ◌∷◌, length, Ok, Err, refl, inl, inr, sym, ap, ◌∙◌, arith}
 use Rattle.std.specs.Prelude.{Option, Some, None, ◌-◌, nat_lt, ◌&&◌, ◌||◌, not}
 use Rattle.std.proofs.lemmas.Bool.{and_parts, and_from, or_cases, not-true, both_ways, cases_Bool, le-ltb}
-use Rattle.grammar_core.specs.Terminals.{Terminal}
+use Rattle.grammar_core.specs.Terminals.{Terminal, terminal_of, terminal_count, some_is, are_disjoint}
 use Rattle.grammar_core.specs.declared.token.Token.{Token}
 use Rattle.grammar_core.specs.declared.code.Code.{Code}
 use Rattle.grammar_core.specs.declared.code.Code.TheVariants.{Syntax}
-use Rattle.grammar_core.specs.Terminals.{terminal_of, terminal_count, some_is, are_disjoint}
 use Rattle.grammar_core.specs.Production.{Production, one_of, checked, seq, map, alt, opt, star, pick, after_token, limited}
 use Rattle.grammar_core.specs.Reading.{◌>>=◌, Read, FaultFromEnd, refuse, check, may_be_empty, first, starts, picks, token_at, many_at, run}
 use Rattle.grammar_core.specs.Predictive.{Claims, continuing, is_fine, is_none, is_limit, are_limits, is_safe}
@@ -14,15 +13,13 @@ use Rattle.grammar_core.proofs.ReadCases.{bind_ok, bind_err, token_ok, token_err
 use Rattle.grammar_core.proofs.Sets.{starts_disjoint}
 use Rattle.grammar_core.proofs.Begins.{stop_left, stop_right, and_if_stop, and_if_cases, start_cases}
 use Rattle.grammar_core.proofs.Fuel.{Shrinks, many_shrinks, run_shrinks, many_is}
+use Rattle.grammar_core.proofs.Sound.{first_is}
 use Rattle.list_lemmas.proofs.Truth.{chosen}
 use Rattle.list_lemmas.proofs.Options.{same_Ok, Ok≢Err}
 
 -- a fault is not before the tokens that are read
 abbrev pub FaultsWithin : {A : Type 0} → (List Token → Read A) → Type 0
 FaultsWithin p = (s : List Token) (n : FaultFromEnd) → p s ≡ Err n → n.0 ≤ length s
-
-first_is : {n : FaultFromEnd} {m : ℕ} {c : Code} → n ≡ (m, c) → n.0 ≡ m
-first_is e = ap (λ (x : FaultFromEnd). x.0) e
 
 many_faults : {A : Type 0} (full : ℕ → Option Code) (f : Terminal → Bool) (p : List Token → Read A) → Shrinks p → FaultsWithin p → (k i : ℕ) → FaultsWithin (many_at full f p i k)
 unfolding many_at

@@ -9,6 +9,7 @@ use Rattle.grammar_core.specs.Reading.{Read, FaultFromEnd, judge}
 use Rattle.grammar_core.proofs.ReadCases.{judge_ok, judge_err}
 use Rattle.grammar_core.proofs.Sound.{Accepted, Faulted, Late, SameHead, Sound, first_is, late_here, same_head_after, second_is, taken_is}
 use Rattle.list_lemmas.proofs.Options.{same_Ok, Ok≢Err, same_Err}
+use Rattle.list_lemmas.proofs.Joins.{longer_front}
 
 abbrev pub failed : {A : Type 0} → FaultFromEnd → Read A
 failed n = Err n
@@ -21,15 +22,6 @@ cut_list : (l : ℕ) (w : List Token) → l < length w → (u : List Token) × (
 cut_list l [] lt = absurd (omega arith)
 cut_list zero (y ∷ v) lt = ([], y, v, refl, refl)
 cut_list (suc l) (x ∷ w) lt = let c = cut_list l w (omega arith) in (x ∷ c.0, c.1, c.2, ap (λ (k : List Token). x ∷ k) c.3, ap suc c.4)
-
--- of two prefixes of a list the shorter one is a prefix of the other
-pub front : (w a u b : List Token) → w ++ a ≡ u ++ b → length w ≤ length u → (v : List Token) × (u ≡ w ++ v) × (a ≡ v ++ b)
-front [] a u b e le = (u, refl, e)
-front (x ∷ w) a [] b e le = absurd (omega arith)
-front (x ∷ w) a (y ∷ u) b e le =
-    let f = front w a u b (cc) (omega arith) in
-    let same : y ≡ x = cc in
-    (f.0, ap (λ (k : List Token). y ∷ k) f.1 ∙ ap (λ (t : Token). t ∷ (w ++ f.0)) same, f.2)
 
 abbrev pub Limited : {A : Type 0} → Limit → Code → Language A → Language A
 Limited L c G s t o r = (x : Fault) × G s t x r × (o ≡ cut_at (L.at s) c (taken s r) x)
@@ -112,7 +104,7 @@ module _ {A : Type 0} (L : Limit) (c : Code) (G : Language A) (p : List Token �
       -- what is read from one list is read from the other
       meets : (w a : List Token) → u ++ y ∷ r ≡ w ++ a → length w ≤ length u → (v' : List Token) × (SameHead a (v' ++ y ∷ v)) × (s ≡ w ++ (v' ++ y ∷ v)) × (suc (length v) ≤ length (v' ++ y ∷ v))
       meets w a e le =
-          let f = front w a u (y ∷ r) (sym e) le in
+          let f = longer_front w a u (y ∷ r) (sym e) le in
           (f.0, subst (λ (l : List Token). SameHead l (f.0 ++ y ∷ v)) (sym f.2) (same_head_after f.0 (y ∷ r) (y ∷ v) refl), parts ∙ ap (λ (l : List Token). l ++ y ∷ v) f.1 ∙ append_assoc w f.0 (y ∷ v), omega (arith, length-append f.0 (y ∷ v)))
 
       high : (n : ℕ) → (n ≤ length u → ⊥) → nat_lt (L.at (u ++ y ∷ r)) n ≡ true

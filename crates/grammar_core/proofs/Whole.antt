@@ -17,11 +17,11 @@ use Rattle.grammar_core.proofs.Begins.{surely_begins}
 use Rattle.grammar_core.proofs.Fuel.{within_shrinks, within_is_stable, nonterminal_is, nonterminal_shrinks, run_shrinks}
 use Rattle.grammar_core.proofs.Passes.{FaultsWithin, run_faults}
 use Rattle.grammar_core.proofs.Only.{only, outcome, Fits, fits}
-use Rattle.grammar_core.proofs.Sound.{SameHead, Faulted, Sound, Text}
-use Rattle.grammar_core.proofs.SoundLimits.{front}
+use Rattle.grammar_core.proofs.Sound.{SameHead, Faulted, Sound, Text, from_zero}
 use Rattle.grammar_core.proofs.SoundProductions.{plain_text, run_sound}
 use Rattle.list_lemmas.proofs.Truth.{chosen}
 use Rattle.list_lemmas.proofs.Options.{same_Ok, Ok≢Err, same_Err}
+use Rattle.list_lemmas.proofs.Joins.{longer_front}
 
 -- a list is split in one way into a word and a rest of given length
 same_cut : (w w' r r' : List Token) → w ++ r ≡ w' ++ r' → length r ≡ length r' → (w ≡ w') × (r ≡ r')
@@ -31,9 +31,11 @@ same_cut w w' r r' e l =
       sym (drop_at w r (length w') n) ∙ ap (λ (s : List Token). drop (length w') s) e ∙ drop_at w' r' (length w') refl,
     )
 
-from_zero : (o : Fault) → IsFrom 0 o
-from_zero None = tt
-from_zero (Some f) = omega arith
+module _ {N : Type 0} {Tree : N → Type 0} (body : (n : N) → Production N Tree (Tree n)) {A : Type 0} (g : Production N Tree A) where
+  -- a first fault is at a token, or at the end
+  pub fault_index : (s : List Token) (i : ℕ) (c : Code) → IsFirstFault body g s i c → i ≤ length s
+  fault_index s i Syntax f = f.within
+  fault_index s i c f = let w = f.within in omega (arith, w)
 
 -- ---- no first fault of a text is Syntax
 
@@ -87,7 +89,7 @@ limits R hR (after_token q n) l s t o r h = rw h.4 (not_then None h.1 1 tt (hR n
 limits R hR (limited d c g) l s t o r h = rw h.2 (not_cut (d.at s) c (taken s r) h.0 l.1 (limits R hR g l.0 s t h.0 r h.1))
 
 module _ {N : Type 0} {Tree : N → Type 0} (body : (n : N) → Production N Tree (Tree n)) (c : Claims N) (fine : (n : N) → are_names body c n ≡ true) where
-  name_fine : (n : N) → is_fine c (body n) ≡ true
+  pub name_fine : (n : N) → is_fine c (body n) ≡ true
   name_fine n = (and_parts (is_fine c (body n)) _ (fine n)).0
 
   name_plain : (n : N) → has_plain (body n) ≡ true
@@ -103,7 +105,7 @@ module _ {N : Type 0} {Tree : N → Type 0} (body : (n : N) → Production N Tre
   within_fits zero n s t o r h = absurd h
   within_fits (suc k) n s t o r h = fits (DerivedWithin body k) (within_fits k) (body n) s t o r h
 
-  within_begins : (k : ℕ) (n : N) (s : List Token) (t : Tree n) (o : Fault) (r : List Token) → DerivedWithin body k n s t o r → starts (c.firsts n) s ≡ true
+  pub within_begins : (k : ℕ) (n : N) (s : List Token) (t : Tree n) (o : Fault) (r : List Token) → DerivedWithin body k n s t o r → starts (c.firsts n) s ≡ true
   within_begins zero n s t o r h = absurd h
   within_begins (suc k) n s t o r h = starts_into (first (body n)) (c.firsts n) s (name_sets n).0 (surely_begins (DerivedWithin body k) (body n) (name_full n) s t o r h)
 
@@ -180,7 +182,7 @@ module _ {N : Type 0} {Tree : N → Type 0} (body : (n : N) → Production N Tre
             };
       }
 
-  nonterminal_faults : (n : N) → FaultsWithin (nonterminal_at body n)
+  pub nonterminal_faults : (n : N) → FaultsWithin (nonterminal_at body n)
   unfolding nonterminal_at
   nonterminal_faults n s m e = within_faults (suc (length s)) n s m e
 
@@ -335,7 +337,7 @@ module _ {N : Type 0} {Tree : N → Type 0} (body : (n : N) → Production N Tre
         let size2 = length-append (take (p + 1) s) b.more in
         let k = (sound g ok s2).faulted (length s2 - p, d) (reads g ok s2 b.tree (Some (p, d)) [] b.text refl) in
         let at : length k.word ≡ p = omega (arith, k.left, size, size2, ap (λ (l : List Token). length l) k.parts, length-append k.word k.rest) in
-        let f = front k.word k.rest (take (p + 1) s) b.more (sym k.parts) (omega (arith, at, size)) in
+        let f = longer_front k.word k.rest (take (p + 1) s) b.more (sym k.parts) (omega (arith, at, size)) in
         let one : length f.0 ≡ 1 = omega (arith, at, size, ap (λ (l : List Token). length l) f.1, length-append k.word f.0) in
         let whole_s : s ≡ k.word ++ (f.0 ++ drop (p + 1) s) = sym (take-append-drop (p + 1) s) ∙ ap (λ (l : List Token). l ++ drop (p + 1) s) f.1 ∙ append_assoc k.word f.0 (drop (p + 1) s) in
         let alike : SameHead k.rest (f.0 ++ drop (p + 1) s) = subst (λ (l : List Token). SameHead l (f.0 ++ drop (p + 1) s)) (sym f.2) (heads f.0 b.more (drop (p + 1) s) (omega (arith, one))) in

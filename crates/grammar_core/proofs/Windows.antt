@@ -2,12 +2,13 @@
 use Rattle.std.proofs.Common.{◌≡◌, ℕ, suc, ◌+◌, ◌-◌, ◌<◌, ◌≤◌, false, List, [], ◌∷◌, ◌++◌, length, Ok, Err, refl, sym, ap, ◌∙◌, append_assoc, length-append, arith, subst}
 use Rattle.std.specs.Prelude.{nat_lt}
 use Rattle.std.proofs.lemmas.Bool.{le-ltb, lt-ltb}
+use Rattle.list_lemmas.proofs.Joins.{longer_front}
 use Rattle.grammar_core.specs.declared.token.Token.{Token}
 use Rattle.grammar_core.specs.declared.code.Code.{Code}
 use Rattle.grammar_core.specs.Production.{Limit, Language}
 use Rattle.grammar_core.specs.Reading.{Read, FaultFromEnd, judge}
 use Rattle.grammar_core.proofs.Sound.{SameHead, Sound, taken_is}
-use Rattle.grammar_core.proofs.SoundLimits.{above, front}
+use Rattle.grammar_core.proofs.SoundLimits.{above}
 
 module _ {A : Type 0} (L : Limit) (c : Code) (G : Language A) (p : List Token → Read A) (sound : (s : List Token) → Sound G p s) (s w v : List Token) (parts : s ≡ w ++ v) (wide : length w ≡ suc (L.at s)) where
   inside_window : (word rest : List Token) → w ≡ word ++ rest → 0 < length rest → nat_lt (L.at s) (length s - length (rest ++ v)) ≡ false
@@ -44,7 +45,7 @@ module _ {A : Type 0} (L : Limit) (c : Code) (G : Language A) (p : List Token �
       -- an end inside the window leaves some of its tokens
       left_of : (word rest : List Token) → s ≡ word ++ rest → length word ≤ L.at s → (u : List Token) × (w ≡ word ++ u) × (rest ≡ u ++ v) × (0 < length u)
       left_of word rest e le =
-          let f = front word rest w v (sym e ∙ parts) (omega (arith, wide, le)) in
+          let f = longer_front word rest w v (sym e ∙ parts) (omega (arith, wide, le)) in
           let l = ap (λ (k : List Token). length k) f.1 in
           (f.0, f.1, f.2, omega (arith, l, length-append word f.0, wide, le))
 

@@ -3,6 +3,7 @@
 use Rattle.std.proofs.Common.{◌≡◌, ℕ, ◌+◌, ◌<◌, ◌≤◌, ◌⊎◌, true, List, [], ◌∷◌, ◌++◌, length, Option, Some, None, refl, sym, ◌∙◌, ap, subst, inl, inr, arith, length-append}
 use Rattle.std.proofs.lemmas.Bool.{both_ways, cases_lt, false≢true}
 use Rattle.std.proofs.lemmas.List.{append_cancel_left, append-nil}
+use Rattle.list_lemmas.proofs.Joins.{longer_front}
 use Rattle.jdf_lex.specs.declared.fault.JdfFault.{JdfFault}
 use Rattle.jdf_lex.specs.declared.lexical_unit.LexicalUnit.{LexicalUnit}
 use Rattle.jdf_lex.specs.declared.lexical_unit.LexicalUnit.TheVariants.{TokenOf}
@@ -15,16 +16,6 @@ use Rattle.jdf_lex.specs.Tokens.{spot_after, IsUnit, IsToken, is_dropped, IsLexe
 use Rattle.jdf_lex.specs.Tokens.IsLexedTo.{nothing_more, dropped_then, token_then}
 
 -- ---- one unit at a position
-
--- The shorter of two fronts of a list begins the longer.
-pub longer_front : (a x b y : List ℕ) → a ++ x ≡ b ++ y → length a ≤ length b → (more : List ℕ) × (b ≡ a ++ more) × (x ≡ more ++ y)
-longer_front [] x b y same shorter = (b, refl, same)
-longer_front (c ∷ a) x [] y same shorter = absurd (omega arith)
-longer_front (c ∷ a) x (d ∷ b) y same shorter =
-    let heads : c ≡ d = cc in
-    let tails : a ++ x ≡ b ++ y = cc in
-    let rest = longer_front a x b y tails (omega arith) in
-    (rest.0, (λ i. sym heads i ∷ rest.1 i), rest.2)
 
 pub one_begins : (p q : LexicalUnit) (rest : List ℕ) → unit_at rest ≡ Some p → unit_at rest ≡ Some q → p ≡ q
 one_begins p q rest e f = cc

@@ -1,9 +1,8 @@
 -- Whole texts of the grammar are read exactly.
-use Rattle.std.proofs.Common.{◌≡◌, ℕ, List, Ok, Err, ◌≤◌, arith}
+use Rattle.std.proofs.Common.{◌≡◌, ℕ, List, Ok, Err}
 use Rattle.std.specs.Prelude.{length, ◌-◌, None}
 use Rattle.grammar_core.specs.declared.token.Token.{Token}
 use Rattle.grammar_core.specs.declared.code.Code.{Code}
-use Rattle.grammar_core.specs.declared.code.Code.TheVariants.{Syntax}
 use Rattle.grammar_core.specs.Production.{IsText, IsFirstFault}
 use Rattle.grammar_core.specs.Reading.{whole}
 use Rattle.grammar_core.proofs.Whole.{text_found, text_only, fault_is, one_fault}
@@ -24,8 +23,3 @@ faulty s n c e = fault_is productions claims productions_fine productions_limits
 
 pub fault_read : (s : List Token) (token_index : ℕ) (c : Code) → IsFirstFault productions file s token_index c → whole productions file s ≡ Err (length s - token_index, c)
 fault_read s token_index c h = one_fault productions claims productions_fine productions_limits file file_fine opening_limits s token_index c h
-
--- a first fault is at a token, or at the end
-pub fault_index : (s : List Token) (token_index : ℕ) (c : Code) → IsFirstFault productions file s token_index c → token_index ≤ length s
-fault_index s token_index Syntax h = h.within
-fault_index s token_index c h = let w = h.within in omega (arith, w)

@@ -13,12 +13,13 @@ use Rattle.jdf_lex.proofs.Uniqueness.{one_list, no_fault}
 use Rattle.jdf_lex.proofs.Uniqueness as lex
 use Rattle.grammar_core.specs.declared.code.Code.{Code}
 use Rattle.grammar_core.specs.Reading.{FaultFromEnd, whole}
+use Rattle.grammar_core.proofs.Whole.{fault_index}
 use Rattle.jdf_tree.specs.declared.tree.Jdf.{Jdf}
 use Rattle.jdf_tree.specs.Grammar.{productions, file}
 use Rattle.jdf_tree.specs.Jdf.{IsJdf}
 use Rattle.jdf_tree.specs.Fault.{StopsBeingUtf8, code_at_token, IsGrammarFault, HasGrammarFault}
 use Rattle.jdf_read.specs.Laws.{OneTree, OneFault, NotBoth}
-use Rattle.jdf_read.proofs.Limits.{only, fault_read, fault_index}
+use Rattle.jdf_read.proofs.Limits.{only, fault_read}
 use Rattle.list_lemmas.proofs.Options.{same_Ok, same_Err, Ok≢Err}
 
 pub one_tree : OneTree
@@ -84,8 +85,8 @@ same_wrong tokens end f g x y =
     let same = same_Err _ _ (sym (fault_read tokens x.token_index x.code x.first) ∙ fault_read tokens y.token_index y.code y.first) in
     let left = ap (λ (n : FaultFromEnd). n.0) same in
     let code : x.code ≡ y.code = ap (λ (n : FaultFromEnd). n.1) same in
-    let a = fault_index tokens x.token_index x.code x.first in
-    let b = fault_index tokens y.token_index y.code y.first in
+    let a = fault_index productions file tokens x.token_index x.code x.first in
+    let b = fault_index productions file tokens y.token_index y.code y.first in
     let token_index : x.token_index ≡ y.token_index = omega (arith, left, a, b) in
     same_named tokens end y.token_index y.code f g (subst (λ (c : Code). IsNamed tokens end y.token_index c f) code (subst (λ (p : ℕ). IsNamed tokens end p x.code f) token_index x.fault_is)) y.fault_is
 

@@ -27,7 +27,7 @@ use Rattle.jdf_tree.specs.TreeLimits.{HasGuardForSecond, IsFlowWithinLimits, IsC
 
 -- ---- faults
 
-both_none : (x : Fault) (n : ℕ) (y : Fault) → None ≡ then_fault x n y → (x ≡ None) × (y ≡ None)
+pub both_none : (x : Fault) (n : ℕ) (y : Fault) → None ≡ then_fault x n y → (x ≡ None) × (y ≡ None)
 both_none None n None e = (refl, refl)
 both_none None n (Some f) e = absurd (cc)
 both_none (Some f) n y e = absurd (cc)
@@ -51,7 +51,7 @@ full_none n c i e = by_test (nat_le n i) refl
     by_test false t = grind (arith, nat_tests)
 
 -- a text that is not cut at the limit has no more tokens
-cut_none : (l : ℕ) (c : Code) (n : ℕ) (x : Fault) → None ≡ cut_at l c n x → (x ≡ None) × (n ≤ l)
+pub cut_none : (l : ℕ) (c : Code) (n : ℕ) (x : Fault) → None ≡ cut_at l c n x → (x ≡ None) × (n ≤ l)
 cut_none l c n None e = (refl, by_test (nat_lt l n) refl)
   where
     some_fault : Fault

@@ -8,8 +8,8 @@ ghost use Rattle.job_gen.specs.Job.{jdf_text, data_text};
 use ptg_base::{OutOfMemory, Text};
 use std::alloc::Global;
 
-// The job's JDF. The number of rows is its global NT, so the text is the same for all of them.
-const JDF: &[u8] = b"D
+/// The job's JDF. The number of rows is its global NT, so the text is the same for all of them.
+pub const JDF: &[u8] = b"D
 NT
 
 potrf(k)

@@ -134,10 +134,7 @@ fn ill_in_text(tree: &Jdf, plan: &Plan, task: &TaskId, flow: u8) -> Option<InTex
 {
     let number = flow as usize;
     let locals = locals_of(plan, task);
-    let (way, dependence) = ill_dependence(
-        flows_of(plan, task).get(number)?,
-        locals.as_slice(),
-    )?;
+    let (way, dependence) = ill_dependence(flows_of(plan, task).get(number)?, locals.as_slice())?;
     let class = class_of(tree, task.class())?;
     in_text(class.flows.as_slice().get(number)?, way, dependence)
 }

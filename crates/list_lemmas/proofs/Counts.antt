@@ -1,8 +1,10 @@
 -- Weights and counts of the members of lists, and lists with the same members.
 use Rattle.std.proofs.Common.{List, [], arith, ℕ, ◌++◌, ◌+◌, ◌∷◌, ◌≡◌, inl, inr, refl, ◌≤◌, subst, sym, length, ◌*◌, ap}
 use Rattle.std.proofs.Common.{map, Bool, cond, if◌then◌else◌, false, true, ◌<◌, ◌∙◌, suc, ◌⊎◌, IsTrue, ◌↔◌}
-use Rattle.std.specs.List.{flat_map, filter}
-use Rattle.ptg_base.specs.Lists.{IsIn}
+use Rattle.std.proofs.lemmas.Bool.{cases_eq}
+use Rattle.std.proofs.lemmas.List.Sums.{sum_by-cons}
+use Rattle.std.specs.List.{flat_map, filter, sum_by}
+use Rattle.ptg_base.specs.Lists.{HasNoRepeats, IsIn}
 use Rattle.list_lemmas.proofs.Truth.{by_test}
 use Rattle.list_lemmas.specs.Counting.{weigh, as_number, count, HasSameMembers, HaveSameCounts}
 
@@ -70,6 +72,10 @@ pub weigh-flat_map : {A B : Type 0} (f : B → ℕ) (g : A → List B) (vs : Lis
     → weigh f (flat_map g vs) ≡ weigh (λ v. weigh f (g v)) vs
 weigh-flat_map f g [] = refl
 weigh-flat_map f g (v ∷ vs) = omega (arith, weigh-append f (g v) (flat_map g vs), weigh-flat_map f g vs)
+
+pub weigh-sum : {A : Type 0} (f : A → ℕ) (xs : List A) → weigh f xs ≡ sum_by f xs
+weigh-sum f [] = refl
+weigh-sum f (x ∷ xs) = omega (arith, weigh-sum f xs, sum_by-cons f x xs)
 
 -- the members that pass a test weigh as all members do where the others weigh nothing
 pub weigh-filter : {A : Type 0} (test : A → Bool) (f : A → ℕ) (xs : List A)
@@ -153,6 +159,20 @@ pub some_passes : {A : Type 0} (test : A → Bool) (xs : List A) → 0 < count t
     → (x : A) × IsIn x xs × (test x ≡ true)
 some_passes test [] h = absurd (omega arith)
 some_passes test (x ∷ xs) h = passes_first test x xs (test x) refl h (λ k. some_passes test xs k)
+
+-- in a list without repeats each is counted once at most
+pub count-once : {A : Type 0} (same : A → A → Bool) → ((a b : A) → same a b ≡ true → a ≡ b) → (xs : List A)
+    → HasNoRepeats xs → (x : A) → count (same x) xs ≤ 1
+count-once same one [] w x = omega arith
+count-once same one (y ∷ ys) w x =
+    by_test (same x y)
+    (λ k.
+    let none : count (same x) ys ≡ 0 = elim (cases_eq (count (same x) ys) 0) [
+      | inl z ↦ z
+      | inr more ↦ let p = some_passes (same x) ys (omega (arith, more)) in absurd (w.0 (subst (λ z. IsIn z ys) (sym (one x p.0 p.2) ∙ one x y k) p.1))
+    ] in
+    omega (arith, none, ap as_number k))
+    (λ k. omega (arith, ap as_number k, count-once same one ys w.1 x))
 
 -- as many are left as are counted
 pub length-filter : {A : Type 0} (p : A → Bool) (xs : List A) → length (filter p xs) ≡ count p xs

@@ -41,15 +41,20 @@ HasNoRepeats-apart (y ∷ xs) ys h x i j = elim i [
   | inr later ↦ HasNoRepeats-apart xs ys h.1 x later j
 ]
 
+-- a list without repeats stands for things without repeats, where no two members stand for the same
+pub HasNoRepeats-map_members : {A B : Type 0} (f : A → B) (xs : List A) → HasNoRepeats xs
+    → ((x y : A) → IsIn x xs → IsIn y xs → f x ≡ f y → x ≡ y) → HasNoRepeats (map f xs)
+HasNoRepeats-map_members f [] w one = tt
+HasNoRepeats-map_members f (x ∷ xs) w one = (
+  λ t. let p = from_map f xs (f x) t in
+      let same = one x p.0 (inl refl) (inr p.1) p.2 in
+      w.0 (subst (λ z. IsIn z xs) (sym same) p.1),
+  HasNoRepeats-map_members f xs w.1 (λ y z h k e. one y z (inr h) (inr k) e),
+)
+
 pub HasNoRepeats-map : {A B : Type 0} (f : A → B) (xs : List A) → HasNoRepeats xs → ((x y : A) → f x ≡ f y → x ≡ y)
     → HasNoRepeats (map f xs)
-HasNoRepeats-map f [] w one = tt
-HasNoRepeats-map f (x ∷ xs) w one = (
-  λ t. let p = from_map f xs (f x) t in
-      let same = one x p.0 p.2 in
-      w.0 (subst (λ z. IsIn z xs) (sym same) p.1),
-  HasNoRepeats-map f xs w.1 one,
-)
+HasNoRepeats-map f xs w one = HasNoRepeats-map_members f xs w (λ x y h k e. one x y e)
 
 -- members, where what they stand for is not repeated
 pub HasNoRepeats-from_map : {A B : Type 0} (f : A → B) (xs : List A) → HasNoRepeats (map f xs) → HasNoRepeats xs

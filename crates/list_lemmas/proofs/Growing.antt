@@ -1,6 +1,6 @@
 -- Of a list, all members have what is wanted, or one lacks it; and lists that grow by one member after another, as long
 -- as one may follow.
-use Rattle.std.proofs.Common.{◌≡◌, ℕ, zero, suc, ◌+◌, ◌≤◌, List, [], ◌∷◌, ◌++◌, length, refl, sym, subst, ◌⊎◌, inl, inr, arith, length-append}
+use Rattle.std.proofs.Common.{ℕ, zero, suc, ◌+◌, ◌≤◌, List, [], ◌∷◌, ◌++◌, length, refl, sym, subst, ◌⊎◌, inl, inr, arith, length-append}
 use Rattle.ptg_base.specs.Lists.{IsIn}
 
 -- all members have what is wanted, or one lacks it

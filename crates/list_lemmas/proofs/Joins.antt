@@ -1,8 +1,8 @@
 -- Lists that are appended, mapped, joined and filtered.
 use Rattle.std.proofs.Common.{List, [], refl, ◌++◌, ◌∷◌, ◌≡◌, ap, arith, length, suc, ◌∙◌, map, Option, Bool, true}
-use Rattle.std.proofs.Common.{cond, ◌+◌, ◌≤◌, None, Some}
+use Rattle.std.proofs.Common.{cond, ◌≤◌, None, Some, sym}
 use Rattle.std.proofs.lemmas.Bool.{and_from}
-use Rattle.std.proofs.lemmas.List.{length-append, map-append, append-nil}
+use Rattle.std.proofs.lemmas.List.{length-append, map-append, append-nil, same_from_push}
 use Rattle.std.proofs.lemmas.List.Concat.{flat_map-append}
 use Rattle.std.proofs.lemmas.List.Elements.{filter_map-append}
 use Rattle.std.specs.Cmp.{first_so, second_so}
@@ -19,12 +19,18 @@ rest_nil (x ∷ xs) ys e = absurd cc
 
 -- lists with one more element at the end
 pub last_from_push : {A : Type 0} (xs ys : List A) (x y : A) → xs ++ x ∷ [] ≡ ys ++ y ∷ [] → x ≡ y
-last_from_push [] [] x y e = cc
-last_from_push [] (b ∷ []) x y e = absurd cc
-last_from_push [] (b ∷ c ∷ ys) x y e = absurd cc
-last_from_push (a ∷ []) [] x y e = absurd cc
-last_from_push (a ∷ c ∷ xs) [] x y e = absurd cc
-last_from_push (a ∷ xs) (b ∷ ys) x y e = last_from_push xs ys x y cc
+last_from_push xs ys x y e = (same_from_push xs ys x y e).1
+
+-- of two fronts of a list the shorter one begins the longer
+pub longer_front : {A : Type 0} (w a u b : List A) → w ++ a ≡ u ++ b → length w ≤ length u
+    → (v : List A) × (u ≡ w ++ v) × (a ≡ v ++ b)
+longer_front [] a u b e shorter = (u, refl, e)
+longer_front (x ∷ w) a [] b e shorter = absurd (omega arith)
+longer_front (x ∷ w) a (y ∷ u) b e shorter =
+    let heads : x ≡ y = cc in
+    let tails : w ++ a ≡ u ++ b = cc in
+    let rest = longer_front w a u b tails (omega arith) in
+    (rest.0, (λ i. sym heads i ∷ rest.1 i), rest.2)
 
 -- the length of a list, and of one with another element
 pub length_longer : {A : Type 0} (old new : List A) (x : A) → new ≡ old ++ x ∷ [] → length new ≡ suc (length old)

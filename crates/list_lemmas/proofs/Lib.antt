@@ -8,6 +8,7 @@ pub mod Growing
 pub mod Pigeonhole
 pub mod Places
 pub mod Tasks
+pub mod Lookups
 pub mod Texts
 pub mod Grids
 pub mod Numbers

@@ -1,9 +1,9 @@
 -- Members of lists: of an append, a map, a join and a filter, and what holds of each member.
 use Rattle.std.proofs.Common.{List, [], inl, inr, ◌++◌, ◌∷◌, ◌⊎◌, ◌≡◌, subst, refl, ap, map, Bool, sym, true, ◌↔◌, ◌∙◌}
-use Rattle.std.proofs.Common.{cond, false, None, Option, Some, arith, length, length-append, ◌≤◌}
-use Rattle.std.proofs.lemmas.Bool.{false≢true, and_parts, and_from}
+use Rattle.std.proofs.Common.{cond, false, None, Option, Some, arith, length, length-append, ◌≤◌, ◌||◌}
+use Rattle.std.proofs.lemmas.Bool.{false≢true, and_parts, and_from, or_right}
 use Rattle.std.proofs.lemmas.List.Elements.{All-cons, All-nil}
-use Rattle.std.specs.List.{flat_map, filter, filter_map, cons_option, list_all, All}
+use Rattle.std.specs.List.{flat_map, filter, filter_map, cons_option, list_all, list_any, All}
 use Rattle.ptg_base.specs.Lists.{IsIn}
 use Rattle.list_lemmas.proofs.Truth.{by_test}
 
@@ -119,6 +119,25 @@ pub list_all-from_members : {A : Type 0} (test : A → Bool) (xs : List A) → (
     → list_all test xs ≡ true
 list_all-from_members test [] h = refl
 list_all-from_members test (y ∷ ys) h = and_from (test y) (list_all test ys) (h y (inl refl)) (list_all-from_members test ys (λ x i. h x (inr i)))
+
+-- a list of which some pass a test has a member that does, and the other way round
+pub some_member_passes : {A : Type 0} (test : A → Bool) (xs : List A) → list_any test xs ≡ true
+    → (x : A) × IsIn x xs × (test x ≡ true)
+some_member_passes test [] h = absurd (false≢true h)
+some_member_passes {A} test (y ∷ ys) h = among (test y) refl (some_member_passes test ys) h
+  where
+    among : (b : Bool) → test y ≡ b → (list_any test ys ≡ true → (x : A) × IsIn x ys × (test x ≡ true))
+        → (b || list_any test ys) ≡ true → (x : A) × IsIn x (y ∷ ys) × (test x ≡ true)
+    among true k later e = (y, inl refl, k)
+    among false k later e = let p = later e in (p.0, inr p.1, p.2)
+
+pub list_any-from_member : {A : Type 0} (test : A → Bool) (xs : List A) (x : A) → IsIn x xs → test x ≡ true
+    → list_any test xs ≡ true
+list_any-from_member test [] x i e = absurd i
+list_any-from_member test (y ∷ ys) x i e = elim i [
+  | inl same ↦ ap (λ b. b || list_any test ys) (ap test (sym same) ∙ e)
+  | inr later ↦ ap (λ b. test y || b) (list_any-from_member test ys x later e) ∙ or_right (test y) true refl
+]
 
 pub All-from_members : {A : Type 0} (Q : A → Type 0) (xs : List A) → ((x : A) → IsIn x xs → Q x) → All Q xs
 All-from_members Q [] h = All-nil Q

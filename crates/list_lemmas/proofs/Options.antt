@@ -1,6 +1,6 @@
 -- Options and results: what is known of the value inside.
-use Rattle.std.proofs.Common.{None, Option, Some, refl, ◌≡◌, IsSomeAnd, option_and_then, option_map, List, length, ℤ, ℕ}
-use Rattle.std.proofs.Common.{◌+◌, subst, Err}
+use Rattle.std.proofs.Common.{None, Option, Some, refl, ◌≡◌, IsSomeAnd, option_and_then, option_map, ℕ}
+use Rattle.std.proofs.Common.{◌+◌, false, is_some, subst, Err}
 use Rattle.std.proofs.lemmas.Option.{same_Some}
 use Rattle.std.specs.Option.{IsSome}
 use Rattle.std.specs.Prelude.{Ok, OnOk, Result}
@@ -28,13 +28,9 @@ pub IsSome-option_map : {A B : Type 0} (f : A → B) (o : Option A) → IsSome o
 IsSome-option_map f None h = absurd cc
 IsSome-option_map f (Some x) h = refl
 
-pub none_from_length : (o : Option (List ℤ)) → option_map length o ≡ None → o ≡ None
-none_from_length None h = refl
-none_from_length (Some x) h = absurd cc
-
-pub none_from_one_more : (o : Option ℕ) → option_map (λ n. n + 1) o ≡ None → o ≡ None
-none_from_one_more None e = refl
-none_from_one_more (Some m) e = absurd cc
+pub none_from_option_map : {A B : Type 0} (f : A → B) (o : Option A) → option_map f o ≡ None → o ≡ None
+none_from_option_map f None e = refl
+none_from_option_map f (Some x) e = absurd cc
 
 pub some_from_one_more : (o : Option ℕ) (at : ℕ) → option_map (λ n. n + 1) o ≡ Some at
     → (m : ℕ) × (o ≡ Some m) × (m + 1 ≡ at)

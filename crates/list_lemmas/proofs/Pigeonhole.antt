@@ -29,7 +29,7 @@ without_this x z us vs n h = elim (from_append z us (x ∷ vs) h) [
 ]
 
 -- a list at one of its members
-cut_at : {A : Type 0} (x : A) (ys : List A) → IsIn x ys → (us : List A) × (vs : List A) × (ys ≡ us ++ x ∷ vs)
+pub cut_at : {A : Type 0} (x : A) (ys : List A) → IsIn x ys → (us : List A) × (vs : List A) × (ys ≡ us ++ x ∷ vs)
 cut_at x [] h = absurd h
 cut_at x (y ∷ ys) h = elim h [
   | inl e ↦ ([], ys, ap (λ z. z ∷ ys) (sym e))

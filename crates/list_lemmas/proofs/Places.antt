@@ -1,7 +1,7 @@
 -- What a list has at a place, and what holds there.
 use Rattle.std.proofs.Common.{List, Some, [], arith, length, refl, slice_get, suc, zero, ℕ, ◌<◌, ◌∷◌, ◌≡◌, inl, inr, ap}
 use Rattle.std.proofs.Common.{slice_index_or, sym, IsSomeAnd, ◌++◌, ◌⊎◌, slice_set, ◌≢◌, drop, slice_index, Bool}
-use Rattle.std.proofs.Common.{IsTrue, subst, set, cond, false, true, ◌+◌, ◌∙◌, pos, replicate}
+use Rattle.std.proofs.Common.{IsTrue, subst, set, cond, false, true, ◌+◌, ◌∙◌, pos, replicate, get_or}
 use Rattle.std.proofs.lemmas.Iterator.Adapters.{position_from-zero}
 use Rattle.std.specs.Cmp.{first_so, second_so}
 use Rattle.std.specs.List.{list_all, AllByRecursion, position_from, position}
@@ -71,6 +71,14 @@ place_of_member [] x i = absurd i
 place_of_member (y ∷ ys) x i = elim i [
   | inl e ↦ (0, ap (λ z. Some z) (sym e))
   | inr j ↦ let p = place_of_member ys x j in (suc p.0, p.1)
+]
+
+pub index_of_member : {A : Type 0} (y : A) (xs : List A) → IsIn y xs
+    → (k : ℕ) × (k < length xs) × ((d : A) → get_or xs k d ≡ y)
+index_of_member y [] i = absurd i
+index_of_member y (x ∷ xs) i = elim i [
+  | inl e ↦ (0, omega arith, λ d. sym e)
+  | inr t ↦ let p = index_of_member y xs t in (suc p.0, omega (arith, p.1), λ d. p.2 d)
 ]
 
 -- a number that a list has at a place

@@ -1,6 +1,6 @@
 -- Lists of tasks: the order of tasks, counts of a task, and lists of tasks without repeats.
 use Rattle.std.proofs.Common.{true, ◌≡◌, List, subst, sym, ◌<◌, arith, inl, inr, [], ap, ◌∷◌, ◌≤◌, refl, false, ◌||◌}
-use Rattle.std.proofs.Common.{◌∙◌, ◌⊎◌}
+use Rattle.std.proofs.Common.{◌∙◌, ◌⊎◌, cond}
 use Rattle.std.proofs.lemmas.Bool.{cases_eq, false≢true}
 use Rattle.std.specs.List.{list_any}
 use Rattle.std.specs.declared.cmp.Ordering.TheVariants.{Less}
@@ -8,8 +8,8 @@ use Rattle.ptg_base.specs.Lists.{IsIn, HasNoRepeats}
 use Rattle.ptg_base.specs.Task.{Task}
 use Rattle.ptg_base.specs.TaskComparing.{task_cmp, same_task}
 use Rattle.ptg_base.specs.TaskLaws.{task_cmp-compares, task_cmp-total, same_task-decides}
-use Rattle.ptg_base.specs.TaskOrder.{task_before}
-use Rattle.list_lemmas.proofs.Counts.{some_passes, count-some}
+use Rattle.ptg_base.specs.TaskOrder.{insert_by, task_before}
+use Rattle.list_lemmas.proofs.Counts.{some_passes, count-once, count-some}
 use Rattle.list_lemmas.proofs.Growing.{all_or_one}
 use Rattle.list_lemmas.proofs.Truth.{by_test}
 use Rattle.list_lemmas.specs.Counting.{count, as_number}
@@ -32,14 +32,7 @@ pub uncounted : (t : Task) (ts : List Task) → (IsIn t ts → ⊥) → count (s
 uncounted t ts h = elim (cases_eq (count (same_task t) ts) 0) [ inl z ↦ z | inr more ↦ absurd (h (counted_member t ts (omega (arith, more)))) ]
 
 pub once_each : (ts : List Task) → HasNoRepeats ts → (t : Task) → count (same_task t) ts ≤ 1
-once_each [] h t = omega arith
-once_each (s ∷ ss) h t =
-    by_test (same_task t s)
-    (λ k.
-    let same : t ≡ s = (same_task-decides t s).0 k in
-    let rest = uncounted t ss (λ i. h.0 (subst (λ u. IsIn u ss) same i)) in
-    omega (arith, ap as_number k, rest))
-    (λ k. omega (arith, ap as_number k, once_each ss h.1 t))
+once_each ts h t = count-once same_task (λ a b k. (same_task-decides a b).0 k) ts h t
 
 -- tasks of which each is counted once at most have no repeats
 pub distinct_once : (ts : List Task) → ((t : Task) → count (same_task t) ts ≤ 1) → HasNoRepeats ts
@@ -74,3 +67,20 @@ member_or_not t (u ∷ us) =
 pub all_or_absent : (ts us : List Task)
     → ((t : Task) → IsIn t us → IsIn t ts) ⊎ ((t : Task) × IsIn t us × (IsIn t ts → ⊥))
 all_or_absent ts us = all_or_one (λ t. IsIn t ts) (λ t. IsIn t ts → ⊥) us (λ t i. member_or_not t ts)
+
+-- rows in task order: where one is inserted, and which rows there are then
+module _ {A : Type 0} (key : A → Task) where
+  pub insert_past : (x z : A) (zs : List A) → task_before (key z) (key x) ≡ true
+      → insert_by key x (z ∷ zs) ≡ z ∷ insert_by key x zs
+  insert_past x z zs h = ap (λ b. cond b (z ∷ insert_by key x zs) (x ∷ z ∷ zs)) h
+
+  pub insert_here : (x z : A) (zs : List A) → task_before (key z) (key x) ≡ false
+      → insert_by key x (z ∷ zs) ≡ x ∷ z ∷ zs
+  insert_here x z zs h = ap (λ b. cond b (z ∷ insert_by key x zs) (x ∷ z ∷ zs)) h
+
+  pub from_insert : (w x : A) (l : List A) → IsIn w (insert_by key x l) → (w ≡ x) ⊎ IsIn w l
+  from_insert w x [] i = i
+  from_insert w x (y ∷ ys) i =
+      by_test (task_before (key y) (key x))
+      (λ h. elim (subst (IsIn w) (insert_past x y ys h) i) [ inl e ↦ inr (inl e) | inr t ↦ elim (from_insert w x ys t) [ inl e ↦ inl e | inr k ↦ inr (inr k) ] ])
+      (λ h. subst (IsIn w) (insert_here x y ys h) i)

@@ -8,6 +8,7 @@ use Rattle.std.specs.Option.{option_map}
 use Rattle.std.specs.Str.{bytes_eq}
 use Rattle.std.proofs.lemmas.Iterator.Adapters.{position_from-zero}
 use Rattle.std.proofs.lemmas.Option.{slice_get_within, slice_get_read, same_Some}
+use Rattle.std.proofs.lemmas.Map.Entries.{length-keys_of}
 use Rattle.name_table.specs.declared.bucket.Slot.{Slot}
 use Rattle.name_table.specs.declared.index.Index.{Index}
 use Rattle.name_table.specs.Index.{has_number, in_bucket, has_room, bucket_at, mark_of, or_else, among_others, found, IsIndexOf}
@@ -113,14 +114,10 @@ module _ {V : Type 0} where
   pub value_missing : (pairs : List (List ℕ × V)) (x : Index) (name : List ℕ) → IsIndexOf (keys_of pairs) x → found (keys_of pairs) x name ≡ None → None ≡ value_named pairs name
   value_missing pairs x name is f = sym (value_none pairs name (λ j e. sym (is.finds name j e) ∙ f))
 
-  pub length_keys : (pairs : List (List ℕ × V)) → length (keys_of pairs) ≡ length pairs
-  length_keys [] = refl
-  length_keys (p ∷ pairs) = ap suc (length_keys pairs)
-
   pub found_within : (pairs shown : List (List ℕ × V)) (x : Index) (name : List ℕ) (i : ℕ) → IsIndexOf (keys_of pairs) x → shown ≡ pairs → found (keys_of shown) x name ≡ Some i → i < length shown
   found_within pairs shown x name i is same f =
       let is' : IsIndexOf (keys_of shown) x = subst (λ (l : List (List ℕ × V)). IsIndexOf (keys_of l) x) (sym same) is in
-      omega (arith, slice_get_within (keys_of shown) i name (found_sound (keys_of shown) x name i is' f), length_keys shown)
+      omega (arith, slice_get_within (keys_of shown) i name (found_sound (keys_of shown) x name i is' f), length-keys_of shown)
 
   -- the value at the number that was found
   pub value_there : (self pairs shown : List (List ℕ × V)) (x : Index) (name : List ℕ) (i : ℕ) (p : List ℕ × V) → IsIndexOf (keys_of pairs) x → pairs ≡ self → shown ≡ pairs → found (keys_of shown) x name ≡ Some i → p ≡ get_or pairs i p

@@ -13,13 +13,13 @@ use Rattle.ptg_base.specs.TaskLaws.{same_task-decides}
 use Rattle.coll_data.specs.Data.{Data}
 use Rattle.list_lemmas.proofs.Counts.{count-some, same_counts}
 use Rattle.list_lemmas.proofs.Distinct.{HasNoRepeats-filter}
-use Rattle.list_lemmas.proofs.Tasks.{distinct_once, member_or_not, uncounted, once_each}
+use Rattle.list_lemmas.proofs.Tasks.{member_or_not, uncounted, once_each}
 use Rattle.dep_iter.specs.Tasks.{all_tasks}
 use Rattle.dep_iter.specs.Consistent.{IsConsistent}
+use Rattle.dep_iter.proofs.Once.{once-all_tasks}
 use Rattle.list_lemmas.specs.Counting.{HasSameMembers, count}
 use Rattle.flow_meaning.specs.Backward.{ended}
 use Rattle.flow_meaning.specs.Answer.{ran, trapped}
-use Rattle.flow_meaning.proofs.Once.{tasks_once}
 use Rattle.task_order.proofs.Running.{members_ran}
 
 module _ (P : Plan) (ts : List Task) (g : IsGreatestOrder P ts) where
@@ -42,7 +42,7 @@ module _ (P : Plan) (G : Data) (con : IsConsistent P) (calm : trapped P G ≡ []
   same_count : (t : Task) → count (same_task t) ts ≡ count (same_task t) (ran P G)
   unfolding ran
   same_count t =
-      let there = once_each (filter (λ u. is_some (ended P G u)) (all_tasks P)) (HasNoRepeats-filter (λ u. is_some (ended P G u)) (all_tasks P) (distinct_once (all_tasks P) (tasks_once P))) t in
+      let there = once_each (filter (λ u. is_some (ended P G u)) (all_tasks P)) (HasNoRepeats-filter (λ u. is_some (ended P G u)) (all_tasks P) (once-all_tasks P)) t in
       let here = once_each ts (legal_once P [] ts g.legal) t in
       elim (member_or_not t ts) [
         | inl i ↦ omega (arith, here, there, count-some (same_task t) ts t i ((same_task-decides t t).1 refl), count-some (same_task t) (ran P G) t ((members_ran P G con calm ts g t).0 i) ((same_task-decides t t).1 refl))

@@ -3,7 +3,9 @@
 ghost use Rattle.dep_iter.specs.Tasks.{IsTask};
 
 use crate::names::{add_flow, add_place, add_task};
-use dep_iter::{Direction, Matched, Source, affinity, all_tasks, data_source, flows_of, is_task, priority};
+use dep_iter::{
+    Direction, Matched, Source, affinity, all_tasks, data_source, flows_of, is_task, priority,
+};
 use edge_walk::{Far, ties_of};
 use goal_count::goal;
 use plan_core::Plan;

@@ -1,16 +1,11 @@
 -- Expressions outside of bodies: they read no tile, and name only locals of their class. Source: the JDF documentation.
-use Rattle.std.specs.Prelude.{ℕ, Option, Some, None, Bool, true, false}
-use Rattle.term_core.specs.Term.{Term}
+use Rattle.std.specs.Prelude.{ℕ, Bool, true, false}
 use Rattle.term_core.specs.Value.{is_closed}
 use Rattle.term_core.specs.WellSpace.{is_closed_def}
+pub use Rattle.term_core.specs.WellSpace.{is_closed_option}
 use Rattle.term_core.specs.declared.space.Def.TheVariants as def
 use Rattle.plan_core.specs.declared.target.Arg.{Arg}
 use Rattle.plan_core.specs.declared.target.Arg.TheVariants.{One, Span}
-
--- whether a guard or a priority, if there is one, is an expression over so many locals
-abbrev pub is_closed_option : ℕ → Option Term → Bool
-is_closed_option locals None = true
-is_closed_option locals (Some e) = is_closed locals e
 
 -- whether an argument is over so many locals
 abbrev pub is_closed_arg : ℕ → Arg → Bool

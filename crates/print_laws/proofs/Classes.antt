@@ -12,7 +12,7 @@ use Rattle.jdf_alphabet.specs.Codes.{TooManyParams, TooManyLocals, TooManyFlows,
 use Rattle.jdf_alphabet.specs.Terminals.{words, marks, number_of, terminal_of, is}
 use Rattle.jdf_alphabet.specs.Counted.{is_name}
 use Rattle.grammar_core.specs.Production as form
-use Rattle.grammar_core.specs.Production.{seq, opt, star, limited, taken, Derives, Derived}
+use Rattle.grammar_core.specs.Production.{seq, opt, taken, Derived}
 use Rattle.jdf_alphabet.specs.Sets.{one_of}
 use Rattle.jdf_tree.specs.declared.expression.Word.{Word}
 use Rattle.jdf_tree.specs.declared.part.Part.TheVariants.{Class}
@@ -27,7 +27,7 @@ use Rattle.jdf_tree.specs.Nonterminal.{an_opening}
 use Rattle.jdf_tree.specs.GrammarParts.{word, suffixed_by, any, maybe, name, word_of}
 use Rattle.jdf_tree.specs.ExpressionGrammar.{outer}
 use Rattle.jdf_tree.specs.ClassGrammar as grammar
-use Rattle.jdf_tree.specs.ClassGrammar.{full_at, parameter_limit}
+use Rattle.jdf_tree.specs.ClassGrammar.{full_at}
 use Rattle.jdf_tree.specs.Grammar as whole
 use Rattle.jdf_tree.specs.Grammar.{productions}
 use Rattle.jdf_print.specs.Fragments.{Fragment, token, space, between, separated, with_commas, line, token_count}
@@ -39,9 +39,9 @@ use Rattle.print_laws.proofs.Readable.{IsLike, IsWritten, Reads, reads_both, ter
 use Rattle.print_laws.proofs.Limits.{no_cut}
 use Rattle.jdf_print.proofs.Separated.{separated_is}
 use Rattle.print_laws.proofs.Spent.{cover}
-use Rattle.print_laws.proofs.Expressions.{DerivesTree, IsName}
+use Rattle.print_laws.proofs.Expressions.{DerivesTree, IsName, left_paren, right_paren, colon}
 use Rattle.print_laws.proofs.Forms.{ReadsBackAs, Every, EachReadsBack, IsOuter, outer_reads_back, listed_reads_back, star_reads_back, not_full, word_derives, after_derives, before_derives, name_derives, same_word, reads_line}
-use Rattle.print_laws.proofs.Targets.{IsArgument, argument_reads_back, call_reads_back, IsDependence, dependence_reads_back}
+use Rattle.print_laws.proofs.Targets.{IsArgument, argument_reads_back, call_reads_back, is_assign, IsDependence, dependence_reads_back}
 
 -- ---- trees from their parts
 
@@ -114,10 +114,6 @@ flow_reads_back f formed s r h =
 
 -- ---- definitions, parameters, affinity, priority
 
-is_assign : is terminal.Assign (terminal_at (codes "=")) ≡ true
-unfolding words marks
-is_assign = refl
-
 pub record IsDefinition (d : DefTree) : Type 0 where
   pub name : IsName d.name.text
   pub value : IsArgument d.value
@@ -133,14 +129,6 @@ definition_reads_back d formed s r h =
       derives = ((word_of l.0, k.tree), (l.1, None, None, name_derives d.name.text formed.name l.0 s l.1 l.2 l.3, after_derives terminal.Assign grammar.argument (codes "=") is_assign e.0 l.1 e.1 k.tree r e.2 e.3 k.derives, refl), refl);
       like = ap (λ (w : Word). definition_from w (same.argument k.tree)) (same_word l.0 d.name l.3) ∙ ap (λ (v : ArgTree). definition_from (same.word d.name) v) k.like;
     }
-
-is_left : is terminal.LeftParen (terminal_at (codes "(")) ≡ true
-unfolding words marks
-is_left = refl
-
-is_right : is terminal.RightParen (terminal_at (codes ")")) ≡ true
-unfolding words marks
-is_right = refl
 
 abbrev pub IsParameter : Word → Type 0
 IsParameter w = IsName w.text
@@ -178,14 +166,10 @@ parameter_list_reads_back ws formed few s r h =
     record {
       tree = k.tree;
       derives =
-          after_derives terminal.LeftParen (suffixed_by terminal.RightParen (maybe grammar.parameters)) (codes "(") is_left h.0 s h.1 k.tree r h.2 h.3
-          (before_derives terminal.RightParen (maybe grammar.parameters) (codes ")") is_right split.2.0 h.1 split.0 k.tree r k.derives end split.2.3);
+          after_derives terminal.LeftParen (suffixed_by terminal.RightParen (maybe grammar.parameters)) (codes "(") left_paren h.0 s h.1 k.tree r h.2 h.3
+          (before_derives terminal.RightParen (maybe grammar.parameters) (codes ")") right_paren split.2.0 h.1 split.0 k.tree r k.derives end split.2.3);
       like = k.like;
     }
-
-is_colon : is terminal.Colon (terminal_at (codes ":")) ≡ true
-unfolding words marks
-is_colon = refl
 
 -- A collection and its indices.
 abbrev affinity_plain : Word × List ArgTree → Word × List ArgTree
@@ -199,7 +183,7 @@ affinity_reads_back c name_well_formed args_well_formed s r h =
     let k = call_reads_back c.affinity_args args_well_formed n.1 r n.4 in
     record {
       tree = (word_of n.0, k.tree);
-      derives = after_derives terminal.Colon (seq (name Class) grammar.call) (codes ":") is_colon l.0 s l.1 (word_of n.0, k.tree) r l.2 l.3 (n.1, None, None, name_derives c.affinity.text name_well_formed n.0 l.1 n.1 n.2 n.3, k.derives, refl);
+      derives = after_derives terminal.Colon (seq (name Class) grammar.call) (codes ":") colon l.0 s l.1 (word_of n.0, k.tree) r l.2 l.3 (n.1, None, None, name_derives c.affinity.text name_well_formed n.0 l.1 n.1 n.2 n.3, k.derives, refl);
       like = ap (λ (w : Word). pair w (map same.argument k.tree)) (same_word n.0 c.affinity n.3) ∙ ap (λ (a : List ArgTree). pair (same.word c.affinity) a) k.like;
     }
 

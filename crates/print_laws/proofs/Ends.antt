@@ -1,10 +1,9 @@
 -- The rest after a derivation is the end of the tokens; a derivation without a fault has parts without one.
-use Rattle.std.proofs.Common.{◌≡◌, ℕ, suc, ◌≤◌, Bool, true, false, cond, List, [], ◌∷◌, ◌++◌, refl, sym, ap, ◌∙◌, inl, inr, append_assoc}
-use Rattle.std.specs.Prelude.{Option, Some, None, nat_lt}
-use Rattle.std.proofs.lemmas.Bool.{ltb-false}
+use Rattle.std.proofs.Common.{◌≡◌, ℕ, suc, List, [], ◌∷◌, ◌++◌, refl, sym, ap, ◌∙◌, inl, inr, append_assoc}
+use Rattle.std.specs.Prelude.{Option, Some, None}
 use Rattle.grammar_core.specs.declared.token.Token.{Token}
 use Rattle.grammar_core.specs.declared.code.Code.{Code}
-use Rattle.grammar_core.specs.Production.{Production, seq, map, alt, opt, star, limited, Fault, Language, Many, Derives, then_fault, or_fault, at_start, cut_at, one_of, checked, pick, after_token}
+use Rattle.grammar_core.specs.Production.{Production, seq, map, alt, opt, star, limited, Fault, Language, Many, Derives, or_fault, at_start, one_of, checked, pick, after_token}
 
 -- The second list is the end of the first.
 abbrev pub HasEnd : List Token → List Token → Type 0
@@ -38,26 +37,9 @@ derives_has_end R f (limited l c g) s t o r h = derives_has_end R f g s t h.0 r 
 
 -- ---- no fault
 
-pub none_then : (x : Fault) (n : ℕ) (y : Fault) → then_fault x n y ≡ None → (x ≡ None) × (y ≡ None)
-none_then None n None e = (refl, refl)
-none_then None n (Some f) e = absurd (cc)
-none_then (Some f) n y e = absurd (cc)
-
 pub none_or : (c : Option Code) (x : Fault) → or_fault (at_start c) x ≡ None → (c ≡ None) × (x ≡ None)
 none_or None x e = (refl, e)
 none_or (Some c) x e = absurd (cc)
 
 abbrev pub IsNone : Fault → Type 0
 IsNone o = o ≡ None
-
-pub none_cut : (l : ℕ) (c : Code) (n : ℕ) (x : Fault) → cut_at l c n x ≡ None → (x ≡ None) × (n ≤ l)
-none_cut l c n None e = go (nat_lt l n) refl e
-  where
-    go : (b : Bool) → nat_lt l n ≡ b → IsNone (cond b (Some (l, c)) None) → IsNone None × (n ≤ l)
-    go true e h = absurd (cc)
-    go false e h = (refl, ltb-false l n e)
-none_cut l c n (Some f) e = go (nat_lt l f.0) e
-  where
-    go : (b : Bool) → IsNone (cond b (Some (l, c)) (Some f)) → IsNone (Some f) × (n ≤ l)
-    go true h = absurd (cc)
-    go false h = absurd (cc)

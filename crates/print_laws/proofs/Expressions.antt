@@ -191,19 +191,19 @@ unfolding words marks
 is_sign_of un.Neg = refl
 is_sign_of un.Not = refl
 
-left_paren : is terminal.LeftParen (terminal_at (codes "(")) ≡ true
+pub left_paren : is terminal.LeftParen (terminal_at (codes "(")) ≡ true
 unfolding words marks
 left_paren = refl
 
-right_paren : is terminal.RightParen (terminal_at (codes ")")) ≡ true
+pub right_paren : is terminal.RightParen (terminal_at (codes ")")) ≡ true
 unfolding words marks
 right_paren = refl
 
-question : is terminal.Question (terminal_at (codes "?")) ≡ true
+pub question : is terminal.Question (terminal_at (codes "?")) ≡ true
 unfolding words marks
 question = refl
 
-colon : is terminal.Colon (terminal_at (codes ":")) ≡ true
+pub colon : is terminal.Colon (terminal_at (codes ":")) ≡ true
 unfolding words marks
 colon = refl
 

@@ -15,7 +15,8 @@ use Rattle.jdf_tree.specs.GrammarParts.{word, prefixed_by, suffixed_by, any, lis
 use Rattle.jdf_tree.specs.ClassGrammar.{full_at}
 use Rattle.print_laws.proofs.Expressions.{IsName}
 use Rattle.print_laws.proofs.Forms.{Every}
-use Rattle.print_laws.proofs.Ends.{Shortens, derives_has_end, none_then, none_or}
+use Rattle.jdf_tree.proofs.TreeLimits.{both_none}
+use Rattle.print_laws.proofs.Ends.{Shortens, derives_has_end, none_or}
 use Rattle.print_laws.proofs.Known.{IsKnown, name_known}
 use Rattle.print_laws.proofs.WellFormedExpressions.{known_rest}
 
@@ -40,7 +41,7 @@ module _ (R : (n : Nonterminal) → Language (TreeOf n)) (B : (n : Nonterminal) 
 
   pub both : {A C : Type 0} (g : Grammar A) (k : Grammar C) (P : A → Type 0) (Q : C → Type 0) → Holds g P → Holds k Q → Holds (seq g k) (λ t. P t.0 × Q t.1)
   both g k P Q f q s t o r h e known =
-      let parts = none_then h.1 (taken s h.0) h.2 (sym h.5 ∙ e) in
+      let parts = both_none h.1 (taken s h.0) h.2 (sym e ∙ h.5) in
       (f s t.0 h.1 h.0 h.3 parts.0 known, q h.0 t.1 h.2 r h.4 parts.1 (rest g s t.0 h.1 h.0 h.3 known))
 
   pub mapped : {A C : Type 0} (v : A → C) (g : Grammar A) (P : A → Type 0) (Q : C → Type 0) → Holds g P → ((a : A) → P a → Q (v a)) → Holds (map v g) Q
@@ -59,7 +60,7 @@ module _ (R : (n : Nonterminal) → Language (TreeOf n)) (B : (n : Nonterminal) 
   many_hold : {A : Type 0} (full : ℕ → Option Code) (g : Grammar A) (P : A → Type 0) → Holds g P → (i : ℕ) (ts : List A) (s : List Token) (o : Fault) (r : List Token) → Many full (Derives R g) i s ts o r → o ≡ None → Every IsKnown s → Every P ts
   many_hold full g P f i [] s o r h e known = tt
   many_hold full g P f i (t ∷ ts) s o r h e known =
-      let parts = none_then (or_fault (at_start (full i)) h.1) (taken s h.0) h.2 (sym h.5 ∙ e) in
+      let parts = both_none (or_fault (at_start (full i)) h.1) (taken s h.0) h.2 (sym e ∙ h.5) in
       let start = none_or (full i) h.1 parts.0 in
       (f s t h.1 h.0 h.3 start.1 known, many_hold full g P f (suc i) ts h.0 h.2 r h.4 parts.1 (rest g s t h.1 h.0 h.3 known))
 
@@ -76,7 +77,7 @@ module _ (R : (n : Nonterminal) → Language (TreeOf n)) (B : (n : Nonterminal) 
   many_at_most : {A : Type 0} (n : ℕ) (c : Code) (g : Grammar A) (i : ℕ) (ts : List A) (s : List Token) (o : Fault) (r : List Token) → i ≤ n → Many (full_at n c) (Derives R g) i s ts o r → o ≡ None → i + length ts ≤ n
   many_at_most n c g i [] s o r le h e = omega arith
   many_at_most n c g i (t ∷ ts) s o r le h e =
-      let parts = none_then (or_fault (at_start (full_at n c i)) h.1) (taken s h.0) h.2 (sym h.5 ∙ e) in
+      let parts = both_none (or_fault (at_start (full_at n c i)) h.1) (taken s h.0) h.2 (sym e ∙ h.5) in
       let start = none_or (full_at n c i) h.1 parts.0 in
       let more = many_at_most n c g (suc i) ts h.0 h.2 r (not_yet n i c start.0) h.4 parts.1 in
       omega (arith, more)

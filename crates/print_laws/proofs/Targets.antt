@@ -24,20 +24,12 @@ use Rattle.jdf_print.specs.Spelling as print
 use Rattle.print_laws.specs.Same as same
 use Rattle.print_laws.specs.Same.{nowhere}
 use Rattle.print_laws.proofs.Readable.{IsLike, Reads, reads_both, terminal_at, like_terminal, is_one}
-use Rattle.print_laws.proofs.Expressions.{DerivesTree, IsName}
+use Rattle.print_laws.proofs.Expressions.{DerivesTree, IsName, left_paren, right_paren, question, colon}
 use Rattle.print_laws.proofs.Forms.{ReadsBackAs, Every, IsOuter, outer_reads_back, guard_reads_back, listed_reads_back, word_derives, after_derives, before_derives, name_derives, same_word, reads_line}
 
 is_dots : is terminal.Dots (terminal_at (codes "..")) ≡ true
 unfolding words marks
 is_dots = refl
-
-is_left : is terminal.LeftParen (terminal_at (codes "(")) ≡ true
-unfolding words marks
-is_left = refl
-
-is_right : is terminal.RightParen (terminal_at (codes ")")) ≡ true
-unfolding words marks
-is_right = refl
 
 -- ---- arguments
 
@@ -110,8 +102,8 @@ call_reads_back args formed s r h =
     record {
       tree = k.tree;
       derives =
-          after_derives terminal.LeftParen (suffixed_by terminal.RightParen (maybe grammar.arguments)) (codes "(") is_left h.0 s h.1 k.tree r h.2 h.3
-          (before_derives terminal.RightParen (maybe grammar.arguments) (codes ")") is_right split.2.0 h.1 split.0 k.tree r k.derives end split.2.3);
+          after_derives terminal.LeftParen (suffixed_by terminal.RightParen (maybe grammar.arguments)) (codes "(") left_paren h.0 s h.1 k.tree r h.2 h.3
+          (before_derives terminal.RightParen (maybe grammar.arguments) (codes ")") right_paren split.2.0 h.1 split.0 k.tree r k.derives end split.2.3);
       like = k.like;
     }
 
@@ -201,14 +193,6 @@ either e t u = (Some e, t, Some u)
 abbrev built : Bool → Choice → Option Word → DepTree
 built inward c w = record { inward = inward; guard = c.0; yes = c.1; no = c.2; datatype = w }
 
-is_question : is terminal.Question (terminal_at (codes "?")) ≡ true
-unfolding words marks
-is_question = refl
-
-is_colon : is terminal.Colon (terminal_at (codes ":")) ≡ true
-unfolding words marks
-is_colon = refl
-
 abbrev choice_form : Grammar Choice
 choice_form = pick grammar.may_follow_target_name grammar.unguarded grammar.guarded
 
@@ -238,7 +222,7 @@ choice_reads_back (Some c, t, None) formed s r h =
               None,
               None,
               a.derives,
-              after_derives terminal.Question (seq grammar.target (opt (prefixed_by terminal.Colon grammar.target))) (codes "?") is_question ask.2.0 ask.0 front.0 (b.tree, None) r mark ask.2.3
+              after_derives terminal.Question (seq grammar.target (opt (prefixed_by terminal.Colon grammar.target))) (codes "?") question ask.2.0 ask.0 front.0 (b.tree, None) r mark ask.2.3
                   (last.0, None, None, b.derives, (last.2, refl), refl),
               refl,
             ),
@@ -264,8 +248,8 @@ choice_reads_back (Some c, t, Some u) formed s r h =
               None,
               None,
               a.derives,
-              after_derives terminal.Question (seq grammar.target (opt (prefixed_by terminal.Colon grammar.target))) (codes "?") is_question ask.2.0 ask.0 front.0 (b.tree, Some d.tree) r mark ask.2.3
-                  (last.0, None, None, b.derives, after_derives terminal.Colon grammar.target (codes ":") is_colon last.2.0 last.0 last.2.1 d.tree r last.2.2 last.2.3 d.derives, refl),
+              after_derives terminal.Question (seq grammar.target (opt (prefixed_by terminal.Colon grammar.target))) (codes "?") question ask.2.0 ask.0 front.0 (b.tree, Some d.tree) r mark ask.2.3
+                  (last.0, None, None, b.derives, after_derives terminal.Colon grammar.target (codes ":") colon last.2.0 last.0 last.2.1 d.tree r last.2.2 last.2.3 d.derives, refl),
               refl,
             ),
             refl,
@@ -289,7 +273,7 @@ is_type : is terminal.TypeWord (terminal_at (codes "type")) ≡ true
 unfolding words marks
 is_type = refl
 
-is_assign : is terminal.Assign (terminal_at (codes "=")) ≡ true
+pub is_assign : is terminal.Assign (terminal_at (codes "=")) ≡ true
 unfolding words marks
 is_assign = refl
 

@@ -31,10 +31,11 @@ use Rattle.print_laws.proofs.Expressions.{IsName}
 use Rattle.print_laws.proofs.Forms.{Every, IsOuter}
 use Rattle.print_laws.proofs.Targets.{IsArgument, IsTarget, IsChoice, IsDependence}
 use Rattle.print_laws.proofs.Classes.{IsFlow, IsDefinition, IsParameter, IsPriority, IsInBody, IsBody, IsClass, IsJob}
-use Rattle.print_laws.proofs.Ends.{Shortens, derives_has_end, none_then, none_cut}
+use Rattle.jdf_tree.proofs.TreeLimits.{both_none, cut_none}
+use Rattle.print_laws.proofs.Ends.{Shortens, derives_has_end}
 use Rattle.print_laws.proofs.Known.{IsKnown, name_known, body_known}
 use Rattle.print_laws.proofs.WellFormedExpressions as expression
-use Rattle.print_laws.proofs.WellFormedExpressions.{FactsOf, OuterOf, known_rest}
+use Rattle.print_laws.proofs.WellFormedExpressions.{FactsOf, known_rest}
 use Rattle.print_laws.proofs.Holding as holding
 use Rattle.print_laws.proofs.Holding.{IfPresent, AtMostEvery}
 
@@ -203,7 +204,7 @@ module _ (R : (n : Nonterminal) → Language (TreeOf n)) (B : (n : Nonterminal) 
   parameters_well_formed : Holds grammar.parameters (AtMostEvery 8 IsParameter)
   unfolding grammar.parameters
   parameters_well_formed s ws o r h e known =
-      let parts = none_cut 16 TooManyParams (taken s r) h.0 (sym h.2 ∙ e) in
+      let parts = cut_none 16 TooManyParams (taken s r) h.0 (sym e ∙ h.2) in
       let names_well_formed = holding.in_list R B (name Class) IsParameter (holding.name_well_formed R B) s ws h.0 r h.1 parts.0 known in
       let x = h.1.0 in
       let q = h.1.1 in
@@ -318,7 +319,7 @@ module _ (R : (n : Nonterminal) → Language (TreeOf n)) (B : (n : Nonterminal) 
     -- A token and the rest of the text after it.
     behind_well_formed : (q : Terminal → Bool) → Holds (after_token q an_opening) (λ x. IsJob x.1)
     behind_well_formed q s x o r h e known =
-        let parts = none_then None 1 h.1 (sym h.4 ∙ e) in
+        let parts = both_none None 1 h.1 (sym e ∙ h.4) in
         O h.0 x.1 h.1 r h.3 parts.1 (known_rest s h.0 (x.0 ∷ [], h.2.0) known)
 
     with_one : (w : Word) (j : Jdf) → IsName w.text → IsJob j → IsJob (whole.with_global w j)

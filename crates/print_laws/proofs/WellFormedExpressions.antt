@@ -8,9 +8,8 @@ use Rattle.jdf_alphabet.specs.declared.terminal.Terminal.TheVariants as terminal
 use Rattle.jdf_alphabet.specs.Codes.{BadNumber, ExprTooLong}
 use Rattle.jdf_alphabet.specs.Terminals.{terminal_of, is}
 use Rattle.jdf_alphabet.specs.Counted.{is_name, is_counted}
-use Rattle.jdf_alphabet.specs.Sets.{limit_at, IsOne}
+use Rattle.jdf_alphabet.specs.Sets.{limit_at, one_of, IsOne}
 use Rattle.grammar_core.specs.Production.{map, seq, opt, Fault, Language, Many, Derives, taken, bad_unless}
-use Rattle.jdf_alphabet.specs.Sets.{one_of}
 use Rattle.text_laws.proofs.Disjoint.{is_within, within_at}
 use Rattle.jdf_tree.specs.declared.expression.Word.{Word}
 use Rattle.jdf_tree.specs.declared.expression.ExprWithSpot.{ExprWithSpot}
@@ -26,7 +25,8 @@ use Rattle.print_laws.proofs.Limits.{number_of, fit_few, number_of-append}
 use Rattle.print_laws.proofs.Spent.{weight}
 use Rattle.print_laws.proofs.Expressions.{IsWellFormed, IsName}
 use Rattle.print_laws.proofs.Forms.{Every, IsOuter}
-use Rattle.print_laws.proofs.Ends.{IsNone, HasEnd, Shortens, derives_has_end, none_then, none_cut}
+use Rattle.jdf_tree.proofs.TreeLimits.{both_none, cut_none}
+use Rattle.print_laws.proofs.Ends.{IsNone, HasEnd, Shortens, derives_has_end}
 use Rattle.print_laws.proofs.Known.{IsKnown, name_known}
 
 -- The tokens of the rest are known too.
@@ -72,7 +72,7 @@ module _ (R : (n : Nonterminal) → Language (TreeOf n)) (B : (n : Nonterminal) 
       → Derives R (Tail ops g) s x o r → o ≡ None → Every IsKnown s → IsWellFormed x.1.tree × (1 + weight x.1.tree + counted r ≤ counted s)
   tail_facts ops w g f s x o r h e known =
       let sign = h.3 in
-      let parts = none_then h.1 (taken s h.0) h.2 (sym h.5 ∙ e) in
+      let parts = both_none h.1 (taken s h.0) h.2 (sym e ∙ h.5) in
       let k = f h.0 x.1 h.2 r h.4 parts.1 (known_rest s h.0 (sign.0 ∷ [], sign.1.0.0) known) in
       (k.formed, omega (arith, k.spent, counts ops w s sign.0 h.0 sign.1.0))
 
@@ -80,7 +80,7 @@ module _ (R : (n : Nonterminal) → Language (TreeOf n)) (B : (n : Nonterminal) 
       → weight a + counted s ≤ n → Many any (Derives R (Tail ops g)) i s xs o r → o ≡ None → Every IsKnown s → IsWellFormed (grouped a xs) × (weight (grouped a xs) + counted r ≤ n)
   many_facts ops w g f i n a formed [] s o r le h e known = (formed, omega (arith, le, ap counted h.0))
   many_facts ops w g f i n a formed (x ∷ xs) s o r le h e known =
-      let parts = none_then h.1 (taken s h.0) h.2 (sym h.5 ∙ e) in
+      let parts = both_none h.1 (taken s h.0) h.2 (sym e ∙ h.5) in
       let k = tail_facts ops w g f s x h.1 h.0 h.3 parts.0 known in
       many_facts ops w g f (suc i) n (Binary x.0 a x.1.tree) (formed, k.0) xs h.0 h.2 r (omega (arith, le, k.1)) h.4 parts.1 (rest_known (Tail ops g) s x h.1 h.0 h.3 known)
 
@@ -88,7 +88,7 @@ module _ (R : (n : Nonterminal) → Language (TreeOf n)) (B : (n : Nonterminal) 
   ranked_facts ops w g f s p o r h e known =
       let a = h.0 in
       let q = h.1 in
-      let parts = none_then q.1 (taken s q.0) q.2 (sym q.5 ∙ e) in
+      let parts = both_none q.1 (taken s q.0) q.2 (sym e ∙ q.5) in
       let first = f s a.0 q.1 q.0 q.3 parts.0 known in
       let all = many_facts ops w g f 0 (counted s) a.0.tree first.formed a.1 q.0 q.2 r first.spent q.4 parts.1 (rest_known g s a.0 q.1 q.0 q.3 known) in
       let F : ExprWithSpot → Type 0 = λ t. Facts s t r in
@@ -102,7 +102,7 @@ module _ (R : (n : Nonterminal) → Language (TreeOf n)) (B : (n : Nonterminal) 
   inside_facts k s p o r h e known =
       let x = h.0 in
       let q = h.1 in
-      let parts = none_then None 1 q.1 (sym q.4 ∙ e) in
+      let parts = both_none None 1 q.1 (sym e ∙ q.4) in
       let facts = E q.0 x.1 q.1 r q.3 parts.1 (known_rest s q.0 (x.0 ∷ [], q.2.0) known) in
       let F : ExprWithSpot → Type 0 = λ t. Facts q.0 t r in
       (x.0, q.0, q.2, subst F h.2 facts)
@@ -138,7 +138,7 @@ module _ (R : (n : Nonterminal) → Language (TreeOf n)) (B : (n : Nonterminal) 
   sign_facts s p o r h e known =
       let x = h.0 in
       let q = h.1 in
-      let parts = none_then None 1 q.1 (sym q.4 ∙ e) in
+      let parts = both_none None 1 q.1 (sym e ∙ q.4) in
       let k = U q.0 x.1 q.1 r q.3 parts.1 (known_rest s q.0 (x.0 ∷ [], q.2.0) known) in
       let F : ExprWithSpot → Type 0 = λ t. Facts s t r in
       subst F h.2 (record { formed = k.formed; spent = omega (arith, k.spent, counts is_sign refl s x.0 q.0 q.2) })
@@ -148,9 +148,9 @@ module _ (R : (n : Nonterminal) → Language (TreeOf n)) (B : (n : Nonterminal) 
   parens_facts s p o r h e known =
       let x = h.0 in
       let q = h.1 in
-      let parts = none_then q.1 (taken s q.0) q.2 (sym q.5 ∙ e) in
+      let parts = both_none q.1 (taken s q.0) q.2 (sym e ∙ q.5) in
       let b = q.3 in
-      let inner_parts = none_then None 1 b.1 (sym b.4 ∙ parts.0) in
+      let inner_parts = both_none None 1 b.1 (sym parts.0 ∙ b.4) in
       let k = E b.0 x.0.1 b.1 q.0 b.3 inner_parts.1 (known_rest s b.0 (x.0.0 ∷ [], b.2.0) known) in
       let F : ExprWithSpot → Type 0 = λ t. Facts s t r in
       subst F h.2 (record { formed = k.formed; spent = omega (arith, k.spent, passes (is terminal.LeftParen) s x.0.0 b.0 b.2, passes (is terminal.RightParen) q.0 x.1 r q.4.0) })
@@ -191,7 +191,7 @@ module _ (R : (n : Nonterminal) → Language (TreeOf n)) (B : (n : Nonterminal) 
       → IsWellFormed t.0.tree × IsWellFormed t.1.tree × (1 + (weight t.0.tree + weight t.1.tree) + counted r ≤ counted s)
   unfolding branches is_counted
   branches_facts s t o r h e known =
-      let parts = none_then h.1 (taken s h.0) h.2 (sym h.5 ∙ e) in
+      let parts = both_none h.1 (taken s h.0) h.2 (sym e ∙ h.5) in
       let a = inside_facts terminal.Question s t.0 h.1 h.0 h.3 parts.0 known in
       let b = inside_facts terminal.Colon h.0 t.1 h.2 r h.4 parts.1 (rest_known (inside terminal.Question Class) s t.0 h.1 h.0 h.3 known) in
       (a.3.formed, b.3.formed, omega (arith, a.3.spent, b.3.spent, counts (is terminal.Question) refl s a.0 a.1 a.2, passes (is terminal.Colon) h.0 b.0 b.1 b.2))
@@ -202,11 +202,11 @@ module _ (R : (n : Nonterminal) → Language (TreeOf n)) (B : (n : Nonterminal) 
     where
       go : (c : ExprWithSpot) (x : Option (ExprWithSpot × ExprWithSpot)) → Derives R (seq (disjunction Class) (opt (branches Class))) s (c, x) o r → Facts s (chosen (c, x)) r
       go c None q =
-          let parts = none_then q.1 (taken s q.0) q.2 (sym q.5 ∙ e) in
+          let parts = both_none q.1 (taken s q.0) q.2 (sym e ∙ q.5) in
           let k = disjunction_facts s c q.1 q.0 q.3 parts.0 known in
           record { formed = k.formed; spent = omega (arith, k.spent, ap counted q.4.0) }
       go c (Some x) q =
-          let parts = none_then q.1 (taken s q.0) q.2 (sym q.5 ∙ e) in
+          let parts = both_none q.1 (taken s q.0) q.2 (sym e ∙ q.5) in
           let k = disjunction_facts s c q.1 q.0 q.3 parts.0 known in
           let b = branches_facts q.0 x q.2 r q.4 parts.1 (rest_known (disjunction Class) s c q.1 q.0 q.3 known) in
           record { formed = (k.formed, b.0, b.1); spent = omega (arith, k.spent, b.2) }
@@ -226,11 +226,11 @@ module _ (R : (n : Nonterminal) → Language (TreeOf n)) (B : (n : Nonterminal) 
   pub outer_well_formed : OuterOf (outer Class)
   unfolding outer
   outer_well_formed s p o r h e known =
-      let parts = none_cut (limit_at is_counted 512 128 s) ExprTooLong (taken s r) h.0 (sym h.2 ∙ e) in
+      let parts = cut_none (limit_at is_counted 512 128 s) ExprTooLong (taken s r) h.0 (sym e ∙ h.2) in
       short s p r (expr_facts s p h.0 r h.1 parts.0 known) (derives_has_end R B (expr Class) s p h.0 r h.1) parts.1
 
   pub guard_well_formed : OuterOf guard
   unfolding guard
   guard_well_formed s p o r h e known =
-      let parts = none_cut (limit_at is_counted 512 128 s) ExprTooLong (taken s r) h.0 (sym h.2 ∙ e) in
+      let parts = cut_none (limit_at is_counted 512 128 s) ExprTooLong (taken s r) h.0 (sym e ∙ h.2) in
       short s p r (disjunction_facts s p h.0 r h.1 parts.0 known) (derives_has_end R B (disjunction Class) s p h.0 r h.1) parts.1

@@ -4,14 +4,14 @@ use Rattle.std.specs.Prelude.{slice_get, nat_le, ◌==◌, drop, find, option_ma
 use Rattle.std.specs.List.{list_any, list_all}
 use Rattle.std.specs.Str.{bytes_eq}
 use Rattle.std.proofs.lemmas.Bool.Decides.{nat_tests}
-use Rattle.std.proofs.lemmas.Slice.Eq.{bytes_eq-Decides}
+use Rattle.list_lemmas.proofs.Texts.{bytes_eq-sym_false}
 use Rattle.clap.specs.Walk.{Text, first_of, one_of, row_text, rows_after, rows_of, has_row, nothing_held}
 use Rattle.clap.specs.Simple.{App, built, matches_of, is_simple}
 use Rattle.clap.specs.Matches.{first_value, one_text}
 use Rattle.clap.specs.Faults.{fault_of, level_fault, is_simple_and_free}
 use Rattle.clap.specs.declared.parser.matches.Found.{Found}
 use Rattle.clap.proofs.FaultLemmas.{leaf_fault}
-use Rattle.clap.proofs.WalkLemmas.{first_value-rows}
+use Rattle.clap.proofs.WalkLemmas.{first_value-rows, one_text-rows}
 use Rattle.ptg_words.specs.declared.options.Options.{Options}
 use Rattle.ptg_words.specs.declared.options.Options.TheVariants.{NoOptions, Counts, CountsAndPreload}
 use Rattle.ptg_words.specs.Parts.{NumberOption, Part, name_of, workers, shards, operands, texts_of, is_preload, is_lacking, is_stray, has_twice, parts}
@@ -23,7 +23,7 @@ use Rattle.ptg_words.proofs.ClapViews.{view, option_view}
 use Rattle.ptg_words.proofs.PartsOfUses.{Apart, NoneIs, fresh_once, free_at, good_is, value_in, operand_at, all_there, all_values, number_option_value, preload_value}
 use Rattle.ptg_words.proofs.ClapEnd.{Fits, passes, level_passes, final_rows, settle_terms, seen, or_seen, seen_append, first_seen}
 use Rattle.ptg_words.proofs.ClapRules.{rules_from, filled_is, simple_new, simple_built, free_built, none_early, by_short, by_long, option_value, positions, quiet_rules, off_row, tail_of, finished, nothing_added, required}
-use Rattle.ptg_words.proofs.ValuesRead.{none_is, some_is, one_text-rows, counted}
+use Rattle.ptg_words.proofs.ValuesRead.{none_is, some_is, counted}
 use Rattle.std.specs.Cmp.{first_so}
 use Rattle.std.proofs.lemmas.Bool.{not-true, and_parts}
 
@@ -31,13 +31,6 @@ pub simple_first : (a : App) → is_simple_and_free a ≡ true → is_simple a �
 simple_first a h = first_so _ _ h
 
 -- ---- ids
-
-other_way : (a b : Text) → bytes_eq a b ≡ false → bytes_eq b a ≡ false
-other_way a b e = go (bytes_eq b a) refl
-  where
-    go : (c : Bool) → bytes_eq b a ≡ c → bytes_eq b a ≡ false
-    go false h = h
-    go true h = let again : bytes_eq a b ≡ true = (bytes_eq-Decides a b).1 (sym ((bytes_eq-Decides b a).0 h)) in let bad : false ≡ true = sym e ∙ again in absurd cc
 
 pub apart_ids : (ids : List Text) → are_ids ids ≡ true → Apart ids
 apart_ids [] h = tt
@@ -49,11 +42,11 @@ apart_ids (i ∷ is) h =
     let of_workers = not-true _ free.0 in
     let of_shards = not-true _ frees.0 in
     let of_preload = not-true _ frees.1 in
-    (own of_workers of_shards, of_preload, other_way (codes "preload") i of_preload, not-true _ rest.0, apart_ids is rest.1)
+    (own of_workers of_shards, of_preload, bytes_eq-sym_false (codes "preload") i of_preload, not-true _ rest.0, apart_ids is rest.1)
   where
     own : bytes_eq (codes "workers") i ≡ false → bytes_eq (codes "shards") i ≡ false → (s : NumberOption) → (bytes_eq (name_of s) i ≡ false) × (bytes_eq i (name_of s) ≡ false)
-    own w k workers = (w, other_way (codes "workers") i w)
-    own w k shards = (k, other_way (codes "shards") i k)
+    own w k workers = (w, bytes_eq-sym_false (codes "workers") i w)
+    own w k shards = (k, bytes_eq-sym_false (codes "shards") i k)
 
 no_id : (s : NumberOption) (ids : List Text) → Apart ids → NoneIs (name_of s) ids
 no_id s [] a = tt

@@ -18,7 +18,8 @@ use Rattle.ptg_words.specs.Commands.{operand_rule, option_rules}
 use Rattle.ptg_words.proofs.ClapUses.{value_rule, preload_rule, number_option_rule, other_head}
 use Rattle.ptg_words.proofs.ClapStates.{IsValue, Positions}
 use Rattle.ptg_words.proofs.ClapViews.{long_rule}
-use Rattle.ptg_words.proofs.PartsOfUses.{Apart, same}
+use Rattle.ptg_words.proofs.PartsOfUses.{Apart}
+use Rattle.list_lemmas.proofs.Texts.{bytes_eq-self}
 use Rattle.ptg_words.proofs.ClapEnd.{Quiet, seen, value_default, value_kept, preload_default}
 use Rattle.list_lemmas.proofs.Truth.{or-false}
 use Rattle.std.proofs.lemmas.Bool.{or_parts}
@@ -136,7 +137,7 @@ pub positions_from : (c : List Rule) (n : ℕ) (ids : List Text) (o : Options) �
 positions_from c n [] o h by found a = by n (omega arith) ∙ no_option_index o n
 positions_from c n (i ∷ is) o h by found a = (
   by n (omega arith) ∙ rw (itself n) refl,
-  record { long = None; index = Some n; required = true; found = found.0 ∙ rw (same i) refl },
+  record { long = None; index = Some n; required = true; found = found.0 ∙ rw (bytes_eq-self i) refl },
   counted_here n is i h,
   positions_from c (n + 1) is o (omega (arith, h)) (λ k le. by k (omega (arith, le)) ∙ rw (below n k le) refl) (still_same c (rules_from (n + 1) is o) i n is found.1 a.3) a.4,
 )

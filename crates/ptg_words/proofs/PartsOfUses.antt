@@ -1,7 +1,7 @@
 -- What clap keeps of the words says the same as their parts: each option occurs once, and the positionals are the
 -- operands.
 use Rattle.std.proofs.Common.{◌≡◌, ℕ, zero, suc, Bool, true, false, not, cond, ◌&&◌, ◌||◌, List, [], ◌∷◌, ◌++◌, length, map, Option, Some, None, is_some, refl, sym, ap, ◌∙◌, subst, arith, codes}
-use Rattle.std.specs.Prelude.{find, option_map, slice_get, nat_le, ◌==◌}
+use Rattle.std.specs.Prelude.{find, option_map, slice_get, nat_le}
 use Rattle.std.specs.List.{list_any, list_all}
 use Rattle.std.specs.Str.{bytes_eq}
 use Rattle.clap.specs.Walk.{Row, Text, has_row}
@@ -10,6 +10,7 @@ use Rattle.std.proofs.lemmas.Bool.Decides.{nat_tests}
 use Rattle.ptg_words.proofs.ClapUses.{Use, use_row, fresh}
 use Rattle.ptg_words.proofs.ClapStates.{good, uses}
 use Rattle.list_lemmas.proofs.Truth.{second_false, first_false, or-false}
+use Rattle.list_lemmas.proofs.Texts.{bytes_eq-self}
 
 -- no id occurs twice
 abbrev pub distinct : List Use → Bool
@@ -123,10 +124,6 @@ fresh_once ids ps a g = fresh_first (uses ids ps) ∙ distinct_is ids ps a g
 abbrev pub value_in : Text → List Use → Option Text
 value_in id us = option_map (λ u. u.1) (find (λ u. bytes_eq u.0 id) us)
 
-pub same : (i : Text) → bytes_eq i i ≡ true
-same [] = refl
-same (b ∷ bs) = let here : (b == b) ≡ true = grind (arith, nat_tests) in rw (here, same bs)
-
 -- the ids of positionals have no name of an option at any place
 pub free_at : (ids : List Text) (k : ℕ) (id : Text) → Apart ids → slice_get ids k ≡ Some id → ((s : NumberOption) → bytes_eq (name_of s) id ≡ false) × (bytes_eq (codes "preload") id ≡ false)
 free_at [] k id a e = absurd cc
@@ -142,7 +139,7 @@ differs_at i (j ∷ js) (suc k) id d e = differs_at i js k id (second_false (byt
 pub operand_at : (ids : List Text) (ps : List Part) (k : ℕ) (id : Text) → Apart ids → slice_get ids k ≡ Some id → value_in id (uses ids ps) ≡ slice_get (operands ps) k
 operand_at ids [] k id a e = refl
 operand_at [] (operand w ∷ ps) k id a e = absurd cc
-operand_at (i ∷ is) (operand w ∷ ps) zero id a e = let here : i ≡ id = cc in rw (ap (bytes_eq i) (sym here) ∙ same i) refl
+operand_at (i ∷ is) (operand w ∷ ps) zero id a e = let here : i ≡ id = cc in rw (ap (bytes_eq i) (sym here) ∙ bytes_eq-self i) refl
 operand_at (i ∷ is) (operand w ∷ ps) (suc k) id a e = rw (differs_at i is k id a.3 e) (operand_at is ps k id a.4 e)
 operand_at ids (given s t ∷ ps) k id a e = rw ((free_at ids k id a e).0 s) (operand_at ids ps k id a e)
 operand_at ids (lacking s ∷ ps) k id a e = operand_at ids ps k id a e

@@ -1,17 +1,11 @@
 -- From clap's clauses to what the parts of the words give.
-use Rattle.std.proofs.Common.{◌≡◌, ◌≢◌, ℕ, Bool, true, false, not, cond, ◌&&◌, List, [], ◌∷◌, map, length, Option, Some, None, refl, sym, ap, ◌∙◌, arith}
-use Rattle.std.specs.Prelude.{option_map, option_and_then, slice_get, ◌==◌, find}
+use Rattle.std.proofs.Common.{◌≡◌, ◌≢◌, ℕ, Bool, true, false, not, ◌&&◌, List, [], ◌∷◌, length, Option, Some, None, refl, sym, ap, ◌∙◌, arith}
+use Rattle.std.specs.Prelude.{option_map, slice_get, ◌==◌}
 use Rattle.std.specs.List.{list_any}
-use Rattle.std.specs.Str.{bytes_eq}
 use Rattle.std.specs.Borrow.{Bor}
 use Rattle.std.proofs.lemmas.Bool.Decides.{nat_tests}
-use Rattle.clap.specs.Walk.{Row, Text, one_of, row_of, row_text, rows_of}
-use Rattle.clap.specs.Values.{read_as}
-use Rattle.clap.specs.Matches.{one_text}
-use Rattle.clap.specs.Facts.{Entry}
+use Rattle.clap.specs.Walk.{Text}
 use Rattle.clap.specs.Kinds.{Kinds}
-use Rattle.clap.specs.declared.parser.matches.Found.{Found}
-use Rattle.clap.specs.declared.parser.matches.MatchedArg.{MatchedArg}
 use Rattle.ptg_words.specs.Parts.{NumberOption, Part, name_of, workers, shards, operand, given, lacking, preload, stray, operands, texts_of, is_lacking, is_stray, is_named, has_twice}
 use Rattle.ptg_words.specs.Readings.{is_read, texts_in}
 use Rattle.ptg_words.proofs.ClapUses.{none}
@@ -25,27 +19,6 @@ pub some_is : (k : Kinds) → k ≢ [] → none k ≡ false
 unfolding none
 some_is [] h = absurd (h refl)
 some_is (k ∷ ks) h = refl
-
--- the flag that clap reads is in the rows
-pub one_text-rows : (f : Found) (id : Text) → one_text f id ≡ one_of id (rows_of f)
-one_text-rows f id = go f.entries.items
-  where
-    first : (xs : List (Bor Text)) (read : Text → Text) → option_map (λ s. read s.now) (slice_get xs 0) ≡ option_map read (slice_get (map (λ s. s.now) xs) 0)
-    first [] read = refl
-    first (x ∷ xs) read = refl
-
-    go : (xs : List Entry) → option_and_then (λ (a : MatchedArg). option_map (λ s. read_as a.reading s.now) (slice_get a.vals.items 0)) (option_map (λ (e : Entry). e.1) (find (λ (e : Entry). bytes_eq e.0.now id) xs))
-        ≡ option_and_then row_text (find (λ (r : Row). bytes_eq r.id id) (map row_of xs))
-    go [] = refl
-    go (x ∷ xs) = here (bytes_eq x.0.now id) (go xs)
-      where
-        here : (b : Bool)
-            → option_and_then (λ (a : MatchedArg). option_map (λ s. read_as a.reading s.now) (slice_get a.vals.items 0)) (option_map (λ (e : Entry). e.1) (find (λ (e : Entry). bytes_eq e.0.now id) xs))
-            ≡ option_and_then row_text (find (λ (r : Row). bytes_eq r.id id) (map row_of xs))
-            → option_and_then (λ (a : MatchedArg). option_map (λ s. read_as a.reading s.now) (slice_get a.vals.items 0)) (option_map (λ (e : Entry). e.1) (cond b (Some x) (find (λ (e : Entry). bytes_eq e.0.now id) xs)))
-            ≡ option_and_then row_text (cond b (Some (row_of x)) (find (λ (r : Row). bytes_eq r.id id) (map row_of xs)))
-        here true e = first x.1.vals.items (read_as x.1.reading)
-        here false e = e
 
 -- ---- lists of as many texts as wanted
 

@@ -1,5 +1,5 @@
 -- No list of locals and no task of a class occurs twice, and parameters determine locals.
-use Rattle.std.proofs.Common.{◌≡◌, ℕ, zero, suc, ℤ, pos, negsuc, ◌+ℤ◌, true, List, [], ◌∷◌, ◌++◌, length, map, refl, ap, sym, ◌∙◌, zero-add, Some, None, IsSome, Result, Ok, Err, inl, inr, Option, arith}
+use Rattle.std.proofs.Common.{◌≡◌, ℕ, zero, suc, ℤ, pos, negsuc, ◌+ℤ◌, true, List, [], ◌∷◌, ◌++◌, length, refl, ap, sym, ◌∙◌, zero-add, Some, None, IsSome, Result, Ok, Err, inl, inr, Option, arith}
 use Rattle.std.proofs.lemmas.Int.{ints}
 use Rattle.ptg_base.specs.Lists.{IsIn, HasNoRepeats}
 use Rattle.ptg_base.specs.Returns.{and_then}
@@ -18,17 +18,8 @@ use Rattle.range_space.proofs.Members.{on_way}
 use Rattle.range_space.proofs.MemberLists.{locals_from_full, IsSome-param_value, all_agree, agreement_from_params, arity_of_task}
 use Rattle.list_lemmas.proofs.Truth.{by_test}
 use Rattle.std.specs.Cmp.{first_so, second_so}
-use Rattle.list_lemmas.proofs.Members.{from_map, IsIn-map}
-use Rattle.list_lemmas.proofs.Distinct.{HasNoRepeats-flat_map}
-
-HasNoRepeats-map : {A B : Type 0} (f : A → B) (xs : List A) → HasNoRepeats xs → ((x y : A) → IsIn x xs → IsIn y xs → f x ≡ f y → x ≡ y) → HasNoRepeats (map f xs)
-HasNoRepeats-map f [] w one = tt
-HasNoRepeats-map f (x ∷ xs) w one = (
-  λ t. let p = from_map f xs (f x) t in
-      let same = one x p.0 (inl refl) (inr p.1) p.2 in
-      w.0 (rw same p.1),
-  HasNoRepeats-map f xs w.1 (λ y z h k e. one y z (inr h) (inr k) e),
-)
+use Rattle.list_lemmas.proofs.Members.{IsIn-map}
+use Rattle.list_lemmas.proofs.Distinct.{HasNoRepeats-flat_map, HasNoRepeats-map_members}
 
 -- a step leads away from a value
 not_back : (step v : ℤ) → is_within v step (v +ℤ step) ≡ true → ⊥
@@ -122,5 +113,5 @@ module _ (s : ClassSpace) (well : IsWellSpace s) (params : List ℤ) where
 -- no task occurs twice
 pub distinct_tasks : (s : ClassSpace) → IsWellSpace s → HasNoRepeats (tasks s)
 distinct_tasks s well =
-    HasNoRepeats-map (params_of s.params) (all_locals s) (distinct_lists s.defs []) (λ k l h i e.
+    HasNoRepeats-map_members (params_of s.params) (all_locals s) (distinct_lists s.defs []) (λ k l h i e.
     one_locals s well (params_of s.params k) k l (record { full = h; same_params = refl }) (record { full = i; same_params = sym e }))

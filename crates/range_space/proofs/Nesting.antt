@@ -1,6 +1,6 @@
 -- How the full lists of an iteration space go on from one to the next.
 use Rattle.std.proofs.Common.{◌≡◌, ℕ, suc, ◌+◌, ◌<◌, ℤ, pos, ◌+ℤ◌, List, [], ◌∷◌, ◌++◌, length, take, drop, get_or, refl, ap, sym, ◌∙◌, append_assoc, add-one, Option, Some, None, Result, Ok, Err, MatchOption, arith}
-use Rattle.std.proofs.lemmas.List.{append-nil, take_more}
+use Rattle.std.proofs.lemmas.List.{append-nil, take_more, same_from_push}
 use Rattle.std.proofs.lemmas.Int.{ints}
 use Rattle.std.proofs.Math.Seq.{drop-cons}
 use Rattle.ptg_base.specs.Returns.{and_then}
@@ -47,15 +47,6 @@ values-uncons at hi step x xs e =
     (λ h. let f = sym e ∙ values_in hi step at h in (cc, cc))
     (λ h. let f = sym e ∙ values_past hi step at h in absurd cc)
 
--- one list has one front and one last element
-pub unsnoc : {A : Type 0} (xs ys : List A) (v w : A) → xs ++ v ∷ [] ≡ ys ++ w ∷ [] → (ys ≡ xs) × (w ≡ v)
-unsnoc [] [] v w e = (refl, cc)
-unsnoc [] (y ∷ []) v w e = absurd cc
-unsnoc [] (y ∷ z ∷ ys) v w e = absurd cc
-unsnoc (x ∷ []) [] v w e = absurd cc
-unsnoc (x ∷ z ∷ xs) [] v w e = absurd cc
-unsnoc (x ∷ xs) (y ∷ ys) v w e = let u = unsnoc xs ys v w cc in let h : x ≡ y = cc in (cc, u.1)
-
 not_empty : {A : Type 0} (xs : List A) (v : A) → xs ++ v ∷ [] ≡ [] → ⊥
 not_empty [] v e = absurd cc
 not_empty (x ∷ xs) v e = absurd cc
@@ -63,7 +54,7 @@ not_empty (x ∷ xs) v e = absurd cc
 -- what taking the last element away leaves
 pub popped : {A : Type 0} (r : Option A) (xs ys : List A) (v : A) → MatchOption r ((xs ++ v ∷ [] ≡ []) × (ys ≡ [])) (λ w. xs ++ v ∷ [] ≡ ys ++ w ∷ []) → ys ≡ xs
 popped None xs ys v h = absurd (not_empty xs v h.0)
-popped (Some w) xs ys v h = (unsnoc xs ys v w h).0
+popped (Some w) xs ys v h = (same_from_push ys xs w v (sym h)).0
 
 module _ (r : Range) (ds : List Def) (outer now : List ℤ) (b : Bounds) (e : bounds r outer ≡ Ok b) where
   full-among : full_lists (Span r ∷ ds) outer ≡ lists_over ds outer (values b.lo b.hi b.step)

@@ -10,7 +10,7 @@ use Rattle.plan_core.specs.declared.plan.Plan.{Plan}
 use Rattle.coll_data.specs.Data.{Data}
 use Rattle.list_lemmas.proofs.Members.{from_map}
 use Rattle.list_lemmas.proofs.Truth.{by_test}
-use Rattle.list_lemmas.proofs.Counts.{count-some, some_passes, weigh-append, same_counts, length-filter, weigh-same, weigh-zero}
+use Rattle.list_lemmas.proofs.Counts.{count-some, some_passes, same_counts, length-filter, weigh-same, weigh-zero, count-once, weigh-flat_map}
 use Rattle.list_lemmas.proofs.Distinct.{HasNoRepeats-flat_map, HasNoRepeats-map}
 use Rattle.list_lemmas.proofs.Tasks.{distinct_once}
 use Rattle.dep_iter.specs.Consistent.{IsConsistent, all_in, all_out}
@@ -40,11 +40,7 @@ module _ {A : Type 0} (same : A → A → Bool) (decides : (a b : A) → IsTrue 
   ]
 
   one_at_most : (xs : List A) → HasNoRepeats xs → (x : A) → count (same x) xs ≤ 1
-  one_at_most [] h x = omega arith
-  one_at_most (y ∷ ys) h x =
-      by_test (same x y)
-      (λ k. omega (arith, ap as_number k, none_of ys x (λ i. h.0 (subst (λ z. IsIn z ys) ((decides x y).0 k) i))))
-      (λ k. omega (arith, ap as_number k, one_at_most ys h.1 x))
+  one_at_most xs h x = count-once same (λ a b k. (decides a b).0 k) xs h x
 
   there : (xs : List A) (x : A) → IsIn x xs → 1 ≤ count (same x) xs
   there xs x i = omega (arith, count-some (same x) xs x i ((decides x x).1 refl))
@@ -58,14 +54,10 @@ module _ {A : Type 0} (same : A → A → Bool) (decides : (a b : A) → IsTrue 
         omega (arith, one_at_most xs h x, one_at_most ys k x, there xs x i, there ys x ((iff x).0 i))
   ])
 
--- lengths and counts as weights
+-- lengths as weights
 length-joined : {A B : Type 0} (f : A → List B) (xs : List A) → length (flat_map f xs) ≡ weigh (λ x. length (f x)) xs
 length-joined f [] = refl
 length-joined f (x ∷ xs) = omega (arith, length-joined f xs, length-append (f x) (flat_map f xs))
-
-count-joined : {A B : Type 0} (p : B → Bool) (f : A → List B) (xs : List A) → weigh (λ x. count p (f x)) xs ≡ count p (flat_map f xs)
-count-joined p f [] = refl
-count-joined p f (x ∷ xs) = omega (arith, count-joined p f xs, weigh-append (λ y. as_number (p y)) (f x) (flat_map f xs))
 
 weigh-filter : {A : Type 0} (g : A → ℕ) (test : A → Bool) → ((x : A) → test x ≡ false → g x ≡ 0) → (xs : List A) → weigh g (filter test xs) ≡ weigh g xs
 weigh-filter g test none [] = refl
@@ -107,7 +99,7 @@ module _ (P : Plan) (G : Data) (r : ℕ) where
         ∙ claims_members P G con w.machine sound.state ((quiet_iff P G con r w sound).0 quiet) (λ t. length (messages_by P r t (ended P G t)))
         ∙ weigh-filter (λ t. length (messages_by P r t (ended P G t))) (λ t. is_some (ended P G t)) (λ t h. ap length (messages_without P r t (ended P G t) (no_end (ended P G t) h))) (all_tasks P)
         ∙ weigh-same (λ t. count counts (out_edges P t)) (λ t. length (messages_by P r t (ended P G t))) (all_tasks P) (λ t h. by_task t)
-        ∙ count-joined counts (out_edges P) (all_tasks P)
+        ∙ sym (weigh-flat_map (λ (e : Edge). as_number (counts e)) (out_edges P) (all_tasks P))
         ∙ same_members same_edge same_edge-decides (all_out P) (all_in P) con.no_out_edge_twice con.no_in_edge_twice (λ e. let iff = con.same_edges e in (iff.1, iff.0)) (λ e. as_number (counts e))
 
     from_of : (t : Task) (m : Message) → IsIn m (messages_by P r t (ended P G t)) → m.edge.from ≡ t

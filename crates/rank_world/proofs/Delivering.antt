@@ -1,6 +1,7 @@
 -- What a delivery changes: the rank of the edge's target, and the mail.
 use Rattle.std.proofs.Common.{◌≡◌, ◌≢◌, ◌+◌, nat_eq, ℕ, zero, suc, true, false, cond, List, [], ◌∷◌, ◌++◌, map, refl, ap, sym, ◌∙◌, subst, Option, Some, None, IfSome, slice_get, arith}
 use Rattle.std.proofs.lemmas.Bool.{false≢true, lt-ltb}
+use Rattle.std.proofs.lemmas.Option.{slice_get-map}
 use Rattle.std.specs.Cmp.{unsigned_Decides}
 use Rattle.std.specs.Map.{lookup}
 use Rattle.std.specs.Option.{option_map_or}
@@ -74,9 +75,7 @@ one_index {A} (y ∷ ys) h (suc n) zero x a b = absurd (h.0 (subst (λ z. IsIn z
 one_index (y ∷ ys) h (suc n) (suc q) x a b = ap suc (one_index ys h.1 n q x a b)
 
 mapped_at : {A B : Type 0} (f : A → B) (xs : List A) (n : ℕ) (x : A) → slice_get xs n ≡ Some x → slice_get (map f xs) n ≡ Some (f x)
-mapped_at f [] n x e = absurd cc
-mapped_at f (y ∷ ys) zero x e = ap (λ o. option_map f o) e
-mapped_at f (y ∷ ys) (suc n) x e = mapped_at f ys n x e
+mapped_at f xs n x e = slice_get-map f xs n ∙ ap (λ o. option_map f o) e
 
 module _ (P : Plan) (G : Data) (con : IsConsistent P) (r : ℕ) (w : WorldState) (sound : IsSoundWorld P G r w) (n : ℕ) (m : Message) (is : slice_get w.messages n ≡ Some m) where
   among : IsIn m w.messages

@@ -1,5 +1,5 @@
 -- What each call keeps of a world.
-use Rattle.std.proofs.Common.{◌≡◌, ◌<◌, ◌≤◌, nat_eq, ℕ, List, [], length, refl, ap, sym, ◌∙◌, subst, inl, inr, Option, Some, None, IfSome, IfNone, cond, false, slice_get, arith}
+use Rattle.std.proofs.Common.{◌≡◌, ◌<◌, ◌≤◌, nat_eq, ℕ, List, [], length, refl, ap, sym, ◌∙◌, subst, inl, inr, Option, Some, None, IfNone, cond, false, slice_get, arith}
 use Rattle.std.proofs.lemmas.Bool.{cases_eq}
 use Rattle.std.specs.Map.{lookup}
 use Rattle.ptg_base.specs.Task.{Task}
@@ -30,11 +30,7 @@ use Rattle.shard_meaning.proofs.Placing.{shard_below}
 use Rattle.rank_world.proofs.Keeping.{opening_mail, opening_shares, ready_at}
 use Rattle.list_lemmas.proofs.Places.{slice_get_there}
 
--- what follows where an `IfSome` or an `IfNone` holds
-pub if_some : {A : Type 0} {Q R : A → Type 0} (o : Option A) → ((x : A) → Q x → R x) → IfSome o Q → IfSome o R
-if_some None f h = h
-if_some (Some x) f h = f x h
-
+-- what follows where an `IfNone` holds
 pub if_none : {A Q R : Type 0} (o : Option A) → (Q → R) → IfNone o Q → IfNone o R
 if_none None f h = f h
 if_none (Some x) f h = h

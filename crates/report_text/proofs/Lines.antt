@@ -1,16 +1,15 @@
 -- The parts of a line, in the order in which they are put.
 use lib.Signed.{le_z}
 use Rattle.std.proofs.lemmas.Int.{ints}
-use Rattle.std.proofs.Common.{◌≡◌, ℕ, ℤ, pos, negsuc, nat_abs, false, List, [], ◌∷◌, ◌++◌, map, flat_map, sym, ap, ◌∙◌, refl, append_assoc, arith}
+use Rattle.std.proofs.Common.{◌≡◌, ℕ, ℤ, pos, negsuc, nat_abs, false, List, [], ◌∷◌, ◌++◌, map, flat_map, sym, ap, ◌∙◌, refl, append_assoc, arith, append-nil}
 use Rattle.std.specs.List.{join_with_byte}
 use Rattle.std.specs.Fmt.{decimal, signed_decimal}
 use Rattle.std.proofs.lemmas.List.Concat.{flat_map-append}
 use Rattle.report_text.specs.declared.fields.Field.{Field}
 use Rattle.report_text.specs.Field.{field_texts, line, with_commas}
-use Rattle.report_text.proofs.Putting.{append_nil}
 
 joined : (word : List ℕ) (texts : List (List ℕ)) → join_with_byte 44 (word ∷ texts) ≡ word ++ with_commas texts
-joined word [] = sym (append_nil word)
+joined word [] = sym (append-nil word)
 joined word (text ∷ texts) = ap (λ t. word ++ 44 ∷ t) (joined text texts)
 
 -- the texts of fields, field by field
@@ -29,7 +28,7 @@ line_parts word fields =
 
 -- one text
 pub one_text : (text : List ℕ) → with_commas (text ∷ []) ≡ 44 ∷ text
-one_text text = append_nil (44 ∷ text)
+one_text text = append-nil (44 ∷ text)
 
 -- integers
 pub integer_texts : (integers : List ℤ) → with_commas (map signed_decimal integers) ≡ flat_map (λ n. 44 ∷ signed_decimal n) integers

@@ -3,15 +3,13 @@ use Rattle.std.specs.Prelude.{IsErr}
 use Rattle.std.proofs.Common.{◌≡◌, ℕ, ◌+◌, ◌<◌, ◌≤◌, List, [], ◌∷◌, ◌++◌, length, get_or, take, drop, flat_map, Option, Result, sym, ap, ◌∙◌, refl}
 use Rattle.std.proofs.lemmas.List.{take_more, take_all, take-append-drop}
 use Rattle.std.proofs.lemmas.List.Concat.{flat_map-append}
+use Rattle.list_lemmas.proofs.Joins.{flat_map_push}
 use Rattle.ptg_io.specs.declared.files.Failed.{Failed}
 use Rattle.report_text.specs.Puts.{Puts}
-use Rattle.report_text.proofs.Putting.{HasPut, HasFailed, append_nil, puts_then, puts_cut}
+use Rattle.report_text.proofs.Putting.{HasPut, HasFailed, puts_then, puts_cut}
 
 each_more : {X : Type 0} (f : X → List ℕ) (xs : List X) (i : ℕ) (d : X) → i < length xs → flat_map f (take (i + 1) xs) ≡ flat_map f (take i xs) ++ f (get_or xs i d)
-each_more f xs i d within =
-    ap (λ ys. flat_map f ys) (take_more xs i d within)
-    ∙ flat_map-append f (take i xs) (get_or xs i d ∷ [])
-    ∙ ap (λ t. flat_map f (take i xs) ++ t) (append_nil (f (get_or xs i d)))
+each_more f xs i d within = ap (λ ys. flat_map f ys) (take_more xs i d within) ∙ flat_map_push f (take i xs) (get_or xs i d)
 
 each_split : {X : Type 0} (f : X → List ℕ) (xs : List X) (i : ℕ) (d : X) → i < length xs → flat_map f xs ≡ (flat_map f (take i xs) ++ f (get_or xs i d)) ++ flat_map f (drop (i + 1) xs)
 each_split f xs i d within =

@@ -1,12 +1,12 @@
 -- The rows of an answer are of its plan: of its classes, and of their words.
-use Rattle.std.proofs.Common.{◌≡◌, ℕ, zero, suc, Bool, true, false, ◌==◌, nat_lt, if◌then◌else◌, List, [], ◌∷◌, ◌⊎◌, inl, inr, Option, Some, None, Ok, Err, refl, ap, sym, ◌∙◌, subst, length, slice_get}
+use Rattle.std.proofs.Common.{◌≡◌, ℕ, zero, suc, Bool, true, false, ◌==◌, nat_lt, if◌then◌else◌, List, [], ◌∷◌, inl, inr, Option, Some, None, Ok, Err, refl, ap, sym, ◌∙◌, subst, length, slice_get}
 use Rattle.std.proofs.lemmas.Option.{slice_get_within, same_Some}
 use Rattle.std.specs.Prelude.{All, option_map}
 use Rattle.std.specs.Option.{option_map_or}
 use Rattle.std.specs.List.{flat_map}
 use Rattle.ptg_base.specs.Lists.{IsIn}
 use Rattle.ptg_base.specs.Task.{Task}
-use Rattle.ptg_base.specs.TaskOrder.{in_task_order, insert_by, task_before}
+use Rattle.ptg_base.specs.TaskOrder.{in_task_order}
 use Rattle.term_core.specs.declared.trap.Trap.{Trap}
 use Rattle.term_core.specs.declared.trap.Trap.TheVariants.{Overflow, Divide, Index, Absent, Budget, Word}
 use Rattle.plan_core.specs.declared.class.ClassPlan.{ClassPlan}
@@ -17,6 +17,7 @@ use Rattle.body_eval.specs.Meaning.{body_meaning}
 use Rattle.dep_iter.specs.Tasks.{IsTask, all_tasks, locals_of}
 use Rattle.dep_iter.proofs.Listing.{listed}
 use Rattle.list_lemmas.proofs.Members.{from_flat_map, All-from_members}
+use Rattle.list_lemmas.proofs.Tasks.{from_insert}
 use Rattle.flow_meaning.specs.declared.outcome.TrapRow.{TrapRow}
 use Rattle.flow_meaning.specs.declared.outcome.WaitRow.{WaitRow}
 use Rattle.flow_meaning.specs.Starting.{Delivery, starting_tiles}
@@ -30,23 +31,10 @@ use Rattle.report_text.specs.Rows.{HasClass, HasRowsOf, HasWord, IsTrapOf, trap_
 use Rattle.report_text.proofs.TrapWords.{Allows, IsAllowed, allows-body}
 
 module _ {A : Type 0} (key : A → Task) where
-  in_choice : (b : Bool) (p q : List A) (x : A) → IsIn x (if b then p else q) → IsIn x p ⊎ IsIn x q
-  in_choice true p q x i = inl i
-  in_choice false p q x i = inr i
-
-  in_inserted : (y : A) (xs : List A) (x : A) → IsIn x (insert_by key y xs) → (x ≡ y) ⊎ IsIn x xs
-  in_inserted y [] x i = elim i [ inl e ↦ inl e | inr n ↦ absurd n ]
-  in_inserted y (z ∷ zs) x i = elim (in_choice (task_before (key z) (key y)) (z ∷ insert_by key y zs) (y ∷ z ∷ zs) x i) [
-    | inl (inl e) ↦ inr (inl e)
-    | inl (inr h) ↦ elim (in_inserted y zs x h) [ inl e ↦ inl e | inr t ↦ inr (inr t) ]
-    | inr (inl e) ↦ inl e
-    | inr (inr h) ↦ inr h
-  ]
-
   -- rows in task order are rows
   in_ordered : (xs : List A) (x : A) → IsIn x (in_task_order key xs) → IsIn x xs
   in_ordered [] x i = i
-  in_ordered (y ∷ ys) x i = elim (in_inserted y (in_task_order key ys) x i) [ inl e ↦ inl e | inr h ↦ inr (in_ordered ys x h) ]
+  in_ordered (y ∷ ys) x i = elim (from_insert key x y (in_task_order key ys) i) [ inl e ↦ inl e | inr h ↦ inr (in_ordered ys x h) ]
 
 -- the class of a task of the job is one of the plan's
 pub has_class : (P : Plan) (t : Task) → IsTask P t → HasClass P t

@@ -1,22 +1,18 @@
 -- Calls that put texts, one after another.
-use Rattle.std.proofs.Common.{◌≡◌, ℕ, ◌≤◌, List, [], ◌∷◌, ◌++◌, length, take, drop, Option, None, Some, Result, Ok, Err, sym, ap, subst, ◌∙◌, refl, arith, length-append, inl, inr}
+use Rattle.std.proofs.Common.{◌≡◌, ℕ, ◌≤◌, List, [], ◌++◌, length, take, drop, Option, None, Some, Result, Ok, Err, sym, ap, subst, ◌∙◌, refl, arith, length-append, inl, inr}
 use Rattle.std.specs.Prelude.{IsErr, OnOk, OnErr}
 use Rattle.std.proofs.Math.Seq.{take-append_seam}
 use Rattle.std.proofs.lemmas.Bool.{false≢true}
-use Rattle.std.proofs.lemmas.List.{append_cancel_left, take-append-drop}
+use Rattle.std.proofs.lemmas.List.{append-nil, append_cancel_left, take-append-drop}
 use Rattle.ptg_io.specs.Faults.{Rose}
 use Rattle.ptg_io.specs.Sink.{appended}
 use Rattle.ptg_io.specs.declared.files.Failed.{Failed}
 use Rattle.report_text.specs.Puts.{Precedes, Puts, HasPrefix}
 use Rattle.ptg_io.proofs.Pieces.{appended_twice}
 
-pub append_nil : (xs : List ℕ) → xs ++ [] ≡ xs
-append_nil [] = refl
-append_nil (x ∷ xs) = ap (λ ys. x ∷ ys) (append_nil xs)
-
 pub appended_nil : (old : Option (List ℕ)) → appended old [] ≡ old
 appended_nil None = refl
-appended_nil (Some bytes) = ap Some (append_nil bytes)
+appended_nil (Some bytes) = ap Some (append-nil bytes)
 
 pub precedes_through : (a b c : Option (List ℕ)) → Precedes a b → Precedes b c → Precedes a c
 precedes_through a b c first then =

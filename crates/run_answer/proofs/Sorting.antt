@@ -1,9 +1,8 @@
 -- A sort by tasks gives rows of different tasks in task order.
-use Rattle.std.proofs.Common.{◌≡◌, ℕ, zero, suc, ◌+◌, ◌<◌, ◌≤◌, Bool, true, false, not, cond, List, [], ◌∷◌, length, get_or, refl, ap, sym, ◌∙◌, subst, ◌⊎◌, inl, inr, arith}
+use Rattle.std.proofs.Common.{◌≡◌, ℕ, zero, suc, ◌+◌, ◌<◌, ◌≤◌, Bool, true, false, not, cond, List, [], ◌∷◌, length, get_or, refl, ap, sym, ◌∙◌, subst, inl, inr, arith}
 use Rattle.std.proofs.lemmas.Bool.{false≢true, and_parts, and_from, not-true}
 use Rattle.std.proofs.lemmas.List.Sorted.{answers_always, ranks_by, sorted_far, IsPermutation-sym, Contains-permutation, sum_by-IsPermutation}
-use Rattle.std.proofs.lemmas.List.Sums.{sum_by-cons}
-use Rattle.std.specs.List.{filter, sum_by}
+use Rattle.std.specs.List.{filter}
 use Rattle.std.specs.List.Sorted.{IsPermutation, IsSortedBy, IsSortedByClosure, ties}
 use Rattle.std.specs.Fn.{Called, ComparesAs}
 use Rattle.std.specs.declared.cmp.Ordering.{Ordering}
@@ -17,9 +16,13 @@ use Rattle.ptg_base.specs.Task.{Task}
 use Rattle.ptg_base.specs.TaskOrder.{in_task_order, insert_by, task_before}
 use Rattle.ptg_base.specs.TaskComparing.{same_task, task_cmp}
 use Rattle.ptg_base.specs.TaskLaws.{same_task-ties, task_before-cmp, task_cmp-total}
-use Rattle.list_lemmas.specs.Counting.{as_number, count, weigh}
+use Rattle.list_lemmas.specs.Counting.{as_number, count}
 use Rattle.run_answer.specs.Rows.{AreOfDifferentTasks}
 use Rattle.list_lemmas.proofs.Truth.{by_test}
+use Rattle.list_lemmas.proofs.Tasks.{from_insert, insert_here, insert_past}
+use Rattle.list_lemmas.proofs.Members.{IsIn-filter, from_filter}
+use Rattle.list_lemmas.proofs.Places.{index_of_member}
+use Rattle.list_lemmas.proofs.Counts.{weigh-sum}
 
 module _ {A : Type 0} (key : A → Task) where
   -- whether the task of one row is before that of another
@@ -48,19 +51,6 @@ module _ {A : Type 0} (key : A → Task) where
   IsUp [] = Unit {0}
   IsUp (x ∷ xs) = ((y : A) → IsIn y xs → lt y x ≡ false) × IsUp xs
 
-  in_at : (y : A) (xs : List A) → IsIn y xs → (k : ℕ) × (k < length xs) × ((d : A) → get_or xs k d ≡ y)
-  in_at y [] i = absurd i
-  in_at y (x ∷ xs) i = elim i [
-    | inl e ↦ (0, omega arith, λ d. sym e)
-    | inr t ↦ let p = in_at y xs t in (suc p.0, omega (arith, p.1), λ d. p.2 d)
-  ]
-
-  past : (x y : A) (ys : List A) → lt y x ≡ true → insert_by key x (y ∷ ys) ≡ y ∷ insert_by key x ys
-  past x y ys h = ap (λ b. cond b (y ∷ insert_by key x ys) (x ∷ y ∷ ys)) h
-
-  here : (x y : A) (ys : List A) → lt y x ≡ false → insert_by key x (y ∷ ys) ≡ x ∷ y ∷ ys
-  here x y ys h = ap (λ b. cond b (y ∷ insert_by key x ys) (x ∷ y ∷ ys)) h
-
   -- an inserted row comes after none that ties with it
   either_way : (x y : A) (l : List A) (a b : Bool) → (a ≡ true → b ≡ true → ⊥) → cond b (y ∷ cond a (x ∷ l) l) (cond a (x ∷ l) l) ≡ cond a (x ∷ cond b (y ∷ l) l) (cond b (y ∷ l) l)
   either_way x y l true true apart = absurd (apart refl refl)
@@ -74,45 +64,34 @@ module _ {A : Type 0} (key : A → Task) where
       by_test (lt y x)
       (λ h.
       let apart : ties lt w x ≡ true → ties lt w y ≡ true → ⊥ = λ a b. false≢true (sym (weak_order.chain y w x (tie_right w y b) (tie_left w x a)) ∙ h) in
-      ap (filter (ties lt w)) (past x y ys h) ∙ ap (λ l. cond (ties lt w y) (y ∷ l) l) (insert_kept w x ys)
+      ap (filter (ties lt w)) (insert_past key x y ys h) ∙ ap (λ l. cond (ties lt w y) (y ∷ l) l) (insert_kept w x ys)
       ∙ either_way x y (filter (ties lt w) ys) (ties lt w x) (ties lt w y) apart)
-      (λ h. ap (filter (ties lt w)) (here x y ys h))
+      (λ h. ap (filter (ties lt w)) (insert_here key x y ys h))
 
   order_kept : (w : A) (xs : List A) → filter (ties lt w) (in_task_order key xs) ≡ filter (ties lt w) xs
   order_kept w [] = refl
   order_kept w (x ∷ xs) = insert_kept w x (in_task_order key xs) ∙ ap (λ l. cond (ties lt w x) (x ∷ l) l) (order_kept w xs)
-
-  in_insert : (w x : A) (l : List A) → IsIn w (insert_by key x l) → (w ≡ x) ⊎ IsIn w l
-  in_insert w x [] i = i
-  in_insert w x (y ∷ ys) i =
-      by_test (lt y x)
-      (λ h. elim (subst (IsIn w) (past x y ys h) i) [ inl e ↦ inr (inl e) | inr t ↦ elim (in_insert w x ys t) [ inl e ↦ inl e | inr k ↦ inr (inr k) ] ])
-      (λ h. subst (IsIn w) (here x y ys h) i)
 
   up_insert : (x : A) (l : List A) → IsUp l → IsUp (insert_by key x l)
   up_insert x [] up = (λ y i. absurd i, tt)
   up_insert x (y ∷ ys) up =
       by_test (lt y x)
       (λ h.
-      let first : (w : A) → IsIn w (insert_by key x ys) → lt w y ≡ false = λ w i. elim (in_insert w x ys i) [ inl e ↦ subst (λ v. lt v y ≡ false) (sym e) (weak_order.one_way y x h) | inr t ↦ up.0 w t ] in
+      let first : (w : A) → IsIn w (insert_by key x ys) → lt w y ≡ false = λ w i. elim (from_insert key w x ys i) [ inl e ↦ subst (λ v. lt v y ≡ false) (sym e) (weak_order.one_way y x h) | inr t ↦ up.0 w t ] in
       let all : IsUp (y ∷ insert_by key x ys) = (first, up_insert x ys up.1) in
-      subst IsUp (sym (past x y ys h)) all)
+      subst IsUp (sym (insert_past key x y ys h)) all)
       (λ h.
       let first : (w : A) → IsIn w (y ∷ ys) → lt w x ≡ false = λ w i. elim i [ inl e ↦ subst (λ v. lt v x ≡ false) (sym e) h | inr t ↦ weak_order.chain w y x (up.0 w t) h ] in
       let all : IsUp (x ∷ y ∷ ys) = (first, up) in
-      subst IsUp (sym (here x y ys h)) all)
+      subst IsUp (sym (insert_here key x y ys h)) all)
 
   up_order : (xs : List A) → IsUp (in_task_order key xs)
   up_order [] = tt
   up_order (x ∷ xs) = up_insert x (in_task_order key xs) (up_order xs)
 
-  -- the first of those that pass is one of the list
-  head_in : (p : A → Bool) (y : A) (l xs : List A) → filter p xs ≡ y ∷ l → IsIn y xs
-  head_in p y l [] e = absurd cc
-  head_in p y l (x ∷ xs) e =
-      by_test (p x)
-      (λ h. let f = sym (ap (λ b. cond b (x ∷ filter p xs) (filter p xs)) h) ∙ e in let same : y ≡ x = cc in inl same)
-      (λ h. inr (head_in p y l xs (sym (ap (λ b. cond b (x ∷ filter p xs) (filter p xs)) h) ∙ e)))
+  -- the first of those that pass is one of the list, and passes
+  first_kept : (p : A → Bool) (y : A) (l xs : List A) → filter p xs ≡ y ∷ l → IsIn y xs × (p y ≡ true)
+  first_kept p y l xs e = from_filter p xs y (subst (IsIn y) (sym e) (inl refl))
 
   kept_first : (p : A → Bool) (x : A) (xs : List A) → p x ≡ true → filter p (x ∷ xs) ≡ x ∷ filter p xs
   kept_first p x xs h = ap (λ b. cond b (x ∷ filter p xs) (filter p xs)) h
@@ -131,7 +110,7 @@ module _ {A : Type 0} (key : A → Task) where
   -- the first of a list is before no row of a sorted list with the same ties
   not_before : (y z : A) (ys zs : List A) → IsUp (z ∷ zs) → filter (ties lt y) (y ∷ ys) ≡ filter (ties lt y) (z ∷ zs) → lt y z ≡ false
   not_before y z ys zs up e =
-      elim (head_in (ties lt y) y (filter (ties lt y) ys) (z ∷ zs) (sym e ∙ kept_first (ties lt y) y ys (self_tie y))) [
+      elim (first_kept (ties lt y) y (filter (ties lt y) ys) (z ∷ zs) (sym e ∙ kept_first (ties lt y) y ys (self_tie y))).0 [
         | inl same ↦ subst (λ v. lt v z ≡ false) (sym same) (not_self z)
         | inr i ↦ up.0 y i
       ]
@@ -158,7 +137,7 @@ module _ {A : Type 0} (key : A → Task) where
   up_from [] h = tt
   up_from (x ∷ xs) h =
       let first : (y : A) → IsIn y xs → lt y x ≡ false = λ y i.
-      let p = in_at y xs i in
+      let p = index_of_member y xs i in
       let far = sorted_far lt weak_order (x ∷ xs) h 0 (suc p.0) x (omega arith) (omega (arith, p.1)) in
       subst (λ v. lt v x ≡ false) (p.2 x) far in
       (first, up_from xs (sorted_rest x xs h))
@@ -182,33 +161,11 @@ module _ {A : Type 0} (key : A → Task) where
       (λ h. omega (arith, few_ties w xs, ap (λ b. length (cond b (x ∷ filter (ties lt w) xs) (filter (ties lt w) xs))) h, ap as_number (tie_is_same w x h)))
       (λ h. omega (arith, few_ties w xs, ap (λ b. length (cond b (x ∷ filter (ties lt w) xs) (filter (ties lt w) xs))) h))
 
-  weigh-sum : (f : A → ℕ) (xs : List A) → weigh f xs ≡ sum_by f xs
-  weigh-sum f [] = refl
-  weigh-sum f (x ∷ xs) = omega (arith, weigh-sum f xs, sum_by-cons f x xs)
-
   -- rows of different tasks are of different tasks in any order
   differ_moved : (xs ys : List A) → IsPermutation xs ys → AreOfDifferentTasks key xs → AreOfDifferentTasks key ys
   differ_moved xs ys moves once t =
       let f : A → ℕ = λ r. as_number (same_task t (key r)) in
       omega (arith, once t, weigh-sum f xs, weigh-sum f ys, sum_by-IsPermutation f xs ys moves)
-
-  in_filter : (p : A → Bool) (y : A) (xs : List A) → IsIn y xs → p y ≡ true → IsIn y (filter p xs)
-  in_filter p y [] i h = absurd i
-  in_filter p y (x ∷ xs) i h =
-      elim i [
-        | inl e ↦ subst (IsIn y) (sym (kept_first p x xs (subst (λ v. p v ≡ true) e h))) (inl e)
-        | inr later ↦
-            by_test (p x)
-            (λ k. subst (IsIn y) (sym (kept_first p x xs k)) (inr (in_filter p y xs later h)))
-            (λ k. subst (IsIn y) (sym (ap (λ b. cond b (x ∷ filter p xs) (filter p xs)) k)) (in_filter p y xs later h))
-      ]
-
-  filtered_passes : (p : A → Bool) (y : A) (l xs : List A) → filter p xs ≡ y ∷ l → p y ≡ true
-  filtered_passes p y l [] e = absurd cc
-  filtered_passes p y l (x ∷ xs) e =
-      by_test (p x)
-      (λ h. let f = sym (ap (λ b. cond b (x ∷ filter p xs) (filter p xs)) h) ∙ e in let same : x ≡ y = cc in subst (λ v. p v ≡ true) same h)
-      (λ h. filtered_passes p y l xs (sym (ap (λ b. cond b (x ∷ filter p xs) (filter p xs)) h) ∙ e))
 
   in_of : (y : A) (xs : List A) (k : ℕ) → k < length xs → get_or xs k y ≡ y → IsIn y xs
   in_of y [] k h e = absurd (omega (arith, h))
@@ -217,7 +174,7 @@ module _ {A : Type 0} (key : A → Task) where
 
   in_moved : (y : A) (xs ys : List A) → IsPermutation xs ys → IsIn y xs → IsIn y ys
   in_moved y xs ys moves i =
-      let p = in_at y xs i in
+      let p = index_of_member y xs i in
       let found = Contains-permutation xs ys y moves (p.0, p.1, p.2 y) in
       in_of y ys found.0 found.1 found.2
 
@@ -225,11 +182,12 @@ module _ {A : Type 0} (key : A → Task) where
   same_one : (p : A → Bool) (xs ys cs bs : List A) → ((y : A) → IsIn y xs → IsIn y ys) → ((y : A) → IsIn y ys → IsIn y xs) → filter p xs ≡ cs → filter p ys ≡ bs → length cs ≤ 1 → length bs ≤ 1 → cs ≡ bs
   same_one p xs ys [] [] to from e f one other = refl
   same_one p xs ys [] (b ∷ bs) to from e f one other =
-      absurd (subst (IsIn b) e (in_filter p b xs (from b (head_in p b bs ys f)) (filtered_passes p b bs ys f)))
+      let k = first_kept p b bs ys f in absurd (subst (IsIn b) e ((IsIn-filter p xs b).1 (from b k.0, k.1)))
   same_one p xs ys (a ∷ cs) [] to from e f one other =
-      absurd (subst (IsIn a) f (in_filter p a ys (to a (head_in p a cs xs e)) (filtered_passes p a cs xs e)))
+      let k = first_kept p a cs xs e in absurd (subst (IsIn a) f ((IsIn-filter p ys a).1 (to a k.0, k.1)))
   same_one p xs ys (a ∷ []) (b ∷ []) to from e f one other =
-      elim (subst (IsIn a) f (in_filter p a ys (to a (head_in p a [] xs e)) (filtered_passes p a [] xs e))) [ inl q ↦ ap (λ v. v ∷ []) q | inr none ↦ absurd none ]
+      let k = first_kept p a [] xs e in
+      elim (subst (IsIn a) f ((IsIn-filter p ys a).1 (to a k.0, k.1))) [ inl q ↦ ap (λ v. v ∷ []) q | inr none ↦ absurd none ]
   same_one p xs ys (a ∷ c ∷ cs) (b ∷ bs) to from e f one other = absurd (omega (arith, one))
   same_one p xs ys (a ∷ []) (b ∷ c ∷ bs) to from e f one other = absurd (omega (arith, other))
 

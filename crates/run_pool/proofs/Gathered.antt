@@ -5,7 +5,7 @@ use Rattle.ptg_base.specs.Lists.{IsIn}
 use Rattle.ptg_base.specs.declared.memory.OutOfMemory.{OutOfMemory}
 use Rattle.list_lemmas.proofs.Members.{IsIn-map, from_map}
 use Rattle.list_lemmas.proofs.Joins.{map-map}
-use Rattle.std.proofs.lemmas.Option.{slice_get_within}
+use Rattle.std.proofs.lemmas.Option.{get_or_from_slice_get, slice_get_within}
 use Rattle.plan_core.specs.declared.plan.Plan.{Plan}
 use Rattle.crossbeam_utils.specs.Padded.{padded_value}
 use Rattle.work_board.specs.declared.record.PassRecord.{PassRecord}
@@ -19,7 +19,7 @@ use Rattle.dep_table.specs.Passes.{IsPassOf}
 use Rattle.dep_table.specs.Views.{PassView, shown}
 use Rattle.run_pool.specs.Desks.{IsAnswerOfPass, HasWorkedAt, HaveWorked}
 use Rattle.run_pool.specs.Seated.{AreSeated, HaveAnswered, IsDone, OneWasRefused, PaddedDesk, answer_on, pass_on, record_on}
-use Rattle.run_pool.proofs.Places.{has_both, index_or, same_looks}
+use Rattle.run_pool.proofs.Places.{has_both, same_looks}
 
 abbrev names_of : PassRecord → List Name
 names_of v = v.names
@@ -39,8 +39,8 @@ module _ (T : DepTable) (plan : Plan) (preloaded : Bool) (ds es : List PaddedDes
   at : (k : ℕ) (d e : PaddedDesk) → slice_get ds k ≡ Some d → slice_get es k ≡ Some e → HasWorkedAt (IsWorkerPass T) shown preloaded (padded_value d) (padded_value e)
   at k d e before after =
       let h = w k d (slice_get_within ds k d before) in
-      subst (λ x. HasWorkedAt (IsWorkerPass T) shown preloaded (padded_value d) (padded_value x)) (index_or es k d e after)
-      (subst (λ x. HasWorkedAt (IsWorkerPass T) shown preloaded (padded_value x) (padded_value (slice_index_or es k d))) (index_or ds k d d before) h)
+      subst (λ x. HasWorkedAt (IsWorkerPass T) shown preloaded (padded_value d) (padded_value x)) (get_or_from_slice_get es k e d after)
+      (subst (λ x. HasWorkedAt (IsWorkerPass T) shown preloaded (padded_value x) (padded_value (slice_index_or es k d))) (get_or_from_slice_get ds k d d before) h)
 
   -- what a worker has done
   worked_at : (e : PaddedDesk) → IsIn e es → (d : PaddedDesk) × HasWorkedAt (IsWorkerPass T) shown preloaded (padded_value d) (padded_value e)

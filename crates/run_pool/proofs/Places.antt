@@ -1,5 +1,5 @@
 -- Members of lists by their places.
-use Rattle.std.proofs.Common.{◌≡◌, ℕ, zero, suc, List, [], ◌∷◌, length, map, refl, ap, sym, ◌∙◌, inl, inr, Some, slice_get, slice_index_or, arith}
+use Rattle.std.proofs.Common.{◌≡◌, ℕ, suc, List, [], ◌∷◌, length, map, refl, ap, sym, ◌∙◌, inl, inr, Some, slice_get, arith}
 use Rattle.ptg_base.specs.Lists.{IsIn}
 
 -- the place of a member, and what another list of that length has there
@@ -26,8 +26,3 @@ same_looks f (x ∷ xs) (y ∷ ys) n h =
     let rest = same_looks f xs ys (omega arith) (λ k. h (suc k)) in
     let here = h 0 x y refl refl in
     ap (λ u. u ∷ map f ys) here ∙ ap (λ us. f x ∷ us) rest
-
-pub index_or : {A : Type 0} (xs : List A) (k : ℕ) (d x : A) → slice_get xs k ≡ Some x → slice_index_or xs k d ≡ x
-index_or [] k d x e = absurd cc
-index_or (y ∷ ys) zero d x e = cc
-index_or (y ∷ ys) (suc k) d x e = index_or ys k d x e

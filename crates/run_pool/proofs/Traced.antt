@@ -1,17 +1,16 @@
 -- The logs of all workers, sorted, are the claims of all passes in the order of their stamps.
 use Rattle.std.proofs.Common.{◌≡◌, ℕ, zero, suc, List, [], ◌∷◌, ◌++◌, length, map, get_or, slice_index_or, refl, ap, sym, ◌∙◌, subst, inl, inr, arith, Result, Ok, Err}
 use Rattle.std.proofs.lemmas.List.Sorted.{sum_by-IsPermutation}
-use Rattle.std.proofs.lemmas.List.Sums.{sum_by-cons}
-use Rattle.std.specs.List.{flat_map, sum_by}
+use Rattle.std.specs.List.{flat_map}
 use Rattle.std.specs.Result.{IfOk}
 use Rattle.std.specs.List.Sorted.{IsNonDecreasingBy, IsPermutation}
 use Rattle.ptg_base.specs.Lists.{IsIn}
 use Rattle.ptg_base.specs.Task.{Task}
 use Rattle.std.proofs.lemmas.List.{map-append}
 use Rattle.list_lemmas.proofs.Joins.{map-map}
-use Rattle.std.proofs.lemmas.Option.{slice_get_within}
+use Rattle.std.proofs.lemmas.Option.{get_or_from_slice_get, slice_get_within}
 use Rattle.list_lemmas.proofs.Places.{IsIn-slice_get}
-use Rattle.list_lemmas.proofs.Counts.{weigh-map}
+use Rattle.list_lemmas.proofs.Counts.{weigh-map, weigh-sum}
 use Rattle.dep_shard.specs.Content.{Content}
 use Rattle.list_lemmas.specs.Counting.{weigh}
 use Rattle.shard_meaning.specs.Moment.{Moment}
@@ -27,7 +26,7 @@ use Rattle.dep_table.specs.Views.{PassView, shown}
 use Rattle.run_pool.specs.Desks.{HaveLogged}
 use Rattle.run_pool.specs.Seated.{IsFresh, PaddedDesk, log_on, pass_on, record_on}
 use Rattle.run_pool.specs.Traces.{IsTraceOf}
-use Rattle.run_pool.proofs.Places.{has_both, index_or}
+use Rattle.run_pool.proofs.Places.{has_both}
 
 -- an entry of a log, and the stamp that it stands for
 abbrev pub Logged : Type 0
@@ -35,10 +34,6 @@ Logged = ℕ × Task
 
 abbrev pub stamp_of : Logged → Stamp
 stamp_of e = (e.1, e.0)
-
-weigh-sum : {A : Type 0} (f : A → ℕ) (xs : List A) → weigh f xs ≡ sum_by f xs
-weigh-sum f [] = refl
-weigh-sum f (x ∷ xs) = omega (arith, weigh-sum f xs, sum_by-cons f x xs)
 
 length-stamps : (xs : List Logged) → length (map stamp_of xs) ≡ length xs
 length-stamps [] = refl
@@ -78,8 +73,8 @@ module _ (ds es : List PaddedDesk) (count : length es ≡ length ds) (w : HaveLo
       let b = has_both ds es e count i in
       let d : PaddedDesk = b.other in
       let h : HasLogged (record_on d) (record_on e) (log_on d) (log_on e) =
-      subst (λ (x : PaddedDesk). HasLogged (record_on d) (record_on x) (log_on d) (log_on x)) (index_or es b.place d e b.after)
-      (subst (λ (x : PaddedDesk). HasLogged (record_on x) (record_on (slice_index_or es b.place d)) (log_on x) (log_on (slice_index_or es b.place d))) (index_or ds b.place d d b.before) (w b.place d (slice_get_within ds b.place d b.before))) in
+      subst (λ (x : PaddedDesk). HasLogged (record_on d) (record_on x) (log_on d) (log_on x)) (get_or_from_slice_get es b.place e d b.after)
+      (subst (λ (x : PaddedDesk). HasLogged (record_on x) (record_on (slice_index_or es b.place d)) (log_on x) (log_on (slice_index_or es b.place d))) (get_or_from_slice_get ds b.place d d b.before) (w b.place d (slice_get_within ds b.place d b.before))) in
       let f = fresh d (IsIn-slice_get ds b.place d b.before) in
       h.gained ∙ (ap (λ l. l ++ logged h.more) f.no_log ∙ ap logged (sym (h.claimed.stamps ∙ ap (λ l. l ++ h.more) f.no_stamp)))
 

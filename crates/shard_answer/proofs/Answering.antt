@@ -10,6 +10,7 @@ use Rattle.ptg_base.specs.TaskLaws.{same_task-decides}
 use Rattle.ptg_base.specs.TaskOrder.{in_task_order}
 use Rattle.list_lemmas.proofs.Members.{from_map}
 use Rattle.list_lemmas.proofs.Truth.{by_test}
+use Rattle.list_lemmas.proofs.Places.{place_of_member}
 use Rattle.list_lemmas.proofs.Counts.{weigh-one, count-map}
 use Rattle.list_lemmas.proofs.Tasks.{distinct_once}
 use Rattle.list_lemmas.proofs.Distinct.{no_longer}
@@ -41,14 +42,14 @@ use Rattle.shard_meaning.proofs.SoundMoments.{claims_at_most}
 use Rattle.shard_meaning.proofs.Calming.{calm_quiescent}
 use Rattle.shard_answer.specs.Ending.{HoldAnEnd}
 use Rattle.shard_answer.specs.Parts.{HaveDistinctEntries, all_ended, all_traps, all_waits, all_written}
-use Rattle.shard_answer.proofs.Gathering.{gathered, index_of}
+use Rattle.shard_answer.proofs.Gathering.{gathered}
 use Rattle.shard_answer.proofs.Traps.{rows_are_tasks, rows_differ, traps_are}
 use Rattle.shard_answer.proofs.Waits.{AreFound, HaveOnce, waits_are, waits_are_tasks, waits_differ}
 use Rattle.shard_answer.proofs.Writes.{data_is, in_shard_order, is_reordered, sound_there}
 
 -- distinct entries are found by look-ups, and each is there once
 found_by : (es : Entries) → IsDistinct same_task (keys_of es) → AreFound es
-found_by es distinct x i = let p = index_of x es i in looked_up es p.0 x.0 x.1 distinct p.1
+found_by es distinct x i = let p = place_of_member es x i in looked_up es p.0 x.0 x.1 distinct p.1
 
 none_same : (t : Task) (es : Entries) → AllByRecursion (λ u. same_task t u ≡ false) (keys_of es) → count (λ (x : Task × Entry). same_task t x.0) es ≡ 0
 none_same t [] h = refl

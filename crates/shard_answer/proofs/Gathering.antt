@@ -8,6 +8,7 @@ use Rattle.ptg_base.specs.TaskComparing.{same_task}
 use Rattle.ptg_base.specs.TaskLaws.{same_task-decides}
 use Rattle.list_lemmas.proofs.Members.{IsIn-flat_map, from_flat_map}
 use Rattle.list_lemmas.proofs.Truth.{by_test}
+use Rattle.list_lemmas.proofs.Places.{place_of_member, IsIn-slice_get}
 use Rattle.list_lemmas.proofs.Counts.{some_passes, weigh-append, weigh-same, weigh-zero, weigh-plus}
 use Rattle.list_lemmas.specs.Counting.{as_number, count, weigh}
 use Rattle.run_answer.specs.Rows.{AreOfDifferentTasks}
@@ -65,27 +66,15 @@ module _ {A : Type 0} (g v : A → ℕ) where
       gathered_from w ys xs 0 (λ i k y e is. subst (λ n. w y ≡ weigh (part n) xs) (omega (arith, e)) (h i y is))
       ∙ weigh-same v (spread 0 (length ys)) xs (λ x i. spread_among 0 (length ys) x (omega arith) (omega (arith, placed x i)))
 
-pub index_of : {B : Type 0} (y : B) (ys : List B) → IsIn y ys → (i : ℕ) × (slice_get ys i ≡ Some y)
-index_of y [] i = absurd i
-index_of y (z ∷ zs) i = elim i [
-  | inl e ↦ (0, ap (λ v. Some v) (sym e))
-  | inr later ↦ let p = index_of y zs later in (suc p.0, p.1)
-]
-
-pub in_at : {B : Type 0} (y : B) (ys : List B) (i : ℕ) → slice_get ys i ≡ Some y → IsIn y ys
-in_at y [] i e = absurd cc
-in_at y (z ∷ zs) zero e = let same : z ≡ y = cc in inl (sym same)
-in_at y (z ∷ zs) (suc i) e = inr (in_at y zs i e)
-
 -- the shard that a row is of
 pub row_of : {A B : Type 0} (rows : B → List A) (ys : List B) (r : A) → IsIn r (flat_map rows ys) → (k : ℕ) × (y : B) × (slice_get ys k ≡ Some y) × IsIn r (rows y)
 row_of rows ys r i =
     let p = from_flat_map rows ys r i in
-    let at = index_of p.0 ys p.1 in
+    let at = place_of_member ys p.0 p.1 in
     (at.0, p.0, at.1, p.2)
 
 pub in_rows : {A B : Type 0} (rows : B → List A) (ys : List B) (k : ℕ) (y : B) (r : A) → slice_get ys k ≡ Some y → IsIn r (rows y) → IsIn r (flat_map rows ys)
-in_rows rows ys k y r at i = IsIn-flat_map rows ys y r (in_at y ys k at) i
+in_rows rows ys k y r at i = IsIn-flat_map rows ys y r (IsIn-slice_get ys k y at) i
 
 one_of_both : (a b : ℕ) → a ≤ 1 → b ≤ 1 → (0 < a → 0 < b → ⊥) → a + b ≤ 1
 one_of_both zero b one other apart = omega (arith, other)

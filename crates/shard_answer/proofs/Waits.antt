@@ -9,7 +9,7 @@ use Rattle.ptg_base.specs.Task.{Task}
 use Rattle.ptg_base.specs.TaskComparing.{same_task}
 use Rattle.ptg_base.specs.TaskLaws.{same_task-decides}
 use Rattle.ptg_base.specs.TaskOrder.{in_task_order}
-use Rattle.list_lemmas.proofs.Members.{IsIn-map, from_map}
+use Rattle.list_lemmas.proofs.Members.{IsIn-map, from_map, IsIn-filter, from_filter}
 use Rattle.list_lemmas.proofs.Truth.{by_test}
 use Rattle.list_lemmas.proofs.Places.{slice_get_there}
 use Rattle.list_lemmas.proofs.Counts.{count-map, count-filter}
@@ -48,26 +48,6 @@ AreFound es = (x : Task × Entry) → IsIn x es → entry_in es x.0 ≡ Some x.1
 
 abbrev pub HaveOnce : Entries → Type 0
 HaveOnce es = (t : Task) → count (λ (x : Task × Entry). same_task t x.0) es ≤ 1
-
-in_filter : (p : Task → Bool) (t : Task) (ts : List Task) → IsIn t ts → p t ≡ true → IsIn t (filter p ts)
-in_filter p t [] i h = absurd i
-in_filter p t (u ∷ us) i h =
-    elim i [
-      | inl e ↦ subst (IsIn t) (sym (ap (λ b. cond b (u ∷ filter p us) (filter p us)) (subst (λ v. p v ≡ true) e h))) (inl e)
-      | inr later ↦
-          by_test (p u)
-          (λ k. subst (IsIn t) (sym (ap (λ b. cond b (u ∷ filter p us) (filter p us)) k)) (inr (in_filter p t us later h)))
-          (λ k. subst (IsIn t) (sym (ap (λ b. cond b (u ∷ filter p us) (filter p us)) k)) (in_filter p t us later h))
-    ]
-
-of_filter : (p : Task → Bool) (t : Task) (ts : List Task) → IsIn t (filter p ts) → IsIn t ts × (p t ≡ true)
-of_filter p t [] i = absurd i
-of_filter p t (u ∷ us) i =
-    by_test (p u)
-    (λ k.
-    let j : IsIn t (u ∷ filter p us) = subst (IsIn t) (ap (λ b. cond b (u ∷ filter p us) (filter p us)) k) i in
-    elim j [ inl e ↦ (inl e, subst (λ v. p v ≡ true) (sym e) k) | inr later ↦ let q = of_filter p t us later in (inr q.0, q.1) ])
-    (λ k. let q = of_filter p t us (subst (IsIn t) (ap (λ b. cond b (u ∷ filter p us) (filter p us)) k) i) in (inr q.0, q.1))
 
 module _ (P : Plan) (G : Data) (ys : List Content) (h : HoldAnEnd P G ys) (found : (k : ℕ) (y : Content) → slice_get ys k ≡ Some y → AreFound y.entries × HaveOnce y.entries) where
   abbrev state : MachineState
@@ -113,12 +93,12 @@ module _ (P : Plan) (G : Data) (ys : List Content) (h : HoldAnEnd P G ys) (found
       let share = h.shares p.0 p.1 p.2 in
       let own = share.only x.0.0 x.0.1 is in
       let w = entry_waits x.0.0 x.0.1 own.0 (sym (share.there x.0.0 own.0 own.1) ∙ is) in
-      subst (λ s. IsIn s (map row waiting)) (sym (x.2 ∙ w.1)) (IsIn-map row waiting x.0.0 (in_filter (is_waiting P state) x.0.0 (all_tasks P) ((listed P x.0.0).0 own.0) w.0))
+      subst (λ s. IsIn s (map row waiting)) (sym (x.2 ∙ w.1)) (IsIn-map row waiting x.0.0 ((IsIn-filter (is_waiting P state) (all_tasks P) x.0.0).1 ((listed P x.0.0).0 own.0, w.0)))
 
   from_waiting : (r : WaitRow) → IsIn r (map row waiting) → IsIn r (all_waits ys)
   from_waiting r i =
       let p = from_map row waiting r i in
-      let q = of_filter (is_waiting P state) p.0 (all_tasks P) p.1 in
+      let q = from_filter (is_waiting P state) (all_tasks P) p.0 p.1 in
       let job = (listed P p.0).1 q.0 in
       let y = slice_get_there ys (h.of p.0) (h.placed p.0 job) in
       let is = (h.shares (h.of p.0) y.0 y.1).there p.0 job refl ∙ waiting_entry p.0 q.1 in

@@ -8,6 +8,7 @@ use Rattle.ptg_base.specs.declared.edge.Item.{Item}
 use Rattle.ptg_base.specs.declared.edge.Item.TheVariants as item
 use Rattle.list_lemmas.proofs.Members.{IsIn-append_left, IsIn-flat_map, IsIn-map, All-from_members}
 use Rattle.list_lemmas.proofs.Truth.{by_test}
+use Rattle.list_lemmas.proofs.Places.{IsIn-slice_get}
 use Rattle.list_lemmas.proofs.Counts.{weigh-append, weigh-same, weigh-plus, weigh-flat_map, weigh-map, weigh-filter}
 use Rattle.plan_core.specs.declared.plan.Plan.{Plan}
 use Rattle.coll_data.specs.Data.{Data}
@@ -27,7 +28,7 @@ use Rattle.run_answer.proofs.Writable.{write_sent}
 use Rattle.shard_meaning.specs.Share.{Placement, write_weight, written_weight}
 use Rattle.shard_answer.specs.Ending.{HoldAnEnd}
 use Rattle.shard_answer.specs.Parts.{all_written}
-use Rattle.shard_answer.proofs.Gathering.{gathered, in_at, part}
+use Rattle.shard_answer.proofs.Gathering.{gathered, part}
 
 -- the weight of an item that was sent with this tile: that of the write-back and the tile, if it is one, else 0
 abbrev any_weight : (WriteBack × List ℤ → ℕ) → Item → Option (List ℤ) → ℕ
@@ -124,7 +125,7 @@ module _ (P : Plan) (G : Data) (con : IsConsistent P) (known : DataFit P.colls P
   writable k y at =
       All-from_members (IsWritable G) y.written
       (λ w i.
-      let among : IsIn w (all_written ys) = IsIn-flat_map (λ (z : Content). z.written) ys y w (in_at y ys k at) i in
+      let among : IsIn w (all_written ys) = IsIn-flat_map (λ (z : Content). z.written) ys y w (IsIn-slice_get ys k y at) i in
       let sent : IsIn (as_sent w) in_shard_order.sends = IsIn-append_left (as_sent w) (map as_sent (all_written ys)) (filter is_edge state.sends) (IsIn-map as_sent (all_written ys) w among) in
       let s = write_sent P G con in_shard_order sound_there known well (as_sent w) sent w.0 refl in
       let both : Some w.1 ≡ Some s.0 = s.1 in

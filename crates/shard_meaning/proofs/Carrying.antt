@@ -7,7 +7,7 @@ use Rattle.ptg_base.specs.Task.{Task}
 use Rattle.ptg_base.specs.declared.edge.Edge.{Edge}
 use Rattle.ptg_base.specs.declared.edge.Item.TheVariants as item
 use Rattle.list_lemmas.proofs.Truth.{by_test}
-use Rattle.list_lemmas.proofs.Options.{none_from_length}
+use Rattle.list_lemmas.proofs.Options.{none_from_option_map}
 use Rattle.plan_core.specs.declared.flow.FlowPlan.{FlowPlan}
 use Rattle.plan_core.specs.declared.plan.Plan.{Plan}
 use Rattle.plan_core.specs.Kinds.{flow_of, is_data}
@@ -45,7 +45,7 @@ no_output P G d t job k g here ctl None is = refl
 no_output P G d t job k g here ctl (Some (Err cause)) is = refl
 no_output P G d t job k g here ctl (Some (Ok tiles)) is =
     let start : get_or (tiles_from P G d t 0 (flows_of P t)) k None ≡ None = no_start P G d t 0 (flows_of P t) k g here ctl in
-    none_from_length _ ((ended_shape P G d t tiles job is).sizes k ∙ ap (λ o. option_map length o) start)
+    none_from_option_map length _ ((ended_shape P G d t tiles job is).sizes k ∙ ap (λ o. option_map length o) start)
 
 -- an edge that may be sent carries a tile only to a data flow
 pub carries : (P : Plan) (G : Data) (S : MachineState) (e : Edge) → IsTask P e.from → IsIn (item.Edge e) (items P e.from) → Carries P G S e

@@ -5,6 +5,7 @@ use Rattle.std.proofs.lemmas.Bool.{lt-ltb, le-ltb, ne_eqb}
 use Rattle.ptg_base.specs.Lists.{IsIn}
 use Rattle.ptg_base.specs.Task.{Task}
 use Rattle.ptg_base.specs.declared.edge.Edge.{Edge}
+use Rattle.list_lemmas.proofs.Truth.{cond-same}
 use Rattle.plan_core.specs.declared.flow.FlowPlan.{FlowPlan}
 use Rattle.plan_core.specs.declared.plan.Plan.{Plan}
 use Rattle.plan_core.specs.Kinds.{is_data}
@@ -69,13 +70,9 @@ module _ (P : Plan) (t : Task) (task : IsTask P t) (well : IsWellTask P t) (e : 
   same_from n source.Null h = refl
   same_from n source.Nothing h = refl
 
-  by_kind : {A : Type 0} (b : Bool) (x y z : A) → (b ≡ true → x ≡ y) → cond b x z ≡ cond b y z
-  by_kind true x y z h = h refl
-  by_kind false x y z h = refl
-
   -- a flow other than the edge's gets what it got
   other_flow : (n : ℕ) (f : FlowPlan) → slice_get (flows_of P t) n ≡ Some f → n ≢ e.in_flow → delivered_tile P c t n f ≡ delivered_tile P d t n f
-  other_flow n f here ne = by_kind (is_data (Some f.kind)) _ _ [] (λ carries. same_from n (data_source P t n) (λ x s same. ne (sym (source_at_flow P t task well n f here carries x s) ∙ ap (λ (y : Edge). y.in_flow) same)))
+  other_flow n f here ne = cond-same (is_data (Some f.kind)) _ _ [] (λ carries. same_from n (data_source P t n) (λ x s same. ne (sym (source_at_flow P t task well n f here carries x s) ∙ ap (λ (y : Edge). y.in_flow) same)))
 
   past : (n : ℕ) (fs : List FlowPlan) → ((i : ℕ) (f : FlowPlan) → slice_get fs i ≡ Some f → slice_get (flows_of P t) (n + i) ≡ Some f) → e.in_flow < n → delivered_to P c t n fs ≡ delivered_to P d t n fs
   past n [] at l = refl

@@ -8,17 +8,16 @@ use Rattle.ptg_base.specs.declared.edge.Item.{Item}
 use Rattle.list_lemmas.proofs.Truth.{and-false, by_test}
 use Rattle.list_lemmas.proofs.Counts.{count-some, weigh-push}
 use Rattle.list_lemmas.proofs.Distinct.{count-falls}
-use Rattle.list_lemmas.proofs.Tasks.{distinct_once}
 use Rattle.plan_core.specs.declared.plan.Plan.{Plan}
 use Rattle.coll_data.specs.Data.{Data}
 use Rattle.dep_iter.specs.Tasks.{IsTask, all_tasks}
 use Rattle.dep_iter.proofs.Listing.{listed}
+use Rattle.dep_iter.proofs.Once.{once-all_tasks}
 use Rattle.dep_shard.specs.Arrivals.{FlowTile}
 use Rattle.dep_shard.specs.Content.{Content, KeepsEntriesAndWritten, Takes, Uses, entry_in, entry_of}
 use Rattle.list_lemmas.specs.Counting.{as_number}
 use Rattle.flow_meaning.specs.Machine.{MayClaim, MaySend, claim_count}
 use Rattle.flow_meaning.specs.Table.{is_unclaimed}
-use Rattle.flow_meaning.proofs.Once.{tasks_once}
 use Rattle.shard_meaning.specs.Moment.{Moment, run_count, with_claim, with_end, with_send}
 use Rattle.shard_meaning.specs.Share.{Placement, is_of}
 use Rattle.shard_meaning.specs.Reserve.{HasReserve, is_due_end}
@@ -101,7 +100,7 @@ module _ (P : Plan) (of : Placement) (k : ℕ) where
             arith,
             h.traps,
             uses.traps,
-            count-falls (is_due_end of k R) (is_due_end of k (with_end R t)) (all_tasks P) t (distinct_once (all_tasks P) (tasks_once P)) ((listed P t).0 job) due_before gone_now
+            count-falls (is_due_end of k R) (is_due_end of k (with_end R t)) (all_tasks P) t (once-all_tasks P) ((listed P t).0 job) due_before gone_now
                 (λ u ne. ap (λ n. is_of of k u && (is_unclaimed R.state u || nat_lt 0 n)) (runs_as_before R t u (omega arith) ne)),
           );
         }

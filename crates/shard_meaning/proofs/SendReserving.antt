@@ -16,7 +16,6 @@ use Rattle.list_lemmas.proofs.Members.{IsIn-flat_map, IsIn-filter}
 use Rattle.list_lemmas.proofs.Truth.{by_test, and-false}
 use Rattle.list_lemmas.proofs.Counts.{count-some}
 use Rattle.list_lemmas.proofs.Distinct.{count-falls, HasNoRepeats-filter, HasNoRepeats-from_map}
-use Rattle.list_lemmas.proofs.Tasks.{distinct_once}
 use Rattle.plan_core.specs.declared.flow.FlowPlan.{FlowPlan}
 use Rattle.plan_core.specs.declared.plan.Plan.{Plan}
 use Rattle.plan_core.specs.Kinds.{flow_of, is_data}
@@ -26,6 +25,7 @@ use Rattle.dep_iter.specs.Edges.{in_edges}
 use Rattle.dep_iter.specs.Items.{items, write_backs}
 use Rattle.dep_iter.specs.Tasks.{IsTask, all_tasks}
 use Rattle.dep_iter.proofs.Listing.{listed}
+use Rattle.dep_iter.proofs.Once.{once-all_tasks}
 use Rattle.dep_iter.proofs.Items.{item_write}
 use Rattle.dep_shard.specs.Content.{Content, Entry, KeepsAllButWritten, Updates, Uses, entry_in, entry_of}
 use Rattle.dep_shard.specs.Stock.{tiles_used}
@@ -37,7 +37,6 @@ use Rattle.flow_meaning.specs.Sound.{IsSoundState}
 use Rattle.flow_meaning.specs.Table.{is_unclaimed}
 use Rattle.flow_meaning.proofs.Arriving.{sent_edge_in}
 use Rattle.flow_meaning.proofs.Events.{ends_so}
-use Rattle.flow_meaning.proofs.Once.{tasks_once}
 use Rattle.flow_meaning.proofs.Sizes.{flow_is}
 use Rattle.shard_meaning.specs.Moment.{Moment, with_send}
 use Rattle.shard_meaning.specs.Share.{Placement, is_of}
@@ -96,7 +95,7 @@ module _ (P : Plan) (G : Data) (con : IsConsistent P) (of : Placement) (k : ℕ)
     entries_after y z w updates None none =
         omega (
           arith,
-          count-falls (is_due_entry of k R.state y) (is_due_entry of k later.state z) (all_tasks P) e.to (distinct_once (all_tasks P) (tasks_once P)) among_tasks (entry_due y none)
+          count-falls (is_due_entry of k R.state y) (is_due_entry of k later.state z) (all_tasks P) e.to (once-all_tasks P) among_tasks (entry_due y none)
               (ap (λ o. is_of of k e.to && (is_unclaimed R.state e.to && is_none o)) (now_there y z e.to e.to (Some w) updates ((same_task-decides e.to e.to).1 refl))
               ∙ ap (λ b. is_of of k e.to && b) (and-false (is_unclaimed R.state e.to)) ∙ and-false (is_of of k e.to))
               (λ u ne. ap (λ o. is_of of k u && (is_unclaimed R.state u && is_none o)) (still_there y z e.to u (Some w) updates (unlike u ne))),

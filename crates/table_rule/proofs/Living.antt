@@ -1,5 +1,5 @@
 -- The live word and the stamps where no stamp is drawn, and how large the two words get.
-use Rattle.std.proofs.Common.{◌↔◌, IsTrue, ◌≡◌, ℕ, ◌+◌, ◌<◌, ◌≤◌, ◌⊎◌, Bool, true, false, ◌&&◌, not, List, [], ◌∷◌, map, set, length, sym, refl, ap, ◌∙◌, subst, ⊎_elim, arith, eqb, eq-eqb, eqb-true, ne_eqb}
+use Rattle.std.proofs.Common.{◌↔◌, IsTrue, ◌≡◌, ℕ, ◌+◌, ◌<◌, ◌≤◌, ◌⊎◌, Bool, true, ◌&&◌, List, [], ◌∷◌, map, set, length, sym, refl, ap, ◌∙◌, subst, ⊎_elim, arith, eqb, eq-eqb, eqb-true}
 use Rattle.std.specs.Cmp.{first_so, second_so}
 use Rattle.std.specs.List.{flat_map}
 use mathlib.Core.Logic.{dite}
@@ -13,16 +13,16 @@ use Rattle.ptg_base.specs.TaskLaws.{same_task-decides}
 use Rattle.plan_core.specs.declared.plan.Plan.{Plan}
 use Rattle.coll_data.specs.Data.{Data}
 use Rattle.dep_iter.specs.Tasks.{all_tasks}
-use Rattle.dep_iter.specs.Edges.{goal}
 use Rattle.dep_iter.proofs.Listing.{listed}
 use Rattle.dep_shard.specs.Content.{Content}
 use Rattle.list_lemmas.specs.Counting.{as_number, count, weigh}
-use Rattle.flow_meaning.specs.Machine.{MachineState, Sent, arrived, claim_count, sender}
+use Rattle.flow_meaning.specs.Machine.{MachineState, Sent, claim_count, sender}
 use Rattle.flow_meaning.specs.Sound.{IsSoundState}
-use Rattle.flow_meaning.specs.Table.{is_ready, is_unclaimed, ready_tasks}
-use Rattle.list_lemmas.proofs.Counts.{count-some, one_at_most, some_passes, weigh-le, weigh-one, weigh-flat_map, weigh-plus, length-filter}
-use Rattle.flow_meaning.proofs.Events.{claim_member, member_claim}
+use Rattle.flow_meaning.specs.Table.{ready_tasks}
+use Rattle.list_lemmas.proofs.Counts.{count-some, some_passes, weigh-one, weigh-flat_map, weigh-plus}
+use Rattle.flow_meaning.proofs.Events.{claim_member}
 use Rattle.shard_meaning.specs.Moment.{Moment}
+use Rattle.shard_meaning.proofs.ReadyCount.{ready_at_most}
 use Rattle.work_board.specs.declared.record.PassRecord.{PassRecord}
 use Rattle.table_rule.specs.Live.{AreLive, OwnsLives, Stamp, own_stamps}
 use Rattle.table_rule.specs.Records.{AreRecordsOf}
@@ -93,7 +93,7 @@ module _ (P : Plan) (R R' : Moment) (live stamp : ℕ) (vs : List PassRecord) (i
     drawn = r.drawn;
   }
 
--- a task is claimed at most once, so the claimed tasks are at most all tasks, and those that are ready besides
+-- a task is claimed at most once, so the claimed tasks are at most all tasks
 module _ (P : Plan) (G : Data) (S : MachineState) (sound : IsSoundState P G S) where
   one_task : (a b : Task) → same_task a b ≡ true → a ≡ b
   one_task a b h = (same_task-decides a b).0 h
@@ -105,22 +105,6 @@ module _ (P : Plan) (G : Data) (S : MachineState) (sound : IsSoundState P G S) w
   claims_among_tasks f = dominated same_task one_task itself S.claims (all_tasks P) (λ t. dite (ℕ_discrete (claim_count S t) 0)
       (λ z. omega arith)
       (λ nz. let i = claim_member S t (omega arith) in omega (arith, sound.claimed_once t, count-some (same_task t) (all_tasks P) t ((listed P t).0 (sound.claimed_have_all t i).task) (itself t)))) f
-
-  claimed_apart : (t : Task) → as_number (is_ready P S t) + as_number (not (is_unclaimed S t)) ≤ 1
-  claimed_apart t = by (is_unclaimed S t) (eqb (arrived P S t) (goal P t))
-    where
-      by : (a b : Bool) → as_number (a && b) + as_number (not a) ≤ 1
-      by true b = omega (arith, one_at_most b)
-      by false b = omega arith
-
-  unclaimed_not : (t : Task) → IsIn t S.claims → as_number (not (is_unclaimed S t)) ≡ 1
-  unclaimed_not t i = ap (λ b. as_number (not b)) (ne_eqb (claim_count S t) 0 (λ z. absurd (omega (arith, member_claim S t i))))
-
-  pub ready_and_claimed : length (ready_tasks P S) + length S.claims ≤ length (all_tasks P)
-  unfolding ready_tasks
-  ready_and_claimed =
-      let one_each : length S.claims ≤ weigh (λ t. as_number (not (is_unclaimed S t))) S.claims = omega (arith, weigh-one S.claims, weigh-le (λ _. 1) (λ t. as_number (not (is_unclaimed S t))) S.claims (λ t i. omega (arith, unclaimed_not t i))) in
-      omega (arith, one_each, claims_among_tasks (λ t. as_number (not (is_unclaimed S t))), length-filter (is_ready P S) (all_tasks P), weigh-plus (λ t. as_number (is_ready P S t)) (λ t. as_number (not (is_unclaimed S t))) (all_tasks P), weigh-le (λ t. as_number (is_ready P S t) + as_number (not (is_unclaimed S t))) (λ _. 1) (all_tasks P) (λ t i. claimed_apart t), weigh-one (all_tasks P))
 
 -- the turns that are held are at most as many as there are shards
 module _ (words : List ℕ) (slots : List (mathlib.Core.Option.Option Content)) (vs : List PassRecord) (r : AreTurns words slots vs) where
@@ -174,7 +158,7 @@ module _ (P : Plan) (G : Data) (R : Moment) (live stamp : ℕ) (words : List ℕ
         weigh-one R.state.claims,
         length_of (λ (v : PassRecord). v.claims),
         turns_few words slots vs turns,
-        ready_and_claimed P G R.state sound,
+        ready_at_most P G R.state sound,
       )
 
   -- and the stamp word is at most the number of tasks

@@ -4,6 +4,7 @@ use mathlib.Core.Logic.{dite}
 use mathlib.Core.Option.{some, some-injective}
 use native.Mathlib.Decide.{ℕ_discrete, dec_le}
 use lib.ListN.{get_elem?}
+use Rattle.std.proofs.lemmas.List.{same_from_push}
 use Rattle.std.specs.Cmp.Lexicographic.{pointwise}
 use Rattle.list_lemmas.specs.Counting.{as_number, weigh}
 use Rattle.list_lemmas.proofs.Counts.{one_at_most, weigh-le, weigh-plus}
@@ -65,14 +66,6 @@ exact-else x y ne = ⊎_elim (λ t. ap (λ (b : Bool). as_number (b && eqb y.1 x
 exact-here : (x : Name) → exact x x ≡ 1
 exact-here x = ap (λ (b : Bool). as_number (b && eqb x.1 x.1)) (equal_bytes x.0 x.0 refl) ∙ ap as_number (eq-eqb x.1 x.1 refl)
 
-snoc_head : (p q : List ℕ) (k n : ℕ) → p ++ k ∷ [] ≡ q ++ n ∷ [] → (p ≡ q) × (k ≡ n)
-snoc_head [] [] k n e = (refl, (cc))
-snoc_head [] (y ∷ []) k n e = cc
-snoc_head [] (y ∷ (z ∷ ys)) k n e = cc
-snoc_head (x ∷ []) [] k n e = cc
-snoc_head (x ∷ (z ∷ xs)) [] k n e = cc
-snoc_head (x ∷ xs) (y ∷ ys) k n e = let h : x ≡ y = cc in let t : xs ++ k ∷ [] ≡ ys ++ n ∷ [] = cc in let r = snoc_head xs ys k n t in ((λ i. h i ∷ r.0 i), r.1)
-
 pub snoc_some : (p : List ℕ) (k : ℕ) → [] ≢ p ++ k ∷ []
 snoc_some [] k e = cc
 snoc_some (x ∷ xs) k e = cc
@@ -108,7 +101,7 @@ split_names vs vs' p n r has moved =
       parent = λ q k h. let m = moved (above q k) in let more = above_more q k p n in
           dite (ℕ_discrete (names_of vs (named (q ++ k ∷ []))) 0)
           (λ z. let new : 0 < named (q ++ k ∷ []) (p ++ n ∷ [], 0) = (let same : named (q ++ k ∷ []) (p, n) ≡ named (q ++ k ∷ []) (p, n + 1) = refl in omega (arith, moved (named (q ++ k ∷ [])))) in
-          let e = snoc_head p q n k (named-at (q ++ k ∷ []) (p ++ n ∷ [], 0) new) in
+          let e = same_from_push p q n k (named-at (q ++ k ∷ []) (p ++ n ∷ [], 0) new) in
           omega (arith, above-here q k (p, n + 1) e.0 (omega (arith, e.1)), above-past q k (p, n) (omega (arith, e.1))))
           (λ nz. omega (arith, r.parent q k (omega arith)));
     }

@@ -11,17 +11,15 @@ use Rattle.plan_core.specs.declared.plan.Plan.{Plan}
 use Rattle.list_lemmas.proofs.Members.{IsIn-append_left, IsIn-append_right, IsIn-flat_map, from_append, from_flat_map, IsIn-filter}
 use Rattle.list_lemmas.proofs.Truth.{by_test}
 use Rattle.list_lemmas.proofs.Distinct.{HasNoRepeats-apart, no_longer as at_most, HasNoRepeats-filter, HasNoRepeats-append}
-use Rattle.list_lemmas.proofs.Tasks.{distinct_once}
 use Rattle.std.proofs.lemmas.List.Concat.{flat_map-append}
 use Rattle.dep_iter.specs.Tasks.{IsTask, all_tasks}
 use Rattle.dep_iter.specs.Edges.{goal, in_edges}
 use Rattle.dep_iter.specs.Items.{out_edges}
 use Rattle.dep_iter.specs.Consistent.{IsConsistent, roots}
 use Rattle.dep_iter.proofs.Listing.{listed}
-use Rattle.dep_iter.proofs.Once.{once-out_edges}
+use Rattle.dep_iter.proofs.Once.{once-all_tasks, once-out_edges}
 use Rattle.list_lemmas.specs.Counting.{as_number}
 use Rattle.flow_meaning.specs.Order.{IsLegalAfter, MayFollow}
-use Rattle.flow_meaning.proofs.Once.{tasks_once}
 use Rattle.flow_meaning.proofs.Members.{out_edge_from}
 use Rattle.flow_meaning.proofs.Orders.{legal_push}
 use Rattle.task_order.specs.Greatest.{IsGreatestOrder}
@@ -165,7 +163,7 @@ module _ (P : Plan) (con : IsConsistent P) where
   -- the order before an edge has come
   pub opened : (order : List Task) → order ≡ roots P → HasGrown P [] order []
   opened order is = subst (λ l. HasGrown P [] l []) (sym is) (record {
-    legal = legal_roots [] (roots P) (HasNoRepeats-filter (λ u. goal P u == 0) (all_tasks P) (distinct_once (all_tasks P) (tasks_once P)))
+    legal = legal_roots [] (roots P) (HasNoRepeats-filter (λ u. goal P u == 0) (all_tasks P) (once-all_tasks P))
         (λ t i. let p = (root_is t).0 i in ((listed P t).1 p.0, p.1, λ j. j));
     edges = record { once = tt; from = λ e i. absurd i; out = λ e i. absurd i };
     counts = λ t job. omega arith;

@@ -1,5 +1,5 @@
 -- How many edges a table says are lacking, after an edge has come.
-use Rattle.std.proofs.Common.{◌≡◌, ℕ, ◌+◌, ◌<◌, true, false, cond, Bool, List, [], ◌∷◌, refl, ap, sym, ◌∙◌, Option, Some, None, arith}
+use Rattle.std.proofs.Common.{◌≡◌, ℕ, ◌+◌, ◌<◌, true, false, cond, List, ap, sym, ◌∙◌, Option, Some, None, arith}
 use Rattle.std.proofs.lemmas.Bool.{false≢true, false_from_ne_true}
 use Rattle.std.specs.Prelude.{unwrap_or}
 use Rattle.std.specs.Map.{lookup, set_value}
@@ -10,34 +10,8 @@ use Rattle.list_lemmas.proofs.Truth.{by_test}
 use Rattle.plan_core.specs.declared.plan.Plan.{Plan}
 use Rattle.dep_iter.specs.Edges.{goal}
 use Rattle.list_lemmas.specs.Counting.{as_number}
+use Rattle.list_lemmas.proofs.Lookups.{apart, set_other, set_same, turned}
 use Rattle.task_order.specs.Growing.{lacking}
-
--- what a look-up finds after a write by another key
-set_other : (test other : Task → Bool) → ((k : Task) → test k ≡ true → other k ≡ false) → (es : List (Task × ℕ)) (x : ℕ) → lookup other (set_value test es x) ≡ lookup other es
-set_other test other distinct [] x = refl
-set_other test other distinct (e ∷ es) x =
-    by_test (test e.0)
-    (λ k.
-    let none = distinct e.0 k in
-    ap (λ b. lookup other (cond b ((e.0, x) ∷ es) (e ∷ set_value test es x))) k ∙ ap (λ b. cond b (Some x) (lookup other es)) none ∙ sym (ap (λ b. cond b (Some e.1) (lookup other es)) none))
-    (λ k. ap (λ b. lookup other (cond b ((e.0, x) ∷ es) (e ∷ set_value test es x))) k ∙ ap (λ o. cond (other e.0) (Some e.1) o) (set_other test other distinct es x))
-
--- what a look-up finds after a write by its own key
-set_same : (test : Task → Bool) (es : List (Task × ℕ)) (old x : ℕ) → lookup test es ≡ Some old → lookup test (set_value test es x) ≡ Some x
-set_same test [] old x h = absurd cc
-set_same test (e ∷ es) old x h =
-    by_test (test e.0)
-    (λ k. ap (λ b. lookup test (cond b ((e.0, x) ∷ es) (e ∷ set_value test es x))) k ∙ ap (λ b. cond b (Some x) (lookup test es)) k)
-    (λ k.
-    let rest = set_same test es old x (sym (ap (λ b. cond b (Some e.1) (lookup test es)) k) ∙ h) in
-    ap (λ b. lookup test (cond b ((e.0, x) ∷ es) (e ∷ set_value test es x))) k ∙ ap (λ b. cond b (Some e.1) (lookup test (set_value test es x))) k ∙ rest)
-
--- two different tasks pass no test of sameness together
-apart : (t u : Task) → same_task u t ≡ false → (k : Task) → same_task t k ≡ true → same_task u k ≡ false
-apart t u h k e =
-    false_from_ne_true (same_task u k) (λ q.
-    let one : u ≡ t = (same_task-decides u k).0 q ∙ sym ((same_task-decides t k).0 e) in
-    false≢true (sym h ∙ (same_task-decides u t).1 one))
 
 module _ (P : Plan) where
   number_is : (table : List (Task × ℕ)) (u : Task) (o : Option ℕ) → lookup (same_task u) table ≡ o → lacking P table u ≡ unwrap_or o (goal P u)
@@ -53,7 +27,7 @@ module _ (P : Plan) where
       let after : lacking P new u ≡ left = ap (lacking P new) same ∙ number_is new t (Some left) (ap (lookup (same_task t)) is ∙ set_same (same_task t) old (left + 1) left was) in
       omega (arith, before, after, ap as_number k))
       (λ k.
-      let after : lacking P new u ≡ lacking P old u = ap (λ o. unwrap_or o (goal P u)) (ap (lookup (same_task u)) is ∙ set_other (same_task t) (same_task u) (apart t u k) old left) in
+      let after : lacking P new u ≡ lacking P old u = ap (λ o. unwrap_or o (goal P u)) (ap (lookup (same_task u)) is ∙ set_other (same_task t) (same_task u) (apart t u (turned u t k)) old left) in
       omega (arith, after, ap as_number k))
 
   -- a task was entered, with one edge fewer than go into it

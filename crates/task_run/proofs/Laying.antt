@@ -1,6 +1,6 @@
 -- The tiles on a bench, one after another.
-use Rattle.std.proofs.Common.{◌≡◌, ℕ, zero, suc, ◌+◌, ◌-◌, ◌<◌, ◌≤◌, ℤ, List, [], ◌∷◌, ◌++◌, length, refl, ap, sym, ◌∙◌, subst, take, drop, Option, Some, None, slice_get, slice_index, slice_index_or, slice_set, Result, Ok, Err, arith}
-use Rattle.std.specs.Prelude.{option_map, IfErr}
+use Rattle.std.proofs.Common.{◌≡◌, ℕ, zero, suc, ◌+◌, ◌-◌, ◌<◌, ◌≤◌, ℤ, List, [], ◌∷◌, ◌++◌, length, refl, ap, sym, ◌∙◌, subst, take, drop, Option, Some, None, slice_get, slice_index, slice_index_or, slice_set, arith}
+use Rattle.std.specs.Prelude.{option_map}
 use Rattle.std.proofs.Math.ListN.{get_or-append}
 use Rattle.std.proofs.Math.Seq.{take-append_seam}
 use Rattle.std.proofs.Common.{length-append, length-drop}
@@ -64,10 +64,6 @@ kept elems lent tiles new rest n fit at count keeps i k is =
 
 pub take_new : (n : ℕ) (new rest : List (Option (List ℤ))) → length new ≡ n → take n (new ++ rest) ≡ new
 take_new n new rest e = ap (λ m. take m (new ++ rest)) (sym e) ∙ take-append_seam new rest
-
-pub if_err : {T E : Type 0} {A B : E → Type 0} (r : Result T E) → ((e : E) → A e → B e) → IfErr r A → IfErr r B
-if_err (Ok x) f h = h
-if_err (Err e) f h = f e h
 
 pub set_count : {A : Type 0} (xs : List A) (n m : ℕ) (y : A) → length xs ≡ m → length (slice_set xs n y) ≡ m
 set_count xs n m y h = same xs n y ∙ h

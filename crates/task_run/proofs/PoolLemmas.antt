@@ -1,10 +1,9 @@
 -- The counts of the pools of a bench.
-use Rattle.std.proofs.Common.{◌≡◌, ◌≢◌, ℕ, zero, suc, ◌+◌, ◌<◌, ◌≤◌, ℤ, Bool, true, false, cond, nat_eq, List, [], ◌∷◌, ◌++◌, length, count_by, pos, replicate, refl, ap, sym, ◌∙◌, subst, slice_get, slice_index, slice_index_or, slice_set, Option, Some, None, arith, map, take, add-one}
+use Rattle.std.proofs.Common.{◌≡◌, ◌≢◌, ℕ, zero, suc, ◌+◌, ◌<◌, ◌≤◌, ℤ, Bool, true, false, cond, nat_eq, List, [], ◌∷◌, ◌++◌, length, count_by, pos, replicate, refl, ap, sym, ◌∙◌, subst, slice_get, slice_index, slice_set, Option, Some, None, arith, map, take, add-one}
 use Rattle.std.proofs.lemmas.Bool.Decides.{nat_tests}
 use Rattle.std.proofs.lemmas.List.Sums.{count_by-le-length, sum_by-append}
 use Rattle.std.proofs.Math.Seq.{take-suc}
 use Rattle.std.proofs.lemmas.List.{map-append, length-set}
-use Rattle.std.proofs.lemmas.Option.{slice_get_read}
 use Rattle.tile_pool.specs.Pool.{Pool, IsTakenFrom}
 use Rattle.task_run.specs.declared.pools.TypePool.{TypePool}
 use Rattle.task_run.specs.Pools.{AreBelow, IsPoolOf, is_of_type}
@@ -128,10 +127,6 @@ pools_along pools e are = subst (ArePools pools) (sym e) are
 pub below_along : (types : ℕ) {l m : List (Option ℕ)} → m ≡ l → AreBelow types l → AreBelow types m
 below_along types e below = subst (AreBelow types) (sym e) below
 
--- the pool of a type, by its place
-pub pool_at : (pools : List TypePool) (k : ℕ) (p : TypePool) → k < length pools → p ≡ slice_index_or pools k p → slice_get pools k ≡ Some p
-pool_at pools k p h e = slice_get_read pools (length pools) k p refl h e
-
 pub elems_at : (pools : List TypePool) (k : ℕ) (p : TypePool) → slice_get pools k ≡ Some p → slice_index (map (λ (q : TypePool). q.pool.elems) pools) k ≡ p.pool.elems
 elems_at [] k p h = absurd cc
 elems_at (q ∷ qs) zero p h =
@@ -139,30 +134,10 @@ elems_at (q ∷ qs) zero p h =
     ap (λ (r : TypePool). r.pool.elems) same
 elems_at (q ∷ qs) (suc k) p h = elems_at qs k p h
 
-pub types_count : (pools : List TypePool) → length (map (λ (q : TypePool). q.pool.elems) pools) ≡ length pools
-types_count [] = refl
-types_count (q ∷ qs) = ap suc (types_count qs)
-
 pub some_type : (types k j : ℕ) → k < types → Some k ≡ Some j → j < types
 some_type types k j h e =
     let same : k ≡ j = cc in
     omega (arith, h, same)
-
-pub snoc_init : {A : Type 0} (xs ys : List A) (x y : A) → xs ++ x ∷ [] ≡ ys ++ y ∷ [] → xs ≡ ys
-snoc_init [] [] x y e = refl
-snoc_init [] (b ∷ []) x y e = absurd cc
-snoc_init [] (b ∷ c ∷ ys) x y e = absurd cc
-snoc_init (a ∷ []) [] x y e = absurd cc
-snoc_init (a ∷ c ∷ xs) [] x y e = absurd cc
-snoc_init (a ∷ xs) (b ∷ ys) x y e =
-    let head : a ≡ b = cc in
-    let tail : xs ≡ ys = snoc_init xs ys x y cc in
-    λ i. head i ∷ tail i
-
-pub pool_there : (pools : List TypePool) (k : ℕ) → k < length pools → (p : TypePool) × (slice_get pools k ≡ Some p)
-pool_there [] k h = absurd (omega (arith, h))
-pool_there (p ∷ ps) zero h = (p, refl)
-pool_there (p ∷ ps) (suc k) h = pool_there ps k (omega (arith, h))
 
 pub lent_room : (lent : List (Option ℕ)) (k : ℕ) (pool : Pool) (z : List ℤ) → IsPoolOf (lent ++ Some k ∷ []) k pool z → 0 < pool.room
 lent_room lent k pool z is = omega (arith, is.lent, count-one k lent (Some k), same_type k)

@@ -9,14 +9,14 @@ use Rattle.term_core.specs.declared.space.Def.{Def}
 use Rattle.term_core.specs.declared.space.Def.TheVariants.{Span, Value}
 use Rattle.term_core.specs.declared.space.ClassSpace.{ClassSpace}
 
--- whether a step names only the first so many definitions; one that is not written names none
-abbrev pub is_closed_step : ℕ → Option Term → Bool
-is_closed_step before None = true
-is_closed_step before (Some e) = is_closed before e
+-- whether a step, a guard or a priority names only the first so many definitions; one that is not written names none
+abbrev pub is_closed_option : ℕ → Option Term → Bool
+is_closed_option before None = true
+is_closed_option before (Some e) = is_closed before e
 
 -- whether a definition names only the first so many definitions, and no element of a tile
 abbrev pub is_closed_def : ℕ → Def → Bool
-is_closed_def before (Span r) = is_closed before r.lo && is_closed before r.hi && is_closed_step before r.step
+is_closed_def before (Span r) = is_closed before r.lo && is_closed before r.hi && is_closed_option before r.step
 is_closed_def before (Value e) = is_closed before e
 
 -- whether each definition names only those before it, where so many come before the first

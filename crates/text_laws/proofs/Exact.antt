@@ -1,9 +1,8 @@
 -- A predictive grammar is read exactly.
-use Rattle.std.proofs.Common.{◌≡◌, ℕ, ◌-◌, ◌≤◌, List, length, Result, Ok, Err, ◌⊎◌, inl, inr, refl, sym, ap, ◌∙◌, arith}
+use Rattle.std.proofs.Common.{◌≡◌, ℕ, ◌-◌, List, length, Result, Ok, Err, ◌⊎◌, inl, inr, refl, sym, ap, ◌∙◌, arith}
 use Rattle.std.specs.Prelude.{None}
 use Rattle.grammar_core.specs.declared.token.Token.{Token}
 use Rattle.grammar_core.specs.declared.code.Code.{Code}
-use Rattle.grammar_core.specs.declared.code.Code.TheVariants.{Syntax}
 use Rattle.grammar_core.specs.Production.{Production, IsText, IsFirstFault}
 use Rattle.grammar_core.specs.Reading.{FaultFromEnd, whole}
 use Rattle.grammar_core.specs.Predictive.{Claims}
@@ -13,11 +12,6 @@ use Rattle.grammar_core.proofs.Whole as whole_text
 use Rattle.list_lemmas.proofs.Options.{same_Ok, Ok≢Err, same_Err}
 
 module _ {N : Type 0} {Tree : N → Type 0} (body : (n : N) → Production N Tree (Tree n)) (claims : Claims N) {A : Type 0} (g : Production N Tree A) (h : IsPredictive body claims g) where
-  -- a first fault is at a token, or at the end
-  in_tokens : (s : List Token) (i : ℕ) (c : Code) → IsFirstFault body g s i c → i ≤ length s
-  in_tokens s i Syntax f = f.within
-  in_tokens s i c f = let w = f.within in omega (arith, w)
-
   found : (s : List Token) (t : A) → whole body g s ≡ Ok t → IsText body g s t None
   found = whole_text.text_found body claims h.nonterminals h.nonterminal_limits g h.start h.start_limits
 
@@ -34,8 +28,8 @@ module _ {N : Type 0} {Tree : N → Type 0} (body : (n : N) → Production N Tre
   one_fault s i j c d a b =
       let same : (length s - i, c) ≡ (length s - j, d) = same_Err (length s - i, c) (length s - j, d) (sym (refused s i c a) ∙ refused s j d b) in
       let left : length s - i ≡ length s - j = ap (λ (n : FaultFromEnd). n.0) same in
-      let x = in_tokens s i c a in
-      let y = in_tokens s j d b in
+      let x = whole_text.fault_index body g s i c a in
+      let y = whole_text.fault_index body g s j d b in
       (omega (arith, left, x, y), ap (λ (n : FaultFromEnd). n.1) same)
 
   either : (s : List Token) → ((t : A) × IsText body g s t None) ⊎ ((i : ℕ) × (c : Code) × IsFirstFault body g s i c)

@@ -5,13 +5,13 @@ use Rattle.std.specs.List.{starts_with}
 use Rattle.std.proofs.lemmas.Bool.{and_parts, and_from, cases_lt, cases_Bool, false≢true, eqb-true, not-true, not_from_false}
 use Rattle.std.proofs.lemmas.List.{append-nil, drop-append-le}
 use Rattle.std.proofs.lemmas.Option.{same_Some}
+use Rattle.list_lemmas.proofs.Joins.{longer_front}
 use Rattle.jdf_lex.specs.declared.lexical_unit.LexicalUnit.{LexicalUnit}
 use Rattle.jdf_lex.specs.declared.lexical_unit.LexicalUnit.TheVariants.{LineComment, BlockComment, TokenOf}
 use Rattle.jdf_alphabet.specs.declared.kind.TokenKind.TheVariants.{Raw, OptionLine}
 use Rattle.jdf_lex.specs.Spelling.{is_mark, begins_part, begins_option, plain_unit, first_unit, unit_at, is_spelling}
 use Rattle.jdf_lex.specs.Tokens.{IsUnit, LongestIsTaken}
 use Rattle.jdf_lex.proofs.Fronts.{spelling_is_some}
-use Rattle.jdf_lex.proofs.Uniqueness.{longer_front}
 
 abbrev option_word : List ℕ
 option_word = codes "%option"

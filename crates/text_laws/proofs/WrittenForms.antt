@@ -5,6 +5,7 @@ use Rattle.std.specs.List.{starts_with}
 use Rattle.std.proofs.lemmas.Bool.{and_parts, cases_lt, false≢true, eqb-true, not-true, or_parts}
 use Rattle.std.proofs.lemmas.List.{append_cancel_left, append-nil, take-append-drop}
 use Rattle.std.proofs.lemmas.Option.{same_Some}
+use Rattle.list_lemmas.proofs.Joins.{longer_front}
 use Rattle.jdf_lex.specs.declared.lexical_unit.LexicalUnit.{LexicalUnit}
 use Rattle.jdf_lex.specs.declared.lexical_unit.LexicalUnit.TheVariants.{Blank, LineComment, BlockComment, TokenOf}
 use Rattle.jdf_alphabet.specs.declared.kind.TokenKind.TheVariants.{Name, Number, Quoted, Raw, OptionLine, Mark, Other}
@@ -14,7 +15,7 @@ use Rattle.text_laws.specs.Forms.{HasForm, IsWrittenUnit, UnitsAsWritten}
 use Rattle.text_laws.specs.Forms.HasForm.{blank, line_comment, block_comment, name, number, quoted, raw, option_line, mark, other}
 use Rattle.jdf_lex.specs.Reading.{front_unit}
 use Rattle.jdf_lex.proofs.Fronts.{Found, front_found, front_none, spelling_is_some}
-use Rattle.jdf_lex.proofs.Uniqueness.{longer_front, longest_is, one_begins}
+use Rattle.jdf_lex.proofs.Uniqueness.{longest_is, one_begins}
 use Rattle.text_laws.proofs.ClosingMarks.{comment_closed_by, raw_closed_by, closed_is_free, free_is_closed, closed_is_items, items_are_closed}
 
 -- ---- a word of the written form is spelled as the unit

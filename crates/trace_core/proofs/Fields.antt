@@ -1,18 +1,18 @@
 -- The numbers and the rows with which a text begins.
-use Rattle.std.proofs.Common.{◌≡◌, ◌≢◌, ◌↔◌, ℕ, suc, ◌+◌, ◌≤◌, ℤ, Bool, true, false, ◌&&◌, List, [], ◌∷◌, ◌++◌, codes, refl, ap, sym, ◌∙◌, subst}
+use Rattle.std.proofs.Common.{◌≡◌, ◌≢◌, ◌↔◌, ℕ, ◌+◌, ℤ, true, List, [], ◌∷◌, ◌++◌, codes, refl, ap, sym, ◌∙◌, subst}
 use Rattle.std.specs.List.{list_all}
 use Rattle.std.specs.Fmt.{signed_decimal}
-use Rattle.std.proofs.lemmas.Bool.{eqb-true, false≢true, and_from}
+use Rattle.std.proofs.lemmas.Bool.{eqb-true, and_from}
 use Rattle.std.specs.Cmp.{first_so, second_so}
 use Rattle.trace_core.specs.Cutting.{IsCut, opens_with}
 use Rattle.trace_core.specs.Rows.{AreNumbers, BeginsWithNumber, BeginsWithRow, HasNoNumber, IsOfNumbers, IsRowOf, number_field, number_fields, row_content}
-use Rattle.trace_core.specs.Spelling.{HasNoRow, IsSpelled, fits_64, is_name}
-use Rattle.trace_core.specs.Text.{Entry, row_line}
+use Rattle.trace_core.specs.Spelling.{HasNoRow, IsSpelled, is_number, is_name}
+use Rattle.trace_core.specs.Text.{Entry}
 use Rattle.trace_core.proofs.Cuts.{cut_once}
 use Rattle.trace_core.proofs.Spelled.{fields_open, name_free, row_free, row_split, same_number, signed_free}
 
 -- the field after a comma is no number, or is one
-pub field_none : (text rest field later : List ℕ) → text ≡ 44 ∷ rest → IsCut 44 rest field later → ((n : ℤ) → fits_64 n ≡ true → field ≢ signed_decimal n) → HasNoNumber text
+pub field_none : (text rest field later : List ℕ) → text ≡ 44 ∷ rest → IsCut 44 rest field later → ((n : ℤ) → is_number n ≡ true → field ≢ signed_decimal n) → HasNoNumber text
 field_none text rest field later is cut none n more w =
     let whole : 44 ∷ (field ++ later) ≡ 44 ∷ (signed_decimal n ++ more) = ap (λ t. 44 ∷ t) (sym cut.split) ∙ sym is ∙ w.split in
     let tail : field ++ later ≡ signed_decimal n ++ more = cc in
@@ -22,23 +22,23 @@ field_none text rest field later is cut none n more w =
 pub numbers_next : (text later : List ℕ) (n : ℤ) (ns : List ℤ) → BeginsWithNumber text n later → AreNumbers text ns → (ms : List ℤ) × (ns ≡ n ∷ ms) × AreNumbers later ms
 numbers_next text later n [] w a = let whole : 44 ∷ (signed_decimal n ++ later) ≡ [] = sym w.split ∙ a.spelled in absurd cc
 numbers_next text later n (m ∷ ms) w a =
-    let fits = first_so (fits_64 m) (list_all fits_64 ms) a.fit in
+    let fits = first_so (is_number m) (list_all is_number ms) a.fit in
     let whole : 44 ∷ (signed_decimal n ++ later) ≡ 44 ∷ (signed_decimal m ++ number_fields ms) = sym w.split ∙ a.spelled in
     let tail : signed_decimal n ++ later ≡ signed_decimal m ++ number_fields ms = cc in
     let r = cut_once 44 (signed_decimal n) (signed_decimal m) later (number_fields ms) (signed_free 44 n w.fits refl refl) (signed_free 44 m fits refl refl) w.next (fields_open ms) tail in
     let same = same_number n m w.fits fits r.0 in
-    (ms, (λ i. sym same i ∷ ms), record { spelled = r.1; fit = second_so (fits_64 m) (list_all fits_64 ms) a.fit })
+    (ms, (λ i. sym same i ∷ ms), record { spelled = r.1; fit = second_so (is_number m) (list_all is_number ms) a.fit })
 
 pub numbers_more : (text later : List ℕ) (n : ℤ) → BeginsWithNumber text n later → IsOfNumbers later ↔ IsOfNumbers text
 numbers_more text later n w = (
-  λ p. (n ∷ p.0, record { spelled = w.split ∙ ap (λ t. number_field n ++ t) p.1.spelled; fit = and_from (fits_64 n) (list_all fits_64 p.0) w.fits p.1.fit }),
+  λ p. (n ∷ p.0, record { spelled = w.split ∙ ap (λ t. number_field n ++ t) p.1.spelled; fit = and_from (is_number n) (list_all is_number p.0) w.fits p.1.fit }),
   λ p. let q = numbers_next text later n p.0 w p.1 in (q.0, q.2),
 )
 
 -- no number comes first: then there are none
 pub none_left : (text : List ℕ) (ns : List ℤ) → HasNoNumber text → AreNumbers text ns → ns ≡ []
 none_left text [] none a = refl
-none_left text (m ∷ ms) none a = absurd (none m (number_fields ms) (record { split = a.spelled; fits = first_so (fits_64 m) (list_all fits_64 ms) a.fit; next = fields_open ms }))
+none_left text (m ∷ ms) none a = absurd (none m (number_fields ms) (record { split = a.spelled; fits = first_so (is_number m) (list_all is_number ms) a.fit; next = fields_open ms }))
 
 pub no_numbers : (text : List ℕ) → text ≡ [] → IsOfNumbers text
 no_numbers text is = ([], record { spelled = is; fit = refl })

@@ -6,7 +6,7 @@ use Rattle.std.proofs.lemmas.List.{append-nil}
 use Rattle.std.proofs.lemmas.List.Concat.{flat_map-append}
 use Rattle.trace_core.specs.Cutting.{IsCut}
 use Rattle.trace_core.specs.Rows.{BeginsWithRow}
-use Rattle.trace_core.specs.Spelling.{BeginsWith, HasNoHead, IsSpelled, IsWellSpelled, fits_64}
+use Rattle.trace_core.specs.Spelling.{BeginsWith, HasNoHead, IsSpelled, IsWellSpelled, is_number}
 use Rattle.trace_core.specs.Text.{Entry, head_line, row_line, rows_text}
 use Rattle.trace_core.proofs.Cuts.{cut_once}
 use Rattle.trace_core.proofs.Spelled.{decimal_free, head_split, same_head, same_number}
@@ -24,13 +24,13 @@ module _ (text fields field rest : List ℕ) (word : text ≡ codes "trace," ++ 
   head_no_count none n later le h = none n le (head_parts n later le h).0
 
 -- a number of rows is a number
-small_fits : (n : ℕ) → n ≤ 1000000 → fits_64 (pos n) ≡ true
+small_fits : (n : ℕ) → n ≤ 1000000 → is_number (pos n) ≡ true
 small_fits n le = lt-ltb n 9223372036854775808 (omega arith)
 
-pub no_count : (field : List ℕ) → ((z : ℤ) → fits_64 z ≡ true → field ≢ signed_decimal z) → (n : ℕ) → n ≤ 1000000 → field ≢ decimal n
+pub no_count : (field : List ℕ) → ((z : ℤ) → is_number z ≡ true → field ≢ signed_decimal z) → (n : ℕ) → n ≤ 1000000 → field ≢ decimal n
 no_count field none n le h = none (pos n) (small_fits n le) h
 
-pub other_count : (field : List ℕ) (z : ℤ) → fits_64 z ≡ true → field ≡ signed_decimal z → ((n : ℕ) → n ≤ 1000000 → z ≢ pos n) → (n : ℕ) → n ≤ 1000000 → field ≢ decimal n
+pub other_count : (field : List ℕ) (z : ℤ) → is_number z ≡ true → field ≡ signed_decimal z → ((n : ℕ) → n ≤ 1000000 → z ≢ pos n) → (n : ℕ) → n ≤ 1000000 → field ≢ decimal n
 other_count field z fits is none n le h = none n le (same_number z (pos n) fits (small_fits n le) (sym is ∙ h))
 
 pub rows_push : (es : List Entry) (e : Entry) (rest : List ℕ) → rows_text (es ++ e ∷ []) ++ rest ≡ rows_text es ++ (row_line e ++ rest)

@@ -1,5 +1,5 @@
 -- A text has one first fault at most, and none where all its rows may run and no task that runs is missing.
-use Rattle.std.proofs.Common.{◌≡◌, ◌≢◌, ℕ, ◌+◌, ◌<◌, ◌≤◌, true, List, [], ◌∷◌, ◌++◌, map, length, refl, ap, sym, ◌∙◌, subst, ◌⊎◌, inl, inr, append_assoc, arith}
+use Rattle.std.proofs.Common.{◌≡◌, ◌≢◌, ℕ, ◌+◌, ◌≤◌, true, List, [], ◌∷◌, ◌++◌, map, length, refl, ap, sym, ◌∙◌, subst, ◌⊎◌, inl, inr, append_assoc, arith}
 use Rattle.std.proofs.lemmas.Bool.{false≢true}
 use Rattle.std.proofs.lemmas.List.{append-nil}
 use Rattle.ptg_base.specs.Lists.{IsIn}
@@ -9,21 +9,21 @@ use Rattle.plan_core.specs.declared.plan.Plan.{Plan}
 use Rattle.coll_data.specs.Data.{Data}
 use Rattle.dep_iter.specs.Edges.{in_edges}
 use Rattle.flow_meaning.specs.Answer.{ran}
-use Rattle.flow_meaning.specs.Backward.{ended}
-use Rattle.flow_meaning.specs.Ending.{has_outputs}
 use Rattle.trace_core.specs.declared.fault.TraceCode.{TraceCode}
 use Rattle.trace_core.specs.declared.fault.TraceCode.TheVariants.{TooLong, BadTrace, UnknownTask, RanTwice, TooEarly, Unfinished}
 use Rattle.trace_core.specs.declared.fault.TraceFault.{TraceFault}
 use Rattle.trace_core.specs.Faults.{IsFaultOfRow, IsMissing, IsRowFault, IsTraceFault, too_long, bad_trace, of_tasks, IsUnfinished}
-use Rattle.trace_core.specs.Naming.{Names}
 use Rattle.trace_core.specs.Orders.{MayAllRunAfter, MayRunAfter}
 use Rattle.trace_core.specs.Spelling.{IsWellSpelled}
 use Rattle.trace_core.specs.Text.{Entry, entry_of}
 use Rattle.trace_core.proofs.Named.{one_task}
 use Rattle.trace_core.proofs.OneText.{one_bad_row, one_spelling, spelled_or_bad}
 
+pub same_fault : (f g : TraceFault) → f.row ≡ g.row → f.code ≡ g.code → f ≡ g
+same_fault f g p q = λ i. record { row = p i; code = q i }
+
 module _ (P : Plan) (G : Data) where
-  not_missing : (before : List Task) (t : Task) → MayRunAfter P G before t → (x : Edge) → IsIn x (in_edges P t) → IsMissing P G before x → ⊥
+  pub not_missing : (before : List Task) (t : Task) → MayRunAfter P G before t → (x : Edge) → IsIn x (in_edges P t) → IsMissing P G before x → ⊥
   not_missing before t may x i m = elim m [
     | inl absent ↦ absent (may.follows.after_sources x i)
     | inr trap ↦ false≢true (sym trap ∙ may.have_outputs x i)
@@ -119,9 +119,6 @@ module _ (P : Plan) (G : Data) where
       let same = one_task P (entry_of P t) t u (may.0.follows.task, refl) (mays.0.follows.task, first) in
       let later = same_tasks (acc ++ t ∷ []) ts us rest may.1 (subst (λ v. MayAllRunAfter P G (acc ++ v ∷ []) us) (sym same) mays.1) in
       λ i. same i ∷ later i
-
-  same_fault : (f g : TraceFault) → f.row ≡ g.row → f.code ≡ g.code → f ≡ g
-  same_fault f g p q = λ i. record { row = p i; code = q i }
 
   one_of_tasks : (es : List Entry) (f g : TraceFault) → IsFaultOfRow P G es f ⊎ IsUnfinished P G es f → IsFaultOfRow P G es g ⊎ IsUnfinished P G es g → f ≡ g
   one_of_tasks es f g (inl a) (inl b) =

@@ -19,6 +19,7 @@ use Rattle.trace_core.specs.Reading.{IsReadFault, IsReading, over_length, of_a_r
 use Rattle.trace_core.specs.Text.{Entry, entry_of}
 use Rattle.trace_core.proofs.Lists.{same_list}
 use Rattle.trace_core.proofs.Named.{one_task}
+use Rattle.trace_core.proofs.OneFault.{same_fault}
 use Rattle.trace_core.proofs.OneText.{one_bad_row, one_spelling, spelled_or_bad}
 
 module _ (P : Plan) where
@@ -99,9 +100,6 @@ module _ (P : Plan) where
       (subst (λ x. IsNamingFault P x d b) (sym (append_assoc acc (t ∷ []) ts)) f)
       (subst (λ x. IsNamingFault P x e c) (other ∙ sym (append_assoc acc (t ∷ []) us)) g) in
       (omega (arith, q.0), q.1)
-
-  same_fault : (f g : TraceFault) → f.row ≡ g.row → f.code ≡ g.code → f ≡ g
-  same_fault f g p q = λ i. record { row = p i; code = q i }
 
   module _ (text : List ℕ) where
     -- a text that is read as a list of different tasks has no fault

@@ -1,25 +1,24 @@
 -- How far a text has been read: the tasks of its first rows, and the rows that are left.
-use Rattle.std.proofs.Common.{◌≡◌, ◌≢◌, ℕ, ◌+◌, ◌<◌, ◌≤◌, Bool, true, false, ◌||◌, cond, not, List, [], ◌∷◌, ◌++◌, map, length, refl, ap, sym, ◌∙◌, subst, append_assoc, length-append, inl, inr, Some, arith}
+use Rattle.std.proofs.Common.{◌≡◌, ℕ, ◌+◌, Bool, true, false, cond, not, List, [], ◌∷◌, ◌++◌, refl, ap, sym, ◌∙◌, subst, append_assoc}
 use Rattle.std.specs.List.{AllByRecursion, list_any}
-use Rattle.std.proofs.lemmas.Bool.{false≢true, not-false, not-true}
+use Rattle.std.proofs.lemmas.Bool.{not-false, not-true}
 use Rattle.std.proofs.lemmas.List.{append-nil, map-append}
-use Rattle.ptg_base.specs.Lists.{HasNoRepeats, IsIn}
+use Rattle.ptg_base.specs.Lists.{IsIn}
 use Rattle.ptg_base.specs.Task.{Task}
 use Rattle.ptg_base.specs.TaskComparing.{same_task}
 use Rattle.ptg_base.specs.TaskLaws.{same_task-decides}
 use Rattle.plan_core.specs.declared.plan.Plan.{Plan}
-use Rattle.list_lemmas.proofs.Members.{from_append}
-use Rattle.list_lemmas.proofs.Truth.{by_test}
+use Rattle.list_lemmas.proofs.Members.{some_member_passes}
 use Rattle.list_lemmas.proofs.Places.{each_push}
 use Rattle.list_lemmas.proofs.Tasks.{none_member}
+use Rattle.list_lemmas.proofs.Distinct.{HasNoRepeats-push}
 use Rattle.dep_iter.specs.Tasks.{IsTask}
 use Rattle.trace_core.specs.declared.fault.TraceCode.{TraceCode}
-use Rattle.trace_core.specs.declared.fault.TraceCode.TheVariants.{UnknownTask, RanTwice}
 use Rattle.trace_core.specs.Naming.{AreRowsBefore, AreRowsOf, IsNamingFault, Names}
-use Rattle.trace_core.specs.Rows.{BeginsWithRow, IsRowOf}
+use Rattle.trace_core.specs.Rows.{BeginsWithRow}
 use Rattle.trace_core.specs.Spelling.{HasNoRow, IsSpelled}
 use Rattle.trace_core.specs.Text.{Entry, entry_of, row_line, rows_text}
-use Rattle.trace_core.proofs.Spelled.{row_line_is, same_row}
+use Rattle.trace_core.proofs.Spelled.{same_row}
 
 -- these tasks are those of the first rows, and the rest of the text is that of the others
 pub record IsReadTo (P : Plan) (es : List Entry) (ts : List Task) (left : List ℕ) : Type 0 where
@@ -59,17 +58,9 @@ next_is P es ts left name numbers later r w = by r.others r.split r.spelled r.te
         let same = same_row w.entry e later (rows_text es) w.row.spelled s.0 (sym w.split ∙ t) in
         record { front = r.front; others = es; split = split ∙ (λ i. r.front ++ sym same.0 i ∷ es); spelled = s.1; text = same.1; rows = r.rows }
 
--- one more task that is new
-pub once_push : (ts : List Task) (t : Task) → HasNoRepeats ts → (IsIn t ts → ⊥) → HasNoRepeats (ts ++ t ∷ [])
-once_push [] t h new = (λ i. i, tt)
-once_push (u ∷ us) t h new = (
-  λ i. elim (from_append u us (t ∷ []) i) [ inl old ↦ h.0 old | inr here ↦ elim here [ inl e ↦ new (inl (sym e)) | inr never ↦ never ] ],
-  once_push us t h.1 (λ i. new (inr i)),
-)
-
+-- a task that a test finds among these is one of them
 pub any_member : (t : Task) (ts : List Task) → list_any (same_task t) ts ≡ true → IsIn t ts
-any_member t [] h = absurd (false≢true h)
-any_member t (u ∷ us) h = by_test (same_task t u) (λ k. inl ((same_task-decides t u).0 k)) (λ k. inr (any_member t us (sym (ap (λ b. b || list_any (same_task t) us) k) ∙ h)))
+any_member t ts h = let p = some_member_passes (same_task t) ts h in subst (λ u. IsIn u ts) (sym ((same_task-decides t p.0).0 p.2)) p.1
 
 module _ (P : Plan) (es : List Entry) (ts : List Task) (e : Entry) (later : List ℕ) (n : IsNextRow P es ts e later) where
   pub read_more : (t : Task) → Names P e t → (IsIn t ts → ⊥) → IsReadTo P es (ts ++ t ∷ []) later
@@ -82,7 +73,7 @@ module _ (P : Plan) (es : List Entry) (ts : List Task) (e : Entry) (later : List
     rows = record {
       named = (λ i. n.rows.named i ++ named.1 i ∷ []) ∙ sym (map-append (entry_of P) ts (t ∷ []));
       tasks = each_push (IsTask P) ts t n.rows.tasks named.0;
-      once = once_push ts t n.rows.once new;
+      once = HasNoRepeats-push ts t n.rows.once new;
     };
   }
 

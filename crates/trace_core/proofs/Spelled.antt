@@ -15,16 +15,16 @@ use Rattle.std.specs.Cmp.{first_so, second_so}
 use Rattle.ptg_base.specs.Names.{is_letter, is_part}
 use Rattle.trace_core.specs.Cutting.{is_free_of, opens_with}
 use Rattle.trace_core.specs.Rows.{number_field, number_fields, row_content}
-use Rattle.trace_core.specs.Spelling.{IsSpelled, fits_64, is_name}
+use Rattle.trace_core.specs.Spelling.{IsSpelled, is_number, is_name}
 use Rattle.trace_core.specs.Text.{Entry, head_line, row_line}
 use Rattle.trace_core.proofs.Cuts.{cut_once, free_append, free_by}
 
 -- a number that fits 64 bits
-pub fits_mag : (z : ℤ) → fits_64 z ≡ true → mag z < 2 ^ 63
+pub fits_mag : (z : ℤ) → is_number z ≡ true → mag z < 2 ^ 63
 fits_mag (pos n) h = ltb-true n 9223372036854775808 h
 fits_mag (negsuc n) h = ltb-true n 9223372036854775808 h
 
-pub fits_signed : (z : ℤ) → fits_64 z ≡ true → SFits w64 z
+pub fits_signed : (z : ℤ) → is_number z ≡ true → SFits w64 z
 fits_signed z h = record { sfits = fits_mag z h }
 
 -- numbers have no comma and no LF
@@ -37,13 +37,13 @@ digits_pass (d ∷ ds) h =
 pub decimal_free : (c n : ℕ) → n < 2 ^ 64 → is_digit c ≡ false → is_free_of c (decimal n) ≡ true
 decimal_free c n h fails = free_by is_digit c fails (decimal n) (digits_pass (decimal n) (decimal_is_IsNumeral n h).0.1)
 
-pub signed_free : (c : ℕ) (z : ℤ) → fits_64 z ≡ true → is_digit c ≡ false → (45 == c) ≡ false → is_free_of c (signed_decimal z) ≡ true
+pub signed_free : (c : ℕ) (z : ℤ) → is_number z ≡ true → is_digit c ≡ false → (45 == c) ≡ false → is_free_of c (signed_decimal z) ≡ true
 signed_free c (pos n) fits fails other = let small = ltb-true n 9223372036854775808 fits in decimal_free c n (omega arith) fails
 signed_free c (negsuc n) fits fails other =
     let small = ltb-true n 9223372036854775808 fits in
     and_from (not (45 == c)) (is_free_of c (decimal (suc n))) (ap not other) (decimal_free c (suc n) (omega arith) fails)
 
-pub same_number : (y z : ℤ) → fits_64 y ≡ true → fits_64 z ≡ true → signed_decimal y ≡ signed_decimal z → y ≡ z
+pub same_number : (y z : ℤ) → is_number y ≡ true → is_number z ≡ true → signed_decimal y ≡ signed_decimal z → y ≡ z
 same_number y z h k e = signed_decimal_injective y z (fits_mag y h) (fits_mag z k) e
 
 -- a name has none either
@@ -55,10 +55,10 @@ name_free c fails (b ∷ bs) h =
     letter_part : (b : ℕ) → is_letter b ≡ true → is_part b ≡ true
     letter_part b h = ap (λ x. x || is_digit b) h
 
-pub fields_free : (ns : List ℤ) → list_all fits_64 ns ≡ true → is_free_of 10 (number_fields ns) ≡ true
+pub fields_free : (ns : List ℤ) → list_all is_number ns ≡ true → is_free_of 10 (number_fields ns) ≡ true
 fields_free [] h = refl
 fields_free (n ∷ ns) h =
-    free_append 10 (number_field n) (number_fields ns) (signed_free 10 n (first_so (fits_64 n) (list_all fits_64 ns) h) refl refl) (fields_free ns (second_so (fits_64 n) (list_all fits_64 ns) h))
+    free_append 10 (number_field n) (number_fields ns) (signed_free 10 n (first_so (is_number n) (list_all is_number ns) h) refl refl) (fields_free ns (second_so (is_number n) (list_all is_number ns) h))
 
 pub fields_open : (ns : List ℤ) → opens_with 44 (number_fields ns) ≡ true
 fields_open [] = refl
@@ -80,17 +80,17 @@ pub row_split : (e : Entry) (rest : List ℕ) → row_line e ++ rest ≡ row_con
 row_split e rest = ap (λ t. t ++ rest) (row_line_is e) ∙ append_assoc (row_content e) (10 ∷ []) rest
 
 -- numbers are printed alike only where they are the same
-pub same_numbers : (ms ns : List ℤ) → list_all fits_64 ms ≡ true → list_all fits_64 ns ≡ true → number_fields ms ≡ number_fields ns → ms ≡ ns
+pub same_numbers : (ms ns : List ℤ) → list_all is_number ms ≡ true → list_all is_number ns ≡ true → number_fields ms ≡ number_fields ns → ms ≡ ns
 same_numbers [] [] h k e = refl
 same_numbers [] (n ∷ ns) h k e = cc
 same_numbers (m ∷ ms) [] h k e = cc
 same_numbers (m ∷ ms) (n ∷ ns) h k e =
-    let fm = first_so (fits_64 m) (list_all fits_64 ms) h in
-    let fn = first_so (fits_64 n) (list_all fits_64 ns) k in
+    let fm = first_so (is_number m) (list_all is_number ms) h in
+    let fn = first_so (is_number n) (list_all is_number ns) k in
     let tail : signed_decimal m ++ number_fields ms ≡ signed_decimal n ++ number_fields ns = cc in
     let r = cut_once 44 (signed_decimal m) (signed_decimal n) (number_fields ms) (number_fields ns) (signed_free 44 m fm refl refl) (signed_free 44 n fn refl refl) (fields_open ms) (fields_open ns) tail in
     let first = same_number m n fm fn r.0 in
-    let later = same_numbers ms ns (second_so (fits_64 m) (list_all fits_64 ms) h) (second_so (fits_64 n) (list_all fits_64 ns) k) r.1 in
+    let later = same_numbers ms ns (second_so (is_number m) (list_all is_number ms) h) (second_so (is_number n) (list_all is_number ns) k) r.1 in
     λ i. first i ∷ later i
 
 -- rows are printed alike only where they say the same

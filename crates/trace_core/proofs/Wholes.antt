@@ -18,11 +18,12 @@ use Rattle.list_lemmas.proofs.Options.{some_value}
 use Rattle.list_lemmas.proofs.Members.{member_passes, list_all-from_members, IsIn-filter}
 use Rattle.list_lemmas.proofs.Distinct.{HasNoRepeats-filter}
 use Rattle.list_lemmas.proofs.Growing.{all_or_one}
-use Rattle.list_lemmas.proofs.Tasks.{distinct_once, member_or_not, uncounted, once_each}
+use Rattle.list_lemmas.proofs.Tasks.{member_or_not, uncounted, once_each}
 use Rattle.dep_iter.specs.Tasks.{IsTask, all_tasks, locals_of}
 use Rattle.dep_iter.specs.Edges.{in_edges}
 use Rattle.dep_iter.specs.Consistent.{IsConsistent}
 use Rattle.dep_iter.proofs.Listing.{listed}
+use Rattle.dep_iter.proofs.Once.{once-all_tasks}
 use Rattle.flow_meaning.specs.Answer.{ran}
 use Rattle.flow_meaning.specs.Backward.{ended, has_all_sources, source_tile}
 use Rattle.list_lemmas.specs.Counting.{HasSameMembers, as_number, count}
@@ -30,7 +31,6 @@ use Rattle.flow_meaning.specs.Ending.{ended_on, has_outputs}
 use Rattle.flow_meaning.specs.Order.{IsLegalAfter}
 use Rattle.flow_meaning.specs.Starting.{starting_tiles}
 use Rattle.flow_meaning.proofs.Enough.{fixed}
-use Rattle.flow_meaning.proofs.Once.{tasks_once}
 use Rattle.flow_meaning.proofs.Rounds.{has_sources}
 use Rattle.flow_meaning.proofs.SourceEdges.{class_of}
 use Rattle.task_order.proofs.Orders.{legal_once}
@@ -90,7 +90,7 @@ module _ (P : Plan) (G : Data) (con : IsConsistent P) where
   same_count : (ts : List Task) → HasNoRepeats ts → ((t : Task) → IsIn t ts ↔ IsIn t (ran P G)) → (t : Task) → count (same_task t) ts ≡ count (same_task t) (ran P G)
   unfolding ran
   same_count ts once same t =
-      let there = once_each (filter (λ u. is_some (ended P G u)) (all_tasks P)) (HasNoRepeats-filter (λ u. is_some (ended P G u)) (all_tasks P) (distinct_once (all_tasks P) (tasks_once P))) t in
+      let there = once_each (filter (λ u. is_some (ended P G u)) (all_tasks P)) (HasNoRepeats-filter (λ u. is_some (ended P G u)) (all_tasks P) (once-all_tasks P)) t in
       let here = once_each ts once t in
       elim (member_or_not t ts) [
         | inl i ↦ omega (arith, here, there, count-some (same_task t) ts t i ((same_task-decides t t).1 refl), count-some (same_task t) (ran P G) t ((same t).0 i) ((same_task-decides t t).1 refl))

@@ -3,7 +3,7 @@ use Rattle.std.specs.Prelude.{◌≡◌, ℕ, ℤ, IsTrue, List, ◌∷◌, ◌+
 use Rattle.std.specs.List.{list_all}
 use Rattle.std.specs.Fmt.{signed_decimal}
 use Rattle.trace_core.specs.Cutting.{opens_with}
-use Rattle.trace_core.specs.Spelling.{IsSpelled, fits_64}
+use Rattle.trace_core.specs.Spelling.{IsSpelled, is_number}
 use Rattle.trace_core.specs.Text.{Entry, row_line}
 
 -- a number with a comma before it, and numbers, one after another
@@ -20,7 +20,7 @@ row_content e = codes "ran," ++ (e.name ++ number_fields e.params)
 -- a text begins with this number and its comma, and the next field is at `rest`
 pub record BeginsWithNumber (text : List ℕ) (n : ℤ) (rest : List ℕ) : Type 0 where
   pub split : text ≡ number_field n ++ rest
-  pub fits : IsTrue (fits_64 n)
+  pub fits : IsTrue (is_number n)
   pub next : IsTrue (opens_with 44 rest)
 
 abbrev pub HasNoNumber : List ℕ → Type 0
@@ -29,7 +29,7 @@ HasNoNumber text = (n : ℤ) (rest : List ℕ) → BeginsWithNumber text n rest 
 -- a text is numbers that fit 64 bits
 pub record AreNumbers (text : List ℕ) (ns : List ℤ) : Type 0 where
   pub spelled : text ≡ number_fields ns
-  pub fit : IsTrue (list_all fits_64 ns)
+  pub fit : IsTrue (list_all is_number ns)
 
 abbrev pub IsOfNumbers : List ℕ → Type 0
 IsOfNumbers text = (ns : List ℤ) × AreNumbers text ns

@@ -1,20 +1,16 @@
 -- Which texts are spelled as a trace, whatever their rows name, and which row is the first that is not. Source: this
 -- project's own choice.
-use Rattle.std.specs.Prelude.{◌≡◌, ◌≢◌, ◌+◌, ◌<◌, ◌≤◌, ℕ, ℤ, pos, negsuc, nat_lt, Bool, false, ◌&&◌, IsTrue, List, [], ◌∷◌, ◌++◌, length}
+use Rattle.std.specs.Prelude.{◌≡◌, ◌≢◌, ◌+◌, ◌<◌, ◌≤◌, ℕ, IsTrue, List, [], ◌++◌, length}
 use Rattle.std.specs.List.{AllByRecursion, list_all}
 use Rattle.ptg_base.specs.Limits.{most_tasks}
 pub use Rattle.ptg_base.specs.Names.{is_name}
+pub use Rattle.term_core.specs.Arith.{is_number}
 use Rattle.trace_core.specs.Text.{Entry, head_line, row_line, rows_text}
-
--- whether a number fits 64 bits
-abbrev pub fits_64 : ℤ → Bool
-fits_64 (pos n) = nat_lt n 9223372036854775808
-fits_64 (negsuc n) = nat_lt n 9223372036854775808
 
 -- what a row may say: any name, and any number of numbers that fit 64 bits
 pub record IsSpelled (e : Entry) : Type 0 where
   pub name : IsTrue (is_name e.name)
-  pub params : IsTrue (list_all fits_64 e.params)
+  pub params : IsTrue (list_all is_number e.params)
 
 -- a text begins with the head of a trace of n rows, and with these rows; `rest` follows them
 pub record BeginsWith (text : List ℕ) (n : ℕ) (es : List Entry) (rest : List ℕ) : Type 0 where

@@ -5,7 +5,7 @@ ghost use Rattle.std.specs.List.{list_all};
 ghost use Rattle.ptg_base.specs.Limits.{most_params};
 ghost use Rattle.std.specs.Fmt.{signed_decimal};
 ghost use Rattle.trace_core.specs.Rows.{AreNumbers, BeginsWithNumber, HasNoNumber, IsOfNumbers};
-ghost use Rattle.trace_core.specs.Spelling.{fits_64};
+ghost use Rattle.trace_core.specs.Spelling.{is_number};
 
 use crate::cutting::cut;
 use itoa::Buffer;
@@ -14,7 +14,7 @@ use range_space::Numbers;
 
 // The number that std reads from a field, whatever it is spelled like, if it fits 64 bits.
 fn read_number(field: &[u8]) -> Option<i64>
-    ensures { (n : ℤ) → IsTrue (fits_64 n) → field.now ≡ signed_decimal n → MatchOption result ⊥ (λ read. read ≡ n) }
+    ensures { (n : ℤ) → IsTrue (is_number n) → field.now ≡ signed_decimal n → MatchOption result ⊥ (λ read. read ≡ n) }
 {
     let Ok(text) = str::from_utf8(field) else {
         return None;
@@ -27,8 +27,8 @@ fn read_number(field: &[u8]) -> Option<i64>
 
 // The number of which a field is the spelling, if it fits 64 bits.
 pub(crate) fn number(field: &[u8]) -> Option<i64>
-    ensures { MatchOption result ((n : ℤ) → IsTrue (fits_64 n) → field.now ≢ signed_decimal n) (λ n.
-        IsTrue (fits_64 n) × (field.now ≡ signed_decimal n)) }
+    ensures { MatchOption result ((n : ℤ) → IsTrue (is_number n) → field.now ≢ signed_decimal n) (λ n.
+        IsTrue (is_number n) × (field.now ≡ signed_decimal n)) }
 {
     let Some(n) = read_number(field) else {
         return None;

@@ -3,13 +3,13 @@ use Rattle.std.proofs.Common.{◌≡◌, ◌≢◌, ℕ, ◌<◌, ℤ, true, Lis
 use Rattle.std.specs.Fmt.{signed_decimal}
 use Rattle.trace_core.specs.Cutting.{IsCut}
 use Rattle.trace_core.specs.Rows.{BeginsWithNumber, HasNoNumber, IsOfNumbers, number_fields, row_content}
-use Rattle.trace_core.specs.Spelling.{HasNoRow, IsSpelled, fits_64}
+use Rattle.trace_core.specs.Spelling.{HasNoRow, IsSpelled, is_number}
 use Rattle.trace_core.specs.Text.{Entry}
 use Rattle.trace_core.proofs.Cuts.{cut_once}
 use Rattle.trace_core.proofs.Spelled.{row_free, row_split}
 use Rattle.trace_core.proofs.Fields.{none_left}
 
-pub field_some : (text rest field later : List ℕ) (n : ℤ) → text ≡ 44 ∷ rest → IsCut 44 rest field later → fits_64 n ≡ true → field ≡ signed_decimal n → BeginsWithNumber text n later
+pub field_some : (text rest field later : List ℕ) (n : ℤ) → text ≡ 44 ∷ rest → IsCut 44 rest field later → is_number n ≡ true → field ≡ signed_decimal n → BeginsWithNumber text n later
 field_some text rest field later n is cut fits same = record { split = is ∙ ap (λ t. 44 ∷ t) (cut.split ∙ ap (λ t. t ++ later) same); fits = fits; next = cut.next }
 
 pub other_first : (text rest : List ℕ) (b : ℕ) → text ≡ b ∷ rest → b ≢ 44 → HasNoNumber text

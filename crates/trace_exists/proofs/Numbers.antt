@@ -5,16 +5,16 @@ use Rattle.std.proofs.lemmas.Bool.{eqb-true, false≢true, eq-eqb, lt-ltb, ltb-t
 use Rattle.list_lemmas.proofs.Truth.{by_test}
 use Rattle.list_lemmas.proofs.Texts.{same_or_not}
 use Rattle.trace_core.specs.Rows.{BeginsWithNumber, HasNoNumber, IsOfNumbers}
-use Rattle.trace_core.specs.Spelling.{fits_64}
+use Rattle.trace_core.specs.Spelling.{is_number}
 use Rattle.trace_core.proofs.Fields.{field_none, no_numbers, numbers_more}
 use Rattle.trace_exists.proofs.Fields.{fewer, field_some, not_numbers, nothing_first, other_first}
 use Rattle.trace_exists.proofs.Deciding.{cut_at, one_below}
 
 -- a field is a number that fits 64 bits, or is none
 abbrev IsNumber : List ℕ → Type 0
-IsNumber field = (n : ℤ) × (fits_64 n ≡ true) × (field ≡ signed_decimal n)
+IsNumber field = (n : ℤ) × (is_number n ≡ true) × (field ≡ signed_decimal n)
 
-number_or_none : (field : List ℕ) → IsNumber field ⊎ ((n : ℤ) → fits_64 n ≡ true → field ≢ signed_decimal n)
+number_or_none : (field : List ℕ) → IsNumber field ⊎ ((n : ℤ) → is_number n ≡ true → field ≢ signed_decimal n)
 number_or_none field =
     elim (one_below (λ n. field ≡ signed_decimal (pos n)) (λ n. same_or_not field (signed_decimal (pos n))) 9223372036854775808) [
       | inl p ↦ inl (pos p.0, lt-ltb p.0 9223372036854775808 p.1, p.2)
@@ -24,7 +24,7 @@ number_or_none field =
       ]
     ]
   where
-    neither : ((n : ℕ) → n < 9223372036854775808 → field ≡ signed_decimal (pos n) → ⊥) → ((n : ℕ) → n < 9223372036854775808 → field ≡ signed_decimal (negsuc n) → ⊥) → (n : ℤ) → fits_64 n ≡ true → field ≢ signed_decimal n
+    neither : ((n : ℕ) → n < 9223372036854775808 → field ≡ signed_decimal (pos n) → ⊥) → ((n : ℕ) → n < 9223372036854775808 → field ≡ signed_decimal (negsuc n) → ⊥) → (n : ℤ) → is_number n ≡ true → field ≢ signed_decimal n
     neither none nor (pos n) fits e = none n (ltb-true n 9223372036854775808 fits) e
     neither none nor (negsuc n) fits e = nor n (ltb-true n 9223372036854775808 fits) e
 

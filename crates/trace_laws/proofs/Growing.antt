@@ -1,6 +1,5 @@
 -- There is a whole order: it grows by one task after another that may run, until none is left.
-use Rattle.std.proofs.Common.{◌≡◌, ℕ, zero, suc, ◌≤◌, true, List, [], length, ap, sym, ◌∙◌, ◌⊎◌, inl, inr, Some, is_some}
-use Rattle.std.proofs.lemmas.Bool.{false≢true}
+use Rattle.std.proofs.Common.{◌≡◌, ℕ, zero, suc, ◌≤◌, true, List, [], length, ap, ◌⊎◌, inl, inr, Some, is_some}
 use Rattle.ptg_base.specs.Lists.{IsIn}
 use Rattle.ptg_base.specs.Task.{Task}
 use Rattle.ptg_base.specs.declared.edge.Edge.{Edge}
@@ -23,23 +22,17 @@ use Rattle.list_lemmas.proofs.Growing.{grown_to_the_end}
 use Rattle.list_lemmas.proofs.Tasks.{member_or_not}
 use Rattle.task_order.proofs.Orders.{legal_once, legal_tasks}
 use Rattle.trace_core.specs.Orders.{IsWholeOrder, MayAllRunAfter, MayRunAfter}
-use Rattle.trace_core.specs.Faults.{IsMissing}
+use Rattle.trace_core.proofs.OneFault.{not_missing}
 use Rattle.trace_core.proofs.Wholes.{all_or_missing, may_legal, may_push, ran_ends, sources_end, whole}
 
 module _ (P : Plan) (G : Data) where
-  not_missing : (before : List Task) (t : Task) → MayRunAfter P G before t → (x : Edge) → IsIn x (in_edges P t) → IsMissing P G before x → ⊥
-  not_missing before t may x i m = elim m [
-    | inl absent ↦ absent (may.follows.after_sources x i)
-    | inr trap ↦ false≢true (sym trap ∙ may.have_outputs x i)
-  ]
-
   -- a task may not run next, or it may
   bars_or_may : (before : List Task) (t : Task) → IsIn t (all_tasks P) → (MayRunAfter P G before t → ⊥) ⊎ MayRunAfter P G before t
   bars_or_may before t i = elim (member_or_not t before) [
     | inl old ↦ inl (λ m. m.follows.first_time old)
     | inr new ↦ elim (all_or_missing P G before (in_edges P t)) [
       | inl all ↦ inr (record { follows = record { task = (listed P t).1 i; first_time = new; after_sources = λ e j. (all e j).0 }; have_outputs = λ e j. (all e j).1 })
-      | inr p ↦ inl (λ m. not_missing before t m p.0 p.1 p.2)
+      | inr p ↦ inl (λ m. not_missing P G before t m p.0 p.1 p.2)
     ]
   ]
 

@@ -1,8 +1,7 @@
 -- What the runs of tasks leave in a world of one rank.
-use Rattle.std.proofs.Common.{◌≡◌, ℕ, zero, suc, ◌+◌, ◌<◌, ◌==◌, ◌↔◌, Bool, true, false, not, List, [], ◌∷◌, ◌++◌, length, take, get_or, refl, ap, sym, ◌∙◌, subst, inl, inr, IsTrue, if◌then◌else◌, arith}
+use Rattle.std.proofs.Common.{◌≡◌, ℕ, suc, ◌+◌, ◌<◌, ◌==◌, ◌↔◌, Bool, true, false, not, List, [], ◌∷◌, ◌++◌, length, take, drop, slice_get, Some, get_or, ap, sym, ◌∙◌, subst, inl, inr, IsTrue, if◌then◌else◌, arith}
 use Rattle.std.proofs.lemmas.Bool.{false≢true}
-use Rattle.std.proofs.lemmas.List.{take_more}
-use Rattle.std.specs.List.{AllByRecursion}
+use Rattle.std.proofs.lemmas.List.{take_more, take-append-drop}
 use Rattle.ptg_base.specs.Lists.{IsIn}
 use Rattle.ptg_base.specs.Task.{Task}
 use Rattle.ptg_base.specs.declared.edge.Edge.{Edge}
@@ -29,6 +28,7 @@ use Rattle.rank_world.specs.Views.{WorldView, with_run}
 use Rattle.trace_core.specs.Orders.{MayRunAfter}
 use Rattle.trace_core.proofs.Wholes.{may_push, ran_ends}
 use Rattle.list_lemmas.proofs.Members.{IsIn-filter}
+use Rattle.list_lemmas.proofs.Places.{drop_from}
 use Rattle.list_lemmas.proofs.Tasks.{all_or_absent}
 use Rattle.list_lemmas.proofs.Truth.{by_test}
 use Rattle.trace_replay.specs.Replaying.{HasRunInOrder, IsOfOneRank, StopsAt}
@@ -122,20 +122,8 @@ module _ (P : Plan) (G : Data) (con : IsConsistent P) (w : WorldView) (o : IsOfO
   ]
 
 -- the list so far, one more task, and those after it
-pub split_at : (ts : List Task) (n : ℕ) (t d : Task) → n < length ts → t ≡ get_or ts n d → (later : List Task) × (ts ≡ take n ts ++ t ∷ later)
-split_at [] n t d lt is = absurd (omega arith)
-split_at (u ∷ us) zero t d lt is = let same : t ≡ u = is in (us, (λ i. sym same i ∷ us))
-split_at (u ∷ us) (suc n) t d lt is = let p = split_at us n t d (omega arith) is in (p.0, ap (λ l. u ∷ l) p.1)
+pub split_at : (ts : List Task) (n : ℕ) (t : Task) → slice_get ts n ≡ Some t → ts ≡ take n ts ++ t ∷ drop (suc n) ts
+split_at ts n t at = sym (take-append-drop n ts) ∙ ap (λ l. take n ts ++ l) (drop_from ts n t at)
 
 pub take_one_more : (ts : List Task) (n : ℕ) (t d : Task) → n < length ts → t ≡ get_or ts n d → take n ts ++ t ∷ [] ≡ take (n + 1) ts
 take_one_more ts n t d lt is = ap (λ u. take n ts ++ u ∷ []) is ∙ sym (take_more ts n d lt)
-
-pub all_at : (Q : Task → Type 0) (ts : List Task) (n : ℕ) (t d : Task) → n < length ts → t ≡ get_or ts n d → AllByRecursion Q ts → Q t
-all_at Q [] n t d lt is h = absurd (omega arith)
-all_at Q (u ∷ us) zero t d lt is h = let same : t ≡ u = is in subst Q (sym same) h.0
-all_at Q (u ∷ us) (suc n) t d lt is h = all_at Q us n t d (omega arith) is h.1
-
-pub length_take : (ts : List Task) (n : ℕ) → n < length ts → length (take n ts) ≡ n
-length_take [] n lt = absurd (omega arith)
-length_take (u ∷ us) zero lt = refl
-length_take (u ∷ us) (suc n) lt = omega (arith, length_take us n (omega arith))

@@ -1,5 +1,5 @@
 -- The parts of words by the forms of the words.
-use Rattle.std.proofs.Common.{◌≡◌, ℕ, ◌+◌, Bool, true, false, not, cond, ◌&&◌, ◌||◌, List, [], ◌∷◌, ◌++◌, ◌↔◌, inl, inr, Option, Some, None, is_some, length, map, refl, sym, ap, ◌∙◌, arith}
+use Rattle.std.proofs.Common.{◌≡◌, ℕ, ◌+◌, Bool, true, false, not, cond, ◌&&◌, ◌||◌, List, [], ◌∷◌, ◌++◌, ◌↔◌, Option, Some, None, is_some, length, map, refl, sym, ap, ◌∙◌, arith}
 use Rattle.std.proofs.lemmas.Bool.{false≢true, or_right}
 use Rattle.std.specs.List.{filter, list_any, zip}
 use Rattle.std.specs.Prelude.{IsTrue}
@@ -10,6 +10,7 @@ use Rattle.ptg_words.specs.Words.{Verb, options_of}
 use Rattle.word_laws.specs.Forms.{HasForm, LacksValue, NoValueFollows, begins_with_dash, has_numbers, is_other, is_value, takes_next, with_previous}
 use Rattle.word_laws.proofs.Forms.{dashed, is_name_alone, is_plain, is_unknown, known_has_form, taking, unknown_has_none}
 use Rattle.list_lemmas.proofs.Truth.{by_test, and-false}
+use Rattle.list_lemmas.proofs.Members.{some_member_passes, list_any-from_member}
 
 -- ---- stray options
 
@@ -33,24 +34,10 @@ module _ (verb : Verb) where
   stray_is (Some s) [] = refl
   stray_is due (word ∷ words) = stray_next due (form_of (options_of verb) word) word (λ next. parts_from (options_of verb) next words) (list_any (λ w. is_unknown (form_of (options_of verb) w)) words) (λ next. stray_is next words)
 
-pub some_passes : (test : List ℕ → Bool) (words : List (List ℕ)) → list_any test words ≡ true → (word : List ℕ) × IsIn word words × (test word ≡ true)
-some_passes test [] e = absurd (false≢true e)
-some_passes test (w ∷ ws) e = by (some_passes test ws) (test w) refl e where
-  by : (list_any test ws ≡ true → (word : List ℕ) × IsIn word ws × (test word ≡ true)) → (x : Bool) → test w ≡ x → (x || list_any test ws) ≡ true → (word : List ℕ) × IsIn word (w ∷ ws) × (test word ≡ true)
-  by later true at k = (w, inl refl, at)
-  by later false at k = let p = later k in (p.0, inr p.1, p.2)
-
-pub one_passes : (test : List ℕ → Bool) (words : List (List ℕ)) (word : List ℕ) → IsIn word words → test word ≡ true → list_any test words ≡ true
-one_passes test [] word among e = absurd among
-one_passes test (w ∷ ws) word among e = elim among [
-  | inl same ↦ ap (λ x. x || list_any test ws) (ap test (sym same) ∙ e)
-  | inr later ↦ ap (λ x. test w || x) (one_passes test ws word later e) ∙ or_right (test w) true refl
-]
-
 pub stray_iff : (verb : Verb) (words : List (List ℕ)) → IsTrue (list_any is_stray (parts (options_of verb) words)) ↔ ((word : List ℕ) × IsIn word words × (HasForm verb word → ⊥))
 stray_iff verb words = (
-  λ e. let p = some_passes (λ w. is_unknown (form_of (options_of verb) w)) words (sym (stray_is verb None words) ∙ e) in (p.0, p.1, unknown_has_none verb p.0 p.2),
-  λ p. stray_is verb None words ∙ one_passes (λ w. is_unknown (form_of (options_of verb) w)) words p.0 p.1 (by_test (is_unknown (form_of (options_of verb) p.0)) (λ e. e) (λ e. absurd (p.2 (known_has_form verb p.0 e)))),
+  λ e. let p = some_member_passes (λ (w : List ℕ). is_unknown (form_of (options_of verb) w)) words (sym (stray_is verb None words) ∙ e) in (p.0, p.1, unknown_has_none verb p.0 p.2),
+  λ p. stray_is verb None words ∙ list_any-from_member (λ (w : List ℕ). is_unknown (form_of (options_of verb) w)) words p.0 p.1 (by_test (is_unknown (form_of (options_of verb) p.0)) (λ e. e) (λ e. absurd (p.2 (known_has_form verb p.0 e)))),
 )
 
 -- ---- values that are lacking

@@ -4,10 +4,11 @@ use Rattle.std.proofs.lemmas.Bool.{false≢true, or_cases, or_left, or_right, no
 use Rattle.std.specs.List.{list_any}
 use Rattle.std.specs.Option.{option_map_or}
 use Rattle.ptg_base.specs.Lists.{IsIn}
+use Rattle.list_lemmas.proofs.Members.{some_member_passes, list_any-from_member}
 use Rattle.ptg_words.specs.Parts.{Part, has_twice, is_lacking, is_stray, operands, parts, shards, texts_of, workers}
 use Rattle.ptg_words.specs.Words.{Breaks, IsUsage, Verb, bad_number, has_bad_count, has_bad_number, has_bad_operand, has_no_number, has_wrong_count, improper_word, is_number, lacking_number, no_verb, operand_count, operand_number, operands_of, option_twice, options_of, read, stray_word, verb_of}
 use Rattle.word_laws.specs.Rules.{BreaksRule, bad_operand, bad_shards, bad_workers, improper, no_form, no_value, other_words, preload_twice, shards_twice, workers_twice, wrong_count}
-use Rattle.word_laws.proofs.Reading.{lacks_iff, one_passes, some_passes, stray_iff, which}
+use Rattle.word_laws.proofs.Reading.{lacks_iff, stray_iff, which}
 use Rattle.word_laws.proofs.Texts.{texts_iff}
 use Rattle.word_laws.proofs.Twice.{twice_iff}
 
@@ -44,10 +45,10 @@ module _ (verb : Verb) (first : List ℕ) (words : List (List ℕ)) (verb_is : v
 
   -- numbers
   bad_text : (least most : ℕ) (texts : List (List ℕ)) → has_no_number least most texts ≡ true → (text : List ℕ) × IsIn text texts × (is_number least most text ≡ false)
-  bad_text least most texts e = let p = some_passes (λ text. not (is_number least most text)) texts e in (p.0, p.1, not-true (is_number least most p.0) p.2)
+  bad_text least most texts e = let p = some_member_passes (λ (text : List ℕ). not (is_number least most text)) texts e in (p.0, p.1, not-true (is_number least most p.0) p.2)
 
   text_bad : (least most : ℕ) (texts : List (List ℕ)) (text : List ℕ) → IsIn text texts → is_number least most text ≡ false → has_no_number least most texts ≡ true
-  text_bad least most texts text among e = one_passes (λ t. not (is_number least most t)) texts text among (ap not e)
+  text_bad least most texts text among e = list_any-from_member (λ (t : List ℕ). not (is_number least most t)) texts text among (ap not e)
 
   from_number : has_bad_number verb ps ≡ true → BreaksRule verb first words
   from_number h = elim (or_cases (has_bad_count ps) (has_bad_operand (operands_of verb) (operands ps)) h) [

@@ -16,9 +16,9 @@ use Rattle.dep_iter.specs.Items.{edge_of, items, out_edges, write_backs, write_o
 use Rattle.dep_iter.specs.Consistent.{IsConsistent}
 use Rattle.dep_iter.proofs.Items.{Edge-injective, Write-injective, edge_item, item_edge, item_write, write_item}
 use Rattle.dep_iter.proofs.Once.{once-out_edges, once-write_backs}
-use Rattle.list_lemmas.proofs.Members.{IsIn-map, from_map}
+use Rattle.list_lemmas.proofs.Members.{IsIn-append_right, IsIn-map, from_map}
 use Rattle.list_lemmas.proofs.Counts.{weigh-append}
-use Rattle.list_lemmas.proofs.Distinct.{HasNoRepeats-map}
+use Rattle.list_lemmas.proofs.Distinct.{HasNoRepeats-apart, HasNoRepeats-map}
 use Rattle.list_lemmas.specs.Counting.{as_number, count, weigh}
 use Rattle.flow_meaning.specs.Comparing.{same_item}
 use Rattle.flow_meaning.specs.Ending.{has_outputs}
@@ -107,27 +107,16 @@ module _ (P : Plan) (G : Data) where
     };
   }
 
-  in_middle : (before left : List Item) (i : Item) → IsIn i (before ++ i ∷ left)
-  in_middle [] left i = inl refl
-  in_middle (b ∷ bs) left i = inr (in_middle bs left i)
-
-  not_before : (before left : List Item) (i : Item) → HasNoRepeats (before ++ i ∷ left) → IsIn i before → ⊥
-  not_before [] left i once h = h
-  not_before (b ∷ bs) left i once h = elim h [
-    | inl e ↦ once.0 (subst (λ j. IsIn j (bs ++ i ∷ left)) e (in_middle bs left i))
-    | inr k ↦ not_before bs left i once.1 k
-  ]
-
   -- the items that are left are those of the task
   pub sender_left : (t : Task) (all left : List Item) (i : Item) (v w : PassRecord) → MaySendAll P G t all v → IsSentSoFar all (i ∷ left) v w → sender i ≡ t
-  sender_left t all left i v w may far = item_sender P t i (may.are_items i (subst (λ l. IsIn i l) (sym far.split) (in_middle far.before left i)))
+  sender_left t all left i v w may far = item_sender P t i (may.are_items i (subst (λ l. IsIn i l) (sym far.split) (IsIn-append_right i far.before (i ∷ left) (inl refl))))
 
   -- the next of the items that are left may be sent
   pub next_left : (t : Task) (all left : List Item) (i : Item) (v w : PassRecord) → MaySendAll P G t all v → IsSentSoFar all (i ∷ left) v w → IsNext P G i (with_its_tile P G i).tile w
   next_left t all left i v w may far =
-      let among : IsIn i all = subst (λ l. IsIn i l) (sym far.split) (in_middle far.before left i) in
+      let among : IsIn i all = subst (λ l. IsIn i l) (sym far.split) (IsIn-append_right i far.before (i ∷ left) (inl refl)) in
       let by : sender i ≡ t = item_sender P t i (may.are_items i among) in
-      let none = not_among i far.before (not_before far.before left i (subst HasNoRepeats far.split may.once)) in
+      let none = not_among i far.before (λ h. HasNoRepeats-apart far.before (i ∷ left) (subst HasNoRepeats far.split may.once) i h (inl refl)) in
       let counts = count_after far.before v w i far.sent in
       let unsent = may.unsent i among in
       record {

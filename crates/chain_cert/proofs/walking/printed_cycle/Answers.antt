@@ -1,13 +1,13 @@
 use Rattle.std.proofs.Common.{refl, ◌≡◌, ◌∷◌, ◌++◌, [], false, drop, reverse, inl, sym, ◌∙◌, ap, subst, length, arith, length-append}
 use Rattle.std.specs.List.{list_any}
 use Rattle.std.proofs.lemmas.List.{take_rest}
+use Rattle.std.proofs.lemmas.Result.{IfOk-weaker}
 use Rattle.ptg_base.specs.TaskComparing.{same_task}
 use Rattle.plan_core.specs.declared.plan.Plan.{Plan}
 use Rattle.list_lemmas.proofs.Members.{IsIn-append_right}
 use Rattle.dep_iter.specs.Tasks.{IsTask}
 use Rattle.dep_iter.specs.Edges.{sources}
 use Rattle.chain_cert.specs.Finding.{IsLeastWhere, is_left}
-use Rattle.chain_cert.proofs.Found.{if_ok_then}
 use Rattle.chain_cert.proofs.WalkingBack.{IsWalking, closes, found_is, inserted_keys, walk_left, walk_next, walk_on, walk_room, walk_start}
 use Rattle.chain_cert.proofs.walking.printed_cycle.Goals as goal
 
@@ -33,7 +33,7 @@ returns-in-Some-get_full c =
     let met = c.loop-next.met.keys in
     let at = c.in-Some-get_full.at in
     let rest = take_rest c.as_slice.result.now at ∙ ap (drop at) c.as_slice.ensures.keys in
-    if_ok_then c.turned.result
+    IfOk-weaker c.turned.result _ _
     (λ cycle is order l.
     closes c.args.m.now order met c.in-Some.t _ at cycle c.in-Some-get_full.ensures.stored (found_is c.in-Some.t met _ (sym c.in-Some-get_full.ensures.key))
     (subst (IsWalking c.args.m.now order met) c.in-Some.is (c.loop-next.invariant order l)) (is ∙ ap reverse rest))

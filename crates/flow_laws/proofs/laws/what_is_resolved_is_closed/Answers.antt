@@ -1,4 +1,5 @@
-use Rattle.check_names.proofs.ClosedArguments.{closed_option, closed_arguments, closed_indices, no_ranges}
+use Rattle.check_names.proofs.Closed.{closed_option}
+use Rattle.check_names.proofs.ClosedArguments.{closed_arguments, closed_indices, no_ranges}
 use Rattle.flow_laws.proofs.laws.what_is_resolved_is_closed.Goals as goal
 
 pub returns-clause-arguments : goal.returns-clause-arguments

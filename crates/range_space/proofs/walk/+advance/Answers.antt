@@ -1,6 +1,7 @@
 use Rattle.std.proofs.Common.{◌≡◌, ℕ, FitsSigned, w64, rules, arith, ap, sym, ◌∙◌, length, take, get_or, pos}
 use Rattle.std.proofs.lemmas.Int.{to_z-of_z}
-use Rattle.range_space.proofs.Nesting.{cut, found_deeper, found_past, none_past, unsnoc}
+use Rattle.std.proofs.lemmas.List.{same_from_push}
+use Rattle.range_space.proofs.Nesting.{cut, found_deeper, found_past, none_past}
 use Rattle.range_space.proofs.walk.+advance.Goals as goal
 use Rattle.list_lemmas.proofs.Truth.{on_true_weaker, on_false_weaker}
 
@@ -20,7 +21,7 @@ kept t c =
     let depth = c.args.depth in
     let l = ap length c.in-Some.ensures.cases.0 in
     let k = cut old depth (omega arith) in
-    unsnoc (take depth old) c.pop.new.self (get_or old depth (pos 0)) c.in-Some-pop.v (sym k.before ∙ sym c.if-advance.ensures.truncated ∙ c.in-Some-pop.ensures)
+    same_from_push c.pop.new.self (take depth old) c.in-Some-pop.v (get_or old depth (pos 0)) (sym (sym k.before ∙ sym c.if-advance.ensures.truncated ∙ c.in-Some-pop.ensures))
 
 pub returns-in-Some-pop-clause-found : goal.returns-in-Some-pop-clause-found
 returns-in-Some-pop-clause-found t c =

@@ -1,5 +1,5 @@
-use Rattle.shard_meaning.proofs.ReadyCount.{ready-claim, ready-fires, ready-waits, ready-write, ready_count}
-use Rattle.shard_laws.proofs.Ready.{calm_by_count, ready_at_most}
+use Rattle.shard_meaning.proofs.ReadyCount.{ready-claim, ready-fires, ready-waits, ready-write, ready_at_most, ready_count}
+use Rattle.shard_laws.proofs.Ready.{calm_by_count}
 use Rattle.std.proofs.Common.{arith}
 use Rattle.ptg_base.specs.declared.edge.Item.TheVariants as item
 use Rattle.shard_meaning.specs.Moment.{with_claim, with_send}

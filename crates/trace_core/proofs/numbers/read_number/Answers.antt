@@ -6,17 +6,17 @@ use Rattle.std.specs.Str.Parse.{ParsesSigned}
 use Rattle.std.proofs.lemmas.Fmt.{IsAscii-signed, parse-signed_decimal}
 use Rattle.std.proofs.lemmas.Int.{to_z-of_z}
 use Rattle.std.proofs.lemmas.Str.{IsUtf8-from_ascii}
-use Rattle.trace_core.specs.Spelling.{fits_64}
+use Rattle.trace_core.specs.Spelling.{is_number}
 use Rattle.trace_core.proofs.Spelled.{fits_mag, fits_signed}
 use Rattle.trace_core.proofs.numbers.read_number.Goals as goal
 
-is_text : (bs : List ℕ) (z : ℤ) → fits_64 z ≡ true → bs ≡ signed_decimal z → IsUtf8 bs
+is_text : (bs : List ℕ) (z : ℤ) → is_number z ≡ true → bs ≡ signed_decimal z → IsUtf8 bs
 is_text bs z fits is = IsUtf8-from_ascii bs (subst IsAscii (sym is) (IsAscii-signed z (fits_mag z fits)))
 
-read_is : {E : Type 0} (r : Result ℤ E) (text bs : List ℕ) (z : ℤ) → fits_64 z ≡ true → bs ≡ signed_decimal z → text ≡ bs → ParsesSigned w64 10 text r → r ≡ Ok z
+read_is : {E : Type 0} (r : Result ℤ E) (text bs : List ℕ) (z : ℤ) → is_number z ≡ true → bs ≡ signed_decimal z → text ≡ bs → ParsesSigned w64 10 text r → r ≡ Ok z
 read_is r text bs z fits is same parses = parse-signed_decimal w64 z text r (fits_signed z fits) (fits_mag z fits) (same ∙ is) parses
 
-same_value : {E : Type 0} (r : Result ℤ E) (n z : ℤ) → fits_64 z ≡ true → r ≡ Ok n → r ≡ Ok z → to_z w64 (of_z w64 n) ≡ z
+same_value : {E : Type 0} (r : Result ℤ E) (n z : ℤ) → is_number z ≡ true → r ≡ Ok n → r ≡ Ok z → to_z w64 (of_z w64 n) ≡ z
 same_value r n z fits h k =
     let e : Ok n ≡ Ok z = sym h ∙ k in
     let same : n ≡ z = cc in

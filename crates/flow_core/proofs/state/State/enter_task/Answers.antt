@@ -2,7 +2,7 @@ use Rattle.std.proofs.Common.{sym, subst}
 use Rattle.flow_core.specs.Keeping.{Keeps}
 use Rattle.flow_core.proofs.Fitting.{counts_claim, entered, grown}
 use Rattle.flow_core.proofs.Kept.{kept_claim}
-use Rattle.flow_core.proofs.Lookups.{turned}
+use Rattle.list_lemmas.proofs.Lookups.{turned}
 use Rattle.flow_core.proofs.state.State.enter_task.Goals as goal
 
 pub returns-clause-ok : goal.returns-clause-ok

@@ -2,7 +2,7 @@ use Rattle.std.proofs.Common.{ap, ◌∙◌}
 use Rattle.std.specs.Map.{lookup}
 use Rattle.ptg_base.specs.TaskComparing.{same_task}
 use Rattle.flow_core.specs.RunState.{RunState}
-use Rattle.flow_core.proofs.Lookups.{turned}
+use Rattle.list_lemmas.proofs.Lookups.{turned}
 use Rattle.flow_core.proofs.state.State.let_go.Goals as goal
 
 pub returns : goal.returns

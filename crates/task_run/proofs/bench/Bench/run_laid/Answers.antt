@@ -2,9 +2,9 @@ use Rattle.std.proofs.Common.{◌≡◌, ◌≤◌, length, take, drop, ap, sym,
 use Rattle.task_run.specs.Bench.{Laid}
 use Rattle.task_run.specs.Start.{delivered}
 use Rattle.task_run.proofs.Ending.{ends, well_body}
-use Rattle.task_run.proofs.Laying.{if_err, kept, take_new, whole_count}
+use Rattle.task_run.proofs.Laying.{kept, take_new, whole_count}
 use Rattle.task_run.proofs.bench.Bench.run_laid.Goals as goal
-use Rattle.std.proofs.lemmas.Result.{on_ok_weaker}
+use Rattle.std.proofs.lemmas.Result.{IfErr-weaker, on_ok_weaker}
 use Rattle.std.proofs.lemmas.List.{length-take-le}
 
 pub run_body-requires : goal.run_body-requires
@@ -49,6 +49,6 @@ returns-clause-trap c =
     let class = c.class-class.result.now in
     let is : slice_get P.classes t.class ≡ Some class = ap (slice_get P.classes) (sym c.class.ensures) ∙ c.class-class.ensures.class in
     let laid_are = ap (λ n. take n c.self.inside.tiles) c.flows-flows.ensures.flows ∙ ap (λ (b : Laid). b.tiles) c.self.view_is ∙ c.requires.tiles in
-    if_err c.run_body.result
+    IfErr-weaker c.run_body.result _ _
     (λ cause e. ends P G t class c.args.start.now.locals.now (take c.flows-flows.result c.self.inside.tiles) (Err cause) c.requires.start.consistent c.requires.start.task c.requires.runs is c.requires.start.locals_are laid_are e)
     c.run_body.ensures.trap

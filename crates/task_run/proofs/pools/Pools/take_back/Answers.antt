@@ -1,7 +1,8 @@
 use Rattle.std.proofs.Common.{◌≡◌, ◌++◌, ◌∷◌, [], length, ap, sym, ◌∙◌, subst}
+use Rattle.std.proofs.lemmas.List.{same_from_push}
 use Rattle.std.specs.Prelude.{option_to_list}
 use Rattle.task_run.specs.Pools.{AreBelow, Lent, without_last}
-use Rattle.task_run.proofs.PoolLemmas.{below_along, below_less, given_back, pools_along, same_count, same_elems, snoc_init}
+use Rattle.task_run.proofs.PoolLemmas.{below_along, below_less, given_back, pools_along, same_count, same_elems}
 use Rattle.task_run.proofs.Lending.{elems_of, may_come_back}
 use Rattle.task_run.proofs.pools.Pools.take_back.Goals as goal
 use Rattle.list_lemmas.proofs.Joins.{last_from_push}
@@ -38,6 +39,6 @@ returns c =
     let type = c.unwrap-lent.result in
     let split : lent ≡ init ++ type ∷ [] = c.pop.ensures.items ∙ ap (λ o. init ++ option_to_list o) c.unwrap-lent.ensures in
     let seen : lent ≡ c.args.self.now.lent = ap (λ (b : Lent). b.lent) c.self.view_is in
-    let init_is : init ≡ (without_last c.args.self.now).lent = snoc_init init (without_last c.args.self.now).lent type c.requires.fits.type (sym split ∙ seen ∙ ap (λ (b : Lent). b.lent) c.requires.fits.lent) in
+    let init_is : init ≡ (without_last c.args.self.now).lent = (same_from_push init (without_last c.args.self.now).lent type c.requires.fits.type (sym split ∙ seen ∙ ap (λ (b : Lent). b.lent) c.requires.fits.lent)).0 in
     let elems_are : elems_of new ≡ c.args.self.now.elems = same_elems pools new type c.give_back.ensures ∙ ap (λ (b : Lent). b.elems) c.self.view_is in
     λ i. record { elems = elems_are i; lent = init_is i }

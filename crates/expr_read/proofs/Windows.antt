@@ -26,7 +26,7 @@ module _ {A : Type 0} (L : Limit) (c : List Token → Code) (G : Language A) (p 
       omega (arith, k.left, ap (λ (l : List Token). length l) k.parts, length-append k.word k.rest)
 
   -- the rest of a window, with what is after it
-  rest_is : (w v : List Token) (t : A) (rest : List Token) → p w ≡ Ok (t, rest) → drop (length w - length rest) (w ++ v) ≡ rest ++ v
+  pub rest_is : (w v : List Token) (t : A) (rest : List Token) → p w ≡ Ok (t, rest) → drop (length w - length rest) (w ++ v) ≡ rest ++ v
   rest_is w v t rest e =
       let k = (sound w).accepted (t, rest) e in
       let n : length k.word ≡ length w - length rest = omega (arith, ap (λ (l : List Token). length l) k.parts, length-append k.word rest) in
