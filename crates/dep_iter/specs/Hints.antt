@@ -13,7 +13,8 @@ use Rattle.dep_iter.specs.Arguments.{place_of, value_or_zero}
 -- the place of the affinity of a task
 unfoldable pub affinity : Plan → Task → Place
 affinity P t =
-    option_map_or (λ (c : ClassPlan). place_of c.affinity.coll c.affinity.indices (locals_of P t)) (slice_get P.classes t.class)
+    option_map_or (λ (c : ClassPlan). place_of c.affinity.coll c.affinity.indices (locals_of P t))
+    (slice_get P.classes t.class)
     (record { coll = 0; i = pos 0; j = pos 0 })
 
 -- the number of a row and a column among the places of a collection with so many columns, row by row; it is the row's

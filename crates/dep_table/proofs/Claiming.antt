@@ -29,8 +29,8 @@ content_at y [] = y
 content_at y (x ∷ xs) = x.1
 
 -- the shard that a pass was lent is the one that it holds
-pub desk_is : (t : Turn) (v : PassRecord) (y z : Content) → IsTurnOf t v y z → (i : PassView) → i ≡ t.pass.now → (k : ℕ) (d : Content) (r : List (ℕ × Content)) → i.me.1 ≡ (k, d) ∷ r → d ≡ z
-desk_is t v y z h i is k d r lent = ap (content_at z) (sym lent ∙ ap (λ (p : PassView). p.me.1) is ∙ ap (λ (m : Seated). m.1) h.me)
+pub held_is : (t : Turn) (v : PassRecord) (y z : Content) → IsTurnOf t v y z → (i : PassView) → i ≡ t.pass.now → (k : ℕ) (d : Content) (r : List (ℕ × Content)) → i.me.1 ≡ (k, d) ∷ r → d ≡ z
+held_is t v y z h i is k d r lent = ap (content_at z) (sym lent ∙ ap (λ (p : PassView). p.me.1) is ∙ ap (λ (m : Seated). m.1) h.me)
 
 -- where a task has an entry, the shard has fewer tasks than a job may have
 pub entry_numbers : (t : Turn) (v : PassRecord) (y z : Content) → IsTurnOf t v y z → (d : Content) → d ≡ z → (u : Task) (e : Entry) → entry_of d u ≡ Some e → d.running < 1000000

@@ -27,58 +27,58 @@ fn answer_of(arrived: Arrived) -> Sent
 
 // A shard takes an edge in.
 fn take_edge(
-    desk: &mut Shard,
+    shard: &mut Shard,
     m: &Matched,
     edge: &Edge,
     tile: Option<&Tile>,
 ) -> Result<Sent, OutOfMemory>
-    requires { MayTakeEdge m.now edge.now (option_copied tile) desk.old }
-    ensures takes { OnOk result (TakesEdge m.now edge.now (option_copied tile.entry) desk.old desk.new) }
-    ensures answer { IfOk result (λ a. AnswersFor m.now desk.old (item.Edge edge.now) a) }
-    ensures same { OnErr result (IsUnchanged desk.old desk.new) }
-    ensures kept { OnErr result (Uses desk.old.spare desk.new.spare 0 None 0 0) }
-    ensures succeeds { HasSpareForEdge m.now edge.now (option_copied tile.entry) desk.old → IsOk result }
+    requires { MayTakeEdge m.now edge.now (option_copied tile) shard.old }
+    ensures takes { OnOk result (TakesEdge m.now edge.now (option_copied tile.entry) shard.old shard.new) }
+    ensures answer { IfOk result (λ a. AnswersFor m.now shard.old (item.Edge edge.now) a) }
+    ensures same { OnErr result (IsUnchanged shard.old shard.new) }
+    ensures kept { OnErr result (Uses shard.old.spare shard.new.spare 0 None 0 0) }
+    ensures succeeds { HasSpareForEdge m.now edge.now (option_copied tile.entry) shard.old → IsOk result }
 {
     let datatype = type_of_flow(m, &edge.to, edge.in_flow);
-    let arrived = arrive(desk, m, edge, datatype, tile)?;
+    let arrived = arrive(shard, m, edge, datatype, tile)?;
     Ok(answer_of(arrived))
 }
 
 // A shard takes a write-back in.
 fn take_write(
-    desk: &mut Shard,
+    shard: &mut Shard,
     m: &Matched,
     write: &WriteBack,
     tile: Option<&Tile>,
 ) -> Result<Sent, OutOfMemory>
-    requires { MayTakeWrite m.now write.now (option_copied tile) desk.old }
-    ensures takes { OnOk result (TakesWrite m.now write.now (option_copied tile.entry) desk.old desk.new) }
-    ensures answer { IfOk result (λ a. AnswersFor m.now desk.old (item.Write write.now) a) }
-    ensures same { OnErr result (IsUnchanged desk.old desk.new) }
-    ensures kept { OnErr result (Uses desk.old.spare desk.new.spare 0 None 0 0) }
-    ensures succeeds { HasSpareForWrite m.now write.now desk.old → IsOk result }
+    requires { MayTakeWrite m.now write.now (option_copied tile) shard.old }
+    ensures takes { OnOk result (TakesWrite m.now write.now (option_copied tile.entry) shard.old shard.new) }
+    ensures answer { IfOk result (λ a. AnswersFor m.now shard.old (item.Write write.now) a) }
+    ensures same { OnErr result (IsUnchanged shard.old shard.new) }
+    ensures kept { OnErr result (Uses shard.old.spare shard.new.spare 0 None 0 0) }
+    ensures succeeds { HasSpareForWrite m.now write.now shard.old → IsOk result }
 {
     let datatype = type_of_flow(m, &write.from, write.flow);
-    desk.write(write, datatype, tile.unwrap())?;
+    shard.write(write, datatype, tile.unwrap())?;
     Ok(Sent::Kept)
 }
 
 // A shard takes an item in, with its tile. Without memory it stays as it was, but for spares that grow.
 pub(crate) fn take_item(
-    desk: &mut Shard,
+    shard: &mut Shard,
     m: &Matched,
     item: &Item,
     tile: Option<&Tile>,
 ) -> Result<Sent, OutOfMemory>
-    requires { MayTakeItem m.now item.now (option_copied tile) desk.old }
-    ensures takes { OnOk result (TakesItem m.now item.now (option_copied tile.entry) desk.old desk.new) }
-    ensures answer { IfOk result (λ a. AnswersFor m.now desk.old item.now a) }
-    ensures same { OnErr result (IsUnchanged desk.old desk.new) }
-    ensures kept { OnErr result (Uses desk.old.spare desk.new.spare 0 None 0 0) }
-    ensures succeeds { HasSpareForItem m.now item.now (option_copied tile.entry) desk.old → IsOk result }
+    requires { MayTakeItem m.now item.now (option_copied tile) shard.old }
+    ensures takes { OnOk result (TakesItem m.now item.now (option_copied tile.entry) shard.old shard.new) }
+    ensures answer { IfOk result (λ a. AnswersFor m.now shard.old item.now a) }
+    ensures same { OnErr result (IsUnchanged shard.old shard.new) }
+    ensures kept { OnErr result (Uses shard.old.spare shard.new.spare 0 None 0 0) }
+    ensures succeeds { HasSpareForItem m.now item.now (option_copied tile.entry) shard.old → IsOk result }
 {
     match item {
-        Item::Edge(edge) => take_edge(desk, m, edge, tile),
-        Item::Write(write) => take_write(desk, m, write, tile),
+        Item::Edge(edge) => take_edge(shard, m, edge, tile),
+        Item::Write(write) => take_write(shard, m, write, tile),
     }
 }

@@ -25,8 +25,8 @@ impl DepTable {
         ensures none { IfNone result ((y : Content) → pass.old.me.1 ≡ (shard, y) ∷ [] → HasNoReady y.entries) }
         ensures some { IfSome result (λ t. (y : Content) → pass.old.me.1 ≡ (shard, y) ∷ [] → IsBest y.entries t) }
     {
-        let desk = pass.seat.slot_mut(&self.table.shared, shard as usize);
-        desk.best_ready()
+        let held = pass.seat.slot_mut(&self.table.shared, shard as usize);
+        held.best_ready()
     }
 }
 

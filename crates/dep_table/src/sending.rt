@@ -41,8 +41,8 @@ impl<'a> Turn<'a> {
         ensures preloaded { (job_of self.entry.table.now).preloaded ≡ true → IsOk result }
     {
         let Turn { table, pass, shard } = self;
-        let desk = pass.seat.slot_mut(&table.table.shared, shard as usize);
-        match take_item(desk, &table.job.matched, item, tile) {
+        let held = pass.seat.slot_mut(&table.table.shared, shard as usize);
+        match take_item(held, &table.job.matched, item, tile) {
             Ok(answer) => {
                 table.raise_for(&mut pass.seat, answer);
                 table.give_send(&mut pass.seat, shard, item, tile);

@@ -90,8 +90,8 @@ impl<'a> Turn<'a> {
             → (shown self.exit.1.0.now).last ≡ (self.entry.shard, y) ∷ [] }
     {
         let Turn { table, pass, shard } = self;
-        let desk = pass.seat.slot_mut(&table.table.shared, shard as usize);
-        match take_ready(desk, t) {
+        let held = pass.seat.slot_mut(&table.table.shared, shard as usize);
+        match take_ready(held, t) {
             Some(tiles) => {
                 table.give_claim(&mut pass.seat, shard, t, &tiles);
                 pass.stamp = table.draw_stamp(&mut pass.seat, t);
@@ -122,8 +122,8 @@ impl<'a> Turn<'a> {
     {
         let _task = t;
         let Turn { table, pass, shard } = self;
-        let desk = pass.seat.slot_mut(&table.table.shared, shard as usize);
-        end_task(desk, spent);
+        let held = pass.seat.slot_mut(&table.table.shared, shard as usize);
+        end_task(held, spent);
         table.give_end(&mut pass.seat, shard);
         table.lower_live(&mut pass.seat);
     }
@@ -150,8 +150,8 @@ impl<'a> Turn<'a> {
         ensures preloaded { (job_of self.entry.table.now).preloaded ≡ true → IsOk result }
     {
         let Turn { table, pass, shard } = self;
-        let desk = pass.seat.slot_mut(&table.table.shared, shard as usize);
-        match desk.trap(t, cause) {
+        let held = pass.seat.slot_mut(&table.table.shared, shard as usize);
+        match held.trap(t, cause) {
             Ok(()) => {
                 table.give_end(&mut pass.seat, shard);
                 table.lower_live(&mut pass.seat);

@@ -63,30 +63,30 @@ impl DepTable {
 }
 
 // Takes the ready entry of a task out of a shard whose numbers allow it where the task has an entry.
-pub(crate) fn take_ready(desk: &mut Shard, t: &TaskId) -> Option<Arrivals>
-    requires { (e : Entry) → entry_of desk.old t.now ≡ Some e → desk.old.running < most_tasks }
-    ensures none { IfNone result (HasNoReadyOf desk.old t.now) }
-    ensures same { IfNone result (desk.new ≡ desk.old) }
-    ensures some { IfSome result (λ tiles. Takes desk.old desk.new t.now tiles) }
-    ensures spare { Uses desk.old.spare desk.new.spare 0 None 0 0 }
+pub(crate) fn take_ready(shard: &mut Shard, t: &TaskId) -> Option<Arrivals>
+    requires { (e : Entry) → entry_of shard.old t.now ≡ Some e → shard.old.running < most_tasks }
+    ensures none { IfNone result (HasNoReadyOf shard.old t.now) }
+    ensures same { IfNone result (shard.new ≡ shard.old) }
+    ensures some { IfSome result (λ tiles. Takes shard.old shard.new t.now tiles) }
+    ensures spare { Uses shard.old.spare shard.new.spare 0 None 0 0 }
 {
-    if desk.running() >= MOST_TASKS {
+    if shard.running() >= MOST_TASKS {
         return None;
     }
-    desk.take_ready(t)
+    shard.take_ready(t)
 }
 
 // A running task of a shard ends, and the tiles that came with it are kept.
-pub(crate) fn end_task(desk: &mut Shard, spent: &mut Arrivals)
-    requires running { 0 < desk.old.running }
-    requires bound { desk.old.ended < most_tasks }
-    ensures ends { Ends desk.old desk.new }
-    ensures rest { KeepsEntriesAndWritten desk.old desk.new }
-    ensures trapped { desk.new.trapped ≡ desk.old.trapped }
-    ensures spare { Uses desk.old.spare desk.new.spare 0 None 0 0 }
+pub(crate) fn end_task(shard: &mut Shard, spent: &mut Arrivals)
+    requires running { 0 < shard.old.running }
+    requires bound { shard.old.ended < most_tasks }
+    ensures ends { Ends shard.old shard.new }
+    ensures rest { KeepsEntriesAndWritten shard.old shard.new }
+    ensures trapped { shard.new.trapped ≡ shard.old.trapped }
+    ensures spare { Uses shard.old.spare shard.new.spare 0 None 0 0 }
 {
-    desk.end();
-    desk.reuse(spent);
+    shard.end();
+    shard.reuse(spent);
 }
 
 impl DepTable {

@@ -1,4 +1,5 @@
--- A walk over the active dependences of a task in one direction: what it has left at a position. Source: this project's own choice.
+-- A walk over the active dependences of a task in one direction: what it has left at a position. Source: this project's
+-- own choice.
 use Rattle.std.specs.Prelude.{ℤ, List, ◌++◌, map, Bool, ◌&&◌}
 use Rattle.plan_core.specs.declared.plan.Plan.{Plan}
 use Rattle.dep_iter.specs.declared.direction.Direction.{Direction}

@@ -6,8 +6,8 @@ ghost use Rattle.ptg_top.specs.Codes.{code_of};
 /// How a run of the program ended; the exit status of its process is `code`.
 #[derive(Clone, Copy, Debug, PartialEq, Eq)]
 pub enum Status {
-    /// What was asked for was printed: of `run`, `demo` and `ranks`, where all tasks ran, their answer; of the other verbs
-    /// what they give.
+    /// What was asked for was printed: of `run`, `demo` and `ranks`, where all tasks ran, their answer; of the other
+    /// verbs what they give.
     Complete,
     /// The arguments form no command.
     Usage,

@@ -13,33 +13,33 @@ use shard_calls::{arrive, type_of_flow};
 
 // A rank takes an edge in, with its tile. Without memory it stays as it was, but for spares that grow.
 pub(crate) fn take_edge(
-    desk: &mut Shard,
+    shard: &mut Shard,
     m: &Matched,
     edge: &Edge,
     tile: Option<&Tile>,
 ) -> Result<(), OutOfMemory>
-    requires { MayTakeEdge m.now edge.now (option_copied tile) desk.old }
-    ensures takes { OnOk result (TakesEdge m.now edge.now (option_copied tile.entry) desk.old desk.new) }
-    ensures same { OnErr result (IsUnchanged desk.old desk.new) }
-    ensures succeeds { HasRoomFor 1 0 desk.old → IsOk result }
+    requires { MayTakeEdge m.now edge.now (option_copied tile) shard.old }
+    ensures takes { OnOk result (TakesEdge m.now edge.now (option_copied tile.entry) shard.old shard.new) }
+    ensures same { OnErr result (IsUnchanged shard.old shard.new) }
+    ensures succeeds { HasRoomFor 1 0 shard.old → IsOk result }
 {
     let datatype = type_of_flow(m, &edge.to, edge.in_flow);
-    let _arrived = arrive(desk, m, edge, datatype, tile)?;
+    let _arrived = arrive(shard, m, edge, datatype, tile)?;
     Ok(())
 }
 
 // A rank takes a write-back in, with its tile. Without memory it stays as it was, but for spares that grow.
 pub(crate) fn take_write(
-    desk: &mut Shard,
+    shard: &mut Shard,
     m: &Matched,
     write: &WriteBack,
     tile: Option<&Tile>,
 ) -> Result<(), OutOfMemory>
-    requires { MayTakeWrite m.now write.now (option_copied tile) desk.old }
-    ensures takes { OnOk result (TakesWrite write.now (option_copied tile.entry) desk.old desk.new) }
-    ensures same { OnErr result (IsUnchanged desk.old desk.new) }
-    ensures succeeds { HasRoomFor 0 1 desk.old → IsOk result }
+    requires { MayTakeWrite m.now write.now (option_copied tile) shard.old }
+    ensures takes { OnOk result (TakesWrite write.now (option_copied tile.entry) shard.old shard.new) }
+    ensures same { OnErr result (IsUnchanged shard.old shard.new) }
+    ensures succeeds { HasRoomFor 0 1 shard.old → IsOk result }
 {
     let datatype = type_of_flow(m, &write.from, write.flow);
-    desk.write(write, datatype, tile.unwrap())
+    shard.write(write, datatype, tile.unwrap())
 }

@@ -21,84 +21,84 @@ use ptg_base::{Edge, WriteBack};
 use task_run::Bench;
 
 // Keeps a write-back of the task of a visit in its rank, which has room for it.
-fn leave_write(at: &Visit, desk: &mut Shard, bench: &Bench, write: &WriteBack)
+fn leave_write(at: &Visit, shard: &mut Shard, bench: &Bench, write: &WriteBack)
     requires tiles { ended (plan_of at.now) (data_of at.now) write.now.from ≡ Some (Ok bench.now.tiles) }
     requires may { MayTakeWrite (plan_of at.now) write.now
-        (output_tile (ended (plan_of at.now) (data_of at.now) write.now.from) write.now.flow) desk.old }
-    requires room { HasRoomFor 0 1 desk.old }
+        (output_tile (ended (plan_of at.now) (data_of at.now) write.now.from) write.now.flow) shard.old }
+    requires room { HasRoomFor 0 1 shard.old }
     ensures { TakesWrite write.now (output_tile (ended (plan_of at.now) (data_of at.now) write.now.from) write.now.flow)
-        desk.old desk.new }
+        shard.old shard.new }
 {
-    take_write(desk, at.matched, write, bench.tile(write.flow)).unwrap();
+    take_write(shard, at.matched, write, bench.tile(write.flow)).unwrap();
 }
 
 // Keeps the write-backs of the task of a visit in its rank.
-fn leave_writes(at: &Visit, desk: &mut Shard, bench: &Bench)
+fn leave_writes(at: &Visit, shard: &mut Shard, bench: &Bench)
     requires visit { IsVisit at.now }
     requires tiles { ended (plan_of at.now) (data_of at.now) at.now.task.now ≡ Some (Ok bench.now.tiles) }
-    requires holds { HoldsAt at.now (part_way at.now []) desk.old }
-    requires room { HasRoomFor 0 (length (items.write_backs (plan_of at.now) at.now.task.now)) desk.old }
-    ensures holds { HoldsAt at.now (part_way at.now (its_writes at.now)) desk.new }
-    ensures room { (n : ℕ) → HasRoomFor n (length (items.write_backs (plan_of at.now) at.now.task.now)) desk.old
-        → HasRoomFor n 0 desk.new }
+    requires holds { HoldsAt at.now (part_way at.now []) shard.old }
+    requires room { HasRoomFor 0 (length (items.write_backs (plan_of at.now) at.now.task.now)) shard.old }
+    ensures holds { HoldsAt at.now (part_way at.now (its_writes at.now)) shard.new }
+    ensures room { (n : ℕ) → HasRoomFor n (length (items.write_backs (plan_of at.now) at.now.task.now)) shard.old
+        → HasRoomFor n 0 shard.new }
 {
     for write in write_backs_under(at.matched.plan(), at.task, at.locals) {
-        leave_write(at, desk, bench, &write);
+        leave_write(at, shard, bench, &write);
     }
 }
 
 // Brings an edge of the task of a visit to its target, if that is of the same rank, which has room for it.
-fn leave_edge(at: &Visit, desk: &mut Shard, bench: &Bench, edge: &Edge)
+fn leave_edge(at: &Visit, shard: &mut Shard, bench: &Bench, edge: &Edge)
     requires visit { IsVisit at.now }
     requires from { edge.now.from ≡ at.now.task.now }
     requires to { IsTask (plan_of at.now) edge.now.to }
     requires tiles { ended (plan_of at.now) (data_of at.now) edge.now.from ≡ Some (Ok bench.now.tiles) }
     requires may { is_between (plan_of at.now) at.now.ranks edge.now ≡ false
         → MayTakeEdge (plan_of at.now) edge.now
-        (output_tile (ended (plan_of at.now) (data_of at.now) edge.now.from) edge.now.out_flow) desk.old }
-    requires room { is_between (plan_of at.now) at.now.ranks edge.now ≡ false → HasRoomFor 1 0 desk.old }
+        (output_tile (ended (plan_of at.now) (data_of at.now) edge.now.from) edge.now.out_flow) shard.old }
+    requires room { is_between (plan_of at.now) at.now.ranks edge.now ≡ false → HasRoomFor 1 0 shard.old }
     ensures takes { is_between (plan_of at.now) at.now.ranks edge.now ≡ false
         → TakesEdge (plan_of at.now) edge.now
-        (output_tile (ended (plan_of at.now) (data_of at.now) edge.now.from) edge.now.out_flow) desk.old desk.new }
-    ensures same { is_between (plan_of at.now) at.now.ranks edge.now ≡ true → desk.new ≡ desk.old }
+        (output_tile (ended (plan_of at.now) (data_of at.now) edge.now.from) edge.now.out_flow) shard.old shard.new }
+    ensures same { is_between (plan_of at.now) at.now.ranks edge.now ≡ true → shard.new ≡ shard.old }
 {
     if goes_away(at, edge) {
         return;
     }
-    take_edge(desk, at.matched, edge, bench.tile(edge.out_flow)).unwrap();
+    take_edge(shard, at.matched, edge, bench.tile(edge.out_flow)).unwrap();
 }
 
 // Brings the edges of the task of a visit that stay within its rank to their targets.
-fn leave_edges(at: &Visit, desk: &mut Shard, bench: &Bench)
+fn leave_edges(at: &Visit, shard: &mut Shard, bench: &Bench)
     requires visit { IsVisit at.now }
     requires tiles { ended (plan_of at.now) (data_of at.now) at.now.task.now ≡ Some (Ok bench.now.tiles) }
-    requires holds { HoldsAt at.now (part_way at.now (its_writes at.now)) desk.old }
+    requires holds { HoldsAt at.now (part_way at.now (its_writes at.now)) shard.old }
     requires room { HasRoomFor (length (within_among at.now (items.out_edges (plan_of at.now) at.now.task.now))) 0
-        desk.old }
+        shard.old }
     ensures { HoldsAt at.now
         (part_way at.now
         (its_writes at.now
         ++ map item.Edge (within_among at.now (items.out_edges (plan_of at.now) at.now.task.now))))
-        desk.new }
+        shard.new }
 {
     for edge in out_edges_under(at.matched.plan(), at.task, at.locals) {
-        leave_edge(at, desk, bench, &edge);
+        leave_edge(at, shard, bench, &edge);
     }
 }
 
 // Leaves what stays within its rank of the task of a visit: its write-backs, and then its edges.
-pub(crate) fn leave_within(at: &Visit, desk: &mut Shard, bench: &Bench)
+pub(crate) fn leave_within(at: &Visit, shard: &mut Shard, bench: &Bench)
     requires visit { IsVisit at.now }
     requires tiles { ended (plan_of at.now) (data_of at.now) at.now.task.now ≡ Some (Ok bench.now.tiles) }
-    requires holds { HoldsAt at.now (part_way at.now []) desk.old }
+    requires holds { HoldsAt at.now (part_way at.now []) shard.old }
     requires room { HasRoomFor (length (within_among at.now (items.out_edges (plan_of at.now) at.now.task.now)))
-        (length (items.write_backs (plan_of at.now) at.now.task.now)) desk.old }
+        (length (items.write_backs (plan_of at.now) at.now.task.now)) shard.old }
     ensures { HoldsAt at.now
         (part_way at.now
         (its_writes at.now
         ++ map item.Edge (within_among at.now (items.out_edges (plan_of at.now) at.now.task.now))))
-        desk.new }
+        shard.new }
 {
-    leave_writes(at, desk, bench);
-    leave_edges(at, desk, bench);
+    leave_writes(at, shard, bench);
+    leave_edges(at, shard, bench);
 }

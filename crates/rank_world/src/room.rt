@@ -141,18 +141,18 @@ pub(crate) fn count_writes(at: &Visit) -> Result<u64, OutOfMemory>
 pub(crate) fn make_room(
     alloc: Global,
     m: &Matched,
-    desk: &mut Shard,
+    shard: &mut Shard,
     edges: u64,
     writes: u64,
 ) -> Result<(), OutOfMemory>
-    requires { desk.old.elems ≡ m.now.elems }
-    ensures ok { OnOk result (HasRoomFor edges writes desk.new) }
-    ensures same { IsUnchanged desk.old desk.new }
+    requires { shard.old.elems ≡ m.now.elems }
+    ensures ok { OnOk result (HasRoomFor edges writes shard.new) }
+    ensures same { IsUnchanged shard.old shard.new }
 {
     let Some(most) = edges.checked_add(writes) else {
         return Err(OutOfMemory);
     };
     let types = m.plan().elems.as_slice().len();
     let tiles = vec![in alloc; most; types]?;
-    desk.reserve(edges, tiles.as_slice(), writes, 1)
+    shard.reserve(edges, tiles.as_slice(), writes, 1)
 }

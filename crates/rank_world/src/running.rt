@@ -33,37 +33,37 @@ use task_run::{Bench, Start};
 use term_core::Trap;
 
 // Whether the entry at this index is ready.
-fn is_ready_at(desk: &Shard, index: usize) -> bool
-    ensures { (e : EntryValue) (t : Task) → slice_get desk.now.entries index ≡ Some (t, e) → IsTrue result ↔ IsReady e }
+fn is_ready_at(shard: &Shard, index: usize) -> bool
+    ensures { (e : EntryValue) (t : Task) → slice_get shard.now.entries index ≡ Some (t, e) → IsTrue result ↔ IsReady e }
 {
-    match desk.entry(index) {
+    match shard.entry(index) {
         Some((_task, entry)) => entry.arrived() == entry.goal(),
         None => false,
     }
 }
 
 // Whether a task has a ready entry.
-fn is_ready(desk: &Shard, t: &TaskId) -> bool
-    ensures { IsTrue result ↔ ((e : EntryValue) × (entry_of desk.now t.now ≡ Some e) × IsReady e) }
+fn is_ready(shard: &Shard, t: &TaskId) -> bool
+    ensures { IsTrue result ↔ ((e : EntryValue) × (entry_of shard.now t.now ≡ Some e) × IsReady e) }
 {
-    match desk.index_of(t) {
-        Some(index) => is_ready_at(desk, index),
+    match shard.index_of(t) {
+        Some(index) => is_ready_at(shard, index),
         None => false,
     }
 }
 
 // Runs the body of the task of a visit, which its rank has ready. The task runs from then on.
-fn begin(at: &Visit, desk: &mut Shard, bench: &mut Bench) -> Result<(), Trap>
+fn begin(at: &Visit, shard: &mut Shard, bench: &mut Bench) -> Result<(), Trap>
     requires visit { IsVisit at.now }
     requires bench { IsBenchOf (plan_of at.now) bench.old }
-    requires holds { HoldsAt at.now (at_rest (before at.now).machine) desk.old }
-    ensures holds { HoldsAt at.now (part_way at.now []) desk.new }
-    ensures room { (n m : ℕ) → HasRoomFor n m desk.old → HasRoomFor n m desk.new }
+    requires holds { HoldsAt at.now (at_rest (before at.now).machine) shard.old }
+    ensures holds { HoldsAt at.now (part_way at.now []) shard.new }
+    ensures room { (n m : ℕ) → HasRoomFor n m shard.old → HasRoomFor n m shard.new }
     ensures elems { bench.new.elems ≡ bench.old.elems }
     ensures ok { OnOk result (ended (plan_of at.now) (data_of at.now) at.now.task.now ≡ Some (Ok bench.new.tiles)) }
     ensures trap { IfErr result (λ cause. ended (plan_of at.now) (data_of at.now) at.now.task.now ≡ Some (Err cause)) }
 {
-    let arrivals = desk.take_ready(at.task).unwrap();
+    let arrivals = shard.take_ready(at.task).unwrap();
     let start = Start {
         plan: at.matched.plan(),
         given: at.given,
@@ -76,43 +76,43 @@ fn begin(at: &Visit, desk: &mut Shard, bench: &mut Bench) -> Result<(), Trap>
 // Ends the task of a visit, which has outputs, after what it leaves.
 fn end_with_outputs(
     at: &Visit,
-    desk: &mut Shard,
+    shard: &mut Shard,
     mail: &mut Mail,
     bench: &Bench,
     messages: Vec<Message>,
 )
     requires visit { IsVisit at.now }
     requires tiles { ended (plan_of at.now) (data_of at.now) at.now.task.now ≡ Some (Ok bench.now.tiles) }
-    requires holds { HoldsAt at.now (part_way at.now []) desk.old }
+    requires holds { HoldsAt at.now (part_way at.now []) shard.old }
     requires room { HasRoomFor (length (within_among at.now (items.out_edges (plan_of at.now) at.now.task.now)))
-        (length (items.write_backs (plan_of at.now) at.now.task.now)) desk.old }
+        (length (items.write_backs (plan_of at.now) at.now.task.now)) shard.old }
     requires blank { AreBlank (plan_of at.now) (between_among at.now (items.out_edges (plan_of at.now) at.now.task.now))
         messages.items }
     requires mail { IsMailOf (before at.now) mail.old }
     requires mail_room { length messages.items ≤ spare mail.old.under_way }
-    ensures holds { HoldsAt at.now (at_rest (after at.now).machine) desk.new }
+    ensures holds { HoldsAt at.now (at_rest (after at.now).machine) shard.new }
     ensures mail { IsMailOf (after at.now) mail.new }
 {
-    leave_within(at, desk, bench);
+    leave_within(at, shard, bench);
     post_all(at, mail, bench, messages);
-    desk.end();
+    shard.end();
 }
 
 // Ends the task of a visit by a trap.
-fn end_by_trap(at: &Visit, desk: &mut Shard, cause: Trap)
+fn end_by_trap(at: &Visit, shard: &mut Shard, cause: Trap)
     requires visit { IsVisit at.now }
     requires trap { ended (plan_of at.now) (data_of at.now) at.now.task.now ≡ Some (Err cause) }
-    requires holds { HoldsAt at.now (part_way at.now []) desk.old }
-    requires room { (n : ℕ) × (m : ℕ) × HasRoomFor n m desk.old }
-    ensures { HoldsAt at.now (at_rest (after at.now).machine) desk.new }
+    requires holds { HoldsAt at.now (part_way at.now []) shard.old }
+    requires room { (n : ℕ) × (m : ℕ) × HasRoomFor n m shard.old }
+    ensures { HoldsAt at.now (at_rest (after at.now).machine) shard.new }
 {
-    desk.trap(at.task, cause).unwrap();
+    shard.trap(at.task, cause).unwrap();
 }
 
 // Ends the task of a visit, whose body has ended so.
 fn end_run(
     at: &Visit,
-    desk: &mut Shard,
+    shard: &mut Shard,
     mail: &mut Mail,
     bench: &Bench,
     outcome: (Result<(), Trap>, Vec<Message>),
@@ -121,73 +121,73 @@ fn end_run(
     requires ok { OnOk outcome.0 (ended (plan_of at.now) (data_of at.now) at.now.task.now ≡ Some (Ok bench.now.tiles)) }
     requires trap { IfErr outcome.0 (λ cause.
         ended (plan_of at.now) (data_of at.now) at.now.task.now ≡ Some (Err cause)) }
-    requires holds { HoldsAt at.now (part_way at.now []) desk.old }
+    requires holds { HoldsAt at.now (part_way at.now []) shard.old }
     requires room { HasRoomFor (length (within_among at.now (items.out_edges (plan_of at.now) at.now.task.now)))
-        (length (items.write_backs (plan_of at.now) at.now.task.now)) desk.old }
+        (length (items.write_backs (plan_of at.now) at.now.task.now)) shard.old }
     requires blank { AreBlank (plan_of at.now) (between_among at.now (items.out_edges (plan_of at.now) at.now.task.now))
         outcome.1.items }
     requires mail { IsMailOf (before at.now) mail.old }
     requires mail_room { length outcome.1.items ≤ spare mail.old.under_way }
-    ensures holds { HoldsAt at.now (at_rest (after at.now).machine) desk.new }
+    ensures holds { HoldsAt at.now (at_rest (after at.now).machine) shard.new }
     ensures mail { IsMailOf (after at.now) mail.new }
 {
     let (end, messages) = outcome;
     if let Err(cause) = end {
-        end_by_trap(at, desk, cause);
+        end_by_trap(at, shard, cause);
         return;
     }
-    end_with_outputs(at, desk, mail, bench, messages);
+    end_with_outputs(at, shard, mail, bench, messages);
 }
 
 // Runs the task of a visit. All memory was taken before.
 fn run_visit(
     at: &Visit,
-    desk: &mut Shard,
+    shard: &mut Shard,
     mail: &mut Mail,
     bench: &mut Bench,
     messages: Vec<Message>,
 )
     requires visit { IsVisit at.now }
     requires bench { IsBenchOf (plan_of at.now) bench.old }
-    requires holds { HoldsAt at.now (at_rest (before at.now).machine) desk.old }
+    requires holds { HoldsAt at.now (at_rest (before at.now).machine) shard.old }
     requires room { HasRoomFor (length (within_among at.now (items.out_edges (plan_of at.now) at.now.task.now)))
-        (length (items.write_backs (plan_of at.now) at.now.task.now)) desk.old }
+        (length (items.write_backs (plan_of at.now) at.now.task.now)) shard.old }
     requires blank { AreBlank (plan_of at.now) (between_among at.now (items.out_edges (plan_of at.now) at.now.task.now))
         messages.items }
     requires mail { IsMailOf (before at.now) mail.old }
     requires mail_room { length messages.items ≤ spare mail.old.under_way }
-    ensures holds { HoldsAt at.now (at_rest (after at.now).machine) desk.new }
+    ensures holds { HoldsAt at.now (at_rest (after at.now).machine) shard.new }
     ensures mail { IsMailOf (after at.now) mail.new }
     ensures bench { IsBenchOf (plan_of at.now) bench.new }
 {
-    let end = begin(at, desk, bench);
-    end_run(at, desk, mail, bench, (end, messages));
+    let end = begin(at, shard, bench);
+    end_run(at, shard, mail, bench, (end, messages));
     let _spent = bench.clear();
 }
 
 // Takes the memory for the task of a visit, and runs it. Without memory nothing but spares changes.
-fn run_desk(
+fn run_in_shard(
     alloc: Global,
     at: &Visit,
-    desk: &mut Shard,
+    shard: &mut Shard,
     mail: &mut Mail,
     bench: &mut Bench,
 ) -> Result<(), OutOfMemory>
     requires visit { IsVisit at.now }
     requires bench { IsBenchOf (plan_of at.now) bench.old }
-    requires holds { HoldsAt at.now (at_rest (before at.now).machine) desk.old }
+    requires holds { HoldsAt at.now (at_rest (before at.now).machine) shard.old }
     requires mail { IsMailOf (before at.now) mail.old }
-    ensures holds { OnOk result (HoldsAt at.now (at_rest (after at.now).machine) desk.new) }
+    ensures holds { OnOk result (HoldsAt at.now (at_rest (after at.now).machine) shard.new) }
     ensures mail { OnOk result (IsMailOf (after at.now) mail.new) }
-    ensures same { OnErr result (HoldsAt at.now (at_rest (before at.now).machine) desk.new) }
+    ensures same { OnErr result (HoldsAt at.now (at_rest (before at.now).machine) shard.new) }
     ensures kept { OnErr result (IsMailOf (before at.now) mail.new) }
     ensures bench { IsBenchOf (plan_of at.now) bench.new }
 {
     let Outgoing { messages, within } = outgoing_of(alloc, at)?;
     let writes = count_writes(at)?;
-    make_room(alloc, at.matched, desk, within, writes)?;
+    make_room(alloc, at.matched, shard, within, writes)?;
     mail.under_way.reserve(messages.len())?;
-    run_visit(at, desk, mail, bench, messages);
+    run_visit(at, shard, mail, bench, messages);
     Ok(())
 }
 
@@ -217,7 +217,7 @@ fn run_at(
     ensures kept { OnErr result (IsMailOf (before at.now) mail.new) }
     ensures bench { IsBenchOf (plan_of at.now) bench.new }
 {
-    run_desk(alloc, at, &mut ranks[at.rank], mail, bench)
+    run_in_shard(alloc, at, &mut ranks[at.rank], mail, bench)
 }
 
 impl<'m> World<'m> {

@@ -28,7 +28,7 @@ pub fn type_of_flow(m: &Matched, t: &TaskId, flow: u8) -> u32
 
 // The first edge comes to a task. Only here are its goal and its priority computed.
 fn arrive_first(
-    desk: &mut Shard,
+    shard: &mut Shard,
     m: &Matched,
     edge: &Edge,
     datatype: u32,
@@ -37,38 +37,38 @@ fn arrive_first(
     requires task { IsTask m.now edge.now.to }
     requires flow { edge.now.in_flow < most_flows }
     requires goal { 0 < edges.goal m.now edge.now.to }
-    requires new { entry_of desk.old edge.now.to ≡ None }
-    requires tile { IfSome (option_copied tile) (λ t. IsTileOf desk.old.elems datatype t) }
+    requires new { entry_of shard.old edge.now.to ≡ None }
+    requires tile { IfSome (option_copied tile) (λ t. IsTileOf shard.old.elems datatype t) }
     ensures ok { OnOk result
-        (Updates desk.old.entries desk.new.entries edge.now.to
+        (Updates shard.old.entries shard.new.entries edge.now.to
         (Some
         (with_arrival
-        (entry_before desk.old edge.now.to (edges.goal m.now edge.now.to)
+        (entry_before shard.old edge.now.to (edges.goal m.now edge.now.to)
         (hints.priority m.now edge.now.to))
         edge.now.in_flow (option_copied tile.entry)))) }
     ensures fired { IfOk result (λ a.
         (a ≡ Fired)
         ↔ IsReady
         (with_arrival
-        (entry_before desk.old edge.now.to (edges.goal m.now edge.now.to) (hints.priority m.now edge.now.to))
+        (entry_before shard.old edge.now.to (edges.goal m.now edge.now.to) (hints.priority m.now edge.now.to))
         edge.now.in_flow (option_copied tile.entry))) }
-    ensures err { OnErr result (desk.new.entries ≡ desk.old.entries) }
-    ensures rest { KeepsAllButEntries desk.old desk.new }
-    ensures spare { Uses desk.old.spare desk.new.spare (if is_some (entry_of desk.old edge.now.to) then 0 else 1)
+    ensures err { OnErr result (shard.new.entries ≡ shard.old.entries) }
+    ensures rest { KeepsAllButEntries shard.old shard.new }
+    ensures spare { Uses shard.old.spare shard.new.spare (if is_some (entry_of shard.old edge.now.to) then 0 else 1)
         (if is_some tile.entry then Some datatype else None) 0 0 }
-    ensures kept { OnErr result (Uses desk.old.spare desk.new.spare 0 None 0 0) }
-    ensures succeeds { 0 < desk.old.spare.entries → (IsSome tile.entry → 0 < slice_index desk.old.spare.tiles datatype)
+    ensures kept { OnErr result (Uses shard.old.spare shard.new.spare 0 None 0 0) }
+    ensures succeeds { 0 < shard.old.spare.entries → (IsSome tile.entry → 0 < slice_index shard.old.spare.tiles datatype)
         → IsOk result }
 {
     let locals = locals_of(m.plan(), &edge.to);
     let goal = goal_under(m, &edge.to, locals.as_slice());
     let urgency = priority_under(m.plan(), &edge.to, locals.as_slice());
-    desk.arrive_first(edge, goal, urgency, datatype, tile)
+    shard.arrive_first(edge, goal, urgency, datatype, tile)
 }
 
 /// An edge comes to its target, with its tile. Without memory the shard stays as it was, but for spares that grow.
 pub fn arrive(
-    desk: &mut Shard,
+    shard: &mut Shard,
     m: &Matched,
     edge: &Edge,
     datatype: u32,
@@ -78,31 +78,31 @@ pub fn arrive(
     requires flow { edge.now.in_flow < most_flows }
     requires goal { 0 < edges.goal m.now edge.now.to }
     requires waits { IsWaiting
-        (entry_before desk.old edge.now.to (edges.goal m.now edge.now.to) (hints.priority m.now edge.now.to)) }
-    requires tile { IfSome (option_copied tile) (λ t. IsTileOf desk.old.elems datatype t) }
+        (entry_before shard.old edge.now.to (edges.goal m.now edge.now.to) (hints.priority m.now edge.now.to)) }
+    requires tile { IfSome (option_copied tile) (λ t. IsTileOf shard.old.elems datatype t) }
     ensures ok { OnOk result
-        (Updates desk.old.entries desk.new.entries edge.now.to
+        (Updates shard.old.entries shard.new.entries edge.now.to
         (Some
         (with_arrival
-        (entry_before desk.old edge.now.to (edges.goal m.now edge.now.to)
+        (entry_before shard.old edge.now.to (edges.goal m.now edge.now.to)
         (hints.priority m.now edge.now.to))
         edge.now.in_flow (option_copied tile.entry)))) }
     ensures fired { IfOk result (λ a.
         (a ≡ Fired)
         ↔ IsReady
         (with_arrival
-        (entry_before desk.old edge.now.to (edges.goal m.now edge.now.to) (hints.priority m.now edge.now.to))
+        (entry_before shard.old edge.now.to (edges.goal m.now edge.now.to) (hints.priority m.now edge.now.to))
         edge.now.in_flow (option_copied tile.entry))) }
-    ensures err { OnErr result (desk.new.entries ≡ desk.old.entries) }
-    ensures rest { KeepsAllButEntries desk.old desk.new }
-    ensures spare { Uses desk.old.spare desk.new.spare (if is_some (entry_of desk.old edge.now.to) then 0 else 1)
+    ensures err { OnErr result (shard.new.entries ≡ shard.old.entries) }
+    ensures rest { KeepsAllButEntries shard.old shard.new }
+    ensures spare { Uses shard.old.spare shard.new.spare (if is_some (entry_of shard.old edge.now.to) then 0 else 1)
         (if is_some tile.entry then Some datatype else None) 0 0 }
-    ensures kept { OnErr result (Uses desk.old.spare desk.new.spare 0 None 0 0) }
-    ensures succeeds { (entry_of desk.old edge.now.to ≡ None → 0 < desk.old.spare.entries)
-        → (IsSome tile.entry → 0 < slice_index desk.old.spare.tiles datatype) → IsOk result }
+    ensures kept { OnErr result (Uses shard.old.spare shard.new.spare 0 None 0 0) }
+    ensures succeeds { (entry_of shard.old edge.now.to ≡ None → 0 < shard.old.spare.entries)
+        → (IsSome tile.entry → 0 < slice_index shard.old.spare.tiles datatype) → IsOk result }
 {
-    match desk.index_of(&edge.to) {
-        Some(index) => desk.arrive_at(index, edge.in_flow, datatype, tile),
-        None => arrive_first(desk, m, edge, datatype, tile),
+    match shard.index_of(&edge.to) {
+        Some(index) => shard.arrive_at(index, edge.in_flow, datatype, tile),
+        None => arrive_first(shard, m, edge, datatype, tile),
     }
 }

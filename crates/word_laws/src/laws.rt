@@ -1,5 +1,5 @@
-//! Laws of the words of a command: they give one or break a rule, and of those after a verb, which are stray, which lack
-//! a value, and which are operands.
+//! Laws of the words of a command: they give one or break a rule; and of those after a verb, which are stray, which
+//! lack a value, and which are operands.
 
 ghost use Rattle.std.specs.Prelude.{◌∷◌, ◌≡◌, ◌⊎◌, ◌↔◌, ◌+◌, ℕ, IsTrue, List, None, Some, [], length, map};
 ghost use Rattle.std.specs.List.{filter, list_any};

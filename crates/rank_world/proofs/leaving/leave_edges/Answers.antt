@@ -14,7 +14,7 @@ loop-edge-init c =
     let v = c.args.at.now in
     let all = c.into_iter-edge-iterator.result in
     let are : all ≡ out_edges (plan_of v) v.task.now = c.into_iter-edge-iterator.ensures.into_iter_gives ∙ c.out_edges_under-edge-items.ensures ∙ ap (λ (p : Plan). out_edges p v.task.now) c.plan.ensures.same in
-    record { can_next = tt; is_finite = tt; left = edges_first v c.requires.visit (ap has_outputs c.requires.tiles) all c.args.desk.now c.requires.holds (subst (λ es. HasRoomFor (length (within_among v es)) 0 c.args.desk.now) (sym are) c.requires.room) }
+    record { can_next = tt; is_finite = tt; left = edges_first v c.requires.visit (ap has_outputs c.requires.tiles) all c.args.shard.now c.requires.holds (subst (λ es. HasRoomFor (length (within_among v es)) 0 c.args.shard.now) (sym are) c.requires.room) }
 
 pub leave_edge-requires : goal.leave_edge-requires
 leave_edge-requires c =
@@ -23,15 +23,15 @@ leave_edge-requires c =
     let o = ap has_outputs c.requires.tiles in
     let all = c.into_iter-edge-iterator.result in
     let are : all ≡ out_edges (plan_of v) v.task.now = c.into_iter-edge-iterator.ensures.into_iter_gives ∙ c.out_edges_under-edge-items.ensures ∙ ap (λ (p : Plan). out_edges p v.task.now) c.plan.ensures.same in
-    let l = subst (λ (es : List Edge). EdgesLeft v all es c.loop-edge.desk) c.in-Some.ensures.steps c.loop-edge.invariant.left in
-    let from = edge_from v h o all are c.in-Some.edge c.next.new.self c.loop-edge.desk l in
+    let l = subst (λ (es : List Edge). EdgesLeft v all es c.loop-edge.shard) c.in-Some.ensures.steps c.loop-edge.invariant.left in
+    let from = edge_from v h o all are c.in-Some.edge c.next.new.self c.loop-edge.shard l in
     record {
       visit = h;
       from = from;
-      to = edge_to v h o all are c.in-Some.edge c.next.new.self c.loop-edge.desk l;
+      to = edge_to v h o all are c.in-Some.edge c.next.new.self c.loop-edge.shard l;
       tiles = ap (ended (plan_of v) (data_of v)) from ∙ c.requires.tiles;
-      may = λ k. edge_may v h o all are c.in-Some.edge c.next.new.self c.loop-edge.desk l k;
-      room = λ k. edge_room v h o all are c.in-Some.edge c.next.new.self c.loop-edge.desk l k;
+      may = λ k. edge_may v h o all are c.in-Some.edge c.next.new.self c.loop-edge.shard l k;
+      room = λ k. edge_room v h o all are c.in-Some.edge c.next.new.self c.loop-edge.shard l k;
     }
 
 pub loop-edge-preserved : goal.loop-edge-preserved
@@ -41,13 +41,13 @@ loop-edge-preserved c =
     let o = ap has_outputs c.requires.tiles in
     let all = c.into_iter-edge-iterator.result in
     let are : all ≡ out_edges (plan_of v) v.task.now = c.into_iter-edge-iterator.ensures.into_iter_gives ∙ c.out_edges_under-edge-items.ensures ∙ ap (λ (p : Plan). out_edges p v.task.now) c.plan.ensures.same in
-    let l = subst (λ (es : List Edge). EdgesLeft v all es c.loop-edge.desk) c.in-Some.ensures.steps c.loop-edge.invariant.left in
-    record { can_next = tt; is_finite = tt; left = edge_next v h o all are c.in-Some.edge c.next.new.self c.loop-edge.desk l c.leave_edge.new.desk c.leave_edge.ensures.takes c.leave_edge.ensures.same }
+    let l = subst (λ (es : List Edge). EdgesLeft v all es c.loop-edge.shard) c.in-Some.ensures.steps c.loop-edge.invariant.left in
+    record { can_next = tt; is_finite = tt; left = edge_next v h o all are c.in-Some.edge c.next.new.self c.loop-edge.shard l c.leave_edge.new.shard c.leave_edge.ensures.takes c.leave_edge.ensures.same }
 
 pub returns : goal.returns
 returns c =
     let v = c.args.at.now in
     let all = c.into_iter-edge-iterator.result in
     let are : all ≡ out_edges (plan_of v) v.task.now = c.into_iter-edge-iterator.ensures.into_iter_gives ∙ c.out_edges_under-edge-items.ensures ∙ ap (λ (p : Plan). out_edges p v.task.now) c.plan.ensures.same in
-    let l = subst (λ (es : List Edge). EdgesLeft v all es c.loop-edge.desk) c.in-None.ensures.steps.0 c.loop-edge.invariant.left in
-    edges_last v c.requires.visit (ap has_outputs c.requires.tiles) all are c.loop-edge.desk l
+    let l = subst (λ (es : List Edge). EdgesLeft v all es c.loop-edge.shard) c.in-None.ensures.steps.0 c.loop-edge.invariant.left in
+    edges_last v c.requires.visit (ap has_outputs c.requires.tiles) all are c.loop-edge.shard l

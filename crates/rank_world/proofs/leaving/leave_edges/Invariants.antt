@@ -5,5 +5,5 @@ abbrev pub invariant-loop-edge : goal.invariant-loop-edge
 invariant-loop-edge l = record {
   can_next : (goal.iterator-loop-edge).can_next l.edge-iterator;
   is_finite : (goal.iterator-loop-edge).is_finite l.edge-iterator;
-  left : EdgesLeft l.at l.initial.edge-iterator l.edge-iterator l.desk;
+  left : EdgesLeft l.at l.initial.edge-iterator l.edge-iterator l.shard;
 }

@@ -7,7 +7,7 @@ use Rattle.rank_world.proofs.leaving.leave_within.Goals as goal
 pub leave_writes-requires-clause-room : goal.leave_writes-requires-clause-room
 leave_writes-requires-clause-room c =
     let v = c.args.at.now in
-    less_room (length (within_among v (out_edges (plan_of v) v.task.now))) (length (write_backs (plan_of v) v.task.now)) 0 (length (write_backs (plan_of v) v.task.now)) c.args.desk.now c.requires.room (omega arith) (omega arith)
+    less_room (length (within_among v (out_edges (plan_of v) v.task.now))) (length (write_backs (plan_of v) v.task.now)) 0 (length (write_backs (plan_of v) v.task.now)) c.args.shard.now c.requires.room (omega arith) (omega arith)
 
 pub leave_edges-requires-clause-room : goal.leave_edges-requires-clause-room
 leave_edges-requires-clause-room c =

@@ -10,7 +10,7 @@ use Rattle.rank_world.proofs.LeftWithin.{WritesLeft, less_room, write_from, writ
 use Rattle.rank_world.proofs.leaving.leave_writes.Goals as goal
 
 pub loop-write-init : goal.loop-write-init
-loop-write-init c = record { can_next = tt; is_finite = tt; left = writes_first c.args.at.now c.requires.visit (ap has_outputs c.requires.tiles) c.into_iter-write-iterator.result c.args.desk.now c.requires.holds }
+loop-write-init c = record { can_next = tt; is_finite = tt; left = writes_first c.args.at.now c.requires.visit (ap has_outputs c.requires.tiles) c.into_iter-write-iterator.result c.args.shard.now c.requires.holds }
 
 pub leave_write-requires : goal.leave_write-requires
 leave_write-requires c =
@@ -19,11 +19,11 @@ leave_write-requires c =
     let o = ap has_outputs c.requires.tiles in
     let all = c.into_iter-write-iterator.result in
     let are : all ≡ write_backs (plan_of v) v.task.now = c.into_iter-write-iterator.ensures.into_iter_gives ∙ c.write_backs_under-write-items.ensures ∙ ap (λ (p : Plan). write_backs p v.task.now) c.plan.ensures.same in
-    let l = subst (λ (ws : List WriteBack). WritesLeft v all ws c.args.desk.now c.loop-write.desk) c.in-Some.ensures.steps c.loop-write.invariant.left in
+    let l = subst (λ (ws : List WriteBack). WritesLeft v all ws c.args.shard.now c.loop-write.shard) c.in-Some.ensures.steps c.loop-write.invariant.left in
     record {
-      tiles = ap (ended (plan_of v) (data_of v)) (write_from v h o all are c.in-Some.write c.next.new.self c.args.desk.now c.loop-write.desk l) ∙ c.requires.tiles;
-      may = write_may v h o all are c.in-Some.write c.next.new.self c.args.desk.now c.loop-write.desk l;
-      room = less_room 0 (suc (length c.next.new.self)) 0 1 c.loop-write.desk (l.room 0 (subst (λ ws. HasRoomFor 0 (length ws) c.args.desk.now) (sym are) c.requires.room)) (omega arith) (omega arith);
+      tiles = ap (ended (plan_of v) (data_of v)) (write_from v h o all are c.in-Some.write c.next.new.self c.args.shard.now c.loop-write.shard l) ∙ c.requires.tiles;
+      may = write_may v h o all are c.in-Some.write c.next.new.self c.args.shard.now c.loop-write.shard l;
+      room = less_room 0 (suc (length c.next.new.self)) 0 1 c.loop-write.shard (l.room 0 (subst (λ ws. HasRoomFor 0 (length ws) c.args.shard.now) (sym are) c.requires.room)) (omega arith) (omega arith);
     }
 
 pub loop-write-preserved : goal.loop-write-preserved
@@ -33,8 +33,8 @@ loop-write-preserved c =
     let o = ap has_outputs c.requires.tiles in
     let all = c.into_iter-write-iterator.result in
     let are : all ≡ write_backs (plan_of v) v.task.now = c.into_iter-write-iterator.ensures.into_iter_gives ∙ c.write_backs_under-write-items.ensures ∙ ap (λ (p : Plan). write_backs p v.task.now) c.plan.ensures.same in
-    let l = subst (λ (ws : List WriteBack). WritesLeft v all ws c.args.desk.now c.loop-write.desk) c.in-Some.ensures.steps c.loop-write.invariant.left in
-    record { can_next = tt; is_finite = tt; left = write_then v h o all are c.in-Some.write c.next.new.self c.args.desk.now c.loop-write.desk l c.leave_write.new.desk c.leave_write.ensures }
+    let l = subst (λ (ws : List WriteBack). WritesLeft v all ws c.args.shard.now c.loop-write.shard) c.in-Some.ensures.steps c.loop-write.invariant.left in
+    record { can_next = tt; is_finite = tt; left = write_then v h o all are c.in-Some.write c.next.new.self c.args.shard.now c.loop-write.shard l c.leave_write.new.shard c.leave_write.ensures }
 
 pub returns : goal.returns
 returns c =
@@ -43,8 +43,8 @@ returns c =
     let o = ap has_outputs c.requires.tiles in
     let all = c.into_iter-write-iterator.result in
     let are : all ≡ write_backs (plan_of v) v.task.now = c.into_iter-write-iterator.ensures.into_iter_gives ∙ c.write_backs_under-write-items.ensures ∙ ap (λ (p : Plan). write_backs p v.task.now) c.plan.ensures.same in
-    let l = subst (λ (ws : List WriteBack). WritesLeft v all ws c.args.desk.now c.loop-write.desk) c.in-None.ensures.steps.0 c.loop-write.invariant.left in
+    let l = subst (λ (ws : List WriteBack). WritesLeft v all ws c.args.shard.now c.loop-write.shard) c.in-None.ensures.steps.0 c.loop-write.invariant.left in
     record {
-      holds = writes_last v h o all are c.args.desk.now c.loop-write.desk l;
-      room = λ n room. l.room n (subst (λ ws. HasRoomFor n (length ws) c.args.desk.now) (sym are) room);
+      holds = writes_last v h o all are c.args.shard.now c.loop-write.shard l;
+      room = λ n room. l.room n (subst (λ ws. HasRoomFor n (length ws) c.args.shard.now) (sym are) room);
     }

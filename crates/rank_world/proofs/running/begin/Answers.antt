@@ -14,14 +14,14 @@ pub run-requires-clause-inputs : goal.run-requires-clause-inputs
 run-requires-clause-inputs c =
     let v = c.args.at.now in
     let h = c.requires.visit in
-    let takes = subst (λ o. IfSome o (λ tiles. Takes c.args.desk.now c.take_ready.new.self v.task.now tiles)) c.unwrap-arrivals.ensures c.take_ready.ensures.some in
+    let takes = subst (λ o. IfSome o (λ tiles. Takes c.args.shard.now c.take_ready.new.self v.task.now tiles)) c.unwrap-arrivals.ensures c.take_ready.ensures.some in
     subst (λ p. MayRun p c.args.at.now.given.now c.args.at.now.task.now c.unwrap-arrivals.result) (sym c.plan.ensures.same) (record {
       runs = it_ends (plan_of v) (data_of v) h.consistent (before v).machine h.sound.state v.task.now (fed (plan_of v) (data_of v) h.consistent v.ranks (before v) h.sound v.task.now h.may);
-      inputs = claim_inputs (plan_of v) (data_of v) (rank_of (plan_of v) v.ranks) v.rank (at_rest (before v).machine) c.args.desk.now c.requires.holds h.consistent h.sound.state c.take_ready.new.self v.task.now c.unwrap-arrivals.result takes;
+      inputs = claim_inputs (plan_of v) (data_of v) (rank_of (plan_of v) v.ranks) v.rank (at_rest (before v).machine) c.args.shard.now c.requires.holds h.consistent h.sound.state c.take_ready.new.self v.task.now c.unwrap-arrivals.result takes;
     })
 
 pub returns-clause-holds : goal.returns-clause-holds
 returns-clause-holds c =
     let v = c.args.at.now in
-    let takes = subst (λ o. IfSome o (λ tiles. Takes c.args.desk.now c.take_ready.new.self v.task.now tiles)) c.unwrap-arrivals.ensures c.take_ready.ensures.some in
-    claim_holds v c.requires.visit c.args.desk.now c.take_ready.new.self c.unwrap-arrivals.result c.requires.holds takes
+    let takes = subst (λ o. IfSome o (λ tiles. Takes c.args.shard.now c.take_ready.new.self v.task.now tiles)) c.unwrap-arrivals.ensures c.take_ready.ensures.some in
+    claim_holds v c.requires.visit c.args.shard.now c.take_ready.new.self c.unwrap-arrivals.result c.requires.holds takes

@@ -14,10 +14,10 @@ pub returns-clause-ok : goal.returns-clause-ok
 returns-clause-ok c =
     let at = slice_get-get_or c.args.ranks.now.items c.args.k c.index_mut.result.now c.requires.within ∙ ap (λ x. Some x) (sym c.index_mut.ensures.value) in
     on_ok_weaker c.take_edge.result
-    (λ takes. takes_at c.args.m.now c.args.message.now c.args.k c.args.ranks.now.items c.index_mut.result.now c.take_edge.new.desk at
-    (subst (λ o. TakesEdge c.args.m.now c.args.message.now.edge o c.index_mut.result.now c.take_edge.new.desk) c.as_ref.ensures.value takes)) c.take_edge.ensures.takes
+    (λ takes. takes_at c.args.m.now c.args.message.now c.args.k c.args.ranks.now.items c.index_mut.result.now c.take_edge.new.shard at
+    (subst (λ o. TakesEdge c.args.m.now c.args.message.now.edge o c.index_mut.result.now c.take_edge.new.shard) c.as_ref.ensures.value takes)) c.take_edge.ensures.takes
 
 pub returns-clause-err : goal.returns-clause-err
 returns-clause-err c =
     let at = slice_get-get_or c.args.ranks.now.items c.args.k c.index_mut.result.now c.requires.within ∙ ap (λ x. Some x) (sym c.index_mut.ensures.value) in
-    on_err_weaker c.take_edge.result (λ same. stays_at c.args.k c.args.ranks.now.items c.index_mut.result.now c.take_edge.new.desk at same) c.take_edge.ensures.same
+    on_err_weaker c.take_edge.result (λ same. stays_at c.args.k c.args.ranks.now.items c.index_mut.result.now c.take_edge.new.shard at same) c.take_edge.ensures.same

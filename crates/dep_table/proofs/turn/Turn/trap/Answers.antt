@@ -12,22 +12,22 @@ use Rattle.dep_table.specs.Passes.{IsPassOf}
 use Rattle.dep_table.specs.Tables.{job_of}
 use Rattle.dep_table.specs.Turns.{IsTurnOf}
 use Rattle.dep_table.specs.Views.{PassView, shown}
-use Rattle.dep_table.proofs.Claiming.{desk_is}
+use Rattle.dep_table.proofs.Claiming.{held_is}
 use Rattle.dep_table.proofs.Ending.{end_bound, end_last, end_pass, end_running, has_ended, trap_spare, traps_task}
 use Rattle.dep_table.proofs.Turns.{left_last, left_pass, only_took}
 use Rattle.dep_table.proofs.turn.Turn.trap.Goals as goal
 use Rattle.dep_table.proofs.turn.Turn.trap.Goals.{in-Err, in-Ok}
 
 pub trap-requires-clause-running : goal.trap-requires-clause-running
-trap-requires-clause-running c = let h = c.requires.turn in end_running _ _ _ _ h.3 _ (sym (ap (λ (m : Seated). m.0.running) h.3.me) ∙ c.requires.task.runs) c.requires.shard _ (desk_is _ _ _ _ h.3 _ c.pass.view_is _ _ _ c.slot_mut-desk.ensures.value)
+trap-requires-clause-running c = let h = c.requires.turn in end_running _ _ _ _ h.3 _ (sym (ap (λ (m : Seated). m.0.running) h.3.me) ∙ c.requires.task.runs) c.requires.shard _ (held_is _ _ _ _ h.3 _ c.pass.view_is _ _ _ c.slot_mut-held.ensures.value)
 
 pub trap-requires-clause-bound : goal.trap-requires-clause-bound
-trap-requires-clause-bound c = let h = c.requires.turn in end_bound _ _ _ _ h.3 _ (sym (ap (λ (m : Seated). m.0.running) h.3.me) ∙ c.requires.task.runs) c.requires.shard _ (desk_is _ _ _ _ h.3 _ c.pass.view_is _ _ _ c.slot_mut-desk.ensures.value)
+trap-requires-clause-bound c = let h = c.requires.turn in end_bound _ _ _ _ h.3 _ (sym (ap (λ (m : Seated). m.0.running) h.3.me) ∙ c.requires.task.runs) c.requires.shard _ (held_is _ _ _ _ h.3 _ c.pass.view_is _ _ _ c.slot_mut-held.ensures.value)
 
 pub give_end-requires-clause-ends : goal.give_end-requires-clause-ends
 give_end-requires-clause-ends c = let h = c.requires.turn in traps_task _ _ _ _ h.3 _ (sym (ap (λ (m : Seated). m.0.running) h.3.me) ∙ c.requires.task.runs) _ c.pass.view_is c.args.cause c.requires.shard
     (subst (λ (p : PassView). MayTrap (job_of c.args.self.table.now).matched (job_of c.args.self.table.now).given c.args.t.now c.args.cause p.me.0) (sym c.pass.view_is) (record { runs = c.requires.task.runs; traps = c.requires.task.traps }))
-    _ _ (desk_is _ _ _ _ h.3 _ c.pass.view_is _ _ _ c.slot_mut-desk.ensures.value) c.in-Ok.ensures.ends c.in-Ok.ensures.rest c.in-Ok.ensures.ok c.in-Ok.ensures.spare
+    _ _ (held_is _ _ _ _ h.3 _ c.pass.view_is _ _ _ c.slot_mut-held.ensures.value) c.in-Ok.ensures.ends c.in-Ok.ensures.rest c.in-Ok.ensures.ok c.in-Ok.ensures.spare
 
 pub returns-clause-pass : goal.returns-clause-pass
 returns-clause-pass c = let h = c.requires.turn in elim c.match-trap.branch [
@@ -58,7 +58,7 @@ returns-clause-left c = elim c.match-trap.branch [
 pub returns-clause-preloaded : goal.returns-clause-preloaded
 returns-clause-preloaded c = λ pre. let h = c.requires.turn in elim c.match-trap.branch [
   | in-Ok w ↦ subst IsOk (sym w.result-is) refl
-  | in-Err w ↦ absurd (false≢true (subst IsOk w.in-Err.is (c.trap.ensures.succeeds (trap_spare _ _ _ _ h.3 _ (sym (ap (λ (m : Seated). m.0.running) h.3.me) ∙ c.requires.task.runs) c.requires.shard pre _ (desk_is _ _ _ _ h.3 _ c.pass.view_is _ _ _ c.slot_mut-desk.ensures.value)))))
+  | in-Err w ↦ absurd (false≢true (subst IsOk w.in-Err.is (c.trap.ensures.succeeds (trap_spare _ _ _ _ h.3 _ (sym (ap (λ (m : Seated). m.0.running) h.3.me) ∙ c.requires.task.runs) c.requires.shard pre _ (held_is _ _ _ _ h.3 _ c.pass.view_is _ _ _ c.slot_mut-held.ensures.value)))))
 ]
 
 pub returns-clause-last : goal.returns-clause-last
