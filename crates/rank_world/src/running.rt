@@ -34,7 +34,8 @@ use term_core::Trap;
 
 // Whether the entry at this index is ready.
 fn is_ready_at(shard: &Shard, index: usize) -> bool
-    ensures { (e : EntryValue) (t : Task) → slice_get shard.now.entries index ≡ Some (t, e) → IsTrue result ↔ IsReady e }
+    ensures { (e : EntryValue) (t : Task) → slice_get shard.now.entries index ≡ Some (t, e)
+        → IsTrue result ↔ IsReady e }
 {
     match shard.entry(index) {
         Some((_task, entry)) => entry.arrived() == entry.goal(),

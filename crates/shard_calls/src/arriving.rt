@@ -57,8 +57,8 @@ fn arrive_first(
     ensures spare { Uses shard.old.spare shard.new.spare (if is_some (entry_of shard.old edge.now.to) then 0 else 1)
         (if is_some tile.entry then Some datatype else None) 0 0 }
     ensures kept { OnErr result (Uses shard.old.spare shard.new.spare 0 None 0 0) }
-    ensures succeeds { 0 < shard.old.spare.entries → (IsSome tile.entry → 0 < slice_index shard.old.spare.tiles datatype)
-        → IsOk result }
+    ensures succeeds { 0 < shard.old.spare.entries
+        → (IsSome tile.entry → 0 < slice_index shard.old.spare.tiles datatype) → IsOk result }
 {
     let locals = locals_of(m.plan(), &edge.to);
     let goal = goal_under(m, &edge.to, locals.as_slice());
