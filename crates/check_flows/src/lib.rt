@@ -3,12 +3,12 @@
 
 mod datatype;
 mod dependence;
+mod element;
 mod kind;
 mod laws;
-mod place;
 mod rule;
 mod target;
 
 pub use dependence::flow;
+pub use element::element;
 pub use laws::{a_resolved_element_exists, a_resolved_flow_is_well_made};
-pub use place::element;

@@ -4,15 +4,15 @@
 
 mod checking;
 mod class;
-mod given;
 mod globals;
 mod head;
+mod lacking;
 mod laws;
 mod plan;
 mod scope;
 mod whole;
 
 pub use checking::check;
-pub use given::missing;
 pub use globals::globals_of;
+pub use lacking::missing;
 pub use laws::{one_answer, what_is_resolved_is_a_plan};

@@ -3,7 +3,7 @@ use Rattle.std.specs.List.{list_any}
 use Rattle.check_names.specs.Alphabet.{Word}
 use Rattle.flow_check.specs.Globals.{lacks}
 use Rattle.flow_check.proofs.DeclaredGlobals.{missing_is}
-use Rattle.flow_check.proofs.given.missing.Goals as goal
+use Rattle.flow_check.proofs.lacking.missing.Goals as goal
 
 pub returns : goal.returns
 returns c given tables =

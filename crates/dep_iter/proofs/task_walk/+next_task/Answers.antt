@@ -4,7 +4,7 @@ use Rattle.ptg_base.specs.Task.{Task}
 use Rattle.range_space.specs.Tasks.{tasks}
 use Rattle.list_lemmas.proofs.Places.{slice_get_there, drop_from}
 use Rattle.dep_iter.specs.Tasks.{task, tasks_from}
-use Rattle.dep_iter.proofs.every.+next_task.Goals as goal
+use Rattle.dep_iter.proofs.task_walk.+next_task.Goals as goal
 
 pub returns : goal.returns
 returns t c =
