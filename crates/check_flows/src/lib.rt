@@ -3,12 +3,12 @@
 
 mod datatype;
 mod dependence;
-mod element;
+mod elements;
 mod kind;
 mod laws;
 mod rule;
 mod target;
 
 pub use dependence::flow;
-pub use element::element;
+pub use elements::element;
 pub use laws::{a_resolved_element_exists, a_resolved_flow_is_well_made};
