@@ -57,6 +57,9 @@ breaks_none ws v ps e proper good number (operand_number h) =
     clash (length (operands ps) == operand_count v) (kept v ps good).3 (by_parts has_wrong_count ws v ps e h)
 breaks_none ws v ps e proper good number (bad_number h) = let bad = by_parts has_bad_number ws v ps e h in absurd cc
 
+pub breaks_number : (ws : List (List ℕ)) (v : Verb) (ps : List Part) → read ws ≡ Some (v, ps) → has_bad_number v ps ≡ true → IsUsage ws
+breaks_number ws v ps e h = bad_number (to_rule has_bad_number ws v ps e h)
+
 -- a number in decimal digits is at most the largest
 pub at_most : (most : ℕ) (text : List ℕ) → is_decimal most text ≡ true → nat_le (decimal text) most ≡ true
 unfolding is_decimal

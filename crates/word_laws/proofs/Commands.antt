@@ -6,9 +6,9 @@ use Rattle.ptg_words.specs.declared.order.Order.{Order}
 use Rattle.ptg_words.specs.Parts.{Part, has_twice, is_lacking, is_stray, operands, parts}
 use Rattle.ptg_words.specs.Readings.{is_read}
 use Rattle.ptg_words.specs.Words as words
-use Rattle.ptg_words.specs.Words.{IsProper, IsUsage, Orders, Verb, bad_number, formed, has_bad_number, has_wrong_count, improper_word, lacking_number, no_verb, operand_count, operand_number, option_twice, options_of, read, stray_word, verb_of}
+use Rattle.ptg_words.specs.Words.{IsProper, IsUsage, Orders, Verb, formed, has_bad_number, has_wrong_count, improper_word, lacking_number, no_verb, operand_count, operand_number, option_twice, options_of, read, stray_word, verb_of}
 use Rattle.ptg_words.proofs.Proper.{all_or_any}
-use Rattle.ptg_words.proofs.Rules.{breaks_none, to_rule}
+use Rattle.ptg_words.proofs.Rules.{breaks_none, breaks_number, to_rule}
 use Rattle.ptg_words.proofs.ValuesRead.{counted}
 use Rattle.word_laws.specs.Commands.{OrderOrUsage}
 
@@ -22,9 +22,6 @@ breaks_rule ws v ps e h = go (list_any is_stray ps) (list_any is_lacking ps) (ha
     go false false true d ea eb ec ed = option_twice (to_rule (λ v ps. has_twice ps) ws v ps e ec)
     go false false false false ea eb ec ed = operand_number (to_rule has_wrong_count ws v ps e (ap not ed))
     go false false false true ea eb ec ed = let bad : true ≡ false = sym (rw (ea, eb, ec, ed) refl) ∙ h in absurd cc
-
-pub breaks_number : (ws : List (List ℕ)) (v : Verb) (ps : List Part) → read ws ≡ Some (v, ps) → has_bad_number v ps ≡ true → IsUsage ws
-breaks_number ws v ps e h = bad_number (to_rule has_bad_number ws v ps e h)
 
 -- ---- the command of parts that keep the rules
 

@@ -1,6 +1,6 @@
-use Rattle.std.proofs.Common.{false}
+use Rattle.dep_iter.specs.declared.direction.Direction.TheVariants.{Out}
 use Rattle.dep_iter.proofs.Joining.{write_backs-targets}
 use Rattle.dep_iter.proofs.writes.write_backs_under.Goals as goal
 
 pub returns : goal.returns
-returns c = rw (c.start.ensures.targets false c.args.env.now, c.copy.ensures, c.flows_of.ensures.flows, c.requires.locals) (write_backs-targets c.args.plan.now c.args.t.now)
+returns c = rw (c.start.ensures.targets Out c.args.env.now, c.copy.ensures, c.flows_of.ensures.flows, c.requires.locals) (write_backs-targets c.args.plan.now c.args.t.now)
