@@ -1,14 +1,14 @@
 //! The flows of a class of a JDF: their dependences with all names resolved, or their first fault.
 #![tactic(auto)]
 
+mod coll_element;
 mod datatype;
 mod dependence;
-mod elements;
 mod kind;
 mod laws;
 mod rule;
 mod target;
 
+pub use coll_element::element;
 pub use dependence::flow;
-pub use elements::element;
 pub use laws::{a_resolved_element_exists, a_resolved_flow_is_well_made};

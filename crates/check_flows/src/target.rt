@@ -11,7 +11,7 @@ ghost use Rattle.check_names.specs.Names.{class_named, flow_named};
 ghost use Rattle.check_names.specs.Returns.{ReturnsChecked, both};
 ghost use Rattle.check_flows.specs.Targets.{first_spot, task_faults, class_at, task_of, named_faults, target_of};
 
-use crate::elements::element;
+use crate::coll_element::element;
 use check_names::{Context, and_rules, arguments, class_named, fault_if, join};
 use jdf_lex::{JdfCode, JdfRefusal, Spot, fault_at};
 use jdf_tree::{ArgTree, ClassTree, TargetTree, Word};

@@ -2,7 +2,7 @@ use Rattle.std.proofs.Common.{[], not, ◌==◌, Some, refl, subst}
 use Rattle.check_names.specs.Alphabet.{Arity}
 use Rattle.check_names.specs.Faults.{fault_if}
 use Rattle.check_names.specs.Returns.{ReturnsChecked}
-use Rattle.check_flows.proofs.elements.dimensioned.Goals as goal
+use Rattle.check_flows.proofs.coll_element.dimensioned.Goals as goal
 
 pub returns : goal.returns
 returns c =

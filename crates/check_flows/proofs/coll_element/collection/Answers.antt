@@ -2,7 +2,7 @@ use Rattle.std.proofs.Common.{sym, ◌∙◌, subst}
 use Rattle.check_names.specs.Contexts.{job_of}
 use Rattle.check_names.specs.Returns.{ReturnsChecked}
 use Rattle.check_flows.specs.Places.{collection_faults}
-use Rattle.check_flows.proofs.elements.collection.Goals as goal
+use Rattle.check_flows.proofs.coll_element.collection.Goals as goal
 
 pub returns-in-Some : goal.returns-in-Some
 returns-in-Some c =
