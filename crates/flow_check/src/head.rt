@@ -53,15 +53,15 @@ pub(crate) fn head(context: &Context, class: &ClassTree) -> Result<ClassHead, Jd
         option_term(context, &class.priority),
     );
     match join(place, rest) {
-        Ok((place, rest)) => Ok(ClassHead {
-            space: place.0,
-            affinity: AffinityPlan {
-                coll: place.1.0,
-                indices: place.1.1,
-            },
-            flows: rest.0,
-            priority: rest.1,
-        }),
+        Ok((place, rest)) => {
+            let (coll, indices) = place.1;
+            Ok(ClassHead {
+                space: place.0,
+                affinity: AffinityPlan { coll, indices },
+                flows: rest.0,
+                priority: rest.1,
+            })
+        }
         Err(refusal) => Err(refusal),
     }
 }
