@@ -53,7 +53,7 @@ a_finding_has_its_status (findings.Answer outcome) = an_answer_has_its_status ou
 a_finding_has_its_status (findings.Summary found) = tt
 a_finding_has_its_status (findings.Chain found) = tt
 a_finding_has_its_status (findings.Cycle found) = tt
-a_finding_has_its_status (findings.Order text) = tt
+a_finding_has_its_status (findings.Trace text) = tt
 a_finding_has_its_status (findings.Ranked found) = an_answer_has_its_status found.outcome
 
 some_is_not_none : (r : ReceiptView) → ◌≡◌ {A = Option ReceiptView} (Some r) None → ⊥
