@@ -1,5 +1,5 @@
 #!/usr/bin/env python3
-"""Prints a JDF text of exactly so many tokens (at least 100,000), to measure how `ptg show` and `ptg check` grow.
+"""Prints a JDF text of exactly this many tokens (at least 100,000), to measure how `ptg show` and `ptg check` grow.
 
     tools/long_jdf.py 125000 > long.jdf
     tools/measure ./ptg show long.jdf > shown.jdf
@@ -57,7 +57,7 @@ def expression(length, names):
 
 
 def dependences(text, name, budget, names):
-    """Flows with dependences on expressions, of about so many tokens."""
+    """Flows with dependences on expressions, of about this many tokens."""
     until = text.count + budget
     for f in range(8):
         text.add("RW", f"A{f}")
@@ -69,7 +69,7 @@ def dependences(text, name, budget, names):
 
 
 def statements(text, budget, names):
-    """Statements of a body, of so many tokens; where names are the local alone, semicolons are the rest of them."""
+    """Statements of a body, of this many tokens; where names are the local alone, semicolons are the rest of them."""
     while budget >= 9:
         text.add("A0", "[", "0", "]", "=", "k", "+", "1" if not names.count else names.one(), ";")
         budget -= 9
@@ -78,7 +78,7 @@ def statements(text, budget, names):
 
 
 def write_data(path, count, others):
-    """Writes the data of a text with so many globals that expressions name, and so many others."""
+    """Writes the data of a text with this many globals that expressions name, and this many others."""
     with open(path, "w") as out:
         out.write("elems,1\ncoll,D,1\n")
         for g in range(count):

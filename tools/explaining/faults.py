@@ -4,7 +4,7 @@ from dataclasses import dataclass, field
 from graph import Tie, Unknown
 from jobs import task as shown_task
 
-# So many dependences of the other end are shown.
+# This many dependences of the other end are shown.
 MOST_SHOWN = 4
 
 

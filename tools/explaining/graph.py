@@ -10,7 +10,7 @@ PROGRAM = os.path.join(TOP, "crates", "job_graph", "out", "job_graph")
 # A graph of more lines, or one that takes longer, is not looked at as a whole.
 MOST_LINES = 300_000
 MOST_SECONDS = 60
-# So many tasks are asked for one by one.
+# This many tasks are asked for one by one.
 MOST_ASKED = 6
 
 

@@ -113,12 +113,12 @@ def arity(outline, records, place):
     name = outline.tokens[at].text
     cls = outline.class_named(name) if at > 0 and is_task_target(outline.tokens, at - 1) else None
     if cls:
-        return f"The class {name} has {len(cls.params)} parameters: {listed([it.text for it in cls.params])}.", "Give it so many arguments."
+        return f"The class {name} has {len(cls.params)} parameters: {listed([it.text for it in cls.params])}.", "Give it this many arguments."
     record = next((it for it in records if it.word() in ("coll", "collof") and name in [field.spelled() for field in it.fields]), None)
     if not record:
         return None, None
     sizes = len(record.fields) - (2 if record.word() == "coll" else 3)
-    return f"The collection {name} has {sizes} {'dimension' if sizes == 1 else 'dimensions'}.", "Give it so many indices."
+    return f"The collection {name} has {sizes} {'dimension' if sizes == 1 else 'dimensions'}.", "Give it this many indices."
 
 
 def missing(outline, records):

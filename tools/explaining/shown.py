@@ -1,7 +1,7 @@
 """Bytes of a file as a terminal can show them, with a place marked."""
 import unicodedata
 
-# A line of the file is shown up to so many bytes on either side of the place.
+# A line of the file is shown up to this many bytes on either side of the place.
 AROUND = 60
 
 

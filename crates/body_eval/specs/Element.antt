@@ -1,16 +1,12 @@
 -- The elements of the tiles of a task's flows. Source: this project's own choice.
-use Rattle.std.specs.Prelude.{ℕ, ℤ, pos, negsuc, List, length, nat_lt, Result, Ok, Err, Option, Some, None, if◌then◌else◌, slice_index_or, slice_set}
+use Rattle.std.specs.Prelude.{ℕ, ℤ, pos, List, length, Result, Ok, Err, Option, Some, None, slice_index_or, slice_set}
 use Rattle.term_core.specs.Term.{Term}
+use Rattle.ptg_base.specs.Index.{index_in}
 use Rattle.ptg_base.specs.Returns.{and_then}
 use Rattle.term_core.specs.Value.{value_with}
 use Rattle.term_core.specs.Trap.{trap_of}
 use Rattle.term_core.specs.declared.trap.Trap.{Trap}
 use Rattle.term_core.specs.declared.trap.Trap.TheVariants.{Index, Absent}
-
--- a number as an index, where it is one of a list of so many elements
-abbrev pub index_in : ℕ → ℤ → Option ℕ
-index_in len (pos n) = if nat_lt n len then Some n else None
-index_in len (negsuc n) = None
 
 -- the tile of a flow: none where the flow is absent, or where there is no such flow
 abbrev pub tile_of : List (Option (List ℤ)) → ℕ → Option (List ℤ)
@@ -35,7 +31,7 @@ abbrev pub written_at : List ℤ → Option ℕ → ℤ → Result (List ℤ) Tr
 written_at xs (Some n) v = Ok (slice_set xs n v)
 written_at xs None v = Err Index
 
--- the same for a tile, if there is one
+-- a tile, if there is one, with another element at an index
 abbrev pub written : Option (List ℤ) → ℤ → ℤ → Result (List ℤ) Trap
 written None at v = Err Absent
 written (Some xs) at v = written_at xs (index_in (length xs) at) v

@@ -26,7 +26,7 @@ put_meaning flow at e s = and_then (value_in s at) (λ i. and_then (value_in s e
 abbrev pub if_meaning : Term → (State → Result State Trap) → (State → Result State Trap) → State → Result State Trap
 if_meaning c first second s = and_then (value_in s c) (λ x. if holds x then first s else second s)
 
--- so many whole numbers from a number upwards
+-- this many whole numbers from a number upwards
 abbrev pub upwards : ℕ → ℤ → List ℤ
 upwards zero v = []
 upwards (suc more) v = v ∷ upwards more (v +ℤ pos 1)
@@ -59,7 +59,7 @@ abbrev pub opening : List ℤ → ℕ → List (Option (List ℤ)) → ℕ → S
 opening locals slots tiles units =
     record { slots = locals ++ replicate (slots - length locals) (pos 0); tiles = tiles; units_left = units }
 
--- the tiles of a task after its body within so many units, or why it trapped
+-- the tiles of a task after its body within this many units, or why it trapped
 abbrev pub meaning_within : ℕ → Body → List ℤ → List (Option (List ℤ)) → Result (List (Option (List ℤ))) Trap
 meaning_within units body locals tiles =
     and_then (run body.statements (opening locals body.slots tiles units)) (λ s. Ok s.tiles)

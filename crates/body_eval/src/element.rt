@@ -2,22 +2,11 @@
 
 ghost use Rattle.std.specs.Prelude.{◌≡◌, OnOk, IfErr};
 ghost use Rattle.term_core.specs.Trap.{trap_of};
-ghost use Rattle.body_eval.specs.Element.{index_in, element_value, put_element, body_value};
+ghost use Rattle.body_eval.specs.Element.{element_value, put_element, body_value};
 ghost use Rattle.body_eval.specs.Sizes.{KeepsSizes};
 
-use ptg_base::Tile;
+use ptg_base::{Tile, index_in};
 use term_core::{Expr, ExprFault, ReadElement, Trap, eval_with};
-
-// The number as an index, where it is one of so many elements.
-fn index(len: u32, at: i64) -> Option<u32>
-    ensures { result ≡ index_in len at }
-{
-    if 0 <= at && at < len as i64 {
-        Some(at as u32)
-    } else {
-        None
-    }
-}
 
 // The tiles of a task's flows, to read elements from.
 #[derive(Drop)]
@@ -48,7 +37,7 @@ impl ReadElement for Tiles<'_> {
         let Some(tile) = &self.tiles[flow] else {
             return Err(Trap::Absent);
         };
-        match index(tile.len(), at) {
+        match index_in(tile.len(), at) {
             None => Err(Trap::Index),
             Some(i) => Ok(tile.get(i)),
         }
@@ -74,7 +63,7 @@ pub(crate) fn put(tiles: &mut [Option<Tile>], flow: u8, at: i64, v: i64) -> Resu
     }
     match &mut tiles[flow] {
         None => Err(Trap::Absent),
-        Some(tile) => match index(tile.len(), at) {
+        Some(tile) => match index_in(tile.len(), at) {
             None => Err(Trap::Index),
             Some(i) => {
                 tile.set(i, v);

@@ -33,7 +33,7 @@ pub fn run_body(
     run_within(BUDGET, body, locals, tiles, scratch)
 }
 
-// Runs a body within so many units.
+// Runs a body within this many units.
 fn run_within(
     units: u32,
     body: &Body,
@@ -50,6 +50,7 @@ fn run_within(
     run_block(&body.statements, scratch, tiles)
 }
 
+// Runs the statements of a block, each for a unit.
 #[cycle(run)]
 fn run_block(block: &Block, scratch: &mut Scratch, tiles: &mut [Option<Tile>]) -> Result<(), Trap>
     ensures ok { OnOk result (run block.now (state_of scratch.old tiles.old) ≡ Ok (state_of scratch.new tiles.new)) }
@@ -63,6 +64,7 @@ fn run_block(block: &Block, scratch: &mut Scratch, tiles: &mut [Option<Tile>]) -
     Ok(())
 }
 
+// Runs a statement.
 #[cycle(run)]
 fn run_statement(
     statement: &Stmt,

@@ -56,6 +56,7 @@ impl Scratch {
         used[locals.len()..].fill(0);
     }
 
+    // The values of the slots: the locals, then the body's variables.
     pub(crate) fn slots(&self) -> &[i64]
         ensures { result.now ≡ self.now.slots }
     {

@@ -13,7 +13,7 @@ OneBody =
     (scope : Environment) (tokens : List Token) (x y : Body × List (List ℕ)) → IsBody scope tokens x
     → IsBody scope tokens y → x ≡ y
 
--- They have one first fault at most.
+-- Tokens have one first fault at most.
 abbrev pub OneFault : Type 0
 OneFault =
     (scope : Environment) (tokens : List Token) (finish : Spot) (f g : JdfFault) → IsBodyFault scope tokens finish f

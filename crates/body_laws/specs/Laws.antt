@@ -20,7 +20,7 @@ abbrev pub NameNeverTooMany : Type 0
 NameNeverTooMany =
     (scope : Environment) (tokens : List Token) (f : JdfFault) → IsNameFault scope tokens f → f.code ≢ TooManyVars
 
--- Beside the locals of the class, a body has a slot for each variable that it declares.
+-- Besides the locals of the class, a body has a slot for each variable that it declares.
 abbrev pub SlotForEach : Type 0
 SlotForEach =
     (scope : Environment) (tokens : List Token) (x : Body × List (List ℕ)) (h : IsBody scope tokens x)

@@ -30,6 +30,7 @@ with_words f (Unary o a spot) = Unary o (with_words f a) spot
 with_words f (Binary o a b) = Binary o (with_words f a) (with_words f b)
 with_words f (Choose c a b) = Choose (with_words f c) (with_words f a) (with_words f b)
 
+-- an expression with the new name of a variable in place of the old one
 abbrev pub renamed_term : List ℕ → List ℕ → Expression → Expression
 renamed_term old new e = with_words (renamed_word old new) e
 

@@ -17,7 +17,7 @@ pub fn variables_are_counted_in_the_text()
     ensures { NameNeverTooMany }
 {}
 
-/// A law: beside the locals of the class, a body has a slot for each variable that it declares.
+/// A law: besides the locals of the class, a body has a slot for each variable that it declares.
 pub fn a_slot_for_each_variable()
     ensures { SlotForEach }
 {}

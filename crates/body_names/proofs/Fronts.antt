@@ -2,11 +2,12 @@
 use Rattle.std.proofs.Common.{◌≡◌, ℕ, zero, suc, ◌+◌, ◌-◌, ◌<◌, Bool, true, false, cond, List, [], ◌∷◌, length, drop, get_or, Ok, Err, refl, sym, ap, ◌∙◌, arith, add-one}
 use Rattle.std.proofs.Math.Seq.{drop-cons}
 use Rattle.std.proofs.lemmas.List.{length-drop}
+use Rattle.grammar_core.specs.declared.fault.ReadFault.{ReadFault}
 use Rattle.grammar_core.specs.declared.token.Token.{Token}
 use Rattle.jdf_lex.specs.declared.fault.JdfFault.{JdfFault}
 use Rattle.ptg_base.specs.declared.refusal.Refusal.{Refusal}
 use Rattle.grammar_core.specs.declared.code.Code.TheVariants.{Syntax}
-use Rattle.grammar_core.specs.Reading.{FaultFromEnd, Read, ◌>>=◌, reading}
+use Rattle.grammar_core.specs.Reading.{Read, ◌>>=◌, reading, fault_from_end}
 use Rattle.grammar_core.proofs.Loops.{applied}
 use Rattle.jdf_alphabet.specs.Terminals.{terminal_of}
 use Rattle.ptg_base.specs.Returns.{ReturnsRefusal, and_then}
@@ -24,7 +25,7 @@ use Rattle.list_lemmas.proofs.Options.{same_Ok}
 
 -- the token in front, where it is a name
 abbrev token_if : Bool → Token → List Token → Read Token
-token_if b x s = cond b (Ok (x, s)) (Err (length (x ∷ s), Syntax))
+token_if b x s = cond b (Ok (x, s)) (Err (fault_from_end (length (x ∷ s)) Syntax))
 
 -- a name was read
 pub name_read : (scope : Environment) (st : TokenScan) (s : List Token) (w : Word) (r : List Token) → reading productions (name Body) s ≡ Ok (w, r) → judged scope st s ≡ judged_as (role_of st.previous r) scope st.bindings w
@@ -37,7 +38,7 @@ name_read scope st (x ∷ s) w r e = go (names Body (terminal_of x)) e
     go false e = absurd cc
 
 -- no name was read
-pub no_name : (scope : Environment) (st : TokenScan) (s : List Token) (n : FaultFromEnd) → reading productions (name Body) s ≡ Err n → judged scope st s ≡ Ok tt
+pub no_name : (scope : Environment) (st : TokenScan) (s : List Token) (n : ReadFault) → reading productions (name Body) s ≡ Err n → judged scope st s ≡ Ok tt
 no_name scope st [] n e = refl
 no_name scope st (x ∷ s) n e = go (names Body (terminal_of x)) e
   where

@@ -12,6 +12,7 @@ use Rattle.body_names.specs.declared.variable.Variable.{Variable}
 use Rattle.body_names.specs.Environment.{Environment}
 use Rattle.expr_names.specs.Symbols.{Resolved, fault_at}
 
+-- what names are bound to between two tokens of a body
 pub record Bindings : Type 0 where
   -- the variables that are seen, in the order of their declarations
   pub seen : List Variable

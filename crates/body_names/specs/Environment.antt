@@ -1,10 +1,11 @@
--- What the names in a body mean beside its own variables. The language of bodies is this project's own choice.
+-- What the names in a body mean besides its own variables. The language of bodies is this project's own choice.
 use Rattle.std.specs.Prelude.{ℕ, ◌≤◌, ℤ, Bool, List, length, Option, is_some}
 use Rattle.ptg_base.specs.Limits.{most_flows, most_locals}
 use Rattle.name_table.specs.Names.{value_named}
 use Rattle.body_names.specs.declared.scope.Scope.{Scope}
 use Rattle.body_names.specs.declared.scope.FlowName.{FlowName}
 
+-- what the names in a body mean besides its own variables
 pub record Environment : Type 0 where
   -- the definitions of the class, in the text's order
   pub locals : List (List ℕ)

@@ -47,9 +47,11 @@ abbrev pub flow_by : (Word → FlowKind → ℕ → Resolved ℕ) → Environmen
 flow_by use_of scope w None = fault_at w UnknownName
 flow_by use_of scope w (Some n) = if_flow use_of w n (slice_get scope.flows n)
 
+-- the flow of a name before an index whose tile is read
 abbrev pub read_flow : Environment → Word → Resolved ℕ
 read_flow scope w = flow_by readable scope w (flow_named scope w.text)
 
+-- the flow of a name before an index whose tile is written
 abbrev pub written_flow : Environment → Word → Resolved ℕ
 written_flow scope w = flow_by writable scope w (flow_named scope w.text)
 

@@ -3,6 +3,7 @@ use Rattle.body_names.specs.declared.variable.Scanner.{Scanner}
 use Rattle.body_names.specs.Bindings.{bindings_of}
 use Rattle.body_names.specs.TokenScan.{TokenScan}
 
+-- what a scanner knows at a token
 abbrev pub scan_of : Scanner → TokenScan
 scan_of scanner =
     record {

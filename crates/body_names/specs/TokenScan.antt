@@ -47,6 +47,7 @@ declared_by None is_loop_variable st = st
 declared_by (Some name) is_loop_variable st =
     record st { bindings = with_seen name is_loop_variable st.bindings; naming = None }
 
+-- the declaration that has begun takes effect, if one has
 abbrev pub declared : Bool → TokenScan → TokenScan
 declared is_loop_variable st = declared_by st.naming is_loop_variable st
 
@@ -67,10 +68,11 @@ block_left_by (Some n) st =
       open_blocks = take (length st.open_blocks - 1) st.open_blocks;
     }
 
+-- the innermost block closes, if one is open
 abbrev pub block_left : TokenScan → TokenScan
 block_left st = block_left_by (slice_get st.open_blocks (length st.open_blocks - 1)) st
 
--- is this the token before
+-- whether this is the terminal of the token before
 abbrev pub previous_is : Terminal → Option Terminal → Bool
 previous_is k None = false
 previous_is k (Some j) = is k j
@@ -91,6 +93,7 @@ after_terminal terminal.Name text st = named_by text st
 after_terminal terminal.TypeWord text st = named_by text st
 after_terminal _ text st = st
 
+-- what is known after this token
 abbrev pub after_token : Token → TokenScan → TokenScan
 after_token x st = record (after_terminal (terminal_of x) x.text st) { previous = Some (terminal_of x) }
 
@@ -114,10 +117,12 @@ role_lines last s =
     ∷ (starts (is terminal.LeftBracket) s, role.Element)
     ∷ []
 
+-- the role of the first line that holds
 abbrev pub first_line : List (Bool × Role) → Role
 first_line [] = role.Value
 first_line ((holds, r) ∷ ls) = if holds then r else first_line ls
 
+-- the role of a name, by the token before it and the tokens after it
 abbrev pub role_of : Option Terminal → List Token → Role
 role_of last s = first_line (role_lines last s)
 
@@ -125,6 +130,7 @@ role_of last s = first_line (role_lines last s)
 abbrev pub fault_of : {A : Type 0} → Resolved A → Resolved (Unit {0})
 fault_of r = and_then r (λ _. Ok tt)
 
+-- a name in this role: no fault, or its fault
 abbrev pub judged_as : Role → Environment → Bindings → Word → Resolved (Unit {0})
 judged_as role.Declared scope k w = require_fresh w k
 judged_as role.NotLookedUp scope k w = Ok tt
@@ -139,7 +145,7 @@ judged scope st [] = Ok tt
 judged scope st (x ∷ s) =
     if names Body (terminal_of x) then judged_as (role_of st.previous s) scope st.bindings (word_of x) else Ok tt
 
--- the first fault of the names among so many tokens from here on
+-- the first fault of the names among this many tokens from here on
 abbrev pub judged_among : Environment → TokenScan → ℕ → List Token → Resolved (Unit {0})
 judged_among scope st zero s = Ok tt
 judged_among scope st (suc n) [] = Ok tt

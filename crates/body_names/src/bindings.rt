@@ -30,7 +30,7 @@ impl BindingTable {
     }
 }
 
-/// Is there room for one more variable? If not, that is a fault of its name.
+/// Refuses the name where there is no room for one more variable.
 pub(crate) fn require_room(word: &Word, bindings: &BindingTable) -> Result<(), JdfRefusal>
     ensures room { OnOk result (bindings.now.declared < most_variables) }
     ensures answer { Returns (λ _. tt) result (require_room word.now (bindings_of bindings.now)) }
@@ -55,7 +55,7 @@ fn innermost(bindings: &BindingTable) -> &[Variable]
     }
 }
 
-// Has one of the variables this name?
+// Whether one of the variables has this name.
 fn is_named(variables: &[Variable], name: &[u8]) -> bool
     ensures { result ≡ list_any (λ v. bytes_eq v.name name.now) variables.now }
 {
@@ -64,7 +64,7 @@ fn is_named(variables: &[Variable], name: &[u8]) -> bool
         .any(|variable| variable.name.bytes() == name)
 }
 
-/// Is the name new in the innermost block? If not, that is a fault of it.
+/// Refuses a name that the innermost block has.
 pub(crate) fn require_fresh(word: &Word, bindings: &BindingTable) -> Result<(), JdfRefusal>
     ensures { Returns (λ _. tt) result (require_fresh word.now (bindings_of bindings.now)) }
 {
@@ -107,7 +107,7 @@ pub(crate) fn add_variable(
     Ok(())
 }
 
-/// Closes a block, before which so many variables were seen, so many of them of blocks around.
+/// Closes a block, before which this many variables were seen, this many of them of blocks around.
 pub(crate) fn close(bindings: &mut BindingTable, seen: usize, outside: usize)
     ensures { bindings_of bindings.new
         ≡ record (bindings_of bindings.old) { seen = take seen bindings.old.seen.items; outside = outside } }

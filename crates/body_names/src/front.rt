@@ -22,6 +22,7 @@ use jdf_lex::{JdfRefusal, Token};
 use jdf_tree::{Part, Word};
 use std::alloc::Global;
 
+// Refuses a name that is at fault in this role.
 #[tactic(auto, using(ptg_base::proofs::Refusals::refuses_before))]
 fn judge_as(
     role: Role,

@@ -24,7 +24,7 @@ pub enum Role {
     Value,
 }
 
-/// Is this the terminal of the token before?
+/// Whether this is the terminal of the token before.
 #[tactic(auto, using(jdf_alphabet::proofs::Same::same_is))]
 pub(crate) fn previous_is(terminal: Terminal, last: Option<Terminal>) -> bool
     ensures { result ≡ previous_is terminal last }
@@ -35,7 +35,7 @@ pub(crate) fn previous_is(terminal: Terminal, last: Option<Terminal>) -> bool
     }
 }
 
-// Does a statement begin here?
+// Whether a statement begins here.
 fn begins_here(last: Option<Terminal>) -> bool
     ensures { result ≡ begins_here last }
 {

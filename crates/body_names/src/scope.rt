@@ -1,4 +1,4 @@
-//! What the names in a body may mean beside its own variables.
+//! What the names in a body may mean besides its own variables.
 
 ghost use Rattle.std.specs.Prelude.{◌≤◌, length};
 ghost use Rattle.ptg_base.specs.Limits.{most_flows, most_locals};
@@ -23,7 +23,7 @@ impl Drop for FlowName {
     }
 }
 
-/// What the names in a body may mean beside its own variables. Of two definitions or two flows of one name it is the
+/// What the names in a body may mean besides its own variables. Of two definitions or two flows of one name it is the
 /// first.
 pub struct Scope<'a> {
     /// The definitions of the class, in the text's order: at most 16.
@@ -49,7 +49,7 @@ impl<'a> Drop for Scope<'a> {
     }
 }
 
-/// What a body is resolved with: where it gets memory, and what names mean beside its variables.
+/// What a body is resolved with: where it gets memory, and what names mean besides its variables.
 #[derive(Drop)]
 pub(crate) struct Context<'a> {
     pub(crate) alloc: Global,

@@ -16,6 +16,7 @@ use jdf_tree::{BlockTree, ExprTree, StmtTree, Word};
 use ptg_base::Seq;
 use term_core::{Block, Stmt};
 
+// A declaration, after which its variable is seen.
 #[tactic(auto, using(ptg_base::proofs::Refusals::refuses_before))]
 fn declare(
     context: &Context,
@@ -34,6 +35,7 @@ fn declare(
     Ok(Stmt::Set(slot, value))
 }
 
+// An assignment to a variable.
 #[tactic(auto, using(ptg_base::proofs::Refusals::refuses_before))]
 fn set(
     context: &Context,
@@ -50,6 +52,7 @@ fn set(
     Ok(Stmt::Set(slot, value))
 }
 
+// An assignment to an element of a tile.
 #[tactic(auto, using(ptg_base::proofs::Refusals::refuses_before))]
 fn put(
     context: &Context,
@@ -68,6 +71,7 @@ fn put(
     Ok(Stmt::Put(flow, at, value))
 }
 
+// A trap, by the number of its word.
 fn trap(context: &Context, bindings: &mut BindingTable, word: &Word) -> Result<Stmt, JdfRefusal>
     ensures { Returns (λ s. (s, bindings_of bindings.new)) result (trap word.now (bindings_of bindings.old)) }
 {
@@ -94,6 +98,7 @@ fn in_block(
     Ok(resolved)
 }
 
+// A choice between two blocks.
 #[cycle(block)]
 #[tactic(auto, using(ptg_base::proofs::Refusals::refuses_before))]
 fn if_else(
@@ -121,6 +126,7 @@ struct Bounds<'a> {
     high: &'a ExprTree,
 }
 
+// A loop, whose variable is seen in its block alone.
 #[cycle(block)]
 #[tactic(auto, using(ptg_base::proofs::Refusals::refuses_before))]
 fn for_loop(
@@ -147,6 +153,7 @@ fn for_loop(
     Ok(Stmt::For(slot, low, high, turn))
 }
 
+// A statement with its names resolved.
 #[cycle(block)]
 fn statement(
     context: &Context,

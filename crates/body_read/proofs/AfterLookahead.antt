@@ -8,13 +8,11 @@ use Rattle.jdf_alphabet.specs.Sets.{starts, token_at}
 use Rattle.jdf_alphabet.specs.Terminals.{is}
 use Rattle.grammar_core.proofs.Loops.{pair_with, applied}
 use Rattle.jdf_tree.specs.declared.expression.ExprWithSpot.{ExprWithSpot}
-use Rattle.jdf_tree.specs.declared.expression.Word.{Word}
-use Rattle.jdf_tree.specs.declared.body.StmtTree.{StmtTree}
 use Rattle.jdf_tree.specs.declared.body.StmtTree.TheVariants.{Set, Put, If}
 use Rattle.jdf_tree.specs.declared.part.Part.TheVariants.{Body}
 use Rattle.jdf_tree.specs.GrammarParts.{name}
 use Rattle.jdf_tree.specs.Statements.{Statements, Done}
-use Rattle.jdf_tree.specs.BodyGrammar.{value, element, assign_of, assignment, condition, block, otherwise, or_done, if_of, choice}
+use Rattle.jdf_tree.specs.BodyGrammar.{value, element, assign_of, assignment, condition, block, otherwise, if_of, choice}
 use Rattle.jdf_tree.specs.Grammar.{productions}
 
 -- what may follow

@@ -1,10 +1,11 @@
 -- What the next token shows of the statements of a body.
 use Rattle.std.proofs.Common.{◌≡◌, true, false, cond, List, [], ◌∷◌, ◌++◌, Ok, refl, ap}
+use Rattle.ptg_base.specs.Returns.{ReturnsRefusal}
 use Rattle.grammar_core.specs.declared.token.Token.{Token}
 use Rattle.jdf_alphabet.specs.declared.terminal.Terminal.TheVariants as terminal
 use Rattle.grammar_core.specs.Production.{star}
 use Rattle.jdf_alphabet.specs.Sets.{starts}
-use Rattle.grammar_core.specs.Returns.{ReadRefusal, Fails}
+use Rattle.grammar_core.specs.Refusing.{ReadRefusal}
 use Rattle.grammar_core.specs.Reading.{Read, ◌>>=◌, first, nonterminal_at, reading}
 use Rattle.grammar_core.specs.Reading as numbered
 use Rattle.jdf_alphabet.specs.Terminals.{is, set, terminal_at}
@@ -55,7 +56,7 @@ statements_go_on old s x next total new e t r before = rest_goes_on old s x next
 abbrev block_of : List StmtTree × List Token → Read Statements
 block_of = applied statements_of
 
-pub statements_fail : (e : ReadRefusal) (old : List StmtTree) (s tokens : List Token) → starts begins_statement s ≡ true → Fails e (reading productions statement s) → so_far old (rest_of statement s) ≡ reading productions (star any statement) tokens → Fails e (reading productions statements tokens)
+pub statements_fail : (e : ReadRefusal) (old : List StmtTree) (s tokens : List Token) → starts begins_statement s ≡ true → ReturnsRefusal e (reading productions statement s) → so_far old (rest_of statement s) ≡ reading productions (star any statement) tokens → ReturnsRefusal e (reading productions statements tokens)
 unfolding statements
 statements_fail e old s tokens t f before = fails_before e (reading productions (star any statement) tokens) block_of (rest_fails e old s (reading productions (star any statement) tokens) statements_listed t f before)
 

@@ -3,12 +3,13 @@ use Rattle.std.proofs.Common.{◌≡◌, ℕ, ◌-◌, ◌+◌, ◌≤◌, ◌<�
 use Rattle.std.specs.Prelude.{◌==◌, nat_lt, nat_le, min, if◌then◌else◌}
 use Rattle.std.proofs.lemmas.Bool.{le-ltb, lt-ltb, cases_lt, le-leb, lt-leb}
 use Rattle.std.proofs.lemmas.Bool.Decides.{nat_tests}
+use Rattle.grammar_core.specs.declared.fault.ReadFault.{ReadFault}
 use Rattle.grammar_core.specs.declared.token.Token.{Token}
 use Rattle.grammar_core.specs.declared.code.Code.{Code}
 use Rattle.jdf_alphabet.specs.Codes.{TooDeep, TooManyVars}
 use Rattle.grammar_core.specs.Production.{Limit, Derives, Derived}
 use Rattle.grammar_core.specs.Predictive.{is_fine}
-use Rattle.grammar_core.specs.Reading.{FaultFromEnd, Read, judge, reading}
+use Rattle.grammar_core.specs.Reading.{Read, judge, reading, fault_from_end}
 use Rattle.grammar_core.proofs.Sound.{Sound}
 use Rattle.grammar_core.proofs.Whole.{sound}
 use Rattle.jdf_alphabet.specs.Terminals.{terminal_at}
@@ -59,21 +60,21 @@ both =
 abbrev pub code_of : List Token → Code
 code_of s = if nat_le (block_limit.at s) (variable_limit.at s) then TooDeep else TooManyVars
 
-abbrev failed : FaultFromEnd → Read Statements
+abbrev failed : ReadFault → Read Statements
 failed n = Err n
 
 abbrev left_of : Read Statements → ℕ
 left_of (Ok x) = 0
-left_of (Err n) = n.0
+left_of (Err n) = n.left
 
 -- ---- one limit after another
 
 -- what a limit makes of reading that took n of so many tokens
 abbrev limit : {A : Type 0} → ℕ → ℕ → Code → ℕ → Read A → Read A
-limit size l e n r = cond (nat_lt l n) (Err (size - l, e)) r
+limit size l e n r = cond (nat_lt l n) (Err (fault_from_end (size - l) e)) r
 
 module _ {A : Type 0} (a b size : ℕ) (c d : Code) where
-  passed : (n : ℕ) → n ≤ size → (r : Read A) → a < n → limit {A = A} size b d (size - (size - a)) (Err (size - a, c)) ≡ limit size (min a b) (cond (nat_le a b) c d) n r
+  passed : (n : ℕ) → n ≤ size → (r : Read A) → a < n → limit {A = A} size b d (size - (size - a)) (Err (fault_from_end (size - a) c)) ≡ limit size (min a b) (cond (nat_le a b) c d) n r
   passed n fits r h = elim (cases_lt b a) [
     | inl lt ↦
         let low : min a b ≡ b = omega (arith, lt) in
@@ -98,9 +99,9 @@ one_limit {A} a b c d s (Ok x) = elim (cases_lt a (length s - length x.1)) [
   | inl lt ↦ rw (lt-ltb a (length s - length x.1) lt) (passed a b (length s) c d (length s - length x.1) (omega arith) (Ok x) lt)
   | inr le ↦ rw (le-ltb a (length s - length x.1) le) (kept a b (length s) c d (length s - length x.1) (Ok x) le)
 ]
-one_limit {A} a b c d s (Err e) = elim (cases_lt a (length s - e.0)) [
-  | inl lt ↦ rw (lt-ltb a (length s - e.0) lt) (passed a b (length s) c d (length s - e.0) (omega arith) (Err e) lt)
-  | inr le ↦ rw (le-ltb a (length s - e.0) le) (kept a b (length s) c d (length s - e.0) (Err e) le)
+one_limit {A} a b c d s (Err e) = elim (cases_lt a (length s - e.left)) [
+  | inl lt ↦ rw (lt-ltb a (length s - e.left) lt) (passed a b (length s) c d (length s - e.left) (omega arith) (Err e) lt)
+  | inr le ↦ rw (le-ltb a (length s - e.left) le) (kept a b (length s) c d (length s - e.left) (Err e) le)
 ]
 
 judged : (s : List Token) → reading productions body s ≡ judge (both.at s) (code_of s) s (reading productions text s)
@@ -113,8 +114,8 @@ pub within_limit : (s : List Token) → length s ≤ min (block_limit.at s) (var
 unfolding both
 within_limit s le = windows.within_limit both code_of (Derives (Derived productions) text) (reading productions text) text_sound (reading productions body) judged s le
 
-pub text_within : (s : List Token) (n : ℕ) (d : Code) → reading productions text s ≡ Err (n, d) → n ≤ length s
-text_within s n d e = windows.fault_within both code_of (Derives (Derived productions) text) (reading productions text) text_sound (reading productions body) judged s n d e
+pub text_within : (s : List Token) (f : ReadFault) → reading productions text s ≡ Err f → f.left ≤ length s
+text_within s f e = windows.fault_within both code_of (Derives (Derived productions) text) (reading productions text) text_sound (reading productions body) judged s f e
 
 module _ (s w v : List Token) (limit : ℕ) (is_limit : limit ≡ min (block_limit.at s) (variable_limit.at s)) (front : w ≡ take (limit + 1) s) (back : v ≡ drop (limit + 1) s) (long : limit < length s) where
   pub slice : (t : Statements) (rest : List Token) → reading productions text w ≡ Ok (t, rest) → false ≡ (length rest == 0)
@@ -122,16 +123,16 @@ module _ (s w v : List Token) (limit : ℕ) (is_limit : limit ≡ min (block_lim
   unfolding both
   slice t rest e some = windows.slice both code_of (Derives (Derived productions) text) (reading productions text) text_sound (reading productions body) judged s w v limit is_limit front back long t rest e some
 
-  pub fault : (n : ℕ) (d : Code) → 0 < n → reading productions text w ≡ Err (n, d) → reading productions body s ≡ Err (n + length v, d)
+  pub fault : (f : ReadFault) → 0 < f.left → reading productions text w ≡ Err f → reading productions body s ≡ Err (fault_from_end (f.left + length v) f.code)
   unfolding both
-  fault n d some e = windows.fault both code_of (Derives (Derived productions) text) (reading productions text) text_sound (reading productions body) judged s w v limit is_limit front back long n d some e
+  fault f some e = windows.fault both code_of (Derives (Derived productions) text) (reading productions text) text_sound (reading productions body) judged s w v limit is_limit front back long f some e
 
-  cut : ((t : Statements) (rest : List Token) → 0 < length rest → reading productions text w ≡ Ok (t, rest) → ⊥) → ((n : FaultFromEnd) → 0 < n.0 → reading productions text w ≡ Err n → ⊥) → reading productions body s ≡ Err (length s - limit, code_of s)
+  cut : ((t : Statements) (rest : List Token) → 0 < length rest → reading productions text w ≡ Ok (t, rest) → ⊥) → ((n : ReadFault) → 0 < n.left → reading productions text w ≡ Err n → ⊥) → reading productions body s ≡ Err (fault_from_end (length s - limit) (code_of s))
   unfolding both
   cut a b = windows.cut both code_of (Derives (Derived productions) text) (reading productions text) text_sound (reading productions body) judged s w v limit is_limit front back long a b
 
   -- what was read up to the end of the window and no further
-  pub cut_after : (t : Statements) (rest : List Token) → reading productions text w ≡ Ok (t, rest) → true ≡ (length rest == 0) → reading productions body s ≡ Err (length s - limit, code_of s)
+  pub cut_after : (t : Statements) (rest : List Token) → reading productions text w ≡ Ok (t, rest) → true ≡ (length rest == 0) → reading productions body s ≡ Err (fault_from_end (length s - limit) (code_of s))
   cut_after t rest e none = cut (λ t' rest' some e'. absurd (some_left t' rest' some e')) (λ n some e'. absurd (no_err n e'))
     where
       same : (x y : Statements × List Token) → reading productions text w ≡ Ok x → reading productions text w ≡ Ok y → x ≡ y
@@ -142,18 +143,18 @@ module _ (s w v : List Token) (limit : ℕ) (is_limit : limit ≡ min (block_lim
           let g : length rest ≡ length rest' = ap (λ (x : Statements × List Token). length x.1) (same (t, rest) (t', rest') e e') in
           let z : length rest ≡ 0 = grind (arith, nat_tests) in omega (arith, g, z, some)
 
-      no_err : (n : FaultFromEnd) → reading productions text w ≡ Err n → ⊥
+      no_err : (n : ReadFault) → reading productions text w ≡ Err n → ⊥
       no_err n e' = cc
 
-  pub cut_at_fault : (d : Code) → reading productions text w ≡ Err (0, d) → reading productions body s ≡ Err (length s - limit, code_of s)
-  cut_at_fault d e = cut (λ t rest some e'. absurd (no_ok t rest e')) (λ n some e'. absurd (left n some e'))
+  pub cut_at_fault : (f : ReadFault) → reading productions text w ≡ Err f → f.left ≡ 0 → reading productions body s ≡ Err (fault_from_end (length s - limit) (code_of s))
+  cut_at_fault f e none = cut (λ t rest some e'. absurd (no_ok t rest e')) (λ n some e'. absurd (left n some e'))
     where
       no_ok : (t : Statements) (rest : List Token) → reading productions text w ≡ Ok (t, rest) → ⊥
       no_ok t rest e' = cc
 
-      left : (n : FaultFromEnd) → 0 < n.0 → reading productions text w ≡ Err n → ⊥
+      left : (n : ReadFault) → 0 < n.left → reading productions text w ≡ Err n → ⊥
       left n some e' =
-          let same : n.0 ≡ 0 = stop_of n (0, d) (sym e' ∙ e) in omega (arith, same, some)
+          let same : n.left ≡ 0 = stop_of n f (sym e' ∙ e) ∙ none in omega (arith, same, some)
         where
-          stop_of : (n m : FaultFromEnd) → failed n ≡ failed m → n.0 ≡ m.0
+          stop_of : (n m : ReadFault) → failed n ≡ failed m → n.left ≡ m.left
           stop_of n m e = ap left_of e

@@ -9,10 +9,10 @@ use Rattle.grammar_core.specs.Predictive.{is_fine}
 use Rattle.ptg_base.specs.declared.refusal.Refusal.{Refusal}
 use Rattle.ptg_base.specs.declared.refusal.Refusal.TheVariants as errors
 use Rattle.grammar_core.specs.declared.fault.ReadFault.{ReadFault}
-use Rattle.grammar_core.specs.Returns.{ReadRefusal, Returns, Fails}
-use Rattle.grammar_core.specs.Reading.{FaultFromEnd, whole}
+use Rattle.grammar_core.specs.Refusing.{ReadRefusal}
+use Rattle.grammar_core.specs.Reading.{whole, fault_from_end}
 use Rattle.grammar_core.proofs.Whole.{text_found, text_only, fault_index, fault_is, fault_within, one_fault}
-use Rattle.ptg_base.specs.Returns.{FindsOrRefuses}
+use Rattle.ptg_base.specs.Returns.{FindsOrRefuses, Returns, ReturnsRefusal}
 use Rattle.jdf_lex.specs.declared.fault.JdfFault.{JdfFault}
 use Rattle.jdf_tree.specs.BodyGrammar.{body}
 use Rattle.jdf_tree.specs.Grammar.{productions, claims}
@@ -34,13 +34,13 @@ found s t e = text_found productions claims productions_fine productions_limits 
 pub only : (s : List Token) (t : Statements) → IsText productions body s t None → whole productions body s ≡ Ok t
 only s t h = text_only productions claims productions_fine productions_limits body body_fine body_text_limits s t h
 
-pub faulty : (s : List Token) (n : ℕ) (c : Code) → whole productions body s ≡ Err (n, c) → IsFirstFault productions body s (length s - n) c
-faulty s n c e = fault_is productions claims productions_fine productions_limits body body_fine body_text_limits s (n, c) e
+pub faulty : (s : List Token) (n : ℕ) (c : Code) → whole productions body s ≡ Err (fault_from_end n c) → IsFirstFault productions body s (length s - n) c
+faulty s n c e = fault_is productions claims productions_fine productions_limits body body_fine body_text_limits s (fault_from_end n c) e
 
-fault_left : (s : List Token) (n : FaultFromEnd) → whole productions body s ≡ Err n → n.0 ≤ length s
+fault_left : (s : List Token) (n : ReadFault) → whole productions body s ≡ Err n → n.left ≤ length s
 fault_left s n e = fault_within productions claims productions_fine productions_limits body body_fine body_text_limits s n e
 
-pub fault_read : (s : List Token) (place : ℕ) (c : Code) → IsFirstFault productions body s place c → whole productions body s ≡ Err (length s - place, c)
+pub fault_read : (s : List Token) (place : ℕ) (c : Code) → IsFirstFault productions body s place c → whole productions body s ≡ Err (fault_from_end (length s - place) c)
 fault_read s place c h = one_fault productions claims productions_fine productions_limits body body_fine body_text_limits s place c h
 
 -- ---- the answer is the one there is
@@ -49,26 +49,26 @@ pub one_tree : (s : List Token) (t t' : Statements) → whole productions body s
 one_tree s t t' e h = same_Ok t t' (sym e ∙ only s t' h)
 
 pub no_fault : (s : List Token) (t : Statements) (p : ℕ) (c : Code) → whole productions body s ≡ Ok t → IsFirstFault productions body s p c → ⊥
-no_fault s t p c e h = Ok≢Err t (length s - p, c) (sym e ∙ fault_read s p c h)
+no_fault s t p c e h = Ok≢Err t (fault_from_end (length s - p) c) (sym e ∙ fault_read s p c h)
 
-pub no_tree : (s : List Token) (n : FaultFromEnd) (t : Statements) → whole productions body s ≡ Err n → IsText productions body s t None → ⊥
+pub no_tree : (s : List Token) (n : ReadFault) (t : Statements) → whole productions body s ≡ Err n → IsText productions body s t None → ⊥
 no_tree s n t e h = Ok≢Err t n (sym (only s t h) ∙ e)
 
-pub one_place : (s : List Token) (left p : ℕ) (d c : Code) → whole productions body s ≡ Err (left, d) → IsFirstFault productions body s p c → (length s - left ≡ p) × (d ≡ c)
+pub one_place : (s : List Token) (left p : ℕ) (d c : Code) → whole productions body s ≡ Err (fault_from_end left d) → IsFirstFault productions body s p c → (length s - left ≡ p) × (d ≡ c)
 one_place s left p d c e h =
-    let same = same_Err (left, d) (length s - p, c) (sym e ∙ fault_read s p c h) in
-    let n = ap (λ (m : FaultFromEnd). m.0) same in
+    let same = same_Err (fault_from_end left d) (fault_from_end (length s - p) c) (sym e ∙ fault_read s p c h) in
+    let n = ap (λ (m : ReadFault). m.left) same in
     let within = fault_index productions body s p c h in
-    (omega (arith, n, within), ap (λ (m : FaultFromEnd). m.1) same)
+    (omega (arith, n, within), ap (λ (m : ReadFault). m.code) same)
 
 -- ---- what reading answers
 
 -- the tree that was read, or the fault that was met
-abbrev pub IsRead : Result Statements ReadRefusal → Result Statements FaultFromEnd → Type 0
+abbrev pub IsRead : Result Statements ReadRefusal → Result Statements ReadFault → Type 0
 IsRead (Ok t) read = read ≡ Ok t
-IsRead (Err e) read = Fails e read
+IsRead (Err e) read = ReturnsRefusal e read
 
-pub read_is : (r : Result Statements ReadRefusal) (read : Result Statements FaultFromEnd) → Returns (λ t. t) r read → IsRead r read
+pub read_is : (r : Result Statements ReadRefusal) (read : Result Statements ReadFault) → Returns (λ t. t) r read → IsRead r read
 read_is (Ok t) read h = h
 read_is (Err e) read h = h
 
@@ -78,18 +78,18 @@ refusal e = Err e
 abbrev answer : Statements → Result Statements ReadRefusal
 answer t = Ok t
 
-fault_before : (s : List Token) (x f : ReadFault) → whole productions body s ≡ Err (x.left, x.code) → refusal (errors.Fault x) ≡ refusal (errors.Fault f) → IsFaultBefore s f
+fault_before : (s : List Token) (x f : ReadFault) → whole productions body s ≡ Err x → refusal (errors.Fault x) ≡ refusal (errors.Fault f) → IsFaultBefore s f
 fault_before s x f e h =
     let same : x ≡ f = cc in
-    subst (λ (y : ReadFault). IsFaultBefore s y) same (record { within = fault_left s (x.left, x.code) e; first = faulty s x.left x.code e })
+    subst (λ (y : ReadFault). IsFaultBefore s y) same (record { within = fault_left s x e; first = faulty s x.left x.code e })
 
-fault_only : (s : List Token) (x f : ReadFault) → whole productions body s ≡ Err (x.left, x.code) → IsFaultBefore s f → refusal (errors.Fault x) ≡ refusal (errors.Fault f)
+fault_only : (s : List Token) (x f : ReadFault) → whole productions body s ≡ Err x → IsFaultBefore s f → refusal (errors.Fault x) ≡ refusal (errors.Fault f)
 fault_only s x f e h =
-    let same = same_Err (x.left, x.code) (length s - (length s - f.left), f.code) (sym e ∙ fault_read s (length s - f.left) f.code h.first) in
+    let same = same_Err x (fault_from_end (length s - (length s - f.left)) f.code) (sym e ∙ fault_read s (length s - f.left) f.code h.first) in
     let w = h.within in
-    let n = ap (λ (m : FaultFromEnd). m.0) same in
+    let n = ap (λ (m : ReadFault). m.left) same in
     let left : x.left ≡ f.left = omega (arith, n, w) in
-    let code : x.code ≡ f.code = ap (λ (m : FaultFromEnd). m.1) same in
+    let code : x.code ≡ f.code = ap (λ (m : ReadFault). m.code) same in
     λ i. refusal (errors.Fault (record { left = left i; code = code i }))
 
 -- what reading a tree answers
@@ -105,7 +105,7 @@ tree_exact s (Err errors.OutOfMemory) e = record { found = tt; only = λ t h. in
 tree_exact s (Err (errors.Fault x)) e =
     record {
       found = tt;
-      only = λ t h. absurd (no_tree s (x.left, x.code) t e h);
+      only = λ t h. absurd (no_tree s x t e h);
       fault = λ f h. fault_before s x f e h;
       refused = λ f h. inl (fault_only s x f e h);
     }
@@ -135,11 +135,11 @@ module _ (s : List Token) (finish : Spot) where
   pub read_no_memory : Reads (Err errors.OutOfMemory)
   read_no_memory = record { found = tt; only = λ t h. inr refl; fault = λ f h. absurd cc; refused = λ f h. inr refl }
 
-  pub read_fault : (n : ℕ) (d : Code) (f : JdfFault) → whole productions body s ≡ Err (n, d) → f ≡ fault_at s finish (length s - n) d → Reads (Err (errors.Fault f))
+  pub read_fault : (n : ℕ) (d : Code) (f : JdfFault) → whole productions body s ≡ Err (fault_from_end n d) → f ≡ fault_at s finish (length s - n) d → Reads (Err (errors.Fault f))
   read_fault n d f e at =
       record {
         found = tt;
-        only = λ t h. absurd (no_tree s (n, d) t e h);
+        only = λ t h. absurd (no_tree s (fault_from_end n d) t e h);
         fault = λ g h. let same : f ≡ g = cc in record { token_index = length s - n; code = d; first = faulty s n d e; placed = sym same ∙ at };
         refused = λ g h.
             let k = one_place s n h.token_index d h.code e h.first in

@@ -16,7 +16,7 @@ use Rattle.expr_read.specs.Front.{fault_at}
 abbrev pub IsTree : List Token → Statements → Type 0
 IsTree tokens tree = IsText productions body tokens tree None
 
--- The first fault of the text has this code, and so many tokens are left there.
+-- The first fault of the text has this code, and this many tokens are left there.
 pub record IsFaultBefore (tokens : List Token) (fault : ReadFault) : Type 0 where
   pub within : fault.left ≤ length tokens
   pub first : IsFirstFault productions body tokens (length tokens - fault.left) fault.code

@@ -31,7 +31,7 @@ fn most_blocks(tokens: &[Token]) -> usize
     }
 }
 
-// Is a variable's declaration or a loop next?
+// Whether a variable's declaration or a loop is next.
 fn is_variable_next(tokens: &[Token]) -> bool
     ensures { result ≡ starts declares tokens.now }
 {

@@ -1,7 +1,7 @@
 //! Statements and blocks.
 
 ghost use Rattle.std.specs.Prelude.{◌≡◌};
-ghost use Rattle.grammar_core.specs.Returns.{Returns};
+ghost use Rattle.ptg_base.specs.Returns.{Returns};
 ghost use Rattle.grammar_core.specs.Reading.{reading};
 ghost use Rattle.jdf_alphabet.specs.Sets.{starts};
 ghost use Rattle.jdf_tree.specs.BodyGrammar.{value, declaration, element, assignment, condition, block, otherwise, choice, for_loop, trap_statement, statement, begins_statement, statements, block_rest};
@@ -140,7 +140,7 @@ fn stop(alloc: Global, tokens: &[Token]) -> Result<(StmtTree, &[Token]), ReadRef
     Ok((StmtTree::Trap(word), rest))
 }
 
-// Is a statement next?
+// Whether a statement is next.
 fn is_statement_next(tokens: &[Token]) -> bool
     ensures { result ≡ starts begins_statement tokens.now }
 {
@@ -153,6 +153,7 @@ fn is_statement_next(tokens: &[Token]) -> bool
     }
 }
 
+// A statement, by its first token.
 #[cycle(block)]
 #[tactic(auto, using(crate::proofs::Begins::statement_reads))]
 fn statement(alloc: Global, tokens: &[Token]) -> Result<(StmtTree, &[Token]), ReadRefusal>

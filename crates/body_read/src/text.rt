@@ -1,7 +1,6 @@
 //! The text of a body as a whole.
 
-ghost use Rattle.ptg_base.specs.Returns.{FindsOrRefuses};
-ghost use Rattle.grammar_core.specs.Returns.{Returns};
+ghost use Rattle.ptg_base.specs.Returns.{FindsOrRefuses, Returns};
 ghost use Rattle.grammar_core.specs.Reading.{reading, whole};
 ghost use Rattle.jdf_tree.specs.BodyGrammar.{text, body};
 ghost use Rattle.jdf_tree.specs.Grammar.{productions};

@@ -5,6 +5,7 @@ use Rattle.std.specs.List.{flat_map}
 use Rattle.ptg_base.specs.Lists.{IsIn}
 use Rattle.ptg_base.specs.Task.{Task}
 use Rattle.ptg_base.specs.declared.edge.Edge.{Edge}
+use Rattle.term_core.specs.declared.direction.Direction.TheVariants.{In}
 use Rattle.plan_core.specs.declared.flow.DepPlan.{DepPlan}
 use Rattle.plan_core.specs.declared.flow.FlowPlan.{FlowPlan}
 use Rattle.plan_core.specs.declared.plan.Plan.{Plan}
@@ -12,7 +13,6 @@ use Rattle.plan_core.specs.declared.target.Target.{Target}
 use Rattle.list_lemmas.proofs.Members.{IsIn-append_left, IsIn-append_right, IsIn-map, from_append, from_map}
 use Rattle.std.proofs.lemmas.List.{map-append}
 use Rattle.list_lemmas.proofs.Joins.{map-map}
-use Rattle.dep_iter.specs.declared.direction.Direction.TheVariants.{In}
 use Rattle.dep_iter.specs.declared.link.Link.{Link}
 use Rattle.dep_iter.specs.Active.{by_flow, flow_ins, held_target, held_targets}
 use Rattle.dep_iter.specs.Edges.{sources}

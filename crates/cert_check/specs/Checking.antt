@@ -27,20 +27,21 @@ pub record IsHighEnough (P : Plan) (ws : List ℕ) (levels : List (Task × ℕ))
   pub own : weight ws row.0 ≤ row.1
   pub above : (s : Task) → IsSourceOf P s row.0 → IsAboveSource levels (weight ws row.0) row.1 s
 
--- each row is
+-- each of these rows is high enough
 abbrev pub AreHighEnough : Plan → List ℕ → List (Task × ℕ) → List (Task × ℕ) → Type 0
 AreHighEnough P ws levels rows = (row : Task × ℕ) → IsIn row rows → IsHighEnough P ws levels row
 
--- the first of these is a task of the job that is before the second in task order, if there is one
+-- t is before the first of these tasks in task order, if there is one
 abbrev pub IsBeforeFirst : Task → List Task → Type 0
 IsBeforeFirst t [] = Unit {0}
 IsBeforeFirst t (u ∷ us) = task_before t u ≡ true
 
+-- the first of these is a task of the job, and before the second in task order, if there is one
 abbrev pub IsInPlace : Plan → List Task → Type 0
 IsInPlace P [] = Unit {0}
 IsInPlace P (t ∷ ts) = IsTask P t × IsBeforeFirst t ts
 
--- each is, down to the last
+-- these tasks are tasks of the job in task order
 abbrev pub AreInPlace : Plan → List Task → Type 0
 AreInPlace P [] = Unit {0}
 AreInPlace P (t ∷ ts) = IsInPlace P (t ∷ ts) × AreInPlace P ts

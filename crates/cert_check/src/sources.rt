@@ -2,7 +2,7 @@
 
 ghost use Rattle.std.specs.Prelude.{◌≡◌, ◌↔◌, ℕ, IsTrue, flat_map, map, true};
 ghost use Rattle.ptg_base.specs.Lists.{IsIn};
-ghost use Rattle.dep_iter.specs.declared.direction.Direction.TheVariants.{In};
+ghost use Rattle.term_core.specs.declared.direction.Direction.TheVariants.{In};
 ghost use Rattle.dep_iter.specs.declared.link.Link.{Link as LinkValue};
 ghost use Rattle.dep_iter.specs.Active.{by_flow, held_targets};
 ghost use Rattle.dep_iter.specs.Edges as edges;

@@ -21,10 +21,11 @@ abbrev pub IsChain : Plan → List Task → Type 0
 IsChain P [] = Unit {0}
 IsChain P (t ∷ ts) = IsTask P t × MayComeBefore P t ts × IsChain P ts
 
--- t is the first of these tasks, or the last
+-- t is the first of these tasks
 abbrev pub BeginsWith : Task → List Task → Type 0
 BeginsWith t ts = (back : List Task) × (ts ≡ t ∷ back)
 
+-- t is the last of these tasks
 abbrev pub EndsWith : Task → List Task → Type 0
 EndsWith t ts = (front : List Task) × (ts ≡ front ++ t ∷ [])
 

@@ -23,9 +23,10 @@ class_weight G c = option_map_or clamped (value_named G.ints (codes "weight_" ++
 abbrev pub class_weights : Plan → Data → List ℕ
 class_weights P G = map (class_weight G) P.classes
 
--- the weight of a task is that of its class, and the weight of a chain the sum of the weights of its tasks
+-- the weight of a task is that of its class
 abbrev pub weight : List ℕ → Task → ℕ
 weight ws t = slice_index ws t.class
 
+-- the weight of a chain is the sum of the weights of its tasks
 abbrev pub chain_weight : List ℕ → List Task → ℕ
 chain_weight ws ts = weigh (weight ws) ts

@@ -57,7 +57,7 @@ fn all_levels(
     ensures { IfOk result (λ rows.
         (ws : List ℕ) → HasLevels m.now ws order.items table.now.entries → AreLevels m.now ws rows.items) }
 {
-    m.is_consistent();
+    m.plan_is_consistent();
     rows_by(alloc, table, sorted(order).as_slice())
 }
 
@@ -74,7 +74,7 @@ fn chain_and_levels(
     requires levels { HasLevels m.now weights.now order.items table.now.entries }
     ensures { IfOk result (λ found. IsPrintedChain m.now weights.now found.0 × AreLevels m.now weights.now found.1) }
 {
-    m.is_consistent();
+    m.plan_is_consistent();
     let rows = all_levels(alloc, table, m, order)?;
     let chain = printed_chain(alloc, table, m, weights, rows.as_slice())?;
     Ok((chain, Seq::of(rows)))
@@ -94,7 +94,7 @@ pub fn certify(
         (G : Data) → outcome.now ≡ answer m.now G → IsCertificate m.now G weights.now c) }
     ensures accepted { IfOk result (IsAccepted m.now weights.now) }
 {
-    m.is_consistent();
+    m.plan_is_consistent();
     if has_trap(outcome) {
         return Ok(Certificate::Trapped);
     }

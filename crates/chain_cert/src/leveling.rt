@@ -67,7 +67,7 @@ pub(crate) fn levels_along(
     requires legal { IsLegalOrder m.now order.now }
     ensures { IfOk result (λ table. HasLevels m.now weights.now order.now table.entries) }
 {
-    m.is_consistent();
+    m.plan_is_consistent();
     let mut table = IndexMap::new(alloc);
     for t in order {
         note_level(&mut table, m, weights, t)?;

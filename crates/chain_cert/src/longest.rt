@@ -58,7 +58,7 @@ fn last_task(m: &Matched, weights: &[u64], rows: &[(TaskId, u64)]) -> Option<Tas
     requires { AreLevels m.now weights.now rows.now }
     ensures { MatchOption result (all_tasks m.now ≡ []) (IsLeast (HasGreatestLevel m.now weights.now)) }
 {
-    m.is_consistent();
+    m.plan_is_consistent();
     let Some((last, _)) = heaviest_row(rows) else {
         return None;
     };
@@ -124,7 +124,7 @@ pub(crate) fn printed_chain(
     requires no_cycle { HasNoCycle m.now }
     ensures { IfOk result (IsPrintedChain m.now weights.now) }
 {
-    m.is_consistent();
+    m.plan_is_consistent();
     let mut back = Vec::new(alloc);
     let mut next = last_task(m, weights, rows);
     while let Some(t) = next {

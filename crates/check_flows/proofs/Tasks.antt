@@ -7,16 +7,16 @@ use Rattle.plan_core.specs.declared.target.Target.{Target}
 use Rattle.plan_core.specs.declared.target.Target.TheVariants.{Task}
 use Rattle.check_names.specs.Alphabet.{JdfFault, Word, ClassTree, Arity, NoSuchFlow}
 use Rattle.check_names.specs.Faults.{fault_if}
-use Rattle.check_names.specs.Names.{Job, flow_named}
+use Rattle.check_names.specs.Names.{Job, class_named, class_of, flow_named}
 use Rattle.check_names.specs.Returns.{ReturnsChecked, both}
-use Rattle.check_flows.specs.Targets.{task_faults, class_at, task_of}
+use Rattle.check_flows.specs.Targets.{task_faults, task_of}
 
 -- a task, by its class and the number of this
-pub task_at : (job : Job) (flow name : Word) (count n params : ℕ) (class : ClassTree) (r : Result (ℕ × ℕ) (Refusal JdfFault)) (o : Option ℕ) → Some n ≡ o → Some class ≡ slice_get job.jdf.classes n → params ≡ length class.params
+pub task_at : (job : Job) (flow name : Word) (count n params : ℕ) (class : ClassTree) (r : Result (ℕ × ℕ) (Refusal JdfFault)) → Some n ≡ class_named job name.text → Some class ≡ slice_get job.jdf.classes n → params ≡ length class.params
     → ReturnsChecked {A = ℕ × ℕ} r (both (λ x y. (x, y)) (Some n) (flow_named class flow.text)) (fault_if (not (params == count)) name.spot Arity ++ fault_if (is_none (flow_named class flow.text)) flow.spot NoSuchFlow)
-    → ReturnsChecked {A = ℕ × ℕ} r (task_of job flow o) (task_faults flow name count (class_at job o))
-task_at job flow name count n params class r o e at same h =
-    subst (λ m. ReturnsChecked {A = ℕ × ℕ} r (task_of job flow m) (task_faults flow name count (class_at job m))) e
+    → ReturnsChecked {A = ℕ × ℕ} r (task_of job flow name) (task_faults flow name count (class_of job name.text))
+task_at job flow name count n params class r e at same h =
+    subst (λ (o : Option ℕ). ReturnsChecked {A = ℕ × ℕ} r (both (λ x y. (x, y)) o (option_and_then (λ (c : ClassTree). flow_named c flow.text) (option_and_then (slice_get job.jdf.classes) o))) (task_faults flow name count (option_and_then (slice_get job.jdf.classes) o))) e
     (subst (λ k. ReturnsChecked {A = ℕ × ℕ} r (both (λ x y. (x, y)) (Some n) (option_and_then (λ (c : ClassTree). flow_named c flow.text) k)) (task_faults flow name count k)) at
     (subst (λ m. ReturnsChecked {A = ℕ × ℕ} r (both (λ x y. (x, y)) (Some n) (flow_named class flow.text)) (fault_if (not (m == count)) name.spot Arity ++ fault_if (is_none (flow_named class flow.text)) flow.spot NoSuchFlow)) same h))
 

@@ -15,21 +15,22 @@ use Rattle.std.proofs.lemmas.Option.{same_Some}
 use Rattle.list_lemmas.proofs.Places.{position_within}
 use Rattle.list_lemmas.proofs.Options.{from_option_map}
 use Rattle.check_flows.specs.Kinds.{is_control}
-use Rattle.check_flows.specs.Datatypes.{default_name, type_is, type_number, allowed_type, type_of_flow, flow_type}
+use Rattle.coll_data.specs.Types.{default_type}
+use Rattle.check_flows.specs.Datatypes.{type_is, type_number, allowed_type, type_of_flow, flow_type}
 use Rattle.check_flows.specs.Rules.{is_other_flow, has_other_type}
 
 pub data_type : (d : Data) (k : FlowKind) (name : List ℕ) (n : ℕ) → is_control k ≡ false → allowed_type d k name ≡ Some n → type_number d name ≡ Some n
-data_type d k name n c e = ap (λ b. cond (b && not (bytes_eq name default_name)) None (type_number d name)) (sym c) ∙ e
+data_type d k name n c e = ap (λ b. cond (b && not (bytes_eq name default_type)) None (type_number d name)) (sym c) ∙ e
 
 control_type : (d : Data) (k : FlowKind) (name : List ℕ) (n : ℕ) → is_control k ≡ true → allowed_type d k name ≡ Some n → n ≡ 0
-control_type d k name n c e = go (bytes_eq name default_name) (ap (λ b. cond (b && not (bytes_eq name default_name)) None (type_number d name)) (sym c) ∙ e)
+control_type d k name n c e = go (bytes_eq name default_type) (ap (λ b. cond (b && not (bytes_eq name default_type)) None (type_number d name)) (sym c) ∙ e)
   where
     go : (b : Bool) → cond (not b) None (cond b (Some 0) (option_map suc (position (type_is name) d.types))) ≡ Some n → n ≡ 0
     go true f = sym (same_Some 0 n f)
     go false f = absurd cc
 
 type_below : (d : Data) (name : List ℕ) (n : ℕ) → type_number d name ≡ Some n → n < suc (length d.types)
-type_below d name n e = go (bytes_eq name default_name) e
+type_below d name n e = go (bytes_eq name default_type) e
   where
     go : (b : Bool) → cond b (Some 0) (option_map suc (position (type_is name) d.types)) ≡ Some n → n < suc (length d.types)
     go true f = let same = same_Some 0 n f in omega (arith, same)

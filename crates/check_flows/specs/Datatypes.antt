@@ -1,17 +1,14 @@
 -- The datatypes of flows and collections: the number of elements of a tile goes by its type's name. Source: the JDF
 -- documentation; that a flow has the type of its first dependence is this project's own choice.
-use Rattle.std.specs.Prelude.{ℕ, suc, Bool, not, ◌&&◌, List, [], ◌∷◌, codes, Option, Some, None, is_none, option_map, position, if◌then◌else◌}
+use Rattle.std.specs.Prelude.{ℕ, suc, Bool, not, ◌&&◌, List, [], ◌∷◌, Option, Some, None, is_none, option_map, position, if◌then◌else◌}
 use Rattle.std.specs.Option.{option_map_or}
 use Rattle.std.specs.Str.{bytes_eq}
 use Rattle.term_core.specs.declared.flow.FlowKind.{FlowKind}
 use Rattle.coll_data.specs.Data.{Data}
+use Rattle.coll_data.specs.Types.{default_type}
 use Rattle.check_names.specs.Alphabet.{JdfFault, Word, DepTree, FlowTree, Datatype}
 use Rattle.check_names.specs.Faults.{fault_if}
 use Rattle.check_flows.specs.Kinds.{is_control}
-
--- the name of type 0
-abbrev pub default_name : List ℕ
-default_name = codes "DEFAULT"
 
 -- whether a type of the data has this name
 abbrev pub type_is : List ℕ → List ℕ × ℕ → Bool
@@ -19,15 +16,15 @@ type_is name type = bytes_eq type.0 name
 
 -- the number of a type of the data: DEFAULT is 0, and the others follow in order
 abbrev pub type_number : Data → List ℕ → Option ℕ
-type_number d name = if bytes_eq name default_name then Some 0 else option_map suc (position (type_is name) d.types)
+type_number d name = if bytes_eq name default_type then Some 0 else option_map suc (position (type_is name) d.types)
 
 -- the number of the datatype of this name, if a flow of this kind may have it: a CTL flow has DEFAULT alone
 abbrev pub allowed_type : Data → FlowKind → List ℕ → Option ℕ
-allowed_type d kind name = if is_control kind && not (bytes_eq name default_name) then None else type_number d name
+allowed_type d kind name = if is_control kind && not (bytes_eq name default_type) then None else type_number d name
 
 -- the datatype of a dependence: the one written on it, or DEFAULT
 abbrev pub type_of_written : Option Word → List ℕ
-type_of_written written = option_map_or (λ (w : Word). w.text) written default_name
+type_of_written written = option_map_or (λ (w : Word). w.text) written default_type
 
 -- the fault of a datatype that is written, and that a flow of this kind may not have
 abbrev pub written_faults : Data → FlowKind → Option Word → List JdfFault

@@ -1,7 +1,10 @@
 -- Dependences and flows. Source: PaRSEC 2013 and the JDF documentation; that all dependences of a flow have one
 -- datatype is this project's own choice.
-use Rattle.std.specs.Prelude.{ℕ, Bool, true, false, not, ◌&&◌, List, [], ◌++◌, filter, flat_map, Option, Some, None}
+use Rattle.std.specs.Prelude.{ℕ, Bool, not, ◌&&◌, List, [], ◌++◌, filter, flat_map, Option, Some, None}
 use Rattle.std.specs.Str.{bytes_eq}
+use Rattle.term_core.specs.declared.direction.Direction.{Direction}
+use Rattle.term_core.specs.declared.direction.Direction.TheVariants.{In, Out}
+use Rattle.term_core.specs.Directions.{is_same}
 use Rattle.term_core.specs.Term.{Term}
 use Rattle.coll_data.specs.Data.{Data}
 use Rattle.plan_core.specs.declared.target.Target.{Target}
@@ -17,9 +20,9 @@ use Rattle.check_flows.specs.Datatypes.{type_of_written, written_faults, first_w
 use Rattle.check_flows.specs.Targets.{first_spot, named_faults, target_of}
 use Rattle.check_flows.specs.Rules.{rule_faults}
 
--- all faults of a target of a flow, in an in dependence or an out dependence
-abbrev pub target_faults : Job → List DefTree → FlowTree → Bool → TargetTree → List JdfFault
-target_faults job seen flow inward t = named_faults job seen t ++ rule_faults job flow inward t
+-- all faults of a target of a flow, in a dependence in this direction
+abbrev pub target_faults : Job → List DefTree → FlowTree → Direction → TargetTree → List JdfFault
+target_faults job seen flow direction t = named_faults job seen t ++ rule_faults job flow direction t
 
 -- the faults of a second target, if there is one
 abbrev pub second_faults : (TargetTree → List JdfFault) → Option TargetTree → List JdfFault
@@ -42,8 +45,8 @@ type_faults d flow dep =
 abbrev pub dependence_faults : Job → List DefTree → FlowTree → DepTree → List JdfFault
 dependence_faults job seen flow dep =
     (option_faults job seen dep.guard
-    ++ (target_faults job seen flow dep.inward dep.yes
-    ++ second_faults (target_faults job seen flow dep.inward) dep.no))
+    ++ (target_faults job seen flow dep.direction dep.yes
+    ++ second_faults (target_faults job seen flow dep.direction) dep.no))
     ++ type_faults job.given flow dep
 
 -- the dependence with its names resolved
@@ -53,36 +56,37 @@ dependence_of job seen dep =
     (option_term job seen dep.guard)
     (both (λ x y. (x, y)) (target_of job seen dep.yes) (each_option (target_of job seen) dep.no))
 
--- whether a dependence is an in dependence, or an out dependence
-abbrev pub is_of_way : Bool → DepTree → Bool
-is_of_way true dep = dep.inward
-is_of_way false dep = not dep.inward
+-- whether a dependence is one in this direction
+abbrev pub is_of_direction : Direction → DepTree → Bool
+is_of_direction direction dep = is_same dep.direction direction
 
--- the in dependences, or the out dependences, of some
-abbrev pub dependences_of : Job → List DefTree → Bool → List DepTree → Option (List DepPlan)
-dependences_of job seen inward deps = each (dependence_of job seen) (filter (is_of_way inward) deps)
+-- the dependences in one direction, with their names resolved
+abbrev pub dependences_of : Job → List DefTree → Direction → List DepTree → Option (List DepPlan)
+dependences_of job seen direction deps = each (dependence_of job seen) (filter (is_of_direction direction) deps)
 
-abbrev pub dependences_faults : Job → List DefTree → FlowTree → Bool → List DepTree → List JdfFault
-dependences_faults job seen flow inward deps =
-    flat_map (dependence_faults job seen flow) (filter (is_of_way inward) deps)
+-- the faults of the dependences in one direction
+abbrev pub dependences_faults : Job → List DefTree → FlowTree → Direction → List DepTree → List JdfFault
+dependences_faults job seen flow direction deps =
+    flat_map (dependence_faults job seen flow) (filter (is_of_direction direction) deps)
 
--- both the in dependences and the out dependences
-abbrev pub ways_of : Job → List DefTree → List DepTree → Option (List DepPlan × List DepPlan)
-ways_of job seen deps = both (λ x y. (x, y)) (dependences_of job seen true deps) (dependences_of job seen false deps)
+-- the dependences in both directions, with their names resolved
+abbrev pub directions_of : Job → List DefTree → List DepTree → Option (List DepPlan × List DepPlan)
+directions_of job seen deps = both (λ x y. (x, y)) (dependences_of job seen In deps) (dependences_of job seen Out deps)
 
-abbrev pub ways_faults : Job → List DefTree → FlowTree → List DepTree → List JdfFault
-ways_faults job seen flow deps =
-    dependences_faults job seen flow true deps ++ dependences_faults job seen flow false deps
+-- the faults of the dependences in both directions
+abbrev pub directions_faults : Job → List DefTree → FlowTree → List DepTree → List JdfFault
+directions_faults job seen flow deps =
+    dependences_faults job seen flow In deps ++ dependences_faults job seen flow Out deps
 
 -- all faults of a flow: that its type is none of the data is a fault of its first dependence, and is listed twice
 abbrev pub flow_faults : Job → List DefTree → FlowTree → List JdfFault
 flow_faults job seen flow =
-    written_faults job.given flow.kind (first_written flow.deps) ++ ways_faults job seen flow flow.deps
+    written_faults job.given flow.kind (first_written flow.deps) ++ directions_faults job seen flow flow.deps
 
 -- the flow with a datatype and dependences
 abbrev pub flow_from : FlowTree → ℕ → List DepPlan × List DepPlan → FlowPlan
-flow_from flow n ways = record { name = flow.name.text; kind = flow.kind; datatype = n; ins = ways.0; outs = ways.1 }
+flow_from flow n deps = record { name = flow.name.text; kind = flow.kind; datatype = n; ins = deps.0; outs = deps.1 }
 
 -- the flow with its names resolved
 abbrev pub flow_plan : Job → List DefTree → FlowTree → Option FlowPlan
-flow_plan job seen flow = both (flow_from flow) (flow_type job.given flow) (ways_of job seen flow.deps)
+flow_plan job seen flow = both (flow_from flow) (flow_type job.given flow) (directions_of job seen flow.deps)

@@ -1,6 +1,5 @@
 -- What follows from the definitions of elements and flows that are resolved.
 use Rattle.std.specs.Prelude.{◌≡◌, ℕ, suc, List, [], Some, length, IsTrue}
-use Rattle.std.specs.Option.{IsSome}
 use Rattle.term_core.specs.Term.{Term}
 use Rattle.term_core.specs.declared.space.ClassSpace.{ClassSpace}
 use Rattle.jdf_tree.specs.TreeLimits.{IsFlowWithinLimits}

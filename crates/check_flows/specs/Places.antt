@@ -14,7 +14,7 @@ use Rattle.check_names.specs.Arguments.{indices_faults, indices_of}
 abbrev pub dimensions_of : Job → ℕ → ℕ
 dimensions_of job n = option_map_or (λ (c : Coll). dimensions c.shape.1) (slice_get job.given.colls n) 0
 
--- the faults of a name where a collection is named, with so many indices, by the collection's number
+-- the faults of a name where a collection is named, with this many indices, by the collection's number
 abbrev pub collection_faults : Job → Word → ℕ → Option ℕ → List JdfFault
 collection_faults job w count (Some n) = fault_if (not (dimensions_of job n == count)) w.spot Arity
 collection_faults job w count None =

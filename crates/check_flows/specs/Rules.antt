@@ -3,6 +3,8 @@
 use Rattle.std.specs.Prelude.{ℕ, Bool, true, false, not, ◌&&◌, ◌==◌, List, [], ◌++◌, Option, None, option_and_then, slice_get, if◌then◌else◌}
 use Rattle.std.specs.Option.{option_map_or}
 use Rattle.std.specs.Str.{bytes_eq}
+use Rattle.term_core.specs.declared.direction.Direction.{Direction}
+use Rattle.term_core.specs.declared.direction.Direction.TheVariants.{In, Out}
 use Rattle.term_core.specs.declared.flow.FlowKind.{FlowKind}
 use Rattle.jdf_tree.specs.declared.tree.TargetTree.TheVariants as tree
 use Rattle.coll_data.specs.declared.coll.Coll.{Coll}
@@ -42,6 +44,7 @@ is_no_start (tree.Element coll args) = false
 is_no_start (tree.New spot) = false
 is_no_start (tree.Null spot) = true
 
+-- whether the target is a new tile
 abbrev pub is_new : TargetTree → Bool
 is_new (tree.Task flow class args) = false
 is_new (tree.Element coll args) = false
@@ -85,9 +88,14 @@ type_differs job type (tree.Element coll args) =
 type_differs job type (tree.New spot) = false
 type_differs job type (tree.Null spot) = false
 
--- the faults of a target by the flow that has it, in an in dependence or an out dependence
-abbrev pub rule_faults : Job → FlowTree → Bool → TargetTree → List JdfFault
-rule_faults job flow inward t =
+-- the faults of the target of a dependence in this direction, by the kind of the flow
+abbrev pub kind_faults : Direction → FlowKind → TargetTree → List JdfFault
+kind_faults In kind t = in_faults kind t
+kind_faults Out kind t = out_faults t
+
+-- the faults of a target by the flow that has it, in a dependence in this direction
+abbrev pub rule_faults : Job → FlowTree → Direction → TargetTree → List JdfFault
+rule_faults job flow direction t =
     (fault_if (is_mixed job flow.kind t) (first_spot t) CtlMixed
     ++ fault_if (not (is_control flow.kind) && type_differs job (type_of_flow flow) t) (first_spot t) TypeDiffers)
-    ++ (if inward then in_faults flow.kind t else out_faults t)
+    ++ kind_faults direction flow.kind t

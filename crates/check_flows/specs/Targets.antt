@@ -1,5 +1,5 @@
 -- What targets name. Source: PaRSEC 2013 and the JDF documentation; which codes there are is this project's own choice.
-use Rattle.std.specs.Prelude.{ℕ, not, ◌==◌, List, [], ◌∷◌, ◌++◌, length, Option, Some, None, is_none, option_map, option_and_then, slice_get}
+use Rattle.std.specs.Prelude.{ℕ, not, ◌==◌, List, [], ◌∷◌, ◌++◌, length, Option, Some, None, is_none, option_map, option_and_then}
 use Rattle.term_core.specs.Term.{Term}
 use Rattle.jdf_tree.specs.declared.tree.TargetTree.TheVariants as tree
 use Rattle.plan_core.specs.declared.target.Arg.{Arg}
@@ -8,7 +8,7 @@ use Rattle.plan_core.specs.declared.target.Target.TheVariants as plan
 use Rattle.check_names.specs.Alphabet.{Spot, JdfFault, Word, DefTree, TargetTree, ClassTree, UnknownName, NoSuchFlow, Arity}
 use Rattle.check_names.specs.Faults.{fault, fault_if}
 use Rattle.check_names.specs.Returns.{both}
-use Rattle.check_names.specs.Names.{Job, class_named, flow_named}
+use Rattle.check_names.specs.Names.{Job, class_named, class_of, flow_named}
 use Rattle.check_names.specs.Arguments.{arguments_faults, arguments_of}
 use Rattle.check_flows.specs.Places.{element_faults, element_of}
 
@@ -19,7 +19,7 @@ first_spot (tree.Element coll args) = coll.spot
 first_spot (tree.New spot) = spot
 first_spot (tree.Null spot) = spot
 
--- the faults of a flow of this class, named with so many arguments
+-- the faults of a flow of this class, named with this many arguments
 abbrev pub class_faults : Word → Word → ℕ → ClassTree → List JdfFault
 class_faults flow name count class =
     fault_if (not (length class.params == count)) name.spot Arity
@@ -31,19 +31,16 @@ abbrev pub task_faults : Word → Word → ℕ → Option ClassTree → List Jdf
 task_faults flow name count None = fault name.spot UnknownName ∷ []
 task_faults flow name count (Some class) = class_faults flow name count class
 
--- the class with this number
-abbrev pub class_at : Job → Option ℕ → Option ClassTree
-class_at job number = option_and_then (slice_get job.jdf.classes) number
-
 -- the numbers of a class and of a flow of it
-abbrev pub task_of : Job → Word → Option ℕ → Option (ℕ × ℕ)
-task_of job flow number =
-    both (λ x y. (x, y)) number (option_and_then (λ (c : ClassTree). flow_named c flow.text) (class_at job number))
+abbrev pub task_of : Job → Word → Word → Option (ℕ × ℕ)
+task_of job flow class =
+    both (λ x y. (x, y)) (class_named job class.text)
+    (option_and_then (λ (c : ClassTree). flow_named c flow.text) (class_of job class.text))
 
 -- the faults of what a target names, where these definitions are seen
 abbrev pub named_faults : Job → List DefTree → TargetTree → List JdfFault
 named_faults job seen (tree.Task flow class args) =
-    task_faults flow class (length args) (class_at job (class_named job class.text)) ++ arguments_faults job seen args
+    task_faults flow class (length args) (class_of job class.text) ++ arguments_faults job seen args
 named_faults job seen (tree.Element coll args) = element_faults job seen coll args
 named_faults job seen (tree.New spot) = []
 named_faults job seen (tree.Null spot) = []
@@ -52,7 +49,7 @@ named_faults job seen (tree.Null spot) = []
 abbrev pub target_of : Job → List DefTree → TargetTree → Option Target
 target_of job seen (tree.Task flow class args) =
     both (λ (x : ℕ × ℕ) (y : List Arg). plan.Task x.0 x.1 y)
-    (task_of job flow (class_named job class.text)) (arguments_of job seen args)
+    (task_of job flow class) (arguments_of job seen args)
 target_of job seen (tree.Element coll args) =
     option_map (λ (x : ℕ × List Term). plan.Element x.0 x.1) (element_of job seen coll args)
 target_of job seen (tree.New spot) = Some plan.New

@@ -39,7 +39,7 @@ fn no_collection(context: &Context, name: &Text) -> JdfCode
     }
 }
 
-// The number of a collection, which must have so many dimensions.
+// The number of a collection, which must have this many dimensions.
 fn dimensioned(context: &Context, word: &Word, count: usize, number: u32) -> Result<u32, JdfRefusal>
     ensures { ReturnsChecked result (Some number)
         (collection_faults (job_of context.now) word.now count (Some number)) }
@@ -48,7 +48,7 @@ fn dimensioned(context: &Context, word: &Word, count: usize, number: u32) -> Res
     and_rules(Ok(number), fault_if(differs, word.spot, JdfCode::Arity))
 }
 
-// The number of a collection that is named with so many indices.
+// The number of a collection that is named with this many indices.
 fn collection(context: &Context, word: &Word, count: usize) -> Result<u32, JdfRefusal>
     requires { IsContext context.now }
     ensures { ReturnsChecked result (coll_named (job_of context.now) word.now.text)

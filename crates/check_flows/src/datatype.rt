@@ -3,20 +3,21 @@
 ghost use Rattle.std.specs.Prelude.{◌≡◌, ◌<◌, ◌≤◌, IfSome, length, position};
 ghost use Rattle.std.specs.Str.{bytes_eq};
 ghost use Rattle.ptg_base.specs.Limits.{most_named_types};
+ghost use Rattle.coll_data.specs.Types.{default_type};
 ghost use Rattle.check_names.specs.Returns.{ReturnsChecked};
-ghost use Rattle.check_flows.specs.Datatypes.{default_name, type_is, type_number, allowed_type, type_of_written, written_faults, first_written, type_of_flow, flow_type};
+ghost use Rattle.check_flows.specs.Datatypes.{type_is, type_number, allowed_type, type_of_written, written_faults, first_written, type_of_flow, flow_type};
 
-use coll_data::Given;
+use coll_data::{DEFAULT_TYPE, Given};
 use jdf_lex::{JdfCode, JdfRefusal, fault_at};
 use jdf_tree::{DepTree, FlowTree, Word};
 use ptg_base::Text;
 use term_core::FlowKind;
 
-// Is this the name of type 0?
+// Whether this is the name of type 0.
 fn is_default(name: &[u8]) -> bool
-    ensures { result ≡ bytes_eq name.now default_name }
+    ensures { result ≡ bytes_eq name.now default_type }
 {
-    name == b"DEFAULT".as_slice()
+    name == DEFAULT_TYPE
 }
 
 // The number of the first of these types that has the name.
@@ -55,7 +56,7 @@ pub(crate) fn type_of_written(written: &Option<Word>) -> &[u8]
     ensures { result.now ≡ type_of_written written.now }
 {
     match written {
-        None => b"DEFAULT".as_slice(),
+        None => DEFAULT_TYPE,
         Some(word) => word.text.bytes(),
     }
 }
@@ -84,7 +85,7 @@ pub(crate) fn type_of_flow(flow: &FlowTree) -> &[u8]
     ensures { result.now ≡ type_of_flow flow.now }
 {
     match flow.deps.as_slice().first() {
-        None => b"DEFAULT".as_slice(),
+        None => DEFAULT_TYPE,
         Some(dependence) => type_of_written(&dependence.datatype),
     }
 }

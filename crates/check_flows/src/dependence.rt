@@ -6,7 +6,7 @@ ghost use Rattle.plan_core.specs.declared.flow.DepPlan.{DepPlan};
 ghost use Rattle.check_names.specs.Contexts.{IsContext, job_of};
 ghost use Rattle.check_names.specs.Returns.{ReturnsChecked, each_option};
 ghost use Rattle.check_flows.specs.Targets.{target_of};
-ghost use Rattle.check_flows.specs.Dependences.{target_faults, second_faults, type_spot, type_faults, dependence_faults, dependence_of, is_of_way, dependences_of, dependences_faults, ways_of, ways_faults, flow_faults, flow_from, flow_plan};
+ghost use Rattle.check_flows.specs.Dependences.{target_faults, second_faults, type_spot, type_faults, dependence_faults, dependence_of, is_of_direction, dependences_of, dependences_faults, directions_of, directions_faults, flow_faults, flow_from, flow_plan};
 
 use crate::datatype::{flow_type, type_of_flow, type_of_written, written_type};
 use crate::rule::target_rules;
@@ -17,21 +17,22 @@ use jdf_lex::{JdfCode, JdfRefusal, Spot};
 use jdf_tree::{DepTree, FlowTree, TargetTree, Word};
 use plan_core::{DepPlan, FlowPlan, Target};
 use ptg_base::{OutOfMemory, Seq, Text};
+use term_core::Direction;
 
 // A target of a flow, with its names resolved.
 fn target(
     context: &Context,
     flow: &FlowTree,
-    inward: bool,
+    direction: Direction,
     target: &TargetTree,
 ) -> Result<Target, JdfRefusal>
     requires { IsContext context.now }
     ensures { ReturnsChecked result (target_of (job_of context.now) context.now.seen.now target.now)
-        (target_faults (job_of context.now) context.now.seen.now flow.now inward target.now) }
+        (target_faults (job_of context.now) context.now.seen.now flow.now direction target.now) }
 {
     and_rules(
         named_target(context, target),
-        target_rules(context, flow, inward, target),
+        target_rules(context, flow, direction, target),
     )
 }
 
@@ -39,16 +40,16 @@ fn target(
 fn second(
     context: &Context,
     flow: &FlowTree,
-    inward: bool,
+    direction: Direction,
     no: &Option<TargetTree>,
 ) -> Result<Option<Target>, JdfRefusal>
     requires { IsContext context.now }
     ensures { ReturnsChecked result (each_option (target_of (job_of context.now) context.now.seen.now) no.now)
-        (second_faults (target_faults (job_of context.now) context.now.seen.now flow.now inward) no.now) }
+        (second_faults (target_faults (job_of context.now) context.now.seen.now flow.now direction) no.now) }
 {
     match no {
         None => Ok(None),
-        Some(no) => Ok(Some(target(context, flow, inward, no)?)),
+        Some(no) => Ok(Some(target(context, flow, direction, no)?)),
     }
 }
 
@@ -87,10 +88,10 @@ fn dependence(
     ensures { ReturnsChecked result (dependence_of (job_of context.now) context.now.seen.now dependence.now)
         (dependence_faults (job_of context.now) context.now.seen.now flow.now dependence.now) }
 {
-    let inward = dependence.inward;
+    let direction = dependence.direction;
     let targets = join(
-        target(context, flow, inward, &dependence.yes),
-        second(context, flow, inward, &dependence.no),
+        target(context, flow, direction, &dependence.yes),
+        second(context, flow, direction, &dependence.no),
     );
     let known = join(option_term(context, &dependence.guard), targets);
     match and_rules(known, type_rules(context.given, flow, dependence)) {
@@ -103,48 +104,47 @@ fn dependence(
     }
 }
 
-// Is a dependence an in dependence, or an out dependence?
-fn is_of_way(inward: bool, dependence: &DepTree) -> bool
-    ensures { result ≡ is_of_way inward dependence.now }
+// Whether a dependence is one in this direction.
+fn is_of_direction(direction: Direction, dependence: &DepTree) -> bool
+    ensures { result ≡ is_of_direction direction dependence.now }
 {
-    if inward {
-        dependence.inward
-    } else {
-        !dependence.inward
-    }
+    dependence.direction == direction
 }
 
-// The in dependences or the out dependences of a flow, with their names resolved.
+// The dependences of a flow in one direction, with their names resolved.
 fn dependences(
     context: &Context,
     flow: &FlowTree,
-    inward: bool,
+    direction: Direction,
     deps: &[DepTree],
 ) -> Result<Seq<DepPlan>, JdfRefusal>
     requires { IsContext context.now }
-    ensures { ReturnsChecked result (dependences_of (job_of context.now) context.now.seen.now inward deps.now)
-        (dependences_faults (job_of context.now) context.now.seen.now flow.now inward deps.now) }
+    ensures { ReturnsChecked result (dependences_of (job_of context.now) context.now.seen.now direction deps.now)
+        (dependences_faults (job_of context.now) context.now.seen.now flow.now direction deps.now) }
 {
     let mut parts = Ok(Seq::new(context.alloc));
     for each in deps {
-        if is_of_way(inward, each) {
+        if is_of_direction(direction, each) {
             parts = with_part(parts, dependence(context, flow, each));
         }
     }
     parts
 }
 
-// Both the in dependences and the out dependences of a flow.
-fn both_ways(context: &Context, flow: &FlowTree) -> Result<(Seq<DepPlan>, Seq<DepPlan>), JdfRefusal>
+// The dependences of a flow in both directions.
+fn both_directions(
+    context: &Context,
+    flow: &FlowTree,
+) -> Result<(Seq<DepPlan>, Seq<DepPlan>), JdfRefusal>
     requires { IsContext context.now }
     ensures { ReturnsChecked {A = List DepPlan × List DepPlan} result
-        (ways_of (job_of context.now) context.now.seen.now flow.now.deps)
-        (ways_faults (job_of context.now) context.now.seen.now flow.now flow.now.deps) }
+        (directions_of (job_of context.now) context.now.seen.now flow.now.deps)
+        (directions_faults (job_of context.now) context.now.seen.now flow.now flow.now.deps) }
 {
     let deps = flow.deps.as_slice();
     join(
-        dependences(context, flow, true, deps),
-        dependences(context, flow, false, deps),
+        dependences(context, flow, Direction::In, deps),
+        dependences(context, flow, Direction::Out, deps),
     )
 }
 
@@ -153,16 +153,16 @@ fn flow_with(
     context: &Context,
     flow: &FlowTree,
     datatype: u32,
-    ways: (Seq<DepPlan>, Seq<DepPlan>),
+    deps: (Seq<DepPlan>, Seq<DepPlan>),
 ) -> Result<FlowPlan, OutOfMemory>
-    ensures { IfOk result (λ plan. plan ≡ flow_from flow.now datatype ways) }
+    ensures { IfOk result (λ plan. plan ≡ flow_from flow.now datatype deps) }
 {
     Ok(FlowPlan {
         name: Text::of(context.alloc, flow.name.text.bytes())?,
         kind: flow.kind,
         datatype,
-        ins: ways.0,
-        outs: ways.1,
+        ins: deps.0,
+        outs: deps.1,
     })
 }
 
@@ -172,9 +172,9 @@ pub fn flow(context: &Context, flow: &FlowTree) -> Result<FlowPlan, JdfRefusal>
     ensures { ReturnsChecked result (flow_plan (job_of context.now) context.now.seen.now flow.now)
         (flow_faults (job_of context.now) context.now.seen.now flow.now) }
 {
-    let ways = both_ways(context, flow);
-    match join(flow_type(context.given, flow), ways) {
+    let deps = both_directions(context, flow);
+    match join(flow_type(context.given, flow), deps) {
         Err(refusal) => Err(refusal),
-        Ok((datatype, ways)) => Ok(flow_with(context, flow, datatype, ways)?),
+        Ok((datatype, deps)) => Ok(flow_with(context, flow, datatype, deps)?),
     }
 }

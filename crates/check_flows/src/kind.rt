@@ -5,7 +5,7 @@ ghost use Rattle.check_flows.specs.Kinds.{are_mixed};
 
 use term_core::FlowKind;
 
-/// Does one of the two kinds carry order alone, and the other a tile?
+/// Whether one of the two kinds carries order alone, and the other a tile.
 pub(crate) fn are_mixed(one: FlowKind, other: FlowKind) -> bool
     ensures { result ≡ are_mixed one other }
 {

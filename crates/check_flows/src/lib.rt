@@ -12,3 +12,4 @@ mod target;
 pub use coll_element::element;
 pub use dependence::flow;
 pub use laws::{a_resolved_element_exists, a_resolved_flow_is_well_made};
+pub use target::first_spot;

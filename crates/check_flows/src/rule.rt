@@ -15,7 +15,7 @@ use coll_data::Given;
 use jdf_lex::{JdfCode, JdfRefusal};
 use jdf_tree::{ClassTree, FlowTree, TargetTree, Word};
 use ptg_base::Text;
-use term_core::FlowKind;
+use term_core::{Direction, FlowKind};
 
 // The first class of this name.
 fn class_of<'a>(context: &Context<'a>, name: &Text) -> Option<&'a ClassTree>
@@ -43,7 +43,7 @@ fn flow_of_target<'a>(context: &Context<'a>, target: &TargetTree) -> Option<&'a 
     }
 }
 
-// Would order go to a tile, or a tile to order?
+// Whether order would go to a tile, or a tile to order.
 fn is_mixed(context: &Context, kind: FlowKind, target: &TargetTree) -> bool
     requires { IsContext context.now }
     ensures { result ≡ is_mixed (job_of context.now) kind target.now }
@@ -59,7 +59,7 @@ fn is_mixed(context: &Context, kind: FlowKind, target: &TargetTree) -> bool
     }
 }
 
-// Would a tile that is only written come from a task, or be none?
+// Whether a tile that is only written would come from a task, or be none.
 fn is_no_start(target: &TargetTree) -> bool
     ensures { result ≡ is_no_start target.now }
 {
@@ -71,7 +71,7 @@ fn is_no_start(target: &TargetTree) -> bool
     }
 }
 
-// Is the target a new tile?
+// Whether the target is a new tile.
 fn is_new(target: &TargetTree) -> bool
     ensures { result ≡ is_new target.now }
 {
@@ -118,7 +118,7 @@ fn out_rules(target: &TargetTree) -> Result<(), JdfRefusal>
     fault_if(is_new(target), first_spot(target), JdfCode::NewSent)
 }
 
-// Do the tiles of the collection with this number have another type than this one?
+// Whether the tiles of the collection with this number have another type than this one.
 fn has_other_type(given: &Given, name: &[u8], number: u32) -> bool
     requires { length given.now.types ≤ most_named_types }
     ensures { result ≡ has_other_type given.now name.now number }
@@ -132,7 +132,7 @@ fn has_other_type(given: &Given, name: &[u8], number: u32) -> bool
     }
 }
 
-// Is a target of a flow whose tiles have this type a data flow or an element of another type?
+// Whether a target of a flow whose tiles have this type is a data flow or an element of another type.
 fn type_differs(context: &Context, name: &[u8], target: &TargetTree) -> bool
     requires { IsContext context.now }
     ensures { result ≡ type_differs (job_of context.now) name.now target.now }
@@ -151,15 +151,15 @@ fn type_differs(context: &Context, name: &[u8], target: &TargetTree) -> bool
     }
 }
 
-/// The rules of a target by the flow that has it, in an in dependence or an out dependence.
+/// The rules of a target by the flow that has it, in a dependence in this direction.
 pub(crate) fn target_rules(
     context: &Context,
     flow: &FlowTree,
-    inward: bool,
+    direction: Direction,
     target: &TargetTree,
 ) -> Result<(), JdfRefusal>
     requires { IsContext context.now }
-    ensures { ReturnsChecked result (Some tt) (rule_faults (job_of context.now) flow.now inward target.now) }
+    ensures { ReturnsChecked result (Some tt) (rule_faults (job_of context.now) flow.now direction target.now) }
 {
     let spot = first_spot(target);
     let is_mixed = is_mixed(context, flow.kind, target);
@@ -168,9 +168,8 @@ pub(crate) fn target_rules(
         fault_if(is_mixed, spot, JdfCode::CtlMixed),
         fault_if(differs, spot, JdfCode::TypeDiffers),
     );
-    if inward {
-        and_rules(fits, in_rules(flow.kind, target))
-    } else {
-        and_rules(fits, out_rules(target))
+    match direction {
+        Direction::In => and_rules(fits, in_rules(flow.kind, target)),
+        Direction::Out => and_rules(fits, out_rules(target)),
     }
 }

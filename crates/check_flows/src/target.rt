@@ -2,14 +2,14 @@
 
 ghost use Rattle.std.specs.Prelude.{◌≡◌, ◌<◌, ◌++◌, ℕ, IfSome, is_none, length};
 ghost use Rattle.jdf_lex.specs.declared.fault.JdfCode.TheVariants.{NoSuchFlow};
+ghost use Rattle.jdf_tree.specs.TreeLimits.{IsClassWithinLimits};
 ghost use Rattle.plan_core.specs.declared.target.Target.TheVariants.{Task};
 ghost use Rattle.check_names.specs.Arguments.{arguments_faults, arguments_of};
 ghost use Rattle.check_names.specs.Contexts.{IsContext, job_of};
 ghost use Rattle.check_names.specs.Faults.{fault_if};
-ghost use Rattle.check_names.specs.Limits.{IsBoundedClass};
-ghost use Rattle.check_names.specs.Names.{class_named, flow_named};
+ghost use Rattle.check_names.specs.Names.{class_of, flow_named};
 ghost use Rattle.check_names.specs.Returns.{ReturnsChecked, both};
-ghost use Rattle.check_flows.specs.Targets.{first_spot, task_faults, class_at, task_of, named_faults, target_of};
+ghost use Rattle.check_flows.specs.Targets.{first_spot, task_faults, task_of, named_faults, target_of};
 
 use crate::coll_element::element;
 use check_names::{Context, and_rules, arguments, class_named, fault_if, join};
@@ -19,7 +19,7 @@ use plan_core::Target;
 use ptg_base::Text;
 
 /// The spot of a target: its first token.
-pub(crate) fn first_spot(target: &TargetTree) -> Spot
+pub fn first_spot(target: &TargetTree) -> Spot
     ensures { result ≡ first_spot target.now }
 {
     match target {
@@ -44,7 +44,7 @@ pub(crate) fn flow_named(class: &ClassTree, name: &Text) -> Option<usize>
 
 // The number of a flow of a class.
 fn flow_number(class: &ClassTree, word: &Word) -> Result<u8, JdfRefusal>
-    requires { IsBoundedClass class.now }
+    requires { IsClassWithinLimits class.now }
     ensures { ReturnsChecked result (flow_named class.now word.now.text)
         (fault_if (is_none (flow_named class.now word.now.text)) word.now.spot NoSuchFlow) }
 {
@@ -54,13 +54,12 @@ fn flow_number(class: &ClassTree, word: &Word) -> Result<u8, JdfRefusal>
     }
 }
 
-// The numbers of a class and of a flow of it, which are named with so many arguments.
+// The numbers of a class and of a flow of it, which are named with this many arguments.
 fn task(context: &Context, flow: &Word, name: &Word, count: usize) -> Result<(u32, u8), JdfRefusal>
     requires { IsContext context.now }
     ensures { ReturnsChecked result
-        (task_of (job_of context.now) flow.now (class_named (job_of context.now) name.now.text))
-        (task_faults flow.now name.now count
-        (class_at (job_of context.now) (class_named (job_of context.now) name.now.text))) }
+        (task_of (job_of context.now) flow.now name.now)
+        (task_faults flow.now name.now count (class_of (job_of context.now) name.now.text)) }
 {
     let Some(number) = class_named(context, &name.text) else {
         return Err(fault_at(name.spot, JdfCode::UnknownName));
@@ -84,10 +83,9 @@ fn task_target(
     requires { IsContext context.now }
     ensures { ReturnsChecked result
         (both (λ (x : ℕ × ℕ) y. Task x.0 x.1 y)
-        (task_of (job_of context.now) flow.now (class_named (job_of context.now) name.now.text))
+        (task_of (job_of context.now) flow.now name.now)
         (arguments_of (job_of context.now) context.now.seen.now args.now))
-        (task_faults flow.now name.now (length args.now)
-        (class_at (job_of context.now) (class_named (job_of context.now) name.now.text))
+        (task_faults flow.now name.now (length args.now) (class_of (job_of context.now) name.now.text)
         ++ arguments_faults (job_of context.now) context.now.seen.now args.now) }
 {
     let known = task(context, flow, name, args.len());

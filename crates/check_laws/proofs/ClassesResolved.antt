@@ -1,8 +1,9 @@
 -- What breaks no rule is resolved: the parts of a class, classes, and all of a JDF.
 use Rattle.std.proofs.Common.{◌≡◌, List, [], ◌∷◌, ◌++◌, flat_map, Option, Some, None, Ok, Err, inl, inr, refl}
 use Rattle.std.specs.Option.{IsSome}
+use Rattle.std.specs.Result.{result_ok}
 use Rattle.check_names.specs.Alphabet.{JdfFault, DefTree, FlowTree, ClassTree, NameTwice}
-use Rattle.check_names.specs.Faults.{first_fault}
+use Rattle.check_names.specs.Faults.{first_fault, resolved_faults}
 use Rattle.check_names.specs.Returns.{both}
 use Rattle.check_names.specs.Repeats.{repeats}
 use Rattle.check_names.specs.Names.{Job}
@@ -16,7 +17,7 @@ use Rattle.check_laws.proofs.NamesResolved.{option_there, space_there}
 use Rattle.check_flows.specs.Places.{element_faults, element_of}
 use Rattle.check_flows.specs.Dependences.{flow_faults, flow_plan}
 use Rattle.check_laws.proofs.FlowsResolved.{element_there, flow_is_there}
-use Rattle.flow_check.specs.Bodies.{BodyResult, body_faults, body_of}
+use Rattle.flow_check.specs.Bodies.{BodyResult}
 use Rattle.flow_check.specs.Classes.{flows_of, flows_faults, head_from, head_of, head_faults, class_from, class_plan, class_faults}
 use Rattle.flow_check.specs.Check.{ReadBodies, classes_faults, classes_plan, names_faults, faults_of, AreResolved}
 use Rattle.check_laws.specs.Laws.{HasPlanOrFault, EachHasPlanOrFault}
@@ -44,12 +45,12 @@ head_there job class h =
     (both_there (λ x y. (x, y)) space element bad_space bad_element (space_there job class.params class.defs) (element_there job class.defs class.affinity class.affinity_args))
     (both_there (λ x y. (x, y)) flows priority bad_flows bad_priority (flows_there job class.defs class.flows) (option_there job class.defs class.priority)) h
 
-body_there : (b : BodyResult) → body_faults b ≡ [] → IsSome (body_of b)
+body_there : (b : BodyResult) → resolved_faults b ≡ [] → IsSome (result_ok b)
 body_there (Ok x) h = refl
 body_there (Err f) h = absurd cc
 
 pub class_there : (job : Job) (class : ClassTree) (b : BodyResult) → class_faults job class b ≡ [] → IsSome (class_plan job class b)
-class_there job class b h = both_there (class_from class) (head_of job class) (body_of b) (head_faults job class) (body_faults b) (head_there job class) (body_there b) h
+class_there job class b h = both_there (class_from class) (head_of job class) (result_ok b) (head_faults job class) (resolved_faults b) (head_there job class) (body_there b) h
 
 classes_there : (job : Job) (classes : List ClassTree) (bodies : List BodyResult) → ReadBodies job classes bodies → classes_faults job classes bodies ≡ [] → IsSome (classes_plan job classes bodies)
 classes_there job [] bodies read h = refl

@@ -3,50 +3,50 @@ use Rattle.std.proofs.Common.{◌≡◌, ℕ, Bool, true, false, List, [], ◌�
 use Rattle.std.specs.Prelude.{Some, nat_lt, slice_get}
 use Rattle.std.proofs.lemmas.Bool.{cases_order, ltb-false}
 use Rattle.check_names.specs.Alphabet.{JdfCode, JdfFault, TooLong, NotUtf8, Unclosed, TooManyTokens, Syntax, Truncated, BadNumber, ExprTooLong, TooManyClasses, TooManyParams, TooManyLocals, TooManyFlows, TooManyDeps, TooDeep, TooManyVars, NameTwice, LocalTwice, ParamUndefined, RangedLocal, UnknownName, WrongKind, NoSuchFlow, Arity, CtlMixed, WriteInput, NewSent, RangeInDataInput, RangeInPlace, Datatype, MixedTypes, TypeDiffers, ReadAssigned, NotAssignable}
-use Rattle.check_names.specs.Faults.{rank, is_before}
+use Rattle.check_names.specs.Faults.{code_number, is_before}
 use Rattle.check_names.proofs.Order.{lex, lex-less, lex-same}
 
--- all codes, each at the index that is its rank
-abbrev codes_by_rank : List JdfCode
-codes_by_rank = TooLong ∷ NotUtf8 ∷ Unclosed ∷ TooManyTokens ∷ Syntax ∷ Truncated ∷ BadNumber ∷ ExprTooLong ∷ TooManyClasses ∷ TooManyParams ∷ TooManyLocals ∷ TooManyFlows ∷ TooManyDeps ∷ TooDeep ∷ TooManyVars ∷ NameTwice ∷ LocalTwice ∷ ParamUndefined ∷ RangedLocal ∷ UnknownName ∷ WrongKind ∷ NoSuchFlow ∷ Arity ∷ CtlMixed ∷ WriteInput ∷ NewSent ∷ RangeInDataInput ∷ RangeInPlace ∷ Datatype ∷ MixedTypes ∷ TypeDiffers ∷ ReadAssigned ∷ NotAssignable ∷ []
+-- all codes, each at the index that is its number
+abbrev codes_by_number : List JdfCode
+codes_by_number = TooLong ∷ NotUtf8 ∷ Unclosed ∷ TooManyTokens ∷ Syntax ∷ Truncated ∷ BadNumber ∷ ExprTooLong ∷ TooManyClasses ∷ TooManyParams ∷ TooManyLocals ∷ TooManyFlows ∷ TooManyDeps ∷ TooDeep ∷ TooManyVars ∷ NameTwice ∷ LocalTwice ∷ ParamUndefined ∷ RangedLocal ∷ UnknownName ∷ WrongKind ∷ NoSuchFlow ∷ Arity ∷ CtlMixed ∷ WriteInput ∷ NewSent ∷ RangeInDataInput ∷ RangeInPlace ∷ Datatype ∷ MixedTypes ∷ TypeDiffers ∷ ReadAssigned ∷ NotAssignable ∷ []
 
-at_rank : (c : JdfCode) → slice_get codes_by_rank (rank c) ≡ Some c
-at_rank TooLong = refl
-at_rank NotUtf8 = refl
-at_rank Unclosed = refl
-at_rank TooManyTokens = refl
-at_rank Syntax = refl
-at_rank Truncated = refl
-at_rank BadNumber = refl
-at_rank ExprTooLong = refl
-at_rank TooManyClasses = refl
-at_rank TooManyParams = refl
-at_rank TooManyLocals = refl
-at_rank TooManyFlows = refl
-at_rank TooManyDeps = refl
-at_rank TooDeep = refl
-at_rank TooManyVars = refl
-at_rank NameTwice = refl
-at_rank LocalTwice = refl
-at_rank ParamUndefined = refl
-at_rank RangedLocal = refl
-at_rank UnknownName = refl
-at_rank WrongKind = refl
-at_rank NoSuchFlow = refl
-at_rank Arity = refl
-at_rank CtlMixed = refl
-at_rank WriteInput = refl
-at_rank NewSent = refl
-at_rank RangeInDataInput = refl
-at_rank RangeInPlace = refl
-at_rank Datatype = refl
-at_rank MixedTypes = refl
-at_rank TypeDiffers = refl
-at_rank ReadAssigned = refl
-at_rank NotAssignable = refl
+at_code_number : (c : JdfCode) → slice_get codes_by_number (code_number c) ≡ Some c
+at_code_number TooLong = refl
+at_code_number NotUtf8 = refl
+at_code_number Unclosed = refl
+at_code_number TooManyTokens = refl
+at_code_number Syntax = refl
+at_code_number Truncated = refl
+at_code_number BadNumber = refl
+at_code_number ExprTooLong = refl
+at_code_number TooManyClasses = refl
+at_code_number TooManyParams = refl
+at_code_number TooManyLocals = refl
+at_code_number TooManyFlows = refl
+at_code_number TooManyDeps = refl
+at_code_number TooDeep = refl
+at_code_number TooManyVars = refl
+at_code_number NameTwice = refl
+at_code_number LocalTwice = refl
+at_code_number ParamUndefined = refl
+at_code_number RangedLocal = refl
+at_code_number UnknownName = refl
+at_code_number WrongKind = refl
+at_code_number NoSuchFlow = refl
+at_code_number Arity = refl
+at_code_number CtlMixed = refl
+at_code_number WriteInput = refl
+at_code_number NewSent = refl
+at_code_number RangeInDataInput = refl
+at_code_number RangeInPlace = refl
+at_code_number Datatype = refl
+at_code_number MixedTypes = refl
+at_code_number TypeDiffers = refl
+at_code_number ReadAssigned = refl
+at_code_number NotAssignable = refl
 
-one_rank : (c d : JdfCode) → rank c ≡ rank d → c ≡ d
-one_rank c d e = let same : Some c ≡ Some d = sym (at_rank c) ∙ (ap (slice_get codes_by_rank) e ∙ at_rank d) in cc
+one_code : (c d : JdfCode) → code_number c ≡ code_number d → c ≡ d
+one_code c d e = let same : Some c ≡ Some d = sym (at_code_number c) ∙ (ap (slice_get codes_by_number) e ∙ at_code_number d) in cc
 
 lex-neither : (a x : ℕ) (r s : Bool) → lex a x r ≡ false → lex x a s ≡ false → (a ≡ x) × (r ≡ false) × (s ≡ false)
 lex-neither a x r s h k =
@@ -66,7 +66,7 @@ pub neither_is_before : (f g : JdfFault) → is_before f g ≡ false → is_befo
 neither_is_before f g h k =
     let lines = lex-neither f.spot.line g.spot.line _ _ h k in
     let columns = lex-neither f.spot.column g.spot.column _ _ lines.1 lines.2 in
-    let codes = one_rank f.code g.code (neither_less (rank f.code) (rank g.code) columns.1 columns.2) in
+    let codes = one_code f.code g.code (neither_less (code_number f.code) (code_number g.code) columns.1 columns.2) in
     ap (λ n. fault_of n f.spot.column f.code) lines.0
     ∙ (ap (λ n. fault_of g.spot.line n f.code) columns.0
     ∙ ap (λ c. fault_of g.spot.line g.spot.column c) codes)

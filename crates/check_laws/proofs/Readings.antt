@@ -2,10 +2,11 @@
 use Rattle.std.proofs.Common.{◌≡◌, ◌≤◌, ℕ, ◌-◌, List, [], ◌∷◌, length, None, is_some, Result, Ok, Err, ◌⊎◌, inl, inr, refl, sym, subst}
 use Rattle.std.specs.List.{AllByRecursion}
 use Rattle.std.proofs.lemmas.List.{length-map}
+use Rattle.grammar_core.specs.declared.fault.ReadFault.{ReadFault}
 use Rattle.grammar_core.specs.declared.token.Token.{Token}
 use Rattle.grammar_core.specs.declared.code.Code.{Code}
 use Rattle.grammar_core.specs.Production.{IsText, IsFirstFault}
-use Rattle.grammar_core.specs.Reading.{FaultFromEnd, whole}
+use Rattle.grammar_core.specs.Reading.{whole}
 use Rattle.term_core.specs.declared.body.Body.{Body}
 use Rattle.ptg_base.specs.Returns.{and_then}
 use Rattle.jdf_tree.specs.BodyGrammar.{body}
@@ -30,9 +31,9 @@ Read tokens = ((tree : Statements) × IsText productions body tokens tree None) 
 tokens_read : (tokens : List Token) → Read tokens
 tokens_read tokens = go (whole productions body tokens) refl
   where
-    go : (r : Result Statements FaultFromEnd) → whole productions body tokens ≡ r → Read tokens
+    go : (r : Result Statements ReadFault) → whole productions body tokens ≡ r → Read tokens
     go (Ok tree) e = inl (tree, found tokens tree e)
-    go (Err n) e = inr (length tokens - n.0, n.1, faulty tokens n.0 n.1 e)
+    go (Err n) e = inr (length tokens - n.left, n.code, faulty tokens n.left n.code e)
 
 -- the names of a tree are resolved, or have a first fault
 by_tree : (scope : Environment) (class : ClassTree) (tree : Statements) → IsText productions body class.body tree None → (b : BodyResult) × ReadsAs scope class b

@@ -23,19 +23,19 @@ ArgumentsAreResolved =
     (job : Job) (seen : List DefTree) (args : List ArgTree) → arguments_faults job seen args ≡ []
     → IsSome (arguments_of job seen args)
 
--- So are indices.
+-- Indices that break no rule are resolved.
 abbrev pub IndicesAreResolved : Type 0
 IndicesAreResolved =
     (job : Job) (seen : List DefTree) (args : List ArgTree) → indices_faults job seen args ≡ []
     → IsSome (indices_of job seen args)
 
--- So is an expression that may be left out.
+-- An expression that may be left out and breaks no rule is resolved.
 abbrev pub OptionIsResolved : Type 0
 OptionIsResolved =
     (job : Job) (seen : List DefTree) (e : Option Expression) → option_faults job seen e ≡ []
     → IsSome (option_term job seen e)
 
--- So is the space of a class.
+-- The space of a class that breaks no rule is resolved.
 abbrev pub SpaceIsResolved : Type 0
 SpaceIsResolved =
     (job : Job) (params : List Word) (defs : List DefTree) → space_faults job params defs ≡ []
@@ -47,7 +47,7 @@ ElementIsResolved =
     (job : Job) (seen : List DefTree) (w : Word) (args : List ArgTree) → element_faults job seen w args ≡ []
     → IsSome (element_of job seen w args)
 
--- So is a flow.
+-- A flow that breaks no rule is resolved.
 abbrev pub FlowIsResolved : Type 0
 FlowIsResolved =
     (job : Job) (seen : List DefTree) (flow : FlowTree) → flow_faults job seen flow ≡ []

@@ -3,7 +3,7 @@ use Rattle.std.proofs.Common.{◌≡◌, ℕ, ◌<◌, Bool, true, false, arith,
 use Rattle.std.specs.Prelude.{nat_eq, nat_lt, ◌&&◌, ◌||◌}
 use Rattle.std.proofs.lemmas.Bool.{cases_order, lt-ltb, le-ltb, eq-eqb, ne_eqb, ltb-true, ltb-false}
 use Rattle.check_names.specs.Alphabet.{JdfFault}
-use Rattle.check_names.specs.Faults.{rank, is_before}
+use Rattle.check_names.specs.Faults.{code_number, is_before}
 
 -- a number is less than another, or it is the same and what follows decides
 abbrev pub lex : ℕ → ℕ → Bool → Bool
@@ -54,7 +54,7 @@ pub before-trans : (f g h : JdfFault) → is_before f g ≡ true → is_before g
 before-trans f g h =
     lex-trans f.spot.line g.spot.line h.spot.line _ _ _
     (lex-trans f.spot.column g.spot.column h.spot.column _ _ _
-    (λ p q. lex-less-true (rank f.code) (rank g.code) (rank h.code) p q))
+    (λ p q. lex-less-true (code_number f.code) (code_number g.code) (code_number h.code) p q))
   where
     lex-less-true : (a b c : ℕ) → nat_lt a b ≡ true → nat_lt b c ≡ true → nat_lt a c ≡ true
     lex-less-true a b c p q = lt-ltb a c (omega (arith, ltb-true a b p, ltb-true b c q))
@@ -63,7 +63,7 @@ pub before-cotrans : (f g h : JdfFault) → is_before f g ≡ false → is_befor
 before-cotrans f g h =
     lex-cotrans f.spot.line g.spot.line h.spot.line _ _ _
     (lex-cotrans f.spot.column g.spot.column h.spot.column _ _ _
-    (λ p q. less-false (rank f.code) (rank g.code) (rank h.code) p q))
+    (λ p q. less-false (code_number f.code) (code_number g.code) (code_number h.code) p q))
   where
     less-false : (a b c : ℕ) → nat_lt a b ≡ false → nat_lt b c ≡ false → nat_lt a c ≡ false
     less-false a b c p q = le-ltb a c (omega (arith, ltb-false a b p, ltb-false b c q))
@@ -73,4 +73,4 @@ pub before-irrefl : (f : JdfFault) → is_before f f ≡ false
 before-irrefl f =
     lex-same f.spot.line f.spot.line _ refl
     ∙ (lex-same f.spot.column f.spot.column _ refl
-    ∙ le-ltb (rank f.code) (rank f.code) (omega arith))
+    ∙ le-ltb (code_number f.code) (code_number f.code) (omega arith))

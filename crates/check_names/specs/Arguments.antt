@@ -39,22 +39,27 @@ range_faults code (tree.Span spot lo hi step) = fault spot code ∷ []
 abbrev pub index_faults : Job → List DefTree → ArgTree → List JdfFault
 index_faults job seen arg = argument_faults job seen arg ++ range_faults RangeInPlace arg
 
+-- an index with its names resolved; a range has none
 abbrev pub index_of : Job → List DefTree → ArgTree → Option Term
 index_of job seen (tree.One e) = term_of job seen e
 index_of job seen (tree.Span spot lo hi step) = None
 
--- the same of a list of arguments
+-- the faults of arguments
 abbrev pub arguments_faults : Job → List DefTree → List ArgTree → List JdfFault
 arguments_faults job seen args = flat_map (argument_faults job seen) args
 
+-- arguments with their names resolved
 abbrev pub arguments_of : Job → List DefTree → List ArgTree → Option (List Arg)
 arguments_of job seen args = each (argument_of job seen) args
 
+-- a fault with this code at each of these arguments that is a range
 abbrev pub ranges_faults : JdfCode → List ArgTree → List JdfFault
 ranges_faults code args = flat_map (range_faults code) args
 
+-- the faults of indices
 abbrev pub indices_faults : Job → List DefTree → List ArgTree → List JdfFault
 indices_faults job seen args = flat_map (index_faults job seen) args
 
+-- indices with their names resolved
 abbrev pub indices_of : Job → List DefTree → List ArgTree → Option (List Term)
 indices_of job seen args = each (index_of job seen) args

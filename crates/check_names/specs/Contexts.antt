@@ -2,9 +2,9 @@
 use Rattle.std.specs.Prelude.{◌≡◌, ◌≤◌, ℕ, List, length}
 use Rattle.ptg_base.specs.Limits.{most_locals, most_named_types}
 use Rattle.name_table.specs.Names.{value_named}
+use Rattle.jdf_tree.specs.TreeLimits.{IsWithinLimits}
 use Rattle.check_names.specs.declared.context.Context.{Context}
 use Rattle.check_names.specs.declared.context.Globals.{Globals}
-use Rattle.check_names.specs.Limits.{IsBoundedJdf}
 use Rattle.check_names.specs.Names.{Job, int_named, coll_named}
 
 -- the JDF and its data
@@ -16,10 +16,10 @@ pub record AreGlobals (job : Job) (globals : Globals) : Type 0 where
   pub ints : (name : List ℕ) → value_named globals.ints name ≡ int_named job name
   pub colls : (name : List ℕ) → value_named globals.colls name ≡ coll_named job name
 
--- The tables are those of the JDF and its data, whose lists are not too long, and at most 16 definitions are seen. The
--- data have at most 15 types beside DEFAULT.
+-- The tables are those of the JDF and its data, the JDF is within the limits, and at most 16 definitions are seen. The
+-- data have at most 15 types besides DEFAULT.
 pub record IsContext (context : Context) : Type 0 where
   pub globals : AreGlobals (job_of context) context.globals.now
-  pub bounded : IsBoundedJdf context.jdf.now
+  pub bounded : IsWithinLimits context.jdf.now
   pub seen_at_most : length context.seen.now ≤ most_locals
   pub types_at_most : length context.given.now.types ≤ most_named_types

@@ -28,6 +28,7 @@ abbrev pub definition_faults : Job → List Word → List DefTree → DefTree �
 definition_faults job params before d =
     argument_faults job before d.value ++ fault_if (is_ranged_local params d) d.name.spot RangedLocal
 
+-- the faults of definitions, where these before them are seen
 abbrev pub definitions_faults : Job → List Word → List DefTree → List DefTree → List JdfFault
 definitions_faults job params before [] = []
 definitions_faults job params before (d ∷ defs) =
@@ -38,6 +39,7 @@ abbrev pub definition_of : Job → List DefTree → ArgTree → Option Def
 definition_of job before (tree.One e) = option_map plan.Value (term_of job before e)
 definition_of job before (tree.Span spot lo hi step) = option_map plan.Span (range_of job before lo hi step)
 
+-- definitions with their names resolved, where these before them are seen
 abbrev pub definitions_of : Job → List DefTree → List DefTree → Option (List Def)
 definitions_of job before [] = Some []
 definitions_of job before (d ∷ defs) =

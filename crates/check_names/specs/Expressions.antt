@@ -42,10 +42,11 @@ symbols_of job seen =
       reported = earlier;
     }
 
--- the same of an expression that may be left out
+-- the faults of an expression that may be left out
 abbrev pub option_faults : Job → List DefTree → Option Expression → List JdfFault
 option_faults job seen None = []
 option_faults job seen (Some e) = expression_faults job seen e
 
+-- the term of an expression that may be left out
 abbrev pub option_term : Job → List DefTree → Option Expression → Option (Option Term)
 option_term job seen e = each_option (term_of job seen) e

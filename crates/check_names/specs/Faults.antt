@@ -7,15 +7,15 @@ use denote.Enum.Declared.{tag_of}
 use Rattle.jdf_lex.specs.contracts.fault.JdfCode.{the_type}
 
 -- The number of a code in the order in which the codes are declared: where two fit one place, the first is given.
-abbrev pub rank : JdfCode → ℕ
-rank = tag_of the_type
+abbrev pub code_number : JdfCode → ℕ
+code_number = tag_of the_type
 
 -- whether a fault comes before another: its place does, or it has the same place and a code that does
 abbrev pub is_before : JdfFault → JdfFault → Bool
 is_before f g =
     nat_lt f.spot.line g.spot.line
     || (nat_eq f.spot.line g.spot.line && (nat_lt f.spot.column g.spot.column
-    || (nat_eq f.spot.column g.spot.column && nat_lt (rank f.code) (rank g.code))))
+    || (nat_eq f.spot.column g.spot.column && nat_lt (code_number f.code) (code_number g.code))))
 
 -- the earlier of two faults
 abbrev pub earlier : JdfFault → JdfFault → JdfFault

@@ -2,7 +2,6 @@ pub mod Alphabet
 pub mod Faults
 pub mod Returns
 pub mod Names
-pub mod Limits
 pub mod Contexts
 pub mod Repeats
 pub mod Expressions

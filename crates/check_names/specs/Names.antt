@@ -44,16 +44,18 @@ abbrev pub meaning_of : Job → List DefTree → List ℕ → Meaning
 meaning_of job seen name =
     outer_meaning (local_named seen name) (int_named job name) (is_some (coll_named job name))
 
--- the number of the first class of this name, and the class
+-- the number of the first class of this name
 abbrev pub class_named : Job → List ℕ → Option ℕ
 class_named job name = position (λ (c : ClassTree). word_is name c.name) job.jdf.classes
 
+-- the first class of this name
 abbrev pub class_of : Job → List ℕ → Option ClassTree
 class_of job name = option_and_then (slice_get job.jdf.classes) (class_named job name)
 
--- the number of the first flow of this name in a class, and the flow
+-- the number of the first flow of this name in a class
 abbrev pub flow_named : ClassTree → List ℕ → Option ℕ
 flow_named class name = position (λ (f : FlowTree). word_is name f.name) class.flows
 
+-- the first flow of this name in a class
 abbrev pub flow_of : ClassTree → List ℕ → Option FlowTree
 flow_of class name = option_and_then (slice_get class.flows) (flow_named class name)

@@ -15,5 +15,6 @@ repeats_after word code before [] = []
 repeats_after word code before (x ∷ xs) =
     fault_if (is_taken word before (word x).text) (word x).spot code ++ repeats_after word code (before ++ x ∷ []) xs
 
+-- a fault at each name that is also that of an earlier one of the list
 abbrev pub repeats : {A : Type 0} → (A → Word) → JdfCode → List A → List JdfFault
 repeats word code xs = repeats_after word code [] xs

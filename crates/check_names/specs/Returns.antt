@@ -11,7 +11,7 @@ ReturnsChecked (Ok part) resolved faults = (resolved ≡ Some part) × (faults �
 ReturnsChecked (Err (Fault f)) resolved faults = first_fault faults ≡ Some f
 ReturnsChecked (Err OutOfMemory) resolved faults = Unit {0}
 
--- both, if both are there
+-- the function at two parts, if both are there
 abbrev pub both : {A B C : Type 0} → (A → B → C) → Option A → Option B → Option C
 both f (Some a) (Some b) = Some (f a b)
 both f (Some a) None = None

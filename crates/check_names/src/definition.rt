@@ -1,8 +1,8 @@
 //! The definitions and the parameters of a class.
 
 ghost use Rattle.std.specs.Prelude.{◌≡◌, ◌≤◌, ℕ, List, [], flat_map, length};
+ghost use Rattle.jdf_tree.specs.TreeLimits.{IsClassWithinLimits};
 ghost use Rattle.check_names.specs.Contexts.{IsContext, job_of};
-ghost use Rattle.check_names.specs.Limits.{IsBoundedClass};
 ghost use Rattle.check_names.specs.Returns.{ReturnsChecked, each};
 ghost use Rattle.std.specs.List.{list_any};
 ghost use Rattle.ptg_base.specs.Limits.{most_locals, most_params};
@@ -154,7 +154,7 @@ fn space_by(context: &Context, params: &[Word], defs: &[DefTree]) -> Result<Clas
 /// The space of a class, with its names resolved.
 pub fn space(context: &Context, class: &ClassTree) -> Result<ClassSpace, JdfRefusal>
     requires context { IsContext context.now }
-    requires bounded { IsBoundedClass class.now }
+    requires bounded { IsClassWithinLimits class.now }
     ensures { ReturnsChecked result (space_of (job_of context.now) class.now.params class.now.defs)
         (space_faults (job_of context.now) class.now.params class.now.defs) }
 {

@@ -41,7 +41,7 @@ pub fn term_of(context: &Context, tree: &ExprTree) -> Result<Expr, JdfRefusal>
     expr_names::term_of(context.alloc, context, tree)
 }
 
-/// The same of an expression that may be left out.
+/// The term of an expression that may be left out.
 pub fn option_term(context: &Context, tree: &Option<ExprTree>) -> Result<Option<Expr>, JdfRefusal>
     requires { IsContext context.now }
     ensures { ReturnsChecked result (option_term (job_of context.now) context.now.seen.now tree.now)

@@ -6,7 +6,7 @@ ghost use Rattle.check_names.specs.Returns.{ReturnsChecked};
 
 use jdf_lex::{JdfCode, JdfFault, JdfRefusal, Spot, fault_at};
 
-/// Does a fault come before another, by its spot and then by its code?
+/// Whether a fault comes before another, by its spot and then by its code.
 fn is_before(f: &JdfFault, g: &JdfFault) -> bool
     ensures { result ≡ is_before f.now g.now }
 {

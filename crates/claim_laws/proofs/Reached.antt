@@ -22,13 +22,13 @@ use Rattle.list_lemmas.specs.Counting.{HasSameMembers, as_number}
 use Rattle.flow_meaning.specs.Comparing.{same_item}
 use Rattle.flow_meaning.specs.Ending.{Ended, has_outputs, output_tile}
 use Rattle.flow_meaning.specs.Backward.{ended, ended_within}
-use Rattle.flow_meaning.specs.Machine.{Claim, Event, Happen, IsPossible, MachineState, MayClaim, MaySend, Send, Sent, state_after, claim_count, end_in, is_sent, opening_state, send_count, sender, sent_with, same_sent}
+use Rattle.flow_meaning.specs.Machine.{Claim, Event, Happen, IsPossible, MachineState, MayClaim, MaySend, Send, SentItem, state_after, claim_count, end_in, is_sent, opening_state, send_count, sender, sent_with, same_sent_item}
 use Rattle.flow_meaning.specs.Sound.{IsReached, IsSoundState}
 use Rattle.flow_meaning.proofs.Comparing.{same_item-decides}
 use Rattle.flow_meaning.proofs.Enough.{with_outputs}
 use Rattle.flow_meaning.proofs.Events.{each_arrived, ends_so, happen_sound, member_send, opening_sound, send_member, unsent}
 use Rattle.flow_meaning.proofs.Quiet.{claimed_ends}
-use Rattle.flow_meaning.proofs.Reordering.{same_sent-decides}
+use Rattle.flow_meaning.proofs.Reordering.{same_sent_item-decides}
 use Rattle.flow_meaning.proofs.Rounds.{has_sources}
 
 -- one member fewer is left, where one more is done
@@ -54,20 +54,20 @@ fails_or_passes test (y ∷ ys) =
 
 module _ (P : Plan) (G : Data) (con : IsConsistent P) (S : MachineState) (sound : IsSoundState P G S) where
   -- a state that was reached on the way to S, and what is left to be claimed and sent
-  pub record IsOnTheWay (T : MachineState) (tasks : List Task) (sends : List Sent) : Type 0 where
+  pub record IsOnTheWay (T : MachineState) (tasks : List Task) (sends : List SentItem) : Type 0 where
     pub events : List Event
     pub happen : Happen P G events opening_state T
     pub claims_left : HasSameMembers S.claims (T.claims ++ tasks)
     pub sends_left : HasSameMembers S.sends (T.sends ++ sends)
 
-  module _ (T : MachineState) (tasks : List Task) (sends : List Sent) (way : IsOnTheWay T tasks sends) where
+  module _ (T : MachineState) (tasks : List Task) (sends : List SentItem) (way : IsOnTheWay T tasks sends) where
     sound_there : IsSoundState P G T
     sound_there = happen_sound P G con way.events opening_state T (opening_sound P G) way.happen
 
     -- the next event is a claim or a send of what is left
     pub data IsNext : Type 0 where
       NextClaim : (t : Task) → IsIn t tasks → MayClaim P T t → IsNext
-      NextSend : (x : Sent) → IsIn x sends → MaySend P G T x.item → sent_with P G T x.item ≡ x → IsNext
+      NextSend : (x : SentItem) → IsIn x sends → MaySend P G T x.item → sent_with P G T x.item ≡ x → IsNext
 
     claimed_or_left : (t : Task) → IsIn t S.claims → IsIn t T.claims ⊎ IsIn t tasks
     claimed_or_left t i = from_append t T.claims tasks (same_in same_task same_task-decides S.claims (T.claims ++ tasks) way.claims_left t i)
@@ -75,8 +75,8 @@ module _ (P : Plan) (G : Data) (con : IsConsistent P) (S : MachineState) (sound 
     left_was_claimed : (t : Task) → IsIn t tasks → IsIn t S.claims
     left_was_claimed t i = same_in same_task same_task-decides (T.claims ++ tasks) S.claims (λ f. sym (way.claims_left f)) t (IsIn-append_right t T.claims tasks i)
 
-    sent_or_left : (x : Sent) → IsIn x S.sends → IsIn x T.sends ⊎ IsIn x sends
-    sent_or_left x i = from_append x T.sends sends (same_in same_sent same_sent-decides S.sends (T.sends ++ sends) way.sends_left x i)
+    sent_or_left : (x : SentItem) → IsIn x S.sends → IsIn x T.sends ⊎ IsIn x sends
+    sent_or_left x i = from_append x T.sends sends (same_in same_sent_item same_sent_item-decides S.sends (T.sends ++ sends) way.sends_left x i)
 
     -- a task that is left was not claimed yet
     not_yet : (t : Task) → IsIn t tasks → claim_count T t ≡ 0
@@ -85,7 +85,7 @@ module _ (P : Plan) (G : Data) (con : IsConsistent P) (S : MachineState) (sound 
         omega (arith, sound.claimed_once t, way.claims_left (λ u. as_number (same_task t u)), weigh-append (λ u. as_number (same_task t u)) T.claims tasks)
 
     -- what is left of a task that was claimed may be sent
-    send_next : (x : Sent) → IsIn x S.sends → IsIn (sender x.item) T.claims → is_sent T x.item ≡ false → IsNext
+    send_next : (x : SentItem) → IsIn x S.sends → IsIn (sender x.item) T.claims → is_sent T x.item ≡ false → IsNext
     send_next x i c fresh =
         let o = sound.sent_are_outputs x i in
         let so = ends_so P G con T sound_there (sender x.item) (sound_there.claimed_have_all (sender x.item) c) in
@@ -116,14 +116,14 @@ module _ (P : Plan) (G : Data) (con : IsConsistent P) (S : MachineState) (sound 
               ]
         ]
 
-    left_was_sent : (x : Sent) → IsIn x sends → IsIn x S.sends
-    left_was_sent x i = same_in same_sent same_sent-decides (T.sends ++ sends) S.sends (λ f. sym (way.sends_left f)) x (IsIn-append_right x T.sends sends i)
+    left_was_sent : (x : SentItem) → IsIn x sends → IsIn x S.sends
+    left_was_sent x i = same_in same_sent_item same_sent_item-decides (T.sends ++ sends) S.sends (λ f. sym (way.sends_left f)) x (IsIn-append_right x T.sends sends i)
 
     -- an item that is left was not sent yet
-    not_sent : (x : Sent) → IsIn x sends → is_sent T x.item ≡ false
+    not_sent : (x : SentItem) → IsIn x sends → is_sent T x.item ≡ false
     not_sent x i =
-        let more = count-some (λ (y : Sent). same_item x.item y.item) sends x i ((same_item-decides x.item x.item).1 refl) in
-        let none : send_count T x.item ≡ 0 = omega (arith, sound.sent_once x.item, way.sends_left (λ y. as_number (same_item x.item y.item)), weigh-append (λ (y : Sent). as_number (same_item x.item y.item)) T.sends sends) in
+        let more = count-some (λ (y : SentItem). same_item x.item y.item) sends x i ((same_item-decides x.item x.item).1 refl) in
+        let none : send_count T x.item ≡ 0 = omega (arith, sound.sent_once x.item, way.sends_left (λ y. as_number (same_item x.item y.item)), weigh-append (λ (y : SentItem). as_number (same_item x.item y.item)) T.sends sends) in
         le-ltb 0 (send_count T x.item) (omega (arith, none))
 
     next_claim : (t : Task) → IsIn t tasks → IsNext
@@ -132,7 +132,7 @@ module _ (P : Plan) (G : Data) (con : IsConsistent P) (S : MachineState) (sound 
         let o = some_value (ended P G t) (claimed_ends P G con S sound t (left_was_claimed t i)) in
         next_for (length (all_tasks P)) t i o.0 o.1
 
-    next_sent : tasks ≡ [] → (x : Sent) → IsIn x sends → IsNext
+    next_sent : tasks ≡ [] → (x : SentItem) → IsIn x sends → IsNext
     next_sent none x i =
         let was = left_was_sent x i in
         elim (claimed_or_left (sender x.item) (sound.sent_are_outputs x was).claimed) [
@@ -141,9 +141,9 @@ module _ (P : Plan) (G : Data) (con : IsConsistent P) (S : MachineState) (sound 
         ]
 
   abbrev OnTheWay : ℕ → Type 0
-  OnTheWay k = (T : MachineState) (tasks : List Task) (sends : List Sent) → IsOnTheWay T tasks sends → length tasks + length sends ≡ k → IsReached P G S
+  OnTheWay k = (T : MachineState) (tasks : List Task) (sends : List SentItem) → IsOnTheWay T tasks sends → length tasks + length sends ≡ k → IsReached P G S
 
-  go_on : (k : ℕ) → OnTheWay k → (T : MachineState) (tasks : List Task) (sends : List Sent) (way : IsOnTheWay T tasks sends) → length tasks + length sends ≡ suc k → IsNext T tasks sends way → IsReached P G S
+  go_on : (k : ℕ) → OnTheWay k → (T : MachineState) (tasks : List Task) (sends : List SentItem) (way : IsOnTheWay T tasks sends) → length tasks + length sends ≡ suc k → IsNext T tasks sends way → IsReached P G S
   go_on k ih T tasks sends way size (NextClaim t i may) =
       let rest : IsOnTheWay (state_after P G T (Claim t)) (without t tasks i) sends = record {
         events = way.events ++ Claim t ∷ [];

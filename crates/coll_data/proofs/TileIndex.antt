@@ -4,7 +4,8 @@ use Rattle.std.proofs.lemmas.Int.{ints}
 use Rattle.std.proofs.lemmas.Nat.{row_fits}
 use Rattle.std.proofs.lemmas.Option.{slice_get-get_or}
 use Rattle.std.proofs.lemmas.Bool.Decides.{nat_tests}
-use Rattle.coll_data.specs.Tiles.{tile_count, IsRow, IsColumn, below, tile_index}
+use Rattle.ptg_base.specs.Index.{index_in}
+use Rattle.coll_data.specs.Tiles.{tile_count, IsRow, IsColumn, tile_index}
 use Rattle.list_lemmas.proofs.Truth.{by_test}
 
 pub row_and_column : (row column rows cols : ℕ) → row < rows → column < cols → row * cols + column < rows * cols
@@ -12,18 +13,18 @@ row_and_column row column rows cols h k = let e = row_fits row cols rows cols h 
 
 -- a number is below a limit, as this index, or it is not
 pub record IsIndex (limit : ℕ) (n : ℤ) (k : ℕ) : Type 0 where
-  pub is : below limit n ≡ Some k
+  pub is : index_in limit n ≡ Some k
   pub within : k < limit
   pub row : IsRow limit n
 
-below_cases : (limit : ℕ) (n : ℤ) → ((k : ℕ) × IsIndex limit n k) ⊎ ((below limit n ≡ None) × (IsRow limit n → ⊥))
-below_cases limit (pos m) =
+index_in_cases : (limit : ℕ) (n : ℤ) → ((k : ℕ) × IsIndex limit n k) ⊎ ((index_in limit n ≡ None) × (IsRow limit n → ⊥))
+index_in_cases limit (pos m) =
     by_test (nat_lt m limit)
     (λ h. let lt : m < limit = grind (arith, nat_tests) in
     inl (m, record { is = rw h refl; within = lt; row = (omega (arith, ints), omega (arith, ints)) }))
     (λ h. let ge : limit ≤ m = grind (arith, nat_tests) in
     inr (rw h refl, λ w. let u = w.1 in omega (arith, ints)))
-below_cases limit (negsuc m) = inr (refl, λ w. let u = w.0 in omega (arith, ints))
+index_in_cases limit (negsuc m) = inr (refl, λ w. let u = w.0 in omega (arith, ints))
 
 column_zero : (j : ℤ) → IsRow 1 j → j ≡ pos 0
 column_zero (pos zero) w = refl
@@ -39,15 +40,15 @@ pub record HasIndex (rows : ℕ) (cols : Option ℕ) (i j : ℤ) : Type 0 where
   pub column : IsColumn cols j
 
 index_cases : (rows : ℕ) (cols : Option ℕ) (i j : ℤ) → HasIndex rows cols i j ⊎ ((tile_index rows cols i j ≡ None) × (IsRow rows i → IsColumn cols j → ⊥))
-index_cases rows None i j = elim (below_cases 1 j) [
-  | inl p ↦ elim (below_cases rows i) [
+index_cases rows None i j = elim (index_in_cases 1 j) [
+  | inl p ↦ elim (index_in_cases rows i) [
     | inl q ↦ inl (record { index = q.0; is = rw (p.1.is) q.1.is; within = q.1.within; row = q.1.row; column = column_zero j p.1.row })
     | inr n ↦ inr (rw (p.1.is) n.0, λ r c. n.1 r)
   ]
   | inr n ↦ inr (rw (n.0) refl, λ r c. n.1 (rw c (omega (arith, ints), omega (arith, ints))))
 ]
-index_cases rows (Some cols) i j = elim (below_cases cols j) [
-  | inl p ↦ elim (below_cases rows i) [
+index_cases rows (Some cols) i j = elim (index_in_cases cols j) [
+  | inl p ↦ elim (index_in_cases rows i) [
     | inl q ↦ inl (record { index = q.0 * cols + p.0; is = rw (p.1.is, q.1.is) refl; within = row_and_column q.0 p.0 rows cols q.1.within p.1.within; row = q.1.row; column = p.1.row })
     | inr n ↦ inr (rw (p.1.is, n.0) refl, λ r c. n.1 r)
   ]

@@ -9,4 +9,4 @@ pub record Data : Type 0 where
   pub elems : ℕ
   pub ints : List (List ℕ × ℤ)
   pub colls : List Coll
-  pub rows_read : ℕ
+  pub records_read : ℕ

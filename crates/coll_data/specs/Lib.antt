@@ -1,4 +1,5 @@
 pub mod Data
+pub mod Types
 pub mod Tiles
 pub mod WellMade
 pub mod Replacing

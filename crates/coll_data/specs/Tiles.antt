@@ -1,5 +1,6 @@
 -- The places of data and the tiles at them; tiles are listed row by row. Source: this project's own choice.
-use Rattle.std.specs.Prelude.{ℕ, ℤ, pos, negsuc, ◌+◌, ◌*◌, nat_lt, List, Option, Some, None, slice_get, option_map, option_and_then, if◌then◌else◌}
+use Rattle.std.specs.Prelude.{ℕ, ℤ, ◌+◌, ◌*◌, List, Option, Some, None, slice_get, option_map, option_and_then}
+use Rattle.ptg_base.specs.Index.{index_in}
 use Rattle.ptg_base.specs.declared.place.Place.{Place}
 pub use Rattle.ptg_base.specs.Places.{IsRow, IsColumn, tile_count}
 use Rattle.ptg_base.specs.Places.{HasPlaceAmong}
@@ -9,17 +10,12 @@ use Rattle.coll_data.specs.declared.coll.Coll.{Coll}
 abbrev pub HasPlace : List Coll → Place → Type 0
 HasPlace colls p = HasPlaceAmong (λ (c : Coll). c.shape.0) (λ (c : Coll). c.shape.1) colls p
 
--- a whole number from 0 on, if it is below the limit
-abbrev pub below : ℕ → ℤ → Option ℕ
-below limit (pos n) = if nat_lt n limit then Some n else None
-below limit (negsuc n) = None
-
 -- the index of the tile in row i and column j: all tiles of the rows before it come first, and those before it in its
 -- row
 abbrev pub tile_index : ℕ → Option ℕ → ℤ → ℤ → Option ℕ
-tile_index rows None i j = option_and_then (λ column. below rows i) (below 1 j)
+tile_index rows None i j = option_and_then (λ column. index_in rows i) (index_in 1 j)
 tile_index rows (Some cols) i j =
-    option_and_then (λ column. option_map (λ row. row * cols + column) (below rows i)) (below cols j)
+    option_and_then (λ column. option_map (λ row. row * cols + column) (index_in rows i)) (index_in cols j)
 
 -- the tile at a place, if there is one
 abbrev pub tile_at : List Coll → Place → Option (List ℤ)

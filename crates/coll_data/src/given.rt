@@ -21,7 +21,7 @@ pub struct Given {
     elems: u32,
     ints: Seq<(Text, i64)>,
     colls: Seq<Coll>,
-    rows_read: u64,
+    records_read: u64,
 }
 
 impl Drop for Given {
@@ -31,7 +31,7 @@ impl Drop for Given {
             elems: _elems,
             ints: _ints,
             colls: _colls,
-            rows_read: _rows_read,
+            records_read: _records_read,
         } = self;
     }
 }
@@ -43,11 +43,11 @@ impl Model for Given {
     ghost Value = { Data };
 
     ghost view = { λ g.
-        record { types = g.types; elems = g.elems; ints = g.ints; colls = g.colls; rows_read = g.rows_read } };
+        record { types = g.types; elems = g.elems; ints = g.ints; colls = g.colls; records_read = g.records_read } };
 
     ghost invariant = { λ g.
         IsWellMade
-        (record { types = g.types; elems = g.elems; ints = g.ints; colls = g.colls; rows_read = g.rows_read }) };
+        (record { types = g.types; elems = g.elems; ints = g.ints; colls = g.colls; records_read = g.records_read }) };
 }
 
 impl Given {
@@ -58,18 +58,19 @@ impl Given {
         elems: u32,
         ints: Seq<(Text, i64)>,
         colls: Seq<Coll>,
-        rows_read: u64,
+        records_read: u64,
     ) -> Given
         requires { IsWellMade
-            (record { types = types; elems = elems; ints = ints; colls = colls; rows_read = rows_read }) }
-        ensures { result ≡ record { types = types; elems = elems; ints = ints; colls = colls; rows_read = rows_read } }
+            (record { types = types; elems = elems; ints = ints; colls = colls; records_read = records_read }) }
+        ensures { result ≡
+            record { types = types; elems = elems; ints = ints; colls = colls; records_read = records_read } }
     {
         Given {
             types,
             elems,
             ints,
             colls,
-            rows_read,
+            records_read,
         }
     }
 
@@ -96,7 +97,7 @@ impl Given {
     }
 
     /// A law: data are well made.
-    pub fn is_well_made(&self)
+    pub fn data_are_well_made(&self)
         ensures { IsWellMade self.now }
     {
         let _ = &self.types;
@@ -110,10 +111,10 @@ impl Given {
     }
 
     /// The number of records that were read.
-    pub fn rows_read(&self) -> u64
-        ensures { result ≡ self.now.rows_read }
+    pub fn records_read(&self) -> u64
+        ensures { result ≡ self.now.records_read }
     {
-        self.rows_read
+        self.records_read
     }
 
     /// The number of elements of a type; type 0 is DEFAULT, and the others follow in order.
@@ -153,7 +154,7 @@ impl Given {
             elems,
             ints,
             colls,
-            rows_read,
+            records_read,
         } = self;
         let mut colls = colls.into_vec();
         let coll = &mut colls[place.coll as usize];
@@ -163,7 +164,7 @@ impl Given {
             elems,
             ints,
             colls: Seq::of(colls),
-            rows_read,
+            records_read,
         }
     }
 }

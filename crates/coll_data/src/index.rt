@@ -2,18 +2,9 @@
 
 ghost use Rattle.std.specs.Prelude.{◌≡◌, ◌≤◌};
 ghost use Rattle.ptg_base.specs.Limits.{most_tiles};
-ghost use Rattle.coll_data.specs.Tiles.{below, tile_count, tile_index};
+ghost use Rattle.coll_data.specs.Tiles.{tile_count, tile_index};
 
-// The number as an index below the limit, if it is one.
-fn below(limit: u32, n: i64) -> Option<usize>
-    ensures { result ≡ below limit n }
-{
-    if 0 <= n && n < i64::from(limit) {
-        Some(n as usize)
-    } else {
-        None
-    }
-}
+use ptg_base::index_in;
 
 /// The number of tiles of a collection, by its rows and columns; there are no columns in one dimension.
 pub fn tile_count(rows: u32, cols: Option<u32>) -> u32
@@ -32,13 +23,14 @@ pub fn tile_index(rows: u32, cols: Option<u32>, i: i64, j: i64) -> Option<usize>
 {
     match cols {
         None => {
-            let _column = below(1, j)?;
-            below(rows, i)
+            let _column = index_in(1, j)?;
+            let row = index_in(rows, i)?;
+            Some(row as usize)
         }
         Some(cols) => {
-            let column = below(cols, j)?;
-            let row = below(rows, i)?;
-            Some(row * cols as usize + column)
+            let column = index_in(cols, j)?;
+            let row = index_in(rows, i)?;
+            Some(row as usize * cols as usize + column as usize)
         }
     }
 }

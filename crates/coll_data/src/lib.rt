@@ -6,8 +6,10 @@ mod fault;
 mod given;
 mod index;
 mod sums;
+mod types;
 
 pub use coll::Coll;
 pub use fault::{DataCode, DataFault, DataRefusal};
 pub use given::Given;
 pub use index::{tile_count, tile_index};
+pub use types::DEFAULT_TYPE;

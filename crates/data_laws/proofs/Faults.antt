@@ -6,30 +6,30 @@ use Rattle.coll_data.specs.declared.fault.DataFault.{DataFault}
 use Rattle.data_read.specs.Draft.{Draft, begun}
 use Rattle.data_read.specs.Records.{first_record, later_record}
 use Rattle.data_read.specs.Reading.{all_records, as_data, data_of, later_records, records_of, then_at}
-use Rattle.data_laws.specs.WholeRecords.{Row, data_of_records}
+use Rattle.data_laws.specs.WholeRecords.{Record, data_of_records}
 use Rattle.data_laws.specs.WholeTexts.{HasFaultAfter, HasNoRecord, IsFirstFault}
 use Rattle.data_laws.proofs.FirstCodes.{code_is_fault, code_is_fault_at_start, fault_at_start_has_code, fault_has_code}
 use Rattle.data_laws.proofs.AllRecords.{are_read, read_all}
 use Rattle.data_read.proofs.Choices.{no_value}
 use Rattle.list_lemmas.proofs.Options.{by_result, same_Ok, same_Err}
 
--- the fault of one of the records from this row on
-record IsLaterFault (row : ℕ) (d : Draft) (rows : List Row) (fault : DataFault) : Type 0 where
-  before : List Row
-  fields : Row
-  after : List Row
-  here : rows ≡ before ++ fields ∷ after
+-- the fault of one of the records from that of this number on
+record IsLaterFault (row : ℕ) (d : Draft) (records : List Record) (fault : DataFault) : Type 0 where
+  before : List Record
+  fields : Record
+  after : List Record
+  here : records ≡ before ++ fields ∷ after
   number : fault.row ≡ row + length before
   draft : Draft
   is_draft : later_records row d before ≡ Ok draft
   has : later_record draft fields ≡ Err fault.code
 
-later_fault : (row : ℕ) (d : Draft) (rows : List Row) (fault : DataFault) → later_records row d rows ≡ Err fault → IsLaterFault row d rows fault
+later_fault : (row : ℕ) (d : Draft) (records : List Record) (fault : DataFault) → later_records row d records ≡ Err fault → IsLaterFault row d records fault
 later_fault row d [] fault is = absurd cc
-later_fault row d (fields ∷ rows) fault is =
+later_fault row d (fields ∷ records) fault is =
     by_result (later_record d fields)
     (λ next h.
-    let later = later_fault (row + 1) next rows fault (rw h at is) in
+    let later = later_fault (row + 1) next records fault (rw h at is) in
     let n = later.number in
     record {
       before = fields ∷ later.before;
@@ -47,7 +47,7 @@ later_fault row d (fields ∷ rows) fault is =
     record {
       before = [];
       fields = fields;
-      after = rows;
+      after = records;
       here = refl;
       number = omega arith;
       draft = d;
@@ -56,20 +56,20 @@ later_fault row d (fields ∷ rows) fault is =
     })
 
 -- the data before a fault are those of the records before it
-fault_after : (first : Row) (rows : List Row) (row : Row) (code : DataCode) (draft : Draft) → all_records (first ∷ rows) ≡ Ok draft → later_record draft row ≡ Err code → HasFaultAfter (first ∷ rows) row code
-fault_after first rows row code draft is has =
-    let read = are_read first rows draft is in
-    (read.elems, read.is_first, read.none_fits, fault_has_code (data_of_records read.elems rows) row code (ap (λ (d : Draft). later_record d row) (sym read.is) ∙ has))
+fault_after : (first : Record) (records : List Record) (fields : Record) (code : DataCode) (draft : Draft) → all_records (first ∷ records) ≡ Ok draft → later_record draft fields ≡ Err code → HasFaultAfter (first ∷ records) fields code
+fault_after first records fields code draft is has =
+    let read = are_read first records draft is in
+    (read.elems, read.is_first, read.none_fits, fault_has_code (data_of_records read.elems records) fields code (ap (λ (d : Draft). later_record d fields) (sym read.is) ∙ has))
 
-at_first : (first : Row) (rows : List Row) (fault : DataFault) → all_records (first ∷ rows) ≡ Err fault → IsFirstFault (first ∷ rows) fault
-at_first first rows fault is =
+at_first : (first : Record) (records : List Record) (fault : DataFault) → all_records (first ∷ records) ≡ Err fault → IsFirstFault (first ∷ records) fault
+at_first first records fault is =
     by_result (first_record first)
     (λ elements h.
-    let later = later_fault 2 (begun elements) rows fault (rw h at is) in
+    let later = later_fault 2 (begun elements) records fault (rw h at is) in
     let n = later.number in
     record {
       before = first ∷ later.before;
-      row = later.fields;
+      fields = later.fields;
       after = later.after;
       here = ap (λ rs. first ∷ rs) later.here;
       number = omega arith;
@@ -79,22 +79,22 @@ at_first first rows fault is =
     (λ code h.
     let same = same_Err (record { row = 1; code = code }) fault (rw h at is) in
     let n : 1 ≡ fault.row = ap (λ (f : DataFault). f.row) same in
-    record { before = []; row = first; after = rows; here = refl; number = omega arith; has = fault_at_start_has_code first fault.code (h ∙ ap (λ (f : DataFault). Err f.code) same) })
+    record { before = []; fields = first; after = records; here = refl; number = omega arith; has = fault_at_start_has_code first fault.code (h ∙ ap (λ (f : DataFault). Err f.code) same) })
 
 no_data : (n : ℕ) (r : Result Draft DataFault) (fault : DataFault) → as_data n r ≡ Err fault → r ≡ Err fault
 no_data n (Ok d) fault is = absurd cc
 no_data n (Err f) fault is = ap (λ (g : DataFault). Err g) (same_Err f fault is)
 
-in_rows : (rows : List Row) (fault : DataFault) → all_records rows ≡ Err fault → HasNoRecord rows fault ⊎ IsFirstFault rows fault
-in_rows [] fault is = inl (refl, sym (same_Err (record { row = 1; code = NoElems }) fault is))
-in_rows (first ∷ rows) fault is = inr (at_first first rows fault is)
+in_records : (records : List Record) (fault : DataFault) → all_records records ≡ Err fault → HasNoRecord records fault ⊎ IsFirstFault records fault
+in_records [] fault is = inl (refl, sym (same_Err (record { row = 1; code = NoElems }) fault is))
+in_records (first ∷ records) fault is = inr (at_first first records fault is)
 
 pub fault_is_first : (text : List ℕ) (fault : DataFault) → data_of text ≡ Err fault → HasNoRecord (records_of text) fault ⊎ IsFirstFault (records_of text) fault
-fault_is_first text fault is = in_rows (records_of text) fault (no_data (length (records_of text)) (all_records (records_of text)) fault is)
+fault_is_first text fault is = in_records (records_of text) fault (no_data (length (records_of text)) (all_records (records_of text)) fault is)
 
 -- ---- back
 
-later_is_fault : (row : ℕ) (d draft : Draft) (before after : List Row) (fields : Row) (code : DataCode) → later_records row d before ≡ Ok draft → later_record draft fields ≡ Err code
+later_is_fault : (row : ℕ) (d draft : Draft) (before after : List Record) (fields : Record) (code : DataCode) → later_records row d before ≡ Ok draft → later_record draft fields ≡ Err code
     → later_records row d (before ++ fields ∷ after) ≡ Err (record { row = row + length before; code = code })
 later_is_fault row d draft [] after fields code is has =
     let same : d ≡ draft = same_Ok d draft is in
@@ -108,14 +108,14 @@ later_is_fault row d draft (r ∷ before) after fields code is has =
     ∙ ap (λ n. Err (record { row = n; code = code })) (let n : row + 1 + length before ≡ row + length (r ∷ before) = omega arith in n))
     (λ code h. let s = rw h at is in no_value s)
 
-rows_are_fault : (before after : List Row) (row : Row) (code : DataCode) → HasFaultAfter before row code → all_records (before ++ row ∷ after) ≡ Err (record { row = length before + 1; code = code })
-rows_are_fault [] after row code has = ap (λ r. then_at 1 r (λ e. later_records 2 (begun e) after)) (code_is_fault_at_start row code has)
-rows_are_fault (first ∷ before) after row code has =
+records_are_fault : (before after : List Record) (fields : Record) (code : DataCode) → HasFaultAfter before fields code → all_records (before ++ fields ∷ after) ≡ Err (record { row = length before + 1; code = code })
+records_are_fault [] after fields code has = ap (λ r. then_at 1 r (λ e. later_records 2 (begun e) after)) (code_is_fault_at_start fields code has)
+records_are_fault (first ∷ before) after fields code has =
     let is = read_all first before has.0 has.1 has.2 in
     by_result (first_record first)
     (λ elements h.
-    let more = later_is_fault 2 (begun elements) (data_of_records has.0 before) before after row code (rw h at is) (code_is_fault (data_of_records has.0 before) row code has.3) in
-    ap (λ x. then_at 1 x (λ e. later_records 2 (begun e) (before ++ row ∷ after))) h ∙ more
+    let more = later_is_fault 2 (begun elements) (data_of_records has.0 before) before after fields code (rw h at is) (code_is_fault (data_of_records has.0 before) fields code has.3) in
+    ap (λ x. then_at 1 x (λ e. later_records 2 (begun e) (before ++ fields ∷ after))) h ∙ more
     ∙ ap (λ n. Err (record { row = n; code = code })) (let n : 2 + length before ≡ length (first ∷ before) + 1 = omega arith in n))
     (λ code h. let s = rw h at is in no_value s)
 
@@ -125,7 +125,7 @@ as_fault n r fault e = rw e refl
 first_is_fault : (text : List ℕ) (fault : DataFault) → IsFirstFault (records_of text) fault → data_of text ≡ Err fault
 first_is_fault text fault first =
     as_fault (length (records_of text)) (all_records (records_of text)) fault
-    (ap all_records first.here ∙ rows_are_fault first.before first.after first.row fault.code first.has
+    (ap all_records first.here ∙ records_are_fault first.before first.after first.fields fault.code first.has
     ∙ ap (λ n. Err (record { row = n; code = fault.code })) (sym first.number))
 
 pub is_fault : (text : List ℕ) (fault : DataFault) → HasNoRecord (records_of text) fault ⊎ IsFirstFault (records_of text) fault → data_of text ≡ Err fault

@@ -3,13 +3,14 @@ use Rattle.std.specs.Prelude.{◌==◌, ◌&&◌, ◌||◌, ◌-◌, ◌*◌, na
 use Rattle.std.proofs.Common.{◌≡◌, ℕ, ◌+◌, Bool, true, false, not, List, length, drop, codes, Option, Some, None, Result, Ok, Err, refl, sym, ◌∙◌, ap}
 use Rattle.std.specs.Option.{option_and_then, option_map, option_map_or}
 use Rattle.ptg_base.specs.Limits.{most_elements}
+use Rattle.coll_data.specs.Types.{default_type}
 use Rattle.coll_data.specs.Tiles.{tile_count}
 use Rattle.coll_data.specs.declared.fault.DataCode.{DataCode}
 use Rattle.coll_data.specs.declared.fault.DataCode.TheVariants.{BadName, NameTwice, UnknownType, BadNumber, TooManyTiles, TooManyElements}
 use Rattle.data_read.specs.Fields.{field, is_name, whole}
 use Rattle.data_read.specs.Draft.{Draft, coll_named, is_new, slot_at, type_named}
 use Rattle.data_read.specs.Records.{coll_of, coll_record, collof_record, column, columns, element_count, first_record, first_value, int_record, later_record, numbers, shape_of, tile_record, type_record}
-use Rattle.data_laws.specs.WholeRecords.{Row, begins}
+use Rattle.data_laws.specs.WholeRecords.{Record, begins}
 use Rattle.data_laws.specs.Codes.{all_codes, both_pass, code_of, first_code, first_code_at_start}
 use Rattle.data_read.proofs.Choices.{by_option}
 use Rattle.list_lemmas.proofs.Truth.{by_test}
@@ -22,23 +23,23 @@ has_code (Err c) code e = let same : c ≡ code = cc in ap (λ x. Err x) same
 
 -- ---- types
 
-type_code : (d : Draft) (row : Row) → begins (codes "elems") row ≡ true → code_of (type_record d row) ≡ first_code d row
-type_code d row w =
-    let i = bytes_eq-apart (field row 0) (codes "elems") (codes "int") w refl in
-    let c = bytes_eq-apart (field row 0) (codes "elems") (codes "coll") w refl in
-    let o = bytes_eq-apart (field row 0) (codes "elems") (codes "collof") w refl in
-    let t = bytes_eq-apart (field row 0) (codes "elems") (codes "tile") w refl in
-    by_test (length row == 2)
+type_code : (d : Draft) (fields : Record) → begins (codes "elems") fields ≡ true → code_of (type_record d fields) ≡ first_code d fields
+type_code d fields w =
+    let i = bytes_eq-apart (field fields 0) (codes "elems") (codes "int") w refl in
+    let c = bytes_eq-apart (field fields 0) (codes "elems") (codes "coll") w refl in
+    let o = bytes_eq-apart (field fields 0) (codes "elems") (codes "collof") w refl in
+    let t = bytes_eq-apart (field fields 0) (codes "elems") (codes "tile") w refl in
+    by_test (length fields == 2)
     (λ two. rw (w, i, c, o, t, two) refl)
     (λ two.
-    by_test (length row == 3)
+    by_test (length fields == 3)
     (λ three.
-    by_option (element_count (field row 2))
+    by_option (element_count (field fields 2))
     (λ none. rw (w, i, c, o, t, two, three, none) refl)
     (λ n count.
-    by_test (is_name (field row 1))
+    by_test (is_name (field fields 1))
     (λ named.
-    by_option (type_named d (field row 1))
+    by_option (type_named d (field fields 1))
     (λ new.
     by_test (nat_lt (length d.types) 15)
     (λ room. rw (w, i, c, o, t, two, three, count, named, new, room) refl)
@@ -49,19 +50,19 @@ type_code d row w =
 
 -- ---- integers
 
-int_code : (d : Draft) (row : Row) → begins (codes "int") row ≡ true → code_of (int_record d row) ≡ first_code d row
-int_code d row w =
-    let e = bytes_eq-apart (field row 0) (codes "int") (codes "elems") w refl in
-    let c = bytes_eq-apart (field row 0) (codes "int") (codes "coll") w refl in
-    let o = bytes_eq-apart (field row 0) (codes "int") (codes "collof") w refl in
-    let t = bytes_eq-apart (field row 0) (codes "int") (codes "tile") w refl in
-    by_test (length row == 3)
+int_code : (d : Draft) (fields : Record) → begins (codes "int") fields ≡ true → code_of (int_record d fields) ≡ first_code d fields
+int_code d fields w =
+    let e = bytes_eq-apart (field fields 0) (codes "int") (codes "elems") w refl in
+    let c = bytes_eq-apart (field fields 0) (codes "int") (codes "coll") w refl in
+    let o = bytes_eq-apart (field fields 0) (codes "int") (codes "collof") w refl in
+    let t = bytes_eq-apart (field fields 0) (codes "int") (codes "tile") w refl in
+    by_test (length fields == 3)
     (λ three.
-    by_test (is_name (field row 1))
+    by_test (is_name (field fields 1))
     (λ named.
-    by_test (is_new d (field row 1))
+    by_test (is_new d (field fields 1))
     (λ new.
-    by_option (whole (field row 2))
+    by_option (whole (field fields 2))
     (λ none. rw (e, w, c, o, t, three, named, new, none) refl)
     (λ z number. rw (e, w, c, o, t, three, named, new, number) refl))
     (λ taken. rw (e, w, c, o, t, three, named, taken) refl))
@@ -72,35 +73,35 @@ int_code d row w =
 
 -- whether a code fits a record of a collection of the type of this name, whose own name is the field of the number
 -- given; `|| false` is what the tests of other words leave
-abbrev coll_fits : Draft → Row → List ℕ → ℕ → DataCode → Bool
-coll_fits d row type at BadName = not (is_name type && is_name (field row at)) || false
-coll_fits d row type at NameTwice = not (is_new d (field row at))
-coll_fits d row type at UnknownType = is_none (type_named d type)
-coll_fits d row type at BadNumber = (is_none (whole (field row (at + 1))) || is_none (columns row (at + 1 + 1))) || false
-coll_fits d row type at TooManyTiles = both_pass (λ rows cols. is_none (shape_of rows cols)) (whole (field row (at + 1))) (columns row (at + 1 + 1))
-coll_fits d row type at TooManyElements =
+abbrev coll_fits : Draft → Record → List ℕ → ℕ → DataCode → Bool
+coll_fits d fields type at BadName = not (is_name type && is_name (field fields at)) || false
+coll_fits d fields type at NameTwice = not (is_new d (field fields at))
+coll_fits d fields type at UnknownType = is_none (type_named d type)
+coll_fits d fields type at BadNumber = (is_none (whole (field fields (at + 1))) || is_none (columns fields (at + 1 + 1))) || false
+coll_fits d fields type at TooManyTiles = both_pass (λ rows cols. is_none (shape_of rows cols)) (whole (field fields (at + 1))) (columns fields (at + 1 + 1))
+coll_fits d fields type at TooManyElements =
     option_map_or (λ n. not (nat_le (d.elements + n) most_elements))
     (option_and_then
     (λ (known : ℕ × ℕ).
     option_map (λ (s : ℕ × Option ℕ). tile_count s.0 s.1 * known.1)
-    (option_and_then (λ rows. option_and_then (shape_of rows) (columns row (at + 1 + 1))) (whole (field row (at + 1)))))
+    (option_and_then (λ rows. option_and_then (shape_of rows) (columns fields (at + 1 + 1))) (whole (field fields (at + 1)))))
     (type_named d type))
     false
-coll_fits d row type at code = false
+coll_fits d fields type at code = false
 
-coll_of_code : (d : Draft) (row : Row) (type : List ℕ) (at : ℕ) → code_of (coll_of d type row at) ≡ find (coll_fits d row type at) all_codes
-coll_of_code d row type at =
-    by_test (is_name type && is_name (field row at))
+coll_of_code : (d : Draft) (fields : Record) (type : List ℕ) (at : ℕ) → code_of (coll_of d type fields at) ≡ find (coll_fits d fields type at) all_codes
+coll_of_code d fields type at =
+    by_test (is_name type && is_name (field fields at))
     (λ named.
-    by_test (is_new d (field row at))
+    by_test (is_new d (field fields at))
     (λ new.
     by_option (type_named d type)
     (λ none. rw (named, new, none) refl)
     (λ known hk.
-    by_option (whole (field row (at + 1)))
+    by_option (whole (field fields (at + 1)))
     (λ none. rw (named, new, hk, none) refl)
     (λ rs hr.
-    by_option (columns row (at + 1 + 1))
+    by_option (columns fields (at + 1 + 1))
     (λ none. rw (named, new, hk, hr, none) refl)
     (λ cs hc.
     by_option (shape_of rs cs)
@@ -112,52 +113,52 @@ coll_of_code d row type at =
     (λ taken. rw (named, taken) refl))
     (λ unnamed. rw unnamed refl)
 
-coll_code : (d : Draft) (row : Row) → begins (codes "coll") row ≡ true → code_of (coll_record d row) ≡ first_code d row
-coll_code d row w =
-    let e = bytes_eq-apart (field row 0) (codes "coll") (codes "elems") w refl in
-    let i = bytes_eq-apart (field row 0) (codes "coll") (codes "int") w refl in
-    let o = bytes_eq-apart (field row 0) (codes "coll") (codes "collof") w refl in
-    let t = bytes_eq-apart (field row 0) (codes "coll") (codes "tile") w refl in
-    by_test ((length row == 3) || (length row == 4))
-    (λ count. rw (e, i, w, o, t, count) (coll_of_code d row (codes "DEFAULT") 1))
+coll_code : (d : Draft) (fields : Record) → begins (codes "coll") fields ≡ true → code_of (coll_record d fields) ≡ first_code d fields
+coll_code d fields w =
+    let e = bytes_eq-apart (field fields 0) (codes "coll") (codes "elems") w refl in
+    let i = bytes_eq-apart (field fields 0) (codes "coll") (codes "int") w refl in
+    let o = bytes_eq-apart (field fields 0) (codes "coll") (codes "collof") w refl in
+    let t = bytes_eq-apart (field fields 0) (codes "coll") (codes "tile") w refl in
+    by_test ((length fields == 3) || (length fields == 4))
+    (λ count. rw (e, i, w, o, t, count) (coll_of_code d fields default_type 1))
     (λ count. rw (e, i, w, o, t, count) refl)
 
-collof_code : (d : Draft) (row : Row) → begins (codes "collof") row ≡ true → code_of (collof_record d row) ≡ first_code d row
-collof_code d row w =
-    let e = bytes_eq-apart (field row 0) (codes "collof") (codes "elems") w refl in
-    let i = bytes_eq-apart (field row 0) (codes "collof") (codes "int") w refl in
-    let c = bytes_eq-apart (field row 0) (codes "collof") (codes "coll") w refl in
-    let t = bytes_eq-apart (field row 0) (codes "collof") (codes "tile") w refl in
-    by_test ((length row == 4) || (length row == 5))
-    (λ count. rw (e, i, c, w, t, count) (coll_of_code d row (field row 1) 2))
+collof_code : (d : Draft) (fields : Record) → begins (codes "collof") fields ≡ true → code_of (collof_record d fields) ≡ first_code d fields
+collof_code d fields w =
+    let e = bytes_eq-apart (field fields 0) (codes "collof") (codes "elems") w refl in
+    let i = bytes_eq-apart (field fields 0) (codes "collof") (codes "int") w refl in
+    let c = bytes_eq-apart (field fields 0) (codes "collof") (codes "coll") w refl in
+    let t = bytes_eq-apart (field fields 0) (codes "collof") (codes "tile") w refl in
+    by_test ((length fields == 4) || (length fields == 5))
+    (λ count. rw (e, i, c, w, t, count) (coll_of_code d fields (field fields 1) 2))
     (λ count. rw (e, i, c, w, t, count) refl)
 
 -- ---- tiles
 
-tile_code : (d : Draft) (row : Row) → begins (codes "tile") row ≡ true → code_of (tile_record d row) ≡ first_code d row
-tile_code d row w =
-    let e = bytes_eq-apart (field row 0) (codes "tile") (codes "elems") w refl in
-    let i = bytes_eq-apart (field row 0) (codes "tile") (codes "int") w refl in
-    let c = bytes_eq-apart (field row 0) (codes "tile") (codes "coll") w refl in
-    let o = bytes_eq-apart (field row 0) (codes "tile") (codes "collof") w refl in
-    by_test (nat_le 4 (length row))
+tile_code : (d : Draft) (fields : Record) → begins (codes "tile") fields ≡ true → code_of (tile_record d fields) ≡ first_code d fields
+tile_code d fields w =
+    let e = bytes_eq-apart (field fields 0) (codes "tile") (codes "elems") w refl in
+    let i = bytes_eq-apart (field fields 0) (codes "tile") (codes "int") w refl in
+    let c = bytes_eq-apart (field fields 0) (codes "tile") (codes "coll") w refl in
+    let o = bytes_eq-apart (field fields 0) (codes "tile") (codes "collof") w refl in
+    by_test (nat_le 4 (length fields))
     (λ four.
-    by_test (is_name (field row 1))
+    by_test (is_name (field fields 1))
     (λ named.
-    by_option (coll_named d (field row 1))
+    by_option (coll_named d (field fields 1))
     (λ none. rw (e, i, c, o, w, four, named, none) refl)
     (λ known hk.
     let coll = known.1 in
     let first = first_value coll.shape.1 in
-    by_test (nat_le 1 (length row - first) && nat_le (length row - first) coll.elements)
+    by_test (nat_le 1 (length fields - first) && nat_le (length fields - first) coll.elements)
     (λ few.
-    by_option (whole (field row 2))
+    by_option (whole (field fields 2))
     (λ none. rw (e, i, c, o, w, four, named, hk, few, none) refl)
     (λ x hx.
-    by_option (column coll.shape.1 row)
+    by_option (column coll.shape.1 fields)
     (λ none. rw (e, i, c, o, w, four, named, hk, few, hx, none) refl)
     (λ y hy.
-    by_option (numbers (drop first row))
+    by_option (numbers (drop first fields))
     (λ none. rw (e, i, c, o, w, four, named, hk, few, hx, hy, none) refl)
     (λ values hv.
     by_option (slot_at coll x y)
@@ -172,34 +173,34 @@ tile_code d row w =
 
 -- ---- any record
 
-pub first_code_is : (d : Draft) (row : Row) → code_of (later_record d row) ≡ first_code d row
-first_code_is d row =
-    by_test (begins (codes "elems") row)
-    (λ h. is_kind (type_record d row) (later_record d row) (rw h refl) (type_code d row h))
+pub first_code_is : (d : Draft) (fields : Record) → code_of (later_record d fields) ≡ first_code d fields
+first_code_is d fields =
+    by_test (begins (codes "elems") fields)
+    (λ h. is_kind (type_record d fields) (later_record d fields) (rw h refl) (type_code d fields h))
     (λ e.
-    by_test (begins (codes "int") row)
-    (λ h. is_kind (int_record d row) (later_record d row) (rw (e, h) refl) (int_code d row h))
+    by_test (begins (codes "int") fields)
+    (λ h. is_kind (int_record d fields) (later_record d fields) (rw (e, h) refl) (int_code d fields h))
     (λ i.
-    by_test (begins (codes "coll") row)
-    (λ h. is_kind (coll_record d row) (later_record d row) (rw (e, i, h) refl) (coll_code d row h))
+    by_test (begins (codes "coll") fields)
+    (λ h. is_kind (coll_record d fields) (later_record d fields) (rw (e, i, h) refl) (coll_code d fields h))
     (λ c.
-    by_test (begins (codes "collof") row)
-    (λ h. is_kind (collof_record d row) (later_record d row) (rw (e, i, c, h) refl) (collof_code d row h))
+    by_test (begins (codes "collof") fields)
+    (λ h. is_kind (collof_record d fields) (later_record d fields) (rw (e, i, c, h) refl) (collof_code d fields h))
     (λ o.
-    by_test (begins (codes "tile") row)
-    (λ h. is_kind (tile_record d row) (later_record d row) (rw (e, i, c, o, h) refl) (tile_code d row h))
+    by_test (begins (codes "tile") fields)
+    (λ h. is_kind (tile_record d fields) (later_record d fields) (rw (e, i, c, o, h) refl) (tile_code d fields h))
     (λ t. rw (e, i, c, o, t) refl)))))
   where
-    is_kind : (kind all : Result Draft DataCode) → all ≡ kind → code_of kind ≡ first_code d row → code_of all ≡ first_code d row
+    is_kind : (kind all : Result Draft DataCode) → all ≡ kind → code_of kind ≡ first_code d fields → code_of all ≡ first_code d fields
     is_kind kind all same is = ap code_of same ∙ is
 
-pub first_code_at_start_is : (row : Row) → code_of (first_record row) ≡ first_code_at_start row
-first_code_at_start_is row =
-    by_test (begins (codes "elems") row)
+pub first_code_at_start_is : (fields : Record) → code_of (first_record fields) ≡ first_code_at_start fields
+first_code_at_start_is fields =
+    by_test (begins (codes "elems") fields)
     (λ w.
-    by_test (length row == 2)
+    by_test (length fields == 2)
     (λ two.
-    by_option (element_count (field row 1))
+    by_option (element_count (field fields 1))
     (λ none. rw (w, two, none) refl)
     (λ n count. rw (w, two, count) refl))
     (λ other. rw (w, other) refl))
@@ -207,23 +208,23 @@ first_code_at_start_is row =
 
 -- ---- faults and codes
 
-pub no_fault : (d next : Draft) (row : Row) → later_record d row ≡ Ok next → first_code d row ≡ None
-no_fault d next row is = sym (first_code_is d row) ∙ ap code_of is
+pub no_fault : (d next : Draft) (fields : Record) → later_record d fields ≡ Ok next → first_code d fields ≡ None
+no_fault d next fields is = sym (first_code_is d fields) ∙ ap code_of is
 
-pub no_code : (d : Draft) (row : Row) → first_code d row ≡ None → (next : Draft) × (later_record d row ≡ Ok next)
-no_code d row none =
-    by_result (later_record d row)
+pub no_code : (d : Draft) (fields : Record) → first_code d fields ≡ None → (next : Draft) × (later_record d fields ≡ Ok next)
+no_code d fields none =
+    by_result (later_record d fields)
     (λ next h. (next, h))
-    (λ code h. absurd (let never : Some code ≡ None = sym (ap code_of h) ∙ first_code_is d row ∙ none in cc))
+    (λ code h. absurd (let never : Some code ≡ None = sym (ap code_of h) ∙ first_code_is d fields ∙ none in cc))
 
-pub fault_has_code : (d : Draft) (row : Row) (code : DataCode) → later_record d row ≡ Err code → first_code d row ≡ Some code
-fault_has_code d row code is = sym (first_code_is d row) ∙ ap code_of is
+pub fault_has_code : (d : Draft) (fields : Record) (code : DataCode) → later_record d fields ≡ Err code → first_code d fields ≡ Some code
+fault_has_code d fields code is = sym (first_code_is d fields) ∙ ap code_of is
 
-pub code_is_fault : (d : Draft) (row : Row) (code : DataCode) → first_code d row ≡ Some code → later_record d row ≡ Err code
-code_is_fault d row code some = has_code (later_record d row) code (first_code_is d row ∙ some)
+pub code_is_fault : (d : Draft) (fields : Record) (code : DataCode) → first_code d fields ≡ Some code → later_record d fields ≡ Err code
+code_is_fault d fields code some = has_code (later_record d fields) code (first_code_is d fields ∙ some)
 
-pub fault_at_start_has_code : (row : Row) (code : DataCode) → first_record row ≡ Err code → first_code_at_start row ≡ Some code
-fault_at_start_has_code row code is = sym (first_code_at_start_is row) ∙ ap code_of is
+pub fault_at_start_has_code : (fields : Record) (code : DataCode) → first_record fields ≡ Err code → first_code_at_start fields ≡ Some code
+fault_at_start_has_code fields code is = sym (first_code_at_start_is fields) ∙ ap code_of is
 
-pub code_is_fault_at_start : (row : Row) (code : DataCode) → first_code_at_start row ≡ Some code → first_record row ≡ Err code
-code_is_fault_at_start row code some = has_code (first_record row) code (first_code_at_start_is row ∙ some)
+pub code_is_fault_at_start : (fields : Record) (code : DataCode) → first_code_at_start fields ≡ Some code → first_record fields ≡ Err code
+code_is_fault_at_start fields code some = has_code (first_record fields) code (first_code_at_start_is fields ∙ some)

@@ -8,7 +8,7 @@ use Rattle.coll_data.specs.Tiles.{tile_count}
 use Rattle.data_read.specs.Draft.{GrowingColl, coll_index, opened}
 use Rattle.data_read.specs.Fields.{field}
 use Rattle.data_read.specs.Records.{first_value, numbers}
-use Rattle.data_laws.specs.WholeRecords.{Heading, Row, begins, given_tile, index_in, tile_in, with_tiles}
+use Rattle.data_laws.specs.WholeRecords.{Heading, Record, begins, given_tile, tile_index_in, tile_in, with_tiles}
 use Rattle.list_lemmas.proofs.Truth.{chosen}
 use Rattle.list_lemmas.proofs.Places.{each_weaker}
 use Rattle.list_lemmas.proofs.Texts.{bytes_eq-apart}
@@ -21,21 +21,21 @@ no_first [] none = refl
 no_first (t ∷ ts) none = absurd cc
 
 -- what a record of a tile says of a collection that has its name
-pub record Gives (row : Row) (coll : GrowingColl) (index : ℕ) (values : List ℤ) : Type 0 where
-  pub word : begins (codes "tile") row ≡ true
-  pub place : index_in coll.shape row ≡ Some index
-  pub all : numbers (drop (first_value coll.shape.1) row) ≡ Some values
+pub record Gives (fields : Record) (coll : GrowingColl) (index : ℕ) (values : List ℤ) : Type 0 where
+  pub word : begins (codes "tile") fields ≡ true
+  pub place : tile_index_in coll.shape fields ≡ Some index
+  pub all : numbers (drop (first_value coll.shape.1) fields) ≡ Some values
   pub free : slice_get coll.tiles index ≡ Some None
 
 -- the collection with this tile
 abbrev pub changed : GrowingColl → ℕ → List ℤ → GrowingColl
 changed coll index values = record coll { tiles = set coll.tiles index (Some (opened coll.elements values)) }
 
-this_tile : (rows : List Row) (row : Row) (h : Heading) (index : ℕ) (values : List ℤ) → bytes_eq (field row 1) h.name ≡ true → Gives row (with_tiles rows h) index values
-    → with_tiles (rows ++ row ∷ []) h ≡ changed (with_tiles rows h) index values
-this_tile rows row h index values named gives =
+this_tile : (records : List Record) (fields : Record) (h : Heading) (index : ℕ) (values : List ℤ) → bytes_eq (field fields 1) h.name ≡ true → Gives fields (with_tiles records h) index values
+    → with_tiles (records ++ fields ∷ []) h ≡ changed (with_tiles records h) index values
+this_tile records fields h index values named gives =
     let n = tile_count h.shape.0 h.shape.1 in
-    let f = given_tile h rows in
+    let f = given_tile h records in
     let tile = opened h.elements values in
     let word = gives.word in
     let place = gives.place in
@@ -43,47 +43,47 @@ this_tile rows row h index values named gives =
     let within : index < n = omega (arith, slice_get_within (map f (places h)) index None gives.free, length-map-range_with_len f 0 n) in
     let start : 0 + index ≡ index = omega arith in
     let was : f index ≡ None = sym (get_or-map-range_with_len f 0 n index index None within start) ∙ get_or_from_slice_get (map f (places h)) index None None gives.free in
-    let before : filter_map (tile_in h index) rows ≡ [] = no_first (filter_map (tile_in h index) rows) was in
-    let one : tile_in h index row ≡ Some tile = rw (word, named, place, eq-eqb index index refl, all) refl in
-    let is : given_tile h (rows ++ row ∷ []) index ≡ Some tile =
-    ap (λ (ts : List (List ℤ)). slice_get ts 0) (kept_push (tile_in h index) rows row tile one ∙ ap (λ (ts : List (List ℤ)). ts ++ tile ∷ []) before) in
+    let before : filter_map (tile_in h index) records ≡ [] = no_first (filter_map (tile_in h index) records) was in
+    let one : tile_in h index fields ≡ Some tile = rw (word, named, place, eq-eqb index index refl, all) refl in
+    let is : given_tile h (records ++ fields ∷ []) index ≡ Some tile =
+    ap (λ (ts : List (List ℤ)). slice_get ts 0) (kept_push (tile_in h index) records fields tile one ∙ ap (λ (ts : List (List ℤ)). ts ++ tile ∷ []) before) in
     let other = λ (k : ℕ) (apart : k ≡ 0 + index → ⊥).
     ap (λ (ts : List (List ℤ)). slice_get ts 0)
-    (left_out (tile_in h k) rows row (rw (word, named, place, ne_eqb index k (λ same. apart (sym same ∙ sym start))) refl)) in
-    ap (tiled h) (range_set f (given_tile h (rows ++ row ∷ [])) 0 n index (Some tile) within (ap (given_tile h (rows ++ row ∷ [])) start ∙ is) other)
+    (left_out (tile_in h k) records fields (rw (word, named, place, ne_eqb index k (λ same. apart (sym same ∙ sym start))) refl)) in
+    ap (tiled h) (range_set f (given_tile h (records ++ fields ∷ [])) 0 n index (Some tile) within (ap (given_tile h (records ++ fields ∷ [])) start ∙ is) other)
 
-others_kept : (rows : List Row) (row : Row) (h : Heading) (hs : List Heading) → bytes_eq (field row 1) h.name ≡ true → AreApart (h ∷ hs) → map (with_tiles (rows ++ row ∷ [])) hs ≡ map (with_tiles rows) hs
-others_kept rows row h hs named apart =
-    map_same (with_tiles (rows ++ row ∷ [])) (with_tiles rows) hs
-    (each_weaker (λ (g : Heading). bytes_eq h.name g.name ≡ false) (λ (g : Heading). with_tiles (rows ++ row ∷ []) g ≡ with_tiles rows g) hs
-    (λ g other. tiles_kept rows row g (other_tile row g (bytes_eq-apart (field row 1) h.name g.name named other)))
+others_kept : (records : List Record) (fields : Record) (h : Heading) (hs : List Heading) → bytes_eq (field fields 1) h.name ≡ true → AreApart (h ∷ hs) → map (with_tiles (records ++ fields ∷ [])) hs ≡ map (with_tiles records) hs
+others_kept records fields h hs named apart =
+    map_same (with_tiles (records ++ fields ∷ [])) (with_tiles records) hs
+    (each_weaker (λ (g : Heading). bytes_eq h.name g.name ≡ false) (λ (g : Heading). with_tiles (records ++ fields ∷ []) g ≡ with_tiles records g) hs
+    (λ g other. tiles_kept records fields g (other_tile fields g (bytes_eq-apart (field fields 1) h.name g.name named other)))
     (none_pass (λ (g : Heading). bytes_eq h.name g.name) hs apart.0))
 
 -- the collection of the name is changed, and no other one
-pub tile_among : (rows : List Row) (row : Row) (hs : List Heading) (at : ℕ) (coll : GrowingColl) (index : ℕ) (values : List ℤ) → AreApart hs
-    → coll_index (field row 1) (map (with_tiles rows) hs) ≡ Some at → slice_get (map (with_tiles rows) hs) at ≡ Some coll → Gives row coll index values
-    → map (with_tiles (rows ++ row ∷ [])) hs ≡ set (map (with_tiles rows) hs) at (changed coll index values)
-tile_among rows row [] at coll index values apart found got gives = absurd cc
-tile_among rows row (h ∷ hs) zero coll index values apart found got gives =
-    let same : with_tiles rows h ≡ coll = cc in
-    elim (chosen (bytes_eq (field row 1) h.name) (Some 0) (option_map (λ n. n + 1) (coll_index (field row 1) (map (with_tiles rows) hs))) (Some 0) found) [
+pub tile_among : (records : List Record) (fields : Record) (hs : List Heading) (at : ℕ) (coll : GrowingColl) (index : ℕ) (values : List ℤ) → AreApart hs
+    → coll_index (field fields 1) (map (with_tiles records) hs) ≡ Some at → slice_get (map (with_tiles records) hs) at ≡ Some coll → Gives fields coll index values
+    → map (with_tiles (records ++ fields ∷ [])) hs ≡ set (map (with_tiles records) hs) at (changed coll index values)
+tile_among records fields [] at coll index values apart found got gives = absurd cc
+tile_among records fields (h ∷ hs) zero coll index values apart found got gives =
+    let same : with_tiles records h ≡ coll = cc in
+    elim (chosen (bytes_eq (field fields 1) h.name) (Some 0) (option_map (λ n. n + 1) (coll_index (field fields 1) (map (with_tiles records) hs))) (Some 0) found) [
       | inl here ↦
-          let this = this_tile rows row h index values here.0 (subst (λ (c : GrowingColl). Gives row c index values) (sym same) gives) in
+          let this = this_tile records fields h index values here.0 (subst (λ (c : GrowingColl). Gives fields c index values) (sym same) gives) in
           let first = this ∙ ap (λ (c : GrowingColl). changed c index values) same in
-          let rest = others_kept rows row h hs here.0 apart in
+          let rest = others_kept records fields h hs here.0 apart in
           λ i. first i ∷ rest i
       | inr later ↦
-          let more = some_from_one_more (coll_index (field row 1) (map (with_tiles rows) hs)) 0 later.1 in
+          let more = some_from_one_more (coll_index (field fields 1) (map (with_tiles records) hs)) 0 later.1 in
           let never = more.2 in
           absurd (omega (arith, never))
     ]
-tile_among rows row (h ∷ hs) (suc m) coll index values apart found got gives =
-    elim (chosen (bytes_eq (field row 1) h.name) (Some 0) (option_map (λ n. n + 1) (coll_index (field row 1) (map (with_tiles rows) hs))) (Some (suc m)) found) [
+tile_among records fields (h ∷ hs) (suc m) coll index values apart found got gives =
+    elim (chosen (bytes_eq (field fields 1) h.name) (Some 0) (option_map (λ n. n + 1) (coll_index (field fields 1) (map (with_tiles records) hs))) (Some (suc m)) found) [
       | inl here ↦ absurd (let never : ◌≡◌ {A = Option ℕ} (Some 0) (Some (suc m)) = here.1 in cc)
       | inr later ↦
-          let more = some_from_one_more (coll_index (field row 1) (map (with_tiles rows) hs)) (suc m) later.1 in
+          let more = some_from_one_more (coll_index (field fields 1) (map (with_tiles records) hs)) (suc m) later.1 in
           let number : more.0 ≡ m = omega (arith, more.2) in
-          let first = tiles_kept rows row h (other_tile row h later.0) in
-          let rest = tile_among rows row hs m coll index values apart.1 (more.1 ∙ ap (λ (n : ℕ). Some n) number) got gives in
+          let first = tiles_kept records fields h (other_tile fields h later.0) in
+          let rest = tile_among records fields hs m coll index values apart.1 (more.1 ∙ ap (λ (n : ℕ). Some n) number) got gives in
           λ i. first i ∷ rest i
     ]

@@ -3,38 +3,42 @@
 use Rattle.std.specs.Prelude.{◌≡◌, ℕ, ◌+◌, ◌-◌, ◌*◌, Bool, false, not, ◌&&◌, ◌||◌, ◌==◌, nat_le, nat_lt, List, [], ◌∷◌, length, drop, codes, find, Option, Some, None, is_some, is_none, Result, Ok, Err, if◌then◌else◌}
 use Rattle.std.specs.Option.{option_and_then, option_map, option_map_or}
 use Rattle.ptg_base.specs.Limits.{most_elements, most_named_types}
+use Rattle.coll_data.specs.Types.{default_type}
 use Rattle.coll_data.specs.Tiles.{tile_count}
 use Rattle.coll_data.specs.declared.fault.DataCode.{DataCode}
 use Rattle.coll_data.specs.declared.fault.DataCode.TheVariants.{TooLong, NoElems, ElemsTwice, UnknownRow, FieldCount, BadElems, BadName, NameTwice, TypeTwice, TooManyTypes, UnknownType, UnknownColl, TileCount, BadNumber, TooManyTiles, TooManyElements, BadIndex, TileTwice, MissingName}
 use Rattle.data_read.specs.Fields.{field, is_name, whole}
 use Rattle.data_read.specs.Draft.{GrowingColl, Draft, type_named, coll_named, is_new, slot_at}
 use Rattle.data_read.specs.Records.{column, columns, element_count, first_record, first_value, later_record, numbers, shape_of}
-use Rattle.data_laws.specs.WholeRecords.{Row, begins}
+use Rattle.data_laws.specs.WholeRecords.{Record, begins}
 
 -- ---- records by their words
 
--- an `elems`, an `int` or a `tile` record that passes the test
-abbrev pub is_type_with : Bool → Row → Bool
-is_type_with test row = begins (codes "elems") row && test
+-- an `elems` record that passes the test
+abbrev pub is_type_with : Bool → Record → Bool
+is_type_with test fields = begins (codes "elems") fields && test
 
-abbrev pub is_int_with : Bool → Row → Bool
-is_int_with test row = begins (codes "int") row && test
+-- an `int` record that passes the test
+abbrev pub is_int_with : Bool → Record → Bool
+is_int_with test fields = begins (codes "int") fields && test
 
-abbrev pub is_tile_with : Bool → Row → Bool
-is_tile_with test row = begins (codes "tile") row && test
+-- a `tile` record that passes the test
+abbrev pub is_tile_with : Bool → Record → Bool
+is_tile_with test fields = begins (codes "tile") fields && test
 
 -- a record of a collection that passes the test of the name of its type and of the number of the field with its own
 -- name
-abbrev pub is_coll_with : (List ℕ → ℕ → Bool) → Row → Bool
-is_coll_with test row =
-    if begins (codes "coll") row
-    then test (codes "DEFAULT") 1
-    else if begins (codes "collof") row then test (field row 1) 2 else false
+abbrev pub is_coll_with : (List ℕ → ℕ → Bool) → Record → Bool
+is_coll_with test fields =
+    if begins (codes "coll") fields
+    then test default_type 1
+    else if begins (codes "collof") fields then test (field fields 1) 2 else false
 
 -- a `tile` record that names a collection that passes the test
-abbrev pub is_of_coll_with : (GrowingColl → Bool) → Draft → Row → Bool
-is_of_coll_with test d row =
-    is_tile_with (option_map_or (λ (found : ℕ × GrowingColl). test found.1) (coll_named d (field row 1)) false) row
+abbrev pub is_of_coll_with : (GrowingColl → Bool) → Draft → Record → Bool
+is_of_coll_with test d fields =
+    is_tile_with
+    (option_map_or (λ (found : ℕ × GrowingColl). test found.1) (coll_named d (field fields 1)) false) fields
 
 -- a test of two numbers, passed only where both are there
 abbrev pub both_pass : {A B : Type 0} → (A → B → Bool) → Option A → Option B → Bool
@@ -43,118 +47,121 @@ both_pass test a b = option_map_or (λ x. option_map_or (λ y. test x y) b false
 -- ---- each code
 
 -- the first field is one of the five words
-abbrev pub has_word : Row → Bool
-has_word row =
-    begins (codes "elems") row || begins (codes "int") row || begins (codes "coll") row || begins (codes "collof") row
-    || begins (codes "tile") row
+abbrev pub has_word : Record → Bool
+has_word fields =
+    begins (codes "elems") fields || begins (codes "int") fields || begins (codes "coll") fields
+    || begins (codes "collof") fields || begins (codes "tile") fields
 
 -- the number of fields is not that of the word
-abbrev pub has_other_count : Row → Bool
-has_other_count row =
-    is_type_with (not (length row == 3)) row
-    || is_int_with (not (length row == 3)) row
-    || (begins (codes "coll") row && not ((length row == 3) || (length row == 4)))
-    || (begins (codes "collof") row && not ((length row == 4) || (length row == 5)))
-    || is_tile_with (not (nat_le 4 (length row))) row
+abbrev pub has_wrong_field_count : Record → Bool
+has_wrong_field_count fields =
+    is_type_with (not (length fields == 3)) fields
+    || is_int_with (not (length fields == 3)) fields
+    || (begins (codes "coll") fields && not ((length fields == 3) || (length fields == 4)))
+    || (begins (codes "collof") fields && not ((length fields == 4) || (length fields == 5)))
+    || is_tile_with (not (nat_le 4 (length fields))) fields
 
 -- a name is not spelled as one
-abbrev pub has_bad_name : Row → Bool
-has_bad_name row =
-    is_type_with (not (is_name (field row 1))) row
-    || is_int_with (not (is_name (field row 1))) row
-    || is_coll_with (λ type at. not (is_name type && is_name (field row at))) row
-    || is_tile_with (not (is_name (field row 1))) row
+abbrev pub has_bad_name : Record → Bool
+has_bad_name fields =
+    is_type_with (not (is_name (field fields 1))) fields
+    || is_int_with (not (is_name (field fields 1))) fields
+    || is_coll_with (λ type at. not (is_name type && is_name (field fields at))) fields
+    || is_tile_with (not (is_name (field fields 1))) fields
 
 -- an integer or a collection has the name of an earlier one
-abbrev pub has_taken_name : Draft → Row → Bool
-has_taken_name d row =
-    is_int_with (not (is_new d (field row 1))) row || is_coll_with (λ type at. not (is_new d (field row at))) row
+abbrev pub has_taken_name : Draft → Record → Bool
+has_taken_name d fields =
+    is_int_with (not (is_new d (field fields 1))) fields
+    || is_coll_with (λ type at. not (is_new d (field fields at))) fields
 
 -- the tile has no value, or more than its type has elements
-abbrev pub has_other_values : Row → GrowingColl → Bool
-has_other_values row coll =
+abbrev pub has_wrong_value_count : Record → GrowingColl → Bool
+has_wrong_value_count fields coll =
     not
-    (nat_le 1 (length row - first_value coll.shape.1)
-    && nat_le (length row - first_value coll.shape.1) coll.elements)
+    (nat_le 1 (length fields - first_value coll.shape.1)
+    && nat_le (length fields - first_value coll.shape.1) coll.elements)
 
 -- an index or a value of the tile is no whole number
-abbrev pub has_no_numbers : Row → GrowingColl → Bool
-has_no_numbers row coll =
-    is_none (whole (field row 2)) || is_none (column coll.shape.1 row)
-    || is_none (numbers (drop (first_value coll.shape.1) row))
+abbrev pub has_non_number : Record → GrowingColl → Bool
+has_non_number fields coll =
+    is_none (whole (field fields 2)) || is_none (column coll.shape.1 fields)
+    || is_none (numbers (drop (first_value coll.shape.1) fields))
 
 -- a field that should be a whole number is none
-abbrev pub has_bad_number : Draft → Row → Bool
-has_bad_number d row =
-    is_int_with (is_none (whole (field row 2))) row
-    || is_coll_with (λ type at. is_none (whole (field row (at + 1))) || is_none (columns row (at + 2))) row
-    || is_of_coll_with (has_no_numbers row) d row
+abbrev pub has_bad_number : Draft → Record → Bool
+has_bad_number d fields =
+    is_int_with (is_none (whole (field fields 2))) fields
+    || is_coll_with (λ type at. is_none (whole (field fields (at + 1))) || is_none (columns fields (at + 2))) fields
+    || is_of_coll_with (has_non_number fields) d fields
 
 -- the collection has no tile, or more than 65,536
-abbrev pub has_other_shape : Row → Bool
-has_other_shape row =
+abbrev pub has_wrong_tile_count : Record → Bool
+has_wrong_tile_count fields =
     is_coll_with
     (λ type at.
-    both_pass (λ rows cols. is_none (shape_of rows cols)) (whole (field row (at + 1))) (columns row (at + 2)))
-    row
+    both_pass (λ rows cols. is_none (shape_of rows cols)) (whole (field fields (at + 1))) (columns fields (at + 2)))
+    fields
 
 -- the shape of the collection that a record asks for, whose own name is the field of this number
-abbrev pub asked_shape : Row → ℕ → Option (ℕ × Option ℕ)
-asked_shape row at =
-    option_and_then (λ rows. option_and_then (shape_of rows) (columns row (at + 2))) (whole (field row (at + 1)))
+abbrev pub asked_shape : Record → ℕ → Option (ℕ × Option ℕ)
+asked_shape fields at =
+    option_and_then (λ rows. option_and_then (shape_of rows) (columns fields (at + 2))) (whole (field fields (at + 1)))
 
 -- how many elements its tiles have, of the type of this name
-abbrev pub asked_elements : Draft → Row → List ℕ → ℕ → Option ℕ
-asked_elements d row type at =
+abbrev pub asked_elements : Draft → Record → List ℕ → ℕ → Option ℕ
+asked_elements d fields type at =
     option_and_then
-    (λ (known : ℕ × ℕ). option_map (λ (s : ℕ × Option ℕ). tile_count s.0 s.1 * known.1) (asked_shape row at))
+    (λ (known : ℕ × ℕ). option_map (λ (s : ℕ × Option ℕ). tile_count s.0 s.1 * known.1) (asked_shape fields at))
     (type_named d type)
 
 -- with the collection that a record asks for the tiles of all collections have too many elements
-abbrev pub has_no_room : Draft → Row → Bool
-has_no_room d row =
+abbrev pub has_too_many_elements : Draft → Record → Bool
+has_too_many_elements d fields =
     is_coll_with
-    (λ type at. option_map_or (λ n. not (nat_le (d.elements + n) most_elements)) (asked_elements d row type at) false)
-    row
+    (λ type at.
+    option_map_or (λ n. not (nat_le (d.elements + n) most_elements)) (asked_elements d fields type at) false)
+    fields
 
 -- the tile's place is none of its collection
-abbrev pub has_no_place : Row → GrowingColl → Bool
-has_no_place row coll = both_pass (λ i j. is_none (slot_at coll i j)) (whole (field row 2)) (column coll.shape.1 row)
+abbrev pub has_bad_index : Record → GrowingColl → Bool
+has_bad_index fields coll =
+    both_pass (λ i j. is_none (slot_at coll i j)) (whole (field fields 2)) (column coll.shape.1 fields)
 
 -- an earlier record gave the tile
-abbrev pub has_given_place : Row → GrowingColl → Bool
-has_given_place row coll =
+abbrev pub gives_tile_twice : Record → GrowingColl → Bool
+gives_tile_twice fields coll =
     both_pass (λ i j. option_map_or (λ slot. is_some slot.1) (slot_at coll i j) false)
-    (whole (field row 2)) (column coll.shape.1 row)
+    (whole (field fields 2)) (column coll.shape.1 fields)
 
 -- whether a code fits a record after the first one, which comes after these data
-abbrev pub fits : Draft → Row → DataCode → Bool
-fits d row TooLong = false
-fits d row NoElems = false
-fits d row ElemsTwice = is_type_with (length row == 2) row
-fits d row UnknownRow = not (has_word row)
-fits d row FieldCount = has_other_count row
-fits d row BadElems = is_type_with (is_none (element_count (field row 2))) row
-fits d row BadName = has_bad_name row
-fits d row NameTwice = has_taken_name d row
-fits d row TypeTwice = is_type_with (is_some (type_named d (field row 1))) row
-fits d row TooManyTypes = is_type_with (not (nat_lt (length d.types) most_named_types)) row
-fits d row UnknownType = is_coll_with (λ type at. is_none (type_named d type)) row
-fits d row UnknownColl = is_tile_with (is_none (coll_named d (field row 1))) row
-fits d row TileCount = is_of_coll_with (has_other_values row) d row
-fits d row BadNumber = has_bad_number d row
-fits d row TooManyTiles = has_other_shape row
-fits d row TooManyElements = has_no_room d row
-fits d row BadIndex = is_of_coll_with (has_no_place row) d row
-fits d row TileTwice = is_of_coll_with (has_given_place row) d row
-fits d row MissingName = false
+abbrev pub fits : Draft → Record → DataCode → Bool
+fits d fields TooLong = false
+fits d fields NoElems = false
+fits d fields ElemsTwice = is_type_with (length fields == 2) fields
+fits d fields UnknownRow = not (has_word fields)
+fits d fields FieldCount = has_wrong_field_count fields
+fits d fields BadElems = is_type_with (is_none (element_count (field fields 2))) fields
+fits d fields BadName = has_bad_name fields
+fits d fields NameTwice = has_taken_name d fields
+fits d fields TypeTwice = is_type_with (is_some (type_named d (field fields 1))) fields
+fits d fields TooManyTypes = is_type_with (not (nat_lt (length d.types) most_named_types)) fields
+fits d fields UnknownType = is_coll_with (λ type at. is_none (type_named d type)) fields
+fits d fields UnknownColl = is_tile_with (is_none (coll_named d (field fields 1))) fields
+fits d fields TileCount = is_of_coll_with (has_wrong_value_count fields) d fields
+fits d fields BadNumber = has_bad_number d fields
+fits d fields TooManyTiles = has_wrong_tile_count fields
+fits d fields TooManyElements = has_too_many_elements d fields
+fits d fields BadIndex = is_of_coll_with (has_bad_index fields) d fields
+fits d fields TileTwice = is_of_coll_with (gives_tile_twice fields) d fields
+fits d fields MissingName = false
 
--- the same for the first record
-abbrev pub fits_first : Row → DataCode → Bool
-fits_first row NoElems = not (begins (codes "elems") row)
-fits_first row FieldCount = not (length row == 2)
-fits_first row BadElems = is_none (element_count (field row 1))
-fits_first row code = false
+-- whether a code fits the first record
+abbrev pub fits_first : Record → DataCode → Bool
+fits_first fields NoElems = not (begins (codes "elems") fields)
+fits_first fields FieldCount = not (length fields == 2)
+fits_first fields BadElems = is_none (element_count (field fields 1))
+fits_first fields code = false
 
 -- ---- the order of the codes
 
@@ -186,16 +193,17 @@ code_of (Ok a) = None
 code_of (Err code) = Some code
 
 -- the first code that fits a record after the first one, which comes after these data
-abbrev pub first_code : Draft → Row → Option DataCode
-first_code d row = find (fits d row) all_codes
+abbrev pub first_code : Draft → Record → Option DataCode
+first_code d fields = find (fits d fields) all_codes
 
 -- the first code that fits the first record
-abbrev pub first_code_at_start : Row → Option DataCode
-first_code_at_start row = find (fits_first row) all_codes
+abbrev pub first_code_at_start : Record → Option DataCode
+first_code_at_start fields = find (fits_first fields) all_codes
 
 -- the fault of a record is the first code that fits it, and a record that none fits has no fault
 abbrev pub FaultIsFirstCode : Type 0
-FaultIsFirstCode = (d : Draft) (row : Row) → code_of (later_record d row) ≡ first_code d row
+FaultIsFirstCode = (d : Draft) (fields : Record) → code_of (later_record d fields) ≡ first_code d fields
 
+-- the fault of the first record is the first code that fits it, and one that none fits has no fault
 abbrev pub FaultAtStartIsFirstCode : Type 0
-FaultAtStartIsFirstCode = (row : Row) → code_of (first_record row) ≡ first_code_at_start row
+FaultAtStartIsFirstCode = (fields : Record) → code_of (first_record fields) ≡ first_code_at_start fields

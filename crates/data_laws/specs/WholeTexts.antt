@@ -8,46 +8,47 @@ use Rattle.data_read.specs.Draft.{data_after}
 use Rattle.data_laws.specs.Codes.{first_code, first_code_at_start}
 use Rattle.data_read.specs.Records.{first_record}
 use Rattle.data_read.specs.Reading.{data_of, records_of}
-use Rattle.data_laws.specs.WholeRecords.{Row, data_of_records}
+use Rattle.data_laws.specs.WholeRecords.{Record, data_of_records}
 
 -- no code fits any of these records, each after the data of those before it
-abbrev pub NoneFits : ℕ → List Row → Type 0
-NoneFits elems rows =
-    (before after : List Row) (row : Row) → rows ≡ before ++ row ∷ after
-    → first_code (data_of_records elems before) row ≡ None
+abbrev pub NoneFits : ℕ → List Record → Type 0
+NoneFits elems records =
+    (before after : List Record) (fields : Record) → records ≡ before ++ fields ∷ after
+    → first_code (data_of_records elems before) fields ≡ None
 
 -- the first record says how many elements a tile of type DEFAULT has, no code fits a later one, and the data are those
 -- of all records
-pub record AreByRecords (first : Row) (rows : List Row) (given : Data) : Type 0 where
+pub record AreByRecords (first : Record) (records : List Record) (given : Data) : Type 0 where
   pub elems : first_record first ≡ Ok given.elems
-  pub none_fits : NoneFits given.elems rows
-  pub data_are : given ≡ data_after (length rows + 1) (data_of_records given.elems rows)
+  pub none_fits : NoneFits given.elems records
+  pub data_are : given ≡ data_after (length records + 1) (data_of_records given.elems records)
 
 -- a text spells the data that its records make as a whole, and no others
 abbrev pub DataAreByRecords : Type 0
 DataAreByRecords =
     (text : List ℕ) (given : Data) → (data_of text ≡ Ok given)
-    ↔ ((first : Row) × (rows : List Row) × (records_of text ≡ first ∷ rows) × AreByRecords first rows given)
+    ↔ ((first : Record) × (records : List Record) × (records_of text ≡ first ∷ records)
+    × AreByRecords first records given)
 
 -- the record comes after these, which no code fits, and this is the first code that fits it
-abbrev pub HasFaultAfter : List Row → Row → DataCode → Type 0
-HasFaultAfter [] row code = first_code_at_start row ≡ Some code
-HasFaultAfter (first ∷ rows) row code =
-    (elems : ℕ) × (first_record first ≡ Ok elems) × NoneFits elems rows
-    × (first_code (data_of_records elems rows) row ≡ Some code)
+abbrev pub HasFaultAfter : List Record → Record → DataCode → Type 0
+HasFaultAfter [] fields code = first_code_at_start fields ≡ Some code
+HasFaultAfter (first ∷ records) fields code =
+    (elems : ℕ) × (first_record first ≡ Ok elems) × NoneFits elems records
+    × (first_code (data_of_records elems records) fields ≡ Some code)
 
 -- the fault is the first code that fits the first record that one fits
-pub record IsFirstFault (rows : List Row) (fault : DataFault) : Type 0 where
-  pub before : List Row
-  pub row : Row
-  pub after : List Row
-  pub here : rows ≡ before ++ row ∷ after
+pub record IsFirstFault (records : List Record) (fault : DataFault) : Type 0 where
+  pub before : List Record
+  pub fields : Record
+  pub after : List Record
+  pub here : records ≡ before ++ fields ∷ after
   pub number : fault.row ≡ length before + 1
-  pub has : HasFaultAfter before row fault.code
+  pub has : HasFaultAfter before fields fault.code
 
 -- there is no record, which is a fault of the first one
-abbrev pub HasNoRecord : List Row → DataFault → Type 0
-HasNoRecord rows fault = (rows ≡ []) × (fault ≡ record { row = 1; code = NoElems })
+abbrev pub HasNoRecord : List Record → DataFault → Type 0
+HasNoRecord records fault = (records ≡ []) × (fault ≡ record { row = 1; code = NoElems })
 
 -- the fault of a text is that of its first record that has one, or that there is no record
 abbrev pub FaultIsFirst : Type 0

@@ -1,8 +1,9 @@
 pub mod Blanks
 pub mod Choices
 pub mod Meanings
-pub mod RowsLeft
+pub mod RecordsLeft
 pub mod Values
+pub mod Accepted
 pub mod Soundness
 pub mod SoundRecords
 pub mod SoundTiles

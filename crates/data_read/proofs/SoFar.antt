@@ -13,41 +13,41 @@ use Rattle.ptg_base.specs.declared.refusal.Refusal.{Refusal}
 use Rattle.ptg_base.specs.declared.refusal.Refusal.TheVariants.{Fault, OutOfMemory}
 use Rattle.data_read.specs.Growing.{refusal_at}
 use Rattle.ptg_base.specs.Returns.{ReturnsRefusal}
-use Rattle.data_read.specs.Rows.{HasRows, NextRow}
+use Rattle.data_read.specs.RecordsLeft.{HasRecords, NextRecord}
 use Rattle.data_read.proofs.Choices.{no_value}
 use Rattle.data_read.proofs.Soundness.{IsSound, well_made}
 use Rattle.data_read.proofs.SoundRecords.{begun_sound}
 use Rattle.data_read.proofs.SoundTiles.{later_sound}
 use Rattle.list_lemmas.proofs.Options.{by_result}
 
-abbrev Rows : Type 0
-Rows = List (List (List ℕ))
+abbrev Records : Type 0
+Records = List (List (List ℕ))
 
 abbrev SliceReader : Type 0
 SliceReader = Reader (Bor (List ℕ))
 
--- of these records, which are added to this draft from row 2 on, that of this row is the next one, and those that are
+-- of these records, which are added to this draft from the second on, that of this number is the next one, and those that are
 -- left make of the draft so far what all of them make
-pub record AddedSoFar (rows : Rows) (first : Draft) (row : ℕ) (d : Draft) (reader : SliceReader) : Type 0 where
-  pub left : Rows
-  pub has : HasRows reader left
-  pub rest : later_records 2 first rows ≡ later_records row d left
-  pub count : length rows + 2 ≡ row + length left
+pub record AddedSoFar (records : Records) (first : Draft) (row : ℕ) (d : Draft) (reader : SliceReader) : Type 0 where
+  pub left : Records
+  pub has : HasRecords reader left
+  pub rest : later_records 2 first records ≡ later_records row d left
+  pub count : length records + 2 ≡ row + length left
 
-one_more : (rows : Rows) (fields : List (List ℕ)) (reader : SliceReader) (found : Bool) → NextRow rows found fields reader → found ≡ true → (rest : Rows) × (rows ≡ fields ∷ rest) × HasRows reader rest
-one_more rows fields reader true next e = next
-one_more rows fields reader false next e = absurd cc
+one_more : (records : Records) (fields : List (List ℕ)) (reader : SliceReader) (found : Bool) → NextRecord records found fields reader → found ≡ true → (rest : Records) × (records ≡ fields ∷ rest) × HasRecords reader rest
+one_more records fields reader true next e = next
+one_more records fields reader false next e = absurd cc
 
-no_more : (rows : Rows) (fields : List (List ℕ)) (reader : SliceReader) (found : Bool) → NextRow rows found fields reader → found ≡ false → rows ≡ []
-no_more rows fields reader true next e = absurd cc
-no_more rows fields reader false next e = next
+no_more : (records : Records) (fields : List (List ℕ)) (reader : SliceReader) (found : Bool) → NextRecord records found fields reader → found ≡ false → records ≡ []
+no_more records fields reader true next e = absurd cc
+no_more records fields reader false next e = next
 
 -- records that are added to sound data leave them sound
-all_sound : (rows : Rows) (row : ℕ) (d after : Draft) → IsSound d → later_records row d rows ≡ Ok after → IsSound after
+all_sound : (records : Records) (row : ℕ) (d after : Draft) → IsSound d → later_records row d records ≡ Ok after → IsSound after
 all_sound [] row d after sound is = subst IsSound (let same : d ≡ after = cc in same) sound
-all_sound (fields ∷ rows) row d after sound is =
+all_sound (fields ∷ records) row d after sound is =
     by_result (later_record d fields)
-    (λ next h. let is = rw h at is in all_sound rows (row + 1) next after (later_sound d next fields sound h) is)
+    (λ next h. let is = rw h at is in all_sound records (row + 1) next after (later_sound d next fields sound h) is)
     (λ code h. let s = rw h at is in no_value s)
 
 as_fault : (n : ℕ) (row : ℕ) (code : DataCode) (r : Result Draft DataFault) → r ≡ Err (record { row = row; code = code }) → as_data n r ≡ Err (record { row = row; code = code })
@@ -55,61 +55,61 @@ as_fault n row code r e = rw e refl
 
 -- ---- the first record
 
-pub no_record : (rows : Rows) (fields : List (List ℕ)) (reader : SliceReader) (found : Bool) → NextRow rows found fields reader → found ≡ false → as_data (length rows) (all_records rows) ≡ Err (record { row = 1; code = NoElems })
-no_record rows fields reader found next e = as_fault (length rows) 1 NoElems (all_records rows) (ap all_records (no_more rows fields reader found next e))
+pub no_record : (records : Records) (fields : List (List ℕ)) (reader : SliceReader) (found : Bool) → NextRecord records found fields reader → found ≡ false → as_data (length records) (all_records records) ≡ Err (record { row = 1; code = NoElems })
+no_record records fields reader found next e = as_fault (length records) 1 NoElems (all_records records) (ap all_records (no_more records fields reader found next e))
 
-module _ (rows : Rows) (fields : List (List ℕ)) (reader : SliceReader) (found : Bool) (next : NextRow rows found fields reader) (e : found ≡ true) where
-  pub first_fault : (code : DataCode) → first_record fields ≡ Err code → as_data (length rows) (all_records rows) ≡ Err (record { row = 1; code = code })
+module _ (records : Records) (fields : List (List ℕ)) (reader : SliceReader) (found : Bool) (next : NextRecord records found fields reader) (e : found ≡ true) where
+  pub first_fault : (code : DataCode) → first_record fields ≡ Err code → as_data (length records) (all_records records) ≡ Err (record { row = 1; code = code })
   first_fault code is =
-      let more = one_more rows fields reader found next e in
-      as_fault (length rows) 1 code (all_records rows) (ap all_records more.1 ∙ ap (λ r. then_at 1 r (λ elements. later_records 2 (begun elements) more.0)) is)
+      let more = one_more records fields reader found next e in
+      as_fault (length records) 1 code (all_records records) (ap all_records more.1 ∙ ap (λ r. then_at 1 r (λ elements. later_records 2 (begun elements) more.0)) is)
 
-  later_of : (elems : ℕ) (d : Draft) → first_record fields ≡ Ok elems → d ≡ begun elems → (left : Rows) → rows ≡ fields ∷ left → all_records rows ≡ later_records 2 d left
+  later_of : (elems : ℕ) (d : Draft) → first_record fields ≡ Ok elems → d ≡ begun elems → (left : Records) → records ≡ fields ∷ left → all_records records ≡ later_records 2 d left
   later_of elems d is begins left more =
       ap all_records more ∙ ap (λ r. then_at 1 r (λ elements. later_records 2 (begun elements) left)) is ∙ ap (λ (b : Draft). later_records 2 b left) (sym begins)
 
   -- the records after the first, by what adding them returned
   module _ (elems : ℕ) (d : Draft) (is : first_record fields ≡ Ok elems) (begins : d ≡ begun elems) where
-    pub later_left : (left : Rows) × (rows ≡ fields ∷ left) × HasRows reader left
-    later_left = one_more rows fields reader found next e
+    pub later_left : (left : Records) × (records ≡ fields ∷ left) × HasRecords reader left
+    later_left = one_more records fields reader found next e
 
     pub whole_at_end : (after : Draft) (count : ℕ) → later_records 2 d later_left.0 ≡ Ok after → IsWellMade (data_after count after)
     whole_at_end after count ends =
         well_made after count (all_sound later_left.0 2 d after (subst IsSound (sym begins) (begun_sound fields elems is)) ends)
 
-    pub at_end : (after : Draft) (count : ℕ) → later_records 2 d later_left.0 ≡ Ok after → count ≡ length later_left.0 + 1 → as_data (length rows) (all_records rows) ≡ Ok (data_after count after)
+    pub at_end : (after : Draft) (count : ℕ) → later_records 2 d later_left.0 ≡ Ok after → count ≡ length later_left.0 + 1 → as_data (length records) (all_records records) ≡ Ok (data_after count after)
     at_end after count ends number =
-        let size : length rows ≡ length later_left.0 + 1 = ap length later_left.1 ∙ omega arith in
-        ap (as_data (length rows)) (later_of elems d is begins later_left.0 later_left.1 ∙ ends) ∙ ap (λ k. Ok (data_after k after)) (size ∙ sym number)
+        let size : length records ≡ length later_left.0 + 1 = ap length later_left.1 ∙ omega arith in
+        ap (as_data (length records)) (later_of elems d is begins later_left.0 later_left.1 ∙ ends) ∙ ap (λ k. Ok (data_after k after)) (size ∙ sym number)
 
-    pub refused_later : (refusal : Refusal DataFault) → ReturnsRefusal refusal (later_records 2 d later_left.0) → ReturnsRefusal refusal (as_data (length rows) (all_records rows))
+    pub refused_later : (refusal : Refusal DataFault) → ReturnsRefusal refusal (later_records 2 d later_left.0) → ReturnsRefusal refusal (as_data (length records) (all_records records))
     refused_later OutOfMemory ends = tt
-    refused_later (Fault fault) ends = ap (as_data (length rows)) (later_of elems d is begins later_left.0 later_left.1 ∙ ends)
+    refused_later (Fault fault) ends = ap (as_data (length records)) (later_of elems d is begins later_left.0 later_left.1 ∙ ends)
 
 -- ---- a later record
 
-pub begins : (rows : Rows) (first : Draft) (reader : SliceReader) → HasRows reader rows → AddedSoFar rows first 2 first reader
-begins rows first reader has = record { left = rows; has = has; rest = refl; count = omega arith }
+pub begins : (records : Records) (first : Draft) (reader : SliceReader) → HasRecords reader records → AddedSoFar records first 2 first reader
+begins records first reader has = record { left = records; has = has; rest = refl; count = omega arith }
 
-module _ (rows : Rows) (first : Draft) (row : ℕ) (d : Draft) (old : SliceReader) (far : AddedSoFar rows first row d old) (fields : List (List ℕ)) (reader : SliceReader) (found : Bool)
-    (next : NextRow far.left found fields reader) where
-  pub all_added : found ≡ false → (later_records 2 first rows ≡ Ok d) × (row - 1 ≡ length rows + 1)
+module _ (records : Records) (first : Draft) (row : ℕ) (d : Draft) (old : SliceReader) (far : AddedSoFar records first row d old) (fields : List (List ℕ)) (reader : SliceReader) (found : Bool)
+    (next : NextRecord far.left found fields reader) where
+  pub all_added : found ≡ false → (later_records 2 first records ≡ Ok d) × (row - 1 ≡ length records + 1)
   all_added e =
       let none = no_more far.left fields reader found next e in
       let size : length far.left ≡ 0 = ap length none in
       let count = far.count in
       (far.rest ∙ ap (later_records row d) none, omega arith)
 
-  later_fault : (code : DataCode) → found ≡ true → later_record d fields ≡ Err code → later_records 2 first rows ≡ Err (record { row = row; code = code })
+  later_fault : (code : DataCode) → found ≡ true → later_record d fields ≡ Err code → later_records 2 first records ≡ Err (record { row = row; code = code })
   later_fault code e is =
       let more = one_more far.left fields reader found next e in
       far.rest ∙ ap (later_records row d) more.1 ∙ ap (λ r. then_at row r (λ b. later_records (row + 1) b more.0)) is
 
-  pub later_refusal : (refusal : Refusal DataCode) → found ≡ true → ReturnsRefusal refusal (later_record d fields) → ReturnsRefusal (refusal_at row refusal) (later_records 2 first rows)
+  pub later_refusal : (refusal : Refusal DataCode) → found ≡ true → ReturnsRefusal refusal (later_record d fields) → ReturnsRefusal (refusal_at row refusal) (later_records 2 first records)
   later_refusal OutOfMemory e is = tt
   later_refusal (Fault code) e is = later_fault code e is
 
-  pub went_on : (after : Draft) → found ≡ true → later_record d fields ≡ Ok after → AddedSoFar rows first (row + 1) after reader
+  pub went_on : (after : Draft) → found ≡ true → later_record d fields ≡ Ok after → AddedSoFar records first (row + 1) after reader
   went_on after e is =
       let more = one_more far.left fields reader found next e in
       let size : length far.left ≡ length (fields ∷ more.0) = ap length more.1 in

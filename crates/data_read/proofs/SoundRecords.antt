@@ -6,14 +6,16 @@ use Rattle.std.proofs.lemmas.Bool.{leb-true, ltb-true, and_parts}
 use Rattle.std.proofs.lemmas.List.{length-replicate, length-map, length_push, map-append}
 use Rattle.std.proofs.lemmas.List.Sums.{sum_by_push}
 use Rattle.std.specs.Prelude.{if◌then◌else◌}
+use Rattle.coll_data.specs.Types.{default_type}
 use Rattle.coll_data.specs.Tiles.{tile_count}
 use Rattle.coll_data.specs.WellMade.{is_element_count}
 use Rattle.data_read.specs.declared.growing.GrowingColl.{GrowingColl}
 use Rattle.data_read.specs.declared.growing.AskedColl.{AskedColl}
 use Rattle.data_read.specs.Fields.{field, is_name, whole}
 use Rattle.data_read.specs.Draft.{Draft, begun, is_new, type_among, type_named, with_coll, with_type}
-use Rattle.data_read.specs.Records.{as_element_count, columns, coll_of, coll_record, collof_record, element_count, first_record, int_record, shape_of, side, asked_coll, type_record}
+use Rattle.data_read.specs.Records.{as_element_count, coll_of, coll_record, collof_record, element_count, first_record, int_record, shape_of, side, asked_coll, type_record}
 use Rattle.data_read.proofs.Choices.{by_option, no_value}
+use Rattle.data_read.proofs.Accepted.{asked}
 use Rattle.data_read.proofs.Soundness.{HasLength, IsSound, IsSoundColl, all_replicate, all_true_push, at_push, counts_of, elements_in}
 use Rattle.list_lemmas.proofs.Truth.{chosen, by_test}
 use Rattle.list_lemmas.proofs.Options.{by_result, same_Ok}
@@ -208,33 +210,21 @@ record IsSizeOf (d : Draft) (size : AskedColl) : Type 0 where
 
 sized_is : (d : Draft) (type : List ℕ) (fields : List (List ℕ)) (at : ℕ) (size : AskedColl) → asked_coll d type fields at ≡ Ok size → IsSizeOf d size
 sized_is d type fields at size is =
-    by_option (type_named d type)
-    (λ h. let s = rw h at is in no_value s)
-    (λ known hk. let is = rw hk at is in
-    by_option (whole (field fields at))
-    (λ h. let s = rw h at is in no_value s)
-    (λ rows hr. let is = rw hr at is in
-    by_option (columns fields (at + 1))
-    (λ h. let s = rw h at is in no_value s)
-    (λ cols hc. let is = rw hc at is in
-    by_option (shape_of rows cols)
-    (λ h. let s = rw h at is in no_value s)
-    (λ shape hs. let is = rw hs at is in
-    by_test (nat_le (d.elements + tile_count shape.0 shape.1 * known.1) 16777216)
-    (λ h. let is = rw h at is in
-    let place = type_at type 0 ((codes "DEFAULT", d.elems) ∷ d.types) known hk in
+    let a = asked d type fields at size is in
+    let known = a.known in
+    let shape = a.shape in
+    let place = type_at type 0 ((default_type, d.elems) ∷ d.types) known a.is_type in
     let number = place.is_number in
     let within = place.within in
-    let count : length (counts_of d) ≡ length ((codes "DEFAULT", d.elems) ∷ d.types) = length-map ((codes "DEFAULT", d.elems) ∷ d.types) (λ (type : List ℕ × ℕ). type.1) in
+    let count : length (counts_of d) ≡ length ((default_type, d.elems) ∷ d.types) = length-map ((default_type, d.elems) ∷ d.types) (λ (type : List ℕ × ℕ). type.1) in
     let here : known.0 ≡ place.place = omega arith in
-    subst (IsSizeOf d) (same_Ok _ _ is)
+    subst (IsSizeOf d) (sym a.made)
     (record {
       within = omega arith;
       is = ap (λ n. get_or (counts_of d) n 0) here ∙ place.is_count;
-      tiles = shape_has rows cols shape hs;
-      room = leb-true (d.elements + tile_count shape.0 shape.1 * known.1) 16777216 h;
-    }))
-    (λ h. let s = rw h at is in no_value s)))))
+      tiles = shape_has a.rows a.cols shape a.is_shape;
+      room = leb-true (d.elements + tile_count shape.0 shape.1 * known.1) 16777216 a.room;
+    })
 
 coll_of_sound : (d e : Draft) (type : List ℕ) (fields : List (List ℕ)) (at : ℕ) → IsSound d → coll_of d type fields at ≡ Ok e → IsSound e
 coll_of_sound d e type fields at sound is =
@@ -254,7 +244,7 @@ pub coll_sound : (d e : Draft) (fields : List (List ℕ)) → IsSound d → coll
 coll_sound d e fields sound is =
     by_test ((length fields == 3) || (length fields == 4))
     (λ h. let is = rw h at is in
-    coll_of_sound d e (codes "DEFAULT") fields 1 sound is)
+    coll_of_sound d e default_type fields 1 sound is)
     (λ h. let s = rw h at is in no_value s)
 
 pub collof_sound : (d e : Draft) (fields : List (List ℕ)) → IsSound d → collof_record d fields ≡ Ok e → IsSound e

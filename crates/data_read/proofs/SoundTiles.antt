@@ -1,16 +1,17 @@
 -- Records of tiles, and any record, leave the data so far sound.
-use Rattle.std.specs.Prelude.{◌&&◌, nat_le}
-use Rattle.std.proofs.Common.{◌≡◌, ℕ, ◌+◌, ◌-◌, ◌*◌, ℤ, List, length, drop, get_or, set, slice_get, codes, bytes_eq, Option, Some, None, option_map, Ok, refl, sym, ◌∙◌, ap, subst, arith, length-set}
+use Rattle.std.specs.Prelude.{nat_le}
+use Rattle.std.proofs.Common.{◌≡◌, ℕ, ◌+◌, ◌-◌, ◌*◌, ℤ, List, length, drop, get_or, set, slice_get, codes, bytes_eq, Option, Some, None, option_map, Ok, refl, ◌∙◌, ap, subst, arith, length-set}
 use Rattle.std.specs.List.{sum_by}
 use Rattle.std.proofs.lemmas.Bool.{leb-true, and_parts}
 use Rattle.std.proofs.lemmas.List.{length-drop}
 use Rattle.std.proofs.lemmas.List.Sums.{sum_by-set}
 use Rattle.std.proofs.lemmas.Option.{get_or_from_slice_get, slice_get_within, option_and_then_some}
 use Rattle.data_read.specs.declared.growing.GrowingColl.{GrowingColl}
-use Rattle.data_read.specs.Fields.{field, is_name, whole}
+use Rattle.data_read.specs.Fields.{field, is_name}
 use Rattle.data_read.specs.Draft.{Draft, coll_index, coll_named, with_tile}
-use Rattle.data_read.specs.Records.{column, first_value, free_index, later_record, new_tile, numbers, tile_record}
+use Rattle.data_read.specs.Records.{first_value, later_record, new_tile, tile_record}
 use Rattle.data_read.proofs.Choices.{by_option, no_value}
+use Rattle.data_read.proofs.Accepted.{accepted_tile}
 use Rattle.data_read.proofs.Values.{length_opened, numbers_length}
 use Rattle.data_read.proofs.Soundness.{HasLength, IsSound, IsSoundColl, counts_of, elements_in}
 use Rattle.data_read.proofs.SoundRecords.{coll_sound, collof_sound, int_sound, type_sound}
@@ -23,24 +24,10 @@ use Rattle.list_lemmas.proofs.Places.{each_at, each_set}
 tile_length : (fields : List (List ℕ)) (coll : GrowingColl) (tile : ℕ × List ℤ) → new_tile fields coll ≡ Ok tile → length tile.1 ≡ coll.elements
 tile_length fields coll tile is =
     let first = first_value coll.shape.1 in
-    by_test (nat_le 1 (length fields - first) && nat_le (length fields - first) coll.elements)
-    (λ ht. let is = rw ht at is in
-    by_option (whole (field fields 2))
-    (λ h. let s = rw h at is in no_value s)
-    (λ i hi. let is = rw hi at is in
-    by_option (column coll.shape.1 fields)
-    (λ h. let s = rw h at is in no_value s)
-    (λ j hj. let is = rw hj at is in
-    by_option (numbers (drop first fields))
-    (λ h. let s = rw h at is in no_value s)
-    (λ values hv. let is = rw hv at is in
-    by_result (free_index coll i j)
-    (λ index hn. let is = rw hn at is in
-    let few = leb-true (length fields - first) coll.elements (and_parts (nat_le 1 (length fields - first)) (nat_le (length fields - first) coll.elements) ht).1 in
-    let size : length values ≡ length fields - first = numbers_length (drop first fields) values hv ∙ length-drop first fields in
-    ap (λ (t : ℕ × List ℤ). length t.1) (sym (same_Ok _ _ is)) ∙ length_opened coll.elements values (omega arith))
-    (λ code hn. let s = rw hn at is in no_value s)))))
-    (λ h. let s = rw h at is in no_value s)
+    let a = accepted_tile fields coll tile is in
+    let few = leb-true (length fields - first) coll.elements (and_parts (nat_le 1 (length fields - first)) (nat_le (length fields - first) coll.elements) a.few).1 in
+    let size : length a.values ≡ length fields - first = numbers_length (drop first fields) a.values a.are_values ∙ length-drop first fields in
+    ap (λ (t : ℕ × List ℤ). length t.1) a.made ∙ length_opened coll.elements a.values (omega arith)
 
 with_tile_sound : (d : Draft) (at : ℕ) (coll : GrowingColl) (index : ℕ) (tile : List ℤ) → IsSound d → slice_get d.colls at ≡ Some coll → length tile ≡ coll.elements → IsSound (with_tile d at coll index tile)
 with_tile_sound d at coll index tile sound got size =

@@ -82,8 +82,8 @@ same_total counts (c ∷ cs) all =
     let one : f (finished c) ≡ elements_in c = ap (λ n. n * get_or counts c.datatype 0) (length-map c.tiles zeros) ∙ ap (λ n. length c.tiles * n) all.0.elements in
     sum_by-cons f (finished c) (map finished cs) ∙ ap (λ n. n + sum_by f (map finished cs)) one ∙ ap (λ n. elements_in c + n) rest ∙ sym (sum_by-cons elements_in c cs)
 
-pub well_made : (d : Draft) (rows : ℕ) → IsSound d → IsWellMade (data_after rows d)
-well_made d rows sound =
+pub well_made : (d : Draft) (records : ℕ) → IsSound d → IsWellMade (data_after records d)
+well_made d records sound =
     let total = same_total (counts_of d) d.colls sound.colls ∙ sound.total in
     let few = sound.at_most in
     record {

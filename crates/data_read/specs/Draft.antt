@@ -1,6 +1,7 @@
 -- The data of the records so far, and what a record adds to them. Source: this project's own choice.
-use Rattle.std.specs.Prelude.{ℕ, ◌+◌, ◌-◌, ◌*◌, ℤ, pos, Bool, not, ◌||◌, List, [], ◌∷◌, ◌++◌, length, map, replicate, codes, Option, Some, None, is_some, slice_get, slice_set, bytes_eq, option_map, option_and_then, unwrap_or, if◌then◌else◌}
+use Rattle.std.specs.Prelude.{ℕ, ◌+◌, ◌-◌, ◌*◌, ℤ, pos, Bool, not, ◌||◌, List, [], ◌∷◌, ◌++◌, length, map, replicate, Option, Some, None, is_some, slice_get, slice_set, bytes_eq, option_map, option_and_then, unwrap_or, if◌then◌else◌}
 use Rattle.std.specs.List.{list_any}
+use Rattle.coll_data.specs.Types.{default_type}
 use Rattle.coll_data.specs.Data.{Data}
 use Rattle.coll_data.specs.Tiles.{tile_count, tile_index}
 use Rattle.coll_data.specs.declared.coll.Coll.{Coll}
@@ -31,7 +32,7 @@ type_among name number (type ∷ types) =
 
 -- the number and the elements of the type of this name; DEFAULT is type 0
 abbrev pub type_named : Draft → List ℕ → Option (ℕ × ℕ)
-type_named d name = type_among name 0 ((codes "DEFAULT", d.elems) ∷ d.types)
+type_named d name = type_among name 0 ((default_type, d.elems) ∷ d.types)
 
 -- the number of the first of these collections that has this name, counted from 0
 abbrev pub coll_index : List ℕ → List GrowingColl → Option ℕ
@@ -54,7 +55,7 @@ slot_at coll i j =
     option_and_then (λ index. option_map (λ tile. (index, tile)) (slice_get coll.tiles index))
     (tile_index coll.shape.0 coll.shape.1 i j)
 
--- the first numbers of a tile of so many elements; the others are 0
+-- the first numbers of a tile of this many elements; the others are 0
 abbrev pub opened : ℕ → List ℤ → List ℤ
 opened elements values = values ++ replicate (elements - length values) (pos 0)
 
@@ -66,7 +67,8 @@ with_type d name elements = record d { types = d.types ++ (name, elements) ∷ [
 abbrev pub with_int : Draft → List ℕ → ℤ → Draft
 with_int d name value = record d { ints = d.ints ++ (name, value) ∷ [] }
 
--- one collection more, of this shape, with tiles of a type of this number and so many elements, none of them given yet
+-- one collection more, of this shape, with tiles of a type of this number and this many elements, none of them given
+-- yet
 abbrev pub with_coll : Draft → List ℕ → ℕ × Option ℕ → ℕ → ℕ → Draft
 with_coll d name shape datatype elements =
     record d {
@@ -98,7 +100,7 @@ finished coll =
       tiles = map (λ tile. unwrap_or tile (replicate coll.elements (pos 0))) coll.tiles;
     }
 
--- the data after so many records
+-- the data after this many records
 abbrev pub data_after : ℕ → Draft → Data
-data_after rows d =
-    record { types = d.types; elems = d.elems; ints = d.ints; colls = map finished d.colls; rows_read = rows }
+data_after records d =
+    record { types = d.types; elems = d.elems; ints = d.ints; colls = map finished d.colls; records_read = records }

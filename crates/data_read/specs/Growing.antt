@@ -32,7 +32,7 @@ meaning ints colls name =
 abbrev pub IsKeyed : Growing → Type 0
 IsKeyed all = (name : List ℕ) → value_named all.names name ≡ meaning all.ints all.colls.items name
 
--- the refusal of a record is one of its row
+-- the refusal of the record of this number, which is the row of its fault
 abbrev pub refusal_at : ℕ → Refusal DataCode → Refusal DataFault
 refusal_at row OutOfMemory = OutOfMemory
 refusal_at row (Fault code) = Fault (record { row = row; code = code })

@@ -3,4 +3,4 @@ pub mod Draft
 pub mod Records
 pub mod Reading
 pub mod Growing
-pub mod Rows
+pub mod RecordsLeft

@@ -14,25 +14,25 @@ use Rattle.data_read.specs.Records.{first_record, later_record}
 abbrev pub records_of : List ℕ → List (List (List ℕ))
 records_of text = records default_config (strip_bom text)
 
--- what follows a record: its fault is one of its row
+-- what follows the record of this number, which is the row of its fault
 abbrev pub then_at : {A B : Type 0} → ℕ → Result A DataCode → (A → Result B DataFault) → Result B DataFault
 then_at row (Ok a) next = next a
 then_at row (Err code) next = Err (record { row = row; code = code })
 
--- the records from this row on, one after another
+-- the records from that of this number on, one after another
 abbrev pub later_records : ℕ → Draft → List (List (List ℕ)) → Result Draft DataFault
 later_records row d [] = Ok d
-later_records row d (fields ∷ rows) = then_at row (later_record d fields) (λ next. later_records (row + 1) next rows)
+later_records row d (fields ∷ more) = then_at row (later_record d fields) (λ next. later_records (row + 1) next more)
 
 -- all records; there has to be one
 abbrev pub all_records : List (List (List ℕ)) → Result Draft DataFault
 all_records [] = Err (record { row = 1; code = NoElems })
-all_records (fields ∷ rows) = then_at 1 (first_record fields) (λ elements. later_records 2 (begun elements) rows)
+all_records (fields ∷ more) = then_at 1 (first_record fields) (λ elements. later_records 2 (begun elements) more)
 
--- the data of so many records
+-- the data of this many records
 abbrev pub as_data : ℕ → Result Draft DataFault → Result Data DataFault
-as_data rows (Ok d) = Ok (data_after rows d)
-as_data rows (Err fault) = Err fault
+as_data count (Ok d) = Ok (data_after count d)
+as_data count (Err fault) = Err fault
 
 -- the data that a text spells, or its first fault
 abbrev pub data_of : List ℕ → Result Data DataFault

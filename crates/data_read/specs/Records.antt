@@ -3,6 +3,7 @@
 use Rattle.std.specs.Prelude.{ℕ, ◌+◌, ◌-◌, ◌*◌, ℤ, pos, negsuc, Bool, not, ◌&&◌, ◌||◌, ◌==◌, nat_le, nat_lt, List, [], ◌∷◌, length, drop, codes, Option, Some, None, is_some, Result, Ok, Err, bytes_eq, option_map, option_and_then, if◌then◌else◌}
 use Rattle.ptg_base.specs.Limits.{most_elements, most_named_types, most_tiles}
 use Rattle.ptg_base.specs.Returns.{and_then}
+use Rattle.coll_data.specs.Types.{default_type}
 use Rattle.coll_data.specs.Tiles.{tile_count}
 use Rattle.coll_data.specs.WellMade.{is_element_count}
 use Rattle.coll_data.specs.declared.fault.DataCode.{DataCode}
@@ -70,7 +71,7 @@ abbrev pub side : ℤ → Option ℕ
 side (pos n) = if nat_le 1 n && nat_le n most_tiles then Some n else None
 side (negsuc n) = None
 
--- the shape of so many rows and columns, if it has from 1 to 65,536 tiles
+-- the shape of this many rows and columns, if it has from 1 to 65,536 tiles
 abbrev pub shape_of : ℤ → Option ℤ → Option (ℕ × Option ℕ)
 shape_of rows None = option_map (λ r. (r, None)) (side rows)
 shape_of rows (Some cols) =
@@ -101,7 +102,7 @@ coll_of d type fields at =
 -- `coll,NAME,R` or `coll,NAME,R,C`: one collection more, of type DEFAULT
 abbrev pub coll_record : Draft → List (List ℕ) → Result Draft DataCode
 coll_record d fields =
-    require ((length fields == 3) || (length fields == 4)) FieldCount (coll_of d (codes "DEFAULT") fields 1)
+    require ((length fields == 3) || (length fields == 4)) FieldCount (coll_of d default_type fields 1)
 
 -- `collof,TYPE,NAME,R` or `collof,TYPE,NAME,R,C`: one collection more, of the type of this name
 abbrev pub collof_record : Draft → List (List ℕ) → Result Draft DataCode

@@ -12,7 +12,7 @@ use crate::field::{field, whole};
 use crate::growing::{AskedColl, Growing, GrowingColl, Known};
 use crate::names::is_new;
 use crate::types::type_named;
-use coll_data::{DataCode, tile_count};
+use coll_data::{DEFAULT_TYPE, DataCode, tile_count};
 use csv::ByteRecord;
 use ptg_base::{OutOfMemory, Refusal, Seq, Text, Tile, is_name};
 use std::alloc::Global;
@@ -24,11 +24,11 @@ const MOST_TILES: i64 = 65_536;
 const MOST_ELEMENTS: u64 = 16_777_216;
 
 // The number of columns in the field of this number; none where the record ends before it.
-fn columns(row: &ByteRecord, at: usize) -> Option<Option<i64>>
-    ensures { result ≡ columns (fields_of row.now) at }
+fn columns(fields: &ByteRecord, at: usize) -> Option<Option<i64>>
+    ensures { result ≡ columns (fields_of fields.now) at }
 {
-    if at < row.len() {
-        let cols = whole(field(row, at))?;
+    if at < fields.len() {
+        let cols = whole(field(fields, at))?;
         Some(Some(cols))
     } else {
         Some(None)
@@ -47,7 +47,7 @@ fn side(n: i64) -> Option<u32>
     }
 }
 
-// The shape of so many rows and columns, if it has from 1 to 65,536 tiles.
+// The shape of this many rows and columns, if it has from 1 to 65,536 tiles.
 fn shape_of(rows: i64, cols: Option<i64>) -> Option<(u32, Option<u32>)>
     ensures shape { result ≡ shape_of rows cols }
     ensures at_most { IfSome result (λ shape. tile_count shape.0 shape.1 ≤ most_tiles) }
@@ -67,11 +67,11 @@ fn shape_of(rows: i64, cols: Option<i64>) -> Option<(u32, Option<u32>)>
 fn asked_coll(
     all: &Growing,
     datatype: &[u8],
-    row: &ByteRecord,
+    fields: &ByteRecord,
     at: usize,
 ) -> Result<AskedColl, DataCode>
     requires { at ≤ 3 }
-    ensures asked_coll { result ≡ asked_coll (draft_of all.now) datatype.now (fields_of row.now) at }
+    ensures asked_coll { result ≡ asked_coll (draft_of all.now) datatype.now (fields_of fields.now) at }
     ensures tiles_at_most { IfOk result (λ size. tile_count size.shape.0 size.shape.1 ≤ most_tiles) }
     ensures room { IfOk result (λ size.
         all.now.elements + tile_count size.shape.0 size.shape.1 * size.elements ≤ most_elements) }
@@ -79,10 +79,10 @@ fn asked_coll(
     let Some((datatype, elements)) = type_named(all, datatype) else {
         return Err(DataCode::UnknownType);
     };
-    let Some(rows) = whole(field(row, at)) else {
+    let Some(rows) = whole(field(fields, at)) else {
         return Err(DataCode::BadNumber);
     };
-    let Some(cols) = columns(row, at + 1) else {
+    let Some(cols) = columns(fields, at + 1) else {
         return Err(DataCode::BadNumber);
     };
     let Some(shape) = shape_of(rows, cols) else {
@@ -99,7 +99,7 @@ fn asked_coll(
     })
 }
 
-// So many places without a tile.
+// This many places without a tile.
 fn no_tiles(alloc: Global, count: u32) -> Result<Seq<Option<Tile>>, OutOfMemory>
     ensures { IfOk result (λ tiles. tiles ≡ replicate count None) }
 {
@@ -147,16 +147,16 @@ fn add_coll_of(
     alloc: Global,
     all: &mut Growing,
     datatype: &[u8],
-    row: &ByteRecord,
+    fields: &ByteRecord,
     at: usize,
 ) -> Result<(), Refusal<DataCode>>
     requires keyed { IsKeyed all.old }
     requires near { at ≤ 2 }
-    ensures step { ReturnsDraft result (coll_of (draft_of all.old) datatype.now (fields_of row.now) at)
+    ensures step { ReturnsDraft result (coll_of (draft_of all.old) datatype.now (fields_of fields.now) at)
         (draft_of all.new) }
     ensures keyed { OnOk result (IsKeyed all.new) }
 {
-    let bytes = field(row, at);
+    let bytes = field(fields, at);
     if !is_name(datatype) || !is_name(bytes) {
         return Err(Refusal::Fault(DataCode::BadName));
     }
@@ -164,7 +164,7 @@ fn add_coll_of(
     if !is_new(all, &name) {
         return Err(Refusal::Fault(DataCode::NameTwice));
     }
-    match asked_coll(all, datatype, row, at + 1) {
+    match asked_coll(all, datatype, fields, at + 1) {
         Ok(size) => Ok(push_coll(alloc, all, name, size)?),
         Err(code) => Err(Refusal::Fault(code)),
     }
@@ -174,30 +174,30 @@ fn add_coll_of(
 pub(crate) fn add_coll(
     alloc: Global,
     all: &mut Growing,
-    row: &ByteRecord,
+    fields: &ByteRecord,
 ) -> Result<(), Refusal<DataCode>>
     requires { IsKeyed all.old }
-    ensures step { ReturnsDraft result (coll_record (draft_of all.old) (fields_of row.now)) (draft_of all.new) }
+    ensures step { ReturnsDraft result (coll_record (draft_of all.old) (fields_of fields.now)) (draft_of all.new) }
     ensures keyed { OnOk result (IsKeyed all.new) }
 {
-    if row.len() != 3 && row.len() != 4 {
+    if fields.len() != 3 && fields.len() != 4 {
         return Err(Refusal::Fault(DataCode::FieldCount));
     }
-    add_coll_of(alloc, all, b"DEFAULT".as_slice(), row, 1)
+    add_coll_of(alloc, all, DEFAULT_TYPE, fields, 1)
 }
 
 // Adds the collection of a `collof` record.
 pub(crate) fn add_collof(
     alloc: Global,
     all: &mut Growing,
-    row: &ByteRecord,
+    fields: &ByteRecord,
 ) -> Result<(), Refusal<DataCode>>
     requires { IsKeyed all.old }
-    ensures step { ReturnsDraft result (collof_record (draft_of all.old) (fields_of row.now)) (draft_of all.new) }
+    ensures step { ReturnsDraft result (collof_record (draft_of all.old) (fields_of fields.now)) (draft_of all.new) }
     ensures keyed { OnOk result (IsKeyed all.new) }
 {
-    if row.len() != 4 && row.len() != 5 {
+    if fields.len() != 4 && fields.len() != 5 {
         return Err(Refusal::Fault(DataCode::FieldCount));
     }
-    add_coll_of(alloc, all, field(row, 1), row, 2)
+    add_coll_of(alloc, all, field(fields, 1), fields, 2)
 }

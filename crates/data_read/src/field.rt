@@ -12,6 +12,7 @@ use ptg_base::decimal;
 // How many elements a tile may have.
 const MOST_TILE_ELEMENTS: i64 = 4096;
 
+// Whether the byte is a space or a tab.
 fn is_blank(b: u8) -> bool
     ensures { result ≡ is_blank b }
 {
@@ -54,10 +55,10 @@ fn without_blanks(bytes: &[u8]) -> &[u8]
 }
 
 // The field of this number, counted from 0, without the blanks around it.
-pub(crate) fn field(row: &ByteRecord, at: usize) -> &[u8]
-    ensures { result.now ≡ field (fields_of row.now) at }
+pub(crate) fn field(fields: &ByteRecord, at: usize) -> &[u8]
+    ensures { result.now ≡ field (fields_of fields.now) at }
 {
-    match row.get(at) {
+    match fields.get(at) {
         Some(bytes) => without_blanks(bytes),
         None => b"".as_slice(),
     }
@@ -71,6 +72,7 @@ fn digits_at_most(digits: &[u8], most: u64) -> Option<u64>
     decimal(digits, most)
 }
 
+// The number of these digits, if it fits 64 bits with a sign.
 fn positive(digits: &[u8]) -> Option<i64>
     ensures { result ≡ positive digits.now }
 {
@@ -80,6 +82,7 @@ fn positive(digits: &[u8]) -> Option<i64>
     }
 }
 
+// The number of these digits after a minus, if it fits 64 bits with a sign.
 fn negative(digits: &[u8]) -> Option<i64>
     ensures { result ≡ negative digits.now }
 {

@@ -60,11 +60,11 @@ fn all_finished(alloc: Global, colls: Vec<GrowingColl>) -> Result<Seq<Coll>, Out
     Ok(whole)
 }
 
-// The data after so many records.
-pub(crate) fn finish(alloc: Global, all: Growing, rows: u64) -> Result<Given, OutOfMemory>
-    requires { IsWellMade (data_after rows (draft_of all)) }
-    ensures { IfOk result (λ given. given ≡ data_after rows (draft_of all)) }
+// The data after this many records.
+pub(crate) fn finish(alloc: Global, all: Growing, records: u64) -> Result<Given, OutOfMemory>
+    requires { IsWellMade (data_after records (draft_of all)) }
+    ensures { IfOk result (λ given. given ≡ data_after records (draft_of all)) }
 {
     let colls = all_finished(alloc, all.colls)?;
-    Ok(Given::new(all.types, all.elems, all.ints, colls, rows))
+    Ok(Given::new(all.types, all.elems, all.ints, colls, records))
 }

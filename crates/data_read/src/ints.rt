@@ -17,16 +17,16 @@ use std::alloc::Global;
 pub(crate) fn add_int(
     alloc: Global,
     all: &mut Growing,
-    row: &ByteRecord,
+    fields: &ByteRecord,
 ) -> Result<(), Refusal<DataCode>>
     requires { IsKeyed all.old }
-    ensures step { ReturnsDraft result (int_record (draft_of all.old) (fields_of row.now)) (draft_of all.new) }
+    ensures step { ReturnsDraft result (int_record (draft_of all.old) (fields_of fields.now)) (draft_of all.new) }
     ensures keyed { OnOk result (IsKeyed all.new) }
 {
-    if row.len() != 3 {
+    if fields.len() != 3 {
         return Err(Refusal::Fault(DataCode::FieldCount));
     }
-    let bytes = field(row, 1);
+    let bytes = field(fields, 1);
     if !is_name(bytes) {
         return Err(Refusal::Fault(DataCode::BadName));
     }
@@ -34,7 +34,7 @@ pub(crate) fn add_int(
     if !is_new(all, &name) {
         return Err(Refusal::Fault(DataCode::NameTwice));
     }
-    let Some(value) = whole(field(row, 2)) else {
+    let Some(value) = whole(field(fields, 2)) else {
         return Err(Refusal::Fault(DataCode::BadNumber));
     };
     let key = Text::of(alloc, bytes)?;

@@ -2,6 +2,7 @@
 #![tactic(auto)]
 
 mod colls;
+mod csv_records;
 mod field;
 mod finish;
 mod growing;
@@ -9,7 +10,6 @@ mod ints;
 mod names;
 mod read;
 mod record;
-mod rows;
 mod tiles;
 mod types;
 

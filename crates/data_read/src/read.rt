@@ -7,74 +7,75 @@ ghost use Rattle.ptg_base.specs.declared.refusal.Refusal.TheVariants.{Fault};
 ghost use Rattle.data_read.specs.Growing.{draft_of, IsKeyed, refusal_at};
 ghost use Rattle.ptg_base.specs.Returns.{FindsOrRefuses, Returns, ReturnsRefusal};
 ghost use Rattle.data_read.specs.Reading.{all_records, as_data, data_of, later_records};
-ghost use Rattle.data_read.specs.Rows.{HasRows};
+ghost use Rattle.data_read.specs.RecordsLeft.{HasRecords};
 
+use crate::csv_records::{next_record, reader_of};
 use crate::finish::finish;
 use crate::growing::Growing;
 use crate::record::{add_record, start};
-use crate::rows::{next_row, reader_of};
 use coll_data::{DataCode, DataFault, DataRefusal, Given};
 use csv::{ByteRecord, Reader};
 use ptg_base::Refusal;
 use std::alloc::Global;
 
+// The data that a text of any length spells, or its first fault.
 fn read(alloc: Global, bytes: &[u8]) -> Result<Given, DataRefusal>
     ensures { Returns (λ given. given) result (data_of bytes.now) }
 {
     let mut reader = reader_of(alloc, bytes);
-    let mut row = ByteRecord::new(alloc);
-    read_rows(alloc, &mut reader, &mut row)
+    let mut fields = ByteRecord::new(alloc);
+    read_records(alloc, &mut reader, &mut fields)
 }
 
 // The data of the records of a reader that is at its first one.
-fn read_rows(
+fn read_records(
     alloc: Global,
     reader: &mut Reader<&[u8]>,
-    row: &mut ByteRecord,
+    fields: &mut ByteRecord,
 ) -> Result<Given, DataRefusal>
-    requires { (rows : List (List (List ℕ))) × HasRows reader.old rows }
-    ensures { (rows : List (List (List ℕ))) → HasRows reader.old rows
-        → Returns (λ given. given) result (as_data (length rows) (all_records rows)) }
+    requires { (records : List (List (List ℕ))) × HasRecords reader.old records }
+    ensures { (records : List (List (List ℕ))) → HasRecords reader.old records
+        → Returns (λ given. given) result (as_data (length records) (all_records records)) }
 {
-    if !next_row(reader, row)? {
+    if !next_record(reader, fields)? {
         return Err(refused(1, DataCode::NoElems));
     }
-    let mut all = match start(alloc, row) {
+    let mut all = match start(alloc, fields) {
         Ok(all) => all,
         Err(code) => return Err(refused(1, code)),
     };
-    let count = add_later_rows(alloc, reader, row, &mut all)?;
+    let count = add_later_records(alloc, reader, fields, &mut all)?;
     Ok(finish(alloc, all, count)?)
 }
 
 // Adds the records after the first, and returns how many records there are in all.
-fn add_later_rows(
+fn add_later_records(
     alloc: Global,
     reader: &mut Reader<&[u8]>,
-    row: &mut ByteRecord,
+    fields: &mut ByteRecord,
     all: &mut Growing,
 ) -> Result<u64, DataRefusal>
     requires keyed { IsKeyed all.old }
-    requires rows { (rows : List (List (List ℕ))) × HasRows reader.old rows }
-    ensures { (rows : List (List (List ℕ))) → HasRows reader.old rows
+    requires records { (records : List (List (List ℕ))) × HasRecords reader.old records }
+    ensures { (records : List (List (List ℕ))) → HasRecords reader.old records
         → MatchResult result
-        (λ count. (later_records 2 (draft_of all.old) rows ≡ Ok (draft_of all.new)) × (count ≡ length rows + 1))
-        (λ refusal. ReturnsRefusal refusal (later_records 2 (draft_of all.old) rows)) }
+        (λ count. (later_records 2 (draft_of all.old) records ≡ Ok (draft_of all.new)) × (count ≡ length records + 1))
+        (λ refusal. ReturnsRefusal refusal (later_records 2 (draft_of all.old) records)) }
 {
     for number in 2..u64::MAX {
-        if !next_row(reader, row)? {
+        if !next_record(reader, fields)? {
             return Ok(number - 1);
         }
-        match add_record(alloc, all, row) {
+        match add_record(alloc, all, fields) {
             Ok(_) => {}
             Err(refusal) => return Err(refused_at(number, refusal)),
         }
     }
-    // No text has so many records.
+    // No text has that many records.
     Err(Refusal::OutOfMemory)
 }
 
-// The refusal of the record of this row.
+// The refusal of the record of this number.
 fn refused_at(row: u64, refusal: Refusal<DataCode>) -> DataRefusal
     ensures { result ≡ refusal_at row refusal }
 {
@@ -84,6 +85,7 @@ fn refused_at(row: u64, refusal: Refusal<DataCode>) -> DataRefusal
     }
 }
 
+// The refusal with this code at this row.
 fn refused(row: u64, code: DataCode) -> DataRefusal
     ensures { result ≡ Fault (record { row = row; code = code }) }
 {

@@ -20,29 +20,29 @@ use ptg_base::{Refusal, Seq};
 use std::alloc::Global;
 
 // The number of elements of DEFAULT, which the first record gives.
-fn first_record(row: &ByteRecord) -> Result<u32, DataCode>
-    ensures { result ≡ first_record (fields_of row.now) }
+fn first_record(fields: &ByteRecord) -> Result<u32, DataCode>
+    ensures { result ≡ first_record (fields_of fields.now) }
 {
-    if field(row, 0) != b"elems".as_slice() {
+    if field(fields, 0) != b"elems".as_slice() {
         return Err(DataCode::NoElems);
     }
-    if row.len() != 2 {
+    if fields.len() != 2 {
         return Err(DataCode::FieldCount);
     }
-    match element_count(field(row, 1)) {
+    match element_count(field(fields, 1)) {
         Some(elements) => Ok(elements),
         None => Err(DataCode::BadElems),
     }
 }
 
 // The data of the first record.
-pub(crate) fn start(alloc: Global, row: &ByteRecord) -> Result<Growing, DataCode>
+pub(crate) fn start(alloc: Global, fields: &ByteRecord) -> Result<Growing, DataCode>
     ensures start { MatchResult result
-        (λ all. (first_record (fields_of row.now) ≡ Ok all.elems) × (draft_of all ≡ begun all.elems)) (λ code.
-        first_record (fields_of row.now) ≡ Err code) }
+        (λ all. (first_record (fields_of fields.now) ≡ Ok all.elems) × (draft_of all ≡ begun all.elems)) (λ code.
+        first_record (fields_of fields.now) ≡ Err code) }
     ensures keyed { MatchResult result (λ all. IsKeyed all) (λ code. Unit {0}) }
 {
-    let elems = first_record(row)?;
+    let elems = first_record(fields)?;
     Ok(Growing {
         types: Seq::new(alloc),
         elems,
@@ -57,27 +57,27 @@ pub(crate) fn start(alloc: Global, row: &ByteRecord) -> Result<Growing, DataCode
 pub(crate) fn add_record(
     alloc: Global,
     all: &mut Growing,
-    row: &ByteRecord,
+    fields: &ByteRecord,
 ) -> Result<(), Refusal<DataCode>>
     requires { IsKeyed all.old }
-    ensures step { ReturnsDraft result (later_record (draft_of all.old) (fields_of row.now)) (draft_of all.new) }
+    ensures step { ReturnsDraft result (later_record (draft_of all.old) (fields_of fields.now)) (draft_of all.new) }
     ensures keyed { OnOk result (IsKeyed all.new) }
 {
-    let word = field(row, 0);
+    let word = field(fields, 0);
     if word == b"elems".as_slice() {
-        return add_type(alloc, all, row);
+        return add_type(alloc, all, fields);
     }
     if word == b"int".as_slice() {
-        return add_int(alloc, all, row);
+        return add_int(alloc, all, fields);
     }
     if word == b"coll".as_slice() {
-        return add_coll(alloc, all, row);
+        return add_coll(alloc, all, fields);
     }
     if word == b"collof".as_slice() {
-        return add_collof(alloc, all, row);
+        return add_collof(alloc, all, fields);
     }
     if word == b"tile".as_slice() {
-        return add_tile(alloc, all, row);
+        return add_tile(alloc, all, fields);
     }
     Err(Refusal::Fault(DataCode::UnknownRow))
 }

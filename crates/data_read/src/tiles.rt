@@ -26,12 +26,12 @@ fn first_value(cols: Option<u32>) -> usize
 }
 
 // The column of a tile.
-fn column(cols: Option<u32>, row: &ByteRecord) -> Option<i64>
-    ensures { result ≡ column cols (fields_of row.now) }
+fn column(cols: Option<u32>, fields: &ByteRecord) -> Option<i64>
+    ensures { result ≡ column cols (fields_of fields.now) }
 {
     match cols {
         None => Some(0),
-        Some(_) => whole(field(row, 3)),
+        Some(_) => whole(field(fields, 3)),
     }
 }
 
@@ -39,17 +39,17 @@ fn column(cols: Option<u32>, row: &ByteRecord) -> Option<i64>
 fn opened_tile(
     alloc: Global,
     elements: u32,
-    row: &ByteRecord,
+    fields: &ByteRecord,
     first: usize,
 ) -> Result<Option<Tile>, OutOfMemory>
-    requires at_most { length (fields_of row.now) - first ≤ elements }
-    requires within { first ≤ length (fields_of row.now) }
-    ensures { IfOk result (λ tile. tile ≡ option_map (opened elements) (numbers (drop first (fields_of row.now)))) }
+    requires at_most { length (fields_of fields.now) - first ≤ elements }
+    requires within { first ≤ length (fields_of fields.now) }
+    ensures { IfOk result (λ tile. tile ≡ option_map (opened elements) (numbers (drop first (fields_of fields.now)))) }
 {
-    let count = row.len() - first;
+    let count = fields.len() - first;
     let mut tile = Tile::zeros(alloc, elements)?;
     for k in 0..count {
-        let Some(value) = whole(field(row, first + k)) else {
+        let Some(value) = whole(field(fields, first + k)) else {
             return Ok(None);
         };
         tile.set(k as u32, value);
@@ -79,23 +79,23 @@ fn free_index(coll: &GrowingColl, i: i64, j: i64) -> Result<usize, DataCode>
 fn new_tile(
     alloc: Global,
     coll: &GrowingColl,
-    row: &ByteRecord,
+    fields: &ByteRecord,
 ) -> Result<(usize, Tile), Refusal<DataCode>>
-    ensures tile { Returns (λ tile. tile) result (new_tile (fields_of row.now) coll.now) }
+    ensures tile { Returns (λ tile. tile) result (new_tile (fields_of fields.now) coll.now) }
     ensures within { IfOk result (λ tile. tile.0 < length coll.now.tiles) }
 {
     let cols = coll.shape.1;
     let first = first_value(cols);
-    if row.len() <= first || row.len() - first > coll.elements as usize {
+    if fields.len() <= first || fields.len() - first > coll.elements as usize {
         return Err(Refusal::Fault(DataCode::TileCount));
     }
-    let Some(i) = whole(field(row, 2)) else {
+    let Some(i) = whole(field(fields, 2)) else {
         return Err(Refusal::Fault(DataCode::BadNumber));
     };
-    let Some(j) = column(cols, row) else {
+    let Some(j) = column(cols, fields) else {
         return Err(Refusal::Fault(DataCode::BadNumber));
     };
-    let Some(tile) = opened_tile(alloc, coll.elements, row, first)? else {
+    let Some(tile) = opened_tile(alloc, coll.elements, fields, first)? else {
         return Err(Refusal::Fault(DataCode::BadNumber));
     };
     match free_index(coll, i, j) {
@@ -108,16 +108,16 @@ fn new_tile(
 pub(crate) fn add_tile(
     alloc: Global,
     all: &mut Growing,
-    row: &ByteRecord,
+    fields: &ByteRecord,
 ) -> Result<(), Refusal<DataCode>>
     requires { IsKeyed all.old }
-    ensures step { ReturnsDraft result (tile_record (draft_of all.old) (fields_of row.now)) (draft_of all.new) }
+    ensures step { ReturnsDraft result (tile_record (draft_of all.old) (fields_of fields.now)) (draft_of all.new) }
     ensures keyed { OnOk result (IsKeyed all.new) }
 {
-    if row.len() < 4 {
+    if fields.len() < 4 {
         return Err(Refusal::Fault(DataCode::FieldCount));
     }
-    let bytes = field(row, 1);
+    let bytes = field(fields, 1);
     if !is_name(bytes) {
         return Err(Refusal::Fault(DataCode::BadName));
     }
@@ -125,7 +125,7 @@ pub(crate) fn add_tile(
     let Some(at) = coll_index(all, &name) else {
         return Err(Refusal::Fault(DataCode::UnknownColl));
     };
-    let (index, tile) = new_tile(alloc, &all.colls[at], row)?;
+    let (index, tile) = new_tile(alloc, &all.colls[at], fields)?;
     let coll = &mut all.colls[at];
     coll.tiles.set(index, Some(tile));
     Ok(())

@@ -10,12 +10,12 @@ ghost use Rattle.data_read.specs.Records.{type_record};
 
 use crate::field::{element_count, field};
 use crate::growing::Growing;
-use coll_data::DataCode;
+use coll_data::{DEFAULT_TYPE, DataCode};
 use csv::ByteRecord;
 use ptg_base::{Refusal, Text, is_name};
 use std::alloc::Global;
 
-// How many types the data may name beside DEFAULT.
+// How many types the data may name besides DEFAULT.
 const MOST_NAMED_TYPES: usize = 15;
 
 // The number and the elements of the type of this name among those past DEFAULT.
@@ -37,30 +37,30 @@ fn later_type(types: &[(Text, u32)], name: &[u8]) -> Option<(u32, u32)>
 pub(crate) fn type_named(all: &Growing, name: &[u8]) -> Option<(u32, u32)>
     ensures { result ≡ type_named (draft_of all.now) name.now }
 {
-    if name == b"DEFAULT".as_slice() {
+    if name == DEFAULT_TYPE {
         return Some((0, all.elems));
     }
     later_type(all.types.as_slice(), name)
 }
 
 // The name and the elements of the type that the record adds.
-fn new_type<'a>(all: &Growing, row: &'a ByteRecord) -> Result<(&'a [u8], u32), DataCode>
+fn new_type<'a>(all: &Growing, fields: &'a ByteRecord) -> Result<(&'a [u8], u32), DataCode>
     ensures step { MatchResult result
         (λ type.
-        type_record (draft_of all.now) (fields_of row.now) ≡ Ok (with_type (draft_of all.now) type.0.now type.1))
-        (λ code. type_record (draft_of all.now) (fields_of row.now) ≡ Err code) }
+        type_record (draft_of all.now) (fields_of fields.now) ≡ Ok (with_type (draft_of all.now) type.0.now type.1))
+        (λ code. type_record (draft_of all.now) (fields_of fields.now) ≡ Err code) }
     ensures at_most { MatchResult result (λ type. length all.now.types < most_named_types) (λ code. Unit {0}) }
 {
-    if row.len() == 2 {
+    if fields.len() == 2 {
         return Err(DataCode::ElemsTwice);
     }
-    if row.len() != 3 {
+    if fields.len() != 3 {
         return Err(DataCode::FieldCount);
     }
-    let Some(elements) = element_count(field(row, 2)) else {
+    let Some(elements) = element_count(field(fields, 2)) else {
         return Err(DataCode::BadElems);
     };
-    let name = field(row, 1);
+    let name = field(fields, 1);
     if !is_name(name) {
         return Err(DataCode::BadName);
     }
@@ -77,13 +77,13 @@ fn new_type<'a>(all: &Growing, row: &'a ByteRecord) -> Result<(&'a [u8], u32), D
 pub(crate) fn add_type(
     alloc: Global,
     all: &mut Growing,
-    row: &ByteRecord,
+    fields: &ByteRecord,
 ) -> Result<(), Refusal<DataCode>>
     requires { IsKeyed all.old }
-    ensures step { ReturnsDraft result (type_record (draft_of all.old) (fields_of row.now)) (draft_of all.new) }
+    ensures step { ReturnsDraft result (type_record (draft_of all.old) (fields_of fields.now)) (draft_of all.new) }
     ensures keyed { OnOk result (IsKeyed all.new) }
 {
-    let (name, elements) = match new_type(all, row) {
+    let (name, elements) = match new_type(all, fields) {
         Ok(found) => found,
         Err(code) => return Err(Refusal::Fault(code)),
     };

@@ -6,6 +6,9 @@ use Rattle.std.specs.Option.{option_map_or}
 use Rattle.ptg_base.specs.Lists.{IsIn}
 use Rattle.ptg_base.specs.Task.{Task}
 use Rattle.ptg_base.specs.declared.edge.Edge.{Edge}
+use Rattle.term_core.specs.declared.direction.Direction.{Direction}
+use Rattle.term_core.specs.declared.direction.Direction.TheVariants.{In, Out}
+use Rattle.term_core.specs.Kinds.{first_alone}
 use Rattle.plan_core.specs.declared.flow.FlowPlan.{FlowPlan}
 use Rattle.plan_core.specs.declared.plan.Plan.{Plan}
 use Rattle.plan_core.specs.declared.target.Target.{Target}
@@ -15,11 +18,10 @@ use Rattle.std.proofs.lemmas.List.Concat.{flat_map-append}
 use Rattle.dep_iter.specs.declared.link.Link.{Link}
 use Rattle.dep_iter.specs.Tasks.{flows_of, locals_of}
 use Rattle.plan_core.specs.declared.flow.DepPlan.{DepPlan}
+use Rattle.plan_core.specs.Flows.{dependences}
 use Rattle.dep_iter.specs.Active.{by_flow, held_target, held_targets, held_then, takes_first}
 use Rattle.dep_iter.specs.Arguments.{combinations, product}
-use Rattle.dep_iter.specs.declared.direction.Direction.{Direction}
-use Rattle.dep_iter.specs.declared.direction.Direction.TheVariants.{In, Out}
-use Rattle.dep_iter.specs.Directions.{IsNearFlow, dependences, edges_before, edges_of, far_flow, far_task, first_alone}
+use Rattle.dep_iter.specs.Directions.{IsNearFlow, edges_before, edges_of, far_flow, far_task}
 use Rattle.dep_iter.specs.Directions.{near_flow, near_task}
 use Rattle.dep_iter.specs.Edges.{in_edges, in_edges_before}
 use Rattle.dep_iter.specs.Items.{out_edges, out_edges_before}

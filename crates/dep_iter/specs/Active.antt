@@ -31,7 +31,9 @@ target_by d false = d.no
 abbrev pub active_target : DepPlan → List ℤ → Result (Option Target) ExprFault
 active_target d env = and_then (guard_value d.guard env) (λ b. Ok (target_by d b))
 
--- the same, where a dependence whose guard has a fault does not hold. The guards that a well task needs have none
+-- the target of a dependence under these locals, None where it does not hold or its guard has a fault. The guards that
+-- a
+-- well task needs have none
 abbrev pub held_target : DepPlan → List ℤ → Option Target
 held_target d env = result_unwrap_or (active_target d env) None
 
@@ -46,10 +48,11 @@ abbrev pub held_targets : Bool → List DepPlan → List ℤ → List Target
 held_targets first_only [] env = []
 held_targets first_only (d ∷ ds) env = held_then first_only (held_target d env) (held_targets first_only ds env)
 
--- the targets of the active in dependences of a flow, and of its active out dependences
+-- the targets of the active in dependences of a flow
 abbrev pub flow_ins : List ℤ → FlowPlan → List Target
 flow_ins env f = held_targets (takes_first f.kind) f.ins env
 
+-- the targets of the active out dependences of a flow
 abbrev pub flow_outs : List ℤ → FlowPlan → List Target
 flow_outs env f = held_targets false f.outs env
 
@@ -58,9 +61,10 @@ abbrev pub by_flow : (FlowPlan → List Target) → ℕ → List FlowPlan → Li
 by_flow targets n [] = []
 by_flow targets n (f ∷ fs) = map (λ x. (n, x)) (targets f) ++ by_flow targets (suc n) fs
 
--- the targets of the active in dependences of a task, and of its active out dependences, by flow in the text's order
+-- the targets of the active in dependences of a task, by flow in the text's order
 abbrev pub active_ins : Plan → Task → List (ℕ × Target)
 active_ins P t = by_flow (flow_ins (locals_of P t)) 0 (flows_of P t)
 
+-- the targets of the active out dependences of a task, by flow in the text's order
 abbrev pub active_outs : Plan → Task → List (ℕ × Target)
 active_outs P t = by_flow (flow_outs (locals_of P t)) 0 (flows_of P t)

@@ -40,16 +40,19 @@ pub record IsWellConnected (P : Plan) (t : Task) : Type 0 where
   -- a flow whose source is `NULL` sends nothing
   pub absent_sends_nothing : (n : ℕ) (i : Item) → data_source P t n ≡ source.Null → IsIn i (items P t) → item_flow i ≢ n
 
--- the edges into all tasks, those out of all tasks, all items, and the places that are written, joined in walk order
+-- the edges into all tasks, joined in walk order
 abbrev pub all_in : Plan → List Edge
 all_in P = flat_map (in_edges P) (all_tasks P)
 
+-- the edges out of all tasks, joined in walk order
 abbrev pub all_out : Plan → List Edge
 all_out P = flat_map (out_edges P) (all_tasks P)
 
+-- the items of all tasks, joined in walk order
 abbrev pub all_items : Plan → List Item
 all_items P = flat_map (items P) (all_tasks P)
 
+-- the write-backs of all tasks, joined in walk order
 abbrev pub all_writes : Plan → List WriteBack
 all_writes P = flat_map (write_backs P) (all_tasks P)
 

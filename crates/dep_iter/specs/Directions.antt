@@ -1,61 +1,49 @@
--- The two directions of a task's edges: those into it and those out of it. Source: this project's own choice; each word
--- joins one of both directions.
-use Rattle.std.specs.Prelude.{◌≡◌, ℕ, List, Bool, false, Some, slice_get}
+-- The edges of a task in one direction, and the two ends of an edge. Source: this project's own choice; each word joins
+-- one of both directions.
+use Rattle.std.specs.Prelude.{◌≡◌, ℕ, List, Some, slice_get}
 use Rattle.ptg_base.specs.Lists.{IsIn}
 use Rattle.ptg_base.specs.Task.{Task}
 use Rattle.ptg_base.specs.declared.edge.Edge.{Edge}
-use Rattle.term_core.specs.declared.flow.FlowKind.{FlowKind}
-use Rattle.plan_core.specs.declared.flow.DepPlan.{DepPlan}
+use Rattle.term_core.specs.declared.direction.Direction.{Direction}
+use Rattle.term_core.specs.declared.direction.Direction.TheVariants.{In, Out}
+use Rattle.term_core.specs.Directions.{opposite}
 use Rattle.plan_core.specs.declared.flow.FlowPlan.{FlowPlan}
 use Rattle.plan_core.specs.declared.plan.Plan.{Plan}
-use Rattle.dep_iter.specs.declared.direction.Direction.{Direction}
-use Rattle.dep_iter.specs.declared.direction.Direction.TheVariants.{In, Out}
 use Rattle.dep_iter.specs.Tasks.{flows_of, IsTask}
-use Rattle.dep_iter.specs.Active.{takes_first}
 use Rattle.dep_iter.specs.Edges.{edge, in_edges, in_edges_before}
 use Rattle.dep_iter.specs.Items.{out_edges, out_edges_before}
-
--- the other direction
-abbrev pub opposite : Direction → Direction
-opposite In = Out
-opposite Out = In
 
 -- the edge between flow n of the task t and flow m of the task u
 abbrev pub edge_at : Direction → Task → ℕ → Task → ℕ → Edge
 edge_at In t n u m = edge u m t n
 edge_at Out t n u m = edge t n u m
 
--- the task and the flow that the edge is one of, and the task and the flow at its other end
+-- the task that the edge is one of
 abbrev pub near_task : Direction → Edge → Task
 near_task In e = e.to
 near_task Out e = e.from
 
+-- the number of that task's flow
 abbrev pub near_flow : Direction → Edge → ℕ
 near_flow In e = e.in_flow
 near_flow Out e = e.out_flow
 
+-- the task at the other end of the edge
 abbrev pub far_task : Direction → Edge → Task
 far_task In e = e.from
 far_task Out e = e.to
 
+-- the number of that task's flow
 abbrev pub far_flow : Direction → Edge → ℕ
 far_flow In e = e.out_flow
 far_flow Out e = e.in_flow
 
--- the dependences of a flow, and whether the first that holds counts alone
-abbrev pub dependences : Direction → FlowPlan → List DepPlan
-dependences In f = f.ins
-dependences Out f = f.outs
-
-abbrev pub first_alone : Direction → FlowKind → Bool
-first_alone In kind = takes_first kind
-first_alone Out kind = false
-
--- the edges of a task, and those of its flow n that the first k dependences of the flow give
+-- the edges of a task
 abbrev pub edges_of : Direction → Plan → Task → List Edge
 edges_of In P t = in_edges P t
 edges_of Out P t = out_edges P t
 
+-- the edges of flow n of a task that the first k dependences of the flow give
 abbrev pub edges_before : Direction → Plan → Task → ℕ → ℕ → List Edge
 edges_before In P t n k = in_edges_before P t n k
 edges_before Out P t n k = out_edges_before P t n k

@@ -17,7 +17,7 @@ affinity P t =
     (slice_get P.classes t.class)
     (record { coll = 0; i = pos 0; j = pos 0 })
 
--- the number of a row and a column among the places of a collection with so many columns, row by row; it is the row's
+-- the number of a row and a column among the places of a collection with this many columns, row by row; it is the row's
 -- in one dimension
 abbrev pub number_in : Option ℕ → ℕ → ℕ → ℕ
 number_in None row column = row

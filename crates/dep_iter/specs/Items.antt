@@ -30,19 +30,21 @@ items_to t env n target.Null = []
 unfoldable pub items : Plan → Task → List Item
 items P t = flat_map (λ a. items_to t (locals_of P t) a.0 a.1) (active_outs P t)
 
--- the edge or the write-back that an item is
+-- the edge that an item is
 abbrev pub edge_of : Item → Option Edge
 edge_of (item.Edge e) = Some e
 edge_of (item.Write w) = None
 
+-- the write-back that an item is
 abbrev pub write_of : Item → Option WriteBack
 write_of (item.Edge e) = None
 write_of (item.Write w) = Some w
 
--- the edges out of a task, and its write-backs
+-- the edges out of a task
 abbrev pub out_edges : Plan → Task → List Edge
 out_edges P t = filter_map edge_of (items P t)
 
+-- the write-backs of a task
 abbrev pub write_backs : Plan → Task → List WriteBack
 write_backs P t = filter_map write_of (items P t)
 

@@ -5,6 +5,8 @@ use Rattle.std.specs.List.{list_all}
 use Rattle.std.specs.Option.{option_map_or}
 use Rattle.ptg_base.specs.Task.{Task}
 use Rattle.ptg_base.specs.declared.edge.Edge.{Edge}
+use Rattle.term_core.specs.declared.direction.Direction.{Direction}
+use Rattle.term_core.specs.declared.direction.Direction.TheVariants.{In, Out}
 use Rattle.plan_core.specs.declared.flow.DepPlan.{DepPlan}
 use Rattle.plan_core.specs.declared.flow.FlowPlan.{FlowPlan}
 use Rattle.plan_core.specs.declared.plan.Plan.{Plan}
@@ -12,8 +14,6 @@ use Rattle.plan_core.specs.declared.target.Target.{Target}
 use Rattle.plan_core.specs.declared.target.Target.TheVariants as target
 use Rattle.plan_core.specs.Kinds.{flow_of}
 use Rattle.plan_core.specs.Targets.{has_params}
-use Rattle.dep_iter.specs.declared.direction.Direction.{Direction}
-use Rattle.dep_iter.specs.declared.direction.Direction.TheVariants.{In, Out}
 use Rattle.dep_iter.specs.declared.link.Link.{Link}
 use Rattle.dep_iter.specs.Tasks.{flows_of, locals_of, task}
 use Rattle.dep_iter.specs.Active.{by_flow, flow_ins, flow_outs}
@@ -35,10 +35,11 @@ links_to env n target.Null = []
 abbrev pub all_links : List ℤ → List (ℕ × Target) → List Link
 all_links env targets = flat_map (λ a. links_to env a.0 a.1) targets
 
--- a link of the task t as an edge into it, and as an edge out of it
+-- a link of the task t as an edge into it
 abbrev pub edge_in : Task → Link → Edge
 edge_in t l = edge l.far l.far_flow t l.near
 
+-- a link of the task t as an edge out of it
 abbrev pub edge_out : Task → Link → Edge
 edge_out t l = edge t l.near l.far l.far_flow
 
@@ -54,13 +55,15 @@ fits P (target.Element coll indices) = true
 fits P target.New = true
 fits P target.Null = true
 
--- whether the targets of a dependence do, of these dependences, and of these flows
+-- whether the targets of a dependence fit
 abbrev pub dependence_fits : Plan → DepPlan → Bool
 dependence_fits P d = fits P d.yes && option_map_or (fits P) d.no true
 
+-- whether the targets of these dependences fit
 abbrev pub dependences_fit : Plan → List DepPlan → Bool
 dependences_fit P ds = list_all (dependence_fits P) ds
 
+-- whether the targets of the dependences of these flows fit
 abbrev pub flows_fit : Plan → List FlowPlan → Bool
 flows_fit P fs = list_all (λ (f : FlowPlan). dependences_fit P f.ins && dependences_fit P f.outs) fs
 

@@ -1,8 +1,8 @@
 -- A walk over the active targets of a task in one direction: what it has left at a position.
 use Rattle.std.specs.Prelude.{ℕ, ℤ, List, [], ◌∷◌, ◌++◌, flat_map, map, Bool, ◌&&◌}
+use Rattle.term_core.specs.declared.direction.Direction.{Direction}
 use Rattle.plan_core.specs.declared.plan.Plan.{Plan}
 use Rattle.plan_core.specs.declared.target.Target.{Target}
-use Rattle.dep_iter.specs.declared.direction.Direction.{Direction}
 use Rattle.dep_iter.specs.declared.position.Position.{Position}
 use Rattle.plan_core.specs.declared.target.Target.TheVariants as target
 use Rattle.ptg_base.specs.Task.{Task}

@@ -71,6 +71,7 @@ abbrev pub ill_part_of : List ℤ → ClassPlan → Option (Option ℕ)
 ill_part_of env c =
     if has_hints env c then option_map Some (first_ill_flow env 0 c.flows) else Some None
 
+-- what of a task is ill first, if anything
 unfoldable pub ill_part : Plan → Task → Option (Option ℕ)
 ill_part P t = option_and_then (ill_part_of (locals_of P t)) (slice_get P.classes t.class)
 

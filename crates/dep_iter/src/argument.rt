@@ -54,7 +54,7 @@ pub(crate) fn nonempty(arg: &Arg, env: &[i64]) -> Option<Steps>
 }
 
 // Whether a number is one of the values of an argument.
-pub(crate) fn has_value(arg: &Arg, env: &[i64], v: i64) -> bool
+pub(crate) fn takes_value(arg: &Arg, env: &[i64], v: i64) -> bool
     ensures { IsTrue result ↔ IsIn v (or_empty (arguments.arg_values arg.now env.now)) }
 {
     match arg_steps(arg, env) {

@@ -7,13 +7,13 @@ ghost use Rattle.dep_iter.specs.Tasks.{IsTask};
 ghost use Rattle.dep_iter.specs.Edges as edges;
 ghost use Rattle.dep_iter.specs.Items as items;
 
-use crate::direction::Direction;
 use crate::links::Links;
 use crate::locals::Locals;
 use crate::task::locals_of;
 use plan_core::Plan;
 use ptg_base::{Edge, TaskId};
 use std::marker::Model;
+use term_core::Direction;
 
 /// An iterator over the edges into a task. Contracts see it as the list of those not yet given. It takes no memory.
 #[derive(Drop)]

@@ -32,7 +32,7 @@ pub fn affinity_under(plan: &Plan, t: &TaskId, env: &[i64]) -> Place
     place_of(class.affinity.coll, class.affinity.indices.as_slice(), env)
 }
 
-// The number of a row and a column among the places of a collection with so many columns.
+// The number of a row and a column among the places of a collection with this many columns.
 fn number_in(columns: Option<u32>, row: u64, column: u64) -> u64
     requires row { row < 2 ^ 32 }
     requires column { IsColumn columns (pos column) }

@@ -3,10 +3,10 @@
 ghost use Rattle.std.specs.Prelude.{◌≡◌, ◌≤◌, ◌↔◌, ℕ, ℤ, List, filter_map, length, map};
 ghost use Rattle.ptg_base.specs.Lists.{HasNoRepeats, IsIn};
 ghost use Rattle.ptg_base.specs.Task.{Task};
+ghost use Rattle.term_core.specs.declared.direction.Direction.TheVariants.{In, Out};
 ghost use Rattle.range_space.specs.Walk.{task_total};
 ghost use Rattle.plan_core.specs.declared.plan.Plan.{Plan};
 ghost use Rattle.plan_core.specs.declared.target.Target.{Target};
-ghost use Rattle.dep_iter.specs.declared.direction.Direction.TheVariants.{In, Out};
 ghost use Rattle.dep_iter.specs.Tasks.{IsTask, all_tasks};
 ghost use Rattle.dep_iter.specs.Links.{edge_in, edge_out, task_links};
 ghost use Rattle.dep_iter.specs.Edges as edges;

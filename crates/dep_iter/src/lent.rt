@@ -3,9 +3,9 @@
 ghost use Rattle.std.specs.Prelude.{◌≡◌};
 ghost use Rattle.dep_iter.specs.Directions as directions;
 
-use crate::direction::Direction;
 use ptg_base::{Edge, TaskId};
 use std::marker::Model;
+use term_core::Direction;
 
 /// An edge whose tasks are lent. Contracts see it as the edge; it copies no task.
 #[derive(Drop)]
@@ -26,7 +26,7 @@ impl<'a> Model for LentEdge<'a> {
 }
 
 impl<'a> LentEdge<'a> {
-    /// This edge.
+    /// This edge, with its tasks lent.
     pub fn of(edge: &'a Edge) -> LentEdge<'a>
         ensures { result ≡ edge.now }
     {
@@ -64,7 +64,7 @@ impl<'a> LentEdge<'a> {
         }
     }
 
-    /// The task that the edge is one of: that which it goes into, or that which it comes from.
+    /// The task of the edge in this direction: its target for In, its source for Out.
     pub fn near_task(&self, way: Direction) -> &TaskId
         ensures { result.now ≡ directions.near_task way self.now }
     {

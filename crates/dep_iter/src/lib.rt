@@ -4,7 +4,6 @@
 mod argument;
 mod combining;
 mod counts;
-mod direction;
 mod edges;
 mod ends;
 mod guard;
@@ -28,9 +27,8 @@ mod writes;
 pub use argument::arg_steps;
 pub use combining::Combinations;
 pub use counts::Counts;
-pub use direction::Direction;
 pub use edges::{InEdges, OutEdges, in_edges, in_edges_under, out_edges, out_edges_under};
-pub use ends::far_locals;
+pub use ends::has_other_end;
 pub use guard::held_target;
 pub use hints::{affinity, affinity_under, place_number, priority, priority_under};
 pub use laws::{

@@ -12,7 +12,6 @@ ghost use Rattle.dep_iter.specs.Walking.{position_fits, targets_left};
 ghost use Rattle.plan_core.specs.declared.target.Target.TheVariants.{Task};
 
 use crate::combining::Combinations;
-use crate::direction::Direction;
 use crate::link::Link;
 use crate::locals::Locals;
 use crate::position::{Position, next_target, start};
@@ -20,6 +19,7 @@ use crate::task::flows_of;
 use plan_core::{Arg, Plan, Target};
 use ptg_base::TaskId;
 use std::marker::Model;
+use term_core::Direction;
 
 /// The links of one target that are not yet given.
 #[derive(Drop)]
@@ -91,6 +91,7 @@ impl TargetLinks {
         }
     }
 
+    // Takes the next link of the target.
     fn next(&mut self) -> Option<Link>
         ensures { YieldsFirst (λ left. left) self.old result self.new }
     {
@@ -170,6 +171,7 @@ impl<'a> Links<'a> {
         }
     }
 
+    // Takes the next link of the walk.
     pub(crate) fn next(&mut self) -> Option<Link>
         ensures { YieldsFirst (λ left. left) self.old result self.new }
     {

@@ -60,7 +60,7 @@ impl Matched {
     }
 
     /// A law: a matched plan is consistent.
-    pub fn is_consistent(&self)
+    pub fn plan_is_consistent(&self)
         ensures { IsConsistent self.now }
     {
         let _ = &self.plan;
@@ -74,7 +74,7 @@ impl Matched {
     }
 
     /// How many of its tasks have no edge into them. A run begins with these, so whoever looks for them may stop after
-    /// so many.
+    /// this many.
     pub fn roots(&self) -> u64
         ensures { result ≡ length (consistent.roots self.now) }
     {

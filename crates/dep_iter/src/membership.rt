@@ -12,13 +12,13 @@ ghost use Rattle.dep_iter.specs.Links.{links_to};
 ghost use Rattle.dep_iter.specs.Tasks as tasks;
 ghost use Rattle.dep_iter.specs.Tasks.{IsTask};
 
-use crate::argument::has_value;
-use crate::direction::Direction;
+use crate::argument::takes_value;
 use crate::guard::held_target;
 use crate::lent::LentEdge;
 use crate::task::flows_of;
 use plan_core::{Arg, DepPlan, FlowPlan, Plan, Target};
 use ptg_base::TaskId;
+use term_core::Direction;
 
 /// Whether these numbers are one of the combinations of the values of these arguments. Takes time according to the
 /// arguments, however many values they have.
@@ -31,7 +31,7 @@ pub fn has_combination(args: &[Arg], env: &[i64], params: &[i64]) -> bool
     let Some((v, rest)) = params.split_first() else {
         return false;
     };
-    if !has_value(arg, env, *v) {
+    if !takes_value(arg, env, *v) {
         return false;
     }
     has_combination(others, env, rest)
@@ -103,8 +103,8 @@ pub fn has_edge_under(plan: &Plan, way: Direction, t: &TaskId, env: &[i64], edge
         return false;
     };
     any_leads_to(
-        way.first_alone(flow.kind),
-        way.dependences(flow),
+        flow.kind.first_alone(way),
+        flow.dependences(way),
         env,
         edge.far_task(way),
         edge.far_flow(way),
@@ -131,8 +131,8 @@ pub fn has_edge_before(
         → IsTrue result ↔ IsIn edge.now (edges_before way P t (near_flow way edge.now) k) }
 {
     any_leads_to(
-        way.first_alone(flow.kind),
-        first_dependences(way.dependences(flow), k),
+        flow.kind.first_alone(way),
+        first_dependences(flow.dependences(way), k),
         env,
         edge.far_task(way),
         edge.far_flow(way),

@@ -2,15 +2,15 @@
 
 ghost use Rattle.std.specs.Prelude.{◌≡◌, ◌+◌, ◌<◌, ◌≤◌, [], ◌∷◌, ℤ, List, length, IfSome, IsTrue, MatchOption, ◌&&◌};
 ghost use Rattle.ptg_base.specs.Limits.{most_flows};
+ghost use Rattle.term_core.specs.declared.direction.Direction.{Direction as DirectionValue};
 ghost use Rattle.plan_core.specs.declared.plan.Plan.{Plan};
-ghost use Rattle.dep_iter.specs.declared.direction.Direction.{Direction as DirectionValue};
 ghost use Rattle.dep_iter.specs.Active.{by_flow, held_targets};
 ghost use Rattle.dep_iter.specs.Links.{dependences_fit, fits, flow_targets, flows_fit};
 ghost use Rattle.dep_iter.specs.Walking.{position_fits, targets_left};
 
-use crate::direction::Direction;
 use crate::guard::held_target;
 use plan_core::{DepPlan, FlowPlan, Target};
+use term_core::Direction;
 
 /// Where a walk over the active targets of a task stands.
 #[derive(Clone, Copy)]
@@ -75,8 +75,8 @@ fn enter<'a>(way: Direction, flow: &'a FlowPlan, number: u8, others: &'a [FlowPl
 {
     Position {
         flow: number,
-        first_only: way.first_alone(flow.kind),
-        deps: way.dependences(flow),
+        first_only: flow.kind.first_alone(way),
+        deps: flow.dependences(way),
         next_flow: number + 1,
         flows: others,
     }

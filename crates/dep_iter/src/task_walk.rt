@@ -32,6 +32,7 @@ impl<'a> Model for ClassTasks<'a> {
 }
 
 impl<'a> ClassTasks<'a> {
+    // No tasks.
     fn none() -> ClassTasks<'a>
         ensures { result ≡ [] }
     {
@@ -41,6 +42,7 @@ impl<'a> ClassTasks<'a> {
         }
     }
 
+    // The tasks of this class.
     fn of(plan: &'a Plan, class: u32) -> ClassTasks<'a>
         requires { class < length plan.now.classes }
         ensures { (s : ClassSpaceValue) → slice_get plan.now.spaces class ≡ Some s
@@ -52,6 +54,7 @@ impl<'a> ClassTasks<'a> {
         }
     }
 
+    // Takes the next task of the class.
     fn next(&mut self) -> Option<TaskId>
         ensures { YieldsFirst (λ left. left) self.old result self.new }
     {

@@ -17,16 +17,18 @@ use term_core::{Expr, eval};
 /// A task needs an expression that has no value, or a range of step 0.
 #[derive(Clone, Copy, Debug, PartialEq, Eq)]
 pub struct IllTask {
-    /// The number of the first flow of which this is so; None where it is so of the affinity or the priority.
+    /// The first ill flow; None where the affinity or the priority is ill.
     pub flow: Option<u8>,
 }
 
+// Whether the expression has a value.
 fn has_value(env: &[i64], e: &Expr) -> bool
     ensures { result ≡ well.has_value env.now e.now }
 {
     eval(e, env).is_ok()
 }
 
+// Whether each of these expressions has a value.
 fn have_values(env: &[i64], es: &[Expr]) -> bool
     ensures { result ≡ list_all (well.has_value env.now) es.now }
 {
@@ -36,6 +38,7 @@ fn have_values(env: &[i64], es: &[Expr]) -> bool
     }
 }
 
+// Whether the priority has a value, if there is one.
 fn has_priority(env: &[i64], priority: &Option<Expr>) -> bool
     ensures { result ≡ well.has_priority env.now priority.now }
 {
@@ -55,6 +58,7 @@ fn args_have_values(env: &[i64], args: &[Arg]) -> bool
     }
 }
 
+// Whether the arguments or the indices of a target have their values.
 fn has_arguments(env: &[i64], target: &Target) -> bool
     ensures { result ≡ well.has_arguments env.now target.now }
 {
@@ -83,6 +87,7 @@ fn are_well(first_only: bool, env: &[i64], deps: &[DepPlan]) -> bool
     }
 }
 
+// Whether what the dependences of a flow need has its values.
 fn is_well_flow(env: &[i64], flow: &FlowPlan) -> bool
     ensures { result ≡ well.is_well_flow env.now flow.now }
 {
@@ -122,7 +127,7 @@ pub fn well_task(plan: &Plan, t: &TaskId) -> Result<(), IllTask>
     well_task_under(plan, t, env.as_slice())
 }
 
-/// The same of a task with these locals.
+/// Whether a task with these locals is well; an `Err` names what is ill first.
 #[tactic(auto, unfolding(crate::specs::Well::ill_part))]
 pub fn well_task_under(plan: &Plan, t: &TaskId, env: &[i64]) -> Result<(), IllTask>
     requires task { IsTask plan.now t.now }

@@ -4,13 +4,12 @@ ghost use Rattle.std.specs.Prelude.{◌≡◌, ◌+◌, ◌≤◌, length, List}
 ghost use Rattle.std.specs.Iterator.{YieldsFirst, item_count};
 ghost use Rattle.ptg_base.specs.Limits.{most_flows};
 ghost use Rattle.ptg_base.specs.declared.edge.WriteBack.{WriteBack as WriteBackValue};
-ghost use Rattle.dep_iter.specs.declared.direction.Direction.TheVariants.{Out};
+ghost use Rattle.term_core.specs.declared.direction.Direction.TheVariants.{Out};
 ghost use Rattle.dep_iter.specs.Tasks as tasks;
 ghost use Rattle.dep_iter.specs.Tasks.{IsTask};
 ghost use Rattle.dep_iter.specs.Items as items;
 ghost use Rattle.dep_iter.specs.Walking.{all_writes_to, targets_left};
 
-use crate::direction::Direction;
 use crate::locals::Locals;
 use crate::place::place_of;
 use crate::position::{Position, next_target, start};
@@ -18,6 +17,7 @@ use crate::task::{flows_of, locals_of};
 use plan_core::{Plan, Target};
 use ptg_base::{TaskId, WriteBack};
 use std::marker::Model;
+use term_core::Direction;
 
 /// An iterator over the write-backs of a task. Contracts see it as the list of those not yet given. It takes no memory.
 #[derive(Drop)]
@@ -31,7 +31,7 @@ impl<'a> Model for WriteBacks<'a> {
     ghost use Rattle.std.specs.Prelude.{◌+◌, ◌≤◌, List, length};
     ghost use Rattle.ptg_base.specs.Limits.{most_flows};
     ghost use Rattle.ptg_base.specs.declared.edge.WriteBack.{WriteBack};
-    ghost use Rattle.dep_iter.specs.declared.direction.Direction.TheVariants.{Out};
+    ghost use Rattle.term_core.specs.declared.direction.Direction.TheVariants.{Out};
     ghost use Rattle.dep_iter.specs.Walking.{all_writes_to, targets_left};
     ghost use Rattle.dep_iter.specs.Given.{given_locals};
 

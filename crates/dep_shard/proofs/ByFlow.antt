@@ -1,7 +1,8 @@
 -- The tiles of an array with a place for each flow.
 use Rattle.std.specs.Prelude.{◌≡◌, ℕ, ◌+◌, ◌<◌, ◌≤◌, ℤ, not, nat_eq, cond, if◌then◌else◌, List, [], ◌∷◌, length, slice_set, slice_index_or, Option, Some, None}
 use Rattle.std.proofs.Common.{zero, suc, refl, sym, ap, ◌∙◌, arith}
-use Rattle.dep_shard.specs.Arrivals.{FlowTile, with_tile, without_tile, tile_of, RiseFrom, IsInFlowOrder, tiles_by_flow}
+use Rattle.ptg_base.specs.Entry.{FlowTile}
+use Rattle.dep_shard.specs.Arrivals.{with_tile, without_tile, tile_of, RiseFrom, IsInFlowOrder, tiles_by_flow}
 use Rattle.std.proofs.lemmas.Bool.{lt-ltb, le-ltb, eq-eqb, ne_eqb}
 
 -- a tile of a flow comes before those of greater flows

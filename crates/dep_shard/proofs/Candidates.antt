@@ -10,10 +10,11 @@ use Rattle.std.specs.BinaryHeap.{IsHeap, PopsGreatest}
 use Rattle.std.specs.Option.{option_map_or}
 use Rattle.std.specs.Ordering.{int_eq, is_lt}
 use Rattle.std.specs.Cmp.{first_so, second_so, unsigned_Decides, signed_Decides}
+use Rattle.ptg_base.specs.Entry.{Entry}
 use Rattle.ptg_base.specs.Task.{Task}
 use Rattle.ptg_base.specs.TaskComparing.{same_task}
 use Rattle.ptg_base.specs.TaskLaws.{same_task-decides}
-use Rattle.dep_shard.specs.Content.{Entry, Entries, entry_in, IsReady, HasNoReady, IsBest, rank_cmp}
+use Rattle.dep_shard.specs.Content.{Entries, entry_in, IsReady, HasNoReady, IsBest, priority_cmp}
 use Rattle.dep_shard.specs.Queue.{Candidate, order, is_candidate, is_live, HasEveryReady, HasLiveFront}
 use Rattle.std.proofs.lemmas.Bool.{false_from_ne_true}
 
@@ -93,14 +94,14 @@ popped es x (h ∷ hs) ss (Some y) p first heap q dead =
     ((p.heap heap).0, dropped es x (h ∷ hs) ss dead (subst (λ (z : Candidate). IsPermutation (h ∷ hs) (z ∷ ss)) same p.moves) q)
 
 -- the greatest candidate is not below that of a live task
-not_above : (x : Candidate) (p : ℤ) (t : Task) (rs : List Candidate) → AllByRecursion (λ y. is_lt (order x y) ≡ false) rs → list_any (is_candidate p t) rs ≡ true → is_lt (rank_cmp (x.0, x.1.0) (p, t)) ≡ false
+not_above : (x : Candidate) (p : ℤ) (t : Task) (rs : List Candidate) → AllByRecursion (λ y. is_lt (order x y) ≡ false) rs → list_any (is_candidate p t) rs ≡ true → is_lt (priority_cmp (x.0, x.1.0) (p, t)) ≡ false
 not_above x p t [] all h = absurd (true≢false (sym h))
 not_above x p t (y ∷ ys) all h = by (not_above x p t ys all.1) (is_candidate p t y) refl
   where
-    by : (list_any (is_candidate p t) ys ≡ true → is_lt (rank_cmp (x.0, x.1.0) (p, t)) ≡ false) → (b : Bool) → is_candidate p t y ≡ b → is_lt (rank_cmp (x.0, x.1.0) (p, t)) ≡ false
+    by : (list_any (is_candidate p t) ys ≡ true → is_lt (priority_cmp (x.0, x.1.0) (p, t)) ≡ false) → (b : Bool) → is_candidate p t y ≡ b → is_lt (priority_cmp (x.0, x.1.0) (p, t)) ≡ false
     by rest true e =
         let m = candidate_means p t y e in
-        (λ i. is_lt (rank_cmp (x.0, x.1.0) (m.0 i, m.1 i))) ∙ all.0
+        (λ i. is_lt (priority_cmp (x.0, x.1.0) (m.0 i, m.1 i))) ∙ all.0
     by rest false e = rest (or_second (is_candidate p t y) (list_any (is_candidate p t) ys) h e)
 
 -- If the greatest candidate is live, its task is the best.
@@ -114,7 +115,7 @@ best_from es x rs q all h = at (lives es x.0 x.1.0 h)
       ready = v.ready;
       best = λ u f is ready.
           let low = not_above x f.priority u rs all (q u f.priority (live_from es u f is ready)) in
-          (λ i. is_lt (rank_cmp (v.priority i, x.1.0) (f.priority, u))) ∙ low;
+          (λ i. is_lt (priority_cmp (v.priority i, x.1.0) (f.priority, u))) ∙ low;
     }
 
 -- If the queue is empty, no entry is ready.

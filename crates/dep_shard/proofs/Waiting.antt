@@ -6,8 +6,9 @@ use Rattle.std.specs.Map.{lookup}
 use Rattle.std.specs.List.{sum_by}
 use Rattle.std.proofs.lemmas.List.Sums.{sum_by-cons, sum_by-swap_remove}
 use Rattle.indexmap.specs.IndexMap.{set_value_at}
+use Rattle.ptg_base.specs.Entry.{Entry}
 use Rattle.ptg_base.specs.Task.{Task}
-use Rattle.dep_shard.specs.Content.{Entry, Entries, IsWaiting}
+use Rattle.dep_shard.specs.Content.{Entries, IsWaiting}
 use Rattle.dep_shard.specs.Queue.{count_waiting, one_if_waiting}
 
 pub count_waiting-push : (es : Entries) (t : Task) (e : Entry) → count_waiting (es ++ (t, e) ∷ []) ≡ count_waiting es + one_if_waiting e

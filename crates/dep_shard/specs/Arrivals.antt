@@ -2,11 +2,8 @@
 -- dependences until it runs; one tile a flow, in flow order, is this project's own choice.
 use Rattle.std.specs.Prelude.{ℕ, ◌+◌, ◌<◌, ◌≤◌, ℤ, not, nat_eq, nat_lt, if◌then◌else◌, List, [], ◌∷◌, filter, Option, Some, None}
 use Rattle.std.specs.Map.{lookup}
+use Rattle.ptg_base.specs.Entry.{FlowTile}
 use Rattle.ptg_base.specs.Limits.{most_flows}
-
--- a tile, after the number of the flow that it came to
-abbrev pub FlowTile : Type 0
-FlowTile = ℕ × List ℤ
 
 -- The list with this tile at this flow: it comes before the tiles of greater flows, and replaces one of the same flow.
 abbrev pub with_tile : ℕ → List ℤ → List FlowTile → List FlowTile

@@ -6,25 +6,19 @@ use Rattle.std.specs.Map.{lookup}
 use Rattle.std.specs.Option.{unwrap_or}
 use Rattle.std.specs.Ordering.{int_cmp, is_lt, ordering_then}
 use Rattle.std.specs.declared.cmp.Ordering.{Ordering}
+use Rattle.ptg_base.specs.Entry.{Entry, FlowTile}
 use Rattle.ptg_base.specs.Task.{Task}
 use Rattle.ptg_base.specs.declared.edge.WriteBack.{WriteBack}
 use Rattle.ptg_base.specs.TaskComparing.{same_task, task_cmp}
 use Rattle.term_core.specs.declared.trap.Trap.{Trap}
-use Rattle.dep_shard.specs.Arrivals.{FlowTile, with_tile}
+use Rattle.dep_shard.specs.Arrivals.{with_tile}
 use Rattle.dep_shard.specs.Stock.{UsesTile}
 
--- What a shard has of an unclaimed task: how many edges it waits for in all, how many have come, its priority, and
--- the tiles that have come, in order of flow number.
-pub record Entry : Type 0 where
-  pub goal : ℕ
-  pub arrived : ℕ
-  pub priority : ℤ
-  pub tiles : List FlowTile
-
--- An entry is ready once all its edges have come, and waits until then.
+-- An entry is ready once all its edges have come.
 abbrev pub IsReady : Entry → Type 0
 IsReady e = e.arrived ≡ e.goal
 
+-- An entry waits until all its edges have come.
 abbrev pub IsWaiting : Entry → Type 0
 IsWaiting e = e.arrived < e.goal
 
@@ -43,14 +37,14 @@ pub record Spares : Type 0 where
   pub writes : ℕ
   pub traps : ℕ
 
--- at least so many of each
+-- at least this many of each
 pub record HasSpares (s : Spares) (entry_count : ℕ) (tile_counts : List ℕ) (write_count trap_count : ℕ) : Type 0 where
   pub entries : entry_count ≤ s.entries
   pub tiles : (k : ℕ) → slice_index tile_counts k ≤ slice_index s.tiles k
   pub writes : write_count ≤ s.writes
   pub traps : trap_count ≤ s.traps
 
--- At most so many spares are used: entries, a tile of this type (`None`: no tile), write-backs and trapped tasks.
+-- At most this many spares are used: entries, a tile of this type (`None`: no tile), write-backs and trapped tasks.
 pub record Uses (old new : Spares) (entry_count : ℕ) (datatype : Option ℕ) (write_count trap_count : ℕ) : Type 0 where
   pub entries : old.entries ≤ new.entries + entry_count
   pub tiles : UsesTile old.tiles new.tiles datatype
@@ -196,8 +190,8 @@ abbrev pub HasNoReady : Entries → Type 0
 HasNoReady entries = (t : Task) (e : Entry) → entry_in entries t ≡ Some e → IsReady e → ⊥
 
 -- The greater priority is greater, and of equal ones that of the task that is first in task order.
-abbrev pub rank_cmp : ℤ × Task → ℤ × Task → Ordering
-rank_cmp a b = ordering_then (int_cmp a.0 b.0) (task_cmp b.1 a.1)
+abbrev pub priority_cmp : ℤ × Task → ℤ × Task → Ordering
+priority_cmp a b = ordering_then (int_cmp a.0 b.0) (task_cmp b.1 a.1)
 
 -- t has a ready entry, and no ready entry is greater
 pub record IsBest (entries : Entries) (t : Task) : Type 0 where
@@ -205,4 +199,4 @@ pub record IsBest (entries : Entries) (t : Task) : Type 0 where
   pub is : entry_in entries t ≡ Some entry
   pub ready : IsReady entry
   pub best : (u : Task) (f : Entry) → entry_in entries u ≡ Some f → IsReady f
-      → is_lt (rank_cmp (entry.priority, t) (f.priority, u)) ≡ false
+      → is_lt (priority_cmp (entry.priority, t) (f.priority, u)) ≡ false

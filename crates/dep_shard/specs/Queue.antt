@@ -6,9 +6,10 @@ use Rattle.std.specs.Option.{option_map_or}
 use Rattle.std.specs.Ordering.{int_eq, int_cmp, ordering_then}
 use Rattle.std.specs.declared.cmp.Ordering.{Ordering}
 use Rattle.std.specs.declared.cmp.Reverse.{Reverse}
+use Rattle.ptg_base.specs.Entry.{Entry}
 use Rattle.ptg_base.specs.Task.{Task}
 use Rattle.ptg_base.specs.TaskComparing.{same_task, task_cmp}
-use Rattle.dep_shard.specs.Content.{Entry, Entries, entry_in}
+use Rattle.dep_shard.specs.Content.{Entries, entry_in}
 
 -- a candidate: a priority and a task
 abbrev pub Candidate : Type 0
@@ -38,10 +39,11 @@ HasEveryReady entries cs = (t : Task) → (p : ℤ) → is_live entries p t ≡ 
 abbrev pub HasLiveFront : Entries → List Candidate → Type 0
 HasLiveFront entries cs = (c : Candidate) (rest : List Candidate) → cs ≡ c ∷ rest → is_live entries c.0 c.1.0 ≡ true
 
--- how many entries wait
+-- 1 for an entry that waits, else 0
 abbrev pub one_if_waiting : Entry → ℕ
 one_if_waiting e = cond (nat_lt e.arrived e.goal) 1 0
 
+-- how many entries wait
 abbrev pub count_waiting : Entries → ℕ
 count_waiting [] = 0
 count_waiting (e ∷ es) = one_if_waiting e.1 + count_waiting es

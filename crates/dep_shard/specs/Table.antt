@@ -1,7 +1,8 @@
 -- What contracts see of a shard's table. Source: this project's own choice.
 use Rattle.std.specs.Prelude.{ℕ, ◌-◌, max}
+use Rattle.ptg_base.specs.Entry.{Entry}
 use Rattle.indexmap.specs.IndexMap.{set_value_at}
-use Rattle.dep_shard.specs.Content.{Entry, Entries}
+use Rattle.dep_shard.specs.Content.{Entries}
 
 -- the entries, and how many more can come without memory
 pub record TableContent : Type 0 where
@@ -9,7 +10,7 @@ pub record TableContent : Type 0 where
   pub spare : ℕ
 
 -- How many more entries can come without memory, where `len` are in use: as many as the map in use has room for, or as
--- the reserved map holds beside those.
+-- the reserved map holds besides those.
 abbrev pub spare_of : ℕ → ℕ → ℕ → ℕ
 spare_of len room reserved = max room (reserved - len)
 

@@ -17,7 +17,8 @@ pub struct Arrivals {
 
 impl Model for Arrivals {
     ghost use Rattle.std.specs.Prelude.{List};
-    ghost use Rattle.dep_shard.specs.Arrivals.{FlowTile, tiles_by_flow};
+    ghost use Rattle.ptg_base.specs.Entry.{FlowTile};
+    ghost use Rattle.dep_shard.specs.Arrivals.{tiles_by_flow};
 
     ghost Value = { List FlowTile };
 

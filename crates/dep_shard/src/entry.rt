@@ -5,7 +5,7 @@ ghost use Rattle.ptg_base.specs.Limits.{most_flows};
 ghost use Rattle.dep_shard.specs.Content.{fresh, with_arrival, IsWaiting};
 
 use crate::arrivals::Arrivals;
-use crate::tile_list::{LinkedTile, Links, TileList};
+use crate::tile_list::{SpareNodes, TileList, TileWithNode};
 use std::marker::Model;
 use std::mem;
 
@@ -21,8 +21,8 @@ pub struct Entry {
 
 impl Model for Entry {
     ghost use Rattle.std.specs.Prelude.{◌<◌, ◌^◌};
+    ghost use Rattle.ptg_base.specs.Entry.{Entry as EntryContent};
     ghost use Rattle.dep_shard.specs.Arrivals.{in_flow_order};
-    ghost use Rattle.dep_shard.specs.Content.{Entry as EntryContent};
 
     ghost Value = { EntryContent };
 
@@ -46,20 +46,20 @@ impl Entry {
     }
 
     // Notes that an edge into this flow has come, with this tile.
-    pub(crate) fn add(&mut self, flow: u8, tile: Option<LinkedTile>)
+    pub(crate) fn add(&mut self, flow: u8, tile: Option<TileWithNode>)
         requires flow { flow < most_flows }
         requires waits { IsWaiting self.old }
         ensures { self.new ≡ with_arrival self.old flow (option_map (λ t. t.0) tile) }
     {
         self.arrived += 1;
-        if let Some((tile, link)) = tile {
+        if let Some((tile, node)) = tile {
             let tiles = mem::replace(&mut self.tiles, TileList::new());
-            self.tiles = tiles.with(link, flow, tile);
+            self.tiles = tiles.with(node, flow, tile);
         }
     }
 
-    // The tiles that have come. Their links go to those that are free.
-    pub(crate) fn into_arrivals(self, free: &mut Links) -> Arrivals
+    // The tiles that have come. Their nodes go to those that are free.
+    pub(crate) fn into_arrivals(self, free: &mut SpareNodes) -> Arrivals
         ensures { result ≡ self.tiles }
     {
         let mut arrivals = Arrivals::new();

@@ -4,11 +4,12 @@ ghost use Rattle.std.specs.Option.{option_copied, option_map};
 ghost use Rattle.std.specs.Map.{keys_of};
 ghost use Rattle.std.specs.Map.Iter.{deref_pair};
 ghost use Rattle.std.specs.List.{IsDistinct};
+ghost use Rattle.ptg_base.specs.Entry.{Entry as EntryContent};
 ghost use Rattle.ptg_base.specs.Limits.{most_flows, most_tasks};
 ghost use Rattle.ptg_base.specs.Task.{Task};
 ghost use Rattle.ptg_base.specs.TaskComparing.{same_task};
 ghost use Rattle.dep_shard.specs.declared.shard.Arrived.TheVariants.{Fired};
-ghost use Rattle.dep_shard.specs.Content.{Entry as EntryContent, HasSpares, Uses, HasNoReady, IsBest, IsReady, IsWaiting, IsNew, IsTileOf, IsUnchanged, KeepsAllButEntries, KeepsAllButWritten, KeepsEntriesAndWritten, Updates, Takes, Ends, IsEntryAt, HasWaitingAt, HasReadyAt, ArrivesAt, entry_of, entry_before, fresh, with_arrival};
+ghost use Rattle.dep_shard.specs.Content.{HasSpares, Uses, HasNoReady, IsBest, IsReady, IsWaiting, IsNew, IsTileOf, IsUnchanged, KeepsAllButEntries, KeepsAllButWritten, KeepsEntriesAndWritten, Updates, Takes, Ends, IsEntryAt, HasWaitingAt, HasReadyAt, ArrivesAt, entry_of, entry_before, fresh, with_arrival};
 
 use crate::arrivals::Arrivals;
 use crate::entry::Entry;
@@ -16,7 +17,7 @@ use crate::parts::{Entries, Parts};
 use crate::queue::{Queue, drop_all_stale, drop_stale};
 use crate::stock::Stock;
 use crate::table::Table;
-use crate::tile_list::LinkedTile;
+use crate::tile_list::TileWithNode;
 use ptg_base::{Edge, OutOfMemory, TaskId, Tile, WriteBack};
 use std::alloc::Global;
 use std::cmp::Reverse;
@@ -24,7 +25,7 @@ use std::collections::BinaryHeap;
 use std::marker::Model;
 use term_core::Trap;
 
-// So many stale candidates may stay in the queue.
+// This many stale candidates may stay in the queue.
 const STALE_ALLOWANCE: usize = 16;
 
 /// What has become of the target of an edge that came.
@@ -98,7 +99,7 @@ impl Shard {
         })
     }
 
-    /// Takes memory for so many more entries, tiles by type number, write-backs and trapped tasks. After an `Ok` as
+    /// Takes memory for this many more entries, tiles by type number, write-backs and trapped tasks. After an `Ok` as
     /// many additions cannot be refused. An `Err` changes at most the spares, and lowers none.
     pub fn reserve(
         &mut self,
@@ -152,6 +153,7 @@ impl Shard {
         Ok(())
     }
 
+    // Enters a ready task, with the room that was promised.
     fn enter_ready(&mut self, t: &TaskId, priority: i64)
         requires new { entry_of self.old t.now ≡ None }
         requires room { 0 < self.old.spare.entries }
@@ -297,12 +299,12 @@ impl Shard {
         Ok(self.land(index, edge.in_flow, copied))
     }
 
-    // A copy of the tile and a link to hold it, if there is a tile.
+    // A copy of the tile and a node to hold it, if there is a tile.
     fn copy_in(
         &mut self,
         datatype: u32,
         tile: Option<&Tile>,
-    ) -> Result<Option<LinkedTile>, OutOfMemory>
+    ) -> Result<Option<TileWithNode>, OutOfMemory>
         requires { IfSome (option_copied tile) (λ t. IsTileOf self.old.elems datatype t) }
         ensures ok { IfOk result (λ made. option_map (λ m. m.0) made ≡ option_copied tile.entry) }
         ensures same { IsUnchanged self.old self.new }
@@ -314,7 +316,7 @@ impl Shard {
     }
 
     // An edge comes to an entry that waits. The queue has room for its candidate.
-    fn land(&mut self, index: usize, flow: u8, tile: Option<LinkedTile>) -> Arrived
+    fn land(&mut self, index: usize, flow: u8, tile: Option<TileWithNode>) -> Arrived
         requires flow { flow < most_flows }
         requires waits { HasWaitingAt self.old index }
         ensures entries { ArrivesAt self.old.entries self.new.entries index flow (option_map (λ m. m.0) tile) }
@@ -359,6 +361,16 @@ impl Shard {
     {
         match self.table.get_index(index) {
             Some((_task, entry)) => entry.arrived() == entry.goal(),
+            None => false,
+        }
+    }
+
+    /// Whether a task has a ready entry.
+    pub fn is_ready(&self, t: &TaskId) -> bool
+        ensures { IsTrue result ↔ ((e : EntryContent) × (entry_of self.now t.now ≡ Some e) × IsReady e) }
+    {
+        match self.index_of(t) {
+            Some(index) => self.is_ready_at(index),
             None => false,
         }
     }

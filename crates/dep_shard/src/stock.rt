@@ -1,4 +1,4 @@
-//! Reserved tiles of each type, and links to hold them in entries.
+//! Reserved tiles of each type, and nodes to hold them in entries.
 ghost use Rattle.std.specs.Prelude.{◌≡◌, ◌+◌, ◌<◌, ◌≤◌, ℕ, Some, None, IsOk, IsSome, IfOk, IfSome, OnOk, OnErr, is_some, if◌then◌else◌, length, slice_index, vec_len};
 ghost use Rattle.std.specs.Option.{option_copied, option_map};
 ghost use Rattle.dep_shard.specs.Content.{IsTileOf};
@@ -6,18 +6,18 @@ ghost use Rattle.dep_shard.specs.Stock.{UsesTile};
 
 use crate::arrivals::Arrivals;
 use crate::entry::Entry;
-use crate::tile_list::{Link, LinkedTile, Links};
+use crate::tile_list::{SpareNodes, TileNode, TileWithNode};
 use ptg_base::{MOST_FLOWS, OutOfMemory, Tile};
 use std::alloc::Global;
 use std::marker::Model;
 use tile_pool::TilePool;
 
-// The reserved tiles of one type, and as many links. A write-back uses a tile alone.
+// The reserved tiles of one type, and as many nodes. A write-back uses a tile alone.
 #[derive(Drop)]
 pub(crate) struct TypeStock {
     alloc: Global,
     pool: TilePool,
-    links: Links,
+    nodes: SpareNodes,
 }
 
 impl Model for TypeStock {
@@ -26,21 +26,22 @@ impl Model for TypeStock {
 
     ghost Value = { TypeTiles };
 
-    ghost view = { λ s. record { elems = s.pool.elems; spare = min s.pool.spare (vec_len s.links) } };
+    ghost view = { λ s. record { elems = s.pool.elems; spare = min s.pool.spare (vec_len s.nodes) } };
 }
 
 impl TypeStock {
+    // An empty stock of tiles of this many elements.
     fn new(alloc: Global, elems: u32) -> TypeStock
         ensures { result ≡ record { elems = elems; spare = 0 } }
     {
         TypeStock {
             alloc,
             pool: TilePool::new(alloc, elems),
-            links: Vec::new(alloc),
+            nodes: Vec::new(alloc),
         }
     }
 
-    // Makes tiles and links until `n` more tiles can come.
+    // Makes tiles and nodes until `n` more tiles can come.
     fn reserve(&mut self, n: u64) -> Result<(), OutOfMemory>
         ensures ok { OnOk result (n ≤ self.new.spare) }
         ensures more { self.old.spare ≤ self.new.spare }
@@ -48,7 +49,7 @@ impl TypeStock {
         ensures succeeds { n ≤ self.old.spare → IsOk result }
     {
         self.pool.reserve(n)?;
-        make_links(&mut self.links, self.alloc, n as usize)
+        make_nodes(&mut self.nodes, self.alloc, n as usize)
     }
 
     // A copy of a tile.
@@ -63,8 +64,12 @@ impl TypeStock {
         self.pool.copy_of(tile)
     }
 
-    // A copy of a tile, and a link to hold it: a free one if there is any, else a reserved one, else a new one.
-    fn copy_and_link(&mut self, tile: &Tile, free: &mut Links) -> Result<LinkedTile, OutOfMemory>
+    // A copy of a tile, and a node to hold it: a free one if there is any, else a reserved one, else a new one.
+    fn copy_with_node(
+        &mut self,
+        tile: &Tile,
+        free: &mut SpareNodes,
+    ) -> Result<TileWithNode, OutOfMemory>
         requires { length tile.now ≡ self.old.elems }
         ensures ok { IfOk result (λ made. made.0 ≡ tile.now) }
         ensures elems { self.new.elems ≡ self.old.elems }
@@ -72,9 +77,9 @@ impl TypeStock {
         ensures err { OnErr result (self.old.spare ≤ self.new.spare) }
         ensures succeeds { 0 < self.old.spare → IsOk result }
     {
-        let link = take_link(self.alloc, &mut self.links, free)?;
+        let node = take_node(self.alloc, &mut self.nodes, free)?;
         let copy = self.pool.copy_of(tile)?;
-        Ok((copy, link))
+        Ok((copy, node))
     }
 }
 
@@ -95,37 +100,41 @@ impl TypeStock {
     }
 }
 
-// A link: a free one if there is any, else a reserved one, else a new one.
-fn take_link(alloc: Global, links: &mut Links, free: &mut Links) -> Result<Box<Link>, OutOfMemory>
-    ensures taken { vec_len links.old ≤ vec_len links.new + 1 }
-    ensures succeeds { 0 < vec_len links.old → IsOk result }
+// A node: a free one if there is any, else a reserved one, else a new one.
+fn take_node(
+    alloc: Global,
+    nodes: &mut SpareNodes,
+    free: &mut SpareNodes,
+) -> Result<Box<TileNode>, OutOfMemory>
+    ensures taken { vec_len nodes.old ≤ vec_len nodes.new + 1 }
+    ensures succeeds { 0 < vec_len nodes.old → IsOk result }
 {
-    if let Some(link) = free.pop() {
-        return Ok(link);
+    if let Some(node) = free.pop() {
+        return Ok(node);
     }
-    match links.pop() {
-        Some(link) => Ok(link),
-        None => Ok(Box::new(alloc, Link::Spare)?),
+    match nodes.pop() {
+        Some(node) => Ok(node),
+        None => Ok(Box::new(alloc, TileNode::Spare)?),
     }
 }
 
-// Makes spare links until there are `n`.
-fn make_links(links: &mut Links, alloc: Global, n: usize) -> Result<(), OutOfMemory>
-    ensures ok { OnOk result (n ≤ vec_len links.new) }
-    ensures more { vec_len links.old ≤ vec_len links.new }
-    ensures succeeds { n ≤ vec_len links.old → IsOk result }
+// Makes spare nodes until there are `n`.
+fn make_nodes(nodes: &mut SpareNodes, alloc: Global, n: usize) -> Result<(), OutOfMemory>
+    ensures ok { OnOk result (n ≤ vec_len nodes.new) }
+    ensures more { vec_len nodes.old ≤ vec_len nodes.new }
+    ensures succeeds { n ≤ vec_len nodes.old → IsOk result }
 {
-    for _i in links.len()..n {
-        links.push(Box::new(alloc, Link::Spare)?)?;
+    for _i in nodes.len()..n {
+        nodes.push(Box::new(alloc, TileNode::Spare)?)?;
     }
     Ok(())
 }
 
-// The reserved tiles of all types, by type number, and the links that held tiles before and are free again.
+// The reserved tiles of all types, by type number, and the nodes that held tiles before and are free again.
 #[derive(Drop)]
 pub(crate) struct Stock {
     types: Vec<TypeStock>,
-    free: Links,
+    free: SpareNodes,
 }
 
 impl Model for Stock {
@@ -142,7 +151,7 @@ impl Model for Stock {
 }
 
 impl Stock {
-    // No reserved tiles, of types whose tiles have so many numbers.
+    // No reserved tiles, of types whose tiles have this many numbers.
     pub(crate) fn new(alloc: Global, elems: &[u32]) -> Result<Stock, OutOfMemory>
         ensures { IfOk result (λ stock. stock.elems ≡ elems.now) }
     {
@@ -156,7 +165,7 @@ impl Stock {
         })
     }
 
-    // Makes tiles and links until so many more tiles of each type can come.
+    // Makes tiles and nodes until this many more tiles of each type can come.
     pub(crate) fn reserve(&mut self, tiles: &[u64]) -> Result<(), OutOfMemory>
         requires { length tiles.now ≡ length self.old.elems }
         ensures ok { OnOk result ((k : ℕ) → slice_index tiles.now k ≤ slice_index self.new.spare k) }
@@ -170,6 +179,7 @@ impl Stock {
         Ok(())
     }
 
+    // Makes tiles and nodes until `n` more tiles of this type can come.
     fn reserve_type(&mut self, k: usize, n: u64) -> Result<(), OutOfMemory>
         requires { k < length self.old.elems }
         ensures ok { OnOk result (n ≤ slice_index self.new.spare k) }
@@ -195,12 +205,12 @@ impl Stock {
         stock.copy_of(tile)
     }
 
-    // A copy of a tile of this type, and a link to hold it.
-    pub(crate) fn copy_and_link(
+    // A copy of a tile of this type, and a node to hold it.
+    pub(crate) fn copy_with_node(
         &mut self,
         datatype: u32,
         tile: &Tile,
-    ) -> Result<LinkedTile, OutOfMemory>
+    ) -> Result<TileWithNode, OutOfMemory>
         requires datatype { datatype < length self.old.elems }
         requires tile { length tile.now ≡ slice_index self.old.elems datatype }
         ensures ok { IfOk result (λ made. made.0 ≡ tile.now) }
@@ -210,7 +220,7 @@ impl Stock {
         ensures succeeds { 0 < slice_index self.old.spare datatype → IsOk result }
     {
         let stock = &mut self.types[datatype as usize];
-        stock.copy_and_link(tile, &mut self.free)
+        stock.copy_with_node(tile, &mut self.free)
     }
 
     // The first type among whose tiles there is room for this one.
@@ -247,6 +257,7 @@ impl Stock {
         }
     }
 
+    // Keeps a spent tile of this type.
     fn keep_at(&mut self, k: usize, tile: Tile)
         requires { k < length self.old.elems }
         ensures elems { self.new.elems ≡ self.old.elems }
@@ -256,7 +267,7 @@ impl Stock {
         stock.keep(tile);
     }
 
-    // The tiles of an entry. Their links are free from then on.
+    // The tiles of an entry. Their nodes are free from then on.
     pub(crate) fn arrivals_of(&mut self, entry: Entry) -> Arrivals
         ensures tiles { result ≡ entry.tiles }
         ensures same { self.new ≡ self.old }
@@ -264,12 +275,12 @@ impl Stock {
         entry.into_arrivals(&mut self.free)
     }
 
-    // A copy of a tile of this type and a link to hold it, if there is a tile.
+    // A copy of a tile of this type and a node to hold it, if there is a tile.
     pub(crate) fn copy_if_any(
         &mut self,
         datatype: u32,
         tile: Option<&Tile>,
-    ) -> Result<Option<LinkedTile>, OutOfMemory>
+    ) -> Result<Option<TileWithNode>, OutOfMemory>
         requires { IfSome (option_copied tile) (λ t. IsTileOf self.old.elems datatype t) }
         ensures ok { IfOk result (λ made. option_map (λ m. m.0) made ≡ option_copied tile.entry) }
         ensures elems { self.new.elems ≡ self.old.elems }
@@ -278,7 +289,7 @@ impl Stock {
         ensures succeeds { (IsSome tile.entry → 0 < slice_index self.old.spare datatype) → IsOk result }
     {
         match tile {
-            Some(from) => Ok(Some(self.copy_and_link(datatype, from)?)),
+            Some(from) => Ok(Some(self.copy_with_node(datatype, from)?)),
             None => Ok(None),
         }
     }

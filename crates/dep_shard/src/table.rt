@@ -18,12 +18,13 @@ use std::alloc::Global;
 use std::marker::Model;
 use std::mem;
 
+// Entries by their tasks.
 type TaskMap = IndexMap<TaskId, Entry>;
 
-// Room for so many entries is never too much for the map in use.
+// Room for this many entries is never too much for the map in use.
 const SMALL_RESERVE: usize = 64;
 
-// Of the entries that were promised, one in so many is expected at a time.
+// Of the entries that were promised, one in this many is expected at a time.
 const EXPECTED_FRACTION: usize = 16;
 
 // The entries of a shard by task: the map in use, and an empty one that is reserved and takes its place when it is
@@ -52,6 +53,7 @@ impl Model for Table {
 }
 
 impl Table {
+    // A table without entries.
     pub(crate) fn new(alloc: Global) -> Table
         ensures { result.entries ≡ [] }
     {
@@ -138,7 +140,7 @@ impl Table {
         self.used.get_index(index)
     }
 
-    // The same, where the entry can be written.
+    // The entry at this index with its task; the entry can be written.
     pub(crate) fn pair_mut(&mut self, index: usize) -> (&TaskId, &mut Entry)
         requires { index < length self.old.entries }
         ensures* writes_back { sem 𝓛 (lends_entry self.entry index result.1) }

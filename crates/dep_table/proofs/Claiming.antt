@@ -1,10 +1,10 @@
 -- A claim on a turn: what allows it, and the pass after it.
 use Rattle.std.proofs.Common.{◌≡◌, ℕ, ◌<◌, List, [], ◌∷◌, ◌++◌, length, sym, ap, ◌∙◌, subst, refl, arith, inl, inr, Some}
 use Rattle.list_lemmas.proofs.Members.{IsIn-append_left, IsIn-append_right, from_append}
+use Rattle.ptg_base.specs.Entry.{Entry, FlowTile}
 use Rattle.ptg_base.specs.Task.{Task}
 use Rattle.ptg_base.specs.TaskComparing.{same_task}
-use Rattle.dep_shard.specs.Arrivals.{FlowTile}
-use Rattle.dep_shard.specs.Content.{Content, Entry, Takes, entry_in, entry_of}
+use Rattle.dep_shard.specs.Content.{Content, Takes, entry_in, entry_of}
 use Rattle.list_lemmas.specs.Counting.{as_number}
 use Rattle.shard_meaning.proofs.Holding.{numbers_with_entry, ready_may}
 use Rattle.work_board.specs.Claims.{FoundGone, HasClaimed, HasNoReadyOf, MayStart}

@@ -15,7 +15,7 @@ use Rattle.std.proofs.lemmas.Option.{slice_get_within}
 use Rattle.dep_shard.specs.Content.{Content}
 use Rattle.list_lemmas.specs.Counting.{HasSameMembers, weigh}
 use Rattle.work_board.specs.declared.record.PassRecord.{PassRecord}
-use Rattle.table_rule.specs.declared.job.Job.{Job}
+use Rattle.table_rule.specs.declared.table_job.TableJob.{TableJob}
 use Rattle.table_rule.specs.Changes.{both}
 use Rattle.table_rule.specs.Names.{AreAll}
 use Rattle.table_rule.specs.Plays.{HasName}
@@ -145,7 +145,7 @@ joined_quiet table ps left last none a p i k = elim (a.quiet p i k) [
   | inr is ↦ is
 ]
 
-pub closes : (j : Job) (id : ℕ) (v : PassRecord) (ws : List ℕ) (xs ys : List Content) → AreAll (v ∷ []) → v.turns ≡ [] → Final (Seen (Rule j) id v) ws xs → ys ≡ xs → IsClosedAt j (moment_of v) ys
+pub closes : (j : TableJob) (id : ℕ) (v : PassRecord) (ws : List ℕ) (xs ys : List Content) → AreAll (v ∷ []) → v.turns ≡ [] → Final (Seen (Rule j) id v) ws xs → ys ≡ xs → IsClosedAt j (moment_of v) ys
 closes j id v ws xs ys all none f same =
     let p = alone_parts j f.0 id v f.1.0 f.1.1 all in
     let count : length ys ≡ j.shards = ap length same ∙ (sym f.3 ∙ p.slots) in record {
@@ -162,12 +162,12 @@ closes j id v ws xs ys all none f same =
     }
 
 -- its claims in the order of their stamps are a legal order
-pub closes_order : (j : Job) (id : ℕ) (v : PassRecord) (ws : List ℕ) (xs : List Content) → AreAll (v ∷ []) → HasStamps v → Final (Seen (Rule j) id v) ws xs → (ts : List Task) → AreInStampOrder v.stamps ts → IsClaimOrder j.matched (moment_of v).state ts
+pub closes_order : (j : TableJob) (id : ℕ) (v : PassRecord) (ws : List ℕ) (xs : List Content) → AreAll (v ∷ []) → HasStamps v → Final (Seen (Rule j) id v) ws xs → (ts : List Task) → AreInStampOrder v.stamps ts → IsClaimOrder j.matched (moment_of v).state ts
 closes_order j id v ws xs all stamped f ts o =
     stamp_order j.matched j.given (moment_of v) v.stamps _ (alone_parts j f.0 id v f.1.0 f.1.1 all).sound (alone_stamps j f.0 id v f.1.0 f.1.1 all) (λ t. (f.1.0.1.live.each id v f.1.1).stamps t) stamped ts o
 
 -- where the last pass has seen quiet, no shard has work
-pub closes_quiet : (j : Job) (id : ℕ) (v : PassRecord) (ws : List ℕ) (xs ys : List Content) → AreAll (v ∷ []) → v.turns ≡ [] → Final (Seen (Rule j) id v) ws xs → ys ≡ xs → v.quiet ≡ true → HaveNoWork ys
+pub closes_quiet : (j : TableJob) (id : ℕ) (v : PassRecord) (ws : List ℕ) (xs ys : List Content) → AreAll (v ∷ []) → v.turns ≡ [] → Final (Seen (Rule j) id v) ws xs → ys ≡ xs → v.quiet ≡ true → HaveNoWork ys
 closes_quiet j id v ws xs ys all none f same q =
     calm_closed j (moment_of v) ys (closes j id v ws xs ys all none f same) ((alone_parts j f.0 id v f.1.0 f.1.1 all).quieted.calm id v f.1.1 q)
 

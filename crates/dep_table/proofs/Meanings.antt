@@ -25,16 +25,16 @@ use Rattle.flow_meaning.specs.Backward.{ended}
 use Rattle.flow_meaning.specs.Comparing.{same_edge, same_item}
 use Rattle.list_lemmas.specs.Counting.{as_number, count}
 use Rattle.flow_meaning.specs.Ending.{has_outputs}
-use Rattle.flow_meaning.specs.Machine.{IsQuiescent, MachineState, Sent, same_sent, same_tile, sender}
+use Rattle.flow_meaning.specs.Machine.{IsQuiescent, MachineState, SentItem, same_sent_item, same_tile, sender}
 use Rattle.flow_meaning.specs.Sound.{IsSoundState, with_its_tile}
 use Rattle.flow_meaning.proofs.Comparing.{same_item-decides}
 use Rattle.flow_meaning.proofs.Events.{has_inputs, send_member}
 use Rattle.flow_meaning.proofs.Once.{claims_members}
 use Rattle.flow_meaning.proofs.Quiet.{sent_are_items}
-use Rattle.flow_meaning.proofs.Reordering.{same_sent-decides}
+use Rattle.flow_meaning.proofs.Reordering.{same_sent_item-decides}
 use Rattle.flow_meaning.proofs.Rest.{item_sender}
 use Rattle.shard_meaning.specs.Moment.{Moment}
-use Rattle.table_rule.specs.declared.job.Job.{Job}
+use Rattle.table_rule.specs.declared.table_job.TableJob.{TableJob}
 use Rattle.dep_table.specs.ClosedMeaning.{HasTheMeaning, all_sent, sent_by}
 use Rattle.dep_table.specs.Closing.{HaveNoWork, IsClosedAt}
 use Rattle.dep_table.proofs.Quiets.{closed_calm, closed_quiescent}
@@ -89,25 +89,25 @@ module _ (P : Plan) where
 
   module _ (G : Data) where
     -- what is sent is at most the items
-    sent_among : (x : Sent) (is : List Item) → count (same_sent x) (map (with_its_tile P G) is) ≤ count (same_item x.item) is
+    sent_among : (x : SentItem) (is : List Item) → count (same_sent_item x) (map (with_its_tile P G) is) ≤ count (same_item x.item) is
     sent_among x [] = omega arith
     sent_among x (i ∷ is) =
-        omega (arith, sent_among x is, one_le (same_sent x (with_its_tile P G i)) (same_item x.item i) (λ k. first_so (same_item x.item i) (same_tile x.tile (with_its_tile P G i).tile) k))
+        omega (arith, sent_among x is, one_le (same_sent_item x (with_its_tile P G i)) (same_item x.item i) (λ k. first_so (same_item x.item i) (same_tile x.tile (with_its_tile P G i).tile) k))
 
-    by_among : (x : Sent) (t : Task) → count (same_sent x) (sent_by P G t) ≤ count (same_item x.item) (items P t)
+    by_among : (x : SentItem) (t : Task) → count (same_sent_item x) (sent_by P G t) ≤ count (same_item x.item) (items P t)
     by_among x t =
         by_test (has_outputs (ended P G t))
-        (λ k. let e = ap (λ b. count (same_sent x) (cond b (map (with_its_tile P G) (items P t)) [])) k in omega (arith, e, sent_among x (items P t)))
-        (λ k. let e = ap (λ b. count (same_sent x) (cond b (map (with_its_tile P G) (items P t)) [])) k in omega (arith, e))
+        (λ k. let e = ap (λ b. count (same_sent_item x) (cond b (map (with_its_tile P G) (items P t)) [])) k in omega (arith, e, sent_among x (items P t)))
+        (λ k. let e = ap (λ b. count (same_sent_item x) (cond b (map (with_its_tile P G) (items P t)) [])) k in omega (arith, e))
 
-    all_among : (x : Sent) (ts : List Task) → count (same_sent x) (flat_map (sent_by P G) ts) ≤ count (same_item x.item) (flat_map (items P) ts)
+    all_among : (x : SentItem) (ts : List Task) → count (same_sent_item x) (flat_map (sent_by P G) ts) ≤ count (same_item x.item) (flat_map (items P) ts)
     all_among x [] = omega arith
     all_among x (t ∷ ts) =
         omega (
           arith,
           all_among x ts,
           by_among x t,
-          weigh-append (λ y. as_number (same_sent x y)) (sent_by P G t) (flat_map (sent_by P G) ts),
+          weigh-append (λ y. as_number (same_sent_item x y)) (sent_by P G t) (flat_map (sent_by P G) ts),
           weigh-append (λ i. as_number (same_item x.item i)) (items P t) (flat_map (items P) ts),
         )
 
@@ -117,18 +117,18 @@ module _ (P : Plan) where
         IsIn-flat_map (sent_by P G) (all_tasks P) t (with_its_tile P G i) ((listed P t).0 job)
         (subst (λ b. IsIn (with_its_tile P G i) (cond b (map (with_its_tile P G) (items P t)) [])) (sym o) (IsIn-map (with_its_tile P G) (items P t) i m))
 
-    record IsSentBy (x : Sent) : Type 0 where
+    record IsSentBy (x : SentItem) : Type 0 where
       task : IsTask P (sender x.item)
       is_item : IsIn x.item (items P (sender x.item))
       outputs : has_outputs (ended P G (sender x.item)) ≡ true
       tile : x ≡ with_its_tile P G x.item
 
-    from_task : (t : Task) (x : Sent) → IsTask P t → IsIn x (sent_by P G t) → IsSentBy x
+    from_task : (t : Task) (x : SentItem) → IsTask P t → IsIn x (sent_by P G t) → IsSentBy x
     from_task t x job h =
         by_test (has_outputs (ended P G t))
         (λ k.
         let p = from_map (with_its_tile P G) (items P t) x (subst (λ b. IsIn x (cond b (map (with_its_tile P G) (items P t)) [])) k h) in
-        let same : x.item ≡ p.0 = ap (λ (y : Sent). y.item) p.2 in
+        let same : x.item ≡ p.0 = ap (λ (y : SentItem). y.item) p.2 in
         let by : sender x.item ≡ t = ap sender same ∙ item_sender P t p.0 p.1 in
         record {
           task = subst (IsTask P) (sym by) job;
@@ -138,52 +138,52 @@ module _ (P : Plan) where
         })
         (λ k. let never : IsIn x [] = subst (λ b. IsIn x (cond b (map (with_its_tile P G) (items P t)) [])) k h in absurd never)
 
-    from_sent : (x : Sent) → IsIn x (all_sent P G) → IsSentBy x
+    from_sent : (x : SentItem) → IsIn x (all_sent P G) → IsSentBy x
     from_sent x h = let p = from_flat_map (sent_by P G) (all_tasks P) x h in from_task p.0 x ((listed P p.0).1 p.1) p.2
 
     module _ (con : IsConsistent P) (S : MachineState) (sound : IsSoundState P G S) (quiet : IsQuiescent P G S) where
       -- what was sent is what its task sends
-      its_tile : (x : Sent) → IsIn x S.sends → x ≡ with_its_tile P G x.item
+      its_tile : (x : SentItem) → IsIn x S.sends → x ≡ with_its_tile P G x.item
       its_tile x h = let o = sound.sent_are_outputs x h in λ k. record { item = x.item; tile = o.tile k }
 
-      sent_there : (x : Sent) → IsIn x S.sends → IsIn x (all_sent P G)
+      sent_there : (x : SentItem) → IsIn x S.sends → IsIn x (all_sent P G)
       sent_there x h =
           let o = sound.sent_are_outputs x h in
           subst (λ y. IsIn y (all_sent P G)) (sym (its_tile x h)) (among_sent (sender x.item) x.item (sound.claimed_have_all (sender x.item) o.claimed).task o.is_item o.outputs)
 
-      sent_back : (x : Sent) → IsIn x (all_sent P G) → IsIn x S.sends
+      sent_back : (x : SentItem) → IsIn x (all_sent P G) → IsIn x S.sends
       sent_back x h =
           let o = from_sent x h in
           let y = send_member S x.item ((sent_are_items P G con S sound quiet x.item o.task).1 (o.is_item, o.outputs)) in
           let same : y.0 ≡ x = its_tile y.0 y.1 ∙ ap (with_its_tile P G) y.2 ∙ sym o.tile in
           subst (λ z. IsIn z S.sends) same y.1
 
-      at_most_once : (x : Sent) → count (same_sent x) S.sends ≤ 1
+      at_most_once : (x : SentItem) → count (same_sent_item x) S.sends ≤ 1
       at_most_once x =
-          omega (arith, sound.sent_once x.item, count-le (same_sent x) (λ (y : Sent). same_item x.item y.item) S.sends (λ y i k. first_so (same_item x.item y.item) (same_tile x.tile y.tile) k))
+          omega (arith, sound.sent_once x.item, count-le (same_sent_item x) (λ (y : SentItem). same_item x.item y.item) S.sends (λ y i k. first_so (same_item x.item y.item) (same_tile x.tile y.tile) k))
 
-      same_times : (x : Sent) → count (same_sent x) S.sends ≡ count (same_sent x) (all_sent P G)
+      same_times : (x : SentItem) → count (same_sent_item x) S.sends ≡ count (same_sent_item x) (all_sent P G)
       same_times x =
           let more = all_among x (all_tasks P) in
-          elim (cases_eq (count (same_sent x) S.sends) 0) [
-            | inl none ↦ elim (cases_eq (count (same_sent x) (all_sent P G)) 0) [
+          elim (cases_eq (count (same_sent_item x) S.sends) 0) [
+            | inl none ↦ elim (cases_eq (count (same_sent_item x) (all_sent P G)) 0) [
               | inl zero ↦ none ∙ sym zero
               | inr some ↦
-                  let p = some_passes (same_sent x) (all_sent P G) (omega (arith, some)) in
-                  absurd (omega (arith, none, count-some (same_sent x) S.sends p.0 (sent_back p.0 p.1) p.2))
+                  let p = some_passes (same_sent_item x) (all_sent P G) (omega (arith, some)) in
+                  absurd (omega (arith, none, count-some (same_sent_item x) S.sends p.0 (sent_back p.0 p.1) p.2))
             ]
             | inr some ↦
-                let p = some_passes (same_sent x) S.sends (omega (arith, some)) in
-                omega (arith, some, at_most_once x, count-some (same_sent x) (all_sent P G) p.0 (sent_there p.0 p.1) p.2, more, items_once con x.item)
+                let p = some_passes (same_sent_item x) S.sends (omega (arith, some)) in
+                omega (arith, some, at_most_once x, count-some (same_sent_item x) (all_sent P G) p.0 (sent_there p.0 p.1) p.2, more, items_once con x.item)
           ]
 
       pub quiescent_meaning : HasTheMeaning P G S
       quiescent_meaning = record {
         claims = claims_members P G con S sound quiet;
-        sends = (same_counts same_sent same_sent-decides S.sends (all_sent P G)).1 same_times;
+        sends = (same_counts same_sent_item same_sent_item-decides S.sends (all_sent P G)).1 same_times;
         inputs = λ t i. has_inputs P G con S sound t (sound.claimed_have_all t i);
       }
 
 -- so it is of the passes of a table that was closed after the run had ended
-pub closed_meaning : (j : Job) (R : Moment) (ys : List Content) → IsClosedAt j R ys → HaveNoWork ys → HasTheMeaning j.matched j.given R.state
+pub closed_meaning : (j : TableJob) (R : Moment) (ys : List Content) → IsClosedAt j R ys → HaveNoWork ys → HasTheMeaning j.matched j.given R.state
 closed_meaning j R ys c none = quiescent_meaning j.matched j.given c.consistent R.state c.sound (closed_quiescent j R ys c (closed_calm j R ys c none))

@@ -14,7 +14,7 @@ use Rattle.dep_shard.specs.Content.{Content}
 use Rattle.flow_meaning.specs.Machine.{opening_state}
 use Rattle.flow_meaning.specs.Table.{is_ready, ready_tasks}
 use Rattle.shard_calls.specs.Opened.{AreOpeningShards}
-use Rattle.table_rule.specs.declared.job.Job.{Job}
+use Rattle.table_rule.specs.declared.table_job.TableJob.{TableJob}
 use Rattle.table_rule.specs.Opening.{IsOpening}
 use Rattle.dep_table.specs.Opened.{AreOpeningWords, HaveOpeningReserve}
 use Rattle.shard_meaning.proofs.Openings.{none_arrived}
@@ -36,7 +36,7 @@ ready_at_opening : (P : Plan) → length (ready_tasks P opening_state) ≡ lengt
 unfolding ready_tasks
 ready_at_opening P = λ i. length (filter (λ t. ready_first P t i) (all_tasks P))
 
-pub opened : (j : Job) (words : List ℕ) (ys : List Content) → IsConsistent j.matched → 0 < j.shards → j.shards ≤ 256 → AreOpeningWords j.shards (length (roots j.matched)) words → AreOpeningShards j.matched j.shards ys
+pub opened : (j : TableJob) (words : List ℕ) (ys : List Content) → IsConsistent j.matched → 0 < j.shards → j.shards ≤ 256 → AreOpeningWords j.shards (length (roots j.matched)) words → AreOpeningShards j.matched j.shards ys
     → (j.preloaded ≡ true → HaveOpeningReserve j.matched j.shards ys) → IsOpening j words ys
 opened j words ys consistent least few w shards spares = record {
   consistent = consistent;

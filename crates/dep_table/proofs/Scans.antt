@@ -1,7 +1,7 @@
 -- A look at the shard of a turn, and the claim of its best ready task.
 use Rattle.std.proofs.Common.{◌≡◌, ◌<◌, ℕ, List, [], ◌∷◌, sym, ap, ◌∙◌, subst, arith, refl, None}
+use Rattle.ptg_base.specs.Entry.{FlowTile}
 use Rattle.ptg_base.specs.Task.{Task}
-use Rattle.dep_shard.specs.Arrivals.{FlowTile}
 use Rattle.dep_shard.specs.Content.{Content, HasNoReady, IsBest, IsUnchanged, Uses, entry_in}
 use Rattle.work_board.specs.Claims.{FoundGone, FoundNoReady, HasClaimed, HasClaimedBest}
 use Rattle.work_board.specs.Looks.{HasStamp}

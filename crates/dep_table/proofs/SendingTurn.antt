@@ -2,6 +2,7 @@
 use Rattle.std.proofs.Common.{◌≡◌, ℕ, ℤ, ◌+◌, ◌<◌, ◌==◌, true, List, [], ◌∷◌, ◌++◌, length, sym, ap, ◌∙◌, subst, refl, arith, eq-eqb, ne_eqb, Option, Some, None, is_some, if◌then◌else◌}
 use Rattle.std.specs.Option.{IfSome, option_map_or, unwrap_or}
 use Rattle.atomic_table.specs.Table.{rest}
+use Rattle.ptg_base.specs.Entry.{Entry}
 use Rattle.ptg_base.specs.TaskComparing.{same_task}
 use Rattle.ptg_base.specs.TaskLaws.{same_task-decides}
 use Rattle.ptg_base.specs.declared.edge.Edge.{Edge}
@@ -15,7 +16,7 @@ use Rattle.plan_core.specs.Kinds.{is_data}
 use Rattle.coll_data.specs.Data.{Data}
 use Rattle.dep_iter.specs.Edges.{goal}
 use Rattle.dep_iter.specs.Hints.{priority}
-use Rattle.dep_shard.specs.Content.{Content, Entries, Entry, IsTileOf, IsUnchanged, IsWaiting, Updates, Uses, entry_before, entry_in, entry_of, fresh, with_arrival}
+use Rattle.dep_shard.specs.Content.{Content, Entries, IsTileOf, IsUnchanged, IsWaiting, Updates, Uses, entry_before, entry_in, entry_of, fresh, with_arrival}
 use Rattle.list_lemmas.specs.Counting.{as_number, weigh}
 use Rattle.flow_meaning.specs.Machine.{MaySend, sender}
 use Rattle.shard_meaning.specs.Moment.{Moment}
@@ -28,7 +29,7 @@ use Rattle.work_board.specs.Sends.{AnswersFor, HasSent, IsNext, arrived_in, shar
 use Rattle.work_board.specs.declared.answers.Sent.{Sent as Answer}
 use Rattle.work_board.specs.declared.answers.Sent.TheVariants as answer
 use Rattle.work_board.specs.declared.record.PassRecord.{PassRecord}
-use Rattle.table_rule.specs.declared.job.Job.{Job}
+use Rattle.table_rule.specs.declared.table_job.TableJob.{TableJob}
 use Rattle.table_rule.specs.Changes.{turn_left, with_own_send, with_turn}
 use Rattle.table_rule.specs.Live.{Stamp, own_stamps}
 use Rattle.shard_meaning.specs.Placing.{shard_of}
@@ -75,8 +76,8 @@ fires_if : (P : Plan) (e : Edge) (y : Content) → (entry_before y e.to (goal P 
 fires_if P e y same = (λ k. (arrived_before (entry_of y e.to) (goal P e.to) (priority P e.to) k + 1) == same k)
 
 credit_is : (P : Plan) (i : Item) (a : Answer) (y : Content) (tile : Option (List ℤ)) → MayTakeItem P i tile y → AnswersFor P y i a → credit_after a 0 ≡ spends P y i
-credit_is P (item.Edge e) answer.Waits y tile may h = sym (ap as_number (fires_if P e y may.same_goal ∙ ne_eqb (arrived_in y e.to + 1) (goal P e.to) (λ q. absurd (omega (arith, h, q)))))
-credit_is P (item.Edge e) answer.Fired y tile may h = sym (ap as_number (fires_if P e y may.same_goal ∙ eq-eqb (arrived_in y e.to + 1) (goal P e.to) h))
+credit_is P (item.Edge e) answer.Waits y tile may h = sym (ap as_number (fires_if P e y may.1 ∙ ne_eqb (arrived_in y e.to + 1) (goal P e.to) (λ q. absurd (omega (arith, h, q)))))
+credit_is P (item.Edge e) answer.Fired y tile may h = sym (ap as_number (fires_if P e y may.1 ∙ eq-eqb (arrived_in y e.to + 1) (goal P e.to) h))
 credit_is P (item.Edge e) answer.Kept y tile may h = absurd h
 credit_is P (item.Edge e) answer.Busy y tile may h = absurd h
 credit_is P (item.Write w) answer.Kept y tile may h = refl
@@ -86,16 +87,19 @@ credit_is P (item.Write w) answer.Busy y tile may h = absurd h
 
 -- what an item needs is by the entries and the lengths of tiles
 may_along : (P : Plan) (i : Item) (tile : Option (List ℤ)) (y d : Content) → d.entries ≡ y.entries → d.elems ≡ y.elems → MayTakeItem P i tile y → MayTakeItem P i tile d
-may_along P (item.Edge e) tile y d entries elems m = record {
-  task = m.task;
-  flow = m.flow;
-  is_flow = m.is_flow;
-  flow_number = m.flow_number;
-  some_goal = m.some_goal;
-  same_goal = subst (λ (es : Entries). (found_in P e es).goal ≡ goal P e.to) (sym entries) m.same_goal;
-  waits = subst (λ (es : Entries). IsWaiting (found_in P e es)) (sym entries) m.waits;
-  fits = subst (λ (ns : List ℕ). IfSome tile (IsTileOf ns m.flow.datatype)) (sym elems) m.fits;
-}
+may_along P (item.Edge e) tile y d entries elems m =
+    let may = m.0 in (
+      record {
+        task = may.task;
+        flow = may.flow;
+        is_flow = may.is_flow;
+        flow_number = may.flow_number;
+        some_goal = may.some_goal;
+        waits = subst (λ (es : Entries). IsWaiting (found_in P e es)) (sym entries) may.waits;
+        fits = subst (λ (ns : List ℕ). IfSome tile (IsTileOf ns may.flow.datatype)) (sym elems) may.fits;
+      },
+      subst (λ (es : Entries). (found_in P e es).goal ≡ goal P e.to) (sym entries) m.1,
+    )
 may_along P (item.Write w) tile y d entries elems m = record { task = m.task; flow = m.flow; is_flow = m.is_flow; carries = m.carries; fits = subst (λ (ns : List ℕ). IfSome tile (IsTileOf ns m.flow.datatype)) (sym elems) m.fits }
 
 -- spares that have grown are enough still
@@ -138,7 +142,7 @@ refused t v y z h p is d w here same grown = record {
 }
 
 module _ (t : Turn) (v : PassRecord) (y z : Content) (h : IsTurnOf t v y z) where
-  abbrev job : Job
+  abbrev job : TableJob
   job = job_of t.table.now
 
   abbrev moment : Moment
@@ -155,19 +159,21 @@ module _ (t : Turn) (v : PassRecord) (y z : Content) (h : IsTurnOf t v y z) wher
   may_take (item.Edge e) tile next at =
       let P : Plan = job.matched in let G : Data = job.given in let of : Placement = shard_of P job.shards in
       let may : MaySend P G moment.state (item.Edge e) = seen_next job t.shard v y h.seen (item.Edge e) tile next in
-      let flow = edge_flow P G parts.consistent moment.state parts.sound e may in record {
-        task = target_is_task P G parts.consistent of t.shard moment parts.sound e may;
-        flow = flow.0;
-        is_flow = flow.1;
-        flow_number = target_flow P G parts.consistent of t.shard moment parts.sound e may;
-        some_goal = target_goal P G parts.consistent of t.shard moment parts.sound e may;
-        same_goal = goal_found (entry_of y e.to) (goal P e.to) (priority P e.to) (λ x is. (target_entry P G parts.consistent of t.shard moment parts.sound e may y at share x is).0);
-        waits = target_waits P G parts.consistent of t.shard moment parts.sound e may y at share;
-        fits = by_test (is_data (Some flow.0.kind))
-            (λ carries. let p = edge_typed P G parts.consistent moment.state parts.sound e may t.table.now.fit t.table.now.well_made flow.0 flow.1 carries in
-            subst (λ (o : Option (List ℤ)). IfSome o (IsTileOf y.elems flow.0.datatype)) (sym (next.tile ∙ p.1)) (subst (λ (ns : List ℕ). IsTileOf ns flow.0.datatype p.0) (sym share.elems) p.2))
-            (λ none. subst (λ (o : Option (List ℤ)). IfSome o (IsTileOf y.elems flow.0.datatype)) (sym (next.tile ∙ edge_empty P G parts.consistent moment.state parts.sound e may flow.0 flow.1 none)) tt);
-      }
+      let flow = edge_flow P G parts.consistent moment.state parts.sound e may in (
+        record {
+          task = target_is_task P G parts.consistent of t.shard moment parts.sound e may;
+          flow = flow.0;
+          is_flow = flow.1;
+          flow_number = target_flow P G parts.consistent of t.shard moment parts.sound e may;
+          some_goal = target_goal P G parts.consistent of t.shard moment parts.sound e may;
+          waits = target_waits P G parts.consistent of t.shard moment parts.sound e may y at share;
+          fits = by_test (is_data (Some flow.0.kind))
+              (λ carries. let p = edge_typed P G parts.consistent moment.state parts.sound e may t.table.now.fit t.table.now.well_made flow.0 flow.1 carries in
+              subst (λ (o : Option (List ℤ)). IfSome o (IsTileOf y.elems flow.0.datatype)) (sym (next.tile ∙ p.1)) (subst (λ (ns : List ℕ). IsTileOf ns flow.0.datatype p.0) (sym share.elems) p.2))
+              (λ none. subst (λ (o : Option (List ℤ)). IfSome o (IsTileOf y.elems flow.0.datatype)) (sym (next.tile ∙ edge_empty P G parts.consistent moment.state parts.sound e may flow.0 flow.1 none)) tt);
+        },
+        goal_found (entry_of y e.to) (goal P e.to) (priority P e.to) (λ x is. (target_entry P G parts.consistent of t.shard moment parts.sound e may y at share x is).0),
+      )
   may_take (item.Write w) tile next at =
       let P : Plan = job.matched in let G : Data = job.given in
       let may : MaySend P G moment.state (item.Write w) = seen_next job t.shard v y h.seen (item.Write w) tile next in

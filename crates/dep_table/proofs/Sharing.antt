@@ -7,7 +7,7 @@ use Rattle.atomic_table.proofs.send_lease.SendLease.TheSendSync.{the_sync as lea
 use Rattle.atomic_table.proofs.shared.Seat.TheSendSync.{the_send as seat_send}
 use Rattle.atomic_table.proofs.shared.Shared.TheSendSync.{the_sync as shared_sync}
 use Rattle.shard_meaning.proofs.Sharing.{declared_sync, given_sync, matched_sync, shard_send, shard_sync}
-use Rattle.table_rule.specs.contracts.job.Job.{the_type as job_type}
+use Rattle.table_rule.specs.contracts.table_job.TableJob.{the_type as job_type}
 use Rattle.dep_table.specs.contracts.closing_room.ClosingRoom.{the_type as closing_type}
 use Rattle.dep_table.specs.contracts.pass.Pass.{the_row as pass_row}
 use Rattle.dep_table.specs.contracts.table.DepTable.{the_row as table_row, the_type as table_type}

@@ -104,7 +104,7 @@ module _ (P : Plan) (G : Data) (R : Moment) (stamps : List Stamp) (word : ℕ) (
     )
 
     pub in_order : IsClaimOrder P R.state (map task_of ordered)
-    in_order = record { legal = legal_after [] ordered refl; claims = (same_counts same_task same_task-decides (map task_of ordered) R.state.claims).1 as_often }
+    in_order = record { legal = legal_after [] ordered refl; all = (same_counts same_task same_task-decides (map task_of ordered) R.state.claims).1 as_often }
 
   pub stamp_order : (ts : List Task) → AreInStampOrder stamps ts → IsClaimOrder P R.state ts
   stamp_order ts o = subst (IsClaimOrder P R.state) (sym o.tasks) (in_order o.ordered o.same o.rise)

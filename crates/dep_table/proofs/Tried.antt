@@ -1,10 +1,10 @@
 -- A call that goes for one turn: what is said of that turn's table and shard is said of those of the call.
 use Rattle.std.proofs.Common.{◌≡◌, ℕ, List, ℤ, Option, None, Some, Result, Ok, Err, IfOk, OnErr, IfNone, subst}
+use Rattle.ptg_base.specs.Entry.{FlowTile}
 use Rattle.ptg_base.specs.Task.{Task}
 use Rattle.ptg_base.specs.declared.edge.Item.{Item}
 use Rattle.ptg_base.specs.declared.edge.Item.TheVariants as item
 use Rattle.plan_core.specs.declared.plan.Plan.{Plan}
-use Rattle.dep_shard.specs.Arrivals.{FlowTile}
 use Rattle.dep_shard.specs.Content.{Content}
 use Rattle.work_board.specs.declared.answers.Sent.{Sent}
 use Rattle.work_board.specs.declared.answers.Sent.TheVariants as answer

@@ -11,16 +11,16 @@ use Rattle.flow_meaning.specs.Answer.{ran}
 use Rattle.flow_meaning.specs.Backward.{ended, inputs}
 use Rattle.list_lemmas.specs.Counting.{HasSameMembers}
 use Rattle.flow_meaning.specs.Ending.{has_outputs}
-use Rattle.flow_meaning.specs.Machine.{MachineState, Sent, sent_tile}
+use Rattle.flow_meaning.specs.Machine.{MachineState, SentItem, sent_tile}
 use Rattle.flow_meaning.specs.Sound.{with_its_tile}
 use Rattle.flow_meaning.specs.Starting.{delivered_tiles}
 
 -- what a task sends: its items with their tiles, if it has outputs
-abbrev pub sent_by : Plan → Data → Task → List Sent
+abbrev pub sent_by : Plan → Data → Task → List SentItem
 sent_by P G t = if has_outputs (ended P G t) then map (with_its_tile P G) (items P t) else []
 
 -- what all tasks send
-abbrev pub all_sent : Plan → Data → List Sent
+abbrev pub all_sent : Plan → Data → List SentItem
 all_sent P G = flat_map (sent_by P G) (all_tasks P)
 
 -- The tasks that run were claimed, and what all tasks send was sent, each once. The tiles that were sent to a claimed

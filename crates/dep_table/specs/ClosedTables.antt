@@ -1,11 +1,11 @@
 -- A closed table as contracts see it. Source: this project's own choice.
 use Rattle.std.specs.Prelude.{ℕ, List}
 use Rattle.dep_shard.specs.Content.{Content}
-use Rattle.table_rule.specs.declared.job.Job.{Job}
+use Rattle.table_rule.specs.declared.table_job.TableJob.{TableJob}
 
 -- its job, its shards, and how many passes were closed with it
 pub record ClosedView : Type 0 where
-  pub job : Job
+  pub job : TableJob
   pub shards : List Content
   pub passes : ℕ
 

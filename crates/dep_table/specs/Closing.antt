@@ -11,7 +11,7 @@ use Rattle.flow_meaning.specs.Sound.{IsSoundState}
 use Rattle.shard_meaning.specs.Calm.{AreFinished, HasNoWork}
 use Rattle.shard_meaning.specs.Moment.{Moment}
 use Rattle.shard_meaning.specs.Share.{IsShardOf}
-use Rattle.table_rule.specs.declared.job.Job.{Job}
+use Rattle.table_rule.specs.declared.table_job.TableJob.{TableJob}
 use Rattle.table_rule.specs.Live.{Stamp}
 use Rattle.table_rule.specs.Names.{AreAll}
 use Rattle.shard_meaning.specs.Placing.{shard_of}
@@ -21,7 +21,7 @@ use Rattle.dep_table.specs.Views.{PassView, shown}
 
 -- The shards hold their parts of this moment. It is sound, and each of its claimed tasks still runs, has trapped, or
 -- has sent all its items.
-pub record IsClosedAt (j : Job) (R : Moment) (ys : List Content) : Type 0 where
+pub record IsClosedAt (j : TableJob) (R : Moment) (ys : List Content) : Type 0 where
   pub consistent : IsConsistent j.matched
   pub some_shards : 0 < j.shards
   pub count : length ys ≡ j.shards
@@ -31,12 +31,12 @@ pub record IsClosedAt (j : Job) (R : Moment) (ys : List Content) : Type 0 where
       → IsShardOf j.matched j.given (shard_of j.matched j.shards) k R y
 
 -- there is such a moment
-abbrev pub IsClosed : Job → List Content → Type 0
+abbrev pub IsClosed : TableJob → List Content → Type 0
 IsClosed j ys = (R : Moment) × IsClosedAt j R ys
 
 -- A closed table: its shards hold their parts of such a moment, its data are those of the plan and, where all memory
 -- was taken before, it has room for a row of each task.
-pub record IsClosedTable (j : Job) (ys : List Content) (rows : ℕ) : Type 0 where
+pub record IsClosedTable (j : TableJob) (ys : List Content) (rows : ℕ) : Type 0 where
   pub ends : IsClosed j ys
   pub fit : DataFit j.matched.colls j.matched.elems j.given
   pub room : j.preloaded ≡ true → length (all_tasks j.matched) ≤ rows

@@ -1,6 +1,6 @@
 -- What the shards of a preloaded table need for all that will come to them, counted task by task. Source: this
 -- project's own choice.
-use Rattle.std.specs.Prelude.{◌≡◌, ◌≢◌, ◌<◌, ℕ, ◌+◌, ◌^◌, ℤ, Bool, true, false, ◌==◌, ◌&&◌, List, [], ◌∷◌, ◌++◌, length, filter, flat_map, slice_get, slice_index, Some, if◌then◌else◌}
+use Rattle.std.specs.Prelude.{◌≡◌, ◌<◌, ℕ, ◌+◌, ◌^◌, ℤ, Bool, true, false, ◌==◌, ◌&&◌, List, [], ◌∷◌, ◌++◌, length, filter, flat_map, slice_get, slice_index, Some, if◌then◌else◌}
 use Rattle.ptg_base.specs.Task.{Task}
 use Rattle.ptg_base.specs.declared.edge.Edge.{Edge}
 use Rattle.ptg_base.specs.declared.edge.WriteBack.{WriteBack}
@@ -14,17 +14,18 @@ use Rattle.dep_iter.specs.Consistent.{is_data_edge}
 use Rattle.dep_iter.specs.Edges.{goal, in_edges}
 use Rattle.dep_iter.specs.Items.{write_backs}
 use Rattle.dep_shard.specs.Content.{Content, HasSpares, IsUnchanged}
+use Rattle.list_lemmas.specs.Changes.{ChangesAt}
 use Rattle.list_lemmas.specs.Counting.{as_number, count, weigh}
 use Rattle.shard_meaning.specs.Opening.{is_edge_to, is_to_enter, is_write_from}
 use Rattle.shard_meaning.specs.Reserve.{is_edge_of_type, is_write_of_type}
 use Rattle.shard_meaning.specs.Share.{Placement, is_of}
 use Rattle.dep_table.specs.declared.needs.Needs.{Needs}
 
--- the edges into these tasks that carry a tile, and the write-backs of these tasks; of all tasks they are those of the
--- job
+-- the edges into these tasks that carry a tile
 abbrev pub data_into : Plan → List Task → List Edge
 data_into P ts = filter (is_data_edge P) (flat_map (in_edges P) ts)
 
+-- the write-backs of these tasks
 abbrev pub writes_of : Plan → List Task → List WriteBack
 writes_of P ts = flat_map (write_backs P) ts
 
@@ -44,19 +45,19 @@ pub record IsNeedOf (P : Plan) (of : Placement) (k : ℕ) (ts : List Task) (n : 
 abbrev pub AreNeedsOf : Plan → Placement → List Task → List Needs → Type 0
 AreNeedsOf P of ts ns = (k : ℕ) (n : Needs) → slice_get ns k ≡ Some n → IsNeedOf P of k ts n
 
--- there are counts for so many types
+-- there are counts for this many types
 abbrev pub HaveTypes : ℕ → List Needs → Type 0
 HaveTypes types ns = (k : ℕ) (n : Needs) → slice_get ns k ≡ Some n → length n.tiles.items ≡ types
 
--- how many tiles of a type these edges carry, and these write-backs
+-- how many tiles of a type these edges carry
 abbrev pub edge_tiles : Plan → List Edge → ℕ → ℕ
 edge_tiles P es datatype = count (is_edge_of_type P datatype) (filter (is_data_edge P) es)
 
+-- how many tiles of a type these write-backs carry
 abbrev pub write_tiles : Plan → List WriteBack → ℕ → ℕ
 write_tiles P ws datatype = count (is_write_of_type P datatype) ws
 
--- the counts of a shard, and of all shards, stay below 2 ^ 64 while what these tasks need is added, whatever shards
--- they are of
+-- the counts of a shard stay below 2 ^ 64 while what these tasks need is added, whatever shards they are of
 pub record HasRoomFor (P : Plan) (ts : List Task) (n : Needs) : Type 0 where
   pub entries : n.entries + length ts < 2 ^ 64
   pub tiles : (datatype : ℕ)
@@ -66,6 +67,7 @@ pub record HasRoomFor (P : Plan) (ts : List Task) (n : Needs) : Type 0 where
   pub writes : n.writes + length (writes_of P ts) < 2 ^ 64
   pub traps : n.traps + length ts < 2 ^ 64
 
+-- the counts of each of these shards stay so
 abbrev pub HaveRoomFor : Plan → List Task → List Needs → Type 0
 HaveRoomFor P ts ns = (k : ℕ) (n : Needs) → slice_get ns k ≡ Some n → HasRoomFor P ts n
 
@@ -77,7 +79,7 @@ pub record AddsNeeds (P : Plan) (of : Placement) (t : Task) (old new : List Need
   pub needs : (done : List Task) → AreNeedsOf P of done old → AreNeedsOf P of (done ++ t ∷ []) new
   pub room : (others : List Task) → HaveRoomFor P (t ∷ others) old → HaveRoomFor P others new
 
--- so many tiles of each type and so many write-backs more
+-- the needs have grown by this many tiles of each type and this many write-backs
 pub record AddsTiles (of_type : ℕ → ℕ) (places : ℕ) (old new : Needs) : Type 0 where
   pub entries : new.entries ≡ old.entries
   pub types : length new.tiles.items ≡ length old.tiles.items
@@ -95,11 +97,12 @@ begins_with_edge (target.New ∷ xs) = false
 begins_with_edge (target.Null ∷ xs) = false
 
 -- how many tiles of a type come by edges into a flow of a task with these locals: one where it carries tiles and its
--- source is an edge; and into these flows
+-- source is an edge
 abbrev pub flow_tiles : List ℤ → FlowPlan → ℕ → ℕ
 flow_tiles env f datatype =
     as_number ((is_data (Some f.kind) && begins_with_edge (flow_ins env f)) && (f.datatype == datatype))
 
+-- how many tiles of a type come by edges into these flows
 abbrev pub flows_tiles : List ℤ → List FlowPlan → ℕ → ℕ
 flows_tiles env fs datatype = weigh (λ f. flow_tiles env f datatype) fs
 
@@ -118,13 +121,11 @@ pub record AddsTask (P : Plan) (t : Task) (old new : Needs) : Type 0 where
   pub writes : new.writes ≡ old.writes + length (write_backs P t)
   pub traps : new.traps ≡ old.traps + 1
 
--- the same for the needs of the shard k, and those of the other shards stay
-pub record AddsTaskAt (P : Plan) (t : Task) (k : ℕ) (old new : List Needs) : Type 0 where
-  pub count : length new ≡ length old
-  pub others : (i : ℕ) → i ≢ k → slice_get new i ≡ slice_get old i
-  pub here : (m n : Needs) → slice_get old k ≡ Some m → slice_get new k ≡ Some n → AddsTask P t m n
+-- what the shard k needs for its task is added to its needs, and those of the other shards stay
+abbrev pub AddsTaskAt : Plan → Task → ℕ → List Needs → List Needs → Type 0
+AddsTaskAt P t k old new = ChangesAt (AddsTask P t) k old new
 
--- nothing is needed, where there are so many types
+-- nothing is needed, where there are this many types
 pub record IsNoNeed (types : ℕ) (n : Needs) : Type 0 where
   pub entries : n.entries ≡ 0
   pub types_count : length n.tiles.items ≡ types
@@ -132,7 +133,7 @@ pub record IsNoNeed (types : ℕ) (n : Needs) : Type 0 where
   pub writes : n.writes ≡ 0
   pub traps : n.traps ≡ 0
 
--- so many needs of shards, of nothing, for this number of types
+-- this many needs of shards, of nothing, for this number of types
 pub record AreNoNeeds (shards types : ℕ) (ns : List Needs) : Type 0 where
   pub count : length ns ≡ shards
   pub each : (k : ℕ) (n : Needs) → slice_get ns k ≡ Some n → IsNoNeed types n
@@ -142,13 +143,11 @@ pub record IsReservedFor (n : Needs) (old new : Content) : Type 0 where
   pub same : IsUnchanged old new
   pub spares : HasSpares new.spare n.entries n.tiles.items n.writes n.traps
 
--- The same for the shard k, and the other shards stay.
-pub record ReservesAt (k : ℕ) (n : Needs) (old new : List Content) : Type 0 where
-  pub count : length new ≡ length old
-  pub others : (i : ℕ) → i ≢ k → slice_get new i ≡ slice_get old i
-  pub here : (y z : Content) → slice_get old k ≡ Some y → slice_get new k ≡ Some z → IsReservedFor n y z
+-- The shard k has spares for all that it needs, and the other shards stay.
+abbrev pub ReservesAt : ℕ → Needs → List Content → List Content → Type 0
+ReservesAt k n old new = ChangesAt (IsReservedFor n) k old new
 
--- the same for each shard
+-- each shard has spares for all that it needs, and nothing but its spares has changed
 pub record AreReserved (ns : List Needs) (old new : List Content) : Type 0 where
   pub count : length new ≡ length old
   pub each : (k : ℕ) (n : Needs) (y z : Content) → slice_get ns k ≡ Some n → slice_get old k ≡ Some y

@@ -12,6 +12,6 @@ pub record AreOpeningWords (n ready : ℕ) (words : List ℕ) : Type 0 where
   pub live : slice_index words (live_word n) ≡ ready
   pub zero : (i : ℕ) → i ≢ live_word n → slice_index words i ≡ 0
 
--- each of so many shards of a new table has spares for all that will come to it
+-- each of this many shards of a new table has spares for all that will come to it
 abbrev pub HaveOpeningReserve : Plan → ℕ → List Content → Type 0
 HaveOpeningReserve P n ys = (k : ℕ) (y : Content) → slice_get ys k ≡ Some y → HasOpeningReserve P (shard_of P n) k y

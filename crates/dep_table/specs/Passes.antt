@@ -7,7 +7,7 @@ use Rattle.work_board.specs.Records.{IsClean}
 use Rattle.table_rule.specs.Plays.{Seated}
 use Rattle.dep_table.specs.Views.{PassView, shown}
 
--- it holds no shard and no turn, owes the live word nothing, has one name, and each of its claims has a stamp
+-- a pass holds no shard and no turn, owes the live word nothing, has one name, and each of its claims has a stamp
 pub record IsCleanSeat (m : Seated) : Type 0 where
   pub no_shard : m.1 ≡ []
   pub clean : IsClean m.0

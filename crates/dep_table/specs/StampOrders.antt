@@ -9,7 +9,7 @@ use Rattle.coll_data.specs.Data.{Data}
 use Rattle.flow_meaning.specs.Answer.{ran}
 use Rattle.list_lemmas.specs.Counting.{HasSameMembers}
 use Rattle.flow_meaning.specs.Machine.{MachineState}
-use Rattle.flow_meaning.specs.Order.{IsLegalOrder}
+use Rattle.flow_meaning.specs.Order.{IsOrderOf}
 use Rattle.work_board.specs.declared.record.PassRecord.{PassRecord}
 use Rattle.table_rule.specs.Live.{Stamp}
 
@@ -17,10 +17,11 @@ use Rattle.table_rule.specs.Live.{Stamp}
 abbrev pub joined_stamps : List PassRecord → List Stamp
 joined_stamps vs = flat_map (λ (v : PassRecord). v.stamps) vs
 
--- the task of a stamp, and its number
+-- the task of a stamp
 abbrev pub task_of : Stamp → Task
 task_of x = x.0
 
+-- the number of a stamp
 abbrev pub number_of : Stamp → ℕ
 number_of x = x.1
 
@@ -32,11 +33,9 @@ pub record AreInStampOrder (stamps : List Stamp) (ts : List Task) : Type 0 where
   pub tasks : ts ≡ map task_of ordered
 
 -- A legal order of the tasks that were claimed.
-pub record IsClaimOrder (P : Plan) (S : MachineState) (ts : List Task) : Type 0 where
-  pub legal : IsLegalOrder P ts
-  pub claims : HasSameMembers ts S.claims
+abbrev pub IsClaimOrder : Plan → MachineState → List Task → Type 0
+IsClaimOrder P S ts = IsOrderOf P S.claims ts
 
 -- A legal order of the tasks that run.
-pub record IsRanOrder (P : Plan) (G : Data) (ts : List Task) : Type 0 where
-  pub legal : IsLegalOrder P ts
-  pub ran : HasSameMembers ts (ran P G)
+abbrev pub IsRanOrder : Plan → Data → List Task → Type 0
+IsRanOrder P G ts = IsOrderOf P (ran P G) ts

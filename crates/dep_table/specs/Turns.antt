@@ -1,14 +1,14 @@
 -- A turn that a pass holds. Source: this project's own choice.
 use Rattle.std.specs.Prelude.{◌++◌, ◌⊎◌, ◌≡◌, ℕ, ◌<◌, List, [], ◌∷◌, length, None}
+use Rattle.ptg_base.specs.Entry.{FlowTile}
 use Rattle.ptg_base.specs.Task.{Task}
-use Rattle.dep_shard.specs.Arrivals.{FlowTile}
 use Rattle.dep_shard.specs.Content.{Content, Ends, IsUnchanged, KeepsEntriesAndWritten, Takes, Uses}
 use Rattle.term_core.specs.declared.trap.Trap.{Trap}
 use Rattle.work_board.specs.Sends.{MayEnd, MayTrap}
 use Rattle.work_board.specs.Looks.{HasStamp}
 use Rattle.work_board.specs.Records.{IsClean}
 use Rattle.work_board.specs.declared.record.PassRecord.{PassRecord}
-use Rattle.table_rule.specs.declared.job.Job.{Job}
+use Rattle.table_rule.specs.declared.table_job.TableJob.{TableJob}
 use Rattle.table_rule.specs.Live.{own_stamps}
 use Rattle.shard_meaning.specs.Placing.{shard_of}
 use Rattle.table_rule.specs.Changes.{with_turn}
@@ -29,6 +29,7 @@ pub record IsTurnOf (t : Turn) (v : PassRecord) (y₀ y : Content) : Type 0 wher
   pub one_name : length v.names ≡ 1
   pub stamp : (u : Task) → v.running ≡ u ∷ [] → HasStamp v u t.pass.now.stamp
 
+-- the turn of some pass that was clean when it was taken
 abbrev pub IsTurn : Turn → Type 0
 IsTurn t = (v : PassRecord) × (y₀ : Content) × (y : Content) × IsTurnOf t v y₀ y
 
@@ -39,7 +40,7 @@ pub record HasLooked (k : ℕ) (before : Content) (m n : Seated) : Type 0 where
   pub same : IsUnchanged before after
   pub spares : Uses before.spare after.spare 0 None 0 0
 
--- what a pass may give a turn back with: nothing but spares that grew, or a ready entry that was taken out
+-- a pass may give the turn of the shard k back: nothing changed there but spares that grew
 pub record Leaves (k : ℕ) (m : Seated) : Type 0 where
   pub before : Content
   pub after : Content
@@ -47,6 +48,7 @@ pub record Leaves (k : ℕ) (m : Seated) : Type 0 where
   pub same : IsUnchanged before after
   pub spares : Uses before.spare after.spare 0 None 0 0
 
+-- a pass may give the turn of the shard k back with a claim: the ready entry of the task was taken out
 pub record Claims (k : ℕ) (t : Task) (tiles : List FlowTile) (m : Seated) : Type 0 where
   pub before : Content
   pub after : Content
@@ -54,8 +56,8 @@ pub record Claims (k : ℕ) (t : Task) (tiles : List FlowTile) (m : Seated) : Ty
   pub takes : Takes before after t tiles
   pub spares : Uses before.spare after.spare 0 None 0 0
 
--- the end of the running task: after all its items, or by a trap with its row
-pub record EndsAfterItems (j : Job) (k : ℕ) (t : Task) (m : Seated) : Type 0 where
+-- a pass may give the turn of the shard k back with the end of its running task after all its items
+pub record EndsAfterItems (j : TableJob) (k : ℕ) (t : Task) (m : Seated) : Type 0 where
   pub before : Content
   pub after : Content
   pub turn : HasTurn m k before after 0
@@ -65,7 +67,8 @@ pub record EndsAfterItems (j : Job) (k : ℕ) (t : Task) (m : Seated) : Type 0 w
   pub trapped : after.trapped ≡ before.trapped
   pub spares : Uses before.spare after.spare 0 None 0 0
 
-pub record EndsByTrap (j : Job) (k : ℕ) (t : Task) (m : Seated) : Type 0 where
+-- a pass may give the turn of the shard k back with the end of its running task by a trap, whose row is added
+pub record EndsByTrap (j : TableJob) (k : ℕ) (t : Task) (m : Seated) : Type 0 where
   pub before : Content
   pub after : Content
   pub cause : Trap
@@ -77,7 +80,7 @@ pub record EndsByTrap (j : Job) (k : ℕ) (t : Task) (m : Seated) : Type 0 where
   pub spares : Uses before.spare after.spare 0 None 0 1
 
 -- a task of the shard ends, which has its stamp
-pub record EndsTask (j : Job) (k : ℕ) (m : Seated) : Type 0 where
+pub record EndsTask (j : TableJob) (k : ℕ) (m : Seated) : Type 0 where
   pub task : Task
   pub at : shard_of j.matched j.shards task ≡ k
   pub stamped : 0 < own_stamps m.0 task

@@ -17,7 +17,7 @@ use coll_data::Given;
 use dep_iter::Matched;
 use ptg_base::TaskId;
 use shard_calls::shard_at;
-use table_rule::law::SplitOff;
+use table_rule::SplitOff;
 
 impl DepTable {
     /// The plan of the job.

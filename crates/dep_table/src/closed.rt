@@ -18,17 +18,16 @@ use crate::table::DepTable;
 use dep_shard::Shard;
 use shard_answer::Room;
 use std::marker::Model;
-use table_rule::job::Job;
-use table_rule::law::JoinTo;
-use table_rule::rules::{a_pass_with_all_names_is_alone, all_passes_stay_all};
-use table_rule::steps::two_passes_are_joined;
+use table_rule::{
+    JoinTo, TableJob, a_pass_with_all_names_is_alone, all_passes_stay_all, two_passes_are_joined,
+};
 
 /// A table that no pass shares any more: its shards hold their parts of a sound moment. Contracts see its job, its
 /// shards, and how many passes were closed with it. `DepTable::close` alone makes one.
 #[derive(Drop)]
 pub struct Closed {
     pub(crate) shards: Vec<Shard>,
-    pub(crate) job: Job,
+    pub(crate) job: TableJob,
     pub(crate) passes: usize,
     pub(crate) rows: Room,
 }
@@ -83,7 +82,7 @@ impl DepTable {
         last
     }
 
-    // The shards of a table that its last pass gives up, which was made of so many passes.
+    // The shards of a table that its last pass gives up, which was made of this many passes.
     fn end(self, pass: Pass, passes: usize) -> Closed
         requires { IsLastPass (id_of self) pass (moment_of (shown pass)) (shown pass).stamps }
         ensures job { result.job ≡ job_of self }

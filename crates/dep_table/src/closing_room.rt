@@ -14,7 +14,7 @@ pub(crate) struct ClosingRoom {
     pub(crate) rows: Room,
 }
 
-// Takes memory for so many shards and rows.
+// Takes memory for this many shards and rows.
 pub(crate) fn closing_room(
     alloc: Global,
     shards: u32,

@@ -3,26 +3,35 @@
 
 mod board;
 mod calls;
-pub mod closed;
+mod closed;
 mod closing_room;
 mod delivery;
 mod needs;
 mod opening;
 mod outcome;
-pub mod pass;
+mod pass;
 mod preloaded;
-pub mod quiet;
-pub mod receipt;
+mod quiet;
+mod receipt;
 mod scanning;
 mod send_steps;
 mod sending;
 mod steps;
-pub mod table;
+mod table;
 mod threads;
 mod tries;
-pub mod turn;
+mod turn;
 mod turn_steps;
 mod words;
 
 pub use board::an_idle_pass_is_a_workers_pass;
+pub use closed::Closed;
+pub use pass::Pass;
+pub use quiet::{
+    a_closed_table_without_work_is_quiescent, a_quiet_close_has_an_order_of_what_ran,
+    a_quiet_close_has_the_meaning,
+};
+pub use receipt::Receipt;
+pub use table::DepTable;
 pub use threads::{sends_pass, shares_table};
+pub use turn::{Busy, Turn};

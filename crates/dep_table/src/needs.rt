@@ -66,7 +66,7 @@ fn begins_with_edge(deps: &[DepPlan], env: &[i64]) -> bool
 }
 
 impl Needs {
-    // Nothing, for a plan with so many types of tiles.
+    // Nothing, for a plan with this many types of tiles.
     pub(crate) fn new(alloc: Global, types: usize) -> Result<Needs, OutOfMemory>
         ensures { IfOk result (IsNoNeed types) }
     {
@@ -78,7 +78,7 @@ impl Needs {
         })
     }
 
-    // A tile of this type more.
+    // Adds a tile of this type.
     fn add_tile(&mut self, datatype: u32)
         requires known { datatype < length self.old.tiles.items }
         requires room { slice_index self.old.tiles.items datatype + 1 < 2 ^ 64 }
@@ -87,7 +87,7 @@ impl Needs {
         add_one(&mut self.tiles[datatype as usize]);
     }
 
-    // The tile that comes by an edge into a flow of a task with these locals, if one does.
+    // Adds the tile that comes by an edge into a flow of a task with these locals, if one does.
     fn add_flow(&mut self, flow: &FlowPlan, env: &[i64])
         requires known { flow.now.datatype < length self.old.tiles.items }
         requires room { (d : ℕ) → slice_index self.old.tiles.items d + flow_tiles env.now flow.now d < 2 ^ 64 }
@@ -98,7 +98,7 @@ impl Needs {
         }
     }
 
-    // The same of these flows.
+    // Adds the tiles that come by edges into these flows of a task with these locals.
     fn add_flows(&mut self, flows: &[FlowPlan], env: &[i64])
         requires known { (f : FlowPlanValue) → IsIn f flows.now → f.datatype < length self.old.tiles.items }
         requires room { (d : ℕ) → slice_index self.old.tiles.items d + flows_tiles env.now flows.now d < 2 ^ 64 }

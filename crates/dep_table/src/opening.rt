@@ -22,12 +22,10 @@ use dep_shard::Shard;
 use ptg_base::OutOfMemory;
 use shard_calls::opened_shards;
 use std::alloc::Global;
-use table_rule::job::Job;
-use table_rule::law::Law;
-use table_rule::rules::the_rule_holds_before_the_first_step;
+use table_rule::{Law, TableJob, the_rule_holds_before_the_first_step};
 use work_board::PassRecord;
 
-// The words of a table with so many shards and ready tasks.
+// The words of a table with this many shards and ready tasks.
 fn opening_words(alloc: Global, shards: u32, live: u64) -> Result<Vec<u64>, OutOfMemory>
     requires { shards ≤ most_shards }
     ensures { IfOk result (λ v. AreOpeningWords shards live v.items) }
@@ -38,7 +36,7 @@ fn opening_words(alloc: Global, shards: u32, live: u64) -> Result<Vec<u64>, OutO
 }
 
 // The room that a table for this job keeps for its close.
-fn room_for(alloc: Global, job: &Job) -> Result<ClosingRoom, OutOfMemory>
+fn room_for(alloc: Global, job: &TableJob) -> Result<ClosingRoom, OutOfMemory>
     ensures { IfOk result (IsRoomFor job.now) }
 {
     let rows = if job.preloaded {
@@ -54,7 +52,7 @@ fn lay(
     alloc: Global,
     words: Vec<u64>,
     shards: Vec<Shard>,
-    job: Job,
+    job: TableJob,
     closing: ClosingRoom,
 ) -> Result<(DepTable, Pass), OutOfMemory>
     requires opening { IsOpening job words.items shards.items }
@@ -64,8 +62,10 @@ fn lay(
     ensures job { IfOk result (λ r. job_of r.0 ≡ job) }
 {
     the_rule_holds_before_the_first_step();
-    let laid: Result<(Table<Shard, PassRecord, Job, Law, Global>, Seat), Refused<Shard, Global>> =
-        Table::new(alloc, words.as_slice(), shards, &job);
+    let laid: Result<
+        (Table<Shard, PassRecord, TableJob, Law, Global>, Seat),
+        Refused<Shard, Global>,
+    > = Table::new(alloc, words.as_slice(), shards, &job);
     match laid {
         Ok((table, seat)) => Ok((
             DepTable {
@@ -83,7 +83,7 @@ fn lay(
 pub(crate) fn open_table(
     alloc: Global,
     shards: Vec<Shard>,
-    job: Job,
+    job: TableJob,
 ) -> Result<(DepTable, Pass), OutOfMemory>
     requires count { (0 < job.shards) × (job.shards ≤ most_shards) }
     requires shards { AreOpeningShards job.matched job.shards shards.items }
@@ -92,7 +92,7 @@ pub(crate) fn open_table(
     ensures pass { IfOk result (λ r. IsPassOf (id_of r.0) r.1 × (r.1.me.0 ≡ first_pass)) }
     ensures job { IfOk result (λ r. job_of r.0 ≡ job) }
 {
-    job.matched.is_consistent();
+    job.matched.plan_is_consistent();
     let words = opening_words(alloc, job.shards, job.matched.roots())?;
     let closing = room_for(alloc, &job)?;
     lay(alloc, words, shards, job, closing)
@@ -114,7 +114,7 @@ impl DepTable {
             job_of r.0 ≡ record { matched = matched; given = given; shards = shards; preloaded = false }) }
     {
         let opened = opened_shards(alloc, &matched, shards)?;
-        let job = Job {
+        let job = TableJob {
             matched,
             given,
             shards,

@@ -11,7 +11,7 @@ use crate::receipt::Receipt;
 use flow_meaning::Outcome;
 use ptg_base::OutOfMemory;
 use shard_answer::outcome_of;
-use table_rule::job::Job;
+use table_rule::TableJob;
 
 impl Closed {
     /// The answer of the job, where the table was closed after the run had ended, and the receipt. No tile is copied. A
@@ -28,7 +28,7 @@ impl Closed {
             passes,
             rows,
         } = self;
-        let Job {
+        let TableJob {
             matched,
             given,
             shards: count,

@@ -4,6 +4,7 @@ use dep_shard::Shard;
 use std::marker::Model;
 use work_board::PassRecord;
 
+// The kit's seat of a thread at a table of shards, with the record of a pass.
 pub(crate) type Seat = atomic_table::Seat<Shard, PassRecord>;
 
 /// A worker's part in a table. Contracts see which table it belongs to, its record, the shards that it holds, and the

@@ -24,9 +24,9 @@ use dep_shard::Shard;
 use ptg_base::{OutOfMemory, TaskId};
 use shard_calls::{opened_shards, shard_under};
 use std::alloc::Global;
-use table_rule::job::Job;
+use table_rule::TableJob;
 
-// Needs of nothing, for so many shards.
+// Needs of nothing, for this many shards.
 fn no_needs(alloc: Global, m: &Matched, shards: u32) -> Result<Vec<Needs>, OutOfMemory>
     ensures { IfOk result (λ v. AreNoNeeds shards (length m.now.elems) v.items) }
 {
@@ -63,13 +63,13 @@ fn need_task(needs: &mut Vec<Needs>, m: &Matched, t: &TaskId)
     need_at(needs, k, m, t, env.as_slice());
 }
 
-// What each of so many shards needs for all tasks.
+// What each of this many shards needs for all tasks.
 fn needs_of(alloc: Global, m: &Matched, shards: u32) -> Result<Vec<Needs>, OutOfMemory>
     requires { (0 < shards) × (shards ≤ most_shards) }
     ensures count { IfOk result (λ v. length v.items ≡ shards) }
     ensures needs { IfOk result (λ v. AreNeedsOf m.now (placing.shard_of m.now shards) (all_tasks m.now) v.items) }
 {
-    m.is_consistent();
+    m.plan_is_consistent();
     let mut needs = no_needs(alloc, m, shards)?;
     for t in all_tasks(m.plan()) {
         need_task(&mut needs, m, &t);
@@ -141,7 +141,7 @@ impl DepTable {
             job_of r.0 ≡ record { matched = matched; given = given; shards = shards; preloaded = true }) }
     {
         let opened = preloaded_shards(alloc, &matched, shards)?;
-        let job = Job {
+        let job = TableJob {
             matched,
             given,
             shards,

@@ -6,7 +6,7 @@ ghost use Rattle.dep_shard.specs.Content.{Content};
 ghost use Rattle.flow_meaning.specs.Machine.{IsQuiescent};
 ghost use Rattle.shard_meaning.specs.Calm.{IsCalm};
 ghost use Rattle.shard_meaning.specs.Moment.{Moment};
-ghost use Rattle.table_rule.specs.declared.job.Job.{Job};
+ghost use Rattle.table_rule.specs.declared.table_job.TableJob.{TableJob};
 ghost use Rattle.dep_table.specs.ClosedMeaning.{HasTheMeaning};
 ghost use Rattle.dep_table.specs.ClosedTables.{shards_of};
 ghost use Rattle.dep_table.specs.Closing.{HaveNoWork, IsClosedAt};
@@ -27,22 +27,23 @@ impl Closed {
 /// A law: where no shard of a closed table has work, what its passes did together is calm, and no event is possible;
 /// and then only.
 pub fn a_closed_table_without_work_is_quiescent()
-    ensures calm { (j : Job) (R : Moment) (ys : List Content) → IsClosedAt j R ys → HaveNoWork ys
+    ensures calm { (j : TableJob) (R : Moment) (ys : List Content) → IsClosedAt j R ys → HaveNoWork ys
         → IsCalm j.matched R × IsQuiescent j.matched j.given R.state }
-    ensures work { (j : Job) (R : Moment) (ys : List Content) → IsClosedAt j R ys → IsCalm j.matched R → HaveNoWork ys }
+    ensures work { (j : TableJob) (R : Moment) (ys : List Content) → IsClosedAt j R ys → IsCalm j.matched R
+        → HaveNoWork ys }
 {}
 
 /// A law: where no shard of a closed table has work, its passes have done what the job means. They have claimed the
 /// tasks that run, each once, and sent the items of the tasks that have outputs, each once and with the tile that its
 /// task leaves; and each claimed task was sent its inputs.
 pub fn a_quiet_close_has_the_meaning()
-    ensures { (j : Job) (R : Moment) (ys : List Content) → IsClosedAt j R ys → HaveNoWork ys
+    ensures { (j : TableJob) (R : Moment) (ys : List Content) → IsClosedAt j R ys → HaveNoWork ys
         → HasTheMeaning j.matched j.given R.state }
 {}
 
 /// A law: where no shard of a closed table has work, a legal order of the claims of its passes is one of the tasks that
 /// run.
 pub fn a_quiet_close_has_an_order_of_what_ran()
-    ensures { (j : Job) (R : Moment) (ys : List Content) (ts : List Task) → IsClosedAt j R ys → HaveNoWork ys
+    ensures { (j : TableJob) (R : Moment) (ys : List Content) (ts : List Task) → IsClosedAt j R ys → HaveNoWork ys
         → IsClaimOrder j.matched R.state ts → IsRanOrder j.matched j.given ts }
 {}

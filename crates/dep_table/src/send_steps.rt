@@ -12,7 +12,7 @@ use crate::table::DepTable;
 use crate::words::{live_index, turn_index};
 use ptg_base::{Item, Tile};
 use std::marker::Brand;
-use table_rule::law::{Event, RaiseLive, Send};
+use table_rule::{Event, RaiseLive, Send};
 use work_board::Sent;
 
 impl DepTable {
@@ -42,6 +42,7 @@ impl DepTable {
         }
     }
 
+    // The step itself, about this event.
     fn give_send_of<E: Event>(&self, seat: &mut Seat, shard: u32, item: &Item, tile: Option<&Tile>)
         requires event { E.sent ≡ record { item = item.now; tile = option_copied tile } }
         requires of { seat.old.table_id ≡ self.now.table.shared.table_id }

@@ -9,7 +9,7 @@ use crate::pass::Seat;
 use crate::table::DepTable;
 use crate::words::{halt_index, live_index};
 use std::marker::Brand;
-use table_rule::law::{Event, RaiseHalt, ReadHalt, ReadLive};
+use table_rule::{Event, RaiseHalt, ReadHalt, ReadLive};
 
 impl DepTable {
     // Raises the halt word.
@@ -23,6 +23,7 @@ impl DepTable {
         self.table.shared.store::<RaiseHalt>(seat, word, 1);
     }
 
+    // The step itself, about this event.
     fn read_halt_of<E: Event>(&self, seat: &mut Seat) -> u64
         requires event { E.job ≡ Some self.now.job }
         requires of { seat.old.table_id ≡ self.now.table.shared.table_id }
@@ -44,6 +45,7 @@ impl DepTable {
         self.read_halt_of::<Brand>(seat)
     }
 
+    // The step itself, about this event.
     fn read_live_of<E: Event>(&self, seat: &mut Seat) -> u64
         requires event { E.job ≡ Some self.now.job }
         requires of { seat.old.table_id ≡ self.now.table.shared.table_id }

@@ -12,15 +12,14 @@ use crate::closing_room::ClosingRoom;
 use atomic_table::Table;
 use dep_shard::Shard;
 use std::alloc::Global;
-use table_rule::job::Job;
-use table_rule::law::Law;
+use table_rule::{Law, TableJob};
 use work_board::PassRecord;
 
 /// A dependency table that workers share, each by a pass of its own.
 #[derive(Drop)]
 pub struct DepTable {
-    pub(crate) table: Table<Shard, PassRecord, Job, Law, Global>,
-    pub(crate) job: Job,
+    pub(crate) table: Table<Shard, PassRecord, TableJob, Law, Global>,
+    pub(crate) job: TableJob,
     pub(crate) closing: ClosingRoom,
     ghost of_job: { job ≡ table.shared.key },
     ghost sized: { (table.shared.table_id.words ≡ word_count job.shards) × (table.shared.table_id.slots ≡ job.shards)

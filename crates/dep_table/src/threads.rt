@@ -3,10 +3,12 @@
 use crate::pass::Pass;
 use crate::table::DepTable;
 
+// Compiles only where T may be shared between threads.
 fn needs_sync<T: Sync>(x: &T) {
     let _x = x;
 }
 
+// Compiles only where T may be handed to another thread.
 fn needs_send<T: Send>(x: &T) {
     let _x = x;
 }

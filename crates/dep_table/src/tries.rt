@@ -76,7 +76,7 @@ impl DepTable {
             ≡ shard_of_item (placing.shard_of (job_of self.now).matched (job_of self.now).shards) item.now }
         ensures within { result < (job_of self.now).shards }
     {
-        self.job.matched.is_consistent();
+        self.job.matched.plan_is_consistent();
         match item {
             Item::Edge(edge) => self.shard_of(&edge.to),
             Item::Write(write) => self.shard_of(&write.from),

@@ -1,9 +1,10 @@
 //! The steps of a pass on a turn word, one function a step.
 
 ghost use Rattle.std.specs.Prelude.{[], IfNone, IfSome, None, ◌≡◌, ◌≢◌, ◌<◌, ◌∷◌, Some};
+ghost use Rattle.ptg_base.specs.Entry.{Entry};
 ghost use Rattle.ptg_base.specs.Limits.{most_tasks};
 ghost use Rattle.atomic_table.specs.Table.{rest};
-ghost use Rattle.dep_shard.specs.Content.{Content, Ends, Entry, KeepsEntriesAndWritten, Takes, Uses, entry_of};
+ghost use Rattle.dep_shard.specs.Content.{Content, Ends, KeepsEntriesAndWritten, Takes, Uses, entry_of};
 ghost use Rattle.table_rule.specs.Changes.{turn_left, with_look, with_own_claim, with_own_end, with_stamp, with_turn, without_credit};
 ghost use Rattle.table_rule.specs.Live.{own_stamps};
 ghost use Rattle.table_rule.specs.Plays.{HasName, WasSeen};
@@ -17,9 +18,10 @@ use crate::words::{live_index, stamp_index, turn_index};
 use dep_shard::{Arrivals, Shard};
 use ptg_base::{MOST_TASKS, TaskId};
 use std::marker::Brand;
-use table_rule::law::{Claim, DrawStamp, End, Event, Leave, LowerLive, Take};
+use table_rule::{Claim, DrawStamp, End, Event, Leave, LowerLive, Take};
 
 impl DepTable {
+    // The step itself, about this event.
     fn take_of<E: Event>(&self, seat: &mut Seat, shard: u32) -> u64
         requires event { (E.job ≡ Some self.now.job) × (E.shard ≡ shard) }
         requires of { seat.old.table_id ≡ self.now.table.shared.table_id }
@@ -90,6 +92,7 @@ pub(crate) fn end_task(shard: &mut Shard, spent: &mut Arrivals)
 }
 
 impl DepTable {
+    // The step itself, about this event.
     fn give_claim_of<E: Event>(&self, seat: &mut Seat, shard: u32, t: &TaskId, tiles: &Arrivals)
         requires event { (E.job ≡ Some self.now.job) × (E.task ≡ t.now) × (E.tiles ≡ tiles.now) }
         requires of { seat.old.table_id ≡ self.now.table.shared.table_id }
@@ -117,6 +120,7 @@ impl DepTable {
         self.give_claim_of::<Brand>(seat, shard, t, tiles);
     }
 
+    // The step itself, about this event.
     fn draw_stamp_of<E: Event>(&self, seat: &mut Seat, t: &TaskId) -> u64
         requires event { E.task ≡ t.now }
         requires of { seat.old.table_id ≡ self.now.table.shared.table_id }

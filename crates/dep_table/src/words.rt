@@ -16,7 +16,7 @@ pub(crate) fn turn_index(shard: u32) -> usize
     STRIDE * shard as usize
 }
 
-// The halt word, where there are so many shards.
+// The halt word, among `shards` shards.
 pub(crate) fn halt_index(shards: u32) -> usize
     requires { shards ≤ most_shards }
     ensures { result ≡ halt_word shards }

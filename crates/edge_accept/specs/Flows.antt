@@ -20,10 +20,11 @@ use Rattle.dep_iter.specs.Items.{items_to, out_edges}
 use Rattle.dep_iter.specs.Well.{IsWellTask}
 use Rattle.edge_accept.specs.declared.ins.Ins.{Ins}
 
--- the edges into flow n of a task with these locals, and what the flow sends
+-- the edges into flow n of a task with these locals
 abbrev pub edges_into_flow : Task → List ℤ → ℕ → FlowPlan → List Edge
 edges_into_flow t env n f = flat_map (edges_into t env n) (flow_ins env f)
 
+-- the items that flow n of a task with these locals sends
 abbrev pub items_of_flow : Task → List ℤ → ℕ → FlowPlan → List Item
 items_of_flow t env n f = flat_map (items_to t env n) (flow_outs env f)
 
@@ -61,11 +62,12 @@ IsSoundSource P f sent source.Nothing = IsTrue (takes_tile f.kind) → ⊥
 abbrev pub HasSoundSource : Plan → Task → List ℤ → ℕ → FlowPlan → Type 0
 HasSoundSource P t env n f = IsSoundSource P f (items_of_flow t env n f) (data_source P t n)
 
--- what the walk shows of a flow, and of a task itself
+-- what the walk shows of a flow
 pub record IsSoundFlow (P : Plan) (t : Task) (env : List ℤ) (n : ℕ) (f : FlowPlan) : Type 0 where
   pub source : HasSoundSource P t env n f
   pub once : HasNoRepeats (edges_into_flow t env n f)
 
+-- what the walk shows of a task
 pub record IsSoundTask (P : Plan) (t : Task) : Type 0 where
   pub well : IsWellTask P t
   pub affinity_exists : HasPlace P.colls (affinity P t)

@@ -30,7 +30,9 @@ pub record Takes (at : FlowAt) (k : ℕ) (old new : Ins) (xs : List Target) : Ty
   pub taken : AreTakenOnce at.plan.now (in_edges_before at.plan.now at.task.now at.number k) old new
       (flat_map (edges_into at.task.now at.env.now at.number) xs)
 
--- the same of all targets that count of the in dependences from number k on
+-- the flow may start from the first of all targets that count of the in dependences from number k on, and the edges
+-- that
+-- they stand for were counted
 abbrev pub TakesFrom : FlowAt → ℕ → Ins → Ins → Type 0
 TakesFrom at k old new =
     Takes at k old new (held_targets (takes_first at.flow.now.kind) (drop k at.flow.now.ins) at.env.now)

@@ -16,7 +16,7 @@ use plan_core::Plan;
 use ptg_base::OutOfMemory;
 use std::alloc::Global;
 
-/// The counts of a plan whose spaces are sound and have so many tasks, if one walk over its tasks shows that it is
+/// The counts of a plan whose spaces are sound and have this many tasks, if one walk over its tasks shows that it is
 /// consistent. None says nothing.
 ///
 /// Each edge into a task is looked up among those out of its sender, and none occurs twice; the edges out of tasks are

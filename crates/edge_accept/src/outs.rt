@@ -21,7 +21,7 @@ impl Outs {
         self.edges + self.writes
     }
 
-    // Counts so many edges, if they are not too many.
+    // Counts this many edges, if they are not too many.
     pub(crate) fn add_edges(&mut self, count: u64) -> bool
         ensures { (colls : List ShapeValue) (es : List EdgeValue) → IsCount count (length es)
             → OnTrue result (AreSent colls self.old self.new (map item.Edge es)) }
@@ -33,7 +33,7 @@ impl Outs {
         true
     }
 
-    // Counts a write-back, if it is not one too many, and its place exists and was not added before.
+    // Counts a write-back, unless the limit is reached, if its place exists and was not added before.
     pub(crate) fn add_write(&mut self, plan: &Plan, place: Place) -> bool
         ensures { (w : WriteBackValue) → w.place ≡ place
             → OnTrue result (AreSent plan.now.colls self.old self.new (item.Write w ∷ [])) }

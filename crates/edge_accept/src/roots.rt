@@ -17,7 +17,7 @@ fn is_root(plan: &Plan, t: &TaskId) -> bool
     in_edges(plan, t).next().is_none()
 }
 
-/// How many of the tasks of a plan, which are so many, have no edge into them. Where there is no task it looks at no
+/// How many of a plan's `tasks` tasks have no edge into them. Where there is no task it looks at no
 /// value of a range.
 pub fn root_count(plan: &Plan, tasks: u64) -> u64
     requires { tasks ≡ length (tasks_of plan.now) }

@@ -11,11 +11,12 @@ ghost use Rattle.edge_accept.specs.Tallies.{Takes, TakesFrom};
 use crate::at::FlowAt;
 use crate::ins::Ins;
 use dep_iter::{
-    Combinations, Direction, LentEdge, arguments_at_most, edges_of_a_dependence_differ, far_locals,
-    has_edge_before, held_target, place_of,
+    Combinations, LentEdge, arguments_at_most, edges_of_a_dependence_differ, has_edge_before,
+    has_other_end, held_target, place_of,
 };
 use plan_core::Target;
 use ptg_base::TaskId;
+use term_core::Direction;
 
 // Counts an edge into the flow, which dependence `k` gives, if it is one out of the task that it comes from and no
 // earlier dependence gives it.
@@ -26,9 +27,9 @@ fn take_edge(at: &FlowAt, k: usize, edge: &LentEdge, ins: &mut Ins) -> bool
         (AreTaken at.now.plan.now (in_edges_before at.now.plan.now at.now.task.now at.now.number k) ins.old ins.new
         (edge.now ∷ [])) }
 {
-    let Some(_) = far_locals(at.plan, Direction::In, edge) else {
+    if !has_other_end(at.plan, Direction::In, edge) {
         return false;
-    };
+    }
     if has_edge_before(at.flow, Direction::In, at.env, edge, k) {
         return false;
     }

@@ -65,7 +65,7 @@ fn accept_next(plan: &Plan, t: &TaskId, tally: &mut Tally) -> Option<bool>
     Some(tally.ins.edges == before)
 }
 
-// Goes over all tasks, in walk order, where there are so many, and counts those without an edge into them. Where there
+// Goes over all tasks, in walk order, given their number, and counts those without an edge into them. Where there
 // is no task it looks at no value of a range.
 pub(crate) fn accept_all(plan: &Plan, tasks: u64, tally: &mut Tally) -> Option<u64>
     requires { tasks ≡ length (tasks_of plan.now) }

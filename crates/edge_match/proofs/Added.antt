@@ -9,10 +9,10 @@ use Rattle.ptg_base.specs.declared.edge.Edge.{Edge}
 use Rattle.ptg_base.specs.declared.edge.Item.{Item}
 use Rattle.ptg_base.specs.declared.edge.Item.TheVariants as item
 use Rattle.ptg_base.specs.declared.edge.WriteBack.{WriteBack}
+use Rattle.term_core.specs.declared.direction.Direction.TheVariants.{In, Out}
 use Rattle.plan_core.specs.declared.flow.FlowPlan.{FlowPlan}
 use Rattle.plan_core.specs.declared.plan.Plan.{Plan}
 use Rattle.dep_iter.specs.declared.source.Source.{Source}
-use Rattle.dep_iter.specs.declared.direction.Direction.TheVariants.{In, Out}
 use Rattle.dep_iter.specs.Tasks.{all_tasks, flows_of}
 use Rattle.edge_accept.proofs.TaskFlows.{items-flows}
 use Rattle.dep_iter.specs.Consistent.{all_in, all_items, all_writes}

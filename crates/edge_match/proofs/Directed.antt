@@ -11,23 +11,25 @@ use Rattle.ptg_base.specs.declared.edge.Edge.{Edge}
 use Rattle.ptg_base.specs.declared.edge.Item.{Item}
 use Rattle.ptg_base.specs.declared.edge.Item.TheVariants as item
 use Rattle.ptg_base.specs.declared.edge.WriteBack.{WriteBack}
+use Rattle.term_core.specs.declared.direction.Direction.{Direction}
+use Rattle.term_core.specs.declared.direction.Direction.TheVariants.{In, Out}
+use Rattle.term_core.specs.Kinds.{first_alone}
 use Rattle.plan_core.specs.declared.flow.DepPlan.{DepPlan}
 use Rattle.plan_core.specs.declared.flow.FlowPlan.{FlowPlan}
 use Rattle.plan_core.specs.declared.plan.Plan.{Plan}
 use Rattle.plan_core.specs.declared.target.Arg.{Arg}
 use Rattle.plan_core.specs.declared.target.Target.{Target}
 use Rattle.plan_core.specs.declared.target.Target.TheVariants as target
+use Rattle.plan_core.specs.Flows.{dependences}
 use Rattle.list_lemmas.proofs.Members.{IsIn-append_left, IsIn-append_right, from_append}
 use Rattle.list_lemmas.proofs.Distinct.{HasNoRepeats-parts}
 use Rattle.list_lemmas.proofs.Places.{drop_from}
 use Rattle.std.proofs.lemmas.List.Elements.{filter_map-append}
 use Rattle.list_lemmas.proofs.Joins.{map-flat_map, map-map, flat_map_push}
-use Rattle.dep_iter.specs.declared.direction.Direction.{Direction}
-use Rattle.dep_iter.specs.declared.direction.Direction.TheVariants.{In, Out}
 use Rattle.dep_iter.specs.declared.source.Source.{Source}
 use Rattle.dep_iter.specs.Tasks.{flows_of, locals_of, task}
 use Rattle.dep_iter.specs.Active.{flow_ins, held_target, held_targets, takes_first}
-use Rattle.dep_iter.specs.Directions.{dependences, edge_at, edges_of, first_alone, near_flow}
+use Rattle.dep_iter.specs.Directions.{edge_at, edges_of, near_flow}
 use Rattle.dep_iter.specs.Edges.{data_source, edges_into, in_edges_before}
 use Rattle.dep_iter.specs.Items.{edge_of, out_edges_before, write_of}
 use Rattle.dep_iter.specs.Arguments.{combinations}

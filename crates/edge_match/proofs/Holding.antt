@@ -9,12 +9,12 @@ use Rattle.ptg_base.specs.Task.{Task}
 use Rattle.ptg_base.specs.declared.edge.Edge.{Edge}
 use Rattle.ptg_base.specs.declared.edge.Item.{Item}
 use Rattle.ptg_base.specs.declared.edge.Item.TheVariants as item
+use Rattle.term_core.specs.declared.direction.Direction.{Direction}
+use Rattle.term_core.specs.declared.direction.Direction.TheVariants.{In, Out}
 use Rattle.plan_core.specs.Place.{HasPlace}
 use Rattle.plan_core.specs.declared.flow.FlowPlan.{FlowPlan}
 use Rattle.plan_core.specs.declared.plan.Plan.{Plan}
 use Rattle.list_lemmas.proofs.Distinct.{HasNoRepeats-apart, HasNoRepeats-push, HasNoRepeats-parts}
-use Rattle.dep_iter.specs.declared.direction.Direction.{Direction}
-use Rattle.dep_iter.specs.declared.direction.Direction.TheVariants.{In, Out}
 use Rattle.dep_iter.specs.declared.source.Source.{Source}
 use Rattle.dep_iter.specs.declared.source.Source.TheVariants as source
 use Rattle.dep_iter.specs.Directions.{HasOtherEnd, far_task}

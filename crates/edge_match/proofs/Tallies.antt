@@ -4,12 +4,12 @@ use Rattle.std.proofs.Common.{length-append, arith}
 use Rattle.ptg_base.specs.Lists.{IsIn}
 use Rattle.ptg_base.specs.declared.edge.Edge.{Edge}
 use Rattle.ptg_base.specs.declared.place.Place.{Place}
+use Rattle.term_core.specs.declared.direction.Direction.{Direction}
+use Rattle.term_core.specs.declared.direction.Direction.TheVariants.{In, Out}
 use Rattle.plan_core.specs.declared.plan.Plan.{Plan}
 use Rattle.plan_core.specs.Kinds.{is_data, kind_of}
 use Rattle.plan_core.specs.Place.{HasPlace}
 use Rattle.dep_iter.specs.Consistent.{is_data_edge}
-use Rattle.dep_iter.specs.declared.direction.Direction.{Direction}
-use Rattle.dep_iter.specs.declared.direction.Direction.TheVariants.{In, Out}
 use Rattle.dep_iter.specs.Directions.{near_flow, near_task}
 use Rattle.place_set.specs.Sets.{IsSetOf}
 use Rattle.edge_accept.proofs.TakenEdges.{kind_of-here}

@@ -1,10 +1,10 @@
 -- The first fault of a plan that is not consistent. Source: this project's own choice; three phases, each in walk
 -- order: the spaces, then all tasks and what they name, then that the edges match.
 use Rattle.std.specs.Prelude.{◌≡◌, List, ◌∷◌, ◌++◌, ◌⊎◌}
+use Rattle.term_core.specs.declared.direction.Direction.TheVariants.{In, Out}
 use Rattle.range_space.specs.declared.fault.SpaceFault.{SpaceFault}
 use Rattle.range_space.specs.Walk as walk
 use Rattle.plan_core.specs.declared.plan.Plan.{Plan}
-use Rattle.dep_iter.specs.declared.direction.Direction.TheVariants.{In, Out}
 use Rattle.edge_match.specs.declared.fault.MatchCode.{MatchCode}
 use Rattle.edge_match.specs.declared.fault.MatchCode.TheVariants as code
 use Rattle.edge_match.specs.declared.fault.MatchFault.{MatchFault}
@@ -13,7 +13,7 @@ use Rattle.edge_match.specs.Marks.{AllPass, Before, Check, Fact, Mark, Passes, a
 use Rattle.edge_match.specs.Marks.{CountsIn, CountsItem, Is, IsNewPlace}
 use Rattle.edge_match.specs.Marks.{HasInput, HasOther, HasSource, HasTile, HasValues, IsNewEdge, IsOfJob, IsPlace}
 
--- the code of a fact that does not hold, and of a check that does not pass
+-- the code of a fact that does not hold
 abbrev pub fact_code : Fact → MatchCode
 fact_code (HasValues t) = code.BadExpr
 fact_code (IsPlace p) = code.BadPlace
@@ -25,6 +25,7 @@ fact_code (HasOther In e) = code.NoMatchingOut
 fact_code (HasOther Out e) = code.NoMatchingIn
 fact_code (IsNewEdge earlier e) = code.DoubleEdge
 
+-- the code of a check that does not pass
 abbrev pub code_of : Check → MatchCode
 code_of (Is f) = fact_code f
 code_of (CountsIn e) = code.TooManyEdges

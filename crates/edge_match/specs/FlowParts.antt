@@ -2,9 +2,10 @@
 use Rattle.std.specs.Prelude.{ℕ, List, Result, drop}
 use Rattle.ptg_base.specs.Task.{Task}
 use Rattle.ptg_base.specs.declared.edge.Edge.{Edge}
-use Rattle.dep_iter.specs.declared.direction.Direction.{Direction}
+use Rattle.term_core.specs.declared.direction.Direction.{Direction}
+use Rattle.plan_core.specs.Flows.{dependences}
 use Rattle.dep_iter.specs.declared.source.Source.{Source}
-use Rattle.dep_iter.specs.Directions.{dependences, edges_before}
+use Rattle.dep_iter.specs.Directions.{edges_before}
 use Rattle.dep_iter.specs.Edges.{data_source}
 use Rattle.edge_match.specs.declared.counted.Counted.{Counted}
 use Rattle.edge_match.specs.declared.fault.MatchFault.{MatchFault}
@@ -23,10 +24,11 @@ abbrev pub CheckedAt : Phase → FlowAt → Counted → Counted → Result (Unit
 CheckedAt phase at old new r ms =
     Checked at.plan.now old new r (ms phase (data_source at.plan.now at.task.now at.number) at.task.now at.number)
 
--- the edges that the first k dependences of the flow give, and the marks of what those from number k on give
+-- the edges that the first k dependences of the flow give
 abbrev pub before_at : Direction → FlowAt → ℕ → List Edge
 before_at d at k = edges_before d at.plan.now at.task.now at.number k
 
+-- the marks of what the dependences from number k on give
 abbrev pub marks_from : Direction → FlowAt → ℕ → FlowMarks
 marks_from d at k =
     item_marks d (before_at d at k)

@@ -12,26 +12,29 @@ use Rattle.ptg_base.specs.declared.edge.WriteBack.{WriteBack}
 use Rattle.ptg_base.specs.declared.edge.Item.{Item}
 use Rattle.ptg_base.specs.declared.edge.Item.TheVariants as item
 use Rattle.term_core.specs.declared.flow.FlowKind.{FlowKind}
+use Rattle.term_core.specs.declared.direction.Direction.{Direction}
+use Rattle.term_core.specs.declared.direction.Direction.TheVariants.{In, Out}
+use Rattle.term_core.specs.Kinds.{first_alone}
 use Rattle.plan_core.specs.declared.flow.DepPlan.{DepPlan}
 use Rattle.plan_core.specs.declared.flow.FlowPlan.{FlowPlan}
 use Rattle.plan_core.specs.declared.plan.Plan.{Plan}
 use Rattle.plan_core.specs.declared.target.Target.{Target}
 use Rattle.plan_core.specs.Place.{HasPlace}
-use Rattle.dep_iter.specs.declared.direction.Direction.{Direction}
-use Rattle.dep_iter.specs.declared.direction.Direction.TheVariants.{In, Out}
+use Rattle.plan_core.specs.Flows.{dependences}
 use Rattle.dep_iter.specs.declared.source.Source.{Source}
 use Rattle.dep_iter.specs.declared.source.Source.TheVariants as source
 use Rattle.dep_iter.specs.Tasks.{all_tasks, flows_of, locals_of, IsTask}
 use Rattle.dep_iter.specs.Active.{held_targets}
 use Rattle.dep_iter.specs.Edges.{data_source, edges_into}
 use Rattle.dep_iter.specs.Items.{items_to}
-use Rattle.dep_iter.specs.Directions.{HasOtherEnd, dependences, far_task, first_alone}
+use Rattle.dep_iter.specs.Directions.{HasOtherEnd, far_task}
 use Rattle.dep_iter.specs.Hints.{affinity}
 use Rattle.dep_iter.specs.Well.{IsWellTask, ill_part}
 use Rattle.dep_iter.specs.Consistent.{takes_tile}
 use Rattle.edge_match.specs.declared.phase.Phase.{Phase}
 use Rattle.edge_match.specs.declared.phase.Phase.TheVariants.{Connecting, Matching}
 
+-- what is checked of a plan and counts nothing
 pub data Fact : Type 0 where
   -- each expression that the task needs has a value
   HasValues : Task → Fact
@@ -50,12 +53,13 @@ pub data Fact : Type 0 where
   -- the edge is not among these earlier ones
   IsNewEdge : List Edge → Edge → Fact
 
+-- what is checked of a plan
 pub data Check : Type 0 where
   -- a fact holds
   Is : Fact → Check
-  -- the edge into a task is not one too many
+  -- the edge into a task is counted: the limit is not reached
   CountsIn : Edge → Check
-  -- the item is not one too many
+  -- the item is counted: the limit is not reached
   CountsItem : Item → Check
   -- the place is not written before
   IsNewPlace : Place → Check
@@ -66,60 +70,66 @@ pub record Mark : Type 0 where
   pub flow : Option ℕ
   pub check : Check
 
+-- the mark of a check at this task and this flow
 abbrev pub mark : Task → Option ℕ → Check → Mark
 mark t flow c = record { task = t; flow = flow; check = c }
 
--- the edges of flow n of the task t in one direction that a target stands for, and the write-backs with those out of it
+-- the items of flow n of the task t that a target of a dependence in this direction stands for; for `In`, its edges
 abbrev pub items_at : Direction → Task → List ℤ → ℕ → Target → List Item
 items_at In t env n = λ x. map item.Edge (edges_into t env n x)
 items_at Out t env n = items_to t env n
 
--- those of these dependences of a flow of this kind that hold, and those of the whole flow
+-- the items that those of these dependences of a flow of this kind that hold stand for
 abbrev pub held_items : Direction → Task → List ℤ → ℕ → FlowKind → List DepPlan → List Item
 held_items d t env n kind ds = flat_map (items_at d t env n) (held_targets (first_alone d kind) ds env)
 
+-- the items of flow n of the task t in one direction
 abbrev pub flow_items : Direction → Plan → Task → ℕ → FlowPlan → List Item
 flow_items d P t n f = held_items d t (locals_of P t) n f.kind (dependences d f)
 
--- what is checked in each phase at an edge or a write-back of flow n of the task t, whose source is this, after these
--- earlier edges of the flow: that what sends has a tile, that what is named exists, and that it is not one too many;
--- then that the edge is one at its other end, and is new
+-- the mark that flow n of the task t, whose source is this, has a tile to send
 abbrev pub tile_marks : Direction → Source → Task → ℕ → List Mark
 tile_marks In s t n = []
 tile_marks Out s t n = mark t (Some n) (Is (HasTile s)) ∷ []
 
+-- the check that counts an edge of this direction, unless the limit is reached
 abbrev pub counts : Direction → Edge → Check
 counts In e = CountsIn e
 counts Out e = CountsItem (item.Edge e)
 
+-- the marks of an edge of flow n in each phase: its task exists and it is counted; it is one at its other end, and new
 abbrev pub edge_marks : Direction → List Edge → Edge → Phase → Source → Task → ℕ → List Mark
 edge_marks d earlier e Connecting s t n =
     tile_marks d s t n ++ mark t (Some n) (Is (IsOfJob (far_task d e))) ∷ mark t (Some n) (counts d e) ∷ []
 edge_marks d earlier e Matching s t n =
     mark t (Some n) (Is (HasOther d e)) ∷ mark t (Some n) (Is (IsNewEdge earlier e)) ∷ []
 
+-- the marks of a write-back of flow n in each phase: its place exists, and it is counted and new
 abbrev pub write_marks : WriteBack → Phase → Source → Task → ℕ → List Mark
 write_marks w Connecting s t n =
     tile_marks Out s t n ++ mark t (Some n) (Is (IsPlace w.place)) ∷ mark t (Some n) (CountsItem (item.Write w))
     ∷ mark t (Some n) (IsNewPlace w.place) ∷ []
 write_marks w Matching s t n = []
 
+-- the marks of these items of flow n in each phase, after these earlier edges of the flow
 abbrev pub item_marks : Direction → List Edge → List Item → Phase → Source → Task → ℕ → List Mark
 item_marks d earlier [] phase s t n = []
 item_marks d earlier (item.Edge e ∷ is) phase s t n =
     edge_marks d earlier e phase s t n ++ item_marks d (earlier ++ e ∷ []) is phase s t n
 item_marks d earlier (item.Write w ∷ is) phase s t n = write_marks w phase s t n ++ item_marks d earlier is phase s t n
 
--- what is checked in each phase at flow n of a task: the flow itself, then the edges into it, then what it sends
+-- the marks of a flow itself in each phase: it has an input if it must, and the place of its source exists
 abbrev pub flow_start : Phase → Plan → Task → ℕ → FlowPlan → List Mark
 flow_start Connecting P t n f =
     mark t (Some n) (Is (HasInput f.kind (data_source P t n)))
     ∷ mark t (Some n) (Is (HasSource (data_source P t n))) ∷ []
 flow_start Matching P t n f = []
 
+-- the marks of the edges of a flow in one direction, with the write-backs among what it sends
 abbrev pub way_marks : Direction → Phase → Plan → Task → ℕ → FlowPlan → List Mark
 way_marks d phase P t n f = item_marks d [] (flow_items d P t n f) phase (data_source P t n) t n
 
+-- the marks of a flow with its number: the flow itself, then the edges into it, then what it sends
 abbrev pub flow_marks : Phase → Plan → Task → ℕ × FlowPlan → List Mark
 flow_marks phase P t a =
     flow_start phase P t a.0 a.1 ++ way_marks In phase P t a.0 a.1 ++ way_marks Out phase P t a.0 a.1
@@ -133,19 +143,21 @@ numbered n (f ∷ fs) = (n, f) ∷ numbered (suc n) fs
 abbrev pub ill_flow : Plan → Task → Option ℕ
 ill_flow P t = unwrap_or (ill_part P t) None
 
--- at a task: the task itself, then its flows in the text's order
+-- the marks of a task itself in each phase: its expressions have values, and the place of its affinity exists
 abbrev pub task_start : Phase → Plan → Task → List Mark
 task_start Connecting P t =
     mark t (ill_flow P t) (Is (HasValues t)) ∷ mark t None (Is (IsPlace (affinity P t))) ∷ []
 task_start Matching P t = []
 
+-- the marks of a task: the task itself, then its flows in the text's order
 abbrev pub task_marks : Phase → Plan → Task → List Mark
 task_marks phase P t = task_start phase P t ++ flat_map (flow_marks phase P t) (numbered 0 (flows_of P t))
 
--- all marks of a phase, in walk order, and those of both phases
+-- all marks of a phase, in walk order
 abbrev pub phase_marks : Phase → Plan → List Mark
 phase_marks phase P = flat_map (task_marks phase P) (all_tasks P)
 
+-- the marks of both phases
 abbrev pub marks : Plan → List Mark
 marks P = phase_marks Connecting P ++ phase_marks Matching P
 
@@ -155,6 +167,7 @@ pub record Before : Type 0 where
   pub items : List Item
   pub places : List Place
 
+-- nothing came before
 abbrev pub nothing : Before
 nothing = record { ins = []; items = []; places = [] }
 
@@ -188,6 +201,7 @@ abbrev pub AllPass : Plan → Before → List Mark → Type 0
 AllPass P b [] = Unit {0}
 AllPass P b (m ∷ ms) = Passes P b m.check × AllPass P (add b m.check) ms
 
+-- what came before the first mark after these
 abbrev pub add_all : Before → List Mark → Before
 add_all b [] = b
 add_all b (m ∷ ms) = add_all (add b m.check) ms

@@ -13,7 +13,7 @@ use crate::counted::Counted;
 use ptg_base::{MOST_EDGES, Place};
 
 impl Counted {
-    // Counts an edge into a task, which carries a tile or not, if it is not one too many.
+    // Counts an edge into a task, which carries a tile or not, unless the limit is reached.
     pub(crate) fn add_in(&mut self, carries_tile: bool) -> bool
         ensures { (P : PlanValue) (e : EdgeValue) → is_data_edge P e ≡ carries_tile
             → Decides P self.old self.new result (CountsIn e) }
@@ -28,7 +28,7 @@ impl Counted {
         true
     }
 
-    // Counts an item, if it is not one too many.
+    // Counts an item, unless the limit is reached.
     pub(crate) fn add_item(&mut self) -> bool
         ensures counted { (P : PlanValue) (i : ItemValue) → Decides P self.old self.new result (CountsItem i) }
         ensures room { IsTrue result → self.new.writes < self.new.items }

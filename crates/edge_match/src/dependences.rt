@@ -10,11 +10,11 @@ use crate::edges::{check_edge, check_write};
 use crate::fault::MatchFault;
 use crate::task_at::FlowAt;
 use dep_iter::{
-    Combinations, Direction, LentEdge, arguments_at_most, edges_of_a_dependence_differ,
-    held_target, place_of,
+    Combinations, LentEdge, arguments_at_most, edges_of_a_dependence_differ, held_target, place_of,
 };
 use plan_core::Target;
 use ptg_base::TaskId;
+use term_core::Direction;
 
 // Checks what a target of dependence `k` of the flow stands for. An in dependence writes nothing.
 fn check_target(
@@ -60,14 +60,14 @@ pub(crate) fn check_dependences(
 ) -> Result<(), MatchFault>
     ensures { CheckedAt at.now.phase at.now counted.old counted.new result (marks_from way at.now k) }
 {
-    let Some(d) = way.dependences(at.flow).get(k) else {
+    let Some(d) = at.flow.dependences(way).get(k) else {
         return Ok(());
     };
     let Some(target) = held_target(d, at.env) else {
         return check_dependences(at, way, k + 1, counted);
     };
     check_target(at, way, k, target, counted)?;
-    if way.first_alone(at.flow.kind) {
+    if at.flow.kind.first_alone(way) {
         return Ok(());
     }
     check_dependences(at, way, k + 1, counted)

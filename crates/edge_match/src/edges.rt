@@ -1,13 +1,13 @@
 //! Checks of an edge or of a write-back of a flow.
 
-ghost use Rattle.std.specs.Prelude.{◌≡◌, ◌↔◌, IsTrue, List};
+ghost use Rattle.std.specs.Prelude.{◌≡◌, ◌↔◌, List};
 ghost use Rattle.ptg_base.specs.Lists.{IsIn};
 ghost use Rattle.ptg_base.specs.declared.edge.Edge.{Edge as EdgeValue};
 ghost use Rattle.ptg_base.specs.declared.edge.WriteBack.{WriteBack as WriteBackValue};
+ghost use Rattle.term_core.specs.declared.direction.Direction.TheVariants as direction;
 ghost use Rattle.plan_core.specs.declared.plan.Plan.{Plan as PlanValue};
 ghost use Rattle.dep_iter.specs.Consistent.{is_data_edge};
-ghost use Rattle.dep_iter.specs.Directions.{HasOtherEnd, near_flow, near_task};
-ghost use Rattle.dep_iter.specs.declared.direction.Direction.TheVariants as direction;
+ghost use Rattle.dep_iter.specs.Directions.{near_flow, near_task};
 ghost use Rattle.edge_match.specs.Counted.{Decides};
 ghost use Rattle.edge_match.specs.FlowParts.{CheckedAt, before_at};
 ghost use Rattle.edge_match.specs.FirstFault.{fact_code};
@@ -20,16 +20,9 @@ use crate::counted::Counted;
 use crate::fault::{MatchCode, MatchFault};
 use crate::phase::Phase;
 use crate::task_at::FlowAt;
-use dep_iter::{Direction, LentEdge, far_locals, has_edge_before, is_task};
-use plan_core::Plan;
+use dep_iter::{LentEdge, has_edge_before, has_other_end, is_task};
 use ptg_base::Place;
-
-// Whether an edge is one at its other end.
-fn has_other_end(plan: &Plan, way: Direction, edge: &LentEdge) -> bool
-    ensures { IsTrue result ↔ HasOtherEnd way plan.now edge.now }
-{
-    far_locals(plan, way, edge).is_some()
-}
+use term_core::Direction;
 
 // The code of an edge that is none at its other end.
 fn unmatched(way: Direction) -> MatchCode
@@ -41,7 +34,7 @@ fn unmatched(way: Direction) -> MatchCode
     }
 }
 
-// Counts an edge, one that carries a tile or not, if it is not one too many.
+// Counts an edge, one that carries a tile or not, unless the limit is reached.
 fn count_edge(way: Direction, carries_tile: bool, counted: &mut Counted) -> bool
     ensures { (P : PlanValue) (e : EdgeValue) → (way ≡ direction.In → is_data_edge P e ≡ carries_tile)
         → Decides P counted.old counted.new result (counts way e) }

@@ -16,9 +16,9 @@ use crate::dependences::check_dependences;
 use crate::fault::{MatchCode, MatchFault};
 use crate::phase::Phase;
 use crate::task_at::{FlowAt, TaskAt};
-use dep_iter::{Direction, Source, data_source_under};
+use dep_iter::{Source, data_source_under};
 use plan_core::Plan;
-use term_core::FlowKind;
+use term_core::{Direction, FlowKind};
 
 // Whether an in dependence of a flow of this kind with this source holds, if one must.
 fn has_input(kind: FlowKind, source: &Source) -> bool

@@ -60,7 +60,7 @@ fn nothing_counted(written: PlaceSet) -> Counted
     }
 }
 
-// Checks a plan of so many tasks, whose spaces have no fault, and gives its counts.
+// Checks a plan of this many tasks, whose spaces have no fault, and gives its counts.
 fn check_tasks(plan: &Plan, tasks: u64, mut counted: Counted) -> Result<Counts, MatchFault>
     requires tasks { tasks ≡ length (all_tasks plan.now) }
     requires nothing { IsCounted plan.now counted nothing }

@@ -5,15 +5,16 @@ use Rattle.ptg_base.specs.Task.{Task}
 use Rattle.ptg_base.specs.declared.edge.Edge.{Edge}
 use Rattle.ptg_base.specs.declared.edge.Item.{Item}
 use Rattle.ptg_base.specs.declared.edge.Item.TheVariants as item
+use Rattle.term_core.specs.declared.direction.Direction.{Direction}
+use Rattle.term_core.specs.Kinds.{first_alone}
 use Rattle.plan_core.specs.declared.flow.DepPlan.{DepPlan}
 use Rattle.plan_core.specs.declared.flow.FlowPlan.{FlowPlan}
 use Rattle.plan_core.specs.declared.plan.Plan.{Plan}
 use Rattle.plan_core.specs.declared.target.Target.{Target}
 use Rattle.plan_core.specs.declared.target.Target.TheVariants as target
-use Rattle.dep_iter.specs.declared.direction.Direction.{Direction}
+use Rattle.plan_core.specs.Flows.{dependences}
 use Rattle.dep_iter.specs.Active.{held_target}
 use Rattle.dep_iter.specs.Arguments.{combinations, place_of}
-use Rattle.dep_iter.specs.Directions.{dependences, first_alone}
 use Rattle.dep_iter.specs.Edges.{edge}
 use Rattle.dep_iter.specs.Tasks.{flows_of, locals_of, task}
 use Rattle.edge_walk.specs.declared.tie.Far.{Far}
@@ -44,6 +45,7 @@ numbered_targets first_only k (d ∷ ds) env =
 abbrev pub numbered_flow : Direction → List ℤ → FlowPlan → List (ℕ × Target)
 numbered_flow way env f = numbered_targets (first_alone way f.kind) 0 (dependences way f) env
 
+-- a target with the numbers of its flow and of its dependence
 abbrev pub numbered : ℕ → ℕ × Target → Numbered
 numbered n x = record { flow = n; dependence = x.0; target = x.1 }
 
@@ -59,9 +61,11 @@ single env (target.Element coll indices) = Some (far.Place (place_of coll indice
 single env target.New = Some far.New
 single env target.Null = Some far.Null
 
+-- the tie of a dependence with what it names
 abbrev pub tie : ℕ → ℕ → Far → Tie
 tie n k x = record { flow = n; dependence = k; far = x }
 
+-- the tie of a dependence with this one thing, if there is one
 abbrev pub single_ties : ℕ → ℕ → Option Far → List Tie
 single_ties n k None = []
 single_ties n k (Some x) = tie n k x ∷ []
@@ -100,9 +104,10 @@ item_to t n (far.Place p) = Some (item.Write (record { from = t; flow = n; place
 item_to t n far.New = None
 item_to t n far.Null = None
 
--- the edge into a task that a tie of its in dependences is, and what a task sends by a tie of its out dependences
+-- the edge into a task that a tie of its in dependences is
 abbrev pub edge_by_in : Task → Tie → Option Edge
 edge_by_in t x = edge_from t x.flow x.far
 
+-- the item that a task sends by a tie of its out dependences
 abbrev pub item_by_out : Task → Tie → Option Item
 item_by_out t x = item_to t x.flow x.far

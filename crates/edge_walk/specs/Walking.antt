@@ -1,8 +1,8 @@
 -- A walk over the active dependences of a task in one direction: what it has left at a position. Source: this project's
 -- own choice.
 use Rattle.std.specs.Prelude.{ℤ, List, ◌++◌, map, Bool, ◌&&◌}
+use Rattle.term_core.specs.declared.direction.Direction.{Direction}
 use Rattle.plan_core.specs.declared.plan.Plan.{Plan}
-use Rattle.dep_iter.specs.declared.direction.Direction.{Direction}
 use Rattle.dep_iter.specs.Links.{dependences_fit, flows_fit}
 use Rattle.edge_walk.specs.declared.position.Position.{Position}
 use Rattle.edge_walk.specs.Ties.{Numbered, active_from, numbered, numbered_targets}

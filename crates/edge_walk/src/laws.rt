@@ -2,8 +2,8 @@
 
 ghost use Rattle.std.specs.Prelude.{◌≡◌, filter_map};
 ghost use Rattle.ptg_base.specs.Task.{Task};
+ghost use Rattle.term_core.specs.declared.direction.Direction.TheVariants.{In, Out};
 ghost use Rattle.plan_core.specs.declared.plan.Plan.{Plan};
-ghost use Rattle.dep_iter.specs.declared.direction.Direction.TheVariants.{In, Out};
 ghost use Rattle.dep_iter.specs.Edges as edges;
 ghost use Rattle.dep_iter.specs.Items as items;
 ghost use Rattle.edge_walk.specs.Ties.{edge_by_in, item_by_out, ties};

@@ -3,14 +3,15 @@
 ghost use Rattle.std.specs.Prelude.{ℤ, List, [], ◌∷◌, length, ◌≡◌, ◌+◌, ◌<◌, ◌≤◌, ◌^◌, ◌&&◌};
 ghost use Rattle.std.specs.Prelude.{IfSome, IsTrue, MatchOption};
 ghost use Rattle.ptg_base.specs.Limits.{most_flows};
+ghost use Rattle.term_core.specs.declared.direction.Direction.{Direction as DirectionValue};
 ghost use Rattle.plan_core.specs.declared.plan.Plan.{Plan};
-ghost use Rattle.dep_iter.specs.declared.direction.Direction.{Direction as DirectionValue};
 ghost use Rattle.dep_iter.specs.Links.{dependences_fit, fits, flows_fit};
 ghost use Rattle.edge_walk.specs.Ties.{active_from, numbered_flow, numbered_targets};
 ghost use Rattle.edge_walk.specs.Walking.{position_fits, left};
 
-use dep_iter::{Direction, held_target};
+use dep_iter::held_target;
 use plan_core::{DepPlan, FlowPlan, Target};
+use term_core::Direction;
 
 /// Where a walk over the active dependences of a task stands.
 #[derive(Clone, Copy)]
@@ -108,11 +109,11 @@ fn enter<'a>(way: Direction, flow: &'a FlowPlan, number: u8, others: &'a [FlowPl
     ensures fits { (P : Plan) → IsTrue (dependences_fit P flow.now.ins && dependences_fit P flow.now.outs)
         → IsTrue (dependences_fit P result.deps.now) }
 {
-    let deps = way.dependences(flow);
+    let deps = flow.dependences(way);
     count_fits(deps);
     Position {
         flow: number,
-        first_only: way.first_alone(flow.kind),
+        first_only: flow.kind.first_alone(way),
         dependence: 0,
         deps,
         next_flow: number + 1,

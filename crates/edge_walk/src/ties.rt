@@ -12,11 +12,12 @@ ghost use Rattle.edge_walk.specs.Walking.{left, position_fits};
 use crate::position::{Position, next_active, start};
 use crate::target_ties::TargetTies;
 use crate::tie::Tie;
-use dep_iter::{Direction, flows_of, locals_of};
+use dep_iter::{flows_of, locals_of};
 use plan_core::Plan;
 use ptg_base::{MOST_LOCALS, TaskId};
 use range_space::Numbers;
 use std::marker::Model;
+use term_core::Direction;
 
 /// An iterator over the ties of a task. Contracts see it as the list of those not yet given. It takes no memory.
 #[derive(Drop)]

@@ -13,6 +13,7 @@ Resolved A = Result A JdfFault
 abbrev pub fault_at : {A : Type 0} → Word → JdfCode → Resolved A
 fault_at w code = Err (record { spot = w.spot; code = code })
 
+-- what the names in one expression mean, and which of two faults is reported
 pub record SymbolTable : Type 0 where
   -- what a name means that is not before an index
   pub meaning : List ℕ → Meaning

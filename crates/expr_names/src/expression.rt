@@ -61,6 +61,7 @@ fn together<S: Symbols, A: Drop, B: Drop>(
     }
 }
 
+// The term of a tree of boxed nodes.
 #[tactic(auto, using(ptg_base::proofs::Refusals::refuses_before))]
 fn node_term<S: Symbols>(alloc: Global, symbols: &S, node: &ExprNode) -> Result<Expr, JdfRefusal>
     requires { S.is_sound symbols.now }

@@ -10,7 +10,7 @@ use Rattle.grammar_core.specs.declared.token.Token.{Token}
 use Rattle.jdf_lex.specs.declared.fault.JdfFault.{JdfFault}
 use Rattle.grammar_core.specs.declared.code.Code.{Code}
 use Rattle.grammar_core.specs.Production.{IsText}
-use Rattle.grammar_core.specs.Reading.{Read, reading}
+use Rattle.grammar_core.specs.Reading.{Read, reading, fault_from_end}
 use Rattle.jdf_tree.specs.declared.expression.ExprWithSpot.{ExprWithSpot}
 use Rattle.jdf_tree.specs.declared.part.Part.{Part}
 use Rattle.jdf_tree.specs.Expression.{Expression}
@@ -84,9 +84,9 @@ module _ (tokens : List Token) (from : ℕ) (within : from ≤ length tokens) (a
   no_memory finish = record { found = tt; only = λ x h. inr refl; fault = λ f h. absurd cc; refused = λ f h. inr refl }
 
   -- where a fault was met
-  module _ (n : ℕ) (d : Code) (e : reading productions (outer a) slice ≡ Err (n, d)) where
-    met : reading productions (outer part) (drop from tokens) ≡ Err (n, d)
-    met = at_front tokens from a part (Err (n, d)) same e
+  module _ (n : ℕ) (d : Code) (e : reading productions (outer a) slice ≡ Err (fault_from_end n d)) where
+    met : reading productions (outer part) (drop from tokens) ≡ Err (fault_from_end n d)
+    met = at_front tokens from a part (Err (fault_from_end n d)) same e
 
     pub left_within : n + from ≤ length tokens
     left_within = let k = (read_fails part (drop from tokens) n d met).1 in omega (arith, k, length-drop from tokens, within)

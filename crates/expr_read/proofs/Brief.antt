@@ -15,8 +15,8 @@ use Rattle.grammar_core.specs.Reading.{Read, judge, reading}
 use Rattle.grammar_core.proofs.Sound.{SameHead}
 use Rattle.jdf_tree.specs.declared.expression.ExprWithSpot.{ExprWithSpot}
 use Rattle.jdf_tree.specs.Grammar.{productions}
-use Rattle.expr_read.specs.declared.rank.Outermost.{Outermost}
-use Rattle.expr_read.specs.Ranks.{form_of, limited_form}
+use Rattle.expr_read.specs.declared.window.Outermost.{Outermost}
+use Rattle.expr_read.specs.Precedences.{form_of, limited_form}
 use Rattle.expr_read.proofs.InWindow.{limited_is, form_sound, rest_is}
 
 -- the first token that is too many is not among the next k, where k more may be counted

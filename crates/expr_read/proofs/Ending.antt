@@ -3,12 +3,13 @@ use Rattle.std.proofs.Common.{◌≡◌, ℕ, ◌+◌, ◌-◌, ◌<◌, ◌≤�
 use Rattle.std.specs.Prelude.{Some, None, ◌==◌}
 use Rattle.std.proofs.lemmas.Bool.{cases_Bool, cases_lt, cases_order, eqb-true}
 use Rattle.std.proofs.lemmas.List.{take_at, length-append, append-nil, take-append-drop, take-take, length-take-le, length-drop}
+use Rattle.grammar_core.specs.declared.fault.ReadFault.{ReadFault}
 use Rattle.grammar_core.specs.declared.token.Token.{Token}
 use Rattle.grammar_core.specs.declared.code.Code.{Code}
 use Rattle.grammar_core.specs.declared.code.Code.TheVariants.{Syntax}
 use Rattle.grammar_core.specs.Production.{Fault, IsText, Begins, IsSyntaxFault, IsLimitFault, IsFirstFault}
 use Rattle.grammar_core.specs.Predictive.{is_fine}
-use Rattle.grammar_core.specs.Reading.{FaultFromEnd, Read, reading, whole}
+use Rattle.grammar_core.specs.Reading.{Read, reading, whole, fault_from_end}
 use Rattle.grammar_core.proofs.Whole.{sound, reads, text_only, fault_within, fault_is, one_fault}
 use Rattle.grammar_core.proofs.Ends.{no_syntax_fault_after}
 use Rattle.jdf_tree.specs.declared.expression.ExprWithSpot.{ExprWithSpot}
@@ -16,7 +17,7 @@ use Rattle.jdf_tree.specs.declared.part.Part.{Part}
 use Rattle.jdf_tree.specs.ExpressionGrammar.{outer}
 use Rattle.jdf_tree.specs.Grammar.{productions, claims}
 use Rattle.jdf_tree.proofs.Fine.{productions_fine}
-use Rattle.expr_read.specs.declared.rank.Outermost.TheVariants as outermost
+use Rattle.expr_read.specs.declared.window.Outermost.TheVariants as outermost
 use Rattle.expr_read.specs.Front.{IsEnd, IsFirstFaultOf}
 use Rattle.expr_read.proofs.InWindow.{form_fine}
 use Rattle.jdf_tree.proofs.Limits.{productions_limits, outer_limits}
@@ -26,8 +27,8 @@ outer_fine : (part : Part) → is_fine claims (outer part) ≡ true
 unfolding outer
 outer_fine part = form_fine (outermost.Expression part)
 
-stop_is : {A : Type 0} {a b : FaultFromEnd} → ◌≡◌ {A = Result A FaultFromEnd} (Err a) (Err b) → (a.0 ≡ b.0) × (a.1 ≡ b.1)
-stop_is {A} {a} {b} e = let same = same_Err a b e in (ap (λ (x : FaultFromEnd). x.0) same, ap (λ (x : FaultFromEnd). x.1) same)
+stop_is : {A : Type 0} {a b : ReadFault} → ◌≡◌ {A = Result A ReadFault} (Err a) (Err b) → (a.left ≡ b.left) × (a.code ≡ b.code)
+stop_is {A} {a} {b} e = let same = same_Err a b e in (ap (λ (x : ReadFault). x.left) same, ap (λ (x : ReadFault). x.code) same)
 
 no_zero : (n : ℕ) → 0 < n → (n == 0) ≡ false
 no_zero n lt = elim (cases_Bool (n == 0)) [ inl t ↦ let e = eqb-true n 0 t in absurd (omega (arith, e, lt)) | inr f ↦ f ]
@@ -36,7 +37,7 @@ module _ (part : Part) where
   abbrev read : List Token → Read ExprWithSpot
   read s = reading productions (outer part) s
 
-  abbrev all : List Token → Result ExprWithSpot FaultFromEnd
+  abbrev all : List Token → Result ExprWithSpot ReadFault
   all s = whole productions (outer part) s
 
   abbrev Text : List Token → ExprWithSpot → Fault → Type 0
@@ -70,12 +71,12 @@ module _ (part : Part) where
         record {
           within = omega arith;
           before = (None, record { more = []; tree = t; text = subst (λ (l : List Token). Text l t None) (sym (append-nil (take (length s - length r) s))) text });
-          with_it = λ lt. (fault_is productions claims productions_fine productions_limits (outer part) (outer_fine part) (outer_limits part) s (length r, Syntax) (some_left r e (omega (arith, lt)))).with_it lt;
+          with_it = λ lt. (fault_is productions claims productions_fine productions_limits (outer part) (outer_fine part) (outer_limits part) s (fault_from_end (length r) Syntax) (some_left r e (omega (arith, lt)))).with_it lt;
         },
         text,
       )
     where
-      some_left : (r : List Token) → read s ≡ Ok (t, r) → 0 < length r → all s ≡ Err (length r, Syntax)
+      some_left : (r : List Token) → read s ≡ Ok (t, r) → 0 < length r → all s ≡ Err (fault_from_end (length r) Syntax)
       some_left [] e lt = absurd (omega arith)
       some_left (y ∷ r) e lt = rw (e, no_zero (length (y ∷ r)) lt) refl
 
@@ -101,19 +102,19 @@ module _ (part : Part) where
       record { within = omega (arith, lt, le); there = subst (λ (l : List Token). Begins productions (outer part) l (Some (q, d))) (take-take (q + 1) p s (omega (arith, lt))) k.there }
 
   -- the tokens before a syntax fault are no text
-  no_text : (s : List Token) (n : ℕ) → read s ≡ Err (n, Syntax) → n ≤ length s → (t : ExprWithSpot) (o : Fault) → Text (take (length s - n) s) t o → ⊥
+  no_text : (s : List Token) (n : ℕ) → read s ≡ Err (fault_from_end n Syntax) → n ≤ length s → (t : ExprWithSpot) (o : Fault) → Text (take (length s - n) s) t o → ⊥
   no_text s n e le t None text =
       let p = length s - n in
       let reads_it : read (take p s) ≡ Ok (t, []) = reads productions claims productions_fine (outer part) (outer_fine part) (take p s) t None [] text refl in
       let left : n ≡ length (drop p s) = omega (arith, length-drop p s, le) in
-      let again : read (take p s ++ drop p s) ≡ Err (length (drop p s), Syntax) = ap read (take-append-drop p s) ∙ (e ∙ ap (λ (m : ℕ). Err (m, Syntax)) left) in
+      let again : read (take p s ++ drop p s) ≡ Err (fault_from_end (length (drop p s)) Syntax) = ap read (take-append-drop p s) ∙ (e ∙ ap (λ (m : ℕ). Err (fault_from_end m Syntax)) left) in
       no_syntax_fault_after productions claims productions_fine productions_limits (outer part) (outer_fine part) (outer_limits part) (take p s) (drop p s) (t, []) reads_it refl again
   no_text s n e le t (Some f) text =
       let p = length s - n in
-      let read_it : all (take p s) ≡ Err (length (take p s) - f.0, f.1) = rw (reads productions claims productions_fine (outer part) (outer_fine part) (take p s) t (Some f) [] text refl) refl in
-      by_code f.1 (fault_is productions claims productions_fine productions_limits (outer part) (outer_fine part) (outer_limits part) (take p s) (length (take p s) - f.0, f.1) read_it)
+      let read_it : all (take p s) ≡ Err (fault_from_end (length (take p s) - f.0) f.1) = rw (reads productions claims productions_fine (outer part) (outer_fine part) (take p s) t (Some f) [] text refl) refl in
+      by_code f.1 (fault_is productions claims productions_fine productions_limits (outer part) (outer_fine part) (outer_limits part) (take p s) (fault_from_end (length (take p s) - f.0) f.1) read_it)
     where
-      here : all s ≡ Err (n, Syntax)
+      here : all s ≡ Err (fault_from_end n Syntax)
       here = rw e refl
 
       by_code : (d : Code) → IsFirstFault productions (outer part) (take (length s - n) s) (length (take (length s - n) s) - (length (take (length s - n) s) - f.0)) d → ⊥
@@ -126,11 +127,11 @@ module _ (part : Part) where
           absurd cc
 
   -- the first fault
-  pub read_fails : (s : List Token) (n : ℕ) (c : Code) → read s ≡ Err (n, c) → IsFirstFaultOf part s (length s - n) c × (n ≤ length s)
+  pub read_fails : (s : List Token) (n : ℕ) (c : Code) → read s ≡ Err (fault_from_end n c) → IsFirstFaultOf part s (length s - n) c × (n ≤ length s)
   read_fails s n Syntax e =
-      let here : all s ≡ Err (n, Syntax) = rw e refl in
-      let le : n ≤ length s = fault_within productions claims productions_fine productions_limits (outer part) (outer_fine part) (outer_limits part) s (n, Syntax) here in
-      let f = fault_is productions claims productions_fine productions_limits (outer part) (outer_fine part) (outer_limits part) s (n, Syntax) here in
+      let here : all s ≡ Err (fault_from_end n Syntax) = rw e refl in
+      let le : n ≤ length s = fault_within productions claims productions_fine productions_limits (outer part) (outer_fine part) (outer_limits part) s (fault_from_end n Syntax) here in
+      let f = fault_is productions claims productions_fine productions_limits (outer part) (outer_fine part) (outer_limits part) s (fault_from_end n Syntax) here in
       let p = length s - n in
       let size : length (take p s) ≡ p = length-take-le p s (omega arith) in (
         (
@@ -145,9 +146,9 @@ module _ (part : Part) where
         le,
       )
   read_fails s n c e =
-      let here : all s ≡ Err (n, c) = rw e refl in (
-        fault_is productions claims productions_fine productions_limits (outer part) (outer_fine part) (outer_limits part) s (n, c) here,
-        fault_within productions claims productions_fine productions_limits (outer part) (outer_fine part) (outer_limits part) s (n, c) here,
+      let here : all s ≡ Err (fault_from_end n c) = rw e refl in (
+        fault_is productions claims productions_fine productions_limits (outer part) (outer_fine part) (outer_limits part) s (fault_from_end n c) here,
+        fault_within productions claims productions_fine productions_limits (outer part) (outer_fine part) (outer_limits part) s (fault_from_end n c) here,
       )
 
   -- ---- there is one result
@@ -166,7 +167,7 @@ module _ (part : Part) where
       let w = k.within in
       elim (cases_lt q p) [ inl lt ↦ limit_before s p q d h.within lt k | inr le ↦ absurd (h.with_it (omega (arith, le, w)) (Some (q, d)) (begins_shorter s (p + 1) (q + 1) (Some (q, d)) (omega (arith, le)) k.there)) ]
 
-  pub no_expression : (s : List Token) (n : ℕ) (c : Code) → read s ≡ Err (n, c) → (e : ExprWithSpot) (p : ℕ) → IsEnd part s p → Text (take p s) e None → ⊥
+  pub no_expression : (s : List Token) (n : ℕ) (c : Code) → read s ≡ Err (fault_from_end n c) → (e : ExprWithSpot) (p : ℕ) → IsEnd part s p → Text (take p s) e None → ⊥
   no_expression s n c r e p h text = go c (read_fails s n c r).0
     where
       go : (d : Code) → IsFirstFaultOf part s (length s - n) d → ⊥
@@ -185,14 +186,14 @@ module _ (part : Part) where
       no_syntax_in (take p s) p x.0 None f.1 (subst (λ (m : ℕ). Text (take m s) x.0 None) at k.1)
   no_fault s x r p d f = ends (length x.1 == 0) (sym read_it ∙ one_fault productions claims productions_fine productions_limits (outer part) (outer_fine part) (outer_limits part) s p d f)
     where
-      read_it : all s ≡ cond (length x.1 == 0) (Ok x.0) (Err (length x.1, Syntax))
+      read_it : all s ≡ cond (length x.1 == 0) (Ok x.0) (Err (fault_from_end (length x.1) Syntax))
       read_it = rw r refl
 
-      ends : (b : Bool) → cond {A = Result ExprWithSpot FaultFromEnd} b (Ok x.0) (Err (length x.1, Syntax)) ≡ Err (length s - p, d) → ⊥
+      ends : (b : Bool) → cond {A = Result ExprWithSpot ReadFault} b (Ok x.0) (Err (fault_from_end (length x.1) Syntax)) ≡ Err (fault_from_end (length s - p) d) → ⊥
       ends true e = Ok≢Err _ _ e
       ends false e = let same : Syntax ≡ d = (stop_is e).1 in cc
 
-  pub same_fault : (s : List Token) (n : ℕ) (c : Code) → read s ≡ Err (n, c) → (p : ℕ) (d : Code) → IsFirstFaultOf part s p d → (length s - n ≡ p) × (c ≡ d)
+  pub same_fault : (s : List Token) (n : ℕ) (c : Code) → read s ≡ Err (fault_from_end n c) → (p : ℕ) (d : Code) → IsFirstFaultOf part s p d → (length s - n ≡ p) × (c ≡ d)
   same_fault s n c r p Syntax f = go c (read_fails s n c r).0
     where
       go : (a : Code) → IsFirstFaultOf part s (length s - n) a → (length s - n ≡ p) × (a ≡ Syntax)
@@ -204,7 +205,7 @@ module _ (part : Part) where
           let same : a ≡ Syntax = (stop_is (sym one ∙ two)).1 in
           absurd cc
   same_fault s n c r p d f =
-      let here : all s ≡ Err (n, c) = rw r refl in
+      let here : all s ≡ Err (fault_from_end n c) = rw r refl in
       let other = one_fault productions claims productions_fine productions_limits (outer part) (outer_fine part) (outer_limits part) s p d f in
       let same = stop_is (sym here ∙ other) in
       let w = f.within in

@@ -1,13 +1,13 @@
 -- An outermost expression is read in a window of tokens up to its limit.
 use Rattle.std.proofs.Common.{◌≡◌, ℕ, ◌-◌, ◌+◌, ◌≤◌, ◌<◌, List, ◌++◌, length, take, drop, true, false, Ok, Err, refl}
 use Rattle.std.specs.Prelude.{◌==◌}
+use Rattle.grammar_core.specs.declared.fault.ReadFault.{ReadFault}
 use Rattle.grammar_core.specs.declared.token.Token.{Token}
-use Rattle.grammar_core.specs.declared.code.Code.{Code}
 use Rattle.jdf_alphabet.specs.Codes.{ExprTooLong}
 use Rattle.jdf_alphabet.specs.Counted.{expression_limit}
 use Rattle.grammar_core.specs.Production.{Derives, Derived}
 use Rattle.grammar_core.specs.Predictive.{is_fine}
-use Rattle.grammar_core.specs.Reading.{FaultFromEnd, judge, reading}
+use Rattle.grammar_core.specs.Reading.{judge, reading, fault_from_end}
 use Rattle.grammar_core.proofs.Sound.{Sound}
 use Rattle.grammar_core.proofs.Whole.{sound}
 use Rattle.jdf_tree.specs.declared.expression.ExprWithSpot.{ExprWithSpot}
@@ -16,9 +16,9 @@ use Rattle.jdf_tree.specs.ExpressionGrammar.{number, parens, index, reference, s
 use Rattle.jdf_tree.specs.Grammar.{productions, claims}
 use Rattle.jdf_alphabet.specs.Terminals.{terminal_at}
 use Rattle.jdf_tree.proofs.Fine.{productions_fine}
-use Rattle.expr_read.specs.declared.rank.Outermost.{Outermost}
-use Rattle.expr_read.specs.declared.rank.Outermost.TheVariants as outermost
-use Rattle.expr_read.specs.Ranks.{form_of, limited_form}
+use Rattle.expr_read.specs.declared.window.Outermost.{Outermost}
+use Rattle.expr_read.specs.declared.window.Outermost.TheVariants as outermost
+use Rattle.expr_read.specs.Precedences.{form_of, limited_form}
 use Rattle.expr_read.proofs.Windows as windows
 
 pub form_fine : (o : Outermost) → is_fine claims (form_of o) ≡ true
@@ -40,8 +40,8 @@ module _ (o : Outermost) where
   pub short : (s : List Token) → length s ≤ expression_limit.at s → reading productions (limited_form o) s ≡ reading productions (form_of o) s
   short s le = windows.within_limit expression_limit (λ _. ExprTooLong) (Derives (Derived productions) (form_of o)) (reading productions (form_of o)) form_sound (reading productions (limited_form o)) (limited_is o) s le
 
-  pub form_within : (s : List Token) (n : ℕ) (c : Code) → reading productions (form_of o) s ≡ Err (n, c) → n ≤ length s
-  form_within s n c e = windows.fault_within expression_limit (λ _. ExprTooLong) (Derives (Derived productions) (form_of o)) (reading productions (form_of o)) form_sound (reading productions (limited_form o)) (limited_is o) s n c e
+  pub form_within : (s : List Token) (f : ReadFault) → reading productions (form_of o) s ≡ Err f → f.left ≤ length s
+  form_within s f e = windows.fault_within expression_limit (λ _. ExprTooLong) (Derives (Derived productions) (form_of o)) (reading productions (form_of o)) form_sound (reading productions (limited_form o)) (limited_is o) s f e
 
   -- the rest of a window, with the tokens after the window
   pub rest_is : (w v : List Token) (t : ExprWithSpot) (rest : List Token) → reading productions (form_of o) w ≡ Ok (t, rest) → drop (length w - length rest) (w ++ v) ≡ rest ++ v
@@ -54,9 +54,9 @@ module _ (o : Outermost) where
         → reading productions (limited_form o) s ≡ Ok (t, take (length s - (length w - length rest)) (drop (length w - length rest) s))
     slice t rest e some = windows.slice expression_limit (λ _. ExprTooLong) (Derives (Derived productions) (form_of o)) (reading productions (form_of o)) form_sound (reading productions (limited_form o)) (limited_is o) s w v limit is_limit front back long t rest e some
 
-    pub fault : (n : ℕ) (c : Code) → 0 < n → reading productions (form_of o) w ≡ Err (n, c) → reading productions (limited_form o) s ≡ Err (n + length v, c)
-    fault n c some e = windows.fault expression_limit (λ _. ExprTooLong) (Derives (Derived productions) (form_of o)) (reading productions (form_of o)) form_sound (reading productions (limited_form o)) (limited_is o) s w v limit is_limit front back long n c some e
+    pub fault : (f : ReadFault) → 0 < f.left → reading productions (form_of o) w ≡ Err f → reading productions (limited_form o) s ≡ Err (fault_from_end (f.left + length v) f.code)
+    fault f some e = windows.fault expression_limit (λ _. ExprTooLong) (Derives (Derived productions) (form_of o)) (reading productions (form_of o)) form_sound (reading productions (limited_form o)) (limited_is o) s w v limit is_limit front back long f some e
 
-    pub cut : ((t : ExprWithSpot) (rest : List Token) → 0 < length rest → reading productions (form_of o) w ≡ Ok (t, rest) → ⊥) → ((n : FaultFromEnd) → 0 < n.0 → reading productions (form_of o) w ≡ Err n → ⊥)
-        → reading productions (limited_form o) s ≡ Err (length s - limit, ExprTooLong)
+    pub cut : ((t : ExprWithSpot) (rest : List Token) → 0 < length rest → reading productions (form_of o) w ≡ Ok (t, rest) → ⊥) → ((n : ReadFault) → 0 < n.left → reading productions (form_of o) w ≡ Err n → ⊥)
+        → reading productions (limited_form o) s ≡ Err (fault_from_end (length s - limit) ExprTooLong)
     cut a b = windows.cut expression_limit (λ _. ExprTooLong) (Derives (Derived productions) (form_of o)) (reading productions (form_of o)) form_sound (reading productions (limited_form o)) (limited_is o) s w v limit is_limit front back long a b

@@ -4,10 +4,11 @@ use Rattle.std.specs.Prelude.{◌==◌}
 use Rattle.std.proofs.lemmas.Bool.{le-ltb}
 use Rattle.std.proofs.lemmas.List.{length-append, drop_at, take-append-drop, length-take-le, take_rest}
 use Rattle.std.proofs.lemmas.Bool.Decides.{nat_tests}
+use Rattle.grammar_core.specs.declared.fault.ReadFault.{ReadFault}
 use Rattle.grammar_core.specs.declared.token.Token.{Token}
 use Rattle.grammar_core.specs.declared.code.Code.{Code}
 use Rattle.grammar_core.specs.Production.{Limit, Language}
-use Rattle.grammar_core.specs.Reading.{FaultFromEnd, Read, judge}
+use Rattle.grammar_core.specs.Reading.{Read, judge, fault_from_end}
 use Rattle.grammar_core.proofs.Sound.{Sound}
 use Rattle.grammar_core.proofs.Windows.{window_ok, window_err, window_long}
 
@@ -18,11 +19,11 @@ module _ {A : Type 0} (L : Limit) (c : List Token → Code) (G : Language A) (p 
     where
       go : (r : Read A) → judge (L.at s) (c s) s r ≡ r
       go (Ok x) = rw (le-ltb (L.at s) (length s - length x.1) (omega (arith, le))) refl
-      go (Err e) = rw (le-ltb (L.at s) (length s - e.0) (omega (arith, le))) refl
+      go (Err e) = rw (le-ltb (L.at s) (length s - e.left) (omega (arith, le))) refl
 
-  pub fault_within : (s : List Token) (n : ℕ) (d : Code) → p s ≡ Err (n, d) → n ≤ length s
-  fault_within s n d e =
-      let k = (sound s).faulted (n, d) e in
+  pub fault_within : (s : List Token) (f : ReadFault) → p s ≡ Err f → f.left ≤ length s
+  fault_within s f e =
+      let k = (sound s).faulted f e in
       omega (arith, k.left, ap (λ (l : List Token). length l) k.parts, length-append k.word k.rest)
 
   -- the rest of a window, with what is after it
@@ -48,8 +49,8 @@ module _ {A : Type 0} (L : Limit) (c : List Token → Code) (G : Language A) (p 
         let from : take (length s - (length w - length rest)) (drop (length w - length rest) s) ≡ rest ++ v = take_rest s (length w - length rest) ∙ all in
         judged s ∙ (window_ok L (c s) G p sound s w v parts wide t rest left e ∙ ap (λ (l : List Token). Ok (t, l)) (sym from))
 
-    pub fault : (n : ℕ) (d : Code) → 0 < n → p w ≡ Err (n, d) → q s ≡ Err (n + length v, d)
-    fault n d some e = judged s ∙ window_err L (c s) G p sound s w v parts wide (n, d) some e
+    pub fault : (f : ReadFault) → 0 < f.left → p w ≡ Err f → q s ≡ Err (fault_from_end (f.left + length v) f.code)
+    fault f some e = judged s ∙ window_err L (c s) G p sound s w v parts wide f some e
 
-    pub cut : ((t : A) (rest : List Token) → 0 < length rest → p w ≡ Ok (t, rest) → ⊥) → ((n : FaultFromEnd) → 0 < n.0 → p w ≡ Err n → ⊥) → q s ≡ Err (length s - limit, c s)
-    cut a b = judged s ∙ (window_long L (c s) G p sound s w v parts wide a b ∙ ap (λ (k : ℕ). Err (length s - k, c s)) (sym is_limit))
+    pub cut : ((t : A) (rest : List Token) → 0 < length rest → p w ≡ Ok (t, rest) → ⊥) → ((n : ReadFault) → 0 < n.left → p w ≡ Err n → ⊥) → q s ≡ Err (fault_from_end (length s - limit) (c s))
+    cut a b = judged s ∙ (window_long L (c s) G p sound s w v parts wide a b ∙ ap (λ (k : ℕ). Err (fault_from_end (length s - k) (c s))) (sym is_limit))

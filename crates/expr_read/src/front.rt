@@ -10,6 +10,7 @@ use jdf_lex::{JdfFault, JdfRefusal, Spot, Token};
 use jdf_tree::{ExprTree, Part, code_at_token};
 use std::alloc::Global;
 
+// The part of a text: a body where elements of tiles may be read, else a class.
 fn part_of(elements: bool) -> Part
     ensures { result ≡ part_of elements }
 {

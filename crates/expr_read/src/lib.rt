@@ -5,7 +5,7 @@ mod front;
 mod names;
 mod number;
 mod operators;
-mod rank;
+mod precedence;
 mod window;
 
 pub use front::{fault_at, read_expr};

@@ -1,7 +1,7 @@
 //! Reads names.
 
 ghost use Rattle.std.specs.Prelude.{◌≡◌, IfOk, OnErr};
-ghost use Rattle.grammar_core.specs.Returns.{Returns};
+ghost use Rattle.ptg_base.specs.Returns.{Returns};
 ghost use Rattle.grammar_core.specs.Reading.{reading};
 ghost use Rattle.jdf_alphabet.specs.Sets.{starts};
 ghost use Rattle.jdf_tree.specs.GrammarParts.{name, names, word_of};
@@ -14,7 +14,7 @@ use jdf_tree::{Part, Word};
 use ptg_base::{OutOfMemory, Text};
 use std::alloc::Global;
 
-// Is this terminal a name in this part of a text?
+// Whether this terminal is a name in this part of a text.
 fn is_name(part: Part, terminal: Terminal) -> bool
     ensures { result ≡ names part terminal }
 {
@@ -26,7 +26,7 @@ fn is_name(part: Part, terminal: Terminal) -> bool
     }
 }
 
-/// Is a name next?
+/// Whether a name is next.
 pub fn is_name_next(part: Part, tokens: &[Token]) -> bool
     ensures { result ≡ starts (names part) tokens.now }
 {
@@ -36,6 +36,7 @@ pub fn is_name_next(part: Part, tokens: &[Token]) -> bool
     }
 }
 
+// A copy of a token's text, with its spot.
 fn word_of(alloc: Global, token: &Token) -> Result<Word, OutOfMemory>
     ensures { IfOk result (λ w. w ≡ word_of token.now) }
 {

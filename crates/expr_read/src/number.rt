@@ -1,7 +1,7 @@
 //! Reads numbers.
 
 ghost use Rattle.std.specs.Prelude.{◌≡◌, pos, true, false, MatchOption};
-ghost use Rattle.grammar_core.specs.Returns.{Returns};
+ghost use Rattle.ptg_base.specs.Returns.{Returns};
 ghost use Rattle.grammar_core.specs.Reading.{reading};
 ghost use Rattle.jdf_tree.specs.ExpressionGrammar.{number};
 ghost use Rattle.jdf_tree.specs.Grammar.{productions};
@@ -16,7 +16,7 @@ use ptg_base::decimal;
 // The largest number.
 const LARGEST: u64 = 9223372036854775807;
 
-// Does a number of several digits begin with 0?
+// Whether a number of several digits begins with 0.
 fn has_leading_zero(text: &[u8]) -> bool
     ensures { result ≡ has_leading_zero text.now }
 {

@@ -1,19 +1,19 @@
 //! Reads expressions, without the limit of an outermost one.
 
 ghost use Rattle.std.specs.Prelude.{◌≡◌, MatchOption, IfOk, Ok, true, false};
+ghost use Rattle.ptg_base.specs.Returns.{Returns};
 ghost use Rattle.grammar_core.specs.Production.{map};
 ghost use Rattle.jdf_alphabet.specs.Sets.{one_of, starts, token_at};
-ghost use Rattle.grammar_core.specs.Returns.{Returns};
 ghost use Rattle.grammar_core.specs.Reading.{reading};
 ghost use Rattle.jdf_alphabet.specs.Terminals.{terminal_of};
 ghost use Rattle.jdf_tree.specs.ExpressionGrammar.{index, parens, reference, signed, unary, branches, expr, is_sign, sign_by, operator_by, operator_of};
 ghost use Rattle.jdf_tree.specs.Grammar.{productions};
 ghost use Rattle.jdf_tree.specs.declared.part.Part.TheVariants.{Body};
-ghost use Rattle.expr_read.specs.Ranks.{operators_of, operand_of, of_rank};
+ghost use Rattle.expr_read.specs.Precedences.{operators_of, operand_of, of_precedence};
 
 use crate::names::{is_name_next, name};
 use crate::number::number;
-use crate::rank::Rank;
+use crate::precedence::Precedence;
 use grammar_core::{Code, ReadRefusal, refusal_at};
 use jdf_alphabet::{Terminal, expect, is_next};
 use jdf_lex::Token;
@@ -21,6 +21,7 @@ use jdf_tree::{ExprTree, ExprWithSpot, Part};
 use std::alloc::Global;
 use term_core::{BinOp, UnOp};
 
+// `"(" expr ")"`
 #[cycle(expression)]
 #[tactic(auto, using(crate::proofs::Named::expr_is, crate::proofs::Loops::token_shrinks), unfolding(jdf_tree::specs::ExpressionGrammar::parens))]
 fn parens(
@@ -40,6 +41,7 @@ fn parens(
     Ok((whole, rest))
 }
 
+// `"[" expr "]"`, in a body.
 #[cycle(expression)]
 #[tactic(auto, using(crate::proofs::Named::expr_is, crate::proofs::Loops::token_shrinks), unfolding(jdf_tree::specs::ExpressionGrammar::index))]
 fn index(alloc: Global, tokens: &[Token]) -> Result<(ExprWithSpot, &[Token]), ReadRefusal>
@@ -68,6 +70,7 @@ fn element(alloc: Global, tokens: &[Token]) -> Result<(ExprWithSpot, &[Token]), 
     Ok((ExprWithSpot { spot, tree }, rest))
 }
 
+// A name, or in a body `name index?`.
 #[cycle(expression)]
 #[tactic(auto, unfolding(jdf_tree::specs::ExpressionGrammar::reference))]
 fn reference(
@@ -99,7 +102,7 @@ fn sign(terminal: Terminal) -> Option<UnOp>
     }
 }
 
-// Is a prefix operator next?
+// Whether a prefix operator is next.
 fn is_sign_next(tokens: &[Token]) -> bool
     ensures { result ≡ starts is_sign tokens.now }
 {
@@ -123,6 +126,7 @@ fn sign_at(tokens: &[Token]) -> Result<(UnOp, &Token, &[Token]), ReadRefusal>
     }
 }
 
+// `("-" | "!") unary`
 #[cycle(expression)]
 #[tactic(auto, using(crate::proofs::Named::unary_is, crate::proofs::Loops::token_shrinks), unfolding(jdf_tree::specs::ExpressionGrammar::signed))]
 fn signed(
@@ -139,6 +143,7 @@ fn signed(
     Ok((ExprWithSpot { spot, tree }, rest))
 }
 
+// An operand of infix operators: a prefix operator with its operand, a number, a reference, or parentheses.
 #[cycle(expression)]
 #[tactic(auto, using(crate::proofs::Loops::unary_reads))]
 fn unary(
@@ -160,80 +165,83 @@ fn unary(
     parens(alloc, part, tokens)
 }
 
-// The infix operator of this rank with this mark, if there is one.
-fn operator(rank: Rank, terminal: Terminal) -> Option<BinOp>
-    ensures { MatchOption result (operators_of rank terminal ≡ false) (λ o.
-        (operators_of rank terminal ≡ true) × (o ≡ operator_by terminal)) }
+// The infix operator of this precedence with this mark, if there is one.
+fn operator(precedence: Precedence, terminal: Terminal) -> Option<BinOp>
+    ensures { MatchOption result (operators_of precedence terminal ≡ false) (λ o.
+        (operators_of precedence terminal ≡ true) × (o ≡ operator_by terminal)) }
 {
-    match (rank, terminal) {
-        (Rank::Product, Terminal::Star) => Some(BinOp::Mul),
-        (Rank::Product, Terminal::Slash) => Some(BinOp::Div),
-        (Rank::Product, Terminal::Percent) => Some(BinOp::Rem),
-        (Rank::Sum, Terminal::Plus) => Some(BinOp::Add),
-        (Rank::Sum, Terminal::Minus) => Some(BinOp::Sub),
-        (Rank::Relation, Terminal::Less) => Some(BinOp::Lt),
-        (Rank::Relation, Terminal::AtMost) => Some(BinOp::Le),
-        (Rank::Relation, Terminal::Greater) => Some(BinOp::Gt),
-        (Rank::Relation, Terminal::AtLeast) => Some(BinOp::Ge),
-        (Rank::Equality, Terminal::Equal) => Some(BinOp::Eq),
-        (Rank::Equality, Terminal::NotEqual) => Some(BinOp::Ne),
-        (Rank::Conjunction, Terminal::And | Terminal::AndAnd) => Some(BinOp::And),
-        (Rank::Disjunction, Terminal::Or | Terminal::OrOr) => Some(BinOp::Or),
+    match (precedence, terminal) {
+        (Precedence::Product, Terminal::Star) => Some(BinOp::Mul),
+        (Precedence::Product, Terminal::Slash) => Some(BinOp::Div),
+        (Precedence::Product, Terminal::Percent) => Some(BinOp::Rem),
+        (Precedence::Sum, Terminal::Plus) => Some(BinOp::Add),
+        (Precedence::Sum, Terminal::Minus) => Some(BinOp::Sub),
+        (Precedence::Relation, Terminal::Less) => Some(BinOp::Lt),
+        (Precedence::Relation, Terminal::AtMost) => Some(BinOp::Le),
+        (Precedence::Relation, Terminal::Greater) => Some(BinOp::Gt),
+        (Precedence::Relation, Terminal::AtLeast) => Some(BinOp::Ge),
+        (Precedence::Equality, Terminal::Equal) => Some(BinOp::Eq),
+        (Precedence::Equality, Terminal::NotEqual) => Some(BinOp::Ne),
+        (Precedence::Conjunction, Terminal::And | Terminal::AndAnd) => Some(BinOp::And),
+        (Precedence::Disjunction, Terminal::Or | Terminal::OrOr) => Some(BinOp::Or),
         _ => None,
     }
 }
 
-// The infix operator of this rank that is next, and the tokens after it; None if none is next.
-fn operator_at(rank: Rank, tokens: &[Token]) -> Option<(BinOp, &[Token])>
-    ensures { MatchOption result (starts (operators_of rank) tokens.now ≡ false)
-        (λ x. (starts (operators_of rank) tokens.now ≡ true)
-        × (reading productions (map operator_of (one_of (operators_of rank))) tokens.now ≡ Ok (x.0, x.1.now))) }
+// The infix operator of this precedence that is next, and the tokens after it; None if none is next.
+fn operator_at(precedence: Precedence, tokens: &[Token]) -> Option<(BinOp, &[Token])>
+    ensures { MatchOption result (starts (operators_of precedence) tokens.now ≡ false)
+        (λ x. (starts (operators_of precedence) tokens.now ≡ true)
+        × (reading productions (map operator_of (one_of (operators_of precedence))) tokens.now ≡ Ok (x.0, x.1.now))) }
 {
     let (first, rest) = tokens.split_first()?;
-    let found = operator(rank, Terminal::of(first))?;
+    let found = operator(precedence, Terminal::of(first))?;
     Some((found, rest))
 }
 
+// An operand of the infix operators of this precedence: what binds tighter.
 #[cycle(expression)]
 fn operand(
     alloc: Global,
     part: Part,
-    rank: Rank,
+    precedence: Precedence,
     tokens: &[Token],
 ) -> Result<(ExprWithSpot, &[Token]), ReadRefusal>
-    ensures { Returns (λ x. (x.0, x.1.now)) result (reading productions (operand_of rank part) tokens.now) }
+    ensures { Returns (λ x. (x.0, x.1.now)) result (reading productions (operand_of precedence part) tokens.now) }
 {
-    match rank {
-        Rank::Product => unary(alloc, part, tokens),
-        Rank::Sum => ranked(alloc, part, Rank::Product, tokens),
-        Rank::Relation => ranked(alloc, part, Rank::Sum, tokens),
-        Rank::Equality => ranked(alloc, part, Rank::Relation, tokens),
-        Rank::Conjunction => ranked(alloc, part, Rank::Equality, tokens),
-        Rank::Disjunction => ranked(alloc, part, Rank::Conjunction, tokens),
+    match precedence {
+        Precedence::Product => unary(alloc, part, tokens),
+        Precedence::Sum => operands(alloc, part, Precedence::Product, tokens),
+        Precedence::Relation => operands(alloc, part, Precedence::Sum, tokens),
+        Precedence::Equality => operands(alloc, part, Precedence::Relation, tokens),
+        Precedence::Conjunction => operands(alloc, part, Precedence::Equality, tokens),
+        Precedence::Disjunction => operands(alloc, part, Precedence::Conjunction, tokens),
     }
 }
 
+// Operands with infix operators of this precedence between them, which group from the left.
 #[cycle(expression)]
-#[tactic(auto, using(crate::proofs::Loops::ranked_is, crate::proofs::Loops::tail_ends, crate::proofs::Loops::tail_goes_on, crate::proofs::Loops::reading_shrinks, crate::proofs::Loops::operator_shrinks))]
-pub(crate) fn ranked(
+#[tactic(auto, using(crate::proofs::Loops::operands_are, crate::proofs::Loops::tail_ends, crate::proofs::Loops::tail_goes_on, crate::proofs::Loops::reading_shrinks, crate::proofs::Loops::operator_shrinks))]
+pub(crate) fn operands(
     alloc: Global,
     part: Part,
-    rank: Rank,
+    precedence: Precedence,
     tokens: &[Token],
 ) -> Result<(ExprWithSpot, &[Token]), ReadRefusal>
-    ensures { Returns (λ x. (x.0, x.1.now)) result (reading productions (of_rank rank part) tokens.now) }
+    ensures { Returns (λ x. (x.0, x.1.now)) result (reading productions (of_precedence precedence part) tokens.now) }
 {
-    let (first, mut rest) = operand(alloc, part, rank, tokens)?;
+    let (first, mut rest) = operand(alloc, part, precedence, tokens)?;
     let spot = first.spot;
     let mut left = first.tree;
-    while let Some((operator, after)) = operator_at(rank, rest) {
-        let (right, next) = operand(alloc, part, rank, after)?;
+    while let Some((operator, after)) = operator_at(precedence, rest) {
+        let (right, next) = operand(alloc, part, precedence, after)?;
         left = ExprTree::binary(alloc, operator, left, right.tree)?;
         rest = next;
     }
     Ok((ExprWithSpot { spot, tree: left }, rest))
 }
 
+// `"?" expr ":" expr`
 #[cycle(expression)]
 #[tactic(auto, using(crate::proofs::Named::expr_is, crate::proofs::Loops::token_shrinks, crate::proofs::Loops::reading_shrinks), unfolding(jdf_tree::specs::ExpressionGrammar::branches))]
 fn branches(
@@ -250,6 +258,7 @@ fn branches(
     Ok(((yes, no), rest))
 }
 
+// `disjunction ("?" expr ":" expr)?`
 #[cycle(expression)]
 #[tactic(auto, using(crate::proofs::Loops::expr_reads, crate::proofs::Loops::reading_shrinks))]
 pub(crate) fn expression(
@@ -259,7 +268,7 @@ pub(crate) fn expression(
 ) -> Result<(ExprWithSpot, &[Token]), ReadRefusal>
     ensures { Returns (λ x. (x.0, x.1.now)) result (reading productions (expr part) tokens.now) }
 {
-    let (condition, rest) = ranked(alloc, part, Rank::Disjunction, tokens)?;
+    let (condition, rest) = operands(alloc, part, Precedence::Disjunction, tokens)?;
     if !is_next(rest, Terminal::Question) {
         return Ok((condition, rest));
     }

@@ -1,14 +1,14 @@
 //! Outermost expressions, which have a limit.
 
 ghost use Rattle.std.specs.Prelude.{◌≡◌, IfSome, Ok};
-ghost use Rattle.grammar_core.specs.Returns.{Returns};
+ghost use Rattle.ptg_base.specs.Returns.{Returns};
 ghost use Rattle.grammar_core.specs.Reading.{reading};
 ghost use Rattle.jdf_tree.specs.ExpressionGrammar.{outer, guard};
 ghost use Rattle.jdf_tree.specs.Grammar.{productions};
-ghost use Rattle.expr_read.specs.Ranks.{form_of, limited_form};
+ghost use Rattle.expr_read.specs.Precedences.{form_of, limited_form};
 
-use crate::operators::{expression, ranked};
-use crate::rank::{Outermost, Rank};
+use crate::operators::{expression, operands};
+use crate::precedence::Precedence;
 use grammar_core::{ReadFault, ReadRefusal, refusal_at};
 use jdf_alphabet::{GrammarCode, expression_limit};
 use jdf_lex::Token;
@@ -17,6 +17,15 @@ use std::alloc::Global;
 
 // This many tokens are within the limit, whatever they are.
 const WITHIN: usize = 128;
+
+// The kinds of outermost expressions.
+#[derive(Clone, Copy)]
+enum Outermost {
+    // Any expression.
+    Expression(Part),
+    // A guard: an expression of a class with no `? :` outside of parentheses.
+    Guard,
+}
 
 // An outermost expression, without its limit.
 fn form(
@@ -28,7 +37,7 @@ fn form(
 {
     match outermost {
         Outermost::Expression(part) => expression(alloc, part, tokens),
-        Outermost::Guard => ranked(alloc, Part::Class, Rank::Disjunction, tokens),
+        Outermost::Guard => operands(alloc, Part::Class, Precedence::Disjunction, tokens),
     }
 }
 
@@ -49,7 +58,7 @@ fn brief(alloc: Global, outermost: Outermost, tokens: &[Token]) -> Option<(ExprW
 }
 
 // An outermost expression is read in a window of tokens up to its limit, so that no text makes the recursion deep.
-#[tactic(auto, using(crate::proofs::InWindow::short, crate::proofs::InWindow::slice, crate::proofs::InWindow::fault, crate::proofs::InWindow::cut, crate::proofs::InWindow::form_within, crate::proofs::Loops::reading_shrinks))]
+#[tactic(auto, using(crate::proofs::InWindow::short, crate::proofs::InWindow::slice, crate::proofs::InWindow::cut, crate::proofs::InWindow::form_within, crate::proofs::Loops::reading_shrinks))]
 fn within_limit(
     alloc: Global,
     outermost: Outermost,

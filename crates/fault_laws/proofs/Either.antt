@@ -7,6 +7,7 @@ use Rattle.ptg_base.specs.TaskLaws.{same_task-decides}
 use Rattle.ptg_base.specs.declared.edge.Edge.{Edge}
 use Rattle.ptg_base.specs.declared.place.Place.{Place}
 use Rattle.ptg_base.proofs.Comparisons.{same_edge, same_edge-decides}
+use Rattle.term_core.specs.Directions.{opposite}
 use Rattle.range_space.specs.declared.fault.SpaceFault.{SpaceFault}
 use Rattle.range_space.specs.declared.fault.SpaceFault.TheVariants.{BadExpr, TooManyTasks}
 use Rattle.range_space.specs.Walk as walk
@@ -19,7 +20,7 @@ use Rattle.plan_core.specs.declared.shape.Shape.{Shape}
 use Rattle.dep_iter.specs.declared.source.Source.{Source}
 use Rattle.dep_iter.specs.declared.source.Source.TheVariants as source
 use Rattle.dep_iter.specs.Consistent.{IsConsistent, takes_tile}
-use Rattle.dep_iter.specs.Directions.{edges_of, far_task, opposite}
+use Rattle.dep_iter.specs.Directions.{edges_of, far_task}
 use Rattle.dep_iter.specs.Tasks.{IsTask, all_tasks}
 use Rattle.dep_iter.specs.Well.{ill_part}
 use Rattle.dep_iter.proofs.Listing.{length-tasks_from, listed}

@@ -8,6 +8,8 @@ use Rattle.ptg_base.specs.declared.edge.Edge.{Edge}
 use Rattle.ptg_base.specs.declared.edge.Item.{Item}
 use Rattle.ptg_base.specs.declared.edge.Item.TheVariants as item
 use Rattle.ptg_base.specs.declared.edge.WriteBack.{WriteBack}
+use Rattle.term_core.specs.declared.direction.Direction.{Direction}
+use Rattle.term_core.specs.declared.direction.Direction.TheVariants.{In, Out}
 use Rattle.plan_core.specs.declared.class.ClassPlan.{ClassPlan}
 use Rattle.plan_core.specs.declared.flow.FlowPlan.{FlowPlan}
 use Rattle.plan_core.specs.declared.plan.Plan.{Plan}
@@ -18,8 +20,6 @@ use Rattle.dep_iter.specs.Well.{first_ill_flow, has_hints, ill_part, ill_part_of
 use Rattle.edge_match.specs.declared.fault.MatchFault.{MatchFault}
 use Rattle.edge_match.specs.declared.phase.Phase.{Phase}
 use Rattle.edge_match.specs.declared.phase.Phase.TheVariants.{Connecting, Matching}
-use Rattle.dep_iter.specs.declared.direction.Direction.{Direction}
-use Rattle.dep_iter.specs.declared.direction.Direction.TheVariants.{In, Out}
 use Rattle.edge_match.specs.FirstFault.{IsTaskFault}
 use Rattle.edge_match.specs.Marks.{Mark, edge_marks, flow_items, flow_start, ill_flow, item_marks, phase_marks, task_start}
 use Rattle.edge_match.specs.Marks.{write_marks}

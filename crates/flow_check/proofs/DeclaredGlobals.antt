@@ -1,4 +1,4 @@
--- Whether the tables of the globals of a JDF lack one of them.
+-- Whether one of the globals of a JDF is missing from the tables of them.
 use Rattle.std.proofs.Common.{◌≡◌, ℕ, Bool, true, not, ◌||◌, List, [], ◌∷◌, None, is_some, if◌then◌else◌, refl, ◌∙◌, ap}
 use Rattle.std.specs.List.{list_any, position}
 use Rattle.name_table.specs.Names.{value_named}
@@ -9,7 +9,7 @@ use Rattle.check_names.specs.Contexts.{AreGlobals}
 use Rattle.check_names.specs.Names.{word_is, coll_is}
 use Rattle.std.proofs.lemmas.Bool.{or_left, or_right}
 use Rattle.list_lemmas.proofs.Texts.{bytes_eq-self}
-use Rattle.flow_check.specs.Globals.{lacks}
+use Rattle.flow_check.specs.Globals.{is_missing_here}
 use Rattle.flow_check.specs.Given.{is_given, is_missing}
 
 -- tests that agree on words whose names are declared
@@ -21,13 +21,13 @@ any_declared p q globals (w ∷ words) among same =
     let rest = any_declared p q globals words (λ name h. among name (or_right (word_is name w) (list_any (word_is name) words) h)) same in
     λ i. first i || rest i
 
-lacks_declared : (jdf : Jdf) (given : Data) (globals : Globals) → AreGlobals (record { jdf = jdf; given = given }) globals → (w : Word) → list_any (word_is w.text) jdf.globals ≡ true
-    → lacks globals w.text ≡ not (is_given given w.text)
-lacks_declared jdf given globals tables w declared =
+missing_where_declared : (jdf : Jdf) (given : Data) (globals : Globals) → AreGlobals (record { jdf = jdf; given = given }) globals → (w : Word) → list_any (word_is w.text) jdf.globals ≡ true
+    → is_missing_here globals w.text ≡ not (is_given given w.text)
+missing_where_declared jdf given globals tables w declared =
     let ints = tables.ints w.text ∙ ap (λ b. if b then value_named given.ints w.text else None) declared in
     let colls = tables.colls w.text ∙ ap (λ b. if b then position (coll_is w.text) given.colls else None) declared in
     λ i. not (is_some (ints i) || is_some (colls i))
 
-pub missing_is : (jdf : Jdf) (given : Data) (globals : Globals) → AreGlobals (record { jdf = jdf; given = given }) globals → list_any (λ (w : Word). lacks globals w.text) jdf.globals ≡ is_missing jdf given
+pub missing_is : (jdf : Jdf) (given : Data) (globals : Globals) → AreGlobals (record { jdf = jdf; given = given }) globals → list_any (λ (w : Word). is_missing_here globals w.text) jdf.globals ≡ is_missing jdf given
 missing_is jdf given globals tables =
-    any_declared (λ (w : Word). lacks globals w.text) (λ (w : Word). not (is_given given w.text)) jdf.globals jdf.globals (λ name h. h) (lacks_declared jdf given globals tables)
+    any_declared (λ (w : Word). is_missing_here globals w.text) (λ (w : Word). not (is_given given w.text)) jdf.globals jdf.globals (λ name h. h) (missing_where_declared jdf given globals tables)

@@ -5,14 +5,14 @@ use Rattle.check_names.specs.Alphabet.{DefTree, FlowTree}
 use Rattle.check_names.specs.Names.{Job}
 use Rattle.check_names.proofs.NoFaults.{parts_of}
 use Rattle.check_flows.specs.Datatypes.{flow_type}
-use Rattle.check_flows.specs.Dependences.{ways_of, flow_from, flow_plan}
+use Rattle.check_flows.specs.Dependences.{directions_of, flow_from, flow_plan}
 use Rattle.check_flows.specs.PartsOfJob.{IsFlowOf}
 
 -- the flow has the kind and the datatype of its tree
 pub flow_is : (job : Job) (seen : List DefTree) (flow : FlowTree) (p : FlowPlan) → flow_plan job seen flow ≡ Some p → IsFlowOf job.given flow p
 flow_is job seen flow p e =
-    let q = parts_of (flow_from flow) (flow_type job.given flow) (ways_of job seen flow.deps) p e in
+    let q = parts_of (flow_from flow) (flow_type job.given flow) (directions_of job seen flow.deps) p e in
     subst (IsFlowOf job.given flow) q.4 (record { kind = refl; datatype = q.2 })
 
 pub flow_name : (job : Job) (seen : List DefTree) (flow : FlowTree) (p : FlowPlan) → flow_plan job seen flow ≡ Some p → p.name ≡ flow.name.text
-flow_name job seen flow p e = let q = parts_of (flow_from flow) (flow_type job.given flow) (ways_of job seen flow.deps) p e in ap (λ (f : FlowPlan). f.name) (sym q.4)
+flow_name job seen flow p e = let q = parts_of (flow_from flow) (flow_type job.given flow) (directions_of job seen flow.deps) p e in ap (λ (f : FlowPlan). f.name) (sym q.4)

@@ -1,6 +1,7 @@
 -- A class whose names are resolved, and that breaks no rule, is one that a plan may have.
 use Rattle.std.proofs.Common.{◌≡◌, ℕ, suc, Bool, List, [], ◌∷◌, ◌++◌, length, map, flat_map, Option, Some, Ok, Err, IsTrue, refl, sym, ◌∙◌, ap, subst}
 use Rattle.std.specs.List.{list_all, AllByRecursion}
+use Rattle.std.specs.Result.{result_ok}
 use Rattle.std.proofs.lemmas.List.{length-map}
 use Rattle.std.proofs.lemmas.Simd.{map-map}
 use Rattle.term_core.specs.WellBody.{IsWellBody}
@@ -18,6 +19,7 @@ use Rattle.plan_core.specs.Flows.{is_flow}
 use Rattle.plan_core.specs.Bodies.{respects_kinds}
 use Rattle.plan_core.specs.WellMade.{IsWellClass}
 use Rattle.check_names.specs.Alphabet.{JdfFault, DefTree, FlowTree, ClassTree, NameTwice}
+use Rattle.check_names.specs.Faults.{resolved_faults}
 use Rattle.check_names.specs.Names.{Job}
 use Rattle.check_names.specs.Repeats.{repeats}
 use Rattle.check_names.specs.Returns.{both, each}
@@ -35,7 +37,7 @@ use Rattle.check_flows.specs.PartsOfJob.{HaveParts}
 use Rattle.check_flows.proofs.Elements.{element_exists}
 use Rattle.check_flows.proofs.WellFlows.{well_flow}
 use Rattle.flow_check.proofs.FlowParts.{flow_is, flow_name}
-use Rattle.flow_check.specs.Bodies.{BodyResult, ReadsAs, ReadsBody, body_faults, body_of}
+use Rattle.flow_check.specs.Bodies.{BodyResult, ReadsAs, ReadsBody}
 use Rattle.flow_check.specs.Classes.{flows_of, head_from, head_of, head_faults, class_from, class_plan, class_faults}
 use Rattle.flow_check.proofs.BodyKinds.{kinds_of}
 use Rattle.flow_check.proofs.WellBodies.{fit_body, fit_words}
@@ -50,12 +52,12 @@ pub record IsClassOf (job : Job) (class : ClassTree) (b : BodyResult) (c : Class
   pub affinity : element_of job class.defs class.affinity class.affinity_args ≡ Some (c.affinity.coll, c.affinity.indices)
   pub flows : flows_of job class.defs class.flows ≡ Some c.flows
   pub priority : option_term job class.defs class.priority ≡ Some c.priority
-  pub body : body_of b ≡ Some (c.body, c.trap_words)
+  pub body : result_ok b ≡ Some (c.body, c.trap_words)
   pub name : c.name ≡ class.name.text
 
 pub class_of : (job : Job) (class : ClassTree) (b : BodyResult) (z : ClassPlan × ClassSpace) → class_plan job class b ≡ Some z → IsClassOf job class b z.0 z.1
 class_of job class b z e =
-    let q = parts_of (class_from class) (head_of job class) (body_of b) z e in
+    let q = parts_of (class_from class) (head_of job class) (result_ok b) z e in
     let place = both (λ x y. (x, y)) (space_of job class.params class.defs) (element_of job class.defs class.affinity class.affinity_args) in
     let rest = both (λ x y. (x, y)) (flows_of job class.defs class.flows) (option_term job class.defs class.priority) in
     let halves = parts_of head_from place rest q.0 q.2 in
@@ -88,7 +90,7 @@ parts_sound f g p P h (x ∷ xs) ys all none e =
 
 -- ---- the body
 
-body_read : (b : BodyResult) (y : Body × List (List ℕ)) → body_of b ≡ Some y → b ≡ Ok y
+body_read : (b : BodyResult) (y : Body × List (List ℕ)) → result_ok b ≡ Some y → b ≡ Ok y
 body_read (Ok x) y e = ap (λ z. Ok z) (same_Some x y e)
 body_read (Err f) y e = absurd cc
 
@@ -122,7 +124,7 @@ module _ (job : Job) (classes : List ClassPlan) (spaces : List ClassSpace) (coll
       let named = repeats (λ (f : FlowTree). f.name) NameTwice class.flows in
       let flows = flat_map (flow_faults job class.defs) class.flows in
       let priority = option_faults job class.defs class.priority in
-      let head : (space ++ element) ++ ((flows ++ named) ++ priority) ≡ [] = first_nil (head_faults job class) (body_faults b) h in
+      let head : (space ++ element) ++ ((flows ++ named) ++ priority) ≡ [] = first_nil (head_faults job class) (resolved_faults b) h in
       let place : space ++ element ≡ [] = first_nil (space ++ element) ((flows ++ named) ++ priority) head in
       let rest : flows ++ named ≡ [] = first_nil (flows ++ named) priority (rest_nil (space ++ element) ((flows ++ named) ++ priority) head) in
       let count = sym (defs_count job class s is.space) in

@@ -1,11 +1,12 @@
 -- The body of a class: what its names may mean, and what reading it gives. Source: the JDF documentation for what a
 -- class has; the language of bodies is this project's own choice.
-use Rattle.std.specs.Prelude.{◌≡◌, ℕ, List, [], ◌∷◌, map, Option, Some, None, is_some, Result, Ok, Err}
+use Rattle.std.specs.Prelude.{◌≡◌, ℕ, List, map, is_some, Ok, Err}
 use Rattle.term_core.specs.declared.body.Body.{Body}
+use Rattle.expr_names.specs.Symbols.{Resolved}
 use Rattle.body_names.specs.Environment.{Environment}
 use Rattle.body_names.specs.declared.scope.FlowName.{FlowName}
 use Rattle.body_lang.specs.Body.{IsBody, IsBodyFault}
-use Rattle.check_names.specs.Alphabet.{JdfFault, DefTree, FlowTree, ClassTree}
+use Rattle.check_names.specs.Alphabet.{DefTree, FlowTree, ClassTree}
 use Rattle.check_names.specs.Names.{Job, int_named, coll_named}
 
 -- the definitions of a class by name
@@ -25,7 +26,7 @@ pub record IsEnvironment (job : Job) (class : ClassTree) (scope : Environment) :
 
 -- what reading a body gives: the body and its trap words, or its first fault
 abbrev pub BodyResult : Type 0
-BodyResult = Result (Body × List (List ℕ)) JdfFault
+BodyResult = Resolved (Body × List (List ℕ))
 
 -- The tokens of a body are a body, or have a first fault. In a text that is broken the names after that place do not
 -- count.
@@ -38,13 +39,3 @@ pub record ReadsBody (job : Job) (class : ClassTree) (body : BodyResult) : Type 
   pub scope : Environment
   pub means : IsEnvironment job class scope
   pub reads : ReadsAs scope class body
-
--- the faults of a body that was read so: the first one, if it has one
-abbrev pub body_faults : BodyResult → List JdfFault
-body_faults (Ok x) = []
-body_faults (Err f) = f ∷ []
-
--- the body and its trap words, if it has no fault
-abbrev pub body_of : BodyResult → Option (Body × List (List ℕ))
-body_of (Ok x) = Some x
-body_of (Err f) = None

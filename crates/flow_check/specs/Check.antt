@@ -40,7 +40,8 @@ pub record IsClassRead (job : Job) (class : ClassTree)
   pub read : ReadsBody job class body
   pub checked : ReturnsChecked r (class_plan job class body) (class_faults job class body)
 
--- The same of some classes in order.
+-- The result of resolving some classes in order: their bodies were read, and it is what the classes mean, or the first
+-- of their faults.
 pub record AreRead (job : Job) (classes : List ClassTree)
     (r : Result (List ClassPlan × List ClassSpace) (Refusal JdfFault)) : Type 0 where
   pub bodies : List BodyResult

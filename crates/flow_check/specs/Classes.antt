@@ -1,11 +1,13 @@
 -- A class of tasks, outside of its body and with it. Source: the JDF documentation.
 use Rattle.std.specs.Prelude.{ℕ, List, ◌++◌, flat_map, Option}
+use Rattle.std.specs.Result.{result_ok}
 use Rattle.term_core.specs.Term.{Term}
 use Rattle.term_core.specs.declared.body.Body.{Body}
 use Rattle.term_core.specs.declared.space.ClassSpace.{ClassSpace}
 use Rattle.plan_core.specs.declared.class.ClassPlan.{ClassPlan}
 use Rattle.plan_core.specs.declared.flow.FlowPlan.{FlowPlan}
 use Rattle.check_names.specs.Alphabet.{JdfFault, DefTree, FlowTree, ClassTree, NameTwice}
+use Rattle.check_names.specs.Faults.{resolved_faults}
 use Rattle.check_names.specs.Returns.{both, each}
 use Rattle.check_names.specs.Repeats.{repeats}
 use Rattle.check_names.specs.Names.{Job}
@@ -14,12 +16,13 @@ use Rattle.check_names.specs.Definitions.{space_of, space_faults}
 use Rattle.check_flows.specs.Places.{element_faults, element_of}
 use Rattle.check_flows.specs.Dependences.{flow_faults, flow_plan}
 use Rattle.flow_check.specs.declared.head.ClassHead.{ClassHead}
-use Rattle.flow_check.specs.Bodies.{BodyResult, body_faults, body_of}
+use Rattle.flow_check.specs.Bodies.{BodyResult}
 
--- the flows of a class, and all their faults
+-- the flows of a class, with their names resolved
 abbrev pub flows_of : Job → List DefTree → List FlowTree → Option (List FlowPlan)
 flows_of job seen flows = each (flow_plan job seen) flows
 
+-- the faults of the flows of a class
 abbrev pub flows_faults : Job → List DefTree → List FlowTree → List JdfFault
 flows_faults job seen flows =
     flat_map (flow_faults job seen) flows ++ repeats (λ (f : FlowTree). f.name) NameTwice flows
@@ -33,6 +36,7 @@ head_from place rest = record {
   priority = rest.1;
 }
 
+-- the parts of a class outside of its body, with their names resolved
 abbrev pub head_of : Job → ClassTree → Option ClassHead
 head_of job class =
     both head_from
@@ -62,8 +66,8 @@ class_from class head b = (
 
 -- a class and its space with all names resolved, whose body was read so
 abbrev pub class_plan : Job → ClassTree → BodyResult → Option (ClassPlan × ClassSpace)
-class_plan job class body = both (class_from class) (head_of job class) (body_of body)
+class_plan job class body = both (class_from class) (head_of job class) (result_ok body)
 
 -- all faults of a class whose body was read so
 abbrev pub class_faults : Job → ClassTree → BodyResult → List JdfFault
-class_faults job class body = head_faults job class ++ body_faults body
+class_faults job class body = head_faults job class ++ resolved_faults body

@@ -18,5 +18,5 @@ abbrev pub with_value : {V : Type 0} → List (List ℕ × V) → List ℕ × V 
 with_value table x = if is_some (value_named table x.0) then table else table ++ x ∷ []
 
 -- whether the tables have no global of this name
-abbrev pub lacks : Globals → List ℕ → Bool
-lacks globals name = not (is_some (value_named globals.ints name) || is_some (value_named globals.colls name))
+abbrev pub is_missing_here : Globals → List ℕ → Bool
+is_missing_here globals name = not (is_some (value_named globals.ints name) || is_some (value_named globals.colls name))

@@ -1,7 +1,6 @@
 -- What follows from the definitions of the plan and of the first fault.
-use Rattle.std.specs.Prelude.{◌≡◌, ◌⊎◌, List, [], map}
-use Rattle.std.specs.Option.{IsSome}
-use Rattle.jdf_tree.specs.TreeLimits.{IsClassWithinLimits, IsWithinLimits}
+use Rattle.std.specs.Prelude.{◌≡◌, List, map}
+use Rattle.jdf_tree.specs.TreeLimits.{IsWithinLimits}
 use Rattle.term_core.specs.declared.space.ClassSpace.{ClassSpace}
 use Rattle.coll_data.specs.WellMade as well_data
 use Rattle.coll_data.specs.WellMade.{elements_by_type}
@@ -9,10 +8,8 @@ use Rattle.plan_core.specs.WellMade.{IsWellMade}
 use Rattle.plan_core.specs.declared.class.ClassPlan.{ClassPlan}
 use Rattle.plan_core.specs.declared.plan.Plan.{Plan}
 use Rattle.plan_data.specs.Fit.{shape_of}
-use Rattle.check_names.specs.Alphabet.{JdfFault, ClassTree}
+use Rattle.check_names.specs.Alphabet.{JdfFault}
 use Rattle.check_names.specs.Names.{Job}
-use Rattle.flow_check.specs.Bodies.{BodyResult, ReadsBody}
-use Rattle.flow_check.specs.Classes.{class_plan, class_faults}
 use Rattle.flow_check.specs.Check.{AreResolved, IsFirstFault}
 use Rattle.flow_check.specs.Plans.{IsPlan}
 
@@ -28,7 +25,7 @@ ResolvedIsWellMade =
     → well_data.IsWellMade job.given → AreResolved job classes spaces
     → IsWellMade classes spaces (map shape_of job.given.colls) (elements_by_type job.given)
 
--- So a JDF and its data whose classes are resolved have a plan.
+-- A JDF and its data whose classes are resolved have a plan.
 abbrev pub ResolvedIsAPlan : Type 0
 ResolvedIsAPlan =
     (job : Job) (classes : List ClassPlan) (spaces : List ClassSpace) → IsWithinLimits job.jdf

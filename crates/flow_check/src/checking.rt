@@ -23,7 +23,7 @@ fn answer(alloc: Global, jdf: &Jdf, given: &Given, globals: &Globals) -> Result<
     requires globals { AreGlobals (record { jdf = jdf.now; given = given.now }) globals.now }
     ensures { ReturnsPlan (record { jdf = jdf.now; given = given.now }) result }
 {
-    given.is_well_made();
+    given.data_are_well_made();
     let context = Context {
         alloc,
         jdf,

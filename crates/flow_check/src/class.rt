@@ -1,9 +1,9 @@
 //! The classes of a JDF with their bodies.
 
 ghost use Rattle.std.specs.Prelude.{◌≡◌, IfOk};
+ghost use Rattle.jdf_tree.specs.TreeLimits.{IsClassWithinLimits};
 ghost use Rattle.body_names.specs.Environment.{environment_of};
 ghost use Rattle.check_names.specs.Contexts.{IsContext, job_of};
-ghost use Rattle.check_names.specs.Limits.{IsBoundedClass};
 ghost use Rattle.check_names.specs.Returns.{ReturnsChecked};
 ghost use Rattle.plan_core.specs.declared.class.ClassPlan.{ClassPlan};
 ghost use Rattle.term_core.specs.declared.space.ClassSpace.{ClassSpace};
@@ -44,7 +44,7 @@ fn body(alloc: Global, class: &ClassTree, scope: &Scope) -> Result<BodyResult, O
 fn class(context: &Context, class: &ClassTree, body: BodyResult) -> ClassResult
     requires context { IsContext context.now }
     requires seen { context.now.seen.now ≡ class.now.defs }
-    requires bounded { IsBoundedClass class.now }
+    requires bounded { IsClassWithinLimits class.now }
     ensures { ReturnsChecked {A = ClassPlan × ClassSpace} result (class_plan (job_of context.now) class.now body)
         (class_faults (job_of context.now) class.now body) }
 {
@@ -71,7 +71,7 @@ fn class(context: &Context, class: &ClassTree, body: BodyResult) -> ClassResult
 /// A class with all names resolved, and its space: its body, and then all that is outside of it.
 pub(crate) fn class_read(context: &Context, one: &ClassTree) -> Result<ClassResult, OutOfMemory>
     requires context { IsContext context.now }
-    requires bounded { IsBoundedClass one.now }
+    requires bounded { IsClassWithinLimits one.now }
     ensures { IfOk result (λ r. IsClassRead (job_of context.now) one.now r) }
 {
     let scope = scope_of(context, one)?;

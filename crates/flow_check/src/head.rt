@@ -1,8 +1,8 @@
 //! The parts of a class outside of its body.
 
 ghost use Rattle.std.specs.Prelude.{◌≡◌};
+ghost use Rattle.jdf_tree.specs.TreeLimits.{IsClassWithinLimits};
 ghost use Rattle.check_names.specs.Contexts.{IsContext, job_of};
-ghost use Rattle.check_names.specs.Limits.{IsBoundedClass};
 ghost use Rattle.check_names.specs.Returns.{ReturnsChecked};
 ghost use Rattle.flow_check.specs.Classes.{flows_of, flows_faults, head_of, head_faults};
 
@@ -40,7 +40,7 @@ fn flows(context: &Context, flows: &[FlowTree]) -> Result<Seq<FlowPlan>, JdfRefu
 pub(crate) fn head(context: &Context, class: &ClassTree) -> Result<ClassHead, JdfRefusal>
     requires context { IsContext context.now }
     requires seen { context.now.seen.now ≡ class.now.defs }
-    requires bounded { IsBoundedClass class.now }
+    requires bounded { IsClassWithinLimits class.now }
     ensures { ReturnsChecked {A = ClassHead} result (head_of (job_of context.now) class.now)
         (head_faults (job_of context.now) class.now) }
 {

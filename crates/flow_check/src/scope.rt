@@ -1,9 +1,9 @@
 //! What the names in the body of a class mean.
 
 ghost use Rattle.std.specs.Prelude.{◌≡◌, IfOk};
+ghost use Rattle.jdf_tree.specs.TreeLimits.{IsClassWithinLimits};
 ghost use Rattle.body_names.specs.Environment.{environment_of};
 ghost use Rattle.check_names.specs.Contexts.{IsContext, job_of};
-ghost use Rattle.check_names.specs.Limits.{IsBoundedClass};
 ghost use Rattle.flow_check.specs.Bodies.{local_names, flow_names, IsEnvironment};
 
 use body_names::{FlowName, Scope};
@@ -44,7 +44,7 @@ pub(crate) fn scope_of<'a>(
     class: &ClassTree,
 ) -> Result<Scope<'a>, OutOfMemory>
     requires context { IsContext context.now }
-    requires bounded { IsBoundedClass class.now }
+    requires bounded { IsClassWithinLimits class.now }
     ensures { IfOk result (λ scope. IsEnvironment (job_of context.now) class.now (environment_of scope)) }
 {
     let locals = local_names(context.alloc, class.defs.as_slice())?;

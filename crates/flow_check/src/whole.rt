@@ -3,10 +3,10 @@
 ghost use Rattle.std.specs.Prelude.{[], ◌∷◌, ◌++◌, List, Option, Some, IfOk};
 ghost use Rattle.std.specs.List.{AllByRecursion};
 ghost use Rattle.jdf_lex.specs.declared.fault.JdfFault.{JdfFault};
+ghost use Rattle.jdf_tree.specs.TreeLimits.{IsClassWithinLimits};
 ghost use Rattle.plan_core.specs.declared.class.ClassPlan.{ClassPlan};
 ghost use Rattle.term_core.specs.declared.space.ClassSpace.{ClassSpace};
 ghost use Rattle.check_names.specs.Contexts.{IsContext, job_of};
-ghost use Rattle.check_names.specs.Limits.{IsBoundedClass};
 ghost use Rattle.check_names.specs.Returns.{ReturnsChecked, both};
 ghost use Rattle.jdf_tree.specs.declared.expression.Word.{Word};
 ghost use Rattle.jdf_tree.specs.declared.tree.ClassTree.{ClassTree};
@@ -53,7 +53,7 @@ fn with_class(classes: ClassesResult, class: ClassResult) -> ClassesResult
 // Some classes with all names resolved, and their spaces.
 fn read_classes(context: &Context, classes: &[ClassTree]) -> Result<ClassesResult, OutOfMemory>
     requires context { IsContext context.now }
-    requires bounded { AllByRecursion IsBoundedClass classes.now }
+    requires bounded { AllByRecursion IsClassWithinLimits classes.now }
     ensures { IfOk result (λ r. AreRead (job_of context.now) classes.now r) }
 {
     let mut results = Ok((Seq::new(context.alloc), Seq::new(context.alloc)));

@@ -19,7 +19,7 @@ use Rattle.dep_iter.specs.Consistent.{IsConsistent}
 use Rattle.dep_iter.proofs.Once.{once-in_edges}
 use Rattle.list_lemmas.specs.Counting.{as_number, count, weigh}
 use Rattle.flow_meaning.specs.Comparing.{same_item}
-use Rattle.flow_meaning.specs.Machine.{MachineState, Sent, arrived, is_sent, send_count, sender}
+use Rattle.flow_meaning.specs.Machine.{MachineState, SentItem, arrived, is_sent, send_count, sender}
 use Rattle.flow_meaning.specs.Sound.{IsSoundState}
 use Rattle.flow_meaning.proofs.Comparing.{same_item-decides}
 use Rattle.flow_meaning.proofs.Members.{in_edge_to}
@@ -56,7 +56,7 @@ module _ (P : Plan) (G : Data) (con : IsConsistent P) (S : MachineState) (sound 
       omega (arith, none, ap as_number k))
   here (item.Write w) into = weigh-none (in_edges P t)
 
-  into_target : (x : Sent) → IsIn x S.sends → (e : Edge) → x.item ≡ item.Edge e → IsIn e (in_edges P e.to)
+  into_target : (x : SentItem) → IsIn x S.sends → (e : Edge) → x.item ≡ item.Edge e → IsIn e (in_edges P e.to)
   into_target x i e q =
       let out = sound.sent_are_outputs x i in
       let task = subst (λ j. IsTask P (sender j)) q (sound.claimed_have_all _ out.claimed).task in
@@ -65,5 +65,5 @@ module _ (P : Plan) (G : Data) (con : IsConsistent P) (S : MachineState) (sound 
   pub arrived_are : arrived P S t ≡ edges_to t S.sends
   arrived_are =
       weigh-same (λ e. send_count S (item.Edge e)) (λ e. as_number (is_sent S (item.Edge e))) (in_edges P t) (λ e _. test_of (send_count S (item.Edge e)) (sound.sent_once (item.Edge e)))
-      ∙ weigh-swap (λ (e : Edge) (x : Sent). as_number (same_item (item.Edge e) x.item)) (in_edges P t) S.sends
-      ∙ weigh-same (λ (x : Sent). as_number (is_edge_to t x.item)) (λ (x : Sent). count (λ e. same_item (item.Edge e) x.item) (in_edges P t)) S.sends (λ x i. here x.item (into_target x i))
+      ∙ weigh-swap (λ (e : Edge) (x : SentItem). as_number (same_item (item.Edge e) x.item)) (in_edges P t) S.sends
+      ∙ weigh-same (λ (x : SentItem). as_number (is_edge_to t x.item)) (λ (x : SentItem). count (λ e. same_item (item.Edge e) x.item) (in_edges P t)) S.sends (λ x i. here x.item (into_target x i))

@@ -30,7 +30,7 @@ use Rattle.list_lemmas.specs.Counting.{as_number, count}
 use Rattle.flow_meaning.specs.Ending.{Ended, has_outputs, output_tile}
 use Rattle.flow_meaning.specs.Backward.{ended}
 use Rattle.flow_meaning.specs.Comparing.{same_item}
-use Rattle.flow_meaning.specs.Machine.{Claim, MachineState, MayClaim, Send, Sent, arrived, end_in, is_sent, send_count, sender, state_after}
+use Rattle.flow_meaning.specs.Machine.{Claim, MachineState, MayClaim, Send, SentItem, arrived, end_in, is_sent, send_count, sender, state_after}
 use Rattle.flow_meaning.specs.Sound.{IsSoundState}
 use Rattle.flow_meaning.proofs.Events.{ends_so, event_sound}
 use Rattle.flow_meaning.proofs.Arriving.{arrives}
@@ -53,7 +53,7 @@ end_event r t end = λ i. record { claims = keys_set (same_task t) r.claims (Som
 
 -- how often an item was sent after one more send
 pub send_counts : (r : RunState) (i j : Item) → send_count (machine (with_send i r)) j ≡ send_count (machine r) j + as_number (same_item j i)
-send_counts r i j = weigh-push (λ (x : Sent). as_number (same_item j x.item)) r.sends (send_of r i)
+send_counts r i j = weigh-push (λ (x : SentItem). as_number (same_item j x.item)) r.sends (send_of r i)
 
 pub sends_stay : (r : RunState) (i j : Item) → is_sent (machine r) j ≡ true → is_sent (machine (with_send i r)) j ≡ true
 sends_stay r i j h =
@@ -285,40 +285,40 @@ write_by P i w left b is all h =
     subst (λ j. IsTrue b ↔ IsIn j (items P (sender j))) (sym is) (λ k. write_item (items P w.from) w (own.0 k), λ k. own.1 (item_write (items P w.from) w k))
 
 -- the counts of a table after one more item is sent
-pub counts_push : (old new : List (Task × ℕ)) (claims : List (Task × Option Ended)) (sends : List Sent) (x : Sent) → CountsArrivals old claims sends
+pub counts_push : (old new : List (Task × ℕ)) (claims : List (Task × Option Ended)) (sends : List SentItem) (x : SentItem) → CountsArrivals old claims sends
     → ((u : Task) → number_at new u ≡ number_at old u + as_number (is_edge_to u x.item)) → CountsArrivals new claims (sends ++ x ∷ [])
 counts_push old new claims sends x counts more u none =
-    omega (arith, more u, counts u none, weigh-push (λ (y : Sent). as_number (is_edge_to u y.item)) sends x)
+    omega (arith, more u, counts u none, weigh-push (λ (y : SentItem). as_number (is_edge_to u y.item)) sends x)
 
 -- the counts of a table after a claim, where the other tasks keep their numbers
-pub counts_claim : (old new : List (Task × ℕ)) (claims : List (Task × Option Ended)) (sends : List Sent) (t : Task) → CountsArrivals old claims sends
+pub counts_claim : (old new : List (Task × ℕ)) (claims : List (Task × Option Ended)) (sends : List SentItem) (t : Task) → CountsArrivals old claims sends
     → ((u : Task) → same_task u t ≡ false → lookup (same_task u) new ≡ lookup (same_task u) old) → CountsArrivals new (claims ++ (t, None) ∷ []) sends
 counts_claim old new claims sends t counts others u none =
     let before = none_before (same_task u) claims t None none in
     ap (λ o. unwrap_or o 0) (others u before.1) ∙ counts u before.0
 
 -- the counts of a table after a task has ended
-pub counts_end : (table : List (Task × ℕ)) (claims : List (Task × Option Ended)) (sends : List Sent) (t : Task) (end : Ended) → CountsArrivals table claims sends
+pub counts_end : (table : List (Task × ℕ)) (claims : List (Task × Option Ended)) (sends : List SentItem) (t : Task) (end : Ended) → CountsArrivals table claims sends
     → CountsArrivals table (set_value (same_task t) claims (Some end)) sends
 counts_end table claims sends t end counts u none =
     let zero = (key_count u (set_value (same_task t) claims (Some end))).0 none in
     counts u ((key_count u claims).1 (sym (ap (count (same_task u)) (keys_set (same_task t) claims (Some end))) ∙ zero))
 
 -- the claims after a new task is entered, and the run then
-pub grown : (claims new : List (Task × Option Ended)) (sends : List Sent) (outputs : List (Task × Tiles)) (r : RunState) (t key : Task) → record { claims = claims; sends = sends; outputs = outputs } ≡ r → mark_of r t ≡ None → key ≡ t
+pub grown : (claims new : List (Task × Option Ended)) (sends : List SentItem) (outputs : List (Task × Tiles)) (r : RunState) (t key : Task) → record { claims = claims; sends = sends; outputs = outputs } ≡ r → mark_of r t ≡ None → key ≡ t
     → new ≡ insert_entry same_task claims key None → new ≡ claims ++ (t, None) ∷ []
 grown claims new sends outputs r t key view none same e =
     let here : lookup (same_task key) claims ≡ None = ap (λ k. lookup (same_task k) claims) same ∙ ap (λ (s : RunState). mark_of s t) view ∙ none in
     e ∙ insert_entry-absent same_task key None claims (absent_from_lookup (same_task key) claims here) ∙ ap (λ k. claims ++ (k, None) ∷ []) same
 
-pub entered : (claims new : List (Task × Option Ended)) (sends : List Sent) (outputs : List (Task × Tiles)) (r : RunState) (t key : Task) → record { claims = claims; sends = sends; outputs = outputs } ≡ r → mark_of r t ≡ None → key ≡ t
+pub entered : (claims new : List (Task × Option Ended)) (sends : List SentItem) (outputs : List (Task × Tiles)) (r : RunState) (t key : Task) → record { claims = claims; sends = sends; outputs = outputs } ≡ r → mark_of r t ≡ None → key ≡ t
     → new ≡ insert_entry same_task claims key None → record { claims = new; sends = sends; outputs = outputs } ≡ with_claim t r
 entered claims new sends outputs r t key view none same e =
     let now : record { claims = new; sends = sends; outputs = outputs } ≡ with_claim t (record { claims = claims; sends = sends; outputs = outputs }) = λ i. record { claims = grown claims new sends outputs r t key view none same e i; sends = sends; outputs = outputs } in
     now ∙ ap (with_claim t) view
 
 -- the run after a task is marked with its end
-pub ended_run : (claims new : List (Task × Option Ended)) (sends then : List Sent) (outputs left : List (Task × Tiles)) (r : RunState) (t : Task) (end : Ended) → record { claims = claims; sends = sends; outputs = outputs } ≡ r
+pub ended_run : (claims new : List (Task × Option Ended)) (sends then : List SentItem) (outputs left : List (Task × Tiles)) (r : RunState) (t : Task) (end : Ended) → record { claims = claims; sends = sends; outputs = outputs } ≡ r
     → new ≡ set_value (same_task t) claims (Some end) → then ≡ sends → left ≡ with_tiles t end outputs → record { claims = new; sends = then; outputs = left } ≡ with_end t end r
 ended_run claims new sends then outputs left r t end view e s o =
     let now : record { claims = new; sends = then; outputs = left } ≡ with_end t end (record { claims = claims; sends = sends; outputs = outputs }) = λ i. record { claims = e i; sends = s i; outputs = o i } in

@@ -18,7 +18,7 @@ use Rattle.list_lemmas.specs.Counting.{as_number}
 use Rattle.dep_iter.proofs.Items.{Edge-injective}
 use Rattle.flow_meaning.specs.Comparing.{same_item}
 use Rattle.flow_meaning.specs.Ending.{Ended}
-use Rattle.flow_meaning.specs.Machine.{Sent, first_tile}
+use Rattle.flow_meaning.specs.Machine.{SentItem, first_tile}
 use Rattle.flow_core.specs.Arrivals.{is_edge_to}
 use Rattle.flow_core.specs.Kept.{AreKept, SentAndKept, TakesOnlyTo, is_read, is_write, kept_with, sent_as, with_sent, written}
 use Rattle.flow_core.specs.Rows.{write_with, writes_among}
@@ -26,7 +26,7 @@ use Rattle.flow_core.specs.SentItems.{IsUnsent, all_sent}
 use Rattle.flow_core.proofs.Lookups.{end_push, same}
 
 -- an item was not sent where it is not found
-pub unsent_as : (i : Item) (xs : List Sent) → (sent_as i xs ≡ None) ↔ IsUnsent xs i
+pub unsent_as : (i : Item) (xs : List SentItem) → (sent_as i xs ≡ None) ↔ IsUnsent xs i
 unsent_as i [] = (λ _. refl, λ _. refl)
 unsent_as i (x ∷ xs) =
     by_test (same_item i x.item)
@@ -39,7 +39,7 @@ unsent_as i (x ∷ xs) =
     (λ none. omega (arith, ap as_number k, rest.0 (sym next ∙ none)), λ zero. next ∙ rest.1 (omega (arith, ap as_number k, zero))))
 
 -- the tile that was first sent with an item
-pub tile_as : (i : Item) (xs : List Sent) → option_flatten (sent_as i xs) ≡ first_tile i xs
+pub tile_as : (i : Item) (xs : List SentItem) → option_flatten (sent_as i xs) ≡ first_tile i xs
 tile_as i [] = refl
 tile_as i (x ∷ xs) =
     by_test (same_item i x.item)
@@ -57,7 +57,7 @@ abbrev or_else : Option (Option (List ℤ)) → Option (Option (List ℤ)) → O
 or_else None o = o
 or_else (Some x) o = Some x
 
-as_push : (i : Item) (xs : List Sent) (x : Sent) → sent_as i (xs ++ x ∷ []) ≡ or_else (sent_as i xs) (cond (same_item i x.item) (Some x.tile) None)
+as_push : (i : Item) (xs : List SentItem) (x : SentItem) → sent_as i (xs ++ x ∷ []) ≡ or_else (sent_as i xs) (cond (same_item i x.item) (Some x.tile) None)
 as_push i [] x = refl
 as_push i (y ∷ ys) x =
     by_test (same_item i y.item)
@@ -68,14 +68,14 @@ or_none : (o : Option (Option (List ℤ))) → or_else o None ≡ o
 or_none None = refl
 or_none (Some x) = refl
 
-both_push : (i : Item) (xs ys : List Sent) (x : Sent) → sent_as i xs ≡ sent_as i ys → sent_as i (xs ++ x ∷ []) ≡ sent_as i (ys ++ x ∷ [])
+both_push : (i : Item) (xs ys : List SentItem) (x : SentItem) → sent_as i xs ≡ sent_as i ys → sent_as i (xs ++ x ∷ []) ≡ sent_as i (ys ++ x ∷ [])
 both_push i xs ys x e = as_push i xs x ∙ ap (λ o. or_else o (cond (same_item i x.item) (Some x.tile) None)) e ∙ sym (as_push i ys x)
 
-other_push : (i : Item) (xs : List Sent) (x : Sent) → same_item i x.item ≡ false → sent_as i (xs ++ x ∷ []) ≡ sent_as i xs
+other_push : (i : Item) (xs : List SentItem) (x : SentItem) → same_item i x.item ≡ false → sent_as i (xs ++ x ∷ []) ≡ sent_as i xs
 other_push i xs x k = as_push i xs x ∙ ap (λ b. or_else (sent_as i xs) (cond b (Some x.tile) None)) k ∙ or_none (sent_as i xs)
 
 -- the write-backs after one more item is sent
-written_push : (xs : List Sent) (x : Sent) (b : Bool) → is_write x.item ≡ b → written (xs ++ x ∷ []) ≡ cond b (written xs ++ x ∷ []) (written xs)
+written_push : (xs : List SentItem) (x : SentItem) (b : Bool) → is_write x.item ≡ b → written (xs ++ x ∷ []) ≡ cond b (written xs ++ x ∷ []) (written xs)
 written_push [] x true k = ap (λ b. cond b (x ∷ []) []) k
 written_push [] x false k = ap (λ b. cond b (x ∷ []) []) k
 written_push (y ∷ ys) x b k = by (is_write y.item) b (written_push ys x b k)
@@ -88,7 +88,7 @@ written_push (y ∷ ys) x b k = by (is_write y.item) b (written_push ys x b k)
     by false false e = e
 
 -- a write-back is found among the write-backs as among all items
-written_as : (w : WriteBack) (xs : List Sent) → sent_as (item.Write w) (written xs) ≡ sent_as (item.Write w) xs
+written_as : (w : WriteBack) (xs : List SentItem) → sent_as (item.Write w) (written xs) ≡ sent_as (item.Write w) xs
 written_as w [] = refl
 written_as w (x ∷ xs) = by (written_as w xs) x.item refl
   where
@@ -99,7 +99,7 @@ written_as w (x ∷ xs) = by (written_as w xs) x.item refl
     by rest (item.Write v) q =
         ap (λ i. sent_as (item.Write w) (cond (is_write i) (x ∷ written xs) (written xs))) q ∙ ap (λ o. cond (same_item (item.Write w) x.item) (Some x.tile) o) rest
 
-pub writes_of_written : (xs : List Sent) → writes_among (written xs) ≡ writes_among xs
+pub writes_of_written : (xs : List SentItem) → writes_among (written xs) ≡ writes_among xs
 writes_of_written [] = refl
 writes_of_written (x ∷ xs) = by (writes_of_written xs) x.item refl
   where
@@ -129,7 +129,7 @@ unkept claims s h i unread b is = by (sent_as i s.sends) refl
     by (Some x) k = (λ t. absurd (false≢true (sym (ap not (some ∙ ap is_some k)) ∙ t)), λ u. let no : Some x ≡ None = sym k ∙ (unsent_as i s.sends).1 u in cc)
 
 -- after one more item is sent
-pub kept_push : (claims : List (Task × Option Ended)) (s : SentAndKept) (x : Sent) → AreKept claims s → AreKept claims (with_sent s x)
+pub kept_push : (claims : List (Task × Option Ended)) (s : SentAndKept) (x : SentItem) → AreKept claims s → AreKept claims (with_sent s x)
 kept_push claims s x h = record { edges = λ e unread. edges e unread x.item refl; writes = writes (is_write x.item) refl }
   where
     edges : (e : Edge) → is_read claims (item.Edge e) ≡ false → (i : Item) → x.item ≡ i → sent_as (item.Edge e) (cond (is_write x.item) s.edges (s.edges ++ x ∷ [])) ≡ sent_as (item.Edge e) (s.sends ++ x ∷ [])
@@ -163,18 +163,18 @@ kept_end claims t end running s n h takes sends writes = record {
 }
 
 -- taking nothing, and taking the tile of an edge to the task
-pub takes_none : (t : Task) (kept : List Sent) → TakesOnlyTo t kept kept
+pub takes_none : (t : Task) (kept : List SentItem) → TakesOnlyTo t kept kept
 takes_none t kept e other = refl
 
-pub takes_then : (t : Task) (a b c : List Sent) → TakesOnlyTo t a b → TakesOnlyTo t b c → TakesOnlyTo t a c
+pub takes_then : (t : Task) (a b c : List SentItem) → TakesOnlyTo t a b → TakesOnlyTo t b c → TakesOnlyTo t a c
 takes_then t a b c h k e other = k e other ∙ h e other
 
-pub takes_one : (t : Task) (d : Edge) → d.to ≡ t → (old new : List Sent) → ((j : Item) → (item.Edge d ≡ j → ⊥) → sent_as j new ≡ sent_as j old) → TakesOnlyTo t old new
+pub takes_one : (t : Task) (d : Edge) → d.to ≡ t → (old new : List SentItem) → ((j : Item) → (item.Edge d ≡ j → ⊥) → sent_as j new ≡ sent_as j old) → TakesOnlyTo t old new
 takes_one t d to old new others e other =
     others (item.Edge e) (λ q. false≢true (sym other ∙ (same_task-decides t e.to).1 (sym to ∙ ap (λ (x : Edge). x.to) (Edge-injective d e q))))
 
 -- other edges keep their tiles
-pub other_tile : (i j : Item) (old new : List Sent) → sent_as j new ≡ sent_as j old → first_tile j new ≡ first_tile j old
+pub other_tile : (i j : Item) (old new : List SentItem) → sent_as j new ≡ sent_as j old → first_tile j new ≡ first_tile j old
 other_tile i j old new h = sym (tile_as j new) ∙ ap option_flatten h ∙ tile_as j old
 
 -- an edge to a running task was not read, nor an item that goes to no claimed task

@@ -22,7 +22,7 @@ use Rattle.dep_iter.proofs.Listing.{listed}
 use Rattle.dep_iter.proofs.Items.{edge_item, item_edge, item_write, write_item}
 use Rattle.list_lemmas.specs.Counting.{as_number, count}
 use Rattle.flow_meaning.specs.Ending.{Ended, has_outputs}
-use Rattle.flow_meaning.specs.Machine.{Claim, IsQuiescent, MayClaim, Send, Sent, is_sent, sender}
+use Rattle.flow_meaning.specs.Machine.{Claim, IsQuiescent, MayClaim, Send, SentItem, is_sent, sender}
 use Rattle.flow_meaning.specs.Sound.{IsFinished}
 use Rattle.flow_meaning.proofs.Events.{unsent}
 use Rattle.flow_meaning.proofs.Rest.{item_sender, rests}
@@ -55,7 +55,7 @@ module _ {A : Type 0} (Q : A → Type 0) where
   search_ends all s = (λ h. absurd (false≢true h), λ h. absurd ((s.later h).1))
 
 -- an item of a task is unsent exactly if an edge or a write-back is
-module _ (P : Plan) (sends : List Sent) (t : Task) (end : Option Ended) where
+module _ (P : Plan) (sends : List SentItem) (t : Task) (end : Option Ended) where
   pub edge_owed : has_outputs end ≡ true → HasOne (λ (e : Edge). IsUnsent sends (item.Edge e)) (out_edges P t) → IsTrue true ↔ Owes P sends (t, end)
   edge_owed h one = (λ k. (h, (item.Edge one.0, edge_item (items P t) one.0 one.1, one.2)), λ o. refl)
 

@@ -8,7 +8,7 @@ use Rattle.ptg_base.specs.declared.edge.Item.{Item}
 use Rattle.ptg_base.specs.declared.edge.Item.TheVariants as item
 use Rattle.list_lemmas.specs.Counting.{count}
 use Rattle.flow_meaning.specs.Ending.{Ended}
-use Rattle.flow_meaning.specs.Machine.{Sent}
+use Rattle.flow_meaning.specs.Machine.{SentItem}
 
 -- whether an item is an edge into the task
 abbrev pub is_edge_to : Task → Item → Bool
@@ -16,14 +16,14 @@ is_edge_to t (item.Edge e) = same_task t e.to
 is_edge_to t (item.Write w) = false
 
 -- how many of the items that were sent are edges into the task
-abbrev pub edges_to : Task → List Sent → ℕ
-edges_to t sends = count (λ (x : Sent). is_edge_to t x.item) sends
+abbrev pub edges_to : Task → List SentItem → ℕ
+edges_to t sends = count (λ (x : SentItem). is_edge_to t x.item) sends
 
 -- the number that a table has for a task: 0 if it has none
 abbrev pub number_at : List (Task × ℕ) → Task → ℕ
 number_at table t = unwrap_or (lookup (same_task t) table) 0
 
 -- the table has the number of edges that were sent to each task that is not claimed
-abbrev pub CountsArrivals : List (Task × ℕ) → List (Task × Option Ended) → List Sent → Type 0
+abbrev pub CountsArrivals : List (Task × ℕ) → List (Task × Option Ended) → List SentItem → Type 0
 CountsArrivals table claims sends =
     (t : Task) → lookup (same_task t) claims ≡ None → number_at table t ≡ edges_to t sends

@@ -1,4 +1,4 @@
--- What a run keeps beside its claims: counts of arrivals, and tiles. Source: this project's own choice.
+-- What a run keeps besides its claims: counts of arrivals, and tiles. Source: this project's own choice.
 use Rattle.std.specs.Prelude.{ℕ, List, Option}
 use Rattle.ptg_base.specs.Task.{Task}
 use Rattle.flow_meaning.specs.Ending.{Ended}

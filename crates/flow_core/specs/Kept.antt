@@ -9,34 +9,35 @@ use Rattle.ptg_base.specs.declared.edge.Item.{Item}
 use Rattle.ptg_base.specs.declared.edge.Item.TheVariants as item
 use Rattle.flow_meaning.specs.Comparing.{same_item}
 use Rattle.flow_meaning.specs.Ending.{Ended}
-use Rattle.flow_meaning.specs.Machine.{Sent}
+use Rattle.flow_meaning.specs.Machine.{SentItem}
 
 -- the items that were sent, each with its tile; the edges among them that are kept, in any order; and the write-backs,
 -- in the order of the sends
 pub record SentAndKept : Type 0 where
-  pub sends : List Sent
-  pub edges : List Sent
-  pub writes : List Sent
+  pub sends : List SentItem
+  pub edges : List SentItem
+  pub writes : List SentItem
 
+-- whether an item is a write-back
 abbrev pub is_write : Item → Bool
 is_write (item.Edge e) = false
 is_write (item.Write w) = true
 
 -- the write-backs among what was sent
-abbrev pub written : List Sent → List Sent
-written sends = filter (λ (x : Sent). is_write x.item) sends
+abbrev pub written : List SentItem → List SentItem
+written sends = filter (λ (x : SentItem). is_write x.item) sends
 
 -- what was first sent with an item, if it was sent: its tile, or none
-abbrev pub sent_as : Item → List Sent → Option (Option (List ℤ))
+abbrev pub sent_as : Item → List SentItem → Option (Option (List ℤ))
 sent_as i [] = None
 sent_as i (x ∷ xs) = if same_item i x.item then Some x.tile else sent_as i xs
 
 -- the items among which an item is kept
-abbrev pub kept_with : Item → SentAndKept → List Sent
+abbrev pub kept_with : Item → SentAndKept → List SentItem
 kept_with i s = if is_write i then s.writes else s.edges
 
--- the same with one more item
-abbrev pub with_sent : SentAndKept → Sent → SentAndKept
+-- what was sent and is kept with one more sent item
+abbrev pub with_sent : SentAndKept → SentItem → SentAndKept
 with_sent s x = record {
   sends = s.sends ++ x ∷ [];
   edges = if is_write x.item then s.edges else s.edges ++ x ∷ [];
@@ -54,6 +55,6 @@ pub record AreKept (claims : List (Task × Option Ended)) (s : SentAndKept) : Ty
       → sent_as (item.Edge e) s.edges ≡ sent_as (item.Edge e) s.sends
   pub writes : s.writes ≡ written s.sends
 
--- the same edges are kept, but for edges to the task
-abbrev pub TakesOnlyTo : Task → List Sent → List Sent → Type 0
+-- of edges to other tasks than this one, those that were kept are kept
+abbrev pub TakesOnlyTo : Task → List SentItem → List SentItem → Type 0
 TakesOnlyTo t old new = (e : Edge) → same_task t e.to ≡ false → sent_as (item.Edge e) new ≡ sent_as (item.Edge e) old

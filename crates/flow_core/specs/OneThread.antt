@@ -13,17 +13,19 @@ use Rattle.flow_meaning.specs.Machine.{MayClaim, is_sent}
 use Rattle.flow_core.specs.RunState.{RunState, end_of, machine}
 use Rattle.flow_core.specs.Fits.{Fits}
 
--- the running tasks among claimed ones, and those of a run, in the order of the claims
+-- the running tasks among claimed ones, in the order of the claims
 abbrev pub running_among : List (Task × Option Ended) → List Task
 running_among claims = keys_of (filter (λ (c : Task × Option Ended). is_none c.1) claims)
 
+-- the running tasks of a run, in the order of the claims
 abbrev pub running_tasks : RunState → List Task
 running_tasks r = running_among r.claims
 
--- how many of the claimed tasks have ended, and how many of a run
+-- how many of the claimed tasks have ended
 abbrev pub ended_among : List (Task × Option Ended) → ℕ
 ended_among claims = length (filter (λ (c : Task × Option Ended). is_some c.1) claims)
 
+-- how many tasks of a run have ended
 abbrev pub ended_count : RunState → ℕ
 ended_count r = ended_among r.claims
 

@@ -5,7 +5,7 @@ use Rattle.ptg_base.specs.Task.{Task}
 use Rattle.plan_core.specs.declared.plan.Plan.{Plan}
 use Rattle.dep_iter.specs.Items.{items}
 use Rattle.flow_meaning.specs.Ending.{Ended, has_outputs}
-use Rattle.flow_meaning.specs.Machine.{Sent}
+use Rattle.flow_meaning.specs.Machine.{SentItem}
 use Rattle.flow_core.specs.SentItems.{IsUnsent}
 
 -- one of the list is so: std's `Any`, by membership in place of an index
@@ -13,5 +13,5 @@ abbrev pub HasOne : {A : Type 0} → (A → Type 0) → List A → Type 0
 HasOne {A} Q xs = (x : A) × IsIn x xs × Q x
 
 -- a claimed task has ended without a trap, and one of its items was not sent
-abbrev pub Owes : Plan → List Sent → Task × Option Ended → Type 0
+abbrev pub Owes : Plan → List SentItem → Task × Option Ended → Type 0
 Owes P sends c = IsTrue (has_outputs c.1) × HasOne (IsUnsent sends) (items P c.0)

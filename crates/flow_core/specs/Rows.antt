@@ -11,7 +11,7 @@ use Rattle.flow_meaning.specs.declared.outcome.TrapRow.{TrapRow}
 use Rattle.flow_meaning.specs.declared.outcome.WaitRow.{WaitRow}
 use Rattle.flow_meaning.specs.Answer.{trap_rows}
 use Rattle.flow_meaning.specs.Ending.{Ended}
-use Rattle.flow_meaning.specs.Machine.{MachineState, Sent, arrived}
+use Rattle.flow_meaning.specs.Machine.{MachineState, SentItem, arrived}
 use Rattle.flow_meaning.specs.Table.{is_waiting}
 
 -- the claimed tasks that have trapped, in the order of the claims
@@ -33,5 +33,5 @@ write_with (item.Write w) None = None
 write_with (item.Write w) (Some tile) = Some (w, tile)
 
 -- the write-backs that were sent, each with its tile, in the order of the sends
-abbrev pub writes_among : List Sent → List (WriteBack × List ℤ)
-writes_among sends = filter_map (λ (x : Sent). write_with x.item x.tile) sends
+abbrev pub writes_among : List SentItem → List (WriteBack × List ℤ)
+writes_among sends = filter_map (λ (x : SentItem). write_with x.item x.tile) sends

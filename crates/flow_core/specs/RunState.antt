@@ -9,17 +9,18 @@ use Rattle.ptg_base.specs.TaskComparing.{same_task}
 use Rattle.ptg_base.specs.declared.edge.Item.{Item}
 use Rattle.dep_iter.specs.Items.{item_flow}
 use Rattle.flow_meaning.specs.Ending.{Ended, output_tile}
-use Rattle.flow_meaning.specs.Machine.{MachineState, Sent, sender}
+use Rattle.flow_meaning.specs.Machine.{MachineState, SentItem, sender}
 
 -- the tiles that a task left, one place for each of its flows
 abbrev pub Tiles : Type 0
 Tiles = List (Option (List ℤ))
 
+-- what a run on one thread has done
 pub record RunState : Type 0 where
   -- the claimed tasks in the order of the claims, each with how it ended; one without an end is running
   pub claims : List (Task × Option Ended)
   -- the items that were sent, in the order of the sends
-  pub sends : List Sent
+  pub sends : List SentItem
   -- the tasks that have ended without a trap and whose tiles were not let go, each with them
   pub outputs : List (Task × Tiles)
 
@@ -62,7 +63,7 @@ with_end t end r =
     }
 
 -- what is sent with an item: the tile that its task left in the flow of the item
-abbrev pub send_of : RunState → Item → Sent
+abbrev pub send_of : RunState → Item → SentItem
 send_of r i = record { item = i; tile = output_tile (end_of r (sender i)) (item_flow i) }
 
 -- the run after an item is sent

@@ -61,7 +61,7 @@ fn is_open(runner: &Runner, m: &Matched) -> bool
     requires opening { IsOpening runner.now.run }
     ensures { IsTrue result → MayClaimOnly m.now [] runner.now.run }
 {
-    m.is_consistent();
+    m.plan_is_consistent();
     runner.running.len() as u64 == m.roots()
 }
 

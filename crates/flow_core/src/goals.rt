@@ -33,7 +33,7 @@ pub(crate) fn keep_goal(
     requires goals { AreGoals m.now table.old.entries }
     ensures { OnOk result (AreGoals m.now table.new.entries) }
 {
-    m.is_consistent();
+    m.plan_is_consistent();
     table.insert(t.copy(), goal)?;
     Ok(())
 }
@@ -43,6 +43,6 @@ pub(crate) fn forget_goal(table: &mut IndexMap<TaskId, u32>, m: &Matched, t: &Ta
     requires { AreGoals m.now table.old.entries }
     ensures { AreGoals m.now table.new.entries }
 {
-    m.is_consistent();
+    m.plan_is_consistent();
     let _goal = table.swap_remove(t);
 }

@@ -26,12 +26,12 @@ use term_core::FlowKind;
 
 // A task and its locals with what its tiles come from, besides the items that were sent: the plan and the data.
 #[derive(Drop)]
-pub(crate) struct Start<'a> {
+pub(crate) struct TaskStart<'a> {
     pub(crate) plan: &'a Plan,
     pub(crate) given: &'a Given,
     pub(crate) task: &'a TaskId,
-    pub(crate) env: &'a [i64],
-    pub(crate) ghost locals: { env.now ≡ tasks.locals_of plan.now task.now },
+    pub(crate) locals: &'a [i64],
+    pub(crate) ghost are_locals: { locals.now ≡ tasks.locals_of plan.now task.now },
 }
 
 // A copy of a tile, if there is one.
@@ -68,7 +68,7 @@ fn unsourced_tile(alloc: Global, plan: &Plan, flow: &FlowPlan) -> Result<Option<
 // The tile that a source gives a flow, but for one that comes by an edge.
 fn tile_from(
     alloc: Global,
-    start: &Start,
+    start: &TaskStart,
     flow: &FlowPlan,
     source: &Source,
 ) -> Result<Option<Tile>, OutOfMemory>
@@ -86,14 +86,14 @@ fn tile_from(
 }
 
 // The source of a flow of a task; a CTL flow has none.
-fn source_of(start: &Start, number: u8, flow: &FlowPlan) -> Source
+fn source_of(start: &TaskStart, number: u8, flow: &FlowPlan) -> Source
     requires { IsTask start.now.plan.now start.now.task.now }
     ensures { result ≡ inputs.source_of start.now.plan.now start.now.task.now number flow.now }
 {
     if !flow.kind.is_data() {
         return Source::Null;
     }
-    data_source_under(start.plan, start.task, start.env, number)
+    data_source_under(start.plan, start.task, start.locals, number)
 }
 
 // The edge that a source is.
@@ -120,7 +120,7 @@ pub(crate) struct Inputs {
 // Adds what each of these flows starts on, which are numbered from `number` on.
 fn push_inputs(
     alloc: Global,
-    start: &Start,
+    start: &TaskStart,
     number: u8,
     flows: &[FlowPlan],
     inputs: &mut Inputs,
@@ -148,7 +148,7 @@ fn push_inputs(
 }
 
 // What a task starts on. Where each of its flows comes from is asked once.
-pub(crate) fn inputs_of(alloc: Global, start: &Start) -> Result<Inputs, OutOfMemory>
+pub(crate) fn inputs_of(alloc: Global, start: &TaskStart) -> Result<Inputs, OutOfMemory>
     requires { IsTask start.now.plan.now start.now.task.now }
     ensures tiles { IfOk result (λ found.
         found.tiles.items

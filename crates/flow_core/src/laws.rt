@@ -14,7 +14,7 @@ ghost use Rattle.dep_iter.specs.Items.{item_flow};
 ghost use Rattle.dep_iter.specs.Tasks.{flows_of};
 ghost use Rattle.dep_iter.specs.Consistent.{IsConsistent};
 ghost use Rattle.flow_meaning.specs.Ending.{Ended};
-ghost use Rattle.flow_meaning.specs.Machine.{Claim, Send, Sent, sender, state_after};
+ghost use Rattle.flow_meaning.specs.Machine.{Claim, Send, SentItem, sender, state_after};
 ghost use Rattle.flow_core.specs.RunState.{RunState, IsRunning, machine, opening_run, with_claim, with_end, with_send};
 ghost use Rattle.flow_core.specs.Fits.{Fits, HasFinished, MaySendNow};
 
@@ -29,7 +29,7 @@ pub fn calls_are_events()
 
 /// A law: an item of a CTL flow is sent without a tile.
 pub fn items_of_ctl_flows_carry_no_tile()
-    ensures { (P : Plan) (G : Data) (r : RunState) (x : Sent) (f : FlowPlan) → IsConsistent P
+    ensures { (P : Plan) (G : Data) (r : RunState) (x : SentItem) (f : FlowPlan) → IsConsistent P
         → DataFit P.colls P.elems G → IsWellMade G → Fits P G r → IsIn x r.sends
         → slice_get (flows_of P (sender x.item)) (item_flow x.item) ≡ Some f → IsFalse (is_data (Some f.kind))
         → x.tile ≡ None }

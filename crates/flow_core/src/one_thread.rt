@@ -34,7 +34,7 @@ fn run_one_task(
     ensures goals { OnOk result (AreGoals m.now runner.new.goals.entries) }
     ensures ended { OnOk result (ended_count runner.new.run ≡ ended_count runner.old.run + 1) }
 {
-    m.is_consistent();
+    m.plan_is_consistent();
     if runner.run.finish(m, given, t)?.is_some() {
         return Ok(());
     }
@@ -76,6 +76,6 @@ pub fn run_one(alloc: Global, m: &Matched, given: Given) -> Result<Outcome, OutO
 {
     let mut runner = opened(alloc, m, &given)?;
     run_tasks(&mut runner, m, &given)?;
-    m.is_consistent();
+    m.plan_is_consistent();
     runner.run.answer(m, given)
 }

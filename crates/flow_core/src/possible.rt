@@ -6,9 +6,10 @@ ghost use Rattle.dep_iter.specs.Items as items;
 ghost use Rattle.dep_iter.specs.Tasks.{IsTask};
 ghost use Rattle.flow_meaning.specs.Machine as machine;
 
-use dep_iter::{Direction, LentEdge, WriteBacks, has_edge_under, locals_of, write_backs};
+use dep_iter::{LentEdge, WriteBacks, has_edge_under, locals_of, write_backs};
 use plan_core::Plan;
 use ptg_base::{Edge, Item, Place, TaskId, WriteBack, items_compare_field_by_field};
+use term_core::Direction;
 
 // A copy of an item.
 pub(crate) fn copy_of_item(item: &Item) -> Item

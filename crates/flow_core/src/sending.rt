@@ -30,7 +30,7 @@ fn send_edge(runner: &mut Runner, m: &Matched, edge: Edge) -> Result<(), OutOfMe
     ensures running { OnOk result (runner.new.running.items ≡ running_tasks runner.new.run) }
     ensures goals { OnOk result (AreGoals m.now runner.new.goals.entries) }
 {
-    m.is_consistent();
+    m.plan_is_consistent();
     let to = edge.to.copy();
     let _sent = runner.run.send_due(m, &Item::Edge(edge))?;
     claim_if_come(runner, m, &to)
@@ -66,7 +66,7 @@ fn send_write(runner: &mut Runner, m: &Matched, write: WriteBack) -> Result<(), 
     ensures running { OnOk result (runner.new.running.items ≡ running_tasks runner.new.run) }
     ensures goals { OnOk result (AreGoals m.now runner.new.goals.entries) }
 {
-    m.is_consistent();
+    m.plan_is_consistent();
     let _sent = runner.run.send_due(m, &Item::Write(write))?;
     Ok(())
 }

@@ -9,7 +9,7 @@ ghost use Rattle.flow_core.specs.Kept as kept;
 ghost use Rattle.flow_core.specs.Kept.{kept_with, sent_as, with_sent};
 ghost use Rattle.flow_core.specs.Rows.{write_with, writes_among};
 
-use crate::history::{History, Shipment};
+use crate::history::{History, SentItem};
 use indexmap::IndexMap;
 use ptg_base::{Item, OutOfMemory, Tile, WriteBack, items_compare_field_by_field};
 use std::alloc::Global;
@@ -98,7 +98,7 @@ fn is_write(item: &Item) -> bool
     }
 }
 
-// Adds an item that the table has not, with its tile.
+// Adds an item that is not in the table, with its tile.
 fn enter(
     table: &mut IndexMap<Item, Option<Tile>>,
     item: Item,
@@ -158,9 +158,9 @@ impl SentItems {
         ensures ok { OnOk result (self.new ≡ with_sent self.old (record { item = item; tile = tile })) }
         ensures err { OnErr result (self.new ≡ self.old) }
     {
-        let shipment = Shipment { item, tile };
-        let history = History::with(&self.history, &shipment);
-        let Shipment { item, tile } = shipment;
+        let sent_item = SentItem { item, tile };
+        let history = History::with(&self.history, &sent_item);
+        let SentItem { item, tile } = sent_item;
         if is_write(&item) {
             enter(&mut self.writes, item, tile)?;
             self.history = history;

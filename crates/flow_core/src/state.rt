@@ -25,7 +25,7 @@ mod quiescent;
 use crate::arrivals::{count_item, number_at};
 use crate::body::run_task;
 use crate::end::{End, has_outputs};
-use crate::inputs::{Start, copy_if_any, inputs_of, take_tiles};
+use crate::inputs::{TaskStart, copy_if_any, inputs_of, take_tiles};
 use crate::outputs::{keep_tiles, tile_at};
 use crate::possible::{copy_of_item, is_item, item_flow, sender};
 use crate::sent_items::SentItems;
@@ -166,7 +166,7 @@ impl State {
         ensures unclaimed { IsTrue result → mark_of self.now t.now ≡ None }
         ensures consistent { IsConsistent m.now }
     {
-        m.is_consistent();
+        m.plan_is_consistent();
         if self.claims.contains_key(t) {
             return false;
         }
@@ -180,7 +180,7 @@ impl State {
         requires goal { goal ≡ edges.goal m.now t.now }
         ensures { (G : Data) → Fits m.now G self.now → IsTrue result ↔ MayClaim m.now (machine self.now) t.now }
     {
-        m.is_consistent();
+        m.plan_is_consistent();
         number_at(&self.arrived, t) == goal
     }
 
@@ -222,11 +222,11 @@ impl State {
         let plan = m.plan();
         let locals = locals_of(plan, t);
         let env = locals.as_slice();
-        let start = Start {
+        let start = TaskStart {
             plan,
             given,
             task: t,
-            env,
+            locals: env,
         };
         let found = inputs_of(self.alloc, &start)?;
         self.outputs.reserve(1)?;
@@ -279,7 +279,7 @@ impl State {
         ensures err { OnErr result (self.new ≡ self.old) }
         ensures fits { (G : Data) → Fits m.now G self.old → Fits m.now G self.new }
     {
-        m.is_consistent();
+        m.plan_is_consistent();
         if !self.is_unsent(m, item) {
             return Ok(false);
         }
@@ -303,7 +303,7 @@ impl State {
         requires due { IsDue m.now self.now item.now }
         ensures { IsTrue result ↔ IsUnsent self.now.sends item.now }
     {
-        m.is_consistent();
+        m.plan_is_consistent();
         if self.goes_to_claimed(item) {
             return false;
         }

@@ -5,6 +5,9 @@ use Rattle.std.specs.Str.{bytes_eq}
 use Rattle.std.specs.Cmp.Lexicographic.{bytes_decides}
 use Rattle.std.proofs.lemmas.Bool.{false≢true, not-false}
 use Rattle.ptg_base.specs.Lists.{IsIn}
+use Rattle.term_core.specs.declared.direction.Direction.{Direction}
+use Rattle.term_core.specs.declared.direction.Direction.TheVariants.{In, Out}
+use Rattle.term_core.specs.Directions.{is_same}
 use Rattle.term_core.specs.Term.{Term}
 use Rattle.term_core.specs.declared.flow.FlowKind.{FlowKind}
 use Rattle.term_core.specs.declared.space.ClassSpace.{ClassSpace}
@@ -25,13 +28,14 @@ use Rattle.check_names.specs.Returns.{both, each, each_option}
 use Rattle.check_names.proofs.Closed.{pair_parts}
 use Rattle.check_names.proofs.NoFaults.{holds_not, option_there, parts_of}
 use Rattle.check_flows.specs.Kinds.{is_control}
-use Rattle.check_flows.specs.Datatypes.{allowed_type, default_name, first_written, flow_type, type_of_flow, type_of_written, written_faults}
+use Rattle.coll_data.specs.Types.{default_type}
+use Rattle.check_flows.specs.Datatypes.{allowed_type, first_written, flow_type, type_of_flow, type_of_written, written_faults}
 use Rattle.check_flows.specs.Targets.{target_of}
-use Rattle.check_flows.specs.Dependences.{dependence_faults, dependence_of, dependences_faults, dependences_of, flow_faults, flow_from, flow_plan, is_of_way, second_faults, target_faults, type_faults, type_spot, ways_faults, ways_of}
+use Rattle.check_flows.specs.Dependences.{dependence_faults, dependence_of, dependences_faults, dependences_of, directions_faults, directions_of, flow_faults, flow_from, flow_plan, is_of_direction, second_faults, target_faults, type_faults, type_spot}
 use Rattle.check_flows.specs.PartsOfJob.{HaveParts}
 use Rattle.check_flows.proofs.Ways.{dep_from}
 use Rattle.check_flows.proofs.WellTargets.{IsWellTarget, allowed}
-use Rattle.check_flows.proofs.WellFlows.{of_way, ends}
+use Rattle.check_flows.proofs.WellFlows.{of_direction, ends}
 use Rattle.flow_laws.specs.Datatypes.{HasOneDatatype}
 use Rattle.flow_laws.proofs.Resolved.{none_joined, option_no_fault}
 use Rattle.flow_laws.proofs.Targets.{target_fits}
@@ -92,66 +96,66 @@ first_same (dep ∷ deps) one P none each = each dep (inl refl)
 
 -- ---- dependences
 
-module _ (job : Job) (classes : List ClassPlan) (spaces : List ClassSpace) (colls : List Shape) (parts : HaveParts job classes spaces colls) (seen : List DefTree) (flow : FlowTree) (n : ℕ) (typed : flow_type job.given flow ≡ Some n) (ways : List DepPlan × List DepPlan) where
+module _ (job : Job) (classes : List ClassPlan) (spaces : List ClassSpace) (colls : List Shape) (parts : HaveParts job classes spaces colls) (seen : List DefTree) (flow : FlowTree) (n : ℕ) (typed : flow_type job.given flow ≡ Some n) (deps : List DepPlan × List DepPlan) where
   abbrev made : FlowPlan
-  made = flow_from flow n ways
+  made = flow_from flow n deps
 
-  abbrev passes : Bool → Target → Bool
-  passes inward t = ends classes spaces colls (length seen) made inward t
+  abbrev passes : Direction → Target → Bool
+  passes direction t = ends classes spaces colls (length seen) made direction t
 
-  well_of : (inward : Bool) (q : Target) → IsTrue (passes inward q) → IsWellTarget classes spaces colls (length seen) n flow.kind inward q
-  well_of true q h =
-      let two = first_so (exists_target classes spaces colls (length seen) q && has_datatype classes colls n q) (allowed classes flow.kind true q) h in
+  well_of : (direction : Direction) (q : Target) → IsTrue (passes direction q) → IsWellTarget classes spaces colls (length seen) n flow.kind direction q
+  well_of In q h =
+      let two = first_so (exists_target classes spaces colls (length seen) q && has_datatype classes colls n q) (allowed classes flow.kind In q) h in
       record {
         exists = first_so (exists_target classes spaces colls (length seen) q) (has_datatype classes colls n q) two;
         typed = second_so (exists_target classes spaces colls (length seen) q) (has_datatype classes colls n q) two;
-        kind = second_so (exists_target classes spaces colls (length seen) q && has_datatype classes colls n q) (allowed classes flow.kind true q) h;
+        kind = second_so (exists_target classes spaces colls (length seen) q && has_datatype classes colls n q) (allowed classes flow.kind In q) h;
       }
-  well_of false q h =
-      let two = first_so (exists_target classes spaces colls (length seen) q && has_datatype classes colls n q) (allowed classes flow.kind false q) h in
+  well_of Out q h =
+      let two = first_so (exists_target classes spaces colls (length seen) q && has_datatype classes colls n q) (allowed classes flow.kind Out q) h in
       record {
         exists = first_so (exists_target classes spaces colls (length seen) q) (has_datatype classes colls n q) two;
         typed = second_so (exists_target classes spaces colls (length seen) q) (has_datatype classes colls n q) two;
-        kind = second_so (exists_target classes spaces colls (length seen) q && has_datatype classes colls n q) (allowed classes flow.kind false q) h;
+        kind = second_so (exists_target classes spaces colls (length seen) q && has_datatype classes colls n q) (allowed classes flow.kind Out q) h;
       }
 
-  target_none : (inward : Bool) (t : TargetTree) (q : Target) → target_of job seen t ≡ Some q → IsTrue (passes inward q) → target_faults job seen flow inward t ≡ []
-  target_none inward t q e h = target_fits job classes spaces colls parts seen flow n typed inward t q e (well_of inward q h)
+  target_none : (direction : Direction) (t : TargetTree) (q : Target) → target_of job seen t ≡ Some q → IsTrue (passes direction q) → target_faults job seen flow direction t ≡ []
+  target_none direction t q e h = target_fits job classes spaces colls parts seen flow n typed direction t q e (well_of direction q h)
 
-  second_none : (inward : Bool) (g : Option Term) (no : Option TargetTree) (o : Option Target) → each_option (target_of job seen) no ≡ Some o → IsTrue (is_second (passes inward) g o) → second_faults (target_faults job seen flow inward) no ≡ []
-  second_none inward g None o e h = refl
-  second_none inward g (Some t) o e h =
+  second_none : (direction : Direction) (g : Option Term) (no : Option TargetTree) (o : Option Target) → each_option (target_of job seen) no ≡ Some o → IsTrue (is_second (passes direction) g o) → second_faults (target_faults job seen flow direction) no ≡ []
+  second_none direction g None o e h = refl
+  second_none direction g (Some t) o e h =
       let q = option_there (target_of job seen) t o e in
-      let both_pass : (is_some g && passes inward q.0) ≡ true = ap (is_second (passes inward) g) q.2 ∙ h in
-      target_none inward t q.0 q.1 (second_so (is_some g) (passes inward q.0) both_pass)
+      let both_pass : (is_some g && passes direction q.0) ≡ true = ap (is_second (passes direction) g) q.2 ∙ h in
+      target_none direction t q.0 q.1 (second_so (is_some g) (passes direction q.0) both_pass)
 
-  dependence_none : (inward : Bool) (dep : DepTree) (d : DepPlan) → is_of_way inward dep ≡ true → type_of_written dep.datatype ≡ type_of_flow flow → dependence_of job seen dep ≡ Some d
-      → IsTrue (is_dependence (length seen) (passes inward) d) → dependence_faults job seen flow dep ≡ []
-  dependence_none inward dep d way same e h =
+  dependence_none : (direction : Direction) (dep : DepTree) (d : DepPlan) → is_of_direction direction dep ≡ true → type_of_written dep.datatype ≡ type_of_flow flow → dependence_of job seen dep ≡ Some d
+      → IsTrue (is_dependence (length seen) (passes direction) d) → dependence_faults job seen flow dep ≡ []
+  dependence_none direction dep d here same e h =
       let q = parts_of dep_from (option_term job seen dep.guard) (both (λ x y. (x, y)) (target_of job seen dep.yes) (each_option (target_of job seen) dep.no)) d e in
       let two = pair_parts (target_of job seen dep.yes) (each_option (target_of job seen) dep.no) q.1 q.3 in
-      let all : ((is_closed_option (length seen) q.0 && passes inward q.1.0) && is_second (passes inward) q.0 q.1.1) ≡ true = ap (is_dependence (length seen) (passes inward)) q.4 ∙ h in
-      let first = first_so (is_closed_option (length seen) q.0 && passes inward q.1.0) (is_second (passes inward) q.0 q.1.1) all in
-      let yes : target_faults job seen flow inward dep.yes ≡ [] = target_none inward dep.yes q.1.0 two.0 (second_so (is_closed_option (length seen) q.0) (passes inward q.1.0) first) in
-      let no : second_faults (target_faults job seen flow inward) dep.no ≡ [] = second_none inward q.0 dep.no q.1.1 two.1 (second_so (is_closed_option (length seen) q.0 && passes inward q.1.0) (is_second (passes inward) q.0 q.1.1) all) in
-      let turned = of_way inward dep way in
-      none_joined (option_faults job seen dep.guard ++ (target_faults job seen flow dep.inward dep.yes ++ second_faults (target_faults job seen flow dep.inward) dep.no)) (type_faults job.given flow dep)
-      (none_joined (option_faults job seen dep.guard) (target_faults job seen flow dep.inward dep.yes ++ second_faults (target_faults job seen flow dep.inward) dep.no)
+      let all : ((is_closed_option (length seen) q.0 && passes direction q.1.0) && is_second (passes direction) q.0 q.1.1) ≡ true = ap (is_dependence (length seen) (passes direction)) q.4 ∙ h in
+      let first = first_so (is_closed_option (length seen) q.0 && passes direction q.1.0) (is_second (passes direction) q.0 q.1.1) all in
+      let yes : target_faults job seen flow direction dep.yes ≡ [] = target_none direction dep.yes q.1.0 two.0 (second_so (is_closed_option (length seen) q.0) (passes direction q.1.0) first) in
+      let no : second_faults (target_faults job seen flow direction) dep.no ≡ [] = second_none direction q.0 dep.no q.1.1 two.1 (second_so (is_closed_option (length seen) q.0 && passes direction q.1.0) (is_second (passes direction) q.0 q.1.1) all) in
+      let turned = of_direction direction dep here in
+      none_joined (option_faults job seen dep.guard ++ (target_faults job seen flow dep.direction dep.yes ++ second_faults (target_faults job seen flow dep.direction) dep.no)) (type_faults job.given flow dep)
+      (none_joined (option_faults job seen dep.guard) (target_faults job seen flow dep.direction dep.yes ++ second_faults (target_faults job seen flow dep.direction) dep.no)
       (option_no_fault job seen dep.guard q.0 q.2)
-      (none_joined (target_faults job seen flow dep.inward dep.yes) (second_faults (target_faults job seen flow dep.inward) dep.no)
+      (none_joined (target_faults job seen flow dep.direction dep.yes) (second_faults (target_faults job seen flow dep.direction) dep.no)
       (ap (λ b. target_faults job seen flow b dep.yes) turned ∙ yes) (ap (λ b. second_faults (target_faults job seen flow b) dep.no) turned ∙ no)))
       (type_none job.given flow n dep typed same)
 
-  dependences_none : (inward : Bool) (ds : List DepPlan) → HasOneDatatype flow → dependences_of job seen inward flow.deps ≡ Some ds → IsTrue (list_all (is_dependence (length seen) (passes inward)) ds) → dependences_faults job seen flow inward flow.deps ≡ []
-  dependences_none inward ds one e h =
-      none_kept (dependence_of job seen) (dependence_faults job seen flow) (is_of_way inward) (is_dependence (length seen) (passes inward)) (λ dep. type_of_written dep.datatype ≡ type_of_flow flow)
-      (λ dep d way same given pass. dependence_none inward dep d way same given pass) flow.deps ds one e h
+  dependences_none : (direction : Direction) (ds : List DepPlan) → HasOneDatatype flow → dependences_of job seen direction flow.deps ≡ Some ds → IsTrue (list_all (is_dependence (length seen) (passes direction)) ds) → dependences_faults job seen flow direction flow.deps ≡ []
+  dependences_none direction ds one e h =
+      none_kept (dependence_of job seen) (dependence_faults job seen flow) (is_of_direction direction) (is_dependence (length seen) (passes direction)) (λ dep. type_of_written dep.datatype ≡ type_of_flow flow)
+      (λ dep d here same given pass. dependence_none direction dep d here same given pass) flow.deps ds one e h
 
 pub flow_fits : (job : Job) (classes : List ClassPlan) (spaces : List ClassSpace) (colls : List Shape) → HaveParts job classes spaces colls → (seen : List DefTree) (flow : FlowTree) (p : FlowPlan)
     → HasOneDatatype flow → flow_plan job seen flow ≡ Some p → IsTrue (is_flow classes spaces colls (suc (length job.given.types)) (length seen) p) → flow_faults job seen flow ≡ []
 flow_fits job classes spaces colls parts seen flow p one e h =
-    let q = parts_of (flow_from flow) (flow_type job.given flow) (ways_of job seen flow.deps) p e in
-    let two = pair_parts (dependences_of job seen true flow.deps) (dependences_of job seen false flow.deps) q.1 q.3 in
+    let q = parts_of (flow_from flow) (flow_type job.given flow) (directions_of job seen flow.deps) p e in
+    let two = pair_parts (dependences_of job seen In flow.deps) (dependences_of job seen Out flow.deps) q.1 q.3 in
     let made = flow_from flow q.0 q.1 in
     let types = suc (length job.given.types) in
     let locals = length seen in
@@ -162,20 +166,20 @@ flow_fits job classes spaces colls parts seen flow p one e h =
     let all : (((typed && few) && all_in) && all_out) ≡ true = ap (is_flow classes spaces colls types locals) q.4 ∙ h in
     let ins = second_so (typed && few) all_in (first_so ((typed && few) && all_in) all_out all) in
     let outs = second_so ((typed && few) && all_in) all_out all in
-    none_joined (written_faults job.given flow.kind (first_written flow.deps)) (ways_faults job seen flow flow.deps)
+    none_joined (written_faults job.given flow.kind (first_written flow.deps)) (directions_faults job seen flow flow.deps)
     (first_same flow.deps one (λ w. written_faults job.given flow.kind w ≡ []) refl (λ dep i. written_none job.given flow q.0 dep.datatype q.2 (one dep i)))
-    (none_joined (dependences_faults job seen flow true flow.deps) (dependences_faults job seen flow false flow.deps)
-    (dependences_none job classes spaces colls parts seen flow q.0 q.2 q.1 true q.1.0 one two.0 ins)
-    (dependences_none job classes spaces colls parts seen flow q.0 q.2 q.1 false q.1.1 one two.1 outs))
+    (none_joined (dependences_faults job seen flow In flow.deps) (dependences_faults job seen flow Out flow.deps)
+    (dependences_none job classes spaces colls parts seen flow q.0 q.2 q.1 In q.1.0 one two.0 ins)
+    (dependences_none job classes spaces colls parts seen flow q.0 q.2 q.1 Out q.1.1 one two.1 outs))
 
--- ---- the other way
+-- ---- the converse
 
 some_if_not : {A : Type 0} (o : Option A) → is_none o ≡ false → (x : A) × (o ≡ Some x)
 some_if_not None e = absurd (false≢true (sym e))
 some_if_not (Some x) e = (x, refl)
 
 -- a datatype that a CTL flow may have is DEFAULT
-control_default : (d : Data) (k : FlowKind) (written : Option Word) → is_control k ≡ true → written_faults d k written ≡ [] → type_of_written written ≡ default_name
+control_default : (d : Data) (k : FlowKind) (written : Option Word) → is_control k ≡ true → written_faults d k written ≡ [] → type_of_written written ≡ default_type
 control_default d k None c e = refl
 control_default d k (Some w) c e =
     let p = some_if_not (allowed_type d k w.text) (holds_not (is_none (allowed_type d k w.text)) w.spot Datatype e) in
@@ -196,16 +200,16 @@ one_of d flow dep first e = by (is_control flow.kind) refl where
       (ap (λ b. not b && not (bytes_eq (type_of_written dep.datatype) (type_of_flow flow))) (sym c) ∙ unmixed))
 
 pub one_datatype : (job : Job) (seen : List DefTree) (flow : FlowTree) → flow_faults job seen flow ≡ [] → HasOneDatatype flow
-one_datatype job seen flow h dep among = one_of job.given flow dep first (types (of_its_way dep.inward refl)) where
+one_datatype job seen flow h dep among = one_of job.given flow dep first (types (of_its_direction dep.direction refl)) where
   first : written_faults job.given flow.kind (first_written flow.deps) ≡ []
-  first = first_nil (written_faults job.given flow.kind (first_written flow.deps)) (ways_faults job seen flow flow.deps) h
+  first = first_nil (written_faults job.given flow.kind (first_written flow.deps)) (directions_faults job seen flow flow.deps) h
 
-  both_ways : dependences_faults job seen flow true flow.deps ++ dependences_faults job seen flow false flow.deps ≡ []
-  both_ways = rest_nil (written_faults job.given flow.kind (first_written flow.deps)) (ways_faults job seen flow flow.deps) h
+  both_directions : dependences_faults job seen flow In flow.deps ++ dependences_faults job seen flow Out flow.deps ≡ []
+  both_directions = rest_nil (written_faults job.given flow.kind (first_written flow.deps)) (directions_faults job seen flow flow.deps) h
 
-  of_its_way : (b : Bool) → dep.inward ≡ b → dependence_faults job seen flow dep ≡ []
-  of_its_way true e = none_of (dependence_faults job seen flow) (is_of_way true) flow.deps dep (first_nil (dependences_faults job seen flow true flow.deps) (dependences_faults job seen flow false flow.deps) both_ways) e among
-  of_its_way false e = none_of (dependence_faults job seen flow) (is_of_way false) flow.deps dep (rest_nil (dependences_faults job seen flow true flow.deps) (dependences_faults job seen flow false flow.deps) both_ways) (ap not e) among
+  of_its_direction : (d : Direction) → dep.direction ≡ d → dependence_faults job seen flow dep ≡ []
+  of_its_direction In e = none_of (dependence_faults job seen flow) (is_of_direction In) flow.deps dep (first_nil (dependences_faults job seen flow In flow.deps) (dependences_faults job seen flow Out flow.deps) both_directions) (ap (λ d. is_same d In) e) among
+  of_its_direction Out e = none_of (dependence_faults job seen flow) (is_of_direction Out) flow.deps dep (rest_nil (dependences_faults job seen flow In flow.deps) (dependences_faults job seen flow Out flow.deps) both_directions) (ap (λ d. is_same d Out) e) among
 
   types : dependence_faults job seen flow dep ≡ [] → type_faults job.given flow dep ≡ []
-  types e = rest_nil (option_faults job seen dep.guard ++ (target_faults job seen flow dep.inward dep.yes ++ second_faults (target_faults job seen flow dep.inward) dep.no)) (type_faults job.given flow dep) e
+  types e = rest_nil (option_faults job seen dep.guard ++ (target_faults job seen flow dep.direction dep.yes ++ second_faults (target_faults job seen flow dep.direction) dep.no)) (type_faults job.given flow dep) e

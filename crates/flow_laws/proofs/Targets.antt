@@ -1,10 +1,13 @@
 -- A target that is resolved to one which the flow may have breaks no rule.
-use Rattle.std.proofs.Common.{◌≡◌, ℕ, Bool, true, false, not, ◌&&◌, ◌==◌, cond, List, [], ◌++◌, length, Option, Some, None, option_and_then, is_none, is_some, slice_get, IsTrue, refl, sym, ◌∙◌, ap, subst, eq-eqb}
+use Rattle.std.proofs.Common.{◌≡◌, ℕ, Bool, true, false, not, ◌&&◌, ◌==◌, List, [], ◌++◌, length, Option, Some, None, option_and_then, is_none, is_some, slice_get, IsTrue, refl, sym, ◌∙◌, ap, subst, eq-eqb}
 use Rattle.std.proofs.lemmas.Bool.{eqb-true, false≢true, not-true}
 use Rattle.std.specs.List.{list_all, list_any}
 use Rattle.std.specs.Option.{option_map_or}
 use Rattle.std.specs.Str.{bytes_eq}
 use Rattle.std.specs.Cmp.Lexicographic.{bytes_decides}
+use Rattle.term_core.specs.declared.direction.Direction.{Direction}
+use Rattle.term_core.specs.declared.direction.Direction.TheVariants.{In, Out}
+use Rattle.term_core.specs.Directions.{is_same}
 use Rattle.term_core.specs.Term.{Term}
 use Rattle.term_core.specs.Value.{is_closed}
 use Rattle.term_core.specs.declared.flow.FlowKind.{FlowKind}
@@ -25,7 +28,7 @@ use Rattle.plan_core.specs.Targets.{dimensions, has_dimensions, has_params, is_e
 use Rattle.plan_core.specs.Flows.{is_in_target, is_out_target}
 use Rattle.check_names.specs.Alphabet.{ArgTree, Arity, ClassTree, CtlMixed, DefTree, FlowTree, NoSuchFlow, RangeInDataInput, Spot, TargetTree, TypeDiffers, Word}
 use Rattle.check_names.specs.Faults.{fault_if}
-use Rattle.check_names.specs.Names.{Job, class_named, coll_named, flow_named}
+use Rattle.check_names.specs.Names.{Job, class_named, class_of, coll_named, flow_named}
 use Rattle.check_names.specs.Arguments.{argument_of, arguments_faults, arguments_of, index_of, indices_faults, indices_of, ranges_faults}
 use Rattle.check_names.proofs.Closed.{pair_parts}
 use Rattle.check_names.proofs.NoFaults.{parts_of}
@@ -33,8 +36,8 @@ use Rattle.check_names.proofs.Parts.{each_length}
 use Rattle.check_flows.specs.Kinds.{are_mixed, is_control}
 use Rattle.check_flows.specs.Datatypes.{flow_type, type_number, type_of_flow}
 use Rattle.check_flows.specs.Places.{collection_faults, dimensions_of, element_faults, element_of}
-use Rattle.check_flows.specs.Targets.{class_at, first_spot, named_faults, target_of, task_faults, task_of}
-use Rattle.check_flows.specs.Rules.{has_other_type, in_faults, is_mixed, is_other_flow, mixes_flows, out_faults, rule_faults, type_differs}
+use Rattle.check_flows.specs.Targets.{first_spot, named_faults, target_of, task_faults, task_of}
+use Rattle.check_flows.specs.Rules.{has_other_type, in_faults, is_mixed, is_other_flow, kind_faults, mixes_flows, rule_faults, type_differs}
 use Rattle.check_flows.specs.Dependences.{target_faults}
 use Rattle.check_flows.specs.PartsOfJob.{HaveParts}
 use Rattle.check_flows.proofs.Elements.{coll_there}
@@ -49,9 +52,9 @@ use Rattle.list_lemmas.proofs.Truth.{and-false}
 use Rattle.std.specs.Cmp.{first_so, second_so}
 
 -- no rule about a target is broken
-rules_kept : (job : Job) (flow : FlowTree) (inward : Bool) (t : TargetTree) → is_mixed job flow.kind t ≡ false → (not (is_control flow.kind) && type_differs job (type_of_flow flow) t) ≡ false
-    → cond inward (in_faults flow.kind t) (out_faults t) ≡ [] → rule_faults job flow inward t ≡ []
-rules_kept job flow inward t sort type way = λ i. (fault_if (sort i) (first_spot t) CtlMixed ++ fault_if (type i) (first_spot t) TypeDiffers) ++ way i
+rules_kept : (job : Job) (flow : FlowTree) (direction : Direction) (t : TargetTree) → is_mixed job flow.kind t ≡ false → (not (is_control flow.kind) && type_differs job (type_of_flow flow) t) ≡ false
+    → kind_faults direction flow.kind t ≡ [] → rule_faults job flow direction t ≡ []
+rules_kept job flow direction t sort type kind = λ i. (fault_if (sort i) (first_spot t) CtlMixed ++ fault_if (type i) (first_spot t) TypeDiffers) ++ kind i
 
 -- ---- kinds
 
@@ -80,9 +83,9 @@ out_sort classes Write j n m args at h = control_not_data j (sym (ap kinds.is_da
 out_sort classes Rw j n m args at h = control_not_data j (sym (ap kinds.is_data at) ∙ h)
 out_sort classes Ctl j n m args at h = ap not (control_kind j (sym (ap kinds.is_control at) ∙ h))
 
-task_sort : (classes : List ClassPlan) (k j : FlowKind) (inward : Bool) (n m : ℕ) (args : List Arg) → kinds.kind_of classes n m ≡ Some j → IsTrue (allowed classes k inward (plan.Task n m args)) → are_mixed k j ≡ false
-task_sort classes k j true n m args at h = in_sort classes k j n m args at h
-task_sort classes k j false n m args at h = out_sort classes k j n m args at h
+task_sort : (classes : List ClassPlan) (k j : FlowKind) (direction : Direction) (n m : ℕ) (args : List Arg) → kinds.kind_of classes n m ≡ Some j → IsTrue (allowed classes k direction (plan.Task n m args)) → are_mixed k j ≡ false
+task_sort classes k j In n m args at h = in_sort classes k j n m args at h
+task_sort classes k j Out n m args at h = out_sort classes k j n m args at h
 
 -- an in dependence of a tile that is only written names no task, and that of another tile no range of tasks
 task_way : (classes : List ClassPlan) (k : FlowKind) (name class : Word) (args : List ArgTree) (n m : ℕ) (ys : List Arg) → (list_any is_span ys ≡ false → ranges_faults RangeInDataInput args ≡ [])
@@ -93,51 +96,51 @@ task_way classes Rw name class args n m ys ranges h = ranges (not-true (list_any
 task_way classes Ctl name class args n m ys ranges h = refl
 
 -- an element that may be a target
-element_sort : (classes : List ClassPlan) (k : FlowKind) (inward : Bool) (n : ℕ) (indices : List Term) → IsTrue (allowed classes k inward (plan.Element n indices)) → is_control k ≡ false
-element_sort classes Read inward n indices h = refl
-element_sort classes Write inward n indices h = refl
-element_sort classes Rw inward n indices h = refl
-element_sort classes Ctl true n indices h = absurd (false≢true h)
-element_sort classes Ctl false n indices h = absurd (false≢true h)
+element_sort : (classes : List ClassPlan) (k : FlowKind) (direction : Direction) (n : ℕ) (indices : List Term) → IsTrue (allowed classes k direction (plan.Element n indices)) → is_control k ≡ false
+element_sort classes Read direction n indices h = refl
+element_sort classes Write direction n indices h = refl
+element_sort classes Rw direction n indices h = refl
+element_sort classes Ctl In n indices h = absurd (false≢true h)
+element_sort classes Ctl Out n indices h = absurd (false≢true h)
 
-element_way : (k : FlowKind) (inward : Bool) (name : Word) (args : List ArgTree) → cond inward (in_faults k (tree.Element name args)) (out_faults (tree.Element name args)) ≡ []
-element_way Read true name args = refl
-element_way Write true name args = refl
-element_way Rw true name args = refl
-element_way Ctl true name args = refl
-element_way k false name args = refl
+element_way : (k : FlowKind) (direction : Direction) (name : Word) (args : List ArgTree) → kind_faults direction k (tree.Element name args) ≡ []
+element_way Read In name args = refl
+element_way Write In name args = refl
+element_way Rw In name args = refl
+element_way Ctl In name args = refl
+element_way k Out name args = refl
 
 -- a new tile that may be a target, and none
-new_sort : (classes : List ClassPlan) (k : FlowKind) (inward : Bool) → IsTrue (allowed classes k inward plan.New) → (is_control k ≡ false) × (inward ≡ true)
-new_sort classes Read true h = (refl, refl)
-new_sort classes Write true h = (refl, refl)
-new_sort classes Rw true h = (refl, refl)
-new_sort classes Ctl true h = absurd (false≢true h)
-new_sort classes Read false h = absurd (false≢true h)
-new_sort classes Write false h = absurd (false≢true h)
-new_sort classes Rw false h = absurd (false≢true h)
-new_sort classes Ctl false h = absurd (false≢true h)
+new_sort : (classes : List ClassPlan) (k : FlowKind) (direction : Direction) → IsTrue (allowed classes k direction plan.New) → (is_control k ≡ false) × (is_same direction In ≡ true)
+new_sort classes Read In h = (refl, refl)
+new_sort classes Write In h = (refl, refl)
+new_sort classes Rw In h = (refl, refl)
+new_sort classes Ctl In h = absurd (false≢true h)
+new_sort classes Read Out h = absurd (false≢true h)
+new_sort classes Write Out h = absurd (false≢true h)
+new_sort classes Rw Out h = absurd (false≢true h)
+new_sort classes Ctl Out h = absurd (false≢true h)
 
-new_way : (k : FlowKind) (inward : Bool) (spot : Spot) → inward ≡ true → cond inward (in_faults k (tree.New spot)) (out_faults (tree.New spot)) ≡ []
-new_way Read true spot e = refl
-new_way Write true spot e = refl
-new_way Rw true spot e = refl
-new_way Ctl true spot e = refl
-new_way k false spot e = absurd (false≢true e)
+new_way : (k : FlowKind) (direction : Direction) (spot : Spot) → is_same direction In ≡ true → kind_faults direction k (tree.New spot) ≡ []
+new_way Read In spot e = refl
+new_way Write In spot e = refl
+new_way Rw In spot e = refl
+new_way Ctl In spot e = refl
+new_way k Out spot e = absurd (false≢true e)
 
-null_sort : (classes : List ClassPlan) (k : FlowKind) (inward : Bool) → IsTrue (allowed classes k inward plan.Null) → is_control k ≡ false
-null_sort classes Read inward h = refl
-null_sort classes Write inward h = refl
-null_sort classes Rw inward h = refl
-null_sort classes Ctl true h = absurd (false≢true h)
-null_sort classes Ctl false h = absurd (false≢true h)
+null_sort : (classes : List ClassPlan) (k : FlowKind) (direction : Direction) → IsTrue (allowed classes k direction plan.Null) → is_control k ≡ false
+null_sort classes Read direction h = refl
+null_sort classes Write direction h = refl
+null_sort classes Rw direction h = refl
+null_sort classes Ctl In h = absurd (false≢true h)
+null_sort classes Ctl Out h = absurd (false≢true h)
 
-null_way : (classes : List ClassPlan) (k : FlowKind) (inward : Bool) (spot : Spot) → IsTrue (allowed classes k inward plan.Null) → cond inward (in_faults k (tree.Null spot)) (out_faults (tree.Null spot)) ≡ []
-null_way classes Read true spot h = refl
-null_way classes Write true spot h = absurd (false≢true h)
-null_way classes Rw true spot h = refl
-null_way classes Ctl true spot h = absurd (false≢true h)
-null_way classes k false spot h = refl
+null_way : (classes : List ClassPlan) (k : FlowKind) (direction : Direction) (spot : Spot) → IsTrue (allowed classes k direction plan.Null) → kind_faults direction k (tree.Null spot) ≡ []
+null_way classes Read In spot h = refl
+null_way classes Write In spot h = absurd (false≢true h)
+null_way classes Rw In spot h = refl
+null_way classes Ctl In spot h = absurd (false≢true h)
+null_way classes k Out spot h = refl
 
 -- ---- counts
 
@@ -181,12 +184,12 @@ module _ (job : Job) (classes : List ClassPlan) (spaces : List ClassSpace) (coll
       (indices_no_fault job seen args x.1 indices)
 
 module _ (job : Job) (classes : List ClassPlan) (spaces : List ClassSpace) (colls : List Shape) (parts : HaveParts job classes spaces colls) (seen : List DefTree) (flow : FlowTree) (n : ℕ) (typed : flow_type job.given flow ≡ Some n) where
-  abbrev IsWell : Bool → Target → Type 0
-  IsWell inward t = IsWellTarget classes spaces colls (length seen) n flow.kind inward t
+  abbrev IsWell : Direction → Target → Type 0
+  IsWell direction t = IsWellTarget classes spaces colls (length seen) n flow.kind direction t
 
   -- ---- targets in tasks
 
-  module _ (name class : Word) (args : List ArgTree) (x : ℕ × ℕ) (ys : List Arg) (of : task_of job name (class_named job class.text) ≡ Some x) (there : TaskThere job name class x) (closed : arguments_of job seen args ≡ Some ys) (inward : Bool) (well : IsWell inward (plan.Task x.0 x.1 ys)) where
+  module _ (name class : Word) (args : List ArgTree) (x : ℕ × ℕ) (ys : List Arg) (of : task_of job name class ≡ Some x) (there : TaskThere job name class x) (closed : arguments_of job seen args ≡ Some ys) (direction : Direction) (well : IsWell direction (plan.Task x.0 x.1 ys)) where
     count : length there.class_tree.params ≡ length args
     count =
         let named = is_some (kinds.flow_of classes x.0 x.1) in
@@ -198,11 +201,11 @@ module _ (job : Job) (classes : List ClassPlan) (spaces : List ClassSpace) (coll
     flow_there : flow_named there.class_tree name.text ≡ Some x.1
     flow_there =
         sym (ap (option_and_then (λ (c : ClassTree). flow_named c name.text)) there.known)
-        ∙ (pair_parts (class_named job class.text) (option_and_then (λ (c : ClassTree). flow_named c name.text) (class_at job (class_named job class.text))) x of).1
+        ∙ (pair_parts (class_named job class.text) (option_and_then (λ (c : ClassTree). flow_named c name.text) (class_of job class.text)) x of).1
 
     task_named : named_faults job seen (tree.Task name class args) ≡ []
     task_named =
-        none_joined (task_faults name class (length args) (class_at job (class_named job class.text))) (arguments_faults job seen args)
+        none_joined (task_faults name class (length args) (class_of job class.text)) (arguments_faults job seen args)
         (ap (task_faults name class (length args)) there.known
         ∙ none_joined (fault_if (not (length there.class_tree.params == length args)) class.spot Arity) (fault_if (is_none (flow_named there.class_tree name.text)) name.spot NoSuchFlow)
         (ap (λ b. fault_if (not b) class.spot Arity) (eq-eqb (length there.class_tree.params) (length args) count))
@@ -215,28 +218,28 @@ module _ (job : Job) (classes : List ClassPlan) (spaces : List ClassSpace) (coll
         let same : p.0.datatype ≡ n = eqb-true p.0.datatype n (at_some (λ (g : FlowPlan). g.datatype == n) (kinds.flow_of classes x.0 x.1) p.0 p.1 well.typed) in
         p.2.datatype ∙ ap Some same
 
-    way : (b : Bool) → IsTrue (allowed classes flow.kind b (plan.Task x.0 x.1 ys)) → cond b (in_faults flow.kind (tree.Task name class args)) (out_faults (tree.Task name class args)) ≡ []
-    way true h = task_way classes flow.kind name class args x.0 x.1 ys (λ none. no_ranges job seen RangeInDataInput args ys closed none) h
-    way false h = refl
+    way : (d : Direction) → IsTrue (allowed classes flow.kind d (plan.Task x.0 x.1 ys)) → kind_faults d flow.kind (tree.Task name class args) ≡ []
+    way In h = task_way classes flow.kind name class args x.0 x.1 ys (λ none. no_ranges job seen RangeInDataInput args ys closed none) h
+    way Out h = refl
 
-    task_rules : rule_faults job flow inward (tree.Task name class args) ≡ []
-    task_rules = rules_kept job flow inward (tree.Task name class args)
-        (ap (mixes_flows flow.kind) there.named ∙ task_sort classes flow.kind there.flow_tree.kind inward x.0 x.1 ys (kind_there job classes spaces colls parts seen flow n typed name class args x ys there closed) well.kind)
+    task_rules : rule_faults job flow direction (tree.Task name class args) ≡ []
+    task_rules = rules_kept job flow direction (tree.Task name class args)
+        (ap (mixes_flows flow.kind) there.named ∙ task_sort classes flow.kind there.flow_tree.kind direction x.0 x.1 ys (kind_there job classes spaces colls parts seen flow n typed name class args x ys there closed) well.kind)
         (ap (λ o. not (is_control flow.kind) && option_map_or (is_other_flow (type_of_flow flow)) o false) there.named ∙ same_flow_type job.given flow there.flow_tree n typed type_there)
-        (way inward well.kind)
+        (way direction well.kind)
 
-  task_fits : (inward : Bool) (name class : Word) (args : List ArgTree) (t : Target) → target_of job seen (tree.Task name class args) ≡ Some t → IsWell inward t → target_faults job seen flow inward (tree.Task name class args) ≡ []
-  task_fits inward name class args t e well =
-      let q = parts_of (λ (x : ℕ × ℕ) (y : List Arg). plan.Task x.0 x.1 y) (task_of job name (class_named job class.text)) (arguments_of job seen args) t e in
+  task_fits : (direction : Direction) (name class : Word) (args : List ArgTree) (t : Target) → target_of job seen (tree.Task name class args) ≡ Some t → IsWell direction t → target_faults job seen flow direction (tree.Task name class args) ≡ []
+  task_fits direction name class args t e well =
+      let q = parts_of (λ (x : ℕ × ℕ) (y : List Arg). plan.Task x.0 x.1 y) (task_of job name class) (arguments_of job seen args) t e in
       let there = task_there job name class q.0 q.2 in
-      let fits = subst (IsWell inward) (sym q.4) well in
-      none_joined (named_faults job seen (tree.Task name class args)) (rule_faults job flow inward (tree.Task name class args))
-      (task_named name class args q.0 q.1 q.2 there q.3 inward fits)
-      (task_rules name class args q.0 q.1 q.2 there q.3 inward fits)
+      let fits = subst (IsWell direction) (sym q.4) well in
+      none_joined (named_faults job seen (tree.Task name class args)) (rule_faults job flow direction (tree.Task name class args))
+      (task_named name class args q.0 q.1 q.2 there q.3 direction fits)
+      (task_rules name class args q.0 q.1 q.2 there q.3 direction fits)
 
   -- ---- elements
 
-  module _ (name : Word) (args : List ArgTree) (x : ℕ × List Term) (of : element_of job seen name args ≡ Some x) (inward : Bool) (well : IsWell inward (plan.Element x.0 x.1)) where
+  module _ (name : Word) (args : List ArgTree) (x : ℕ × List Term) (of : element_of job seen name args ≡ Some x) (direction : Direction) (well : IsWell direction (plan.Element x.0 x.1)) where
     element_type : is_control flow.kind ≡ false → type_differs job (type_of_flow flow) (tree.Element name args) ≡ false
     element_type «data» =
         let named = (pair_parts (coll_named job name.text) (indices_of job seen args) x of).0 in
@@ -249,27 +252,27 @@ module _ (job : Job) (classes : List ClassPlan) (spaces : List ClassSpace) (coll
         ∙ ap (λ o. option_map_or (λ m. not (m == c.0.datatype)) o true) (data_type job.given flow.kind (type_of_flow flow) n «data» typed)
         ∙ ap not (eq-eqb n c.0.datatype same)
 
-    element_rules : rule_faults job flow inward (tree.Element name args) ≡ []
+    element_rules : rule_faults job flow direction (tree.Element name args) ≡ []
     element_rules =
-        let sort = element_sort classes flow.kind inward x.0 x.1 well.kind in
-        rules_kept job flow inward (tree.Element name args) sort
+        let sort = element_sort classes flow.kind direction x.0 x.1 well.kind in
+        rules_kept job flow direction (tree.Element name args) sort
         (ap (λ b. not (is_control flow.kind) && b) (element_type sort) ∙ and-false (not (is_control flow.kind)))
-        (element_way flow.kind inward name args)
+        (element_way flow.kind direction name args)
 
-  element_target_fits : (inward : Bool) (name : Word) (args : List ArgTree) (t : Target) → target_of job seen (tree.Element name args) ≡ Some t → IsWell inward t → target_faults job seen flow inward (tree.Element name args) ≡ []
-  element_target_fits inward name args t e well =
+  element_target_fits : (direction : Direction) (name : Word) (args : List ArgTree) (t : Target) → target_of job seen (tree.Element name args) ≡ Some t → IsWell direction t → target_faults job seen flow direction (tree.Element name args) ≡ []
+  element_target_fits direction name args t e well =
       let q = from_option_map (λ (x : ℕ × List Term). plan.Element x.0 x.1) (element_of job seen name args) t e in
-      let fits = subst (IsWell inward) (sym q.2) well in
-      none_joined (named_faults job seen (tree.Element name args)) (rule_faults job flow inward (tree.Element name args))
-      (element_fits job classes spaces colls parts seen name args q.0 q.1 fits.exists) (element_rules name args q.0 q.1 inward fits)
+      let fits = subst (IsWell direction) (sym q.2) well in
+      none_joined (named_faults job seen (tree.Element name args)) (rule_faults job flow direction (tree.Element name args))
+      (element_fits job classes spaces colls parts seen name args q.0 q.1 fits.exists) (element_rules name args q.0 q.1 direction fits)
 
-  pub target_fits : (inward : Bool) (t : TargetTree) (q : Target) → target_of job seen t ≡ Some q → IsWell inward q → target_faults job seen flow inward t ≡ []
-  target_fits inward (tree.Task name class args) q e well = task_fits inward name class args q e well
-  target_fits inward (tree.Element name args) q e well = element_target_fits inward name args q e well
-  target_fits inward (tree.New spot) q e well =
-      let fits = subst (IsWell inward) (sym (same_Some plan.New q e)) well in
-      let sort = new_sort classes flow.kind inward fits.kind in
-      rules_kept job flow inward (tree.New spot) sort.0 (and-false (not (is_control flow.kind))) (new_way flow.kind inward spot sort.1)
-  target_fits inward (tree.Null spot) q e well =
-      let fits = subst (IsWell inward) (sym (same_Some plan.Null q e)) well in
-      rules_kept job flow inward (tree.Null spot) (null_sort classes flow.kind inward fits.kind) (and-false (not (is_control flow.kind))) (null_way classes flow.kind inward spot fits.kind)
+  pub target_fits : (direction : Direction) (t : TargetTree) (q : Target) → target_of job seen t ≡ Some q → IsWell direction q → target_faults job seen flow direction t ≡ []
+  target_fits direction (tree.Task name class args) q e well = task_fits direction name class args q e well
+  target_fits direction (tree.Element name args) q e well = element_target_fits direction name args q e well
+  target_fits direction (tree.New spot) q e well =
+      let fits = subst (IsWell direction) (sym (same_Some plan.New q e)) well in
+      let sort = new_sort classes flow.kind direction fits.kind in
+      rules_kept job flow direction (tree.New spot) sort.0 (and-false (not (is_control flow.kind))) (new_way flow.kind direction spot sort.1)
+  target_fits direction (tree.Null spot) q e well =
+      let fits = subst (IsWell direction) (sym (same_Some plan.Null q e)) well in
+      rules_kept job flow direction (tree.Null spot) (null_sort classes flow.kind direction fits.kind) (and-false (not (is_control flow.kind))) (null_way classes flow.kind direction spot fits.kind)

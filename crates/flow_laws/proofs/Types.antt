@@ -9,7 +9,8 @@ use Rattle.coll_data.specs.Data.{Data}
 use Rattle.std.proofs.lemmas.Option.{same_Some}
 use Rattle.list_lemmas.proofs.Options.{from_option_map}
 use Rattle.check_flows.specs.Kinds.{is_control}
-use Rattle.check_flows.specs.Datatypes.{allowed_type, default_name, type_is, type_number}
+use Rattle.coll_data.specs.Types.{default_type}
+use Rattle.check_flows.specs.Datatypes.{allowed_type, type_is, type_number}
 
 -- what is found passes
 found_from : {A : Type 0} (p : A → Bool) (i : ℕ) (xs : List A) (n : ℕ) → position_from p i xs ≡ Some n → (k : ℕ) × (x : A) × (n ≡ i + k) × (slice_get xs k ≡ Some x) × (p x ≡ true)
@@ -34,10 +35,10 @@ numbered d name n e =
     (p.0, q.0, p.2, q.1, (bytes_decides q.0.0 name).0 q.2)
 
 pub one_name : (d : Data) (a b : List ℕ) (n : ℕ) → type_number d a ≡ Some n → type_number d b ≡ Some n → a ≡ b
-one_name d a b n e f = by (bytes_eq a default_name) (bytes_eq b default_name) refl refl e f where
-  by : (x y : Bool) → bytes_eq a default_name ≡ x → bytes_eq b default_name ≡ y
+one_name d a b n e f = by (bytes_eq a default_type) (bytes_eq b default_type) refl refl e f where
+  by : (x y : Bool) → bytes_eq a default_type ≡ x → bytes_eq b default_type ≡ y
       → cond x (Some 0) (option_map suc (position (type_is a) d.types)) ≡ Some n → cond y (Some 0) (option_map suc (position (type_is b) d.types)) ≡ Some n → a ≡ b
-  by true true p q g h = (bytes_decides a default_name).0 p ∙ sym ((bytes_decides b default_name).0 q)
+  by true true p q g h = (bytes_decides a default_type).0 p ∙ sym ((bytes_decides b default_type).0 q)
   by true false p q g h =
       let first : 0 ≡ n = same_Some 0 n g in
       let s = numbered d b n h in
@@ -58,8 +59,8 @@ one_name d a b n e f = by (bytes_eq a default_name) (bytes_eq b default_name) re
       sym s.4 ∙ (ap (λ (z : List ℕ × ℕ). z.0) one ∙ t.4)
 
 -- the type that a flow may have, by its kind
-pub control_name : (d : Data) (k : FlowKind) (name : List ℕ) (n : ℕ) → is_control k ≡ true → allowed_type d k name ≡ Some n → name ≡ default_name
-control_name d k name n c e = by (bytes_eq name default_name) refl (ap (λ b. cond (b && not (bytes_eq name default_name)) None (type_number d name)) (sym c) ∙ e) where
-  by : (b : Bool) → bytes_eq name default_name ≡ b → cond (not b) None (type_number d name) ≡ Some n → name ≡ default_name
-  by true at f = (bytes_decides name default_name).0 at
+pub control_name : (d : Data) (k : FlowKind) (name : List ℕ) (n : ℕ) → is_control k ≡ true → allowed_type d k name ≡ Some n → name ≡ default_type
+control_name d k name n c e = by (bytes_eq name default_type) refl (ap (λ b. cond (b && not (bytes_eq name default_type)) None (type_number d name)) (sym c) ∙ e) where
+  by : (b : Bool) → bytes_eq name default_type ≡ b → cond (not b) None (type_number d name) ≡ Some n → name ≡ default_type
+  by true at f = (bytes_decides name default_type).0 at
   by false at f = absurd cc

@@ -17,13 +17,13 @@ ArgumentsAreClosed =
     (job : Job) (seen : List DefTree) (args : List ArgTree) (xs : List Arg) → arguments_of job seen args ≡ Some xs
     → IsTrue (list_all (is_closed_arg (length seen)) xs)
 
--- So do indices.
+-- Indices that are resolved name only definitions that are seen.
 abbrev pub IndicesAreClosed : Type 0
 IndicesAreClosed =
     (job : Job) (seen : List DefTree) (args : List ArgTree) (ts : List Term) → indices_of job seen args ≡ Some ts
     → IsTrue (list_all (is_closed (length seen)) ts)
 
--- So does an expression that may be left out.
+-- An expression that may be left out and is resolved names only definitions that are seen.
 abbrev pub OptionIsClosed : Type 0
 OptionIsClosed =
     (job : Job) (seen : List DefTree) (e : Option Expression) (o : Option Term) → option_term job seen e ≡ Some o

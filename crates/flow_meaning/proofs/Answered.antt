@@ -28,7 +28,7 @@ use Rattle.flow_meaning.specs.Ending.{Ended, has_outputs, output_tile}
 use Rattle.flow_meaning.specs.Backward.{ended}
 use Rattle.flow_meaning.specs.Answer.{answer, answer_by, ran, trap_rows, trapped, waiting}
 use Rattle.flow_meaning.specs.Final.{final_data, is_place_of, replaced_colls, replaced_data, replaced_tiles, written_tile, written_to}
-use Rattle.flow_meaning.specs.Machine.{IsQuiescent, MachineState, Sent, sender}
+use Rattle.flow_meaning.specs.Machine.{IsQuiescent, MachineState, SentItem, sender}
 use Rattle.flow_meaning.specs.Sound.{IsSoundState}
 use Rattle.flow_meaning.specs.StateAnswer.{first_written, state_answer, state_answer_by, state_data}
 use Rattle.flow_meaning.specs.Table.{waiting_rows, written, written_by}
@@ -42,13 +42,13 @@ use Rattle.flow_meaning.proofs.Rest.{item_sender}
 abbrev Written : Type 0
 Written = WriteBack × Option (List ℤ)
 
-abbrev entry_of_send : Sent → Option Written
+abbrev entry_of_send : SentItem → Option Written
 entry_of_send x = written_by x.item x.tile
 
-write_send : WriteBack → Option (List ℤ) → Sent
+write_send : WriteBack → Option (List ℤ) → SentItem
 write_send w tile = record { item = item.Write w; tile = tile }
 
-written_step : (x : Sent) (xs : List Sent) (w : WriteBack) (tile : Option (List ℤ)) → (IsIn {A = Written} (w, tile) (filter_map entry_of_send xs) → IsIn (write_send w tile) xs) →
+written_step : (x : SentItem) (xs : List SentItem) (w : WriteBack) (tile : Option (List ℤ)) → (IsIn {A = Written} (w, tile) (filter_map entry_of_send xs) → IsIn (write_send w tile) xs) →
     (i : Item) (o : Option (List ℤ)) → x.item ≡ i → x.tile ≡ o → IsIn {A = Written} (w, tile) (cons_option (written_by i o) (filter_map entry_of_send xs)) → IsIn (write_send w tile) (x ∷ xs)
 unfolding write_send
 written_step x xs w tile ih (item.Edge e) o is has h = inr (ih h)
@@ -62,7 +62,7 @@ written_step x xs w tile ih (item.Write v) o is has h = elim h [
   | inr t ↦ inr (ih t)
 ]
 
-written_send : (xs : List Sent) (w : WriteBack) (tile : Option (List ℤ)) → IsIn {A = Written} (w, tile) (filter_map entry_of_send xs) → IsIn (write_send w tile) xs
+written_send : (xs : List SentItem) (w : WriteBack) (tile : Option (List ℤ)) → IsIn {A = Written} (w, tile) (filter_map entry_of_send xs) → IsIn (write_send w tile) xs
 written_send [] w tile h = absurd h
 written_send (x ∷ xs) w tile h = written_step x xs w tile (λ k. written_send xs w tile k) x.item x.tile refl refl h
 
@@ -71,10 +71,10 @@ put_in : (i : Item) (o : Option (List ℤ)) (l : List Written) (r : Written) →
 put_in (item.Edge e) o l r h = h
 put_in (item.Write w) o l r h = inr h
 
-put_first : (w : WriteBack) (x : Sent) (l : List Written) → x.item ≡ item.Write w → IsIn {A = Written} (w, x.tile) (cons_option (entry_of_send x) l)
+put_first : (w : WriteBack) (x : SentItem) (l : List Written) → x.item ≡ item.Write w → IsIn {A = Written} (w, x.tile) (cons_option (entry_of_send x) l)
 put_first w x l e = subst (λ i. IsIn {A = Written} (w, x.tile) (cons_option (written_by i x.tile) l)) (sym e) (inl refl)
 
-send_written : (xs : List Sent) (x : Sent) (w : WriteBack) → IsIn x xs → x.item ≡ item.Write w → IsIn {A = Written} (w, x.tile) (filter_map entry_of_send xs)
+send_written : (xs : List SentItem) (x : SentItem) (w : WriteBack) → IsIn x xs → x.item ≡ item.Write w → IsIn {A = Written} (w, x.tile) (filter_map entry_of_send xs)
 send_written [] x w h e = absurd h
 send_written (y ∷ ys) x w h e = elim h [
   | inl q ↦ subst (λ z. IsIn {A = Written} (w, x.tile) (cons_option (entry_of_send z) (filter_map entry_of_send ys))) q (put_first w x (filter_map entry_of_send ys) e)

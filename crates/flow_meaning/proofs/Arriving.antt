@@ -21,7 +21,7 @@ use Rattle.dep_iter.proofs.Items.{Edge-injective, item_edge}
 use Rattle.dep_iter.proofs.Once.{once-in_edges}
 use Rattle.list_lemmas.specs.Counting.{as_number, count}
 use Rattle.flow_meaning.specs.Comparing.{same_item}
-use Rattle.flow_meaning.specs.Machine.{MachineState, MaySend, Send, Sent, arrived, is_sent, send_count, sent_with, state_after, first_tile, sent_tile, end_in}
+use Rattle.flow_meaning.specs.Machine.{MachineState, MaySend, Send, SentItem, arrived, is_sent, send_count, sent_with, state_after, first_tile, sent_tile, end_in}
 use Rattle.flow_meaning.specs.Ending.{output_tile}
 use Rattle.flow_meaning.specs.Sound.{IsSoundState}
 use Rattle.flow_meaning.proofs.Comparing.{same_item-decides}
@@ -53,7 +53,7 @@ edge_once (d ∷ ds) h e =
 
 module _ (P : Plan) (G : Data) (S : MachineState) (i : Item) (may : MaySend P G S i) where
   sum_of : (j : Item) → send_count (state_after P G S (Send i)) j ≡ send_count S j + as_number (same_item j i)
-  sum_of j = weigh-push (λ (x : Sent). as_number (same_item j x.item)) S.sends (sent_with P G S i)
+  sum_of j = weigh-push (λ (x : SentItem). as_number (same_item j x.item)) S.sends (sent_with P G S i)
 
   -- an item was sent then if it was before or is the one that is sent
   sent_then : (j : Item) → as_number (is_sent (state_after P G S (Send i)) j) ≡ as_number (is_sent S j) + as_number (same_item j i)
@@ -95,14 +95,14 @@ module _ (P : Plan) (G : Data) (con : IsConsistent P) (S : MachineState) (sound 
   writes_not w may t = let none = no_write w (in_edges P t) in omega (arith, came P G S (item.Write w) may (in_edges P t))
 
 -- the tile of what is sent last
-first_here : (i : Item) (xs : List Sent) (x : Sent) → count (λ (y : Sent). same_item i y.item) xs ≡ 0 → same_item i x.item ≡ true → first_tile i (xs ++ x ∷ []) ≡ x.tile
+first_here : (i : Item) (xs : List SentItem) (x : SentItem) → count (λ (y : SentItem). same_item i y.item) xs ≡ 0 → same_item i x.item ≡ true → first_tile i (xs ++ x ∷ []) ≡ x.tile
 first_here i [] x none h = ap (λ b. cond b x.tile None) h
 first_here i (y ∷ ys) x none h =
     by_test (same_item i y.item)
     (λ k. absurd (omega (arith, ap as_number k)))
     (λ k. ap (λ b. cond b y.tile (first_tile i (ys ++ x ∷ []))) k ∙ first_here i ys x (omega (arith, ap as_number k)) h)
 
-first_other : (i : Item) (xs : List Sent) (x : Sent) → same_item i x.item ≡ false → first_tile i (xs ++ x ∷ []) ≡ first_tile i xs
+first_other : (i : Item) (xs : List SentItem) (x : SentItem) → same_item i x.item ≡ false → first_tile i (xs ++ x ∷ []) ≡ first_tile i xs
 first_other i [] x h = ap (λ b. cond b x.tile None) h
 first_other i (y ∷ ys) x h = ap (λ o. cond (same_item i y.item) y.tile o) (first_other i ys x h)
 

@@ -25,7 +25,7 @@ use Rattle.flow_meaning.specs.Comparing.{same_item}
 use Rattle.flow_meaning.specs.Starting.{delivered_tiles, starting_tiles}
 use Rattle.flow_meaning.specs.Ending.{ended_on, has_outputs, output_tile}
 use Rattle.flow_meaning.specs.Backward.{ended, has_all_sources, inputs, source_tile}
-use Rattle.flow_meaning.specs.Machine.{Event, Claim, Send, Happen, IsPossible, MachineState, MayClaim, MaySend, Sent, state_after, arrived, claim_count, end_in, first_tile, is_sent, opening_state, send_count, sender, sent_tile, sent_with}
+use Rattle.flow_meaning.specs.Machine.{Event, Claim, Send, Happen, IsPossible, MachineState, MayClaim, MaySend, SentItem, state_after, arrived, claim_count, end_in, first_tile, is_sent, opening_state, send_count, sender, sent_tile, sent_with}
 use Rattle.flow_meaning.specs.Sound.{HasAllArrived, IsOutput, IsSoundState}
 use Rattle.flow_meaning.proofs.Comparing.{same_item-decides}
 use Rattle.flow_meaning.proofs.Enough.{fixed}
@@ -42,14 +42,14 @@ pub member_claim : (S : MachineState) (t : Task) → IsIn t S.claims → 0 < cla
 member_claim S t i = count-some (same_task t) S.claims t i ((same_task-decides t t).1 refl)
 
 -- an item that was sent is that of one of the sends
-pub send_member : (S : MachineState) (i : Item) → is_sent S i ≡ true → (x : Sent) × IsIn x S.sends × (x.item ≡ i)
+pub send_member : (S : MachineState) (i : Item) → is_sent S i ≡ true → (x : SentItem) × IsIn x S.sends × (x.item ≡ i)
 send_member S i h =
-    let p = some_passes (λ (x : Sent). same_item i x.item) S.sends (ltb-true 0 (send_count S i) h) in
+    let p = some_passes (λ (x : SentItem). same_item i x.item) S.sends (ltb-true 0 (send_count S i) h) in
     (p.0, p.1, sym ((same_item-decides i p.0.item).0 p.2))
 
-pub member_send : (S : MachineState) (x : Sent) → IsIn x S.sends → is_sent S x.item ≡ true
+pub member_send : (S : MachineState) (x : SentItem) → IsIn x S.sends → is_sent S x.item ≡ true
 member_send S x i =
-    lt-ltb 0 (send_count S x.item) (count-some (λ (y : Sent). same_item x.item y.item) S.sends x i ((same_item-decides x.item x.item).1 refl))
+    lt-ltb 0 (send_count S x.item) (count-some (λ (y : SentItem). same_item x.item y.item) S.sends x i ((same_item-decides x.item x.item).1 refl))
 
 pub unsent : (S : MachineState) (i : Item) → is_sent S i ≡ false → send_count S i ≡ 0
 unsent S i h = let k = ltb-false 0 (send_count S i) h in omega arith
@@ -59,7 +59,7 @@ pub each_arrived : (P : Plan) (S : MachineState) (t : Task) → arrived P S t �
 each_arrived P S t h e i = all_pass (λ d. is_sent S (item.Edge d)) (in_edges P t) (omega (arith, h)) e i
 
 -- the tile that was sent first with an item is that of a send of the item
-first_is : (i : Item) (xs : List Sent) → 0 < count (λ (x : Sent). same_item i x.item) xs → (x : Sent) × IsIn x xs × (x.item ≡ i) × (first_tile i xs ≡ x.tile)
+first_is : (i : Item) (xs : List SentItem) → 0 < count (λ (x : SentItem). same_item i x.item) xs → (x : SentItem) × IsIn x xs × (x.item ≡ i) × (first_tile i xs ≡ x.tile)
 first_is i [] h = absurd (omega arith)
 first_is i (x ∷ xs) h =
     by_test (same_item i x.item)
@@ -76,7 +76,7 @@ module _ (P : Plan) (G : Data) (con : IsConsistent P) (S : MachineState) (sound 
     pub outputs : has_outputs (ended P G e.from) ≡ true
     pub tile : sent_tile S e ≡ source_tile (ended P G) e
 
-  output_of : (i : Item) (x : Sent) → x.item ≡ i → IsIn x S.sends → IsIn (sender i) S.claims × (has_outputs (ended P G (sender i)) ≡ true) × (x.tile ≡ output_tile (ended P G (sender i)) (item_flow i))
+  output_of : (i : Item) (x : SentItem) → x.item ≡ i → IsIn x S.sends → IsIn (sender i) S.claims × (has_outputs (ended P G (sender i)) ≡ true) × (x.tile ≡ output_tile (ended P G (sender i)) (item_flow i))
   output_of i x e here =
       let o = sound.sent_are_outputs x here in
       (subst (λ j. IsIn (sender j) S.claims) e o.claimed, subst (λ j. has_outputs (ended P G (sender j)) ≡ true) e o.outputs, o.tile ∙ ap (λ j. output_tile (ended P G (sender j)) (item_flow j)) e)
@@ -130,7 +130,7 @@ module _ (P : Plan) (G : Data) (con : IsConsistent P) (S : MachineState) (sound 
 
   module _ (i : Item) (may : MaySend P G S i) where
     sum_at : (j : Item) → send_count (state_after P G S (Send i)) j ≡ send_count S j + as_number (same_item j i)
-    sum_at j = weigh-push (λ (x : Sent). as_number (same_item j x.item)) S.sends (sent_with P G S i)
+    sum_at j = weigh-push (λ (x : SentItem). as_number (same_item j x.item)) S.sends (sent_with P G S i)
 
     still_sent : (j : Item) → is_sent S j ≡ true → is_sent (state_after P G S (Send i)) j ≡ true
     still_sent j h = let c = ltb-true 0 (send_count S j) h in lt-ltb 0 (send_count (state_after P G S (Send i)) j) (omega (arith, sum_at j))

@@ -3,6 +3,7 @@ use Rattle.std.proofs.Common.{ℕ, ◌≡◌, ◌↔◌, ◌≤◌, ℤ, ◌&&�
 use Rattle.std.proofs.lemmas.Bool.{false≢true}
 use Rattle.std.specs.Cmp.{first_so, second_so}
 use Rattle.std.specs.Cmp.Rules.{signed_items}
+use Rattle.ptg_base.specs.Entry.{Entry}
 use Rattle.ptg_base.specs.Lists.{IsIn}
 use Rattle.ptg_base.specs.Task.{Task}
 use Rattle.ptg_base.specs.TaskComparing.{same_task}
@@ -19,9 +20,9 @@ use Rattle.dep_iter.specs.Consistent.{IsConsistent}
 use Rattle.list_lemmas.specs.Counting.{count, as_number}
 use Rattle.flow_meaning.specs.Comparing.{same_item}
 use Rattle.flow_meaning.specs.Ending.{has_outputs}
-use Rattle.flow_meaning.specs.Machine.{Claim, Event, IsPossible, IsQuiescent, MachineState, Send, Sent, arrived, claim_count, is_sent, send_count, sender, first_tile, same_sent, same_tile, sent_tile}
+use Rattle.flow_meaning.specs.Machine.{Claim, Event, IsPossible, IsQuiescent, MachineState, Send, SentItem, arrived, claim_count, is_sent, send_count, sender, first_tile, same_sent_item, same_tile, sent_tile}
 use Rattle.flow_meaning.specs.Starting.{Delivery, delivered_tiles}
-use Rattle.flow_meaning.specs.Table.{TableEntry, table_entry}
+use Rattle.flow_meaning.specs.Table.{table_entry}
 use Rattle.flow_meaning.specs.Sound.{HasAllArrived, IsReordered, IsSoundState}
 use Rattle.flow_meaning.proofs.Comparing.{same_item-decides}
 use Rattle.flow_meaning.proofs.Events.{unsent, claim_member, ends_so, member_claim, delivers}
@@ -32,19 +33,19 @@ same_tile-decides None (Some y) = (λ h. absurd (false≢true h), λ e. absurd c
 same_tile-decides (Some x) None = (λ h. absurd (false≢true h), λ e. absurd cc)
 same_tile-decides (Some x) (Some y) = (λ h. ap (λ (z : List ℤ). Some z) ((signed_items x y).0 h), λ e. (signed_items x y).1 cc)
 
-pub same_sent-decides : (a b : Sent) → IsTrue (same_sent a b) ↔ (a ≡ b)
-same_sent-decides a b = (one_way, other_way)
+pub same_sent_item-decides : (a b : SentItem) → IsTrue (same_sent_item a b) ↔ (a ≡ b)
+same_sent_item-decides a b = (one_way, other_way)
   where
-    one_way : IsTrue (same_sent a b) → a ≡ b
+    one_way : IsTrue (same_sent_item a b) → a ≡ b
     one_way h =
         let e = (same_item-decides a.item b.item).0 (first_so (same_item a.item b.item) (same_tile a.tile b.tile) h) in
         let f = (same_tile-decides a.tile b.tile).0 (second_so (same_item a.item b.item) (same_tile a.tile b.tile) h) in
         λ k. record { item = e k; tile = f k }
 
-    other_way : a ≡ b → IsTrue (same_sent a b)
+    other_way : a ≡ b → IsTrue (same_sent_item a b)
     other_way e =
-        let left = (same_item-decides a.item b.item).1 (ap (λ (x : Sent). x.item) e) in
-        let right = (same_tile-decides a.tile b.tile).1 (ap (λ (x : Sent). x.tile) e) in
+        let left = (same_item-decides a.item b.item).1 (ap (λ (x : SentItem). x.item) e) in
+        let right = (same_tile-decides a.tile b.tile).1 (ap (λ (x : SentItem). x.tile) e) in
         λ k. left k && right k
 
 module _ (S T : MachineState) (r : IsReordered S T) where
@@ -65,8 +66,8 @@ module _ (S T : MachineState) (r : IsReordered S T) where
   claim_back : (t : Task) → IsIn t T.claims → IsIn t S.claims
   claim_back t i = claim_member S t (omega (arith, member_claim T t i, claims_same t))
 
-  send_back : (x : Sent) → IsIn x T.sends → IsIn x S.sends
-  send_back x i = same_in same_sent same_sent-decides T.sends S.sends (HasSameMembers-sym S.sends T.sends r.sends) x i
+  send_back : (x : SentItem) → IsIn x T.sends → IsIn x S.sends
+  send_back x i = same_in same_sent_item same_sent_item-decides T.sends S.sends (HasSameMembers-sym S.sends T.sends r.sends) x i
 
   fed_in : (P : Plan) (t : Task) → HasAllArrived P S t → HasAllArrived P T t
   fed_in P t fed = record { task = fed.task; all_arrived = sym (arrived_same P t) ∙ fed.all_arrived }
@@ -98,7 +99,7 @@ module _ (S T : MachineState) (r : IsReordered S T) where
   back = record { claims = HasSameMembers-sym S.claims T.claims r.claims; sends = HasSameMembers-sym S.sends T.sends r.sends }
 
 -- a tile was sent with an item alone that was sent
-pub first_none : (i : Item) (xs : List Sent) → count (λ (x : Sent). same_item i x.item) xs ≡ 0 → first_tile i xs ≡ None
+pub first_none : (i : Item) (xs : List SentItem) → count (λ (x : SentItem). same_item i x.item) xs ≡ 0 → first_tile i xs ≡ None
 first_none i [] h = refl
 first_none i (x ∷ xs) h =
     by_test (same_item i x.item)
@@ -124,7 +125,7 @@ module _ (P : Plan) (G : Data) (con : IsConsistent P) (S T : MachineState) (soun
           first_none (item.Edge e) S.sends none ∙ sym (first_none (item.Edge e) T.sends (sym (sends_same S T r (item.Edge e)) ∙ none)))
 
   -- what a table holds of a task, by how often it was claimed, how many edges into it came, and what they deliver
-  abbrev entry_by : Task → ℕ → ℕ → Delivery → Option TableEntry
+  abbrev entry_by : Task → ℕ → ℕ → Delivery → Option Entry
   entry_by t claims came delivered =
       cond (((claims == 0) && (came == goal P t)) || ((claims == 0) && (nat_lt 0 came && nat_lt came (goal P t))))
       (Some (record { goal = goal P t; arrived = came; priority = priority P t; tiles = delivered_tiles P delivered t })) None

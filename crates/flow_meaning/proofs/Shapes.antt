@@ -10,7 +10,8 @@ use Rattle.term_core.specs.StatementList.{StatementList, Done, SetThen, PutThen,
 use Rattle.term_core.specs.declared.body.Body.{Body}
 use Rattle.term_core.specs.declared.trap.Trap.{Trap}
 use Rattle.term_core.specs.declared.trap.Trap.TheVariants as trap
-use Rattle.body_eval.specs.Element.{index_in, put_element, tile_of, written, written_at}
+use Rattle.ptg_base.specs.Index.{index_in}
+use Rattle.body_eval.specs.Element.{put_element, tile_of, written, written_at}
 use Rattle.body_eval.specs.Meaning.{body_meaning, first_then, for_meaning, if_meaning, opening, put_meaning, run, set_meaning, task_budget, turn_values, turns}
 use Rattle.body_eval.specs.Sizes.{size_of}
 use Rattle.body_eval.specs.State.{State, assigned, put, spent, value_in}

@@ -14,6 +14,7 @@ use Rattle.term_core.specs.declared.fault.ExprFault.{ExprFault}
 use Rattle.term_core.specs.declared.flow.FlowKind.{FlowKind}
 use Rattle.term_core.specs.declared.flow.FlowKind.TheVariants.{Read, Write, Rw, Ctl}
 use Rattle.term_core.specs.declared.space.ClassSpace.{ClassSpace}
+use Rattle.term_core.specs.declared.direction.Direction.TheVariants.{In}
 use Rattle.range_space.specs.declared.fault.SpanFault.{SpanFault}
 use Rattle.range_space.specs.declared.fault.SpanFault.TheVariants.{Expr}
 use Rattle.range_space.specs.Tasks.{or_empty}
@@ -31,7 +32,6 @@ use Rattle.plan_core.specs.declared.target.Target.TheVariants as target
 use Rattle.plan_core.specs.Closed.{is_closed_option, is_span}
 use Rattle.plan_core.specs.Flows.{is_dependence, is_flow, is_in_target, is_second, is_source}
 use Rattle.plan_core.specs.Kinds.{is_data}
-use Rattle.dep_iter.specs.declared.direction.Direction.TheVariants.{In}
 use Rattle.dep_iter.specs.declared.source.Source.{Source}
 use Rattle.dep_iter.specs.declared.source.Source.TheVariants as source
 use Rattle.dep_iter.specs.Tasks.{IsTask, flows_of, locals_of, task}

@@ -52,5 +52,6 @@ answer_by P G [] =
     if length (ran P G) == length (all_tasks P) then Complete (length (all_tasks P)) (final_data P G)
     else Stalled (length (ran P G)) (length (all_tasks P)) (waiting P G)
 
+-- the answer of a job
 unfoldable pub answer : Plan → Data → Outcome
 answer P G = answer_by P G (trapped P G)

@@ -2,13 +2,14 @@
 -- Computing, 2012): a task runs on what its sources gave.
 use Rattle.std.specs.Prelude.{ℕ, zero, suc, List, length, Bool, Option, None, if◌then◌else◌}
 use Rattle.std.specs.List.{list_all}
+use Rattle.ptg_base.specs.Entry.{FlowTile}
 use Rattle.ptg_base.specs.Task.{Task}
 use Rattle.ptg_base.specs.declared.edge.Edge.{Edge}
 use Rattle.plan_core.specs.declared.plan.Plan.{Plan}
 use Rattle.coll_data.specs.Data.{Data}
 use Rattle.dep_iter.specs.Tasks.{all_tasks}
 use Rattle.dep_iter.specs.Edges.{in_edges}
-use Rattle.flow_meaning.specs.Starting.{Delivery, FlowTile, delivered_tiles}
+use Rattle.flow_meaning.specs.Starting.{Delivery, delivered_tiles}
 use Rattle.flow_meaning.specs.Ending.{Ended, has_outputs, output_tile, ended_on}
 
 -- whether the source of each edge into a task has outputs, where `before` says how tasks ended

@@ -8,16 +8,20 @@ use Rattle.ptg_base.specs.declared.edge.WriteBack.{WriteBack}
 use Rattle.ptg_base.specs.declared.edge.Item.{Item}
 use Rattle.ptg_base.specs.declared.edge.Item.TheVariants as item
 
+-- two places are the same
 abbrev pub same_place : Place → Place → Bool
 same_place a b = nat_eq a.coll b.coll && (int_eq a.i b.i && int_eq a.j b.j)
 
+-- two edges are the same
 abbrev pub same_edge : Edge → Edge → Bool
 same_edge a b =
     same_task a.from b.from && (nat_eq a.out_flow b.out_flow && (same_task a.to b.to && nat_eq a.in_flow b.in_flow))
 
+-- two write-backs are the same
 abbrev pub same_write_back : WriteBack → WriteBack → Bool
 same_write_back a b = same_task a.from b.from && (nat_eq a.flow b.flow && same_place a.place b.place)
 
+-- two items are the same
 abbrev pub same_item : Item → Item → Bool
 same_item (item.Edge a) (item.Edge b) = same_edge a b
 same_item (item.Edge a) (item.Write b) = false

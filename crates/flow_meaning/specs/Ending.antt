@@ -48,6 +48,6 @@ size_from P f source.New = Some (slice_index P.elems f.datatype)
 size_from P f source.Null = None
 size_from P f source.Nothing = Some (slice_index P.elems f.datatype)
 
--- the same for flow n of a task; a CTL flow has no tile
+-- how many numbers the tile of flow n of a task has; a CTL flow has no tile
 abbrev pub flow_size : Plan → Task → ℕ → FlowPlan → Option ℕ
 flow_size P t n f = if is_data (Some f.kind) then size_from P f (data_source P t n) else None

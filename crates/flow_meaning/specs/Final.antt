@@ -37,7 +37,7 @@ abbrev pub replaced_tiles : ((Place → Bool) → Option (List ℤ)) → ℕ →
 replaced_tiles at c x k [] = []
 replaced_tiles at c x k (tile ∷ tiles) = unwrap_or (at (is_place_of c x k)) tile ∷ replaced_tiles at c x (suc k) tiles
 
--- the same for collections, from number c on
+-- collections, from number c on, with each written tile replaced
 abbrev pub replaced_colls : ((Place → Bool) → Option (List ℤ)) → ℕ → List Coll → List Coll
 replaced_colls at c [] = []
 replaced_colls at c (x ∷ xs) = record x { tiles = replaced_tiles at c x 0 x.tiles } ∷ replaced_colls at (suc c) xs

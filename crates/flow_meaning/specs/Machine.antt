@@ -20,7 +20,7 @@ use Rattle.flow_meaning.specs.Starting.{Delivery}
 use Rattle.flow_meaning.specs.Ending.{Ended, has_outputs, output_tile, ended_on}
 
 -- an item that was sent, and the tile that was sent with it: none with an edge of a CTL flow
-pub record Sent : Type 0 where
+pub record SentItem : Type 0 where
   pub item : Item
   pub tile : Option (List ℤ)
 
@@ -32,14 +32,14 @@ same_tile (Some x) None = false
 same_tile (Some x) (Some y) = pointwise int_eq x y
 
 -- whether the same item was sent with the same tile
-abbrev pub same_sent : Sent → Sent → Bool
-same_sent a b = same_item a.item b.item && same_tile a.tile b.tile
+abbrev pub same_sent_item : SentItem → SentItem → Bool
+same_sent_item a b = same_item a.item b.item && same_tile a.tile b.tile
 
 -- what has happened: the tasks that were claimed, and the items that were sent. An event adds to a list at its end. No
 -- law reads the order of a list, but the one that claims are a legal order
 pub record MachineState : Type 0 where
   pub claims : List Task
-  pub sends : List Sent
+  pub sends : List SentItem
 
 -- nothing has happened
 abbrev pub opening_state : MachineState
@@ -50,12 +50,13 @@ abbrev pub sender : Item → Task
 sender (item.Edge e) = e.from
 sender (item.Write w) = w.from
 
--- how often a task was claimed, and how often an item was sent, with whatever tile
+-- how often a task was claimed
 abbrev pub claim_count : MachineState → Task → ℕ
 claim_count S t = count (same_task t) S.claims
 
+-- how often an item was sent, with whatever tile
 abbrev pub send_count : MachineState → Item → ℕ
-send_count S i = count (λ (x : Sent). same_item i x.item) S.sends
+send_count S i = count (λ (x : SentItem). same_item i x.item) S.sends
 
 -- whether an item was sent
 abbrev pub is_sent : MachineState → Item → Bool
@@ -66,7 +67,7 @@ abbrev pub arrived : Plan → MachineState → Task → ℕ
 arrived P S t = count (λ e. is_sent S (item.Edge e)) (in_edges P t)
 
 -- the tile that was sent first with an item
-abbrev pub first_tile : Item → List Sent → Option (List ℤ)
+abbrev pub first_tile : Item → List SentItem → Option (List ℤ)
 first_tile i [] = None
 first_tile i (x ∷ xs) = if same_item i x.item then x.tile else first_tile i xs
 
@@ -97,12 +98,13 @@ pub record MaySend (P : Plan) (G : Data) (S : MachineState) (i : Item) : Type 0 
   pub is_item : IsIn i (items P (sender i))
   pub outputs : IsTrue (has_outputs (end_in P G S (sender i)))
 
+-- an event is possible in a state
 abbrev pub IsPossible : Plan → Data → MachineState → Event → Type 0
 IsPossible P G S (Claim t) = MayClaim P S t
 IsPossible P G S (Send i) = MaySend P G S i
 
 -- what is sent with an item: the tile that its task leaves in the flow of the item
-abbrev pub sent_with : Plan → Data → MachineState → Item → Sent
+abbrev pub sent_with : Plan → Data → MachineState → Item → SentItem
 sent_with P G S i = record { item = i; tile = output_tile (end_in P G S (sender i)) (item_flow i) }
 
 -- the state after an event
@@ -122,6 +124,6 @@ IsQuiescent P G S = (e : Event) → IsPossible P G S e → ⊥
 -- nothing is undone: the second state has what the first has, and maybe more
 pub record IsLater (S T : MachineState) : Type 0 where
   pub more_claims : List Task
-  pub more_sends : List Sent
+  pub more_sends : List SentItem
   pub claims : T.claims ≡ S.claims ++ more_claims
   pub sends : T.sends ≡ S.sends ++ more_sends

@@ -4,6 +4,7 @@ use Rattle.std.specs.Prelude.{List, [], ◌∷◌, ◌++◌}
 use Rattle.ptg_base.specs.Lists.{IsIn}
 use Rattle.ptg_base.specs.Task.{Task}
 use Rattle.ptg_base.specs.declared.edge.Edge.{Edge}
+use Rattle.list_lemmas.specs.Counting.{HasSameMembers}
 use Rattle.plan_core.specs.declared.plan.Plan.{Plan}
 use Rattle.dep_iter.specs.Tasks.{IsTask}
 use Rattle.dep_iter.specs.Edges.{in_edges}
@@ -22,3 +23,8 @@ IsLegalAfter P before (t ∷ ts) = MayFollow P before t × IsLegalAfter P (befor
 -- each task occurs once, after the sources of all edges into it
 abbrev pub IsLegalOrder : Plan → List Task → Type 0
 IsLegalOrder P ts = IsLegalAfter P [] ts
+
+-- a legal order of these members
+pub record IsOrderOf (P : Plan) (members ts : List Task) : Type 0 where
+  pub legal : IsLegalOrder P ts
+  pub all : HasSameMembers ts members

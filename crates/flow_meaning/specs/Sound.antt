@@ -12,7 +12,7 @@ use Rattle.dep_iter.specs.Items.{items, item_flow}
 use Rattle.list_lemmas.specs.Counting.{HasSameMembers}
 use Rattle.flow_meaning.specs.Ending.{has_outputs, output_tile}
 use Rattle.flow_meaning.specs.Backward.{ended}
-use Rattle.flow_meaning.specs.Machine.{Event, Happen, MachineState, MayClaim, Sent, arrived, claim_count, is_sent, opening_state, send_count, sender}
+use Rattle.flow_meaning.specs.Machine.{Event, Happen, MachineState, MayClaim, SentItem, arrived, claim_count, is_sent, opening_state, send_count, sender}
 
 -- a task of the job all of whose in edges were sent
 pub record HasAllArrived (P : Plan) (S : MachineState) (t : Task) : Type 0 where
@@ -20,23 +20,24 @@ pub record HasAllArrived (P : Plan) (S : MachineState) (t : Task) : Type 0 where
   pub all_arrived : arrived P S t ≡ goal P t
 
 -- an item with the tile that its task leaves in the flow of the item
-abbrev pub with_its_tile : Plan → Data → Item → Sent
+abbrev pub with_its_tile : Plan → Data → Item → SentItem
 with_its_tile P G i = record { item = i; tile = output_tile (ended P G (sender i)) (item_flow i) }
 
 -- an item of a claimed task that has outputs by the backward meaning, sent with the tile that the task leaves in the
 -- flow of the item
-pub record IsOutput (P : Plan) (G : Data) (S : MachineState) (x : Sent) : Type 0 where
+pub record IsOutput (P : Plan) (G : Data) (S : MachineState) (x : SentItem) : Type 0 where
   pub claimed : IsIn (sender x.item) S.claims
   pub is_item : IsIn x.item (items P (sender x.item))
   pub outputs : IsTrue (has_outputs (ended P G (sender x.item)))
   pub tile : x.tile ≡ output_tile (ended P G (sender x.item)) (item_flow x.item)
 
+-- a sound state: what is claimed may run, and what is sent is what the backward meaning says
 pub record IsSoundState (P : Plan) (G : Data) (S : MachineState) : Type 0 where
   -- no task is claimed twice, and no item is sent twice
   pub claimed_once : (t : Task) → claim_count S t ≤ 1
   pub sent_once : (i : Item) → send_count S i ≤ 1
   pub claimed_have_all : (t : Task) → IsIn t S.claims → HasAllArrived P S t
-  pub sent_are_outputs : (x : Sent) → IsIn x S.sends → IsOutput P G S x
+  pub sent_are_outputs : (x : SentItem) → IsIn x S.sends → IsOutput P G S x
 
 -- the same tasks are claimed and the same items sent with the same tiles, in whatever order
 pub record IsReordered (S T : MachineState) : Type 0 where

@@ -2,6 +2,7 @@
 -- Computing, 2012): a task runs on what its sources gave; PaRSEC (2013) for `NEW`; that a new tile is zeros, and that a
 -- WRITE flow without a source starts as new, is this project's own choice.
 use Rattle.std.specs.Prelude.{ℕ, suc, ℤ, pos, List, [], ◌∷◌, ◌++◌, map, replicate, slice_index, Option, Some, None, option_to_list, if◌then◌else◌}
+use Rattle.ptg_base.specs.Entry.{FlowTile}
 use Rattle.ptg_base.specs.Task.{Task}
 use Rattle.ptg_base.specs.declared.edge.Edge.{Edge}
 use Rattle.term_core.specs.declared.flow.FlowKind.{FlowKind}
@@ -55,10 +56,6 @@ tiles_from P G delivered t n (f ∷ fs) = starting_tile P G delivered t n f ∷ 
 unfoldable pub starting_tiles : Plan → Data → Delivery → Task → List (Option (List ℤ))
 starting_tiles P G delivered t = tiles_from P G delivered t 0 (flows_of P t)
 
--- a tile, after the number of the flow that it comes to
-abbrev pub FlowTile : Type 0
-FlowTile = ℕ × List ℤ
-
 -- the tile that comes to flow n from a source by an edge, if one does
 abbrev pub delivered_from : Delivery → ℕ → Source → List FlowTile
 delivered_from delivered n (source.Task e) = map (λ tile. (n, tile)) (option_to_list (delivered e))
@@ -67,11 +64,11 @@ delivered_from delivered n source.New = []
 delivered_from delivered n source.Null = []
 delivered_from delivered n source.Nothing = []
 
--- the same for flow n of a task; nothing comes to a CTL flow
+-- the tile that comes to flow n of a task by an edge, if one does; nothing comes to a CTL flow
 abbrev pub delivered_tile : Plan → Delivery → Task → ℕ → FlowPlan → List FlowTile
 delivered_tile P delivered t n f = if is_data (Some f.kind) then delivered_from delivered n (data_source P t n) else []
 
--- the same for these flows of a task, which are numbered from n on
+-- the tiles that come to these flows of a task by edges; the flows are numbered from n on
 abbrev pub delivered_to : Plan → Delivery → Task → ℕ → List FlowPlan → List FlowTile
 delivered_to P delivered t n [] = []
 delivered_to P delivered t n (f ∷ fs) = delivered_tile P delivered t n f ++ delivered_to P delivered t (suc n) fs

@@ -35,5 +35,6 @@ state_answer_by P G S [] =
     if length S.claims == length (all_tasks P) then Complete (length (all_tasks P)) (state_data G S)
     else Stalled (length S.claims) (length (all_tasks P)) (waiting_rows P S)
 
+-- the answer of a job, as a quiescent state has it
 unfoldable pub state_answer : Plan → Data → MachineState → Outcome
 state_answer P G S = state_answer_by P G S (state_traps P G S)

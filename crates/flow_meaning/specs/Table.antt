@@ -1,7 +1,8 @@
 -- What a table of dependences holds in a state of the event machine: the tasks that are ready, those that wait, and
 -- what was written back. Source: DAGuE (Parallel Computing, 2012), where an entry counts the dependences that have
 -- come.
-use Rattle.std.specs.Prelude.{ℕ, ℤ, nat_lt, ◌==◌, List, map, filter, filter_map, Bool, ◌&&◌, ◌||◌, Option, Some, None, if◌then◌else◌}
+use Rattle.std.specs.Prelude.{ℤ, nat_lt, ◌==◌, List, map, filter, filter_map, Bool, ◌&&◌, ◌||◌, Option, Some, None, if◌then◌else◌}
+use Rattle.ptg_base.specs.Entry.{Entry}
 use Rattle.ptg_base.specs.Task.{Task}
 use Rattle.ptg_base.specs.TaskOrder.{in_task_order}
 use Rattle.ptg_base.specs.declared.edge.WriteBack.{WriteBack}
@@ -12,18 +13,12 @@ use Rattle.dep_iter.specs.Tasks.{all_tasks}
 use Rattle.dep_iter.specs.Edges.{goal}
 use Rattle.dep_iter.specs.Hints.{priority}
 use Rattle.flow_meaning.specs.declared.outcome.WaitRow.{WaitRow}
-use Rattle.flow_meaning.specs.Starting.{FlowTile, delivered_tiles}
-use Rattle.flow_meaning.specs.Machine.{Sent, MachineState, claim_count, arrived, sent_tile}
+use Rattle.flow_meaning.specs.Starting.{delivered_tiles}
+use Rattle.flow_meaning.specs.Machine.{SentItem, MachineState, claim_count, arrived, sent_tile}
 
 -- what a table holds of a task that is not claimed: the number of edges into it, how many of them were sent, its
--- priority, and the tiles that were sent to it, in order of flow number
-pub record TableEntry : Type 0 where
-  pub goal : ℕ
-  pub arrived : ℕ
-  pub priority : ℤ
-  pub tiles : List FlowTile
-
-abbrev pub entry_of : Plan → MachineState → Task → TableEntry
+-- priority, and the tiles that were sent to it
+abbrev pub entry_of : Plan → MachineState → Task → Entry
 entry_of P S t =
     record {
       goal = goal P t;
@@ -32,6 +27,7 @@ entry_of P S t =
       tiles = delivered_tiles P (sent_tile S) t;
     }
 
+-- whether a task is not claimed
 abbrev pub is_unclaimed : MachineState → Task → Bool
 is_unclaimed S t = claim_count S t == 0
 
@@ -44,13 +40,14 @@ abbrev pub is_waiting : Plan → MachineState → Task → Bool
 is_waiting P S t = is_unclaimed S t && (nat_lt 0 (arrived P S t) && nat_lt (arrived P S t) (goal P t))
 
 -- the entry of a task, if it has one: it does where it is ready or waits. It is asked for tasks of the job alone
-abbrev pub table_entry : Plan → MachineState → Task → Option TableEntry
+abbrev pub table_entry : Plan → MachineState → Task → Option Entry
 table_entry P S t = if is_ready P S t || is_waiting P S t then Some (entry_of P S t) else None
 
--- the tasks that are ready, and those that wait, in walk order
+-- the tasks that are ready, in walk order
 unfoldable pub ready_tasks : Plan → MachineState → List Task
 ready_tasks P S = filter (is_ready P S) (all_tasks P)
 
+-- the tasks that wait, in walk order
 unfoldable pub waiting_tasks : Plan → MachineState → List Task
 waiting_tasks P S = filter (is_waiting P S) (all_tasks P)
 
@@ -67,4 +64,4 @@ written_by (item.Write w) tile = Some (w, tile)
 
 -- the write-backs that were sent, each with its tile, in the order of the list
 abbrev pub written : MachineState → List (WriteBack × Option (List ℤ))
-written S = filter_map (λ (x : Sent). written_by x.item x.tile) S.sends
+written S = filter_map (λ (x : SentItem). written_by x.item x.tile) S.sends

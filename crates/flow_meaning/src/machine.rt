@@ -18,7 +18,7 @@ ghost use Rattle.flow_meaning.specs.Starting.{delivered_tiles};
 ghost use Rattle.flow_meaning.specs.Ending.{has_outputs, output_tile};
 ghost use Rattle.flow_meaning.specs.Backward.{ended, inputs};
 ghost use Rattle.flow_meaning.specs.Answer.{answer, ran, trapped, waiting};
-ghost use Rattle.flow_meaning.specs.Machine.{Event, MaySend, Send, arrived, Happen, IsPossible, IsQuiescent, MachineState, state_after, end_in, is_sent, opening_state, Sent, same_sent, sender, sent_tile};
+ghost use Rattle.flow_meaning.specs.Machine.{Event, MaySend, Send, arrived, Happen, IsPossible, IsQuiescent, MachineState, state_after, end_in, is_sent, opening_state, SentItem, same_sent_item, sender, sent_tile};
 ghost use Rattle.flow_meaning.specs.Sound.{IsAtRest, HasAllArrived, IsReordered, IsSoundState};
 ghost use Rattle.flow_meaning.specs.StateAnswer.{state_answer, state_traps};
 ghost use Rattle.flow_meaning.specs.Table.{table_entry, waiting_rows};
@@ -102,5 +102,5 @@ pub fn order_does_not_matter()
 /// likewise lists of what was sent.
 pub fn the_same_members_are_the_same_counts()
     ensures claims { (xs ys : List Task) → HasSameMembers xs ys ↔ HaveSameCounts same_task xs ys }
-    ensures sends { (xs ys : List Sent) → HasSameMembers xs ys ↔ HaveSameCounts same_sent xs ys }
+    ensures sends { (xs ys : List SentItem) → HasSameMembers xs ys ↔ HaveSameCounts same_sent_item xs ys }
 {}

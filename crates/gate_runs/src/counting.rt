@@ -18,7 +18,7 @@ pub struct Counting {
     others: AtomicU64,
 }
 
-/// How many tasks had their body run once, and how many bodies there were beside.
+/// How many tasks had their body run once, and how many bodies there were besides.
 #[derive(Clone, Copy)]
 pub struct Counts {
     once: u64,

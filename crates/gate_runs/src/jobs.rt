@@ -11,10 +11,12 @@ BODY
 END
 ";
 
+/// Its data.
 pub const PAIR_DATA: &[u8] = b"elems,1
 coll,D,1
 ";
 
+/// Its answer.
 pub const PAIR_ANSWER: &[u8] = b"complete,2
 tile,D,0,0
 ";
@@ -81,12 +83,13 @@ C[0] = C[0] + 1; C[1] = C[1] + k;
 END
 ";
 
-/// Four rows of tiles.
+/// The data of four rows of tiles.
 pub const CHOLESKY_DATA: &[u8] = b"elems,3
 int,NT,4
 coll,D,4,4
 ";
 
+/// Its answer.
 pub const CHOLESKY_ANSWER: &[u8] = b"complete,20
 tile,D,0,0,1,0,1
 tile,D,0,1,0,0,0

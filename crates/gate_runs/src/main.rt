@@ -17,7 +17,7 @@ use crate::counting::Counting;
 use crate::jobs::{CHOLESKY, CHOLESKY_ANSWER, CHOLESKY_DATA, PAIR, PAIR_ANSWER, PAIR_DATA};
 use crate::meeting::Meeting;
 use crate::noting::Noting;
-use crate::runs::{Failure, Job, ran, traced};
+use crate::runs::{Job, ran, traced};
 use ptg_base::OutOfMemory;
 use ptg_os::words;
 use ptg_top::Status;
@@ -37,7 +37,7 @@ fn meet<R: Threads + Wait + Print + Sync>(rt: &R, alloc: Global) -> io::Result<(
     };
     match ran(rt, alloc, &job, "--workers 2", &gate) {
         Ok(end) => println!(rt; "two bodies at once: {end}, the gate {}", gate.end())?,
-        Err(Failure) => println!(rt; "two bodies at once: no memory")?,
+        Err(OutOfMemory) => println!(rt; "two bodies at once: no memory")?,
     }
     Ok(())
 }
@@ -54,7 +54,7 @@ fn count<R: Threads + Wait + Print + Sync>(rt: &R, alloc: Global, options: &str)
     };
     match ran(rt, alloc, &job, options, &gate) {
         Ok(end) => println!(rt; "{options}: {end}, {}", gate.counts())?,
-        Err(Failure) => println!(rt; "{options}: no memory")?,
+        Err(OutOfMemory) => println!(rt; "{options}: no memory")?,
     }
     Ok(())
 }
@@ -71,7 +71,7 @@ fn note<R: Threads + Wait + Print + Sync>(rt: &R, alloc: Global, options: &str) 
     };
     match traced(rt, alloc, &job, options, &gate) {
         Ok(end) => println!(rt; "trace {options}: {end}, {} tasks", gate.come())?,
-        Err(Failure) => println!(rt; "trace {options}: no memory")?,
+        Err(OutOfMemory) => println!(rt; "trace {options}: no memory")?,
     }
     Ok(())
 }

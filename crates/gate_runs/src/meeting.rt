@@ -6,10 +6,10 @@ use std::sync::atomic::{AtomicBool, AtomicU64, Ordering};
 use std::thread::{Threads, yield_now};
 use worker_core::Gate;
 
-// After so many looks the gate gives up, and lets the body run alone.
+// After this many looks the gate gives up, and lets the body run alone.
 const LOOKS: u64 = 100_000_000;
 
-// It lets other threads run after so many looks.
+// It lets other threads run after this many looks.
 const PATIENCE: u64 = 1_000;
 
 /// Holds the first body until the second has come, or until it gives up.

@@ -9,7 +9,7 @@ use std::sync::atomic::{AtomicU64, Ordering};
 use std::thread::Threads;
 use worker_core::Gate;
 
-// It notes so many tasks, and counts those after them.
+// It notes this many tasks, and counts those after them.
 const NOTES: usize = 64;
 
 // The classes of the Cholesky job in their order, each with how many parameters it has.

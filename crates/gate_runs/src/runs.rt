@@ -4,7 +4,7 @@ use crate::noting::Noting;
 use ptg_base::{OutOfMemory, Seq, Text};
 use ptg_io::{File, MemFiles, MemSink};
 use ptg_top::ptg_main;
-use std::alloc::{AllocError, AllocFailed, Global};
+use std::alloc::Global;
 use std::fmt;
 use std::sync::Wait;
 use std::thread::Threads;
@@ -31,34 +31,13 @@ impl fmt::Display for End {
     }
 }
 
-/// There was no memory for the files or the words.
-pub struct Failure;
-
-impl From<AllocError> for Failure {
-    fn from(_error: AllocError) -> Failure {
-        Failure
-    }
-}
-
-impl<T: Drop> From<AllocFailed<T>> for Failure {
-    fn from(_error: AllocFailed<T>) -> Failure {
-        Failure
-    }
-}
-
-impl From<OutOfMemory> for Failure {
-    fn from(_error: OutOfMemory) -> Failure {
-        Failure
-    }
-}
-
 // The name of what was printed, if it is what was looked for.
 fn name_if(is_so: bool, name: &'static str) -> &'static str {
     if is_so { name } else { "another text" }
 }
 
 // The words of a command with these options.
-fn words(alloc: Global, verb: &str, options: &str) -> Result<Vec<Text>, Failure> {
+fn words(alloc: Global, verb: &str, options: &str) -> Result<Vec<Text>, OutOfMemory> {
     let mut list = Vec::new(alloc);
     for word in [verb, "job.jdf", "job.csv"] {
         list.push(Text::of(alloc, word.as_bytes())?)?;
@@ -70,13 +49,13 @@ fn words(alloc: Global, verb: &str, options: &str) -> Result<Vec<Text>, Failure>
 }
 
 // A job's two files.
-fn files(alloc: Global, job: &Job) -> Result<MemFiles, Failure> {
+fn files(alloc: Global, job: &Job) -> Result<MemFiles, OutOfMemory> {
     let mut list = Vec::new(alloc);
     for (name, bytes) in [("job.jdf", job.jdf), ("job.csv", job.data)] {
         let name = Text::of(alloc, name.as_bytes())?;
         list.push(File::new(name, Seq::of(bytes.to_vec(alloc)?)))?;
     }
-    Ok(MemFiles::new(alloc, Seq::of(list), Seq::new(alloc))?)
+    MemFiles::new(alloc, Seq::of(list), Seq::new(alloc))
 }
 
 /// Runs a job with these options and this gate.
@@ -86,7 +65,7 @@ pub fn ran<R: Threads + Wait + Sync, G: Gate>(
     job: &Job,
     options: &str,
     gate: &G,
-) -> Result<End, Failure> {
+) -> Result<End, OutOfMemory> {
     let words = words(alloc, "run", options)?;
     let mut files = files(alloc, job)?;
     let mut out = MemSink::new(alloc, Seq::new(alloc));
@@ -104,7 +83,7 @@ pub fn traced<R: Threads + Wait + Sync>(
     job: &Job,
     options: &str,
     gate: &Noting,
-) -> Result<End, Failure> {
+) -> Result<End, OutOfMemory> {
     let words = words(alloc, "trace", options)?;
     let mut files = files(alloc, job)?;
     let mut out = MemSink::new(alloc, Seq::new(alloc));

@@ -5,11 +5,11 @@ use Rattle.std.proofs.lemmas.List.{length-map}
 use Rattle.std.proofs.lemmas.List.Sums.{sum_by-cons}
 use Rattle.std.specs.List.{flat_map, sum_by}
 use Rattle.ptg_base.specs.Task.{Task}
+use Rattle.term_core.specs.declared.direction.Direction.TheVariants.{In}
 use Rattle.plan_core.specs.declared.flow.FlowPlan.{FlowPlan}
 use Rattle.plan_core.specs.declared.plan.Plan.{Plan}
 use Rattle.plan_core.specs.declared.target.Target.{Target}
 use Rattle.plan_core.specs.declared.target.Target.TheVariants as target
-use Rattle.dep_iter.specs.declared.direction.Direction.TheVariants.{In}
 use Rattle.dep_iter.specs.Tasks.{flows_of, locals_of}
 use Rattle.dep_iter.specs.Active.{by_flow, flow_ins, takes_first}
 use Rattle.dep_iter.specs.Edges.{in_edges}

@@ -2,12 +2,13 @@
 use Rattle.std.proofs.Common.{◌≡◌, ℕ, zero, suc, ◌<◌, ◌≤◌, Bool, false, cond, List, [], ◌∷◌, length, Result, Ok, Err, refl, inl, inr, arith, ap}
 use Rattle.std.specs.Prelude.{Option, Some, None}
 use Rattle.std.proofs.lemmas.Bool.{and_cases, or_parts}
+use Rattle.grammar_core.specs.declared.fault.ReadFault.{ReadFault}
 use Rattle.grammar_core.specs.declared.token.Token.{Token}
 use Rattle.grammar_core.specs.declared.code.Code.{Code}
 use Rattle.grammar_core.specs.Terminals.{Terminal}
 use Rattle.grammar_core.specs.Terminals.{terminal_of}
 use Rattle.grammar_core.specs.Production.{Production, one_of, checked, seq, map, alt, opt, star, pick, after_token, limited}
-use Rattle.grammar_core.specs.Reading.{◌>>=◌, Read, FaultFromEnd, refuse, check, judge, may_be_empty, first, starts, picks, token_at, many_at, run, nonterminal_within, nonterminal_at}
+use Rattle.grammar_core.specs.Reading.{◌>>=◌, Read, refuse, check, judge, may_be_empty, first, starts, picks, token_at, many_at, run, nonterminal_within, nonterminal_at}
 use Rattle.grammar_core.proofs.ReadCases.{bind_ok, token_ok, refuse_ok, check_ok, judge_ok}
 use Rattle.list_lemmas.proofs.Truth.{chosen}
 use Rattle.list_lemmas.proofs.Options.{same_Ok}
@@ -84,7 +85,7 @@ run_shrinks p h (after_token q n) s x e =
     let len = ap (λ (l : List Token). length l) t.0 in
     rw (← same) (omega (arith, one, len), λ _. omega (arith, one, len))
 
-bind_same : {A B : Type 0} (r r' : Result A FaultFromEnd) (f f' : A → Result B FaultFromEnd) → r ≡ r' → ((x : A) → r ≡ Ok x → f x ≡ f' x) → (r >>= f) ≡ (r' >>= f')
+bind_same : {A B : Type 0} (r r' : Result A ReadFault) (f f' : A → Result B ReadFault) → r ≡ r' → ((x : A) → r ≡ Ok x → f x ≡ f' x) → (r >>= f) ≡ (r' >>= f')
 bind_same (Ok x) r' f f' e h = rw (← e) (h x refl)
 bind_same (Err d) r' f f' e h = rw (← e) refl
 

@@ -2,13 +2,15 @@
 use Rattle.std.proofs.Common.{◌≡◌, ℕ, suc, ◌<◌, ◌≤◌, Bool, true, false, cond, List, [], ◌∷◌, ◌++◌, length, Result, Ok, Err, refl, sym, ap, ◌∙◌, append_assoc}
 use Rattle.std.specs.Prelude.{Option, Some, None}
 use Rattle.std.proofs.lemmas.List.{append-nil}
+use Rattle.grammar_core.specs.declared.fault.ReadFault.{ReadFault}
 use Rattle.grammar_core.specs.declared.token.Token.{Token}
 use Rattle.grammar_core.specs.Terminals.{Terminal}
 use Rattle.grammar_core.specs.declared.code.Code.{Code}
 use Rattle.ptg_base.specs.declared.refusal.Refusal.TheVariants as errors
+use Rattle.ptg_base.specs.Returns.{ReturnsRefusal}
 use Rattle.grammar_core.specs.Production.{Production, seq, map, opt, star}
-use Rattle.grammar_core.specs.Reading.{FaultFromEnd, ◌>>=◌, Read, may_be_empty, first, starts, refuse, many_at, nonterminal_at, reading}
-use Rattle.grammar_core.specs.Returns.{ReadRefusal, Fails}
+use Rattle.grammar_core.specs.Reading.{◌>>=◌, Read, may_be_empty, first, starts, refuse, many_at, nonterminal_at, reading, fault_from_end}
+use Rattle.grammar_core.specs.Refusing.{ReadRefusal}
 use Rattle.grammar_core.proofs.Fuel.{nonterminal_shrinks, run_shrinks, many_is}
 
 -- ---- sequences
@@ -27,7 +29,7 @@ regroup {A} {B} {C} (Ok a) q f = go (q a.1)
     go (Err e) = refl
 regroup (Err e) q f = refl
 
-pub fails_before : {A B : Type 0} (e : ReadRefusal) (r : Result A FaultFromEnd) (f : A → Result B FaultFromEnd) → Fails e r → Fails e (r >>= f)
+pub fails_before : {A B : Type 0} (e : ReadRefusal) (r : Result A ReadFault) (f : A → Result B ReadFault) → ReturnsRefusal e r → ReturnsRefusal e (r >>= f)
 fails_before errors.OutOfMemory r f h = tt
 fails_before (errors.Fault x) r f h = rw h refl
 
@@ -101,13 +103,13 @@ module _ {N : Type 0} {Tree : N → Type 0} (body : (n : N) → Production N Tre
       sym one ∙ before
 
   pub many_fails : {A : Type 0} (full : ℕ → Option Code) (g : Production N Tree A) (f : Terminal → Bool) → IsListed g f → (e : ReadRefusal) (i : ℕ) (old : List A) (s : List Token) (total : Read (List A))
-      → full i ≡ None → starts f s ≡ true → Fails e (reading body g s) → so_far old (many_from full g i s) ≡ total → Fails e total
+      → full i ≡ None → starts f s ≡ true → ReturnsRefusal e (reading body g s) → so_far old (many_from full g i s) ≡ total → ReturnsRefusal e total
   unfolding so_far
   many_fails full g f l errors.OutOfMemory i old s total room t h before = tt
   many_fails {A} full g f l (errors.Fault x) i old s total room t h before = sym before ∙ (ap (λ (q : Read (List A)). so_far old q) (many_step full g f l i s) ∙ rw (t, room, h) refl)
 
   pub many_is_full : {A : Type 0} (full : ℕ → Option Code) (g : Production N Tree A) (f : Terminal → Bool) → IsListed g f → (c : Code) (i : ℕ) (old : List A) (s : List Token) (total : Read (List A))
-      → full i ≡ Some c → starts f s ≡ true → so_far old (many_from full g i s) ≡ total → total ≡ Err (length s, c)
+      → full i ≡ Some c → starts f s ≡ true → so_far old (many_from full g i s) ≡ total → total ≡ Err (fault_from_end (length s) c)
   unfolding so_far
   many_is_full {A} full g f l c i old s total over t before = sym before ∙ (ap (λ (q : Read (List A)). so_far old q) (many_step full g f l i s) ∙ rw (t, over) refl)
 

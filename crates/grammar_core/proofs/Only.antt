@@ -7,7 +7,7 @@ use Rattle.grammar_core.specs.declared.token.Token.{Token}
 use Rattle.grammar_core.specs.declared.code.Code.{Code}
 use Rattle.grammar_core.specs.Terminals.{terminal_of, are_disjoint, is_within}
 use Rattle.grammar_core.specs.Production.{Production, one_of, checked, seq, map, alt, opt, star, pick, after_token, limited, Language, Fault, then_fault, or_fault, at_start, bad_unless, cut_at, taken, IsOne, Many, Derives}
-use Rattle.grammar_core.specs.Reading.{◌>>=◌, Read, refuse, check, judge, may_be_empty, first, starts, picks, token_at, many_at, run}
+use Rattle.grammar_core.specs.Reading.{◌>>=◌, Read, refuse, check, judge, may_be_empty, first, starts, picks, token_at, many_at, run, fault_from_end}
 use Rattle.grammar_core.specs.Predictive.{Claims, continuing, alone, second, both_first, is_fine}
 use Rattle.grammar_core.proofs.Sets.{starts_disjoint, starts_into}
 use Rattle.grammar_core.proofs.Begins.{stop_left, stop_right, stop_and, begins, surely_begins, many_begins, seconds}
@@ -39,7 +39,7 @@ head_tail q (x ∷ m) h = (x, m, refl, h)
 
 abbrev pub outcome : {A : Type 0} → List Token → A → Fault → List Token → Read A
 outcome s t None r = Ok (t, r)
-outcome s t (Some f) r = Err (length s - f.0, f.1)
+outcome s t (Some f) r = Err (fault_from_end (length s - f.0) f.1)
 
 abbrev pub InText : Fault → ℕ → Type 0
 InText None n = Unit {0}
@@ -100,7 +100,7 @@ fits R hR (limited l c g) s t o r h = rw h.2 (fits_cut (l.at s) c s r h.0 (fits 
 then_outcome : {A B C : Type 0} (f : A → B → C) (q : List Token → Read B) (s m r : List Token) (a : A) (b : B) (x y : Fault) → length m ≤ length s → q m ≡ outcome m b y r → (outcome s a x m >>= λ u. q u.1 >>= λ v. Ok (f u.0 v.0, v.1)) ≡ outcome s (f a b) (then_fault x (taken s m) y) r
 then_outcome f q s m r a b (Some d) y le e = refl
 then_outcome f q s m r a b None None le e = rw e refl
-then_outcome f q s m r a b None (Some d) le e = rw e (ap (λ (n : ℕ). Err (n, d.1)) (omega arith))
+then_outcome f q s m r a b None (Some d) le e = rw e (ap (λ (n : ℕ). Err (fault_from_end n d.1)) (omega arith))
 
 map_outcome : {A B : Type 0} (f : A → B) (s : List Token) (a : A) (o : Fault) (r : List Token) → (outcome s a o r >>= λ u. Ok (f u.0, u.1)) ≡ outcome s (f a) o r
 map_outcome f s a None r = refl
@@ -108,26 +108,26 @@ map_outcome f s a (Some d) r = refl
 
 refuse_outcome : {A : Type 0} (d : Option Code) (s : List Token) (t : A) (read : Read A) (x : Fault) (m : List Token) (y : Fault) (r : List Token) → read ≡ outcome s t (then_fault x (taken s m) y) r → refuse d s read ≡ outcome s t (then_fault (or_fault (at_start d) x) (taken s m) y) r
 refuse_outcome None s t read x m y r e = e
-refuse_outcome (Some c) s t read x m y r e = ap (λ (n : ℕ). Err (n, c)) (omega arith)
+refuse_outcome (Some c) s t read x m y r e = ap (λ (n : ℕ). Err (fault_from_end n c)) (omega arith)
 
 check_outcome : (good : Token → Bool) (c : Code) (s : List Token) (t : Token) (r : List Token) → check good c s (t, r) ≡ outcome s t (bad_unless (good t) c) r
 check_outcome good c s t r = go (good t)
   where
-    go : (b : Bool) → cond {A = Read Token} b (Ok (t, r)) (Err (length s, c)) ≡ outcome s t (bad_unless b c) r
+    go : (b : Bool) → cond {A = Read Token} b (Ok (t, r)) (Err (fault_from_end (length s) c)) ≡ outcome s t (bad_unless b c) r
     go true = refl
-    go false = ap (λ (n : ℕ). Err (n, c)) (omega arith)
+    go false = ap (λ (n : ℕ). Err (fault_from_end n c)) (omega arith)
 
 judge_outcome : {A : Type 0} (l : ℕ) (c : Code) (s : List Token) (t : A) (x : Fault) (r : List Token) → Fits s x r → judge l c s (outcome s t x r) ≡ outcome s t (cut_at l c (taken s r) x) r
 judge_outcome {A} l c s t None r a = go (nat_lt l (taken s r))
   where
-    go : (b : Bool) → cond {A = Read A} b (Err (length s - l, c)) (Ok (t, r)) ≡ outcome s t (cond b (Some (l, c)) None) r
+    go : (b : Bool) → cond {A = Read A} b (Err (fault_from_end (length s - l) c)) (Ok (t, r)) ≡ outcome s t (cond b (Some (l, c)) None) r
     go true = refl
     go false = refl
 judge_outcome {A} l c s t (Some f) r a =
     let back : length s - (length s - f.0) ≡ f.0 = omega (arith, a.0, a.1) in
-    ap (λ (n : ℕ). cond {A = Read A} (nat_lt l n) (Err (length s - l, c)) (Err (length s - f.0, f.1))) back ∙ go (nat_lt l f.0)
+    ap (λ (n : ℕ). cond {A = Read A} (nat_lt l n) (Err (fault_from_end (length s - l) c)) (Err (fault_from_end (length s - f.0) f.1))) back ∙ go (nat_lt l f.0)
   where
-    go : (b : Bool) → cond {A = Read A} b (Err (length s - l, c)) (Err (length s - f.0, f.1)) ≡ outcome s t (cond b (Some (l, c)) (Some f)) r
+    go : (b : Bool) → cond {A = Read A} b (Err (fault_from_end (length s - l) c)) (Err (fault_from_end (length s - f.0) f.1)) ≡ outcome s t (cond b (Some (l, c)) (Some f)) r
     go true = refl
     go false = refl
 
@@ -149,7 +149,7 @@ many_only full G p f go consumes begin fit only apart i (t ∷ ts) s o r h stops
 
 one_more : {A : Type 0} (x : Token) (m : List Token) (t : A) (y : Fault) (r : List Token) → (outcome m t y r >>= λ b. Ok ((x, b.0), b.1)) ≡ outcome {A = Token × A} (x ∷ m) (x, t) (then_fault None 1 y) r
 one_more x m t None r = refl
-one_more x m t (Some f) r = ap (λ (n : ℕ). Err (n, f.1)) (omega arith)
+one_more x m t (Some f) r = ap (λ (n : ℕ). Err (fault_from_end n f.1)) (omega arith)
 
 pub only : {N : Type 0} {Tree : N → Type 0} (c : Claims N) (R : (n : N) → Language (Tree n)) (p : (n : N) → List Token → Read (Tree n))
     → ((n : N) → Shrinks (p n)) → ((n : N) (s : List Token) (t : Tree n) (o : Fault) (r : List Token) → R n s t o r → Fits s o r) → ((n : N) (s : List Token) (t : Tree n) (o : Fault) (r : List Token) → R n s t o r → starts (c.firsts n) s ≡ true)

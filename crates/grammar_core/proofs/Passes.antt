@@ -2,24 +2,25 @@
 use Rattle.std.proofs.Common.{◌≡◌, ℕ, zero, suc, ◌<◌, ◌≤◌, Bool, true, false, List, [], ◌∷◌, length, Ok, Err, refl, inl, inr, sym, ap, ◌∙◌, arith}
 use Rattle.std.specs.Prelude.{Option, Some, None, ◌-◌, nat_lt, ◌&&◌, ◌||◌, not}
 use Rattle.std.proofs.lemmas.Bool.{and_parts, and_from, or_cases, not-true, both_ways, cases_Bool, le-ltb}
+use Rattle.grammar_core.specs.declared.fault.ReadFault.{ReadFault}
 use Rattle.grammar_core.specs.Terminals.{Terminal, terminal_of, terminal_count, some_is, are_disjoint}
 use Rattle.grammar_core.specs.declared.token.Token.{Token}
 use Rattle.grammar_core.specs.declared.code.Code.{Code}
 use Rattle.grammar_core.specs.declared.code.Code.TheVariants.{Syntax}
 use Rattle.grammar_core.specs.Production.{Production, one_of, checked, seq, map, alt, opt, star, pick, after_token, limited}
-use Rattle.grammar_core.specs.Reading.{◌>>=◌, Read, FaultFromEnd, refuse, check, may_be_empty, first, starts, picks, token_at, many_at, run}
+use Rattle.grammar_core.specs.Reading.{◌>>=◌, Read, refuse, check, may_be_empty, first, starts, picks, token_at, many_at, run, fault_from_end}
 use Rattle.grammar_core.specs.Predictive.{Claims, continuing, is_fine, is_none, is_limit, are_limits, is_safe}
 use Rattle.grammar_core.proofs.ReadCases.{bind_ok, bind_err, token_ok, token_err, refuse_ok, refuse_err, check_err, judge_ok, judge_err}
 use Rattle.grammar_core.proofs.Sets.{starts_disjoint}
 use Rattle.grammar_core.proofs.Begins.{stop_left, stop_right, and_if_stop, and_if_cases, start_cases}
 use Rattle.grammar_core.proofs.Fuel.{Shrinks, many_shrinks, run_shrinks, many_is}
-use Rattle.grammar_core.proofs.Sound.{first_is}
+use Rattle.grammar_core.proofs.Sound.{left_is}
 use Rattle.list_lemmas.proofs.Truth.{chosen}
 use Rattle.list_lemmas.proofs.Options.{same_Ok, Ok≢Err}
 
 -- a fault is not before the tokens that are read
 abbrev pub FaultsWithin : {A : Type 0} → (List Token → Read A) → Type 0
-FaultsWithin p = (s : List Token) (n : FaultFromEnd) → p s ≡ Err n → n.0 ≤ length s
+FaultsWithin p = (s : List Token) (n : ReadFault) → p s ≡ Err n → n.left ≤ length s
 
 many_faults : {A : Type 0} (full : ℕ → Option Code) (f : Terminal → Bool) (p : List Token → Read A) → Shrinks p → FaultsWithin p → (k i : ℕ) → FaultsWithin (many_at full f p i k)
 unfolding many_at
@@ -27,7 +28,7 @@ many_faults full f p h l zero i s n e = absurd (Ok≢Err ([], s) n e)
 many_faults full f p h l (suc k) i s n e =
     elim (chosen (starts f s) (refuse (full i) s (p s >>= λ a. many_at full f p (suc i) k a.1 >>= λ more. Ok (a.0 ∷ more.0, more.1))) (Ok ([], s)) (Err n) e) [
       | inl u ↦ elim (refuse_err (full i) s (p s >>= λ a. many_at full f p (suc i) k a.1 >>= λ more. Ok (a.0 ∷ more.0, more.1)) n u.1) [
-        | inl v ↦ let x = first_is v.2 in omega (arith, x)
+        | inl v ↦ let x = left_is v.2 in omega (arith, x)
         | inr w ↦ elim (bind_err (p s) (λ a. many_at full f p (suc i) k a.1 >>= λ more. Ok (a.0 ∷ more.0, more.1)) n w.1) [
           | inl v ↦ l s n v
           | inr a ↦ elim (bind_err (many_at full f p (suc i) k a.0.1) (λ more. Ok (a.0.0 ∷ more.0, more.1)) n a.2) [
@@ -40,16 +41,16 @@ many_faults full f p h l (suc k) i s n e =
     ]
 
 pub run_faults : {N : Type 0} {Tree : N → Type 0} (p : (n : N) → List Token → Read (Tree n)) → ((n : N) → Shrinks (p n)) → ((n : N) → FaultsWithin (p n)) → {A : Type 0} (g : Production N Tree A) → FaultsWithin (run p g)
-run_faults p h l (one_of q) s n e = let t = first_is (token_err q s n e).0 in omega (arith, t)
+run_faults p h l (one_of q) s n e = let t = left_is (token_err q s n e).0 in omega (arith, t)
 run_faults p h l (checked q good c) s n e =
     elim (bind_err (token_at q s) (check good c s) n e) [
-      | inl u ↦ let t = first_is (token_err q s n u).0 in omega (arith, t)
-      | inr a ↦ let t = first_is (check_err good c s a.0 n a.2).1 in omega (arith, t)
+      | inl u ↦ let t = left_is (token_err q s n u).0 in omega (arith, t)
+      | inr a ↦ let t = left_is (check_err good c s a.0 n a.2).1 in omega (arith, t)
     ]
 run_faults p h l (limited d c g) s n e =
     elim (judge_err (d.at s) c s (run p g s) n e) [
-      | inl u ↦ let t = first_is u.3 in omega (arith, t)
-      | inr (inl u) ↦ let t = first_is u.3 in omega (arith, t)
+      | inl u ↦ let t = left_is u.3 in omega (arith, t)
+      | inr (inl u) ↦ let t = left_is u.3 in omega (arith, t)
       | inr (inr u) ↦ run_faults p h l g s n u.0
     ]
 run_faults p h l (seq g k) s n e =
@@ -71,7 +72,7 @@ run_faults p h l (opt g) s n e =
 run_faults p h l (star full g) s n e = many_faults full (first g) (run p g) (λ s' x e'. (run_shrinks p h g s' x e').0) (run_faults p h l g) (length s) 0 s n e
 run_faults p h l (after_token q m) s n e =
     elim (bind_err (token_at q s) (λ t. p m t.1 >>= λ b. Ok ((t.0, b.0), b.1)) n e) [
-      | inl u ↦ let t = first_is (token_err q s n u).0 in omega (arith, t)
+      | inl u ↦ let t = left_is (token_err q s n u).0 in omega (arith, t)
       | inr a ↦ elim (bind_err (p m a.0.1) (λ b. Ok ((a.0.0, b.0), b.1)) n a.2) [
         | inl v ↦ let t = ap (λ (y : List Token). length y) (token_ok q s a.0 a.1).0 in let one = l m a.0.1 n v in omega (arith, t, one)
         | inr v ↦ absurd (Ok≢Err _ n v.2)
@@ -79,7 +80,7 @@ run_faults p h l (after_token q m) s n e =
     ]
 
 abbrev pub Passes : Bool → {A : Type 0} → (List Token → Read A) → List Token → Type 0
-Passes w {A} r s = ((n : FaultFromEnd) → r s ≡ Err n → (w ≡ true → n.1 ≡ Syntax) → n.0 < length s) × ((x : A × List Token) → r s ≡ Ok x → length x.1 < length s)
+Passes w {A} r s = ((n : ReadFault) → r s ≡ Err n → (w ≡ true → n.code ≡ Syntax) → n.left < length s) × ((x : A × List Token) → r s ≡ Ok x → length x.1 < length s)
 
 picked_left : (a b q : Terminal → Bool) (s : List Token) → picks a b q s ≡ true → starts a s ≡ true
 picked_left a b q [] e = absurd cc
@@ -134,7 +135,7 @@ module _ {N : Type 0} {Tree : N → Type 0} (c : Claims N) (p : (n : N) → List
       ([], many_is full (first g) (run p g) (λ s' x e'. (run_shrinks p h g s' x e').1 never) 0 s ∙ rw e refl)
   stays (after_token q n) fine s e empty = absurd cc
 
-  token_passes : (q : Terminal → Bool) (s : List Token) → starts q s ≡ true → (n : FaultFromEnd) → token_at q s ≡ Err n → ⊥
+  token_passes : (q : Terminal → Bool) (s : List Token) → starts q s ≡ true → (n : ReadFault) → token_at q s ≡ Err n → ⊥
   token_passes q s b n e = both_ways (starts q s) (token_err q s n e).1 b
 
   full_list : (q : Terminal → Bool) (s : List Token) → starts q s ≡ true → 1 ≤ length s
@@ -144,8 +145,8 @@ module _ {N : Type 0} {Tree : N → Type 0} (c : Claims N) (p : (n : N) → List
   not_limit : (d : Code) → d ≡ Syntax → is_limit d ≡ true → ⊥
   not_limit d e h = both_ways (is_limit d) (rw e refl) h
 
-  full_bad : (w : Bool) (o : Option Code) (d : Code) → (w || is_none o) ≡ true → are_limits o ≡ true → {n : FaultFromEnd} {m : ℕ} → (w ≡ true → n.1 ≡ Syntax) → o ≡ Some d → n ≡ (m, d) → ⊥
-  full_bad true o d safe limits y e k = not_limit d (ap (λ (x : FaultFromEnd). x.1) (sym k) ∙ y refl) (ap are_limits (sym e) ∙ limits)
+  full_bad : (w : Bool) (o : Option Code) (d : Code) → (w || is_none o) ≡ true → are_limits o ≡ true → {n : ReadFault} {m : ℕ} → (w ≡ true → n.code ≡ Syntax) → o ≡ Some d → n ≡ fault_from_end m d → ⊥
+  full_bad true o d safe limits y e k = not_limit d (ap (λ (x : ReadFault). x.code) (sym k) ∙ y refl) (ap are_limits (sym e) ∙ limits)
   full_bad false None d safe limits y e k = absurd cc
   full_bad false (Some d') d safe limits y e k = absurd cc
 
@@ -159,16 +160,16 @@ module _ {N : Type 0} {Tree : N → Type 0} (c : Claims N) (p : (n : N) → List
     λ x e. (run_shrinks p h (checked q good d) s x e).1 refl,
   )
     where
-      bad : (w : Bool) → (w || are_disjoint b0 q) ≡ true → (w ≡ false → starts b0 s ≡ true) → {n : FaultFromEnd} → (w ≡ true → n.1 ≡ Syntax) → n ≡ (length s, d) → ⊥
-      bad true safe at y e = not_limit d (ap (λ (x : FaultFromEnd). x.1) (sym e) ∙ y refl) (and_parts (some_is q terminal_count) (is_limit d) fine).1
+      bad : (w : Bool) → (w || are_disjoint b0 q) ≡ true → (w ≡ false → starts b0 s ≡ true) → {n : ReadFault} → (w ≡ true → n.code ≡ Syntax) → n ≡ fault_from_end (length s) d → ⊥
+      bad true safe at y e = not_limit d (ap (λ (x : ReadFault). x.code) (sym e) ∙ y refl) (and_parts (some_is q terminal_count) (is_limit d) fine).1
       bad false safe at y e = both_ways (starts b0 s) (starts_disjoint b0 q s safe b) (at refl)
   passes w b0 (limited d d0 g) fine safe s at b =
       let one = passes w b0 g fine safe s at b in
       let some : 1 ≤ length s = full_list (first g) s b in
       let least = d.one s in (
         λ n e y. elim (judge_err (d.at s) d0 s (run p g s) n e) [
-          | inl u ↦ let t = first_is u.3 in omega (arith, t)
-          | inr (inl u) ↦ let t = first_is u.3 in omega (arith, t)
+          | inl u ↦ let t = left_is u.3 in omega (arith, t)
+          | inr (inl u) ↦ let t = left_is u.3 in omega (arith, t)
           | inr (inr u) ↦ one.0 n u.0 y
         ],
         λ x e. one.1 x (judge_ok (d.at s) d0 s (run p g s) x e).0,

@@ -3,13 +3,14 @@
 use Rattle.std.proofs.Common.{◌≡◌, ◌≢◌, ℕ, ◌+◌, ◌≤◌, Bool, List, [], ◌∷◌, ◌++◌, length, Ok, Err, refl, ap, ◌∙◌, length-append, arith}
 use Rattle.std.specs.Prelude.{Some, None}
 use Rattle.std.proofs.lemmas.Option.{same_Some, none-some}
+use Rattle.grammar_core.specs.declared.fault.ReadFault.{ReadFault}
 use Rattle.grammar_core.specs.Terminals.{Terminal}
 use Rattle.grammar_core.specs.declared.token.Token.{Token}
 use Rattle.grammar_core.specs.declared.code.Code.{Code}
 use Rattle.grammar_core.specs.declared.code.Code.TheVariants.{Syntax}
 use Rattle.grammar_core.specs.Terminals.{terminal_of}
 use Rattle.grammar_core.specs.Production.{Language, Fault, then_fault, taken, IsFrom}
-use Rattle.grammar_core.specs.Reading.{Read, FaultFromEnd, starts}
+use Rattle.grammar_core.specs.Reading.{Read, starts, fault_from_end}
 
 -- both lists begin with the same token, or both are empty
 abbrev pub SameHead : List Token → List Token → Type 0
@@ -51,22 +52,22 @@ pub record Late (c : Code) (w : ℕ) (o : Fault) : Type 0 where
 
 -- Reading met a fault after the tokens `word`: the tokens `more` complete these to a text, and reading depends on the
 -- next token alone.
-pub record Faulted {A : Type 0} (G : Language A) (p : List Token → Read A) (s : List Token) (n : FaultFromEnd) : Type 0 where
+pub record Faulted {A : Type 0} (G : Language A) (p : List Token → Read A) (s : List Token) (n : ReadFault) : Type 0 where
   pub word : List Token
   pub rest : List Token
   pub parts : s ≡ word ++ rest
-  pub left : length rest ≡ n.0
+  pub left : length rest ≡ n.left
   pub more : List Token
   pub tree : A
   pub fault : List Token → Fault
-  pub late : (z : List Token) → Late n.1 (length word) (fault z)
-  pub extends : n.1 ≢ Syntax → Extends rest more
+  pub late : (z : List Token) → Late n.code (length word) (fault z)
+  pub extends : n.code ≢ Syntax → Extends rest more
   pub derives : (z : List Token) → G (word ++ (more ++ z)) tree (fault z) z
-  pub same : (r : List Token) → SameHead rest r → p (word ++ r) ≡ Err (length r, n.1)
+  pub same : (r : List Token) → SameHead rest r → p (word ++ r) ≡ Err (fault_from_end (length r) n.code)
 
 pub record Sound {A : Type 0} (G : Language A) (p : List Token → Read A) (s : List Token) : Type 0 where
   pub accepted : (x : A × List Token) → p s ≡ Ok x → Accepted G p s x
-  pub faulted : (n : FaultFromEnd) → p s ≡ Err n → Faulted G p s n
+  pub faulted : (n : ReadFault) → p s ≡ Err n → Faulted G p s n
 
 -- some text of the language
 pub record Text {A : Type 0} (G : Language A) : Type 0 where
@@ -103,8 +104,8 @@ extends_more rest more z e = record { head = e.head; rest_tail = e.rest_tail; mo
 pub taken_is : (w z : List Token) → taken (w ++ z) z ≡ length w
 taken_is w z = omega (arith, length-append w z)
 
-pub second_is : {n : FaultFromEnd} {m : ℕ} {c : Code} → n ≡ (m, c) → n.1 ≡ c
-second_is e = ap (λ (x : FaultFromEnd). x.1) e
+pub code_is : {n : ReadFault} {m : ℕ} {c : Code} → n ≡ fault_from_end m c → n.code ≡ c
+code_is e = ap (λ (x : ReadFault). x.code) e
 
-pub first_is : {n : FaultFromEnd} {m : ℕ} {c : Code} → n ≡ (m, c) → n.0 ≡ m
-first_is e = ap (λ (x : FaultFromEnd). x.0) e
+pub left_is : {n : ReadFault} {m : ℕ} {c : Code} → n ≡ fault_from_end m c → n.left ≡ m
+left_is e = ap (λ (x : ReadFault). x.left) e

@@ -2,11 +2,12 @@
 use Rattle.std.proofs.Common.{◌≡◌, Bool, true, false, cond, List, [], ◌∷◌, ◌++◌, length, Ok, Err, refl, ◌⊎◌, inl, inr, sym, ap, ◌∙◌, arith, subst}
 use Rattle.std.specs.Prelude.{Option, Some, None, ◌&&◌}
 use Rattle.std.proofs.lemmas.Bool.{cases_Bool}
+use Rattle.grammar_core.specs.declared.fault.ReadFault.{ReadFault}
 use Rattle.grammar_core.specs.Terminals.{Terminal}
 use Rattle.grammar_core.specs.declared.token.Token.{Token}
 use Rattle.grammar_core.specs.Terminals.{terminal_of}
 use Rattle.grammar_core.specs.Production.{Language, Maybe}
-use Rattle.grammar_core.specs.Reading.{◌>>=◌, Read, FaultFromEnd, starts, picks}
+use Rattle.grammar_core.specs.Reading.{◌>>=◌, Read, starts, picks}
 use Rattle.grammar_core.proofs.ReadCases.{bind_ok, bind_err}
 use Rattle.grammar_core.proofs.Passes.{Passes}
 use Rattle.grammar_core.proofs.Sound.{Accepted, Faulted, SameHead, Sound, same_head_after, starts_same}
@@ -26,10 +27,10 @@ module _ {A : Type 0} (G : Language A) (H : Language A) (p : List Token → Read
   right_accepted : (s : List Token) (x : A × List Token) → (h : Accepted H q s x) → ((r : List Token) → SameHead x.1 r → test (h.word ++ r) ≡ false) → Accepted (Either G H) (λ l. cond (test l) (p l) (q l)) s x
   right_accepted s x h is = record { word = h.word; parts = h.parts; derives = λ z. inr (h.derives z); same = λ r same. rw (is r same) (h.same r same) }
 
-  left_faulted : (s : List Token) (n : FaultFromEnd) → (g : Faulted G p s n) → ((r : List Token) → SameHead g.rest r → test (g.word ++ r) ≡ true) → Faulted (Either G H) (λ l. cond (test l) (p l) (q l)) s n
+  left_faulted : (s : List Token) (n : ReadFault) → (g : Faulted G p s n) → ((r : List Token) → SameHead g.rest r → test (g.word ++ r) ≡ true) → Faulted (Either G H) (λ l. cond (test l) (p l) (q l)) s n
   left_faulted s n g is = record { word = g.word; rest = g.rest; parts = g.parts; left = g.left; more = g.more; tree = g.tree; fault = g.fault; late = g.late; extends = g.extends; derives = λ z. inl (g.derives z); same = λ r same. rw (is r same) (g.same r same) }
 
-  right_faulted : (s : List Token) (n : FaultFromEnd) → (h : Faulted H q s n) → ((r : List Token) → SameHead h.rest r → test (h.word ++ r) ≡ false) → Faulted (Either G H) (λ l. cond (test l) (p l) (q l)) s n
+  right_faulted : (s : List Token) (n : ReadFault) → (h : Faulted H q s n) → ((r : List Token) → SameHead h.rest r → test (h.word ++ r) ≡ false) → Faulted (Either G H) (λ l. cond (test l) (p l) (q l)) s n
   right_faulted s n h is = record { word = h.word; rest = h.rest; parts = h.parts; left = h.left; more = h.more; tree = h.tree; fault = h.fault; late = h.late; extends = h.extends; derives = λ z. inr (h.derives z); same = λ r same. rw (is r same) (h.same r same) }
 
 -- what is decided by the next token alone

@@ -2,16 +2,17 @@
 use Rattle.std.proofs.Common.{◌≡◌, ℕ, zero, suc, ◌+◌, ◌-◌, ◌<◌, ◌≤◌, Bool, true, false, cond, List, [], ◌∷◌, ◌++◌, length, Ok, Err, refl, inl, inr, sym, ap, ◌∙◌, append_assoc, length-append, arith, subst}
 use Rattle.std.specs.Prelude.{Some, None, nat_lt}
 use Rattle.std.proofs.lemmas.Bool.{le-ltb, lt-ltb, ltb-true, ltb-false, cases_lt}
+use Rattle.grammar_core.specs.declared.fault.ReadFault.{ReadFault}
 use Rattle.grammar_core.specs.declared.token.Token.{Token}
 use Rattle.grammar_core.specs.declared.code.Code.{Code}
 use Rattle.grammar_core.specs.Production.{Limit, Language, Fault, cut_at, taken, IsFrom}
-use Rattle.grammar_core.specs.Reading.{Read, FaultFromEnd, judge}
+use Rattle.grammar_core.specs.Reading.{Read, judge, fault_from_end}
 use Rattle.grammar_core.proofs.ReadCases.{judge_ok, judge_err}
-use Rattle.grammar_core.proofs.Sound.{Accepted, Faulted, Late, SameHead, Sound, first_is, late_here, same_head_after, second_is, taken_is}
+use Rattle.grammar_core.proofs.Sound.{Accepted, Faulted, Late, SameHead, Sound, code_is, late_here, left_is, same_head_after, taken_is}
 use Rattle.list_lemmas.proofs.Options.{same_Ok, Ok≢Err, same_Err}
 use Rattle.list_lemmas.proofs.Joins.{longer_front}
 
-abbrev pub failed : {A : Type 0} → FaultFromEnd → Read A
+abbrev pub failed : {A : Type 0} → ReadFault → Read A
 failed n = Err n
 
 pub above : (n l u : ℕ) → l ≡ u → (n ≤ u → ⊥) → l < n
@@ -67,10 +68,10 @@ module _ {A : Type 0} (L : Limit) (c : Code) (G : Language A) (p : List Token �
             rw (t.same r same, low) refl;
       }
 
-  judge_inside : (s : List Token) (n : FaultFromEnd) → p s ≡ Err n → length s - n.0 ≤ L.at s → Faulted (Limited L c G) judged s n
+  judge_inside : (s : List Token) (n : ReadFault) → p s ≡ Err n → length s - n.left ≤ L.at s → Faulted (Limited L c G) judged s n
   judge_inside s n e le =
       let t = (sound s).faulted n e in
-      let m : length s - n.0 ≡ length t.word = ap (λ (l : List Token). length l - n.0) t.parts ∙ ap (λ (k : ℕ). length (t.word ++ t.rest) - k) (sym t.left) ∙ taken_is t.word t.rest in
+      let m : length s - n.left ≡ length t.word = ap (λ (l : List Token). length l - n.left) t.parts ∙ ap (λ (k : ℕ). length (t.word ++ t.rest) - k) (sym t.left) ∙ taken_is t.word t.rest in
       let fits : (z : List Token) → length t.word ≤ L.at (t.word ++ z) = λ z. L.keeps t.word t.rest z (subst (λ (l : List Token). length t.word ≤ L.at l) t.parts (omega (arith, m, le))) in
       record {
         word = t.word;
@@ -82,7 +83,7 @@ module _ {A : Type 0} (L : Limit) (c : Code) (G : Language A) (p : List Token �
         fault = λ z. cut_at (L.at (t.word ++ (t.more ++ z))) c (taken (t.word ++ (t.more ++ z)) z) (t.fault z);
         late = λ z. record {
           from = cut_from _ c (taken (t.word ++ (t.more ++ z)) z) (length t.word) (t.fault z) (fits (t.more ++ z)) (t.late z).from;
-          exact = λ d. rw ((t.late z).exact d) (cut_early _ c (taken (t.word ++ (t.more ++ z)) z) (length t.word, n.1) (fits (t.more ++ z)));
+          exact = λ d. rw ((t.late z).exact d) (cut_early _ c (taken (t.word ++ (t.more ++ z)) z) (length t.word, n.code) (fits (t.more ++ z)));
         };
         extends = t.extends;
         derives = λ z. (t.fault z, t.derives z, refl);
@@ -94,8 +95,8 @@ module _ {A : Type 0} (L : Limit) (c : Code) (G : Language A) (p : List Token �
 
   -- past the limit reading gives the code at the limit, whatever follows
   past : (s u : List Token) (y : Token) (v r : List Token) → s ≡ u ++ y ∷ v → L.at (u ++ y ∷ r) ≡ length u
-      → ((x : A × List Token) → p s ≡ Ok x → length x.1 < suc (length v)) → ((d : FaultFromEnd) → p s ≡ Err d → d.0 < suc (length v))
-      → judged (u ++ y ∷ r) ≡ Err (length (y ∷ r), c)
+      → ((x : A × List Token) → p s ≡ Ok x → length x.1 < suc (length v)) → ((d : ReadFault) → p s ≡ Err d → d.left < suc (length v))
+      → judged (u ++ y ∷ r) ≡ Err (fault_from_end (length (y ∷ r)) c)
   past s u y v r parts at ok err = go (p (u ++ y ∷ r)) refl
     where
       len : length (u ++ y ∷ r) ≡ length u + suc (length r)
@@ -110,10 +111,10 @@ module _ {A : Type 0} (L : Limit) (c : Code) (G : Language A) (p : List Token �
       high : (n : ℕ) → (n ≤ length u → ⊥) → nat_lt (L.at (u ++ y ∷ r)) n ≡ true
       high n never = lt-ltb _ _ (above n (L.at (u ++ y ∷ r)) (length u) at never)
 
-      out : failed {A = A} (length (u ++ y ∷ r) - L.at (u ++ y ∷ r), c) ≡ Err (length (y ∷ r), c)
-      out = ap (λ (n : ℕ). Err (n, c)) (omega (arith, len, at))
+      out : failed {A = A} (fault_from_end (length (u ++ y ∷ r) - L.at (u ++ y ∷ r)) c) ≡ Err (fault_from_end (length (y ∷ r)) c)
+      out = ap (λ (n : ℕ). Err (fault_from_end n c)) (omega (arith, len, at))
 
-      go : (res : Read A) → p (u ++ y ∷ r) ≡ res → judge (L.at (u ++ y ∷ r)) c (u ++ y ∷ r) (p (u ++ y ∷ r)) ≡ Err (length (y ∷ r), c)
+      go : (res : Read A) → p (u ++ y ∷ r) ≡ res → judge (L.at (u ++ y ∷ r)) c (u ++ y ∷ r) (p (u ++ y ∷ r)) ≡ Err (fault_from_end (length (y ∷ r)) c)
       go (Ok x) e =
           let t = (sound (u ++ y ∷ r)).accepted x e in
           let n : length (u ++ y ∷ r) - length x.1 ≡ length t.word = ap (λ (l : List Token). length l - length x.1) t.parts ∙ taken_is t.word x.1 in
@@ -124,17 +125,17 @@ module _ {A : Type 0} (L : Limit) (c : Code) (G : Language A) (p : List Token �
           rw (e, high (length (u ++ y ∷ r) - length x.1) never) out
       go (Err d) e =
           let t = (sound (u ++ y ∷ r)).faulted d e in
-          let n : length (u ++ y ∷ r) - d.0 ≡ length t.word = ap (λ (l : List Token). length l - d.0) t.parts ∙ ap (λ (k : ℕ). length (t.word ++ t.rest) - k) (sym t.left) ∙ taken_is t.word t.rest in
-          let never : length (u ++ y ∷ r) - d.0 ≤ length u → ⊥ = λ le.
+          let n : length (u ++ y ∷ r) - d.left ≡ length t.word = ap (λ (l : List Token). length l - d.left) t.parts ∙ ap (λ (k : ℕ). length (t.word ++ t.rest) - k) (sym t.left) ∙ taken_is t.word t.rest in
+          let never : length (u ++ y ∷ r) - d.left ≤ length u → ⊥ = λ le.
           let m = meets t.word t.rest t.parts (omega (arith, n, le)) in
-          let k = err (length (m.0 ++ y ∷ v), d.1) (ap p m.2 ∙ t.same (m.0 ++ y ∷ v) m.1) in
+          let k = err (fault_from_end (length (m.0 ++ y ∷ v)) d.code) (ap p m.2 ∙ t.same (m.0 ++ y ∷ v) m.1) in
           omega (arith, k, m.3) in
-          rw (e, high (length (u ++ y ∷ r) - d.0) never) out
+          rw (e, high (length (u ++ y ∷ r) - d.left) never) out
 
   -- a text that is longer than its limit
-  judge_past : (s : List Token) (n : FaultFromEnd) (word rest more : List Token) (tree : A) (fault : List Token → Fault) → s ≡ word ++ rest → L.at s < length word → n ≡ (length s - L.at s, c)
+  judge_past : (s : List Token) (n : ReadFault) (word rest more : List Token) (tree : A) (fault : List Token → Fault) → s ≡ word ++ rest → L.at s < length word → n ≡ fault_from_end (length s - L.at s) c
       → ((z : List Token) → IsFrom (length word) (fault z)) → ((z : List Token) → G (word ++ (more ++ z)) tree (fault z) z)
-      → ((x : A × List Token) → p s ≡ Ok x → length x.1 ≤ length rest) → ((d : FaultFromEnd) → p s ≡ Err d → d.0 ≤ length rest)
+      → ((x : A × List Token) → p s ≡ Ok x → length x.1 ≤ length rest) → ((d : ReadFault) → p s ≡ Err d → d.left ≤ length rest)
       → Faulted (Limited L c G) judged s n
   judge_past s n word rest more tree fault parts lt is from derives ok err =
       let k = cut_list (L.at s) word lt in
@@ -144,12 +145,12 @@ module _ {A : Type 0} (L : Limit) (c : Code) (G : Language A) (p : List Token �
       let long : length word ≡ length u + suc (length v) = ap (λ (l : List Token). length l) k.3 ∙ length-append u (y ∷ v) in
       let all : length s ≡ length word + length rest = ap (λ (l : List Token). length l) parts ∙ length-append word rest in
       let back = length-append v rest in
-      let code = second_is is in
+      let code = code_is is in
       record {
         word = u;
         rest = y ∷ (v ++ rest);
         parts = whole;
-        left = let f = first_is is in omega (arith, f, all, long, k.4, back);
+        left = let f = left_is is in omega (arith, f, all, long, k.4, back);
         more = y ∷ (v ++ more);
         tree = tree;
         fault = λ z. Some (length u, c);
@@ -164,7 +165,7 @@ module _ {A : Type 0} (L : Limit) (c : Code) (G : Language A) (p : List Token �
             (fault z, g, sym (ap (λ (l : ℕ). cut_at l c (taken (u ++ ((y ∷ (v ++ more)) ++ z)) z) (fault z)) lim ∙ cut_here (length u) c _ (fault z) (omega (arith, size, long)) (from_less (length word) (suc (length u)) (fault z) (omega (arith, long)) (from z))));
         same = λ r same. again u y (v ++ rest) r whole at same
             (λ x e. let f = ok x e in omega (arith, f, back)) (λ d e. let f = err d e in omega (arith, f, back))
-            ∙ ap (λ (d : Code). Err (length r, d)) (sym code);
+            ∙ ap (λ (d : Code). Err (fault_from_end (length r) d)) (sym code);
       }
     where
       from_less : (w m : ℕ) (o : Fault) → m ≤ w → IsFrom w o → IsFrom m o
@@ -172,9 +173,9 @@ module _ {A : Type 0} (L : Limit) (c : Code) (G : Language A) (p : List Token �
       from_less w m (Some f) le h = omega (arith, le, h)
 
       again : (u : List Token) (y : Token) (v r : List Token) → s ≡ u ++ y ∷ v → ((r : List Token) → L.at (u ++ y ∷ r) ≡ length u) → SameHead (y ∷ v) r
-          → ((x : A × List Token) → p s ≡ Ok x → length x.1 < suc (length v)) → ((d : FaultFromEnd) → p s ≡ Err d → d.0 < suc (length v)) → judged (u ++ r) ≡ Err (length r, c)
+          → ((x : A × List Token) → p s ≡ Ok x → length x.1 < suc (length v)) → ((d : ReadFault) → p s ≡ Err d → d.left < suc (length v)) → judged (u ++ r) ≡ Err (fault_from_end (length r) c)
       again u y v [] e at same ok err = absurd same
-      again u y v (y' ∷ r) e at same ok err = subst (λ (t : Token). judged (u ++ t ∷ r) ≡ Err (suc (length r), c)) same (past s u y v r e (at r) ok err)
+      again u y v (y' ∷ r) e at same ok err = subst (λ (t : Token). judged (u ++ t ∷ r) ≡ Err (fault_from_end (suc (length r)) c)) same (past s u y v r e (at r) ok err)
 
   pub limited_sound : (s : List Token) → Sound (Limited L c G) judged s
   limited_sound s =
@@ -191,11 +192,11 @@ module _ {A : Type 0} (L : Limit) (c : Code) (G : Language A) (p : List Token �
                   (λ d e'. absurd (Ok≢Err u.0 d (sym u.1 ∙ e')))
               | inr (inl u) ↦
                   let t = (sound s).faulted u.0 u.1 in
-                  let k : length s - u.0.0 ≡ length t.word = ap (λ (l : List Token). length l - u.0.0) t.parts ∙ ap (λ (m : ℕ). length (t.word ++ t.rest) - m) (sym t.left) ∙ taken_is t.word t.rest in
+                  let k : length s - u.0.left ≡ length t.word = ap (λ (l : List Token). length l - u.0.left) t.parts ∙ ap (λ (m : ℕ). length (t.word ++ t.rest) - m) (sym t.left) ∙ taken_is t.word t.rest in
                   let lt = ltb-true _ _ u.2 in
                   judge_past s n t.word t.rest t.more t.tree t.fault t.parts (omega (arith, k, lt)) u.3 (λ z. (t.late z).from) t.derives
                   (λ x e'. absurd (Ok≢Err x u.0 (sym e' ∙ u.1)))
-                  (λ d e'. let same : u.0 ≡ d = same_Err u.0 d (sym u.1 ∙ e') in let f = ap (λ (y : FaultFromEnd). y.0) same in omega (arith, f, t.left))
+                  (λ d e'. let same : u.0 ≡ d = same_Err u.0 d (sym u.1 ∙ e') in let f = ap (λ (y : ReadFault). y.left) same in omega (arith, f, t.left))
               | inr (inr u) ↦ judge_inside s n u.0 (ltb-false _ _ u.1)
             ];
       }

@@ -1,16 +1,17 @@
 -- A list is read soundly.
 use Rattle.std.proofs.Common.{◌≡◌, ℕ, zero, suc, ◌<◌, ◌≤◌, Bool, true, false, List, [], ◌∷◌, ◌++◌, length, Ok, Err, refl, inl, inr, sym, ap, ◌∙◌, append_assoc, length-append, arith, subst}
 use Rattle.std.specs.Prelude.{Option, Some, None}
+use Rattle.grammar_core.specs.declared.fault.ReadFault.{ReadFault}
 use Rattle.grammar_core.specs.Terminals.{Terminal}
 use Rattle.grammar_core.specs.declared.token.Token.{Token}
 use Rattle.grammar_core.specs.declared.code.Code.{Code}
 use Rattle.grammar_core.specs.declared.code.Code.TheVariants.{Syntax}
 use Rattle.grammar_core.specs.Production.{Language, Fault, then_fault, or_fault, at_start, taken, Many}
-use Rattle.grammar_core.specs.Reading.{◌>>=◌, Read, FaultFromEnd, refuse, starts, many_at}
+use Rattle.grammar_core.specs.Reading.{◌>>=◌, Read, refuse, starts, many_at, fault_from_end}
 use Rattle.grammar_core.proofs.ReadCases.{bind_ok, bind_err, refuse_ok, refuse_err}
 use Rattle.grammar_core.proofs.Fuel.{Consumes, many_is}
 use Rattle.grammar_core.proofs.Passes.{Passes}
-use Rattle.grammar_core.proofs.Sound.{Accepted, Faulted, Late, SameHead, Sound, first_is, late_after, late_here, late_then, same_head_after, second_is, starts_same, taken_is}
+use Rattle.grammar_core.proofs.Sound.{Accepted, Faulted, Late, SameHead, Sound, code_is, late_after, late_here, late_then, left_is, same_head_after, starts_same, taken_is}
 use Rattle.grammar_core.proofs.SoundChoices.{starts_along}
 use Rattle.list_lemmas.proofs.Truth.{chosen}
 use Rattle.list_lemmas.proofs.Options.{same_Ok, Ok≢Err}
@@ -32,10 +33,10 @@ led {A} G p x m consumes pass sound = go (p (x ∷ m)) refl
         by_word [] e g = let k = ap (λ (l : List Token). length l) e in absurd (omega (arith, k, lt))
         by_word (y ∷ w) e g = let same : y ≡ x = cc in record { more = w; tree = a.0; fault = λ z. None; derives = λ z. subst (λ (u : Token). G (u ∷ (w ++ z)) a.0 None z) same (g z) }
 
-    from_faulted : (n : FaultFromEnd) → p (x ∷ m) ≡ Err n → Faulted G p (x ∷ m) n → Led G x
+    from_faulted : (n : ReadFault) → p (x ∷ m) ≡ Err n → Faulted G p (x ∷ m) n → Led G x
     from_faulted n e t = by_word t.word t.parts t.derives
       where
-        at_once : (c : Code) → n.1 ≡ c → x ∷ m ≡ t.rest → ((z : List Token) → G (t.more ++ z) t.tree (t.fault z) z) → Led G x
+        at_once : (c : Code) → n.code ≡ c → x ∷ m ≡ t.rest → ((z : List Token) → G (t.more ++ z) t.tree (t.fault z) z) → Led G x
         at_once Syntax is e' g = let lt = pass.0 n e (λ _. is) in let k = ap (λ (l : List Token). length l) e' in absurd (omega (arith, lt, k, t.left))
         at_once c is e' g =
             let ext = t.extends (λ h. absurd (differs (sym is ∙ h))) in
@@ -49,7 +50,7 @@ led {A} G p x m consumes pass sound = go (p (x ∷ m)) refl
             head_is h = cc
 
         by_word : (w : List Token) → x ∷ m ≡ w ++ t.rest → ((z : List Token) → G (w ++ (t.more ++ z)) t.tree (t.fault z) z) → Led G x
-        by_word [] e' g = at_once n.1 refl e' g
+        by_word [] e' g = at_once n.code refl e' g
         by_word (y ∷ w) e' g =
             let same : y ≡ x = cc in
             record { more = w ++ t.more; tree = t.tree; fault = t.fault; derives = λ z. rw append_assoc (subst (λ (u : Token). G (u ∷ (w ++ (t.more ++ z))) t.tree (t.fault z) z) same (g z)) }
@@ -82,7 +83,7 @@ module _ {A : Type 0} (full : ℕ → Option Code) (G : Language A) (p : List To
             rw append_assoc (many_is full f p consumes i (g.word ++ (h.word ++ r)) ∙ rw (go, none, g.same (h.word ++ r) ahead, h.same r same) refl);
       }
 
-  many_faulted : (i : ℕ) (s : List Token) (n : FaultFromEnd) (a : A × List Token) → starts f s ≡ true → full i ≡ None → Accepted G p s a → Faulted (Many full G (suc i)) (many (suc i)) a.1 n → Faulted (Many full G i) (many i) s n
+  many_faulted : (i : ℕ) (s : List Token) (n : ReadFault) (a : A × List Token) → starts f s ≡ true → full i ≡ None → Accepted G p s a → Faulted (Many full G (suc i)) (many (suc i)) a.1 n → Faulted (Many full G i) (many i) s n
   many_faulted i s n a t none g h =
       record {
         word = g.word ++ h.word;
@@ -92,7 +93,7 @@ module _ {A : Type 0} (full : ℕ → Option Code) (G : Language A) (p : List To
         more = h.more;
         tree = a.0 ∷ h.tree;
         fault = λ z. then_fault None (length g.word) (h.fault z);
-        late = λ z. late_after n.1 (length (g.word ++ h.word)) (length h.word) (length g.word) (h.fault z) (length-append g.word h.word) (h.late z);
+        late = λ z. late_after n.code (length (g.word ++ h.word)) (length h.word) (length g.word) (h.fault z) (length-append g.word h.word) (h.late z);
         extends = h.extends;
         derives = λ z. rw append_assoc (many_derive i g.word (h.word ++ (h.more ++ z)) z (length g.word) a.0 h.tree None _ none refl (g.derives (h.word ++ (h.more ++ z))) (h.derives z));
         same = λ r same.
@@ -101,7 +102,7 @@ module _ {A : Type 0} (full : ℕ → Option Code) (G : Language A) (p : List To
             rw append_assoc (many_is full f p consumes i (g.word ++ (h.word ++ r)) ∙ rw (go, none, g.same (h.word ++ r) ahead, h.same r same) refl);
       }
 
-  one_faulted : (i : ℕ) (s : List Token) (n : FaultFromEnd) → starts f s ≡ true → full i ≡ None → Faulted G p s n → Faulted (Many full G i) (many i) s n
+  one_faulted : (i : ℕ) (s : List Token) (n : ReadFault) → starts f s ≡ true → full i ≡ None → Faulted G p s n → Faulted (Many full G i) (many i) s n
   one_faulted i s n t none g =
       record {
         word = g.word;
@@ -111,7 +112,7 @@ module _ {A : Type 0} (full : ℕ → Option Code) (G : Language A) (p : List To
         more = g.more;
         tree = g.tree ∷ [];
         fault = λ z. then_fault (g.fault z) (length (g.word ++ g.more)) None;
-        late = λ z. late_then n.1 (length g.word) (length (g.word ++ g.more)) _ None (omega (arith, length-append g.word g.more)) (g.late z);
+        late = λ z. late_then n.code (length g.word) (length (g.word ++ g.more)) _ None (omega (arith, length-append g.word g.more)) (g.late z);
         extends = g.extends;
         derives = λ z.
             let g' : G ((g.word ++ g.more) ++ z) g.tree (g.fault z) z = rw append_assoc (g.derives z) in
@@ -122,16 +123,16 @@ module _ {A : Type 0} (full : ℕ → Option Code) (G : Language A) (p : List To
             many_is full f p consumes i (g.word ++ r) ∙ rw (go, none, g.same r same) refl;
       }
 
-  too_many : (i : ℕ) (s : List Token) (n : FaultFromEnd) (c : Code) → starts f s ≡ true → full i ≡ Some c → n ≡ (length s, c) → Faulted (Many full G i) (many i) s n
+  too_many : (i : ℕ) (s : List Token) (n : ReadFault) (c : Code) → starts f s ≡ true → full i ≡ Some c → n ≡ fault_from_end (length s) c → Faulted (Many full G i) (many i) s n
   too_many i [] n c t is e = absurd cc
   too_many i (x ∷ m) n c t is e =
       let l = led G p x m consumes (pass (x ∷ m) t) (sound (x ∷ m)) in
-      let code = second_is e in
+      let code = code_is e in
       record {
         word = [];
         rest = x ∷ m;
         parts = refl;
-        left = sym (first_is e);
+        left = sym (left_is e);
         more = x ∷ l.more;
         tree = l.tree ∷ [];
         fault = λ z. Some (0, c);
@@ -140,7 +141,7 @@ module _ {A : Type 0} (full : ℕ → Option Code) (G : Language A) (p : List To
         derives = λ z. (z, l.fault z, None, l.derives z, (refl, refl), ap (λ (d : Option Code). then_fault (or_fault (at_start d) (l.fault z)) (taken (x ∷ (l.more ++ z)) z) None) (sym is));
         same = λ r same.
             let go : starts f r ≡ true = sym (starts_same f (x ∷ m) r same) ∙ t in
-            many_is full f p consumes i r ∙ rw (go, is) (ap (λ (d : Code). Err (length r, d)) (sym code));
+            many_is full f p consumes i r ∙ rw (go, is) (ap (λ (d : Code). Err (fault_from_end (length r) d)) (sym code));
       }
 
   none_accepted : (i : ℕ) (s : List Token) → starts f s ≡ false → Accepted (Many full G i) (many i) s ([], s)

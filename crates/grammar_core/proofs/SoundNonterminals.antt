@@ -6,9 +6,9 @@ use Rattle.grammar_core.specs.declared.token.Token.{Token}
 use Rattle.grammar_core.specs.declared.code.Code.{Code}
 use Rattle.grammar_core.specs.Terminals.{terminal_count, some_is}
 use Rattle.grammar_core.specs.Production.{Language, Fault, then_fault, IsOne}
-use Rattle.grammar_core.specs.Reading.{◌>>=◌, Read, token_at}
+use Rattle.grammar_core.specs.Reading.{◌>>=◌, Read, token_at, fault_from_end}
 use Rattle.grammar_core.proofs.ReadCases.{bind_ok, bind_err, token_ok, token_err}
-use Rattle.grammar_core.proofs.Sound.{Sound, Text, first_is, from_zero, late_after, late_syntax, second_is, starts_same}
+use Rattle.grammar_core.proofs.Sound.{Sound, Text, code_is, from_zero, late_after, late_syntax, left_is, starts_same}
 use Rattle.grammar_core.proofs.SoundTokens.{one_text, token_refuses}
 use Rattle.list_lemmas.proofs.Options.{same_Ok, Ok≢Err}
 
@@ -34,19 +34,19 @@ after_token_sound q G p some g text s =
             | inl u ↦
                 let t = token_err q s n u in
                 let one = one_text q some in
-                let syntax = second_is t.0 in
+                let syntax = code_is t.0 in
                 record {
                   word = [];
                   rest = s;
                   parts = refl;
-                  left = sym (first_is t.0);
+                  left = sym (left_is t.0);
                   more = one.0 ∷ text.word;
                   tree = (one.0, text.tree);
                   fault = λ z. then_fault None 1 (text.fault z);
-                  late = λ z. late_syntax n.1 0 _ syntax (from_zero (then_fault None 1 (text.fault z)));
+                  late = λ z. late_syntax n.code 0 _ syntax (from_zero (then_fault None 1 (text.fault z)));
                   extends = λ d. absurd (d syntax);
                   derives = λ z. (text.word ++ z, text.fault z, one.1 (text.word ++ z), text.derives z, refl);
-                  same = λ r same. rw (token_refuses q r (sym (starts_same q s r same) ∙ t.1)) (ap (λ (c : Code). Err (length r, c)) (sym syntax));
+                  same = λ r same. rw (token_refuses q r (sym (starts_same q s r same) ∙ t.1)) (ap (λ (c : Code). Err (fault_from_end (length r) c)) (sym syntax));
                 }
             | inr a ↦ elim (bind_err (p a.0.1) (λ b. Ok ((a.0.0, b.0), b.1)) n a.2) [
               | inl v ↦
@@ -60,7 +60,7 @@ after_token_sound q G p some g text s =
                     more = b.more;
                     tree = (a.0.0, b.tree);
                     fault = λ z. then_fault None 1 (b.fault z);
-                    late = λ z. late_after n.1 (suc (length b.word)) (length b.word) 1 (b.fault z) (omega arith) (b.late z);
+                    late = λ z. late_after n.code (suc (length b.word)) (length b.word) 1 (b.fault z) (omega arith) (b.late z);
                     extends = b.extends;
                     derives = λ z. (b.word ++ (b.more ++ z), b.fault z, (refl, t.1), b.derives z, refl);
                     same = λ r same. rw (t.1, b.same r same) refl;

@@ -1,9 +1,10 @@
 -- One text after another is read soundly.
 use Rattle.std.proofs.Common.{◌≡◌, ℕ, List, ◌++◌, length, Ok, refl, inl, inr, sym, ap, ◌∙◌, append_assoc, length-append, arith, subst}
 use Rattle.std.specs.Prelude.{None}
+use Rattle.grammar_core.specs.declared.fault.ReadFault.{ReadFault}
 use Rattle.grammar_core.specs.declared.token.Token.{Token}
 use Rattle.grammar_core.specs.Production.{Language, Fault, then_fault, taken}
-use Rattle.grammar_core.specs.Reading.{◌>>=◌, Read, FaultFromEnd}
+use Rattle.grammar_core.specs.Reading.{◌>>=◌, Read}
 use Rattle.grammar_core.proofs.ReadCases.{bind_ok, bind_err}
 use Rattle.grammar_core.proofs.Sound.{Accepted, Faulted, SameHead, Sound, Text, extends_more, late_after, late_then, same_head_after, taken_is}
 use Rattle.list_lemmas.proofs.Options.{same_Ok, Ok≢Err}
@@ -39,7 +40,7 @@ module _ {A B : Type 0} (G : Language A) (H : Language B) (p : List Token → Re
             rw (append_assoc, g.same (h.word ++ r) ahead, h.same r same, is) refl;
       }
 
-  both_faulted_first : (s : List Token) (n : FaultFromEnd) → Faulted G p s n → Text H → Faulted (Both G H) (both_at p q) s n
+  both_faulted_first : (s : List Token) (n : ReadFault) → Faulted G p s n → Text H → Faulted (Both G H) (both_at p q) s n
   both_faulted_first s n g h =
       record {
         word = g.word;
@@ -49,7 +50,7 @@ module _ {A B : Type 0} (G : Language A) (H : Language B) (p : List Token → Re
         more = g.more ++ h.word;
         tree = (g.tree, h.tree);
         fault = λ z. then_fault (g.fault (h.word ++ z)) (length (g.word ++ g.more)) (h.fault z);
-        late = λ z. late_then n.1 (length g.word) (length (g.word ++ g.more)) _ _ (omega (arith, length-append g.word g.more)) (g.late (h.word ++ z));
+        late = λ z. late_then n.code (length g.word) (length (g.word ++ g.more)) _ _ (omega (arith, length-append g.word g.more)) (g.late (h.word ++ z));
         extends = λ d. extends_more g.rest g.more h.word (g.extends d);
         derives = λ z.
             let g' : G ((g.word ++ g.more) ++ (h.word ++ z)) g.tree (g.fault (h.word ++ z)) (h.word ++ z) = rw append_assoc (g.derives (h.word ++ z)) in
@@ -59,7 +60,7 @@ module _ {A B : Type 0} (G : Language A) (H : Language B) (p : List Token → Re
         same = λ r same. rw (g.same r same) refl;
       }
 
-  both_faulted_second : (s : List Token) (n : FaultFromEnd) (a : A × List Token) → Accepted G p s a → Faulted H q a.1 n → Faulted (Both G H) (both_at p q) s n
+  both_faulted_second : (s : List Token) (n : ReadFault) (a : A × List Token) → Accepted G p s a → Faulted H q a.1 n → Faulted (Both G H) (both_at p q) s n
   both_faulted_second s n a g h =
       record {
         word = g.word ++ h.word;
@@ -69,7 +70,7 @@ module _ {A B : Type 0} (G : Language A) (H : Language B) (p : List Token → Re
         more = h.more;
         tree = (a.0, h.tree);
         fault = λ z. then_fault None (length g.word) (h.fault z);
-        late = λ z. late_after n.1 (length (g.word ++ h.word)) (length h.word) (length g.word) (h.fault z) (length-append g.word h.word) (h.late z);
+        late = λ z. late_after n.code (length (g.word ++ h.word)) (length h.word) (length g.word) (h.fault z) (length-append g.word h.word) (h.late z);
         extends = h.extends;
         derives = λ z. rw append_assoc (both_derive G H g.word (h.word ++ (h.more ++ z)) z (length g.word) a.0 h.tree None _ refl (g.derives (h.word ++ (h.more ++ z))) (h.derives z));
         same = λ r same.

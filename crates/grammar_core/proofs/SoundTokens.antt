@@ -8,10 +8,10 @@ use Rattle.grammar_core.specs.declared.code.Code.TheVariants.{Syntax}
 use Rattle.grammar_core.proofs.Tokens.{token_of, terminal_of_token}
 use Rattle.grammar_core.specs.Terminals.{terminal_of, terminal_count, some_is}
 use Rattle.grammar_core.specs.Production.{Language, bad_unless, IsOne}
-use Rattle.grammar_core.specs.Reading.{◌>>=◌, check, starts, token_at}
+use Rattle.grammar_core.specs.Reading.{◌>>=◌, check, starts, token_at, fault_from_end}
 use Rattle.grammar_core.proofs.Sets.{some_at}
 use Rattle.grammar_core.proofs.ReadCases.{bind_ok, bind_err, token_ok, token_err, check_ok, check_err}
-use Rattle.grammar_core.proofs.Sound.{Accepted, Late, SameHead, Sound, first_is, from_zero, late_here, late_syntax, second_is, starts_same}
+use Rattle.grammar_core.proofs.Sound.{Accepted, Late, SameHead, Sound, code_is, from_zero, late_here, late_syntax, left_is, starts_same}
 
 abbrev pub One : (Terminal → Bool) → Language Token
 One q s t o r = IsOne q s t r × (o ≡ None)
@@ -21,7 +21,7 @@ token_accepted q s x e =
     let t = token_ok q s x e in
     record { word = x.0 ∷ []; parts = t.0; derives = λ z. ((refl, t.1), refl); same = λ r h. rw t.1 refl }
 
-pub token_refuses : (q : Terminal → Bool) (s : List Token) → starts q s ≡ false → token_at q s ≡ Err (length s, Syntax)
+pub token_refuses : (q : Terminal → Bool) (s : List Token) → starts q s ≡ false → token_at q s ≡ Err (fault_from_end (length s) Syntax)
 token_refuses q [] h = refl
 token_refuses q (x ∷ s) h = rw h refl
 
@@ -37,19 +37,19 @@ token_sound q s h =
       faulted = λ n e.
           let t = token_err q s n e in
           let one = one_text q h in
-          let syntax = second_is t.0 in
+          let syntax = code_is t.0 in
           record {
             word = [];
             rest = s;
             parts = refl;
-            left = sym (first_is t.0);
+            left = sym (left_is t.0);
             more = one.0 ∷ [];
             tree = one.0;
             fault = λ z. None;
-            late = λ z. late_syntax n.1 0 None syntax tt;
+            late = λ z. late_syntax n.code 0 None syntax tt;
             extends = λ d. absurd (d syntax);
             derives = λ z. (one.1 z, refl);
-            same = λ r same. token_refuses q r (sym (starts_same q s r same) ∙ t.1) ∙ ap (λ (c : Code). Err (length r, c)) (sym syntax);
+            same = λ r same. token_refuses q r (sym (starts_same q s r same) ∙ t.1) ∙ ap (λ (c : Code). Err (fault_from_end (length r) c)) (sym syntax);
           };
     }
 
@@ -70,41 +70,41 @@ checked_sound q good c s h =
             | inl u ↦
                 let t = token_err q s n u in
                 let one = one_text q h in
-                let syntax = second_is t.0 in
+                let syntax = code_is t.0 in
                 record {
                   word = [];
                   rest = s;
                   parts = refl;
-                  left = sym (first_is t.0);
+                  left = sym (left_is t.0);
                   more = one.0 ∷ [];
                   tree = one.0;
                   fault = λ z. bad_unless (good one.0) c;
-                  late = λ z. late_syntax n.1 0 _ syntax (from_zero (bad_unless (good one.0) c));
+                  late = λ z. late_syntax n.code 0 _ syntax (from_zero (bad_unless (good one.0) c));
                   extends = λ d. absurd (d syntax);
                   derives = λ z. (one.1 z, refl);
-                  same = λ r same. rw (token_refuses q r (sym (starts_same q s r same) ∙ t.1)) (ap (λ (c : Code). Err (length r, c)) (sym syntax));
+                  same = λ r same. rw (token_refuses q r (sym (starts_same q s r same) ∙ t.1)) (ap (λ (c : Code). Err (fault_from_end (length r) c)) (sym syntax));
                 }
             | inr a ↦
                 let t = token_ok q s a.0 a.1 in
                 let k = check_err good c s a.0 n a.2 in
-                let code = second_is k.1 in
+                let code = code_is k.1 in
                 record {
                   word = [];
                   rest = s;
                   parts = refl;
-                  left = sym (first_is k.1);
+                  left = sym (left_is k.1);
                   more = a.0.0 ∷ [];
                   tree = a.0.0;
                   fault = λ z. Some (0, c);
                   late = λ z. subst (λ (d : Code). Late d 0 (Some (0, c))) (sym code) (late_here c 0);
                   extends = λ d. record { head = a.0.0; rest_tail = a.0.1; more_tail = []; rest_is = t.0; more_is = refl };
                   derives = λ z. ((refl, t.1), rw k.0 refl);
-                  same = λ r same. bad_again a.0.0 a.0.1 r t.0 t.1 k.0 same ∙ ap (λ (d : Code). Err (length r, d)) (sym code);
+                  same = λ r same. bad_again a.0.0 a.0.1 r t.0 t.1 k.0 same ∙ ap (λ (d : Code). Err (fault_from_end (length r) d)) (sym code);
                 }
           ];
     }
   where
-    bad_again : (x : Token) (m r : List Token) → s ≡ x ∷ m → q (terminal_of x) ≡ true → good x ≡ false → SameHead s r → (token_at q r >>= check good c r) ≡ Err (length r, c)
+    bad_again : (x : Token) (m r : List Token) → s ≡ x ∷ m → q (terminal_of x) ≡ true → good x ≡ false → SameHead s r → (token_at q r >>= check good c r) ≡ Err (fault_from_end (length r) c)
     bad_again x m [] e qx bad same = absurd (subst (λ (l : List Token). SameHead l []) e same)
     bad_again x m (y ∷ r) e qx bad same =
         let is : x ≡ y = subst (λ (l : List Token). SameHead l (y ∷ r)) e same in

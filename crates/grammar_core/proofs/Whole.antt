@@ -3,12 +3,13 @@ use Rattle.std.proofs.Common.{◌≡◌, ◌≢◌, ℕ, zero, suc, ◌+◌, ◌
 use Rattle.std.specs.Prelude.{Option, Some, None, nat_lt, ◌==◌, not}
 use Rattle.std.proofs.lemmas.Bool.{and_parts, not-true, both_ways, eqb-true, eqb-false, cases_lt, cases_order}
 use Rattle.std.proofs.lemmas.List.{take_at, drop_at, length-append, nil_from_length, take-append-drop, take-take, take-append-le, length-take-le}
+use Rattle.grammar_core.specs.declared.fault.ReadFault.{ReadFault}
 use Rattle.grammar_core.specs.declared.token.Token.{Token}
 use Rattle.grammar_core.specs.Terminals.{is_within}
 use Rattle.grammar_core.specs.declared.code.Code.{Code}
 use Rattle.grammar_core.specs.declared.code.Code.TheVariants.{Syntax}
 use Rattle.grammar_core.specs.Production.{Production, one_of, checked, seq, map, alt, opt, star, pick, after_token, limited, Language, Fault, then_fault, or_fault, at_start, bad_unless, cut_at, taken, Many, IsFrom, Derives, DerivedWithin, Derived, IsText, Begins, IsSyntaxFault, IsLimitFault, IsFirstFault}
-use Rattle.grammar_core.specs.Reading.{FaultFromEnd, may_be_empty, first, starts, nonterminal_within, nonterminal_at, reading, whole}
+use Rattle.grammar_core.specs.Reading.{may_be_empty, first, starts, nonterminal_within, nonterminal_at, reading, whole, fault_from_end}
 use Rattle.grammar_core.specs.Predictive.{Claims, continuing, is_limit, are_limits, is_fine, has_plain, are_names}
 pub use Rattle.grammar_core.specs.Predictive.{LimitsOnly}
 use Rattle.grammar_core.proofs.Sets.{starts_into, starts_within}
@@ -121,7 +122,7 @@ module _ {N : Type 0} {Tree : N → Type 0} (body : (n : N) → Production N Tre
 
   within_faults : (k : ℕ) (n : N) → FaultsWithin (nonterminal_within body k n)
   unfolding nonterminal_within
-  within_faults zero n s m e = let k : m ≡ (length s, Syntax) = cc in let f = ap (λ (y : FaultFromEnd). y.0) k in omega (arith, f)
+  within_faults zero n s m e = let k : m ≡ fault_from_end (length s) Syntax = cc in let f = ap (λ (y : ReadFault). y.left) k in omega (arith, f)
   within_faults (suc k) n s m e = run_faults (nonterminal_within body k) (within_shrinks body k) (within_faults k) (body n) s m e
 
   within_text : (k : ℕ) (n : N) → Text (DerivedWithin body (suc k) n)
@@ -134,9 +135,9 @@ module _ {N : Type 0} {Tree : N → Type 0} (body : (n : N) → Production N Tre
       record {
         accepted = λ x e. absurd cc;
         faulted = λ m e.
-            let k : m ≡ (length s, Syntax) = cc in
-            let f = ap (λ (y : FaultFromEnd). y.0) k in let d = ap (λ (y : FaultFromEnd). y.1) k in
-            record { word = []; rest = s; parts = refl; left = sym f; more = text.word; tree = text.tree; fault = text.fault; late = λ z. record { from = from_zero (text.fault z); exact = λ h. absurd (h d) }; extends = λ h. absurd (h d); derives = text.derives; same = λ r h. ap (λ (c : Code). Err (length r, c)) (sym d) };
+            let k : m ≡ fault_from_end (length s) Syntax = cc in
+            let f = ap (λ (y : ReadFault). y.left) k in let d = ap (λ (y : ReadFault). y.code) k in
+            record { word = []; rest = s; parts = refl; left = sym f; more = text.word; tree = text.tree; fault = text.fault; late = λ z. record { from = from_zero (text.fault z); exact = λ h. absurd (h d) }; extends = λ h. absurd (h d); derives = text.derives; same = λ r h. ap (λ (c : Code). Err (fault_from_end (length r) c)) (sym d) };
       }
   names_sound (suc k) n s = run_sound c (DerivedWithin body (suc k)) (nonterminal_within body k) (within_shrinks body k) (within_faults k) (within_text k) (names_sound k) (body n) (name_fine n) s
 
@@ -177,7 +178,7 @@ module _ {N : Type 0} {Tree : N → Type 0} (body : (n : N) → Production N Tre
                   let u = (names_sound k' n s).faulted m (within_is_stable body k' k n s (omega arith) (omega arith) ∙ e) in
                   let cut = same_cut u.word t.word u.rest t.rest (sym u.parts ∙ t.parts) (u.left ∙ sym t.left) in
                   let h' : SameHead u.rest r = subst (λ (f : List Token). SameHead f r) (sym cut.1) h in
-                  let at : nonterminal_within body k' n (t.word ++ r) ≡ Err (length r, m.1) = subst (λ (w : List Token). nonterminal_within body k' n (w ++ r) ≡ Err (length r, m.1)) cut.0 (u.same r h') in
+                  let at : nonterminal_within body k' n (t.word ++ r) ≡ Err (fault_from_end (length r) m.code) = subst (λ (w : List Token). nonterminal_within body k' n (w ++ r) ≡ Err (fault_from_end (length r) m.code)) cut.0 (u.same r h') in
                   within_is_stable body (suc (length (t.word ++ r))) k' n (t.word ++ r) (omega arith) (omega arith) ∙ at;
             };
       }
@@ -204,8 +205,8 @@ module _ {N : Type 0} {Tree : N → Type 0} (body : (n : N) → Production N Tre
 
     pub text_found : (s : List Token) (t : A) → whole body g s ≡ Ok t → IsText body g s t None
     text_found s t e =
-        let a = bind_ok (reading body g s) (λ x. cond (length x.1 == 0) (Ok x.0) (Err (length x.1, Syntax))) t e in
-        elim (chosen (length a.0.1 == 0) (Ok a.0.0) (Err (length a.0.1, Syntax)) (Ok t) a.2) [
+        let a = bind_ok (reading body g s) (λ x. cond (length x.1 == 0) (Ok x.0) (Err (fault_from_end (length x.1) Syntax))) t e in
+        elim (chosen (length a.0.1 == 0) (Ok a.0.0) (Err (fault_from_end (length a.0.1) Syntax)) (Ok t) a.2) [
           | inl u ↦
               let none : a.0.1 ≡ [] = nil_from_length a.0.1 (eqb-true (length a.0.1) 0 u.0) in
               let k = (sound g ok s).accepted a.0 a.1 in
@@ -219,30 +220,30 @@ module _ {N : Type 0} {Tree : N → Type 0} (body : (n : N) → Production N Tre
     pub text_only : (s : List Token) (t : A) → IsText body g s t None → whole body g s ≡ Ok t
     text_only s t h = rw (reads g ok s t None [] h refl) refl
 
-    pub fault_within : (s : List Token) (n : FaultFromEnd) → whole body g s ≡ Err n → n.0 ≤ length s
+    pub fault_within : (s : List Token) (n : ReadFault) → whole body g s ≡ Err n → n.left ≤ length s
     fault_within s n e =
-        elim (bind_err (reading body g s) (λ x. cond (length x.1 == 0) (Ok x.0) (Err (length x.1, Syntax))) n e) [
+        elim (bind_err (reading body g s) (λ x. cond (length x.1 == 0) (Ok x.0) (Err (fault_from_end (length x.1) Syntax))) n e) [
           | inl u ↦ run_faults (nonterminal_at body) (nonterminal_shrinks body) nonterminal_faults g s n u
-          | inr a ↦ elim (chosen (length a.0.1 == 0) (Ok a.0.0) (Err (length a.0.1, Syntax)) (Err n) a.2) [
+          | inr a ↦ elim (chosen (length a.0.1 == 0) (Ok a.0.0) (Err (fault_from_end (length a.0.1) Syntax)) (Err n) a.2) [
             | inl v ↦ absurd (Ok≢Err a.0.0 n v.1)
-            | inr v ↦ let left : (length a.0.1, Syntax) ≡ n = same_Err _ n v.1 in let f = ap (λ (y : FaultFromEnd). y.0) left in let k = (run_shrinks (nonterminal_at body) (nonterminal_shrinks body) g s a.0 a.1).0 in omega (arith, f, k)
+            | inr v ↦ let left : fault_from_end (length a.0.1) Syntax ≡ n = same_Err _ n v.1 in let f = ap (λ (y : ReadFault). y.left) left in let k = (run_shrinks (nonterminal_at body) (nonterminal_shrinks body) g s a.0 a.1).0 in omega (arith, f, k)
           ]
         ]
 
     -- a text with a fault of a limit is not read as Syntax
-    meets : (s : List Token) (t : A) (o : Fault) → IsText body g s t o → (n : ℕ) → reading body g s ≡ Err (n, Syntax) → ⊥
+    meets : (s : List Token) (t : A) (o : Fault) → IsText body g s t o → (n : ℕ) → reading body g s ≡ Err (fault_from_end n Syntax) → ⊥
     meets s t o h n e = go o (text_limits s t o h) (reads g ok s t o [] h refl)
       where
         go : (o : Fault) → NotSyntax o → reading body g s ≡ outcome s t o [] → ⊥
-        go None l r = Ok≢Err (t, []) (n, Syntax) (sym r ∙ e)
-        go (Some f) l r = l (ap (λ (y : FaultFromEnd). y.1) (same_Err _ _ (sym r ∙ e)))
+        go None l r = Ok≢Err (t, []) (fault_from_end n Syntax) (sym r ∙ e)
+        go (Some f) l r = l (ap (λ (y : ReadFault). y.code) (same_Err _ _ (sym r ∙ e)))
 
     ends : (s : List Token) (t : A) (o : Fault) → IsText body g s t o → (x : A × List Token) → reading body g s ≡ Ok x → length x.1 ≡ 0
     ends s t o h x e = go o (reads g ok s t o [] h refl)
       where
         go : (o : Fault) → reading body g s ≡ outcome s t o [] → length x.1 ≡ 0
         go None r = ap (λ (y : A × List Token). length y.1) (same_Ok x (t, []) (sym e ∙ r))
-        go (Some f) r = absurd (Ok≢Err x (length s - f.0, f.1) (sym e ∙ r))
+        go (Some f) r = absurd (Ok≢Err x (fault_from_end (length s - f.0) f.1) (sym e ∙ r))
 
     self : (r : List Token) → SameHead r r
     self [] = tt
@@ -270,7 +271,7 @@ module _ {N : Type 0} {Tree : N → Type 0} (body : (n : N) → Production N Tre
             let text : IsText body g (word ++ (x ∷ b.more)) b.tree o = rw (← (append_assoc word (x ∷ []) b.more), ← front) b.text in
             dead (x ∷ b.more) b.tree o refl text
 
-    limit_fault : (s : List Token) (n : FaultFromEnd) → (k : Faulted (Derives (Derived body) g) (reading body g) s n) → n.1 ≢ Syntax → IsLimitFault body g s (length s - length k.rest) n.1
+    limit_fault : (s : List Token) (n : ReadFault) → (k : Faulted (Derives (Derived body) g) (reading body g) s n) → n.code ≢ Syntax → IsLimitFault body g s (length s - length k.rest) n.code
     limit_fault s n k d =
         let e = k.extends d in
         let all : length s ≡ length k.word + length k.rest = ap (λ (l : List Token). length l) k.parts ∙ length-append k.word k.rest in
@@ -279,25 +280,25 @@ module _ {N : Type 0} {Tree : N → Type 0} (body : (n : N) → Production N Tre
         let again : s ≡ (k.word ++ e.head ∷ []) ++ e.rest_tail = k.parts ∙ ap (λ (l : List Token). k.word ++ l) e.rest_is ∙ sym (append_assoc k.word (e.head ∷ []) e.rest_tail) in
         let long : length (k.word ++ e.head ∷ []) ≡ length k.word + 1 = length-append k.word (e.head ∷ []) ∙ refl in
         let front : take (length k.word + 1) s ≡ k.word ++ e.head ∷ [] = ap (λ (l : List Token). take (length k.word + 1) l) again ∙ take_at (k.word ++ e.head ∷ []) e.rest_tail (length k.word + 1) long in
-        let text : IsText body g (k.word ++ (k.more ++ [])) k.tree (Some (length k.word, n.1)) = subst (λ (o : Fault). IsText body g (k.word ++ (k.more ++ [])) k.tree o) ((k.late []).exact d) (k.derives []) in
+        let text : IsText body g (k.word ++ (k.more ++ [])) k.tree (Some (length k.word, n.code)) = subst (λ (o : Fault). IsText body g (k.word ++ (k.more ++ [])) k.tree o) ((k.late []).exact d) (k.derives []) in
         let along : k.word ++ (k.more ++ []) ≡ (k.word ++ e.head ∷ []) ++ (e.more_tail ++ []) = ap (λ (l : List Token). k.word ++ (l ++ [])) e.more_is ∙ sym (append_assoc k.word (e.head ∷ []) (e.more_tail ++ [])) in
         record {
           within = omega (arith, all, some);
-          there = rw (index, front) (record { more = e.more_tail ++ []; tree = k.tree; text = subst (λ (l : List Token). IsText body g l k.tree (Some (length k.word, n.1))) along text });
+          there = rw (index, front) (record { more = e.more_tail ++ []; tree = k.tree; text = subst (λ (l : List Token). IsText body g l k.tree (Some (length k.word, n.code))) along text });
         }
 
-    pub fault_is : (s : List Token) (n : FaultFromEnd) → whole body g s ≡ Err n → IsFirstFault body g s (length s - n.0) n.1
+    pub fault_is : (s : List Token) (n : ReadFault) → whole body g s ≡ Err n → IsFirstFault body g s (length s - n.left) n.code
     fault_is s n e =
-        elim (bind_err (reading body g s) (λ x. cond (length x.1 == 0) (Ok x.0) (Err (length x.1, Syntax))) n e) [
-          | inl u ↦ by_code n.1 refl u
-          | inr a ↦ elim (chosen (length a.0.1 == 0) (Ok a.0.0) (Err (length a.0.1, Syntax)) (Err n) a.2) [
+        elim (bind_err (reading body g s) (λ x. cond (length x.1 == 0) (Ok x.0) (Err (fault_from_end (length x.1) Syntax))) n e) [
+          | inl u ↦ by_code n.code refl u
+          | inr a ↦ elim (chosen (length a.0.1 == 0) (Ok a.0.0) (Err (fault_from_end (length a.0.1) Syntax)) (Err n) a.2) [
             | inl v ↦ absurd (Ok≢Err a.0.0 n v.1)
             | inr v ↦
                 let k = (sound g ok s).accepted a.0 a.1 in
-                let is : (length a.0.1, Syntax) ≡ n = same_Err _ n v.1 in
+                let is : fault_from_end (length a.0.1) Syntax ≡ n = same_Err _ n v.1 in
                 let full : length a.0.1 ≡ 0 → ⊥ = eqb-false (length a.0.1) 0 v.0 in
                 let fault = syntax_fault s k.word a.0.1 [] a.0.0 None k.parts tt (k.derives []) (λ r t o h text. full (empty a.0.1 r h (ends (k.word ++ r) t o text (a.0.0, r) (k.same r h)))) in
-                subst (λ (m : FaultFromEnd). IsFirstFault body g s (length s - m.0) m.1) is fault
+                subst (λ (m : ReadFault). IsFirstFault body g s (length s - m.left) m.code) is fault
           ]
         ]
       where
@@ -306,14 +307,14 @@ module _ {N : Type 0} {Tree : N → Type 0} (body : (n : N) → Production N Tre
         empty (x ∷ f) [] h e = absurd h
         empty (x ∷ f) (y ∷ r) h e = absurd (omega (arith, e))
 
-        by_code : (d : Code) → n.1 ≡ d → reading body g s ≡ Err n → IsFirstFault body g s (length s - n.0) n.1
+        by_code : (d : Code) → n.code ≡ d → reading body g s ≡ Err n → IsFirstFault body g s (length s - n.left) n.code
         by_code Syntax is u =
             let k = (sound g ok s).faulted n u in
-            let fault = syntax_fault s k.word k.rest (k.more ++ []) k.tree (k.fault []) k.parts (k.late []).from (k.derives []) (λ r t o h text. meets (k.word ++ r) t o text (length r) (k.same r h ∙ ap (λ (d : Code). Err (length r, d)) is)) in
+            let fault = syntax_fault s k.word k.rest (k.more ++ []) k.tree (k.fault []) k.parts (k.late []).from (k.derives []) (λ r t o h text. meets (k.word ++ r) t o text (length r) (k.same r h ∙ ap (λ (d : Code). Err (fault_from_end (length r) d)) is)) in
             rw (is, ← k.left) fault
         by_code d is u =
             let k = (sound g ok s).faulted n u in
-            let fault : IsLimitFault body g s (length s - length k.rest) n.1 = limit_fault s n k (λ h. absurd (differs (sym is ∙ h))) in
+            let fault : IsLimitFault body g s (length s - length k.rest) n.code = limit_fault s n k (λ h. absurd (differs (sym is ∙ h))) in
             rw (is, ← k.left) (subst (λ (d : Code). IsLimitFault body g s (length s - length k.rest) d) is fault)
           where
             differs : d ≡ Syntax → ⊥
@@ -329,27 +330,27 @@ module _ {N : Type 0} {Tree : N → Type 0} (body : (n : N) → Production N Tre
         let l = longer p q s le in
         record { more = l.0 ++ b.more; tree = b.tree; text = subst (λ (k : List Token). IsText body g k b.tree o) (ap (λ (k : List Token). k ++ b.more) l.1 ∙ append_assoc (take p s) l.0 b.more) b.text }
 
-    limit_is_read : (s : List Token) (p : ℕ) (d : Code) → IsLimitFault body g s p d → whole body g s ≡ Err (length s - p, d)
+    limit_is_read : (s : List Token) (p : ℕ) (d : Code) → IsLimitFault body g s p d → whole body g s ≡ Err (fault_from_end (length s - p) d)
     limit_is_read s p d h =
         let b = h.there in
         let s2 = take (p + 1) s ++ b.more in
         let size : length (take (p + 1) s) ≡ p + 1 = length-take-le (p + 1) s (omega (arith, h.within)) in
         let size2 = length-append (take (p + 1) s) b.more in
-        let k = (sound g ok s2).faulted (length s2 - p, d) (reads g ok s2 b.tree (Some (p, d)) [] b.text refl) in
+        let k = (sound g ok s2).faulted (fault_from_end (length s2 - p) d) (reads g ok s2 b.tree (Some (p, d)) [] b.text refl) in
         let at : length k.word ≡ p = omega (arith, k.left, size, size2, ap (λ (l : List Token). length l) k.parts, length-append k.word k.rest) in
         let f = longer_front k.word k.rest (take (p + 1) s) b.more (sym k.parts) (omega (arith, at, size)) in
         let one : length f.0 ≡ 1 = omega (arith, at, size, ap (λ (l : List Token). length l) f.1, length-append k.word f.0) in
         let whole_s : s ≡ k.word ++ (f.0 ++ drop (p + 1) s) = sym (take-append-drop (p + 1) s) ∙ ap (λ (l : List Token). l ++ drop (p + 1) s) f.1 ∙ append_assoc k.word f.0 (drop (p + 1) s) in
         let alike : SameHead k.rest (f.0 ++ drop (p + 1) s) = subst (λ (l : List Token). SameHead l (f.0 ++ drop (p + 1) s)) (sym f.2) (heads f.0 b.more (drop (p + 1) s) (omega (arith, one))) in
-        let r : reading body g s ≡ Err (length (f.0 ++ drop (p + 1) s), d) = ap (reading body g) whole_s ∙ k.same (f.0 ++ drop (p + 1) s) alike in
+        let r : reading body g s ≡ Err (fault_from_end (length (f.0 ++ drop (p + 1) s)) d) = ap (reading body g) whole_s ∙ k.same (f.0 ++ drop (p + 1) s) alike in
         let left : length (f.0 ++ drop (p + 1) s) ≡ length s - p = omega (arith, ap (λ (l : List Token). length l) whole_s, length-append k.word (f.0 ++ drop (p + 1) s), at) in
-        rw r (ap (λ (n : ℕ). Err (n, d)) left)
+        rw r (ap (λ (n : ℕ). Err (fault_from_end n d)) left)
       where
         heads : (v a b : List Token) → 0 < length v → SameHead (v ++ a) (v ++ b)
         heads [] a b lt = absurd (omega arith)
         heads (x ∷ v) a b lt = refl
 
-    syntax_is_read : (s : List Token) (p : ℕ) → IsSyntaxFault body g s p → whole body g s ≡ Err (length s - p, Syntax)
+    syntax_is_read : (s : List Token) (p : ℕ) → IsSyntaxFault body g s p → whole body g s ≡ Err (fault_from_end (length s - p) Syntax)
     syntax_is_read s p h = go (whole body g s) refl
       where
         from_syntax : (q : ℕ) → IsSyntaxFault body g s q → p ≡ q
@@ -373,33 +374,33 @@ module _ {N : Type 0} {Tree : N → Type 0} (body : (n : N) → Production N Tre
               later h.before.0 s3 b.tree b.text h.before.2 (omega (arith, size, size3)) lt r
         ]
           where
-            later : (o : Fault) (s3 : List Token) (t : A) → IsText body g s3 t o → IsFrom p o → p ≤ length s3 → q < p → whole body g s3 ≡ Err (length s3 - q, d) → ⊥
-            later None s3 t text from le lt r = Ok≢Err t (length s3 - q, d) (sym (text_only s3 t text) ∙ r)
+            later : (o : Fault) (s3 : List Token) (t : A) → IsText body g s3 t o → IsFrom p o → p ≤ length s3 → q < p → whole body g s3 ≡ Err (fault_from_end (length s3 - q) d) → ⊥
+            later None s3 t text from le lt r = Ok≢Err t (fault_from_end (length s3 - q) d) (sym (text_only s3 t text) ∙ r)
             later (Some f) s3 t text from le lt r =
                 let fit = fits (Derived body) (λ n s t o r d. within_fits d.depth n s t o r d.derives) g s3 t (Some f) [] text in
-                let r' : whole body g s3 ≡ Err (length s3 - f.0, f.1) = rw (reads g ok s3 t (Some f) [] text refl) refl in
-                let e = ap (λ (y : FaultFromEnd). y.0) (same_Err _ _ (sym r' ∙ r)) in
+                let r' : whole body g s3 ≡ Err (fault_from_end (length s3 - f.0) f.1) = rw (reads g ok s3 t (Some f) [] text refl) refl in
+                let e = ap (λ (y : ReadFault). y.left) (same_Err _ _ (sym r' ∙ r)) in
                 omega (arith, e, from, lt, fit.1, le)
 
-        go : (r : Result A FaultFromEnd) → whole body g s ≡ r → whole body g s ≡ Err (length s - p, Syntax)
+        go : (r : Result A ReadFault) → whole body g s ≡ r → whole body g s ≡ Err (fault_from_end (length s - p) Syntax)
         go (Ok t) e =
             let text = text_found s t e in
             elim (cases_lt p (length s)) [
               | inl lt ↦ absurd (h.with_it lt None (record { more = drop (p + 1) s; tree = t; text = subst (λ (l : List Token). IsText body g l t None) (sym (take-append-drop (p + 1) s)) text }))
               | inr le ↦ absurd (h.at_end (let w = h.within in omega (arith, le, w)) t None text)
             ]
-        go (Err n) e = e ∙ by_code n.1 refl (fault_is s n e)
+        go (Err n) e = e ∙ by_code n.code refl (fault_is s n e)
           where
-            by_code : (d : Code) → n.1 ≡ d → IsFirstFault body g s (length s - n.0) n.1 → ◌≡◌ {A = Result A FaultFromEnd} (Err n) (Err (length s - p, Syntax))
+            by_code : (d : Code) → n.code ≡ d → IsFirstFault body g s (length s - n.left) n.code → ◌≡◌ {A = Result A ReadFault} (Err n) (Err (fault_from_end (length s - p) Syntax))
             by_code Syntax is f =
-                let f' : IsSyntaxFault body g s (length s - n.0) = subst (λ (d : Code). IsFirstFault body g s (length s - n.0) d) is f in
-                let same = from_syntax (length s - n.0) f' in
+                let f' : IsSyntaxFault body g s (length s - n.left) = subst (λ (d : Code). IsFirstFault body g s (length s - n.left) d) is f in
+                let same = from_syntax (length s - n.left) f' in
                 let w = fault_within s n e in
-                let n0 : n.0 ≡ length s - p = omega (arith, same, w) in
-                λ i. Err (n0 i, is i)
-            by_code d is f = absurd (from_limit (length s - n.0) d (subst (λ (c : Code). IsFirstFault body g s (length s - n.0) c) is f))
+                let n0 : n.left ≡ length s - p = omega (arith, same, w) in
+                λ i. Err (fault_from_end (n0 i) (is i))
+            by_code d is f = absurd (from_limit (length s - n.left) d (subst (λ (c : Code). IsFirstFault body g s (length s - n.left) c) is f))
 
     -- The first fault is the one that reading gives.
-    pub one_fault : (s : List Token) (p : ℕ) (c : Code) → IsFirstFault body g s p c → whole body g s ≡ Err (length s - p, c)
+    pub one_fault : (s : List Token) (p : ℕ) (c : Code) → IsFirstFault body g s p c → whole body g s ≡ Err (fault_from_end (length s - p) c)
     one_fault s p Syntax h = syntax_is_read s p h
     one_fault s p c h = limit_is_read s p c h

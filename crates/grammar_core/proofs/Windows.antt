@@ -3,10 +3,11 @@ use Rattle.std.proofs.Common.{◌≡◌, ℕ, suc, ◌+◌, ◌-◌, ◌<◌, �
 use Rattle.std.specs.Prelude.{nat_lt}
 use Rattle.std.proofs.lemmas.Bool.{le-ltb, lt-ltb}
 use Rattle.list_lemmas.proofs.Joins.{longer_front}
+use Rattle.grammar_core.specs.declared.fault.ReadFault.{ReadFault}
 use Rattle.grammar_core.specs.declared.token.Token.{Token}
 use Rattle.grammar_core.specs.declared.code.Code.{Code}
 use Rattle.grammar_core.specs.Production.{Limit, Language}
-use Rattle.grammar_core.specs.Reading.{Read, FaultFromEnd, judge}
+use Rattle.grammar_core.specs.Reading.{Read, judge, fault_from_end}
 use Rattle.grammar_core.proofs.Sound.{SameHead, Sound, taken_is}
 use Rattle.grammar_core.proofs.SoundLimits.{above}
 
@@ -31,15 +32,15 @@ module _ {A : Type 0} (L : Limit) (c : Code) (G : Language A) (p : List Token �
       let at : p s ≡ Ok (t, rest ++ v) = ap p (sym (whole_is k.word rest k.parts)) ∙ k.same (rest ++ v) (head_kept rest some) in
       rw (at, inside_window k.word rest k.parts some) refl
 
-  pub window_err : (n : FaultFromEnd) → 0 < n.0 → p w ≡ Err n → judge (L.at s) c s (p s) ≡ Err (n.0 + length v, n.1)
+  pub window_err : (n : ReadFault) → 0 < n.left → p w ≡ Err n → judge (L.at s) c s (p s) ≡ Err (fault_from_end (n.left + length v) n.code)
   window_err n some e =
       let k = (sound w).faulted n e in
       let more : 0 < length k.rest = let l = k.left in omega (arith, l, some) in
-      let at : p s ≡ Err (length (k.rest ++ v), n.1) = ap p (sym (whole_is k.word k.rest k.parts)) ∙ k.same (k.rest ++ v) (head_kept k.rest more) in
-      rw (at, inside_window k.word k.rest k.parts more) (ap (λ (m : ℕ). Err (m, n.1)) (length-append k.rest v ∙ ap (λ (m : ℕ). m + length v) k.left))
+      let at : p s ≡ Err (fault_from_end (length (k.rest ++ v)) n.code) = ap p (sym (whole_is k.word k.rest k.parts)) ∙ k.same (k.rest ++ v) (head_kept k.rest more) in
+      rw (at, inside_window k.word k.rest k.parts more) (ap (λ (m : ℕ). Err (fault_from_end m n.code)) (length-append k.rest v ∙ ap (λ (m : ℕ). m + length v) k.left))
 
   -- what does not end inside the window is too long
-  pub window_long : ((t : A) (rest : List Token) → 0 < length rest → p w ≡ Ok (t, rest) → ⊥) → ((n : FaultFromEnd) → 0 < n.0 → p w ≡ Err n → ⊥) → judge (L.at s) c s (p s) ≡ Err (length s - L.at s, c)
+  pub window_long : ((t : A) (rest : List Token) → 0 < length rest → p w ≡ Ok (t, rest) → ⊥) → ((n : ReadFault) → 0 < n.left → p w ≡ Err n → ⊥) → judge (L.at s) c s (p s) ≡ Err (fault_from_end (length s - L.at s) c)
   window_long no_tree no_fault = go (p s) refl
     where
       -- an end inside the window leaves some of its tokens
@@ -53,7 +54,7 @@ module _ {A : Type 0} (L : Limit) (c : Code) (G : Language A) (p : List Token �
       back [] rest e lt = absurd (omega arith)
       back (x ∷ u) rest e lt = subst (λ (l : List Token). SameHead l (x ∷ u)) (sym e) refl
 
-      go : (r : Read A) → p s ≡ r → judge (L.at s) c s (p s) ≡ Err (length s - L.at s, c)
+      go : (r : Read A) → p s ≡ r → judge (L.at s) c s (p s) ≡ Err (fault_from_end (length s - L.at s) c)
       go (Ok x) e =
           let k = (sound s).accepted x e in
           let n : length s - length x.1 ≡ length k.word = ap (λ (l : List Token). length l - length x.1) k.parts ∙ taken_is k.word x.1 in
@@ -63,8 +64,8 @@ module _ {A : Type 0} (L : Limit) (c : Code) (G : Language A) (p : List Token �
           rw (e, lt-ltb _ _ (above (length s - length x.1) (L.at s) (L.at s) refl never)) refl
       go (Err d) e =
           let k = (sound s).faulted d e in
-          let n : length s - d.0 ≡ length k.word = ap (λ (l : List Token). length l - d.0) k.parts ∙ ap (λ (m : ℕ). length (k.word ++ k.rest) - m) (sym k.left) ∙ taken_is k.word k.rest in
-          let never : length s - d.0 ≤ L.at s → ⊥ = λ le.
+          let n : length s - d.left ≡ length k.word = ap (λ (l : List Token). length l - d.left) k.parts ∙ ap (λ (m : ℕ). length (k.word ++ k.rest) - m) (sym k.left) ∙ taken_is k.word k.rest in
+          let never : length s - d.left ≤ L.at s → ⊥ = λ le.
           let u = left_of k.word k.rest k.parts (omega (arith, n, le)) in
-          no_fault (length u.0, d.1) u.3 (ap p u.1 ∙ k.same u.0 (back u.0 k.rest u.2 u.3)) in
-          rw (e, lt-ltb _ _ (above (length s - d.0) (L.at s) (L.at s) refl never)) refl
+          no_fault (fault_from_end (length u.0) d.code) u.3 (ap p u.1 ∙ k.same u.0 (back u.0 k.rest u.2 u.3)) in
+          rw (e, lt-ltb _ _ (above (length s - d.left) (L.at s) (L.at s) refl never)) refl

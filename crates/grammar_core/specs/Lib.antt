@@ -6,4 +6,4 @@ pub mod TooMany
 pub mod CountedLimit
 pub mod LimitBy
 pub mod ExactReading
-pub mod Returns
+pub mod Refusing

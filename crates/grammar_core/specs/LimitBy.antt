@@ -10,11 +10,12 @@ unfoldable pub index_by : (List Token → Token → Bool) → List Token → Lis
 index_by p front [] = 1
 index_by p front (x ∷ s) = if p front x then 0 else suc (index_by p (front ++ x ∷ []) s)
 
--- if the later limit is kept (stays), so is the one a token earlier
+-- if the limit after the next token is kept, so is the one before it
 step_keeps : (b : Bool) (n y y' : ℕ) → (n ≤ y → n ≤ y') → suc n ≤ cond b 0 (suc y) → suc n ≤ cond b 0 (suc y')
 step_keeps true n y y' f h = h
 step_keeps false n y y' f h = let k = f (omega arith) in omega (arith, k)
 
+-- if the limit after the next token stays where it is, so does the one before it
 step_stays : (b : Bool) (n y y' : ℕ) → (y ≡ n → y' ≡ n) → cond b 0 (suc y) ≡ suc n → cond b 0 (suc y') ≡ suc n
 step_stays true n y y' f h = absurd (omega arith)
 step_stays false n y y' f h = let k = f (omega arith) in omega (arith, k)

@@ -27,7 +27,7 @@ continuing c (star full g) k = first g k || continuing c g k
 continuing c (after_token q n) k = c.continues n k
 continuing c (limited l d g) k = continuing c g k
 
--- May one token of this set alone be a text of the production?
+-- Whether one token of this set alone may be a text of the production.
 abbrev pub alone : {N : Type 0} {Tree : N → Type 0} → (Terminal → Bool) → {A : Type 0} → Production N Tree A → Bool
 alone a (one_of q) = some_is (λ k. a k && q k) terminal_count
 alone a (checked q good d) = some_is (λ k. a k && q k) terminal_count
@@ -59,17 +59,17 @@ abbrev pub both_first : {N : Type 0} {Tree : N → Type 0} {A : Type 0} → Prod
     → Terminal → Bool
 both_first g h k = first g k && first h k
 
--- Is there no value?
+-- Whether there is no value.
 abbrev pub is_none : {A : Type 0} → Option A → Bool
 is_none None = true
 is_none (Some x) = false
 
--- Is the code one of a limit, and not Syntax?
+-- Whether the code is one of a limit, and not Syntax.
 abbrev pub is_limit : Code → Bool
 is_limit Syntax = false
 is_limit _ = true
 
--- Is there no code, or one of a limit?
+-- Whether there is no code, or one of a limit.
 abbrev pub are_limits : Option Code → Bool
 are_limits None = true
 are_limits (Some d) = is_limit d
@@ -106,7 +106,7 @@ is_fine c (star full g) =
 is_fine c (after_token q n) = some_is q terminal_count
 is_fine c (limited l d g) = is_fine c g
 
--- Has the production a text without nonterminals?
+-- Whether the production has a text without nonterminals.
 abbrev pub has_plain : {N : Type 0} {Tree : N → Type 0} {A : Type 0} → Production N Tree A → Bool
 has_plain (one_of q) = some_is q terminal_count
 has_plain (checked q good d) = some_is q terminal_count

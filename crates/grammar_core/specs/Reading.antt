@@ -5,22 +5,24 @@ use Rattle.grammar_core.specs.Terminals.{Terminal}
 use Rattle.grammar_core.specs.Terminals.{terminal_of}
 use Rattle.grammar_core.specs.declared.code.Code.{Code}
 use Rattle.grammar_core.specs.declared.code.Code.TheVariants.{Syntax}
+use Rattle.grammar_core.specs.declared.fault.ReadFault.{ReadFault}
 use Rattle.grammar_core.specs.Production.{Production, one_of, checked, seq, map, alt, opt, star, pick, after_token, limited}
 
--- A fault by its distance from the end of the tokens: how many tokens are left there, and its code.
-abbrev pub FaultFromEnd : Type 0
-FaultFromEnd = ℕ × Code
+-- The fault with this code, where this many tokens are left.
+abbrev pub fault_from_end : ℕ → Code → ReadFault
+fault_from_end left code = record { left = left; code = code }
 
+-- the value that was read and the tokens after it, or a fault
 abbrev pub Read : Type 0 → Type 0
-Read A = Result (A × List Token) FaultFromEnd
+Read A = Result (A × List Token) ReadFault
 
 -- `r >>= next` is what `next` gives for the value of r, or the fault of r.
 infixl 10 ◌>>=◌
-abbrev pub ◌>>=◌ : {A B : Type 0} → Result A FaultFromEnd → (A → Result B FaultFromEnd) → Result B FaultFromEnd
+abbrev pub ◌>>=◌ : {A B : Type 0} → Result A ReadFault → (A → Result B ReadFault) → Result B ReadFault
 (Ok x) >>= f = f x
 (Err e) >>= f = Err e
 
--- May a text of this production be empty?
+-- Whether a text of this production may be empty.
 abbrev pub may_be_empty : {N : Type 0} {Tree : N → Type 0} {A : Type 0} → Production N Tree A → Bool
 may_be_empty (one_of q) = false
 may_be_empty (checked q good c) = false
@@ -55,26 +57,26 @@ first (star full g) = first g
 first (after_token q n) = q
 first (limited l c g) = first g
 
--- Is the next token in this set?
+-- Whether the next token is in this set.
 abbrev pub starts : (Terminal → Bool) → List Token → Bool
 starts q [] = false
 starts q (x ∷ s) = q (terminal_of x)
 
--- Is the first of two productions next? a and b are their first sets. Where the next token is in both, the token after
--- it decides: it is in q for the first production.
+-- Whether the first of two productions is next. a and b are their first sets. Where the next token is in both, the
+-- token after it decides: it is in q for the first production.
 abbrev pub picks : (Terminal → Bool) → (Terminal → Bool) → (Terminal → Bool) → List Token → Bool
 picks a b q [] = false
 picks a b q (x ∷ s) = if b (terminal_of x) then (a (terminal_of x) && starts q s) else a (terminal_of x)
 
 -- a token of this set and the tokens after it, or Syntax at the next token
 abbrev pub token_at : (Terminal → Bool) → List Token → Read Token
-token_at q [] = Err (0, Syntax)
-token_at q (x ∷ s) = if q (terminal_of x) then Ok (x, s) else Err (length (x ∷ s), Syntax)
+token_at q [] = Err (fault_from_end 0 Syntax)
+token_at q (x ∷ s) = if q (terminal_of x) then Ok (x, s) else Err (fault_from_end (length (x ∷ s)) Syntax)
 
 -- the result r of reading s, unless the element is too many: then its code, at the first token of s
 abbrev pub refuse : {A : Type 0} → Option Code → List Token → Read A → Read A
 refuse None s r = r
-refuse (Some c) s r = Err (length s, c)
+refuse (Some c) s r = Err (fault_from_end (length s) c)
 
 -- The elements of a list from index i on, as long as the next token is in q; p reads an element, and `full` says
 -- whether element i is too many. The number n bounds the recursion.
@@ -88,13 +90,13 @@ many_at full q p i (suc n) s =
 
 -- the token that was read first in s if the test holds of it, or else the code c at it
 abbrev pub check : (Token → Bool) → Code → List Token → Token × List Token → Read Token
-check good c s x = if good x.0 then Ok x else Err (length s, c)
+check good c s x = if good x.0 then Ok x else Err (fault_from_end (length s) c)
 
 -- The result of reading s where at most l tokens may be taken: more tokens, or a fault after the limit, is the code c
 -- at the limit.
 abbrev pub judge : {A : Type 0} → ℕ → Code → List Token → Read A → Read A
-judge l c s (Ok x) = if nat_lt l (length s - length x.1) then Err (length s - l, c) else Ok x
-judge l c s (Err e) = if nat_lt l (length s - e.0) then Err (length s - l, c) else Err e
+judge l c s (Ok x) = if nat_lt l (length s - length x.1) then Err (fault_from_end (length s - l) c) else Ok x
+judge l c s (Err e) = if nat_lt l (length s - e.left) then Err (fault_from_end (length s - l) c) else Err e
 
 -- Reading a production, where p reads the nonterminals.
 abbrev pub run : {N : Type 0} {Tree : N → Type 0} → ((n : N) → List Token → Read (Tree n)) → {A : Type 0}
@@ -113,7 +115,7 @@ run p (limited l c g) s = judge (l.at s) c s (run p g s)
 -- Reading a nonterminal, where at most k nonterminals are inside one another.
 unfoldable pub nonterminal_within : {N : Type 0} {Tree : N → Type 0} → ((n : N) → Production N Tree (Tree n)) → ℕ
     → (n : N) → List Token → Read (Tree n)
-nonterminal_within body zero n s = Err (length s, Syntax)
+nonterminal_within body zero n s = Err (fault_from_end (length s) Syntax)
 nonterminal_within body (suc k) n s = run (nonterminal_within body k) (body n) s
 
 -- Reading a nonterminal. Each nonterminal inside another one begins at least one token later, so the bound is never
@@ -129,5 +131,5 @@ reading body g s = run (nonterminal_at body) g s
 
 -- Reading a production that is to take all of the tokens.
 abbrev pub whole : {N : Type 0} {Tree : N → Type 0} → ((n : N) → Production N Tree (Tree n)) → {A : Type 0}
-    → Production N Tree A → List Token → Result A FaultFromEnd
-whole body g s = reading body g s >>= λ x. if length x.1 == 0 then Ok x.0 else Err (length x.1, Syntax)
+    → Production N Tree A → List Token → Result A ReadFault
+whole body g s = reading body g s >>= λ x. if length x.1 == 0 then Ok x.0 else Err (fault_from_end (length x.1) Syntax)

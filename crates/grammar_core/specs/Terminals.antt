@@ -6,7 +6,7 @@ use Rattle.grammar_core.specs.declared.token.Token.{Token}
 abbrev pub Terminal : Type 0
 Terminal = ℕ
 
--- how many terminals there are: an alphabet has at most so many
+-- how many terminals there are: an alphabet has at most this many
 abbrev pub terminal_count : ℕ
 terminal_count = 64
 
@@ -14,20 +14,20 @@ terminal_count = 64
 unfoldable pub terminal_of : Token → Terminal
 terminal_of x = x.terminal % terminal_count
 
--- Are all terminals below n in the set?
+-- Whether all terminals below n are in the set.
 abbrev pub all_are : (Terminal → Bool) → ℕ → Bool
 all_are p zero = true
 all_are p (suc n) = p n && all_are p n
 
--- Is some terminal below n in the set?
+-- Whether some terminal below n is in the set.
 abbrev pub some_is : (Terminal → Bool) → ℕ → Bool
 some_is p zero = false
 some_is p (suc n) = p n || some_is p n
 
--- Is no terminal in both sets?
+-- Whether no terminal is in both sets.
 abbrev pub are_disjoint : (Terminal → Bool) → (Terminal → Bool) → Bool
 are_disjoint a b = all_are (λ k. not (a k && b k)) terminal_count
 
--- Is the first set within the second?
+-- Whether the first set is within the second.
 abbrev pub is_within : (Terminal → Bool) → (Terminal → Bool) → Bool
 is_within a b = all_are (λ k. not (a k) || b k) terminal_count

@@ -1,7 +1,7 @@
 //! Why tokens could not be read.
 
 ghost use Rattle.std.specs.Prelude.{◌≡◌, length};
-ghost use Rattle.grammar_core.specs.Returns.{fault_with};
+ghost use Rattle.grammar_core.specs.Refusing.{fault_with};
 
 use crate::code::Code;
 use crate::token::Token;

@@ -32,7 +32,7 @@ or_bad_number (Some c) = c
 unfoldable pub code_at : ℕ → GrammarCode
 code_at n = or_bad_number (slice_get all_codes n)
 
--- a code as the grammar states it
+-- a code as the grammar states it; the definitions below are the codes by name
 abbrev pub stated : GrammarCode → Code
 stated c = Stated (code_number c)
 

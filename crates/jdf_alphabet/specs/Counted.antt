@@ -19,14 +19,15 @@ is_counted k =
     || is Equal k || is NotEqual k || is Less k || is AtMost k || is Greater k || is AtLeast k
     || is And k || is AndAnd k || is Or k || is OrOr k || is Not k
 
--- how many tokens an expression may have, and how many of them may be counted
+-- how many tokens an expression may have
 abbrev pub most_expression_tokens : ℕ
 most_expression_tokens = 512
 
+-- how many counted tokens an expression may have
 abbrev pub most_counted : ℕ
 most_counted = 128
 
--- at most so many tokens, and at most so many of them counted; the indices of the last ones are one less
+-- at most this many tokens, and at most this many of them counted; the indices of the last ones are one less
 abbrev pub expression_limit : Limit
 expression_limit =
     record {

@@ -29,7 +29,7 @@ abbrev pub after_token : {N : Type 0} {Tree : N → Type 0} → (Terminal → Bo
     → Production N Tree (Token × Tree n)
 after_token q n = production.after_token (set q) n
 
--- Is the next token in this set?
+-- Whether the next token is in this set.
 abbrev pub starts : (Terminal → Bool) → List Token → Bool
 starts q s = reading.starts (set q) s
 

@@ -12,7 +12,7 @@ const MOST_EXPRESSION_TOKENS: usize = 512;
 // How many of its tokens may be names, numbers, operators and `?`.
 const MOST_COUNTED: usize = 128;
 
-// Is this terminal a name, a number, an operator or `?`?
+// Whether this terminal is a name, a number, an operator or `?`.
 #[tactic(auto, unfolding(crate::specs::Counted::is_counted))]
 fn is_counted(terminal: Terminal) -> bool
     ensures { result ≡ is_counted terminal }

@@ -3,12 +3,12 @@
 ghost use Rattle.std.specs.Prelude.{◌≡◌};
 ghost use Rattle.jdf_alphabet.specs.Terminals.{is};
 ghost use Rattle.jdf_alphabet.specs.Sets.{starts, token_at};
-ghost use Rattle.grammar_core.specs.Returns.{Returns};
+ghost use Rattle.ptg_base.specs.Returns.{Returns};
 
 use crate::terminal::Terminal;
 use grammar_core::{Code, ReadRefusal, Token, refusal_at};
 
-/// Is the next token this terminal?
+/// Whether the next token is this terminal.
 pub fn is_next(tokens: &[Token], wanted: Terminal) -> bool
     ensures { result ≡ starts (is wanted) tokens.now }
 {

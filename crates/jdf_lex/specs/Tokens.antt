@@ -23,8 +23,8 @@ abbrev pub spot_after : List ℕ → Spot
 spot_after front =
     record { line = 1 + count_by (λ b. b == 10) front; column = 1 + suffix_len (λ b. not (b == 10)) front }
 
--- The word, followed by `left`, is this unit: the unit begins there, the word is spelled as it, and no longer word at
--- the same position is.
+-- The word, followed by `left`, is this unit: the unit begins there, the word is spelled as it, and no longer word that
+-- begins there is.
 pub record IsUnit (unit : LexicalUnit) (word left : List ℕ) : Type 0 where
   pub begins : unit_at (word ++ left) ≡ Some unit
   pub spelled : IsTrue (is_spelling unit word)

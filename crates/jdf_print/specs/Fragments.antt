@@ -1,12 +1,14 @@
 -- A text as fragments: tokens and blanks between them.
 use Rattle.std.specs.Prelude.{ℕ, ◌+◌, List, [], ◌∷◌, ◌++◌, flat_map, codes}
 
+-- a fragment of a text
 pub data Fragment : Type 0 where
   -- the bytes of a token
   token : List ℕ → Fragment
   -- blanks
   blank : List ℕ → Fragment
 
+-- the bytes of a fragment
 abbrev pub bytes_of : Fragment → List ℕ
 bytes_of (token word) = word
 bytes_of (blank bytes) = bytes
@@ -15,9 +17,11 @@ bytes_of (blank bytes) = bytes
 abbrev pub text : List Fragment → List ℕ
 text fragments = flat_map bytes_of fragments
 
+-- one space
 abbrev pub space : Fragment
 space = blank (32 ∷ [])
 
+-- one LF
 abbrev pub newline : Fragment
 newline = blank (10 ∷ [])
 
@@ -35,6 +39,7 @@ separated separator [] = []
 separated separator (x ∷ []) = x
 separated separator (x ∷ y ∷ xs) = x ++ (separator ++ separated separator (y ∷ xs))
 
+-- a comma with a space after it
 abbrev pub comma : List Fragment
 comma = token (codes ",") ∷ space ∷ []
 

@@ -1,12 +1,14 @@
 -- The canonical spelling of a tree, which `show` prints. The form is this project's own choice: a line for each part,
 -- and every operator in parentheses.
-use Rattle.std.specs.Prelude.{ℕ, List, [], ◌∷◌, ◌++◌, map, flat_map, Option, Some, None, Bool, true, false, codes}
+use Rattle.std.specs.Prelude.{ℕ, List, [], ◌∷◌, ◌++◌, map, flat_map, Option, Some, None, codes}
 use Rattle.std.specs.Fmt.{signed_decimal}
 use Rattle.grammar_core.specs.declared.token.Token.{Token}
 use Rattle.term_core.specs.declared.operator.UnOp.{UnOp}
 use Rattle.term_core.specs.declared.operator.UnOp.TheVariants as un
 use Rattle.term_core.specs.declared.operator.BinOp.{BinOp}
 use Rattle.term_core.specs.declared.operator.BinOp.TheVariants as bin
+use Rattle.term_core.specs.declared.direction.Direction.{Direction}
+use Rattle.term_core.specs.declared.direction.Direction.TheVariants.{In, Out}
 use Rattle.term_core.specs.declared.flow.FlowKind.{FlowKind}
 use Rattle.term_core.specs.declared.flow.FlowKind.TheVariants as kind
 use Rattle.jdf_tree.specs.declared.expression.Word.{Word}
@@ -23,11 +25,12 @@ use Rattle.jdf_tree.specs.Expression as tree
 use Rattle.jdf_tree.specs.Expression.{Expression}
 use Rattle.jdf_print.specs.Fragments.{Fragment, token, blank, space, newline, text, line, between, separated, with_commas}
 
+-- the word of a prefix operator
 abbrev pub sign : UnOp → List ℕ
 sign un.Neg = codes "-"
 sign un.Not = codes "!"
 
--- And is `&&`, or is `||`.
+-- The word of an infix operator: And is `&&`, Or is `||`.
 abbrev pub operator : BinOp → List ℕ
 operator bin.Add = codes "+"
 operator bin.Sub = codes "-"
@@ -67,39 +70,46 @@ abbrev pub argument : ArgTree → List Fragment
 argument (One e) = expression e
 argument (Span spot lo hi by) = expression lo ++ (between (codes "..") ++ (expression hi ++ step by))
 
+-- the arguments of a task or a place, in parentheses
 abbrev pub arguments : List ArgTree → List Fragment
 arguments args = enclosed (with_commas (map argument args))
 
+-- what a dependence names
 abbrev pub target : TargetTree → List Fragment
 target (Task flow class args) = token flow.text ∷ space ∷ token class.text ∷ arguments args
 target (Element coll args) = token coll.text ∷ arguments args
 target (New spot) = token (codes "NEW") ∷ []
 target (Null spot) = token (codes "NULL") ∷ []
 
+-- the guard of a dependence and its `?`, if there is one
 abbrev pub guard : Option Expression → List Fragment
 guard None = []
 guard (Some c) = expression c ++ between (codes "?")
 
+-- the target of a dependence for where its guard is false, after `:`, if there is one
 abbrev pub other : Option TargetTree → List Fragment
 other None = []
 other (Some t) = between (codes ":") ++ target t
 
+-- the type of the tile of a dependence in brackets, if there is one
 abbrev pub datatype : Option Word → List Fragment
 datatype None = []
 datatype (Some w) =
     space ∷ token (codes "[") ∷ token (codes "type") ∷ (between (codes "=") ++ token w.text ∷ token (codes "]") ∷ [])
 
-abbrev pub arrow : Bool → List ℕ
-arrow true = codes "<-"
-arrow false = codes "->"
+-- the arrow of a direction
+abbrev pub arrow : Direction → List ℕ
+arrow In = codes "<-"
+arrow Out = codes "->"
 
 -- A dependence, indented by two spaces.
 abbrev pub dependence : DepTree → List Fragment
 dependence d =
     line
-    (blank (codes "  ") ∷ token (arrow d.inward) ∷ space
+    (blank (codes "  ") ∷ token (arrow d.direction) ∷ space
     ∷ (guard d.guard ++ (target d.yes ++ (other d.no ++ datatype d.datatype))))
 
+-- the word of a kind of flow
 abbrev pub kind_word : FlowKind → List ℕ
 kind_word kind.Read = codes "READ"
 kind_word kind.Write = codes "WRITE"
@@ -110,9 +120,11 @@ kind_word kind.Ctl = codes "CTL"
 abbrev pub flow : FlowTree → List Fragment
 flow f = line (token (kind_word f.kind) ∷ space ∷ token f.name.text ∷ []) ++ flat_map dependence f.deps
 
+-- a line with a definition
 abbrev pub definition : DefTree → List Fragment
 definition d = line (token d.name.text ∷ (between (codes "=") ++ argument d.value))
 
+-- a line with the priority, if there is one
 abbrev pub priority : Option Expression → List Fragment
 priority None = []
 priority (Some e) = line (token (codes ";") ∷ space ∷ expression e)

@@ -9,6 +9,7 @@ use crate::expression::put_expression;
 use crate::writer::{put, put_word};
 use jdf_tree::{DepTree, ExprTree, TargetTree, Word};
 use ptg_base::{OutOfMemory, Seq};
+use term_core::Direction;
 
 // Appends a target of a dependence.
 fn put_target(out: &mut Seq<u8>, to: &TargetTree) -> Result<(), OutOfMemory>
@@ -70,11 +71,14 @@ fn put_datatype(out: &mut Seq<u8>, name: &Option<Word>) -> Result<(), OutOfMemor
     }
 }
 
-// The arrow of an in edge or an out edge.
-fn arrow_of(inward: bool) -> &'static [u8]
-    ensures { result.now ≡ arrow inward }
+// The arrow of a direction.
+fn arrow_of(direction: Direction) -> &'static [u8]
+    ensures { result.now ≡ arrow direction }
 {
-    if inward { b"<-" } else { b"->" }
+    match direction {
+        Direction::In => b"<-",
+        Direction::Out => b"->",
+    }
 }
 
 /// Appends a dependence on a line, indented by two spaces.
@@ -82,7 +86,7 @@ pub(crate) fn put_dependence(out: &mut Seq<u8>, d: &DepTree) -> Result<(), OutOf
     ensures { OnOk result (out.new ≡ out.old ++ text (dependence d.now)) }
 {
     put(out, b"  ")?;
-    put(out, arrow_of(d.inward))?;
+    put(out, arrow_of(d.direction))?;
     put(out, b" ")?;
     put_guard(out, &d.guard)?;
     put_target(out, &d.yes)?;

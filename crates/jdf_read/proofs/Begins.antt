@@ -13,6 +13,7 @@ use Rattle.grammar_core.specs.Reading as numbered
 use Rattle.grammar_core.specs.Terminals as terminals
 use Rattle.grammar_core.proofs.Sets.{alike_at}
 use Rattle.grammar_core.proofs.Loops.{pair_with, applied}
+use Rattle.term_core.specs.declared.direction.Direction.{Direction}
 use Rattle.jdf_tree.specs.declared.expression.Word.{Word}
 use Rattle.jdf_tree.specs.declared.tree.DepTree.{DepTree}
 use Rattle.jdf_tree.specs.declared.part.Part.TheVariants.{Class}
@@ -72,8 +73,8 @@ thrice {A} {B} {C} {D} (Ok a) q p f = go (q a.1)
     go (Err e) = refl
 thrice (Err e) q p f = refl
 
-abbrev after_arrow : Bool → Choice → Option Word → DepTree
-after_arrow inward x datatype = dependence_of (inward, (x, datatype))
+abbrev after_arrow : Direction → Choice → Option Word → DepTree
+after_arrow direction x datatype = dependence_of (direction, (x, datatype))
 
 pub dependence_reads : (s : List Token) → reading productions dependence s ≡ (reading productions arrow s >>= λ a. reading productions (pick may_follow_target_name unguarded guarded) a.1 >>= λ b. reading productions (opt datatype) b.1 >>= applied (λ c. after_arrow a.0 b.0 c))
 unfolding dependence

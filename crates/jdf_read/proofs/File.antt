@@ -12,7 +12,7 @@ use Rattle.grammar_core.specs.declared.token.Spot.{Spot}
 use Rattle.grammar_core.specs.declared.token.Token.{Token}
 use Rattle.jdf_lex.specs.Tokens.{IsLexed, IsTokenFault, spot_after}
 use Rattle.grammar_core.specs.declared.code.Code.{Code}
-use Rattle.grammar_core.specs.Reading.{whole}
+use Rattle.grammar_core.specs.Reading.{whole, fault_from_end}
 use Rattle.jdf_tree.specs.declared.tree.Jdf.{Jdf}
 use Rattle.jdf_tree.specs.Jdf.{IsJdf}
 use Rattle.jdf_tree.specs.Fault.{first_spot, code_at_token, IsJdfFault}
@@ -36,7 +36,7 @@ read_is text lexed slice jdf at_most_bytes utf8 is slices e =
 
 -- the fault that reading met is the first one of the text
 pub fault_is_named : (text : List ℕ) (lexed : Lexed) (slice : List Token) (left : ℕ) (code : Code) (f : JdfFault) → length text ≤ 16777216 → IsUtf8 text
-    → IsLexed text lexed.tokens lexed.end × (length lexed.tokens ≤ 1000000) → slice ≡ lexed.tokens → whole productions file slice ≡ Err (left, code)
+    → IsLexed text lexed.tokens lexed.end × (length lexed.tokens ≤ 1000000) → slice ≡ lexed.tokens → whole productions file slice ≡ Err (fault_from_end left code)
     → ((token : Token) → slice_get lexed.tokens (length lexed.tokens - left) ≡ Some token → f ≡ record { spot = token.spot; code = code_at_token code })
     → (slice_get lexed.tokens (length lexed.tokens - left) ≡ None → f ≡ record { spot = lexed.end; code = jdf.Truncated }) → IsJdfFault text f
 fault_is_named text lexed slice left code f at_most_bytes utf8 is slices e at_token at_end =

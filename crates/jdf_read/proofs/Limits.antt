@@ -4,7 +4,7 @@ use Rattle.std.specs.Prelude.{length, ◌-◌, None}
 use Rattle.grammar_core.specs.declared.token.Token.{Token}
 use Rattle.grammar_core.specs.declared.code.Code.{Code}
 use Rattle.grammar_core.specs.Production.{IsText, IsFirstFault}
-use Rattle.grammar_core.specs.Reading.{whole}
+use Rattle.grammar_core.specs.Reading.{whole, fault_from_end}
 use Rattle.grammar_core.proofs.Whole.{text_found, text_only, fault_is, one_fault}
 use Rattle.jdf_tree.specs.declared.tree.Jdf.{Jdf}
 use Rattle.jdf_tree.specs.Grammar.{productions, file, claims}
@@ -18,8 +18,8 @@ found s t e = text_found productions claims productions_fine productions_limits 
 pub only : (s : List Token) (t : Jdf) → IsText productions file s t None → whole productions file s ≡ Ok t
 only s t h = text_only productions claims productions_fine productions_limits file file_fine opening_limits s t h
 
-pub faulty : (s : List Token) (n : ℕ) (c : Code) → whole productions file s ≡ Err (n, c) → IsFirstFault productions file s (length s - n) c
-faulty s n c e = fault_is productions claims productions_fine productions_limits file file_fine opening_limits s (n, c) e
+pub faulty : (s : List Token) (n : ℕ) (c : Code) → whole productions file s ≡ Err (fault_from_end n c) → IsFirstFault productions file s (length s - n) c
+faulty s n c e = fault_is productions claims productions_fine productions_limits file file_fine opening_limits s (fault_from_end n c) e
 
-pub fault_read : (s : List Token) (token_index : ℕ) (c : Code) → IsFirstFault productions file s token_index c → whole productions file s ≡ Err (length s - token_index, c)
+pub fault_read : (s : List Token) (token_index : ℕ) (c : Code) → IsFirstFault productions file s token_index c → whole productions file s ≡ Err (fault_from_end (length s - token_index) c)
 fault_read s token_index c h = one_fault productions claims productions_fine productions_limits file file_fine opening_limits s token_index c h

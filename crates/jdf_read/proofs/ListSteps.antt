@@ -6,9 +6,10 @@ use Rattle.grammar_core.specs.declared.token.Token.{Token}
 use Rattle.grammar_core.specs.Terminals.{Terminal}
 use Rattle.grammar_core.specs.declared.code.Code.{Code}
 use Rattle.ptg_base.specs.declared.refusal.Refusal.TheVariants as errors
+use Rattle.ptg_base.specs.Returns.{ReturnsRefusal}
 use Rattle.grammar_core.specs.Production.{seq, map, star}
-use Rattle.grammar_core.specs.Reading.{◌>>=◌, Read, starts, reading}
-use Rattle.grammar_core.specs.Returns.{ReadRefusal, Fails}
+use Rattle.grammar_core.specs.Reading.{◌>>=◌, Read, starts, reading, fault_from_end}
+use Rattle.grammar_core.specs.Refusing.{ReadRefusal}
 use Rattle.grammar_core.proofs.Loops.{applied, so_far, regroup, many_from, IsListed, many_step, many_begins, many_goes_on, many_fails, many_is_full, many_ends}
 use Rattle.jdf_tree.specs.Nonterminal.{Grammar}
 use Rattle.jdf_tree.specs.GrammarParts.{any}
@@ -46,7 +47,7 @@ pub some_begin : {A : Type 0} (g h : Grammar A) (s : List Token) (x : A) (next :
 unfolding rest_of
 some_begin {A} g h s x next list e r = ap (λ (l : List A). so_far l (many_from productions any h 0 next)) e ∙ sym (some_is any g h s ∙ rw r refl)
 
-pub some_fail : {A : Type 0} (e : ReadRefusal) (full : ℕ → Option Code) (g h : Grammar A) (s : List Token) → Fails e (reading productions g s) → Fails e (reading productions (map joined (seq g (star full h))) s)
+pub some_fail : {A : Type 0} (e : ReadRefusal) (full : ℕ → Option Code) (g h : Grammar A) (s : List Token) → ReturnsRefusal e (reading productions g s) → ReturnsRefusal e (reading productions (map joined (seq g (star full h))) s)
 some_fail errors.OutOfMemory full g h s f = tt
 some_fail (errors.Fault x) full g h s f = some_is full g h s ∙ rw f refl
 
@@ -64,11 +65,11 @@ unfolding counted
 counted_goes_on {A} n c {g} {f} i j old s x next total new l e room up t r before =
     ap (λ (k : ℕ). so_far new (many_from productions (full_at n c) g k next)) up ∙ many_goes_on productions (full_at n c) g f l i old s x next total new e (cond-false (nat_le n i) (Some c) None (lt-leb n i room)) t r before
 
-pub counted_fails : {A : Type 0} (n : ℕ) (c : Code) {g : Grammar A} {f : Terminal → Bool} (e : ReadRefusal) (i : ℕ) (old : List A) (s : List Token) (total : Read (List A)) → IsListed productions g f → i < n → starts f s ≡ true → Fails e (reading productions g s) → so_far old (counted n c g i s) ≡ total → Fails e total
+pub counted_fails : {A : Type 0} (n : ℕ) (c : Code) {g : Grammar A} {f : Terminal → Bool} (e : ReadRefusal) (i : ℕ) (old : List A) (s : List Token) (total : Read (List A)) → IsListed productions g f → i < n → starts f s ≡ true → ReturnsRefusal e (reading productions g s) → so_far old (counted n c g i s) ≡ total → ReturnsRefusal e total
 unfolding counted
 counted_fails {A} n c {g} {f} e i old s total l room t h before = many_fails productions (full_at n c) g f l e i old s total (cond-false (nat_le n i) (Some c) None (lt-leb n i room)) t h before
 
-pub counted_is_full : {A : Type 0} (n : ℕ) (c : Code) {g : Grammar A} {f : Terminal → Bool} (i : ℕ) (old : List A) (s : List Token) (total : Read (List A)) → IsListed productions g f → i ≡ n → starts f s ≡ true → so_far old (counted n c g i s) ≡ total → total ≡ Err (length s, c)
+pub counted_is_full : {A : Type 0} (n : ℕ) (c : Code) {g : Grammar A} {f : Terminal → Bool} (i : ℕ) (old : List A) (s : List Token) (total : Read (List A)) → IsListed productions g f → i ≡ n → starts f s ≡ true → so_far old (counted n c g i s) ≡ total → total ≡ Err (fault_from_end (length s) c)
 unfolding counted
 counted_is_full {A} n c {g} {f} i old s total l over t before = many_is_full productions (full_at n c) g f l c i old s total (cond-true (nat_le n i) (Some c) None (le-leb n i (omega (arith, over)))) t before
 

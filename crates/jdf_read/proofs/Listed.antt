@@ -1,11 +1,12 @@
 -- The lists of the grammar: their elements are never empty, with these first sets.
 use Rattle.std.proofs.Common.{◌≡◌, List, [], ◌∷◌, ◌++◌, Ok, refl}
+use Rattle.ptg_base.specs.Returns.{ReturnsRefusal}
 use Rattle.grammar_core.specs.declared.token.Token.{Token}
 use Rattle.jdf_alphabet.specs.declared.terminal.Terminal.TheVariants as terminal
 use Rattle.jdf_alphabet.specs.Terminals.{is, set}
 use Rattle.jdf_alphabet.specs.Codes.{TooManyClasses, TooManyLocals, TooManyFlows, TooManyDeps}
 use Rattle.grammar_core.specs.Reading.{reading}
-use Rattle.grammar_core.specs.Returns.{ReadRefusal, Fails}
+use Rattle.grammar_core.specs.Refusing.{ReadRefusal}
 use Rattle.grammar_core.proofs.Loops.{so_far, IsListed}
 use Rattle.jdf_tree.specs.declared.expression.Word.{Word}
 use Rattle.jdf_tree.specs.declared.tree.ArgTree.{ArgTree}
@@ -52,7 +53,7 @@ pub arguments_after_first : (s : List Token) (x : ArgTree) (next : List Token) (
 unfolding arguments next_argument
 arguments_after_first s x next list e r = some_begin argument next_argument s x next list e r
 
-pub arguments_fail : (e : ReadRefusal) (s : List Token) → Fails e (reading productions argument s) → Fails e (reading productions arguments s)
+pub arguments_fail : (e : ReadRefusal) (s : List Token) → ReturnsRefusal e (reading productions argument s) → ReturnsRefusal e (reading productions arguments s)
 unfolding arguments next_argument
 arguments_fail e s f = some_fail e any argument next_argument s f
 
@@ -60,7 +61,7 @@ pub parameters_after_first : (s : List Token) (x : Word) (next : List Token) (li
 unfolding next_parameter
 parameters_after_first s x next list e r = some_begin (name Class) next_parameter s x next list e r
 
-pub parameters_fail : (e : ReadRefusal) (s : List Token) → Fails e (reading productions (name Class) s) → Fails e (reading productions (listed (name Class)) s)
+pub parameters_fail : (e : ReadRefusal) (s : List Token) → ReturnsRefusal e (reading productions (name Class) s) → ReturnsRefusal e (reading productions (listed (name Class)) s)
 unfolding next_parameter
 parameters_fail e s f = some_fail e any (name Class) next_parameter s f
 
@@ -82,6 +83,6 @@ pub classes_after_first : (s : List Token) (x : ClassTree) (next : List Token) (
 unfolding classes
 classes_after_first s x next list e r = counted_after_first 63 TooManyClasses class_and_skips class_and_skips s x next list e r
 
-pub classes_fail : (e : ReadRefusal) (s : List Token) → Fails e (reading productions class_and_skips s) → Fails e (reading productions classes s)
+pub classes_fail : (e : ReadRefusal) (s : List Token) → ReturnsRefusal e (reading productions class_and_skips s) → ReturnsRefusal e (reading productions classes s)
 unfolding classes
 classes_fail e s f = some_fail e (full_at 63 TooManyClasses) class_and_skips class_and_skips s f

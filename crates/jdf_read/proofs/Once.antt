@@ -6,13 +6,14 @@ use Rattle.std.specs.Str.{IsUtf8}
 use Rattle.std.proofs.lemmas.Option.{same_Some, none-some}
 use Rattle.jdf_lex.specs.declared.fault.JdfCode.TheVariants as jdf
 use Rattle.jdf_lex.specs.declared.fault.JdfFault.{JdfFault}
+use Rattle.grammar_core.specs.declared.fault.ReadFault.{ReadFault}
 use Rattle.grammar_core.specs.declared.token.Spot.{Spot}
 use Rattle.grammar_core.specs.declared.token.Token.{Token}
 use Rattle.jdf_lex.specs.Tokens.{spot_after}
 use Rattle.jdf_lex.proofs.Uniqueness.{one_list, no_fault}
 use Rattle.jdf_lex.proofs.Uniqueness as lex
 use Rattle.grammar_core.specs.declared.code.Code.{Code}
-use Rattle.grammar_core.specs.Reading.{FaultFromEnd, whole}
+use Rattle.grammar_core.specs.Reading.{whole}
 use Rattle.grammar_core.proofs.Whole.{fault_index}
 use Rattle.jdf_tree.specs.declared.tree.Jdf.{Jdf}
 use Rattle.jdf_tree.specs.Grammar.{productions, file}
@@ -83,8 +84,8 @@ same_named tokens end token_index c f g (inr x) (inr y) = x.1 ∙ sym y.1
 same_wrong : (tokens : List Token) (end : Spot) (f g : JdfFault) → IsGrammarFault tokens end f → IsGrammarFault tokens end g → f ≡ g
 same_wrong tokens end f g x y =
     let same = same_Err _ _ (sym (fault_read tokens x.token_index x.code x.first) ∙ fault_read tokens y.token_index y.code y.first) in
-    let left = ap (λ (n : FaultFromEnd). n.0) same in
-    let code : x.code ≡ y.code = ap (λ (n : FaultFromEnd). n.1) same in
+    let left = ap (λ (n : ReadFault). n.left) same in
+    let code : x.code ≡ y.code = ap (λ (n : ReadFault). n.code) same in
     let a = fault_index productions file tokens x.token_index x.code x.first in
     let b = fault_index productions file tokens y.token_index y.code y.first in
     let token_index : x.token_index ≡ y.token_index = omega (arith, left, a, b) in

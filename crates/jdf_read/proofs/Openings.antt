@@ -6,12 +6,13 @@ use Rattle.grammar_core.specs.declared.token.Token.{Token}
 use Rattle.jdf_alphabet.specs.declared.terminal.Terminal.{Terminal}
 use Rattle.jdf_alphabet.specs.declared.terminal.Terminal.TheVariants as terminal
 use Rattle.ptg_base.specs.declared.refusal.Refusal.TheVariants as errors
+use Rattle.ptg_base.specs.Returns.{ReturnsRefusal}
 use Rattle.jdf_alphabet.specs.Terminals.{is, terminal_of}
 use Rattle.jdf_alphabet.specs.Counted.{is_name}
 use Rattle.grammar_core.specs.Production.{star, opt}
 use Rattle.jdf_alphabet.specs.Sets.{one_of, starts, token_at}
 use Rattle.grammar_core.specs.Reading.{◌>>=◌, Read, nonterminal_at, reading}
-use Rattle.grammar_core.specs.Returns.{ReadRefusal, Fails}
+use Rattle.grammar_core.specs.Refusing.{ReadRefusal}
 use Rattle.grammar_core.proofs.Fuel.{nonterminal_is}
 use Rattle.grammar_core.proofs.Loops.{pair_with, applied, reading_consumes}
 use Rattle.jdf_tree.specs.declared.expression.Word.{Word}
@@ -253,7 +254,7 @@ pub global_goes_on : (front : List Word) (s : List Token) (w : Word) (next : Lis
     → with_front front (opened s) ≡ total → with_front new (opened next) ≡ total
 global_goes_on front s w next total new n c e before = rw n (opening_goes_on front s (Some w) next total c e before)
 
-pub opening_fails : (e : ReadRefusal) (front : List Word) (s : List Token) (total : Read Jdf) → is_class s ≡ false → Fails e (reading productions leading s) → with_front front (opened s) ≡ total → Fails e total
+pub opening_fails : (e : ReadRefusal) (front : List Word) (s : List Token) (total : Read Jdf) → is_class s ≡ false → ReturnsRefusal e (reading productions leading s) → with_front front (opened s) ≡ total → ReturnsRefusal e total
 unfolding with_front
 opening_fails errors.OutOfMemory front s total c f before = tt
 opening_fails (errors.Fault x) front s total c f before = sym before ∙ (ap (λ (r : Read Jdf). with_front front r) (opened_step s) ∙ rw (c, f) refl)
@@ -263,7 +264,7 @@ unfolding with_front
 opening_ends front s found next total c e before =
     sym before ∙ (ap (λ (r : Read Jdf). with_front front r) (opened_step s) ∙ rw (c, e) (ap (λ (l : List Word). Ok (record { globals = l; classes = found }, next)) (append-nil front)))
 
-pub opening_stops : (e : ReadRefusal) (front : List Word) (s : List Token) (total : Read Jdf) → is_class s ≡ true → Fails e (reading productions classes s) → with_front front (opened s) ≡ total → Fails e total
+pub opening_stops : (e : ReadRefusal) (front : List Word) (s : List Token) (total : Read Jdf) → is_class s ≡ true → ReturnsRefusal e (reading productions classes s) → with_front front (opened s) ≡ total → ReturnsRefusal e total
 unfolding with_front
 opening_stops errors.OutOfMemory front s total c f before = tt
 opening_stops (errors.Fault x) front s total c f before = sym before ∙ (ap (λ (r : Read Jdf). with_front front r) (opened_step s) ∙ rw (c, f) refl)

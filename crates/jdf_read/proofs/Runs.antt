@@ -10,7 +10,7 @@ use Rattle.jdf_alphabet.specs.Terminals.{is, set, terminal_of}
 use Rattle.grammar_core.specs.declared.code.Code.TheVariants.{Syntax}
 use Rattle.grammar_core.specs.Production.{star}
 use Rattle.jdf_alphabet.specs.Sets.{one_of, starts}
-use Rattle.grammar_core.specs.Reading.{◌>>=◌, Read, reading}
+use Rattle.grammar_core.specs.Reading.{◌>>=◌, Read, reading, fault_from_end}
 use Rattle.grammar_core.proofs.Loops.{pair_with, applied, IsListed, many_from, many_step}
 use Rattle.jdf_tree.specs.Nonterminal.{Grammar}
 use Rattle.jdf_tree.specs.GrammarParts.{any, maybe, or_none}
@@ -30,7 +30,7 @@ listed q = record { full = refl; begins = λ s. refl }
 
 -- the first token, if it is in the set
 abbrev token_if : Bool → Token → List Token → Read Token
-token_if b x s = cond b (Ok (x, s)) (Err (length (x ∷ s), Syntax))
+token_if b x s = cond b (Ok (x, s)) (Err (fault_from_end (length (x ∷ s)) Syntax))
 
 run_from : (q : Terminal → Bool) (i : ℕ) (s : List Token) → many_from productions any (one q) i s ≡ Ok (take (run_len q s) s, drop (run_len q s) s)
 run_from q i [] = many_step productions any (one q) (set q) (listed q) i []

@@ -1,11 +1,13 @@
 -- Skipped parts, as a loop skips them.
 use Rattle.std.proofs.Common.{◌≡◌, ◌<◌, Bool, true, false, cond, List, [], ◌∷◌, length, Result, Ok, Err, refl, sym, ap, ◌∙◌}
+use Rattle.grammar_core.specs.declared.fault.ReadFault.{ReadFault}
 use Rattle.grammar_core.specs.declared.token.Token.{Token}
 use Rattle.ptg_base.specs.declared.refusal.Refusal.TheVariants as errors
+use Rattle.ptg_base.specs.Returns.{ReturnsRefusal}
 use Rattle.grammar_core.specs.Production.{star}
-use Rattle.grammar_core.specs.Reading.{FaultFromEnd, ◌>>=◌, Read, reading}
+use Rattle.grammar_core.specs.Reading.{◌>>=◌, Read, reading}
 use Rattle.jdf_alphabet.specs.Sets.{starts}
-use Rattle.grammar_core.specs.Returns.{ReadRefusal, Fails}
+use Rattle.grammar_core.specs.Refusing.{ReadRefusal}
 use Rattle.grammar_core.proofs.Loops.{applied, regroup, many_from, reading_consumes}
 use Rattle.jdf_tree.specs.declared.tree.ClassTree.{ClassTree}
 use Rattle.jdf_tree.specs.GrammarParts.{any}
@@ -18,11 +20,11 @@ use Rattle.jdf_read.proofs.Listed.{skips_listed}
 use Rattle.jdf_read.proofs.Parts.{with_rest}
 
 -- the tokens after a text that was read
-abbrev rest_after : {A : Type 0} → Read A → Result (List Token) FaultFromEnd
+abbrev rest_after : {A : Type 0} → Read A → Result (List Token) ReadFault
 rest_after r = r >>= λ x. Ok x.1
 
 -- the tokens after all skipped parts
-unfoldable pub past_all : List Token → Result (List Token) FaultFromEnd
+unfoldable pub past_all : List Token → Result (List Token) ReadFault
 past_all s = rest_after (rest_of skip s)
 
 pub past_all_is : (s : List Token) → past_all s ≡ past (star any skip) s
@@ -42,14 +44,14 @@ past_step s = ap (λ (r : Read (List Token)). rest_after r) (rest_step skips_lis
     go true (Ok a) = next a.0 (rest_of skip a.1)
     go true (Err e) = refl
 
-pub skips_go_on : (s next : List Token) (total : Result (List Token) FaultFromEnd) → starts is_skip s ≡ true → past skip s ≡ Ok next → past_all s ≡ total → past_all next ≡ total
+pub skips_go_on : (s next : List Token) (total : Result (List Token) ReadFault) → starts is_skip s ≡ true → past skip s ≡ Ok next → past_all s ≡ total → past_all next ≡ total
 skips_go_on s next total t e before = sym (past_step s ∙ rw (t, e) refl) ∙ before
 
-pub skips_fail : (e : ReadRefusal) (s : List Token) (total : Result (List Token) FaultFromEnd) → starts is_skip s ≡ true → Fails e (past skip s) → past_all s ≡ total → Fails e total
+pub skips_fail : (e : ReadRefusal) (s : List Token) (total : Result (List Token) ReadFault) → starts is_skip s ≡ true → ReturnsRefusal e (past skip s) → past_all s ≡ total → ReturnsRefusal e total
 skips_fail errors.OutOfMemory s total t f before = tt
 skips_fail (errors.Fault x) s total t f before = sym before ∙ (past_step s ∙ rw (t, f) refl)
 
-pub skips_end : (s : List Token) (total : Result (List Token) FaultFromEnd) → starts is_skip s ≡ false → past_all s ≡ total → total ≡ Ok s
+pub skips_end : (s : List Token) (total : Result (List Token) ReadFault) → starts is_skip s ≡ false → past_all s ≡ total → total ≡ Ok s
 skips_end s total t before = sym before ∙ (past_step s ∙ rw t refl)
 
 pub skip_moves : (s next : List Token) → past skip s ≡ Ok next → length next < length s

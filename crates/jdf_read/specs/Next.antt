@@ -1,12 +1,13 @@
 -- The tests of the next tokens that the readers of the code make, and the parts that they skip.
 use Rattle.std.specs.Prelude.{Bool, false, ◌&&◌, ◌||◌, List, [], ◌∷◌, Option, Some, None, Result, Ok}
+use Rattle.grammar_core.specs.declared.fault.ReadFault.{ReadFault}
 use Rattle.grammar_core.specs.declared.token.Token.{Token}
 use Rattle.jdf_alphabet.specs.declared.terminal.Terminal.{Terminal}
 use Rattle.jdf_alphabet.specs.declared.terminal.Terminal.TheVariants as terminal
 use Rattle.jdf_alphabet.specs.Terminals.{is, terminal_of}
 use Rattle.jdf_alphabet.specs.Counted.{is_name}
 use Rattle.grammar_core.specs.Production.{seq, map, alt, opt}
-use Rattle.grammar_core.specs.Reading.{FaultFromEnd, ◌>>=◌, reading}
+use Rattle.grammar_core.specs.Reading.{◌>>=◌, reading}
 use Rattle.jdf_alphabet.specs.Sets.{starts}
 use Rattle.jdf_tree.specs.declared.expression.Word.{Word}
 use Rattle.jdf_tree.specs.declared.part.Part.TheVariants.{Class}
@@ -18,17 +19,17 @@ use Rattle.jdf_tree.specs.ClassGrammar.{argument, properties, head, Rest, rest, 
 use Rattle.jdf_tree.specs.Grammar.{productions, skip}
 
 -- The tokens after a text of this production, whose tree is not kept.
-abbrev pub past : {A : Type 0} → Grammar A → List Token → Result (List Token) FaultFromEnd
+abbrev pub past : {A : Type 0} → Grammar A → List Token → Result (List Token) ReadFault
 past g s = reading productions g s >>= λ x. Ok x.1
 
--- Is a target next, and not a guard: `NEW`, `NULL`, or a name before a name or "("?
+-- Whether a target is next, and not a guard: `NEW`, `NULL`, or a name before a name or "(".
 abbrev pub is_target : List Token → Bool
 is_target [] = false
 is_target (x ∷ s) =
     is terminal.New (terminal_of x) || is terminal.Null (terminal_of x)
     || (is_name (terminal_of x) && (starts is_name s || starts (is terminal.LeftParen) s))
 
--- Is a class next, and not a global or a skipped part: a name before "("?
+-- Whether a class is next, and not a global or a skipped part: a name before "(".
 abbrev pub is_class : List Token → Bool
 is_class [] = false
 is_class (x ∷ s) = is_name (terminal_of x) && starts (is terminal.LeftParen) s
@@ -49,10 +50,11 @@ class_from x y = class_of ((x.0, (x.1, None)), y)
 abbrev pub class_rest : Word × List Word → Grammar ClassTree
 class_rest x = map (class_from x) rest
 
--- another argument, and another parameter
+-- another argument, after a comma
 unfoldable pub next_argument : Grammar ArgTree
 next_argument = prefixed_by terminal.Comma argument
 
+-- another parameter, after a comma
 unfoldable pub next_parameter : Grammar Word
 next_parameter = prefixed_by terminal.Comma (name Class)
 

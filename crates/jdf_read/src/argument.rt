@@ -1,7 +1,7 @@
 //! Reads arguments.
 
 ghost use Rattle.std.specs.Prelude.{◌≡◌};
-ghost use Rattle.grammar_core.specs.Returns.{Returns};
+ghost use Rattle.ptg_base.specs.Returns.{Returns};
 ghost use Rattle.grammar_core.specs.Reading.{reading};
 ghost use Rattle.jdf_alphabet.specs.Sets.{starts};
 ghost use Rattle.jdf_tree.specs.ClassGrammar.{argument, arguments, call};
@@ -64,7 +64,7 @@ fn arguments(alloc: Global, tokens: &[Token]) -> Result<(Seq<ArgTree>, &[Token])
     Ok((list, rest))
 }
 
-// Is an argument next?
+// Whether an argument is next.
 fn is_argument_next(tokens: &[Token]) -> bool
     ensures { result ≡ starts (begins_operand Class) tokens.now }
 {

@@ -2,7 +2,7 @@
 
 ghost use Rattle.std.specs.Prelude.{◌≡◌, ◌≤◌, length, IfOk};
 ghost use Rattle.std.specs.List.{prefix_len};
-ghost use Rattle.grammar_core.specs.Returns.{Returns};
+ghost use Rattle.ptg_base.specs.Returns.{Returns};
 ghost use Rattle.grammar_core.specs.Reading.{reading};
 ghost use Rattle.jdf_alphabet.specs.Sets.{starts};
 ghost use Rattle.jdf_alphabet.specs.Terminals.{terminal_of};
@@ -17,7 +17,7 @@ use jdf_lex::{Spot, Token};
 use ptg_base::{OutOfMemory, Seq, Text};
 use std::alloc::Global;
 
-// May a token of this terminal be in a body?
+// Whether a token of this terminal may be in a body.
 fn is_in_body(terminal: Terminal) -> bool
     ensures { result ≡ is_in_body terminal }
 {
@@ -27,7 +27,7 @@ fn is_in_body(terminal: Terminal) -> bool
     )
 }
 
-// May the next token be the first one of a body?
+// Whether the next token may be the first one of a body.
 fn is_body_next(tokens: &[Token]) -> bool
     ensures { result ≡ starts begins_body tokens.now }
 {
@@ -49,6 +49,7 @@ fn body_len(tokens: &[Token]) -> usize
         .count()
 }
 
+// A copy of a token.
 fn copy_of(alloc: Global, token: &Token) -> Result<Token, OutOfMemory>
     ensures { IfOk result (λ copy. copy ≡ token.now) }
 {
@@ -61,6 +62,7 @@ fn copy_of(alloc: Global, token: &Token) -> Result<Token, OutOfMemory>
     })
 }
 
+// Copies of tokens.
 fn copies_of(alloc: Global, tokens: &[Token]) -> Result<Seq<Token>, OutOfMemory>
     ensures { IfOk result (λ copies. copies ≡ tokens.now) }
 {

@@ -1,8 +1,8 @@
 //! Reads classes, and skips what is between them.
 
 ghost use Rattle.std.specs.Prelude.{◌≡◌};
+ghost use Rattle.ptg_base.specs.Returns.{Returns};
 ghost use Rattle.grammar_core.specs.Production.{opt, star};
-ghost use Rattle.grammar_core.specs.Returns.{Returns};
 ghost use Rattle.grammar_core.specs.Reading.{reading};
 ghost use Rattle.jdf_alphabet.specs.Sets.{starts};
 ghost use Rattle.jdf_tree.specs.ClassGrammar.{priority, class};
@@ -68,6 +68,7 @@ fn class_rest(
     ))
 }
 
+// A class: its name and parameters, and the rest.
 #[tactic(auto, using(crate::proofs::Parts::class_reads))]
 fn class(alloc: Global, tokens: &[Token]) -> Result<(ClassTree, &[Token]), ReadRefusal>
     ensures { Returns (λ x. (x.0, x.1.now)) result (reading productions class tokens.now) }
@@ -76,7 +77,7 @@ fn class(alloc: Global, tokens: &[Token]) -> Result<(ClassTree, &[Token]), ReadR
     class_rest(alloc, name, params, rest)
 }
 
-/// Is an extern block or an option line next?
+/// Whether an extern block or an option line is next.
 pub(crate) fn is_skip_next(tokens: &[Token]) -> bool
     ensures { result ≡ starts is_skip tokens.now }
 {

@@ -1,11 +1,11 @@
 //! Reads dependences.
 
 ghost use Rattle.std.specs.Prelude.{◌≡◌};
+ghost use Rattle.ptg_base.specs.Returns.{Returns};
 ghost use Rattle.grammar_core.specs.Production.{opt};
 ghost use Rattle.jdf_alphabet.specs.Sets.{pick, starts};
-ghost use Rattle.grammar_core.specs.Returns.{Returns};
 ghost use Rattle.grammar_core.specs.Reading.{reading};
-ghost use Rattle.jdf_tree.specs.ClassGrammar.{unguarded, guarded, arrow, is_arrow, may_follow_target_name, datatype, dependence, dependences};
+ghost use Rattle.jdf_tree.specs.ClassGrammar.{unguarded, guarded, arrow, is_arrow, direction_by, may_follow_target_name, datatype, dependence, dependences};
 ghost use Rattle.jdf_tree.specs.Grammar.{productions};
 ghost use Rattle.jdf_read.specs.Next.{is_target};
 
@@ -17,6 +17,7 @@ use jdf_lex::Token;
 use jdf_tree::{DepTree, ExprTree, Part, TargetTree, Word};
 use ptg_base::Seq;
 use std::alloc::Global;
+use term_core::Direction;
 
 // How many dependences a flow may have.
 const MOST_DEPENDENCES: usize = 16;
@@ -24,6 +25,7 @@ const MOST_DEPENDENCES: usize = 16;
 // A dependence after its arrow: its guard, the target where the guard holds, and the target where it does not.
 type Choice = (Option<ExprTree>, TargetTree, Option<TargetTree>);
 
+// A target without a guard.
 #[tactic(auto, unfolding(jdf_tree::specs::ClassGrammar::unguarded))]
 fn unguarded(alloc: Global, tokens: &[Token]) -> Result<(Choice, &[Token]), ReadRefusal>
     ensures { Returns (λ x. (x.0, x.1.now)) result (reading productions unguarded tokens.now) }
@@ -48,7 +50,7 @@ fn guarded(alloc: Global, tokens: &[Token]) -> Result<(Choice, &[Token]), ReadRe
     Ok(((Some(guard.tree), yes, Some(no)), rest))
 }
 
-// Is a target next, and not a guard?
+// Whether a target is next, and not a guard.
 fn is_target_next(tokens: &[Token]) -> bool
     ensures { result ≡ is_target tokens.now }
 {
@@ -76,7 +78,7 @@ fn choice(alloc: Global, tokens: &[Token]) -> Result<(Choice, &[Token]), ReadRef
     }
 }
 
-// Is an arrow next?
+// Whether an arrow is next.
 fn is_arrow_next(tokens: &[Token]) -> bool
     ensures { result ≡ starts is_arrow tokens.now }
 {
@@ -86,13 +88,26 @@ fn is_arrow_next(tokens: &[Token]) -> bool
     }
 }
 
-// Takes an arrow: whether it is `<-`, and the tokens after it.
+// The direction of an arrow.
+fn direction_by(terminal: Terminal) -> Direction
+    ensures { result ≡ direction_by terminal }
+{
+    match terminal {
+        Terminal::Inward => Direction::In,
+        _ => Direction::Out,
+    }
+}
+
+// Takes an arrow: its direction, and the tokens after it.
 #[tactic(auto, unfolding(jdf_tree::specs::ClassGrammar::arrow))]
-fn arrow(tokens: &[Token]) -> Result<(bool, &[Token]), ReadRefusal>
+fn arrow(tokens: &[Token]) -> Result<(Direction, &[Token]), ReadRefusal>
     ensures { Returns (λ x. (x.0, x.1.now)) result (reading productions arrow tokens.now) }
 {
     match tokens.split_first() {
-        Some((_, rest)) if is_arrow_next(tokens) => Ok((is_next(tokens, Terminal::Inward), rest)),
+        Some((first, rest)) if is_arrow_next(tokens) => Ok((
+            direction_by(Terminal::of(first)),
+            rest,
+        )),
         _ => Err(refusal_at(tokens, Code::Syntax)),
     }
 }
@@ -126,12 +141,12 @@ fn maybe_datatype(alloc: Global, tokens: &[Token]) -> Result<(Option<Word>, &[To
 fn dependence(alloc: Global, tokens: &[Token]) -> Result<(DepTree, &[Token]), ReadRefusal>
     ensures { Returns (λ x. (x.0, x.1.now)) result (reading productions dependence tokens.now) }
 {
-    let (inward, rest) = arrow(tokens)?;
+    let (direction, rest) = arrow(tokens)?;
     let ((guard, yes, no), rest) = choice(alloc, rest)?;
     let (datatype, rest) = maybe_datatype(alloc, rest)?;
     Ok((
         DepTree {
-            inward,
+            direction,
             guard,
             yes,
             no,

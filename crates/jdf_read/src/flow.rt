@@ -1,7 +1,7 @@
 //! Reads flows.
 
 ghost use Rattle.std.specs.Prelude.{◌≡◌, MatchOption, true, false};
-ghost use Rattle.grammar_core.specs.Returns.{Returns};
+ghost use Rattle.ptg_base.specs.Returns.{Returns};
 ghost use Rattle.grammar_core.specs.Reading.{reading};
 ghost use Rattle.jdf_alphabet.specs.Sets.{starts};
 ghost use Rattle.jdf_tree.specs.ClassGrammar.{is_kind, kind_by, kind_of_flow, flow, flows};
@@ -17,6 +17,7 @@ use ptg_base::{MOST_FLOWS, Seq};
 use std::alloc::Global;
 use term_core::FlowKind;
 
+// The kind of flow that this terminal names, if it names one.
 fn kind_by(terminal: Terminal) -> Option<FlowKind>
     ensures { MatchOption result (is_kind terminal ≡ false) (λ kind.
         (is_kind terminal ≡ true) × (kind ≡ kind_by terminal)) }
@@ -30,7 +31,7 @@ fn kind_by(terminal: Terminal) -> Option<FlowKind>
     }
 }
 
-// Is a kind of flow next?
+// Whether a kind of flow is next.
 fn is_kind_next(tokens: &[Token]) -> bool
     ensures { result ≡ starts is_kind tokens.now }
 {

@@ -2,8 +2,8 @@
 
 ghost use Rattle.std.specs.Prelude.{◌≡◌, ◌-◌, ◌≤◌, nat_lt, length};
 ghost use Rattle.std.specs.List.{prefix_len};
+ghost use Rattle.ptg_base.specs.Returns.{Returns};
 ghost use Rattle.grammar_core.specs.Production.{opt};
-ghost use Rattle.grammar_core.specs.Returns.{Returns};
 ghost use Rattle.grammar_core.specs.Reading.{reading};
 ghost use Rattle.jdf_alphabet.specs.Terminals.{terminal_of};
 ghost use Rattle.jdf_tree.specs.declared.part.Part.TheVariants.{Class};
@@ -48,7 +48,7 @@ fn names(alloc: Global, tokens: &[Token]) -> Result<(Seq<Word>, &[Token]), ReadR
     Ok((list, rest))
 }
 
-// Were more tokens taken than eight parameters have, if this many are left?
+// Whether more tokens were taken than eight parameters have, if this many are left.
 fn is_over(tokens: &[Token], left: usize) -> bool
     ensures { result ≡ nat_lt most_parameter_tokens (length tokens.now - left) }
 {

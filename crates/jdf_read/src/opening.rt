@@ -1,7 +1,7 @@
 //! Reads the globals before the first class, and the whole text.
 
 ghost use Rattle.std.specs.Prelude.{◌≡◌};
-ghost use Rattle.grammar_core.specs.Returns.{Returns};
+ghost use Rattle.ptg_base.specs.Returns.{Returns};
 ghost use Rattle.grammar_core.specs.Reading.{reading};
 ghost use Rattle.jdf_tree.specs.Grammar.{productions, opening};
 ghost use Rattle.jdf_read.specs.Next.{is_class, leading};
@@ -16,7 +16,7 @@ use jdf_tree::{Jdf, Part, Word};
 use ptg_base::Seq;
 use std::alloc::Global;
 
-// Is a class next: a name before `(`?
+// Whether a class is next: a name before `(`.
 fn is_class_next(tokens: &[Token]) -> bool
     ensures { result ≡ is_class tokens.now }
 {

@@ -1,10 +1,11 @@
 -- Lists of the grammar, element by element, as a loop reads them.
 use Rattle.std.proofs.Common.{◌≡◌, ℕ, zero, suc, ◌<◌, Bool, true, false, cond, List, [], ◌∷◌, ◌++◌, length, Ok, Err, refl, sym, ap, ◌∙◌}
+use Rattle.ptg_base.specs.Returns.{ReturnsRefusal}
 use Rattle.grammar_core.specs.declared.token.Token.{Token}
 use Rattle.grammar_core.specs.Terminals.{Terminal}
 use Rattle.grammar_core.specs.Production.{star}
 use Rattle.grammar_core.specs.Reading.{◌>>=◌, Read, first, starts, many_at, reading}
-use Rattle.grammar_core.specs.Returns.{ReadRefusal, Fails}
+use Rattle.grammar_core.specs.Refusing.{ReadRefusal}
 use Rattle.grammar_core.proofs.Loops.{applied, so_far, many_from, IsListed, many_begins, many_goes_on, many_fails, many_ends, reading_consumes}
 use Rattle.jdf_tree.specs.Nonterminal.{Grammar}
 use Rattle.jdf_tree.specs.GrammarParts.{any}
@@ -43,7 +44,7 @@ unfolding rest_of
 rest_goes_on {A} {g} {f} old s x next total new l e t r before =
     ap (λ (q : Read (List A)). so_far new q) (sym (again g next)) ∙ many_goes_on productions any g f l 0 old s x next total new e refl t r before
 
-pub rest_fails : {A : Type 0} {g : Grammar A} {f : Terminal → Bool} (e : ReadRefusal) (old : List A) (s : List Token) (total : Read (List A)) → IsListed productions g f → starts f s ≡ true → Fails e (reading productions g s) → so_far old (rest_of g s) ≡ total → Fails e total
+pub rest_fails : {A : Type 0} {g : Grammar A} {f : Terminal → Bool} (e : ReadRefusal) (old : List A) (s : List Token) (total : Read (List A)) → IsListed productions g f → starts f s ≡ true → ReturnsRefusal e (reading productions g s) → so_far old (rest_of g s) ≡ total → ReturnsRefusal e total
 unfolding rest_of
 rest_fails {g = g} {f = f} e old s total l t h before = many_fails productions any g f l e 0 old s total refl t h before
 

@@ -8,6 +8,7 @@ use Rattle.jdf_tree.specs.declared.body.BlockTree.TheDeep.{deep-StmtTree}
 use Rattle.jdf_tree.specs.Statements.{count_of_statements}
 use Rattle.jdf_tree.specs.BlockStatements.{statements_of}
 
+-- statements are nested at most as deep as there are statements
 pub depth_at_most_count : (ss : List StmtTree) → max (most deep-StmtTree ss) 0 ≤ count_of_statements (statements_of ss)
 depth_at_most_count [] = omega arith
 depth_at_most_count (stmt.Declare w e ∷ ss) = omega (arith, depth_at_most_count ss)

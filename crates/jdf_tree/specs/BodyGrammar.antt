@@ -26,6 +26,7 @@ block = map (λ x. x.1) (after_token (is terminal.LeftBrace) a_block)
 unfoldable pub value : Grammar ExprWithSpot
 value = prefixed_by terminal.Assign (suffixed_by terminal.Semicolon (outer Body))
 
+-- the declaration of a variable with this name and value
 abbrev pub declare_of : Word × ExprWithSpot → StmtTree
 declare_of x = Declare x.0 x.1.tree
 
@@ -51,6 +52,7 @@ abbrev pub or_done : Option Statements → Statements
 or_done None = Done
 or_done (Some block) = block
 
+-- the choice with this condition, this block and this else part, if there is one
 abbrev pub if_of : ExprWithSpot × (Statements × Option Statements) → StmtTree
 if_of x = If x.0.tree x.1.0 (or_done x.1.1)
 
@@ -66,6 +68,7 @@ otherwise = prefixed_by terminal.Else block
 unfoldable pub choice : Grammar StmtTree
 choice = map if_of (prefixed_by terminal.If (seq condition (seq block (opt otherwise))))
 
+-- the loop with this variable, these first and last values, and this block
 abbrev pub for_of : Word × (ExprWithSpot × (ExprWithSpot × Statements)) → StmtTree
 for_of x = For x.0 x.1.0.tree x.1.1.0.tree x.1.1.1
 

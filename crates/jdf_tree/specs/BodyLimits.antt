@@ -34,13 +34,16 @@ declares k = is terminal.Int k || is terminal.For k
 unfoldable pub is_too_many : List Token → Token → Bool
 is_too_many front x = declares (terminal_of x) && nat_le most_variables (how_many declares front)
 
+-- what is false as well is false
 never : (b : Bool) → (b && false) ≡ false
 never b = elim b as (λ v. (v && false) ≡ false) [ true ↦ refl | false ↦ refl ]
 
+-- the first token of a body is not too deep
 pub none_too_deep : (x : Token) → is_too_deep [] x ≡ false
 unfolding is_too_deep
 none_too_deep x = never (is terminal.LeftBrace (terminal_of x))
 
+-- the first token of a body is not a declaration too many
 pub none_too_many : (x : Token) → is_too_many [] x ≡ false
 unfolding is_too_many
 none_too_many x = never (declares (terminal_of x))

@@ -5,6 +5,8 @@ use Rattle.std.specs.Prelude.{ℕ, ◌≤◌, ◌*◌, Bool, nat_le, not, List, 
 use Rattle.ptg_base.specs.Limits.{most_dependences, most_flows, most_locals, most_params}
 use Rattle.grammar_core.specs.declared.token.Spot.{Spot}
 use Rattle.grammar_core.specs.declared.token.Token.{Token}
+use Rattle.term_core.specs.declared.direction.Direction.{Direction}
+use Rattle.term_core.specs.declared.direction.Direction.TheVariants.{In, Out}
 use Rattle.term_core.specs.declared.flow.FlowKind.{FlowKind}
 use Rattle.term_core.specs.declared.flow.FlowKind.TheVariants as kind
 use Rattle.jdf_alphabet.specs.declared.terminal.Terminal.{Terminal}
@@ -90,9 +92,14 @@ guarded =
 abbrev pub is_arrow : Terminal → Bool
 is_arrow k = is terminal.Inward k || is terminal.Outward k
 
--- arrow = "<-" | "->", and whether it is the first
-unfoldable pub arrow : Grammar Bool
-arrow = map (λ x. is terminal.Inward (terminal_of x)) (one_of is_arrow)
+-- the direction of an arrow
+abbrev pub direction_by : Terminal → Direction
+direction_by terminal.Inward = In
+direction_by _ = Out
+
+-- arrow = "<-" | "->"
+unfoldable pub arrow : Grammar Direction
+arrow = map (λ x. direction_by (terminal_of x)) (one_of is_arrow)
 
 -- the terminals that may follow the first name of a target
 abbrev pub may_follow_target_name : Terminal → Bool
@@ -105,8 +112,8 @@ datatype =
     (prefixed_by terminal.TypeWord (prefixed_by terminal.Assign (suffixed_by terminal.RightBracket (name Class))))
 
 -- the dependence of an arrow, its targets and its datatype
-abbrev pub dependence_of : Bool × (Choice × Option Word) → DepTree
-dependence_of x = record { inward = x.0; guard = x.1.0.0; yes = x.1.0.1; no = x.1.0.2; datatype = x.1.1 }
+abbrev pub dependence_of : Direction × (Choice × Option Word) → DepTree
+dependence_of x = record { direction = x.0; guard = x.1.0.0; yes = x.1.0.1; no = x.1.0.2; datatype = x.1.1 }
 
 -- dependence = ("<-" | "->") (target | guard "?" target (":" target)?) datatype?
 unfoldable pub dependence : Grammar DepTree
@@ -118,9 +125,11 @@ dependences = star (full_at most_dependences TooManyDeps) dependence
 
 -- ---- flows
 
+-- the terminals that are kinds of flows
 abbrev pub is_kind : Terminal → Bool
 is_kind k = is terminal.Read k || is terminal.Write k || is terminal.Rw k || is terminal.Ctl k
 
+-- the kind of a flow by its terminal
 abbrev pub kind_by : Terminal → FlowKind
 kind_by terminal.Read = kind.Read
 kind_by terminal.Write = kind.Write
@@ -131,6 +140,7 @@ kind_by _ = kind.Ctl
 unfoldable pub kind_of_flow : Grammar FlowKind
 kind_of_flow = map (λ x. kind_by (terminal_of x)) (one_of is_kind)
 
+-- the flow with this kind, this name and these dependences
 abbrev pub flow_of : FlowKind × (Word × List DepTree) → FlowTree
 flow_of x = record { kind = x.0; name = x.1.0; deps = x.1.1 }
 
@@ -148,9 +158,11 @@ flows = star (full_at most_flows TooManyFlows) flow
 abbrev pub most_parameter_tokens : ℕ
 most_parameter_tokens = 2 * most_params
 
+-- the most parameters have a token at least
 pub some_tokens : 1 ≤ most_parameter_tokens
 some_tokens = omega arith
 
+-- the limit on the tokens of parameters, as a rule of the grammar
 abbrev pub parameter_limit : Limit
 parameter_limit =
     record { at = λ s. most_parameter_tokens; one = λ s. some_tokens; keeps = λ w r r' h. h; stays = λ w x r r' h. h }
@@ -163,6 +175,7 @@ parameters = limited parameter_limit TooManyParams (listed (name Class))
 unfoldable pub parameter_list : Grammar (List Word)
 parameter_list = prefixed_by terminal.LeftParen (suffixed_by terminal.RightParen (maybe parameters))
 
+-- the definition with this name and this value
 abbrev pub definition_of : Word × ArgTree → DefTree
 definition_of x = record { name = x.0; value = x.1 }
 
@@ -184,6 +197,7 @@ priority = map (λ x. x.tree) (prefixed_by terminal.Semicolon (outer Class))
 
 -- ---- properties and bodies
 
+-- the terminals other than "]"
 abbrev pub is_no_right_bracket : Terminal → Bool
 is_no_right_bracket k = not (is terminal.RightBracket k)
 
@@ -207,6 +221,7 @@ begins_body k = is_in_body k && not (is terminal.LeftBracket k)
 unfoldable pub body_tokens : Grammar (List Token)
 body_tokens = map (λ x. x.0 ∷ x.1) (seq (one_of begins_body) (star any (one_of is_in_body)))
 
+-- the tokens of a body, and the spot of END
 abbrev pub body_of : Option (List Token) × (List Token × Token) → List Token × Spot
 body_of x = (x.1.0, x.1.1.spot)
 
@@ -220,6 +235,7 @@ body = prefixed_by terminal.Body (map body_of (seq (opt properties) (seq (maybe 
 abbrev pub Rest : Type 0
 Rest = List DefTree × ((Word × List ArgTree) × (List FlowTree × (Option Expression × (List Token × Spot))))
 
+-- the class with this head and this rest
 abbrev pub class_of : (Word × (List Word × Option (List Token))) × Rest → ClassTree
 class_of x =
     record {

@@ -5,6 +5,7 @@ use Rattle.term_core.specs.declared.operator.UnOp.{UnOp}
 use Rattle.term_core.specs.declared.operator.BinOp.{BinOp}
 use Rattle.jdf_tree.specs.declared.expression.Word.{Word}
 
+-- an expression in the text
 pub data Expression : Type 0 where
   -- a number, and its spot
   Num : ℤ → Spot → Expression

@@ -8,11 +8,13 @@ use Rattle.jdf_tree.specs.declared.expression.Word.{Word}
 use Rattle.jdf_tree.specs.Expression.{Expression, Num, Name, Elem, Unary, Binary, Choose}
 use Rattle.term_core.specs.TermCode.{unary_number, one_unary, binary_number, one_binary}
 
+-- the code of a spot
 spot_code : Coded Spot
 spot_code =
     code_by (ℕ × ℕ) (coded× coded_ℕ coded_ℕ) (λ s. (s.line, s.column)) (λ p. record { line = p.0; column = p.1 }) (λ _.
     refl)
 
+-- the code of a name with its spot
 pub word_code : Coded Word
 word_code =
     code_by (List ℕ × Spot) (coded× (coded_list coded_ℕ) spot_code) (λ w. (w.text, w.spot))
@@ -27,6 +29,7 @@ ghost_of (Unary o a s) = gcons (gnum 3) (gcons (gnum (unary_number o)) (gcons (g
 ghost_of (Binary o a b) = gcons (gnum 4) (gcons (gnum (binary_number o)) (gcons (ghost_of a) (ghost_of b)))
 ghost_of (Choose a b c) = gcons (gnum 5) (gcons (ghost_of a) (gcons (ghost_of b) (ghost_of c)))
 
+-- expressions with one code are equal
 pub one_expression : (x y : Expression) → ghost_of x ≡ ghost_of y → x ≡ y
 unfolding ghost_of
 one_expression (Num x0 x1) (Num y0 y1) e =
@@ -79,5 +82,6 @@ one_expression (Choose x0 x1 x2) (Choose y0 y1 y2) e =
     let h1 : x1 ≡ y1 = one_expression x1 y1 cc in
     let h2 : x2 ≡ y2 = one_expression x2 y2 cc in cc
 
+-- the code of an expression, with the proof that it is injective
 abbrev pub expression_code : Coded Expression
 expression_code = record { code = ghost_of; inj = one_expression }

@@ -31,7 +31,7 @@ with_spot spot tree = record { spot = spot; tree = tree }
 abbrev pub number_at : Token → ExprWithSpot
 number_at x = with_spot x.spot (Num (pos (decimal x.text)) x.spot)
 
--- Is the number written as an expression may have it?
+-- Whether the number is written as an expression may have it.
 abbrev pub is_good : Token → Bool
 is_good x = is_number x.text
 
@@ -60,6 +60,7 @@ abbrev pub named : Word × Option ExprWithSpot → ExprWithSpot
 named (w, None) = with_spot w.spot (Name w)
 named (w, Some a) = with_spot w.spot (Elem w a.tree)
 
+-- a name that no index follows
 abbrev pub name_alone : Word → ExprWithSpot
 name_alone w = with_spot w.spot (Name w)
 
@@ -72,10 +73,12 @@ reference Body = map named (seq (name Body) (opt index))
 abbrev pub is_sign : Terminal → Bool
 is_sign k = is terminal.Minus k || is terminal.Not k
 
+-- the prefix operator by its terminal
 abbrev pub sign_by : Terminal → UnOp
 sign_by terminal.Minus = un.Neg
 sign_by _ = un.Not
 
+-- an operand after this prefix operator
 abbrev pub signed_of : Token × ExprWithSpot → ExprWithSpot
 signed_of x = with_spot x.0.spot (Unary (sign_by (terminal_of x.0)) x.1.tree x.0.spot)
 
@@ -119,22 +122,27 @@ ranked ops operand =
     map (λ x. with_spot x.0.spot (grouped x.0.tree x.1))
     (seq operand (star any (seq (map operator_of (one_of ops)) operand)))
 
--- the marks of each precedence, the tightest first
+-- the operators of products; of the groups of infix operators this one binds tightest, the last one least
 abbrev pub is_product : Terminal → Bool
 is_product k = is terminal.Star k || is terminal.Slash k || is terminal.Percent k
 
+-- the operators of sums
 abbrev pub is_sum : Terminal → Bool
 is_sum k = is terminal.Plus k || is terminal.Minus k
 
+-- the operators that compare by order
 abbrev pub is_relation : Terminal → Bool
 is_relation k = is terminal.Less k || is terminal.AtMost k || is terminal.Greater k || is terminal.AtLeast k
 
+-- the operators that compare for equality
 abbrev pub is_equality : Terminal → Bool
 is_equality k = is terminal.Equal k || is terminal.NotEqual k
 
+-- the operators of conjunctions
 abbrev pub is_conjunction : Terminal → Bool
 is_conjunction k = is terminal.AndAnd k || is terminal.And k
 
+-- the operators of disjunctions
 abbrev pub is_disjunction : Terminal → Bool
 is_disjunction k = is terminal.OrOr k || is terminal.Or k
 

@@ -34,10 +34,11 @@ class_and_skips = map (λ x. x.0) (seq class (star any skip))
 unfoldable pub classes : Grammar (List ClassTree)
 classes = map (λ x. x.0 ∷ x.1) (seq class_and_skips (star (full_at 63 TooManyClasses) class_and_skips))
 
--- a text without globals, and one with another global before it
+-- a text without globals
 abbrev pub without_globals : List ClassTree → Jdf
 without_globals classes = record { globals = []; classes = classes }
 
+-- a text with one more global, before the others
 abbrev pub with_global : Word → Jdf → Jdf
 with_global name jdf = record { globals = name ∷ jdf.globals; classes = jdf.classes }
 
@@ -101,18 +102,20 @@ abbrev pub continues_name : Part → Terminal → Bool
 continues_name Class k = false
 continues_name Body k = is terminal.LeftBracket k
 
--- the two sets that the test for predictive grammars claims of each nonterminal
+-- the terminals that the test for predictive grammars claims as the first ones of each nonterminal
 abbrev pub begins : Nonterminal → Terminal → Bool
 begins (an_expr part) k = begins_operand part k
 begins (a_unary part) k = begins_operand part k
 begins an_opening k = begins_opening k
 begins a_block k = begins_statement k || is terminal.RightBrace k
 
+-- the terminals that the test claims as those that continue a text of each nonterminal
 abbrev pub continues : Nonterminal → Terminal → Bool
 continues (an_expr part) k = is_operator k || continues_name part k
 continues (a_unary part) k = continues_name part k
 continues an_opening k = begins_opening k
 continues a_block k = false
 
+-- the claims of the test for predictive grammars: both sets of each nonterminal
 abbrev pub claims : Claims Nonterminal
 claims = record { firsts = λ n. set (begins n); continues = λ n. set (continues n) }

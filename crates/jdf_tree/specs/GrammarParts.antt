@@ -38,6 +38,7 @@ abbrev pub or_none : {A : Type 0} → Option (List A) → List A
 or_none None = []
 or_none (Some xs) = xs
 
+-- a list that may be left out, and is empty then
 abbrev pub maybe : {A : Type 0} → Grammar (List A) → Grammar (List A)
 maybe g = map or_none (opt g)
 

@@ -3,6 +3,7 @@ use Rattle.jdf_tree.specs.declared.expression.ExprNode.{ExprNode}
 use Rattle.jdf_tree.specs.declared.expression.ExprNode.TheVariants as node
 use Rattle.jdf_tree.specs.Expression.{Expression, Num, Name, Elem, Unary, Binary, Choose}
 
+-- the expression of a tree of boxed nodes
 abbrev pub expression_of : ExprNode → Expression
 expression_of (node.Num z spot) = Num z spot
 expression_of (node.Name w) = Name w

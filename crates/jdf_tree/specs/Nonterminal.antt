@@ -5,6 +5,7 @@ use Rattle.jdf_tree.specs.declared.part.Part.{Part}
 use Rattle.jdf_tree.specs.declared.tree.Jdf.{Jdf}
 use Rattle.jdf_tree.specs.Statements.{Statements}
 
+-- a nonterminal through which the grammar recurs
 pub data Nonterminal : Type 0 where
   -- an expression of a class, or of a body
   an_expr : Part → Nonterminal

@@ -3,7 +3,7 @@ use Rattle.std.specs.Prelude.{ℕ, Bool, false, not, ◌&&◌, ◌==◌, List, [
 use Rattle.ptg_base.specs.Decimal.{is_decimal}
 pub use Rattle.ptg_base.specs.Decimal.{decimal}
 
--- Does a number of several digits begin with 0?
+-- Whether a number of several digits begins with 0.
 abbrev pub has_leading_zero : List ℕ → Bool
 has_leading_zero [] = false
 has_leading_zero (b ∷ []) = false

@@ -4,6 +4,7 @@ use Rattle.std.specs.Prelude.{ℕ, ◌+◌}
 use Rattle.jdf_tree.specs.declared.expression.Word.{Word}
 use Rattle.jdf_tree.specs.Expression.{Expression}
 
+-- the statements of a body or of a block, each with the rest
 pub data Statements : Type 0 where
   -- no statement
   Done : Statements

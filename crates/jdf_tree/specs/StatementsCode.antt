@@ -24,6 +24,7 @@ ghost_of_statements (ForThen a b c d e) =
     (gcons (ghost_of b) (gcons (ghost_of c) (gcons (ghost_of_statements d) (ghost_of_statements e)))))
 ghost_of_statements (TrapThen a b) = gcons (gnum 6) (gcons (word_code.code a) (ghost_of_statements b))
 
+-- statements with one code are equal
 pub one_statements : (x y : Statements) → ghost_of_statements x ≡ ghost_of_statements y → x ≡ y
 unfolding ghost_of_statements
 one_statements Done Done same = refl
@@ -97,5 +98,6 @@ one_statements (TrapThen a b) (TrapThen a' b') same =
     let ha : a ≡ a' = word_code.inj a a' cc in
     let hb : b ≡ b' = one_statements b b' cc in cc
 
+-- the code of statements, with the proof that it is injective
 abbrev pub statements_code : Coded Statements
 statements_code = record { code = ghost_of_statements; inj = one_statements }

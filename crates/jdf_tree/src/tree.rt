@@ -3,7 +3,7 @@
 use crate::expression::{ExprTree, Word};
 use jdf_lex::{Spot, Token};
 use ptg_base::Seq;
-use term_core::FlowKind;
+use term_core::{Direction, FlowKind};
 
 /// An argument of a list, or the value of a definition: an expression or a range.
 pub enum ArgTree {
@@ -61,8 +61,8 @@ impl Drop for TargetTree {
 
 /// A dependence. Its target is `yes` if it has no guard or the guard holds, and else `no`.
 pub struct DepTree {
-    /// Is the arrow `<-`, and not `->`?
-    pub inward: bool,
+    /// Its arrow: `<-` is in, and `->` is out.
+    pub direction: Direction,
     pub guard: Option<ExprTree>,
     pub yes: TargetTree,
     pub no: Option<TargetTree>,
@@ -73,7 +73,7 @@ pub struct DepTree {
 impl Drop for DepTree {
     fn drop(self) {
         let DepTree {
-            inward: _inward,
+            direction: _direction,
             guard: _guard,
             yes: _yes,
             no: _no,

@@ -1,8 +1,8 @@
 //! Which dependence of a task needs an expression that has no value.
 
-use dep_iter::{Direction, arg_steps};
+use dep_iter::arg_steps;
 use plan_core::{Arg, DepPlan, FlowPlan, Target};
-use term_core::{Expr, eval};
+use term_core::{Direction, Expr, eval};
 
 /// The direction of the first such dependence of a flow, and its number among those of that direction.
 pub fn ill_dependence(flow: &FlowPlan, env: &[i64]) -> Option<(Direction, usize)> {
@@ -39,6 +39,7 @@ fn target_of<'a>(dependence: &'a DepPlan, env: &[i64]) -> Result<Option<&'a Targ
     })
 }
 
+// Whether what a target names has its values.
 fn has_values(target: &Target, env: &[i64]) -> bool {
     match target {
         Target::Task(_, _, args) => all_have_values(args.as_slice(), env),
@@ -48,6 +49,7 @@ fn has_values(target: &Target, env: &[i64]) -> bool {
     }
 }
 
+// Whether each of these arguments has its values.
 fn all_have_values(args: &[Arg], env: &[i64]) -> bool {
     for arg in args {
         if arg_steps(arg, env).is_none() {
@@ -57,6 +59,7 @@ fn all_have_values(args: &[Arg], env: &[i64]) -> bool {
     true
 }
 
+// Whether each of these expressions has a value.
 fn all_are_numbers(indices: &[Expr], env: &[i64]) -> bool {
     for index in indices {
         if eval(index, env).is_err() {

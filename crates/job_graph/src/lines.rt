@@ -1,11 +1,11 @@
-//! Lines of fields, printed as they come, up to so many.
+//! Lines of fields, printed as they come, up to this many.
 
 use crate::failure::Failure;
 use std::alloc::Global;
 use std::fmt::Display;
 use std::io::Write;
 
-// So many bytes are written at once.
+// This many bytes are written at once.
 const PIECE: usize = 65536;
 
 /// Lines of fields that are joined by commas.
@@ -17,7 +17,7 @@ pub struct Lines<W: Write + Drop> {
 }
 
 impl<W: Write + Drop> Lines<W> {
-    /// At most so many lines, to this writer.
+    /// At most this many lines, to this writer.
     pub fn new(alloc: Global, writer: W, most: u64) -> Lines<W> {
         Lines {
             writer,
@@ -26,7 +26,7 @@ impl<W: Write + Drop> Lines<W> {
         }
     }
 
-    /// Begins a line with this word, unless it is one too many.
+    /// Begins a line with this word, unless the limit is reached.
     pub fn begin(&mut self, word: &str) -> Result<(), Failure> {
         if self.left == 0 {
             return Err(Failure::Full);

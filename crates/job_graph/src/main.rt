@@ -24,6 +24,7 @@ use std::process::ExitCode;
 use std::rt::{Env, Files};
 use std::{env, io};
 
+// What is printed where the words ask for nothing.
 const USAGE: &str = "usage: job_graph JDF DATA MOST [CLASS,PARAMETER..]";
 
 fn main(rt: HostRuntime) -> io::Result<ExitCode> {
@@ -38,12 +39,14 @@ fn main(rt: HostRuntime) -> io::Result<ExitCode> {
     }
 }
 
+// Prints what the words ask for.
 fn graph<R: Print + Files + Env + AllocGlobal>(rt: &R) -> Result<(), Failure> {
     let words: Vec<String> = env::args(rt)?.collect(rt.alloc())?;
     let request = request_of(rt.alloc(), words.as_slice())?;
     graph_of_files(rt, &request)
 }
 
+// Prints what is asked for of these files.
 fn graph_of_files<R: Print + Files + AllocGlobal>(
     rt: &R,
     request: &Request,
@@ -53,6 +56,7 @@ fn graph_of_files<R: Print + Files + AllocGlobal>(
     graph_of_texts(rt, request, text.as_slice(), data.as_slice())
 }
 
+// Prints what is asked for of these texts.
 fn graph_of_texts<R: Print + AllocGlobal>(
     rt: &R,
     request: &Request,
@@ -68,6 +72,7 @@ fn graph_of_texts<R: Print + AllocGlobal>(
     }
 }
 
+// The bytes of a file.
 fn bytes_of<R: Files + AllocGlobal>(rt: &R, name: &str) -> Result<Seq<u8>, Failure> {
     let mut files = OsFiles::new(rt, rt.alloc());
     Ok(load(rt.alloc(), &mut files, name)?)

@@ -74,6 +74,7 @@ fn given_value(space: &ClassSpace, task: &TaskId, definition: usize) -> Option<i
     None
 }
 
+// The value of a local that has a range: the given one, if the range has it.
 fn ranged_value<W: Write + Drop>(
     lines: &mut Lines<W>,
     range: &Range,
@@ -107,6 +108,7 @@ fn without_value<W: Write + Drop>(
     Ok(None)
 }
 
+// Begins a line about a definition.
 fn begin<W: Write + Drop>(
     lines: &mut Lines<W>,
     word: &str,

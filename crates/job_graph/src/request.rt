@@ -15,7 +15,7 @@ pub struct TaskName<'a> {
 pub struct Request<'a> {
     pub jdf: &'a str,
     pub data: &'a str,
-    /// So many lines are printed at most.
+    /// This many lines are printed at most.
     pub most: u64,
     pub task: Option<TaskName<'a>>,
 }

@@ -9,13 +9,13 @@ use crate::lines::Lines;
 use crate::names::{add_place, add_task, class_name, flow_name};
 use crate::no_task::add_no_task;
 use crate::request::TaskName;
-use dep_iter::{Direction, affinity, flows_of, is_task, locals_of, well_task};
+use dep_iter::{affinity, flows_of, is_task, locals_of, well_task};
 use edge_walk::{Far, Tie, ties_of};
 use jdf_tree::{FlowTree, Jdf};
 use plan_core::Plan;
 use ptg_base::{MOST_PARAMS, TaskId};
 use std::io::Write;
-use term_core::FlowKind;
+use term_core::{Direction, FlowKind};
 
 /// The lines of all tasks, in walk order.
 pub fn all_tasks<W: Write + Drop>(
@@ -53,6 +53,7 @@ pub fn one_task<W: Write + Drop>(
     }
 }
 
+// The number of the class of this name, if there is one.
 fn class_named(plan: &Plan, name: &str) -> Option<u32> {
     for class in 0..plan.classes.len() {
         if class_name(plan, class as u32) == name {
@@ -62,6 +63,7 @@ fn class_named(plan: &Plan, name: &str) -> Option<u32> {
     None
 }
 
+// Adds the lines of a task.
 fn add_lines<W: Write + Drop>(
     lines: &mut Lines<W>,
     tree: &Jdf,
@@ -167,6 +169,7 @@ fn add_tie<W: Write + Drop>(
     lines.end()
 }
 
+// The word of a flow's kind.
 fn kind_name(flow: &FlowTree) -> &'static str {
     match flow.kind {
         FlowKind::Read => "READ",

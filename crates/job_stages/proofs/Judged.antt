@@ -1,10 +1,11 @@
 -- How the stages make the verdict that two texts denote.
-use Rattle.std.proofs.Common.{◌≡◌, ℕ, List, Result, Ok, Err, sym, subst, inl, refl}
+use Rattle.std.proofs.Common.{◌≡◌, ℕ, List, Option, None, Some, Result, Ok, Err, sym, subst, inl, refl}
 use Rattle.std.specs.Prelude.{IfOk}
 use Rattle.ptg_base.specs.declared.memory.OutOfMemory.{OutOfMemory}
 use Rattle.jdf_lex.specs.declared.fault.JdfFault.{JdfFault}
 use Rattle.jdf_tree.specs.Fault.{IsJdfFault}
 use Rattle.plan_core.specs.declared.plan.Plan.{Plan}
+use Rattle.coll_data.specs.Data.{Data}
 use Rattle.edge_match.specs.declared.fault.MatchFault.{MatchFault}
 use Rattle.edge_match.specs.FirstFault.{IsFirstFault}
 use Rattle.check_names.specs.Names.{Job}
@@ -29,3 +30,10 @@ fault_judged jdf_text data_text f g e h = inl (g, subst (IsJdfFault jdf_text) (s
 
 pub only_fault : (jdf_text data_text : List ℕ) (f g : JdfFault) (v : JobVerdict) → g ≡ f → IsJdfFault jdf_text f → TextsDenote jdf_text data_text v → verdicts.Jdf g ≡ v
 only_fault jdf_text data_text f g v e h k = texts_once jdf_text data_text (verdicts.Jdf g) v (fault_judged jdf_text data_text f g e h) k
+
+-- the plan and the data of a verdict, where it is a consistent job
+abbrev pub consistent_in : JobVerdict → Option (Plan × Data)
+consistent_in (verdicts.Jdf fault) = None
+consistent_in (verdicts.Data fault) = None
+consistent_in (verdicts.Inconsistent P fault) = None
+consistent_in (verdicts.Consistent P given) = Some (P, given)

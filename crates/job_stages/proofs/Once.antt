@@ -15,7 +15,7 @@ use Rattle.edge_match.proofs.OneFault.{one_first, consistent_none}
 use Rattle.job_stages.specs.declared.verdict.JobVerdict.{JobVerdict}
 use Rattle.job_stages.specs.declared.verdict.JobVerdict.TheVariants as verdicts
 use Rattle.job_stages.specs.DataText.{IsData, IsDataFault}
-use Rattle.job_stages.specs.Stages.{HasJob, HasGlobals, HasPlan, IsLacking}
+use Rattle.job_stages.specs.Stages.{HasJob, HasGlobals, HasPlan, HasMissingGlobal}
 use Rattle.job_stages.specs.Verdict.{JobDenotes, JdfTextDenotes}
 use Rattle.job_stages.specs.Laws.{OneVerdict, OneVerdictOfJob}
 
@@ -42,8 +42,8 @@ data_or_fault text a f h (inr x) = no_fault (data_of text) a f h.spelled x.first
 
 -- ---- a JDF with its data
 
-lacks_or_has : (job : Job) → IsLacking job → HasGlobals job → ⊥
-lacks_or_has job h k = absurd cc
+missing_or_has : (job : Job) → HasMissingGlobal job → HasGlobals job → ⊥
+missing_or_has job h k = absurd cc
 
 module _ (job : Job) where
   same_plan : (P Q : Plan) → HasPlan job P → HasPlan job Q → P ≡ Q
@@ -60,18 +60,18 @@ module _ (job : Job) where
 
 pub job_once : OneVerdictOfJob
 job_once job (verdicts.Data f) (verdicts.Data g) h k = ap verdicts.Data (h.1 ∙ sym k.1)
-job_once job (verdicts.Data f) (verdicts.Jdf g) h k = absurd (lacks_or_has job h.0 k.0)
-job_once job (verdicts.Data f) (verdicts.Inconsistent Q g) h k = absurd (lacks_or_has job h.0 k.0.globals)
-job_once job (verdicts.Data f) (verdicts.Consistent Q b) h k = absurd (lacks_or_has job h.0 k.0.globals)
-job_once job (verdicts.Jdf f) (verdicts.Data g) h k = absurd (lacks_or_has job k.0 h.0)
+job_once job (verdicts.Data f) (verdicts.Jdf g) h k = absurd (missing_or_has job h.0 k.0)
+job_once job (verdicts.Data f) (verdicts.Inconsistent Q g) h k = absurd (missing_or_has job h.0 k.0.globals)
+job_once job (verdicts.Data f) (verdicts.Consistent Q b) h k = absurd (missing_or_has job h.0 k.0.globals)
+job_once job (verdicts.Jdf f) (verdicts.Data g) h k = absurd (missing_or_has job k.0 h.0)
 job_once job (verdicts.Jdf f) (verdicts.Jdf g) h k = ap verdicts.Jdf (one_first_fault job f g h.1 k.1)
 job_once job (verdicts.Jdf f) (verdicts.Inconsistent Q g) h k = absurd (a_plan_has_no_fault job Q f k.0.plan h.1)
 job_once job (verdicts.Jdf f) (verdicts.Consistent Q b) h k = absurd (a_plan_has_no_fault job Q f k.0.plan h.1)
-job_once job (verdicts.Inconsistent P f) (verdicts.Data g) h k = absurd (lacks_or_has job k.0 h.0.globals)
+job_once job (verdicts.Inconsistent P f) (verdicts.Data g) h k = absurd (missing_or_has job k.0 h.0.globals)
 job_once job (verdicts.Inconsistent P f) (verdicts.Jdf g) h k = absurd (a_plan_has_no_fault job P g h.0.plan k.1)
 job_once job (verdicts.Inconsistent P f) (verdicts.Inconsistent Q g) h k = same_inconsistency job P Q f g h.0 k.0 h.1 k.1
 job_once job (verdicts.Inconsistent P f) (verdicts.Consistent Q b) h k = absurd (consistent_none Q f k.1 (fault_at job P Q f h.0 k.0 h.1))
-job_once job (verdicts.Consistent P a) (verdicts.Data g) h k = absurd (lacks_or_has job k.0 h.0.globals)
+job_once job (verdicts.Consistent P a) (verdicts.Data g) h k = absurd (missing_or_has job k.0 h.0.globals)
 job_once job (verdicts.Consistent P a) (verdicts.Jdf g) h k = absurd (a_plan_has_no_fault job P g h.0.plan k.1)
 job_once job (verdicts.Consistent P a) (verdicts.Inconsistent Q g) h k = absurd (consistent_none P g h.1 (fault_at job Q P g k.0 h.0 k.1))
 job_once job (verdicts.Consistent P a) (verdicts.Consistent Q b) h k =

@@ -14,8 +14,8 @@ pub record HasJob (jdf_text data_text : List ℕ) (job : Job) : Type 0 where
   pub spelled : IsData data_text job.given
 
 -- some global of the JDF is neither an integer nor a collection of the data
-abbrev pub IsLacking : Job → Type 0
-IsLacking job = is_missing job.jdf job.given ≡ true
+abbrev pub HasMissingGlobal : Job → Type 0
+HasMissingGlobal job = is_missing job.jdf job.given ≡ true
 
 -- the data give each global of the JDF
 abbrev pub HasGlobals : Job → Type 0

@@ -1,5 +1,5 @@
 -- What the text of a JDF and the text of its data denote. Source: this project's own choice of the order of refusals:
--- the JDF's text, the data's text, a global that the data lack, the names and kinds of the JDF, consistency.
+-- the JDF's text, the data's text, a global missing from the data, the names and kinds of the JDF, consistency.
 use Rattle.std.specs.Prelude.{◌≡◌, ◌⊎◌, ℕ, ◌+◌, List}
 use Rattle.jdf_lex.specs.declared.fault.JdfFault.{JdfFault}
 use Rattle.jdf_tree.specs.declared.tree.Jdf.{Jdf}
@@ -15,17 +15,17 @@ use Rattle.edge_match.specs.FirstFault as edges
 use Rattle.job_stages.specs.declared.verdict.JobVerdict.{JobVerdict}
 use Rattle.job_stages.specs.declared.verdict.JobVerdict.TheVariants as verdicts
 use Rattle.job_stages.specs.DataText.{IsDataFault}
-use Rattle.job_stages.specs.Stages.{HasJob, HasGlobals, HasPlan, IsLacking}
+use Rattle.job_stages.specs.Stages.{HasJob, HasGlobals, HasPlan, HasMissingGlobal}
 
--- the fault of data that lack a global, at the row after their last record
+-- the fault of data from which a global is missing, at the row after their last record
 abbrev pub missing_name : Data → DataFault
-missing_name given = record { row = given.rows_read + 1; code = MissingName }
+missing_name given = record { row = given.records_read + 1; code = MissingName }
 
--- A JDF with its data denotes this verdict: a global that the data lack; else the first fault of the JDF's names and
+-- A JDF with its data denotes this verdict: a global missing from the data; else the first fault of the JDF's names and
 -- kinds; else the first fault of the plan, with the plan, whose names are printed; else the plan, which is consistent,
 -- with the data.
 abbrev pub JobDenotes : Job → JobVerdict → Type 0
-JobDenotes job (verdicts.Data fault) = IsLacking job × (fault ≡ missing_name job.given)
+JobDenotes job (verdicts.Data fault) = HasMissingGlobal job × (fault ≡ missing_name job.given)
 JobDenotes job (verdicts.Jdf fault) = HasGlobals job × types.IsFirstFault job fault
 JobDenotes job (verdicts.Inconsistent P fault) = HasPlan job P × edges.IsFirstFault P fault
 JobDenotes job (verdicts.Consistent P given) = HasPlan job P × IsConsistent P × (given ≡ job.given)

@@ -30,11 +30,11 @@ pub fn given_of(alloc: Global, text: &[u8]) -> Result<Given, DataRefusal>
     read_data(alloc, text)
 }
 
-/// The fault of data that lack a global. No text has so many records that there is no row after them.
+/// The fault of data from which a global is missing. No text has so many records that there is no row after them.
 pub(crate) fn missing_name(given: &Given) -> Result<DataFault, OutOfMemory>
     ensures { IfOk result (λ f. f ≡ missing_name given.now) }
 {
-    match given.rows_read().checked_add(1) {
+    match given.records_read().checked_add(1) {
         Some(row) => Ok(DataFault {
             row,
             code: DataCode::MissingName,

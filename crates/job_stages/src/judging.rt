@@ -1,20 +1,24 @@
 //! The verdict on the text of a JDF and the text of its data.
 
-ghost use Rattle.std.specs.Prelude.{◌≡◌, ℕ, List, IfOk};
+ghost use Rattle.std.specs.Prelude.{◌≡◌, ℕ, List, Some, IfOk, IfSome};
 ghost use Rattle.check_names.specs.Names.{Job};
 ghost use Rattle.jdf_tree.specs.Jdf.{IsJdf};
 ghost use Rattle.jdf_tree.specs.TreeLimits.{IsWithinLimits};
+ghost use Rattle.coll_data.specs.Data.{Data};
+ghost use Rattle.plan_core.specs.declared.plan.Plan.{Plan as PlanValue};
 ghost use Rattle.plan_data.specs.Fit.{DataFit};
 ghost use Rattle.job_stages.specs.Fitting.{HasFittingData};
 ghost use Rattle.job_stages.specs.Stages.{HasPlan};
 ghost use Rattle.job_stages.specs.Verdict.{JobDenotes, TextsDenote};
 ghost use Rattle.job_stages.specs.declared.verdict.JobVerdict.{JobVerdict as Verdict};
+ghost use Rattle.job_stages.specs.declared.verdict.JobVerdict.TheVariants.{Consistent};
 
 use crate::data_text::{given_of, missing_name};
 use crate::jdf_text::tree_of;
 use crate::laws::one_verdict;
 use crate::verdict::JobVerdict;
 use coll_data::{DataRefusal, Given};
+use dep_iter::Matched;
 use edge_match::{MatchRefusal, match_edges};
 use flow_check::{check, globals_of, missing};
 use jdf_lex::JdfRefusal;
@@ -41,6 +45,27 @@ pub fn judge_texts(
         Ok(tree) => judge_data(alloc, &tree, data_text),
         Err(JdfRefusal::Fault(fault)) => Ok(JobVerdict::Jdf(fault)),
         Err(JdfRefusal::OutOfMemory) => Err(OutOfMemory),
+    }
+}
+
+/// The job of the text of a JDF and the text of its data, if they denote a consistent one.
+pub fn job_of_texts(
+    alloc: Global,
+    jdf_text: &[u8],
+    data_text: &[u8],
+) -> Result<Option<(Matched, Given)>, OutOfMemory>
+    // What is answered the two texts denote.
+    ensures found { IfOk result (λ o. IfSome o (λ job. TextsDenote jdf_text.now data_text.now
+        (Consistent job.0 job.1))) }
+    // The consistent job that they denote is answered, unless memory runs out.
+    ensures only { (P : PlanValue) (given : Data) → TextsDenote jdf_text.now data_text.now (Consistent P given)
+        → IfOk result (λ o. o ≡ Some (P, given)) }
+    // And it may be run.
+    ensures fit { IfOk result (λ o. IfSome o (λ job. DataFit job.0.colls job.0.elems job.1)) }
+{
+    match judge_texts(alloc, jdf_text, data_text)? {
+        JobVerdict::Consistent(matched, given) => Ok(Some((matched, given))),
+        _ => Ok(None),
     }
 }
 

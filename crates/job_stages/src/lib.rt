@@ -10,6 +10,6 @@ mod verdict;
 
 pub use data_text::{data_too_long, given_of};
 pub use jdf_text::{jdf_too_long, tree_of};
-pub use judging::{judge_data, judge_texts};
+pub use judging::{job_of_texts, judge_data, judge_texts};
 pub use laws::one_verdict;
 pub use verdict::JobVerdict;

@@ -14,8 +14,8 @@ as_number b = cond b 1 0
 abbrev pub count : {A : Type 0} → (A → Bool) → List A → ℕ
 count test xs = weigh (λ x. as_number (test x)) xs
 
--- the same members, each as often, in whatever order: no weight tells the lists apart. For things that can be compared,
--- this is that each occurs equally often in both (`HaveSameCounts`)
+-- two lists have the same members, each as often, in whatever order: no weight tells the lists apart. For things that
+-- can be compared, this is that each occurs equally often in both (`HaveSameCounts`)
 abbrev pub HasSameMembers : {A : Type 0} → List A → List A → Type 0
 HasSameMembers {A} xs ys = (f : A → ℕ) → weigh f xs ≡ weigh f ys
 

@@ -8,7 +8,8 @@ use Rattle.std.specs.Str.{bytes_eq}
 use Rattle.name_table.specs.declared.index.Index.{Index}
 use Rattle.name_table.specs.declared.bucket.Slot.{Slot}
 
--- what one more byte makes of a number: digits count on, so that names that are counted get numbers one after another
+-- what one more byte makes of a number: digits count on, so that names that differ in a final number get numbers one
+-- after another
 unfoldable pub with_byte : ℕ → ℕ → ℕ
 with_byte m b =
     cond (nat_le 48 b && nat_le b 57) (((m * 10) % 2 ^ 64 + (b - 48)) % 2 ^ 64)
@@ -27,10 +28,11 @@ mixed name = mixed_from 0 name
 abbrev pub mark_of : List ℕ → ℕ
 mark_of name = mixed name % 2 ^ 32
 
--- the bucket of the name, of so many
+-- the bucket of the name, of this many
 abbrev pub bucket_of : ℕ → List ℕ → ℕ
 bucket_of count name = mixed name % count
 
+-- whether there is a name, and it is this one
 abbrev pub bytes_named : List ℕ → Option (List ℕ) → Bool
 bytes_named name (Some n) = bytes_eq n name
 bytes_named name None = false
@@ -57,6 +59,7 @@ has_room bucket = nat_lt (length bucket) most_slots
 abbrev pub bucket_at : List (List Slot) → List ℕ → List Slot
 bucket_at buckets name = slice_index_or buckets (bucket_of (length buckets) name) []
 
+-- the first number, or the other where there is none
 abbrev pub or_else : Option ℕ → Option ℕ → Option ℕ
 or_else (Some n) other = Some n
 or_else None other = other

@@ -61,7 +61,7 @@ impl Index {
         }
     }
 
-    // An index of no names, with so many buckets.
+    // An index of no names, with this many buckets.
     fn with_buckets(alloc: Global, count: usize) -> Result<Index, OutOfMemory>
         ensures index { IfOk result (λ index. IsIndexOf [] index) }
         ensures count { IfOk result (λ index. length index.buckets.items ≡ count) }
@@ -114,7 +114,7 @@ impl Index {
         Ok(())
     }
 
-    // The index of names of which each is there once, with so many buckets.
+    // The index of names of which each is there once, with this many buckets.
     fn rebuilt<V>(alloc: Global, names: &[(Text, V)], count: usize) -> Result<Index, OutOfMemory>
         requires count { 0 < count }
         requires once { IsEachOnce (keys_of names.now) }

@@ -3,9 +3,11 @@
 ghost use Rattle.std.specs.Prelude.{◌≡◌, ◌<◌, ◌^◌, ◌%◌};
 ghost use Rattle.name_table.specs.Index.{mixed, with_byte};
 
+// 2^64 divided by the golden ratio, as in Knuth's multiplicative hashing.
 const MULTIPLIER: u64 = 11400714819323198485;
 
-// What one more byte makes of a number: digits count on, so that names that are counted get numbers one after another.
+// What one more byte makes of a number: digits count on, so that names that differ in a final number get numbers one
+// after another.
 #[tactic(auto, unfolding(crate::specs::Index::with_byte))]
 fn with_byte(number: u64, byte: u8) -> u64
     ensures { result ≡ with_byte number byte }

@@ -40,7 +40,7 @@ impl NameSet {
         self.names.len()
     }
 
-    /// Does the set have the name?
+    /// Whether the set has the name.
     pub fn contains(&self, name: &Text) -> bool
         ensures { result ≡ has_name self.now name.now }
     {
@@ -56,7 +56,7 @@ impl NameSet {
         self.names.number_of(name)
     }
 
-    /// Adds a name, where the set does not have it yet: was it new? An `Err` changes nothing.
+    /// Adds a name, where the set does not have it yet. Returns whether it was new; an `Err` changes nothing.
     pub fn add(&mut self, name: Text) -> Result<bool, OutOfMemory>
         ensures added { IfOk result (λ new. new ≡ not (has_name self.old name)) }
         ensures names { IfOk result (λ new. self.new ≡ (if new then self.old ++ name ∷ [] else self.old)) }

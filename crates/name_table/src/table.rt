@@ -97,7 +97,8 @@ impl<V> NameTable<V> {
 }
 
 impl<V: Drop> NameTable<V> {
-    /// Adds a name and its value, where the table does not have the name yet: was it new? An `Err` changes nothing.
+    /// Adds a name and its value, where the table does not have the name yet. Returns whether it was new; an `Err`
+    /// changes nothing.
     pub fn add(&mut self, name: Text, value: V) -> Result<bool, OutOfMemory>
         ensures added { IfOk result (λ new. new ≡ not (is_some (value_named self.old name))) }
         ensures entries { IfOk result (λ new. self.new ≡ (if new then self.old ++ (name, value) ∷ [] else self.old)) }

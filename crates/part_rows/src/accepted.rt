@@ -28,6 +28,7 @@ pub fn shown(alloc: Global, verdict: &JobVerdict) -> Result<Printed, Why> {
     })
 }
 
+// Adds whether the walk accepts the plan.
 fn add_answer(alloc: Global, text: &mut String, plan: &Plan) -> Result<(), Why> {
     if is_accepted(alloc, plan)? {
         text.push_str("accepted, ")?;

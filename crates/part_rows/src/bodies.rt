@@ -30,7 +30,7 @@ pub fn read_names(alloc: Global, text: &[u8]) -> Result<Printed, Why> {
     }
 }
 
-/// Runs a body where `k` is 2 and `m` is 5, the tiles of `A`, `R` and `B` have so many zeros, and `C` has none: what
+/// Runs a body where `k` is 2 and `m` is 5, the tiles of `A`, `R` and `B` have this many zeros, and `C` has none: what
 /// the tile of `A` is in the end, or why the body traps. With 0 elements `A` has no tile, and the others have one
 /// element.
 pub fn run(alloc: Global, text: &[u8], elements: &[u8]) -> Result<Printed, Why> {
@@ -62,6 +62,7 @@ fn lexed(alloc: Global, text: &[u8]) -> Result<Lexed, Why> {
     tokens::lexed(alloc, text)?.map_err(|_| Why("a body whose tokens have a fault"))
 }
 
+// The number of elements that a digit gives.
 fn elements_of(digits: &[u8]) -> Result<u32, Why> {
     match digits {
         [digit @ b'0'..=b'9'] => Ok(u32::from(*digit - b'0')),
@@ -69,6 +70,7 @@ fn elements_of(digits: &[u8]) -> Result<u32, Why> {
     }
 }
 
+// A tile of this many zeros, or none for 0.
 fn tile(alloc: Global, elements: u32) -> Result<Option<Tile>, Why> {
     if elements == 0 {
         return Ok(None);
@@ -76,6 +78,7 @@ fn tile(alloc: Global, elements: u32) -> Result<Option<Tile>, Why> {
     Ok(Some(Tile::zeros(alloc, elements)?))
 }
 
+// What is printed of a body that is read alone.
 fn is_read(alloc: Global) -> Result<Printed, Why> {
     printed(format!(in alloc; "read\n")?, 0)
 }
@@ -105,6 +108,7 @@ fn trapped(alloc: Global, trap: Trap, words: &[Text]) -> Result<Printed, Why> {
     printed(format!(in alloc; "trap,word,{word}\n")?, 5)
 }
 
+// This text and status, as printed.
 fn printed(text: String, status: u8) -> Result<Printed, Why> {
     Ok(Printed {
         text: text.into_bytes(),

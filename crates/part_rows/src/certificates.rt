@@ -108,6 +108,7 @@ struct Tried {
 }
 
 impl Tried {
+    // The counts after one more list.
     fn after(self, accepted: bool) -> Tried {
         Tried {
             tried: self.tried.wrapping_add(1),
@@ -116,11 +117,13 @@ impl Tried {
     }
 }
 
+// No list was tried.
 const NONE_TRIED: Tried = Tried {
     tried: 0,
     accepted: 0,
 };
 
+// The edits that are tried at each place of a list.
 const EDITS: [Edit; 5] = [
     Edit::Changed,
     Edit::Dropped,

@@ -21,6 +21,7 @@ pub fn read(alloc: Global, list: &[Text]) -> Result<Printed, Why> {
     }
 }
 
+// A line with a command: its verb, its files and its numbers.
 fn spelled(alloc: Global, order: &Order) -> Result<String, AllocError> {
     match order {
         Order::Run(jdf, table, workers, shards, preload) => {
@@ -53,6 +54,7 @@ fn names(alloc: Global, verb: &str, files: &[&Text]) -> Result<String, AllocErro
     Ok(line)
 }
 
+// The line with its LF.
 fn ended(line: String) -> Result<String, AllocError> {
     let mut line = line;
     line.push_str("\n")?;

@@ -27,8 +27,9 @@ pub fn read(alloc: Global, bytes: &[u8]) -> Result<Printed, Why> {
     }
 }
 
+// Lines with what was read.
 fn shown(alloc: Global, given: &Given) -> Result<String, Why> {
-    let records = given.rows_read();
+    let records = given.records_read();
     let elements = given.elements(0);
     let mut text = format!(in alloc; "records,{records}\nelems,{elements}\n")?;
     for (name, elements) in given.types() {
@@ -73,6 +74,7 @@ fn add_tile(text: &mut String, index: usize, numbers: &[i64]) -> Result<(), Why>
     Ok(())
 }
 
+// The name as text.
 fn shown_name(name: &Text) -> Result<&str, Why> {
     str::from_utf8(name.bytes()).map_err(|_| Why("a name that is no text"))
 }

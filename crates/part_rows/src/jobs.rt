@@ -6,7 +6,7 @@ ghost use Rattle.plan_data.specs.Fit.{DataFit};
 use crate::{accepted, certificates, replays, tasks};
 use coll_data::Given;
 use dep_iter::Matched;
-use job_stages::{JobVerdict, judge_texts};
+use job_stages::{job_of_texts, judge_texts};
 use ptg_base::Text;
 use row_files::{Order, Printed, Why};
 use std::alloc::Global;
@@ -65,10 +65,7 @@ impl JobPart {
 fn job_of(alloc: Global, jdf: &[u8], table: &[u8]) -> Result<(Matched, Given), Why>
     ensures { IfOk result (λ j. DataFit j.0.colls j.0.elems j.1) }
 {
-    match judge_texts(alloc, jdf, table)? {
-        JobVerdict::Consistent(matched, given) => Ok((matched, given)),
-        _ => Err(Why("a job that is not consistent")),
-    }
+    job_of_texts(alloc, jdf, table)?.ok_or(Why("a job that is not consistent"))
 }
 
 // The tasks of a job with their edges, if one walk accepts it.

@@ -4,6 +4,7 @@ use plan_core::Plan;
 use ptg_base::{Place, TaskId, Text};
 use row_files::Why;
 
+// Why a class could not be named.
 const NO_CLASS: Why = Why("a class that does not exist");
 
 /// A task, as `T(0,1)`.
@@ -38,12 +39,14 @@ pub fn add_place(text: &mut String, plan: &Plan, place: &Place) -> Result<(), Wh
     }
 }
 
+// Adds a name.
 fn add_name(text: &mut String, name: &Text) -> Result<(), Why> {
     let name = str::from_utf8(name.bytes()).map_err(|_| Why("a name that is no text"))?;
     text.push_str(name)?;
     Ok(())
 }
 
+// Adds numbers in parentheses.
 fn add_numbers(text: &mut String, numbers: &[i64]) -> Result<(), Why> {
     text.push('(')?;
     for (at, number) in numbers.iter().enumerate() {

@@ -7,19 +7,21 @@ use coll_data::Given;
 use dep_iter::Matched;
 use flow_meaning::Outcome;
 use plan_core::Plan;
-use ptg_base::{Refusal, Seq};
+use ptg_base::{OutOfMemory, Refusal, Seq};
 use ptg_io::{Failed, MemSink};
-use report_text::{answers_have_rows_of_their_plan, report};
+use report_text::{Line, answers_have_rows_of_their_plan, refusal, report};
 use row_files::{Printed, Why};
 use std::alloc::Global;
-use trace_core::{TraceCode, TraceFault, TraceRefusal, read_trace, trace_text};
+use trace_core::{TraceFault, TraceRefusal, read_trace, trace_text};
 use trace_replay::{judge_trace, replay};
 
-// The status of an answer: all tasks ran, one trapped, or one waits.
+// The status of an answer where all tasks ran.
 const COMPLETE: u8 = 0;
 
+// The status of an answer where a task trapped.
 const TRAPPED: u8 = 5;
 
+// The status of an answer where a task never ran.
 const STALLED: u8 = 6;
 
 // The status of a fault of a trace.
@@ -45,14 +47,14 @@ pub fn listed(alloc: Global, m: &Matched, given: Given, trace: &[u8]) -> Result<
 {
     let tasks = match read_trace(alloc, m, trace) {
         Ok(tasks) => tasks,
-        Err(refusal) => return unread(alloc, refusal),
+        Err(stopped) => return unread(alloc, stopped),
     };
     let written = trace_text(alloc, m.plan(), tasks.as_slice())?;
     let answer = replay(alloc, m, given, tasks.as_slice());
     answers_have_rows_of_their_plan();
     let come = match answer {
         Ok(outcome) => answered(alloc, m.plan(), &outcome)?,
-        Err(refusal) => unread(alloc, refusal)?,
+        Err(stopped) => unread(alloc, stopped)?,
     };
     let mut text = written.bytes().to_vec(alloc)?;
     text.extend_from_slice(come.text.as_slice())?;
@@ -67,15 +69,27 @@ fn answered(alloc: Global, plan: &Plan, outcome: &Outcome) -> Result<Printed, Wh
     requires { HasRowsOf plan.now outcome.now }
 {
     let mut sink = MemSink::new(alloc, Seq::new(alloc));
-    match report(plan, outcome, &mut sink) {
+    let printing = report(plan, outcome, &mut sink);
+    printed(alloc, printing, &sink, status_of(outcome))
+}
+
+// What came out by a call that printed it, with its status.
+fn printed(
+    alloc: Global,
+    printing: Result<(), Failed>,
+    sink: &MemSink,
+    status: u8,
+) -> Result<Printed, Why> {
+    match printing {
         Ok(()) => Ok(Printed {
             text: sink.bytes().to_vec(alloc)?,
-            status: status_of(outcome),
+            status,
         }),
-        Err(Failed) => Err(Why("an answer that was not printed")),
+        Err(Failed) => Err(Why("a text that was not printed")),
     }
 }
 
+// The status of an outcome.
 fn status_of(outcome: &Outcome) -> u8 {
     match outcome {
         Outcome::Complete(_, _) => COMPLETE,
@@ -85,30 +99,16 @@ fn status_of(outcome: &Outcome) -> u8 {
 }
 
 // What stopped a reading or a replay.
-fn unread(alloc: Global, refusal: TraceRefusal) -> Result<Printed, Why> {
-    match refusal {
+fn unread(alloc: Global, stopped: TraceRefusal) -> Result<Printed, Why> {
+    match stopped {
         Refusal::Fault(fault) => refused(alloc, fault),
-        Refusal::OutOfMemory => Err(Why("there is no memory for it")),
+        Refusal::OutOfMemory => Err(Why::from(OutOfMemory)),
     }
 }
 
 // A fault.
 fn refused(alloc: Global, fault: TraceFault) -> Result<Printed, Why> {
-    let mut text = String::new(alloc);
-    write!(text, "trace,{},{}\n", fault.row, name_of(fault.code))?;
-    Ok(Printed {
-        text: text.into_bytes(),
-        status: TRACE_REFUSED,
-    })
-}
-
-fn name_of(code: TraceCode) -> &'static str {
-    match code {
-        TraceCode::TooLong => "TooLong",
-        TraceCode::BadTrace => "BadTrace",
-        TraceCode::UnknownTask => "UnknownTask",
-        TraceCode::RanTwice => "RanTwice",
-        TraceCode::TooEarly => "TooEarly",
-        TraceCode::Unfinished => "Unfinished",
-    }
+    let mut sink = MemSink::new(alloc, Seq::new(alloc));
+    let printing = refusal(&Line::Trace(fault), &mut sink);
+    printed(alloc, printing, &sink, TRACE_REFUSED)
 }

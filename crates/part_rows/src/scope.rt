@@ -23,7 +23,7 @@ pub fn globals(alloc: Global) -> Result<Tables, Why> {
     Ok(Tables { ints, colls })
 }
 
-/// Beside these globals the locals are `k` and `m`, and the flows are `A` of kind RW, `R` of kind READ, `B` of kind
+/// Besides these globals the locals are `k` and `m`, and the flows are `A` of kind RW, `R` of kind READ, `B` of kind
 /// WRITE and `C` of kind CTL.
 pub fn scope<'a>(alloc: Global, globals: &'a Tables) -> Result<Scope<'a>, Why> {
     let locals = vec![in alloc; Text::of(alloc, b"k")?, Text::of(alloc, b"m")?]?;
@@ -41,6 +41,7 @@ pub fn scope<'a>(alloc: Global, globals: &'a Tables) -> Result<Scope<'a>, Why> {
     })
 }
 
+// A flow with this name and this kind.
 fn flow(alloc: Global, name: &[u8], kind: FlowKind) -> Result<FlowName, Why> {
     Ok(FlowName {
         name: Text::of(alloc, name)?,

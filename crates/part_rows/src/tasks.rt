@@ -3,15 +3,14 @@
 ghost use Rattle.dep_iter.specs.Tasks.{IsTask};
 
 use crate::names::{add_flow, add_place, add_task};
-use dep_iter::{
-    Direction, Matched, Source, affinity, all_tasks, data_source, flows_of, is_task, priority,
-};
+use dep_iter::{Matched, Source, affinity, all_tasks, data_source, flows_of, is_task, priority};
 use edge_walk::{Far, ties_of};
 use goal_count::goal;
 use plan_core::Plan;
 use ptg_base::TaskId;
 use row_files::{Printed, Why};
 use std::alloc::Global;
+use term_core::Direction;
 
 /// The tasks of a job in walk order, each with its goal, its priority and the place of its affinity, and below it a
 /// line for each source of a data flow that is no task, for each edge into it, for each edge out of it, and for each
@@ -58,6 +57,7 @@ fn add_sources(text: &mut String, plan: &Plan, task: &TaskId) -> Result<(), Why>
     Ok(())
 }
 
+// Adds where the tile of a data flow comes from.
 fn add_source(text: &mut String, plan: &Plan, task: &TaskId, number: u8) -> Result<(), Why>
     requires { IsTask plan.now task.now }
 {

@@ -39,6 +39,7 @@ pub fn refused(alloc: Global, refusal: JdfRefusal) -> Result<Printed, Why> {
     })
 }
 
+// Lines with the tokens, then the spot after the last byte.
 fn shown(alloc: Global, lexed: &Lexed) -> Result<Printed, Why> {
     let mut text = String::new(alloc);
     for token in lexed.tokens.as_slice() {

@@ -5,27 +5,28 @@ use Rattle.std.proofs.lemmas.Bool.Decides.{nat_tests}
 use Rattle.std.proofs.lemmas.Int.{ints}
 use Rattle.std.proofs.lemmas.Nat.{div-mul-add, mod-mul-add, div-add-mod'}
 use Rattle.std.proofs.Math.Nat.{div-lt_iff_lt-mul, mod-lt}
-use Rattle.coll_data.specs.Tiles.{tile_count, IsRow, IsColumn, below, tile_index}
+use Rattle.ptg_base.specs.Index.{index_in}
+use Rattle.coll_data.specs.Tiles.{tile_count, IsRow, IsColumn, tile_index}
 use Rattle.coll_data.proofs.TileIndex.{row_and_column}
 use Rattle.report_text.specs.Places.{place_after}
 use Rattle.place_laws.specs.Listed.{listed_index}
 
 -- a number below a limit
-pub below-pos : (limit n : ℕ) → n < limit → below limit (pos n) ≡ Some n
-below-pos limit n h = let e : nat_lt n limit ≡ true = grind (arith, nat_tests) in rw e refl
+pub index_in-pos : (limit n : ℕ) → n < limit → index_in limit (pos n) ≡ Some n
+index_in-pos limit n h = let e : nat_lt n limit ≡ true = grind (arith, nat_tests) in rw e refl
 
 some_if : (b : Bool) (n k : ℕ) → (if b then Some n else None) ≡ Some k → (b ≡ true) × (n ≡ k)
 some_if true n k e = (refl, cc)
 some_if false n k e = absurd cc
 
-pub below-some : (limit : ℕ) (i : ℤ) (k : ℕ) → below limit i ≡ Some k → (i ≡ pos k) × (k < limit)
-below-some limit (pos n) k e =
+pub index_in-some : (limit : ℕ) (i : ℤ) (k : ℕ) → index_in limit i ≡ Some k → (i ≡ pos k) × (k < limit)
+index_in-some limit (pos n) k e =
     let p = some_if (nat_lt n limit) n k e in
     let t = p.0 in
     let same = p.1 in
     let lt : n < limit = grind (arith, nat_tests) in
     (ap pos same, subst (λ m. m < limit) same lt)
-below-some limit (negsuc n) k e = absurd cc
+index_in-some limit (negsuc n) k e = absurd cc
 
 -- the row and the column of the place with this index
 abbrev pub row_of : Option ℕ → ℕ → ℤ
@@ -44,11 +45,11 @@ pub record IsFoundFrom (rows : ℕ) (cols : Option ℕ) (i j : ℤ) (n : ℕ) : 
   pub is_column : IsColumn cols j
   pub within : n < tile_count rows cols
 
-in_one_column : (rows : ℕ) (i j : ℤ) (n : ℕ) (c : Option ℕ) → below 1 j ≡ c → option_and_then (λ column. below rows i) c ≡ Some n → IsFoundFrom rows None i j n
+in_one_column : (rows : ℕ) (i j : ℤ) (n : ℕ) (c : Option ℕ) → index_in 1 j ≡ c → option_and_then (λ column. index_in rows i) c ≡ Some n → IsFoundFrom rows None i j n
 in_one_column rows i j n None at e = absurd cc
 in_one_column rows i j n (Some c) at e =
-    let col = below-some 1 j c at in
-    let row = below-some rows i n e in
+    let col = index_in-some 1 j c at in
+    let row = index_in-some rows i n e in
     let zeroth : c ≡ 0 = omega (arith, col.1) in
     let is_column : j ≡ pos 0 = col.0 ∙ ap pos zeroth in
     let w : n < rows = row.1 in
@@ -60,10 +61,10 @@ in_one_column rows i j n (Some c) at e =
       within = w;
     }
 
-in_row : (rows cols : ℕ) (i j : ℤ) (n c : ℕ) (r : Option ℕ) → c < cols → j ≡ pos c → below rows i ≡ r → option_map (λ row. row * cols + c) r ≡ Some n → IsFoundFrom rows (Some cols) i j n
+in_row : (rows cols : ℕ) (i j : ℤ) (n c : ℕ) (r : Option ℕ) → c < cols → j ≡ pos c → index_in rows i ≡ r → option_map (λ row. row * cols + c) r ≡ Some n → IsFoundFrom rows (Some cols) i j n
 in_row rows cols i j n c None within column at e = absurd cc
 in_row rows cols i j n c (Some r) within column at e =
-    let row = below-some rows i r at in
+    let row = index_in-some rows i r at in
     let sum : r * cols + c ≡ n = cc in
     let quotient : r ≡ n / cols = sym (div-mul-add r cols c within) ∙ ap (λ m. m / cols) sum in
     let rest : c ≡ n % cols = sym (mod-mul-add r cols c within) ∙ ap (λ m. m % cols) sum in
@@ -76,20 +77,20 @@ in_row rows cols i j n c (Some r) within column at e =
       within = subst (λ m. m < rows * cols) sum (row_and_column r c rows cols w within);
     }
 
-in_columns : (rows cols : ℕ) (i j : ℤ) (n : ℕ) (c : Option ℕ) → below cols j ≡ c → option_and_then (λ column. option_map (λ row. row * cols + column) (below rows i)) c ≡ Some n → IsFoundFrom rows (Some cols) i j n
+in_columns : (rows cols : ℕ) (i j : ℤ) (n : ℕ) (c : Option ℕ) → index_in cols j ≡ c → option_and_then (λ column. option_map (λ row. row * cols + column) (index_in rows i)) c ≡ Some n → IsFoundFrom rows (Some cols) i j n
 in_columns rows cols i j n None at e = absurd cc
-in_columns rows cols i j n (Some c) at e = let col = below-some cols j c at in in_row rows cols i j n c (below rows i) col.1 col.0 refl e
+in_columns rows cols i j n (Some c) at e = let col = index_in-some cols j c at in in_row rows cols i j n c (index_in rows i) col.1 col.0 refl e
 
 pub found_from : (rows : ℕ) (cols : Option ℕ) (i j : ℤ) (n : ℕ) → tile_index rows cols i j ≡ Some n → IsFoundFrom rows cols i j n
-found_from rows None i j n e = in_one_column rows i j n (below 1 j) refl e
-found_from rows (Some cols) i j n e = in_columns rows cols i j n (below cols j) refl e
+found_from rows None i j n e = in_one_column rows i j n (index_in 1 j) refl e
+found_from rows (Some cols) i j n e = in_columns rows cols i j n (index_in cols j) refl e
 
 -- a row and a column have an index
 pub index_of_pair : (rows cols i j : ℕ) → i < rows → j < cols → tile_index rows (Some cols) (pos i) (pos j) ≡ Some (i * cols + j)
-index_of_pair rows cols i j row column = rw (below-pos cols j column, below-pos rows i row) refl
+index_of_pair rows cols i j row column = rw (index_in-pos cols j column, index_in-pos rows i row) refl
 
 pub index_of_row : (rows i : ℕ) → i < rows → tile_index rows None (pos i) (pos 0) ≡ Some i
-index_of_row rows i row = below-pos rows i row
+index_of_row rows i row = index_in-pos rows i row
 
 some_index : (rows : ℕ) (cols : Option ℕ) (i j : ℤ) (n : ℕ) → tile_index rows cols i j ≡ Some n → IsSomeAnd (tile_index rows cols i j) (λ k. k < tile_count rows cols)
 some_index rows cols i j n e = let f = found_from rows cols i j n e in rw e f.within

@@ -15,10 +15,11 @@ abbrev pub columns : Option ℕ → ℕ
 columns None = 1
 columns (Some cols) = cols
 
--- how many rows and columns there are
+-- how many rows and columns a collection has
 abbrev pub size : Shape → ℕ × ℕ
 size shape = (shape.rows, columns shape.cols)
 
+-- how many rows and columns a set of places has
 abbrev pub size_of : Rows → ℕ × ℕ
 size_of s = (s.rows, s.cols)
 

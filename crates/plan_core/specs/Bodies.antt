@@ -27,7 +27,7 @@ respects_kinds kinds (ForThen n lo hi turn rest) =
     reads_data kinds lo && reads_data kinds hi && respects_kinds kinds turn && respects_kinds kinds rest
 respects_kinds kinds (TrapThen w rest) = respects_kinds kinds rest
 
--- whether the word of each trap is one of so many
+-- whether the word of each trap is one of this many
 abbrev pub has_words : ℕ → StatementList → Bool
 has_words count Done = true
 has_words count (SetThen n e rest) = has_words count rest

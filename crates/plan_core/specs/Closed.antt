@@ -7,7 +7,7 @@ use Rattle.term_core.specs.declared.space.Def.TheVariants as def
 use Rattle.plan_core.specs.declared.target.Arg.{Arg}
 use Rattle.plan_core.specs.declared.target.Arg.TheVariants.{One, Span}
 
--- whether an argument is over so many locals
+-- whether an argument is over this many locals
 abbrev pub is_closed_arg : ℕ → Arg → Bool
 is_closed_arg locals (One e) = is_closed locals e
 is_closed_arg locals (Span r) = is_closed_def locals (def.Span r)

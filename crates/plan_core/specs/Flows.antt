@@ -1,9 +1,12 @@
--- Which targets a flow may have, by its kind and its datatype. Source: PaRSEC 2013 and the JDF documentation; that `->
--- NULL` is allowed on a flow with a tile is this project's own choice, and so are the limits.
+-- The dependences of a flow, and which targets it may have, by its kind and its datatype. Source: PaRSEC 2013 and the
+-- JDF documentation; that `-> NULL` is allowed on a flow with a tile is this project's own choice, and so are the
+-- limits.
 use Rattle.std.specs.Prelude.{ℕ, List, Option, Some, None, Bool, true, false, not, ◌&&◌, ◌==◌, ◌+◌, nat_le, nat_lt, length, is_some}
 use Rattle.std.specs.List.{list_all, list_any}
 use Rattle.ptg_base.specs.Limits.{most_dependences}
 use Rattle.term_core.specs.Term.{Term}
+use Rattle.term_core.specs.declared.direction.Direction.{Direction}
+use Rattle.term_core.specs.declared.direction.Direction.TheVariants.{In, Out}
 use Rattle.term_core.specs.declared.flow.FlowKind.{FlowKind}
 use Rattle.term_core.specs.declared.flow.FlowKind.TheVariants.{Read, Write, Rw, Ctl}
 use Rattle.term_core.specs.declared.space.ClassSpace.{ClassSpace}
@@ -16,6 +19,11 @@ use Rattle.plan_core.specs.declared.target.Target.TheVariants.{Task, Element, Ne
 use Rattle.plan_core.specs.Closed.{is_closed_option, is_span}
 use Rattle.plan_core.specs.Kinds.{kind_of, is_control, is_data}
 use Rattle.plan_core.specs.Targets.{exists_target, has_datatype}
+
+-- the dependences of a flow in this direction
+abbrev pub dependences : Direction → FlowPlan → List DepPlan
+dependences In f = f.ins
+dependences Out f = f.outs
 
 -- order goes only between CTL flows of tasks
 abbrev pub may_order : List ClassPlan → Target → Bool
@@ -65,29 +73,30 @@ abbrev pub is_second : (Target → Bool) → Option Term → Option Target → B
 is_second passes guard None = true
 is_second passes guard (Some t) = is_some guard && passes t
 
--- whether the targets of a dependence pass, and its guard is over so many locals
+-- whether the targets of a dependence pass, and its guard is over this many locals
 abbrev pub is_dependence : ℕ → (Target → Bool) → DepPlan → Bool
 is_dependence locals passes d = is_closed_option locals d.guard && passes d.yes && is_second passes d.guard d.no
 
--- whether a flow of this kind may have the datatype, of so many: a CTL flow has none, which counts as 0
+-- whether a flow of this kind may have the datatype, of this many: a CTL flow has none, which counts as 0
 abbrev pub is_datatype : ℕ → FlowKind → ℕ → Bool
 is_datatype types Read n = nat_lt n types
 is_datatype types Write n = nat_lt n types
 is_datatype types Rw n = nat_lt n types
 is_datatype types Ctl n = n == 0
 
--- whether a target exists, has the flow's datatype, and may be that of an in dependence, or of an out dependence
+-- whether a target exists, has the flow's datatype, and may be that of an in dependence
 abbrev pub is_source : List ClassPlan → List ClassSpace → List Shape → ℕ → FlowPlan → Target → Bool
 is_source classes spaces colls locals f t =
     exists_target classes spaces colls locals t && has_datatype classes colls f.datatype t
     && is_in_target classes f.kind t
 
+-- whether a target exists, has the flow's datatype, and may be that of an out dependence
 abbrev pub is_destination : List ClassPlan → List ClassSpace → List Shape → ℕ → FlowPlan → Target → Bool
 is_destination classes spaces colls locals f t =
     exists_target classes spaces colls locals t && has_datatype classes colls f.datatype t
     && is_out_target classes f.kind t
 
--- whether a flow of a class with so many locals has one of so many datatypes, and at most 16 dependences, each with
+-- whether a flow of a class with this many locals has one of this many datatypes, and at most 16 dependences, each with
 -- targets that it may have
 abbrev pub is_flow : List ClassPlan → List ClassSpace → List Shape → ℕ → ℕ → FlowPlan → Bool
 is_flow classes spaces colls types locals f =

@@ -18,21 +18,21 @@ abbrev pub dimensions : Option ℕ → ℕ
 dimensions None = 1
 dimensions (Some cols) = 2
 
--- whether there is a class with this number, and it has so many parameters
+-- whether there is a class with this number, and it has this many parameters
 abbrev pub has_params : List ClassSpace → ℕ → ℕ → Bool
 has_params spaces class count =
     option_map_or (λ (s : ClassSpace). length s.params == count) (slice_get spaces class) false
 
--- whether there is a collection with this number, and it has so many dimensions
+-- whether there is a collection with this number, and it has this many dimensions
 abbrev pub has_dimensions : List Shape → ℕ → ℕ → Bool
 has_dimensions colls coll count = option_map_or (λ (s : Shape). dimensions s.cols == count) (slice_get colls coll) false
 
--- whether these are the indices of an element of the collection: one for each dimension, over so many locals
+-- whether these are the indices of an element of the collection: one for each dimension, over this many locals
 abbrev pub is_element : List Shape → ℕ → ℕ → List Term → Bool
 is_element colls locals coll indices = has_dimensions colls coll (length indices) && list_all (is_closed locals) indices
 
 -- whether what a target names exists: a flow of a class with an argument for each parameter, or an element; its
--- expressions are over so many locals
+-- expressions are over this many locals
 abbrev pub exists_target : List ClassPlan → List ClassSpace → List Shape → ℕ → Target → Bool
 exists_target classes spaces colls locals (Task class flow args) =
     is_some (flow_of classes class flow) && has_params spaces class (length args)

@@ -16,7 +16,7 @@ use Rattle.plan_core.specs.Targets.{is_element}
 use Rattle.plan_core.specs.Flows.{is_flow}
 use Rattle.plan_core.specs.Bodies.{respects_kinds, has_words, keeps_loop_variables}
 
--- a class with this space, in a job with these classes, spaces, collections and so many datatypes; that its body is
+-- a class with this space, in a job with these classes, spaces, collections and this many datatypes; that its body is
 -- well made bounds its flows by 8
 pub record IsWellClass (classes : List ClassPlan) (spaces : List ClassSpace) (colls : List Shape) (types : ℕ)
     (s : ClassSpace) (c : ClassPlan) : Type 0 where
@@ -30,7 +30,7 @@ pub record IsWellClass (classes : List ClassPlan) (spaces : List ClassSpace) (co
   pub words : IsTrue (has_words (length c.trap_words) c.body.statements)
   pub loops : IsTrue (keeps_loop_variables c.body.statements)
 
--- whether a collection has 1 to 65,536 tiles, of one of so many datatypes
+-- whether a collection has 1 to 65,536 tiles, of one of this many datatypes
 abbrev pub is_shape : ℕ → Shape → Bool
 is_shape types s =
     nat_le 1 (tile_count s.rows s.cols) && nat_le (tile_count s.rows s.cols) most_tiles && nat_lt s.datatype types

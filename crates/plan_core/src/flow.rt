@@ -1,8 +1,11 @@
 //! Flows and their dependences.
 
+ghost use Rattle.std.specs.Prelude.{◌≡◌};
+ghost use Rattle.plan_core.specs.Flows as flows;
+
 use crate::target::Target;
 use ptg_base::{Seq, Text};
-use term_core::{Expr, FlowKind};
+use term_core::{Direction, Expr, FlowKind};
 
 /// A dependence on `yes` where it has no guard or the guard is not 0, else on `no`.
 pub struct DepPlan {
@@ -42,5 +45,17 @@ impl Drop for FlowPlan {
             ins: _ins,
             outs: _outs,
         } = self;
+    }
+}
+
+impl FlowPlan {
+    /// Its dependences in this direction.
+    pub fn dependences(&self, direction: Direction) -> &[DepPlan]
+        ensures { result.now ≡ flows.dependences direction self.now }
+    {
+        match direction {
+            Direction::In => self.ins.as_slice(),
+            Direction::Out => self.outs.as_slice(),
+        }
     }
 }

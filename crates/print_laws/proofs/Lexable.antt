@@ -14,6 +14,8 @@ use Rattle.term_core.specs.declared.operator.UnOp.{UnOp}
 use Rattle.term_core.specs.declared.operator.UnOp.TheVariants as un
 use Rattle.term_core.specs.declared.operator.BinOp.{BinOp}
 use Rattle.term_core.specs.declared.operator.BinOp.TheVariants as bin
+use Rattle.term_core.specs.declared.direction.Direction.{Direction}
+use Rattle.term_core.specs.declared.direction.Direction.TheVariants.{In, Out}
 use Rattle.term_core.specs.declared.flow.FlowKind.{FlowKind}
 use Rattle.term_core.specs.declared.flow.FlowKind.TheVariants as kind
 use Rattle.jdf_alphabet.specs.Terminals.{terminal_by}
@@ -274,15 +276,15 @@ choice_lexes (Some c, t, Some u) formed rest after stop h =
     both_lex (print.guard (Some c)) (print.target t ++ (tail ++ rest)) after (guard_lexes (Some c) (λ e k. subst IsOuter (same_Some _ _ k) formed.0) _)
     (both_lex (print.target t) (tail ++ rest) after (target_lexes t formed.1 _ refl) (both_lex tail rest after (between_lexes (codes ":") (print.target u) _ refl (target_lexes u formed.2 _ stop)) h))
 
-arrow_written : (b : Bool) → IsWritten (print.arrow b)
-arrow_written true = refl
-arrow_written false = refl
+arrow_written : (d : Direction) → IsWritten (print.arrow d)
+arrow_written In = refl
+arrow_written Out = refl
 
 dependence_lexes : (d : DepTree) → IsDependence d → (after : List ℕ) → IsLexable (print.dependence d) after
 dependence_lexes d formed after =
-    line_lexes (blank (codes "  ") ∷ token (print.arrow d.inward) ∷ space ∷ (print.guard d.guard ++ (print.target d.yes ++ (print.other d.no ++ print.datatype d.datatype)))) after (
+    line_lexes (blank (codes "  ") ∷ token (print.arrow d.direction) ∷ space ∷ (print.guard d.guard ++ (print.target d.yes ++ (print.other d.no ++ print.datatype d.datatype)))) after (
       (inl refl, (inl refl, tt)),
-      spaced (print.arrow d.inward) (print.guard d.guard ++ (print.target d.yes ++ (print.other d.no ++ print.datatype d.datatype))) (10 ∷ after) (arrow_written d.inward)
+      spaced (print.arrow d.direction) (print.guard d.guard ++ (print.target d.yes ++ (print.other d.no ++ print.datatype d.datatype))) (10 ∷ after) (arrow_written d.direction)
           (choice_lexes (choice_of d) formed.choice (print.datatype d.datatype) (10 ∷ after) (datatype_stops d.datatype (10 ∷ after) refl) (datatype_lexes d.datatype formed.datatype (10 ∷ after))),
     )
 

@@ -1,9 +1,11 @@
 -- The tokens of arguments and dependences derive them.
-use Rattle.std.proofs.Common.{◌≡◌, Bool, true, false, List, [], ◌∷◌, ◌++◌, map, refl, ap, subst, ◌∙◌, inl, inr, append_assoc}
+use Rattle.std.proofs.Common.{◌≡◌, true, List, [], ◌∷◌, ◌++◌, map, refl, ap, subst, ◌∙◌, inl, inr, append_assoc}
 use Rattle.std.specs.Prelude.{Option, Some, None, option_map, codes}
 use Rattle.grammar_core.specs.declared.token.Token.{Token}
 use Rattle.jdf_alphabet.specs.declared.terminal.Terminal.TheVariants as terminal
 use Rattle.jdf_alphabet.specs.Terminals.{words, marks, is}
+use Rattle.term_core.specs.declared.direction.Direction.{Direction}
+use Rattle.term_core.specs.declared.direction.Direction.TheVariants.{In, Out}
 use Rattle.jdf_tree.specs.declared.expression.Word.{Word}
 use Rattle.jdf_tree.specs.declared.part.Part.TheVariants.{Class}
 use Rattle.jdf_tree.specs.declared.tree.ArgTree.{ArgTree}
@@ -190,8 +192,8 @@ only_then e t = (Some e, t, None)
 abbrev either : Expression → TargetTree → TargetTree → Choice
 either e t u = (Some e, t, Some u)
 
-abbrev built : Bool → Choice → Option Word → DepTree
-built inward c w = record { inward = inward; guard = c.0; yes = c.1; no = c.2; datatype = w }
+abbrev built : Direction → Choice → Option Word → DepTree
+built direction c w = record { direction = direction; guard = c.0; yes = c.1; no = c.2; datatype = w }
 
 abbrev choice_form : Grammar Choice
 choice_form = pick grammar.may_follow_target_name grammar.unguarded grammar.guarded
@@ -302,20 +304,20 @@ datatype_reads_back (Some w) formed s r h =
 
 -- ---- a dependence
 
-is_arrow_of : (b : Bool) → grammar.is_arrow (terminal_at (print.arrow b)) ≡ true
+is_arrow_of : (d : Direction) → grammar.is_arrow (terminal_at (print.arrow d)) ≡ true
 unfolding words marks
-is_arrow_of true = refl
-is_arrow_of false = refl
+is_arrow_of In = refl
+is_arrow_of Out = refl
 
-arrow_back : (b : Bool) → is terminal.Inward (terminal_at (print.arrow b)) ≡ b
+arrow_back : (d : Direction) → grammar.direction_by (terminal_at (print.arrow d)) ≡ d
 unfolding words marks
-arrow_back true = refl
-arrow_back false = refl
+arrow_back In = refl
+arrow_back Out = refl
 
-arrow_derives : (b : Bool) (x : Token) (s m : List Token) → s ≡ x ∷ m → IsLike x (print.arrow b) → DerivesTree grammar.arrow s b m
+arrow_derives : (d : Direction) (x : Token) (s m : List Token) → s ≡ x ∷ m → IsLike x (print.arrow d) → DerivesTree grammar.arrow s d m
 unfolding grammar.arrow
-arrow_derives b x s m h like =
-    (x, (is_one grammar.is_arrow (print.arrow b) (is_arrow_of b) x s m h like, refl), ap (is terminal.Inward) (like_terminal x (print.arrow b) like) ∙ arrow_back b)
+arrow_derives d x s m h like =
+    (x, (is_one grammar.is_arrow (print.arrow d) (is_arrow_of d) x s m h like, refl), ap grammar.direction_by (like_terminal x (print.arrow d) like) ∙ arrow_back d)
 
 -- The part of a dependence after its arrow.
 abbrev pub choice_of : DepTree → Choice
@@ -328,7 +330,7 @@ pub record IsDependence (d : DepTree) : Type 0 where
 pub dependence_reads_back : (d : DepTree) → IsDependence d → (s r : List Token) → Reads (print.dependence d) s r → ReadsBackAs grammar.dependence same.dependence (same.dependence d) s r
 unfolding grammar.dependence
 dependence_reads_back d formed s r h =
-    let l = reads_line (blank (codes "  ") ∷ token (print.arrow d.inward) ∷ space ∷ (print.guard d.guard ++ (print.target d.yes ++ (print.other d.no ++ print.datatype d.datatype)))) s r h in
+    let l = reads_line (blank (codes "  ") ∷ token (print.arrow d.direction) ∷ space ∷ (print.guard d.guard ++ (print.target d.yes ++ (print.other d.no ++ print.datatype d.datatype)))) s r h in
     let C = print.guard d.guard ++ (print.target d.yes ++ print.other d.no) in
     let regroup : print.guard d.guard ++ (print.target d.yes ++ (print.other d.no ++ print.datatype d.datatype)) ≡ C ++ print.datatype d.datatype = simp append_assoc in
     let R : List Fragment → Type 0 = λ ps. Reads ps l.1 r in
@@ -336,7 +338,7 @@ dependence_reads_back d formed s r h =
     let a = choice_reads_back (choice_of d) formed.choice l.1 split.0 split.1 in
     let b = datatype_reads_back d.datatype formed.datatype split.0 r split.2 in
     record {
-      tree = grammar.dependence_of (d.inward, (a.tree, b.tree));
-      derives = ((d.inward, (a.tree, b.tree)), (l.1, None, None, arrow_derives d.inward l.0 s l.1 l.2 l.3, (split.0, None, None, a.derives, b.derives, refl), refl), refl);
-      like = ap (λ (c : Choice). built d.inward c (option_map same.word b.tree)) a.like ∙ ap (λ (w : Option Word). built d.inward (choice (choice_of d)) w) b.like;
+      tree = grammar.dependence_of (d.direction, (a.tree, b.tree));
+      derives = ((d.direction, (a.tree, b.tree)), (l.1, None, None, arrow_derives d.direction l.0 s l.1 l.2 l.3, (split.0, None, None, a.derives, b.derives, refl), refl), refl);
+      like = ap (λ (c : Choice). built d.direction c (option_map same.word b.tree)) a.like ∙ ap (λ (w : Option Word). built d.direction (choice (choice_of d)) w) b.like;
     }

@@ -10,6 +10,7 @@ use Rattle.jdf_alphabet.specs.Terminals.{is, terminal_of}
 use Rattle.jdf_alphabet.specs.Counted.{is_name}
 use Rattle.grammar_core.specs.Production.{map, seq, alt, opt, star, Fault, Language, Many, Derives, DerivedWithin, IsText, taken}
 use Rattle.jdf_alphabet.specs.Sets.{pick, one_of, after_token}
+use Rattle.term_core.specs.declared.direction.Direction.{Direction}
 use Rattle.jdf_tree.specs.declared.expression.Word.{Word}
 use Rattle.jdf_tree.specs.declared.expression.ExprWithSpot.{ExprWithSpot}
 use Rattle.jdf_tree.specs.declared.part.Part.TheVariants.{Class}
@@ -146,7 +147,7 @@ module _ (R : (n : Nonterminal) → Language (TreeOf n)) (B : (n : Nonterminal) 
       (holding.if_present R B grammar.datatype (λ w. IsName w.text) datatype_well_formed)))
       go
     where
-      go : (x : Bool × (Choice × Option Word)) → Unit {0} × (IsChoice x.1.0 × IfPresent (λ w. IsName w.text) x.1.1) → IsDependence (grammar.dependence_of x)
+      go : (x : Direction × (Choice × Option Word)) → Unit {0} × (IsChoice x.1.0 × IfPresent (λ w. IsName w.text) x.1.1) → IsDependence (grammar.dependence_of x)
       go (b, (c, None)) h = record { choice = h.1.0; datatype = tt }
       go (b, (c, Some w)) h = record { choice = h.1.0; datatype = h.1.1 }
 

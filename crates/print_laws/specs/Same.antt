@@ -18,12 +18,15 @@ use Rattle.jdf_tree.specs.Expression.{Expression, Num, Name, Elem, Unary, Binary
 abbrev pub nowhere : Spot
 nowhere = record { line = 1; column = 1 }
 
+-- a name at the one spot
 abbrev pub word : Word → Word
 word w = record { text = w.text; spot = nowhere }
 
+-- a token at the one spot, with its word and its terminal alone
 abbrev pub token : Token → Token
 token x = record { terminal = x.terminal; text = x.text; start = 0; end = 0; spot = nowhere }
 
+-- an expression with each spot replaced
 abbrev pub expression : Expression → Expression
 expression (Num z spot) = Num z nowhere
 expression (Name w) = Name (word w)
@@ -32,32 +35,38 @@ expression (Unary o a spot) = Unary o (expression a) nowhere
 expression (Binary o a b) = Binary o (expression a) (expression b)
 expression (Choose c a b) = Choose (expression c) (expression a) (expression b)
 
+-- an argument with each spot replaced
 abbrev pub argument : ArgTree → ArgTree
 argument (One e) = One (expression e)
 argument (Span spot lo hi by) = Span nowhere (expression lo) (expression hi) (option_map expression by)
 
+-- a definition with each spot replaced
 abbrev pub definition : DefTree → DefTree
 definition d = record { name = word d.name; value = argument d.value }
 
+-- a target with each spot replaced
 abbrev pub target : TargetTree → TargetTree
 target (Task flow class args) = Task (word flow) (word class) (map argument args)
 target (Element coll args) = Element (word coll) (map argument args)
 target (New spot) = New nowhere
 target (Null spot) = Null nowhere
 
+-- a dependence with each spot replaced
 abbrev pub dependence : DepTree → DepTree
 dependence d =
     record {
-      inward = d.inward;
+      direction = d.direction;
       guard = option_map expression d.guard;
       yes = target d.yes;
       no = option_map target d.no;
       datatype = option_map word d.datatype;
     }
 
+-- a flow with each spot replaced
 abbrev pub flow : FlowTree → FlowTree
 flow f = record { kind = f.kind; name = word f.name; deps = map dependence f.deps }
 
+-- a class with each spot replaced
 abbrev pub class : ClassTree → ClassTree
 class c =
     record {

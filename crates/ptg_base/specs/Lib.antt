@@ -1,6 +1,8 @@
 pub mod Decimal
 pub mod Line
 pub mod Task
+pub mod Entry
+pub mod Index
 pub mod Lists
 pub mod Names
 pub mod Places

@@ -9,47 +9,55 @@ most_bytes = 16777216
 abbrev pub most_tokens : ℕ
 most_tokens = 1000000
 
--- how many classes a JDF may have; how many parameters, definitions and flows a class; how many dependences a flow; and
--- how many variables a body may declare
+-- how many classes a JDF may have
 abbrev pub most_classes : ℕ
 most_classes = 64
 
+-- how many parameters a class may have
 abbrev pub most_params : ℕ
 most_params = 8
 
+-- how many definitions a class may have; each defines one local of a task
 abbrev pub most_locals : ℕ
 most_locals = 16
 
+-- how many flows a class may have
 abbrev pub most_flows : ℕ
 most_flows = 8
 
+-- how many dependences a flow may have
 abbrev pub most_dependences : ℕ
 most_dependences = 16
 
+-- how many variables a body may declare
 abbrev pub most_variables : ℕ
 most_variables = 256
 
--- how many types of tiles there may be, DEFAULT among them, and how many the data may name beside it; how many tiles a
--- collection may have, how many elements a tile, and how many the tiles of all collections
+-- how many types of tiles there may be, DEFAULT among them
 abbrev pub most_types : ℕ
 most_types = 16
 
+-- how many types of tiles the data may name besides DEFAULT
 abbrev pub most_named_types : ℕ
 most_named_types = 15
 
+-- how many tiles a collection may have
 abbrev pub most_tiles : ℕ
 most_tiles = 65536
 
+-- how many elements a tile may have
 abbrev pub most_tile_elements : ℕ
 most_tile_elements = 4096
 
+-- how many elements the tiles of all collections may have together
 abbrev pub most_elements : ℕ
 most_elements = 16777216
 
--- how many tasks a job may have, and how many lists of the first locals of its tasks the walk may meet
+-- how many tasks a job may have
 abbrev pub most_tasks : ℕ
 most_tasks = 1000000
 
+-- how many lists of the first locals of tasks the walk may meet
 abbrev pub most_prefixes : ℕ
 most_prefixes = 16000000
 
@@ -61,20 +69,23 @@ most_edges = 4000000
 abbrev pub most_weight : ℕ
 most_weight = 1000000
 
--- how many workers, shards and ranks a run may have
+-- how many workers a run may have
 abbrev pub most_workers : ℕ
 most_workers = 64
 
+-- how many shards the table of a run may have
 abbrev pub most_shards : ℕ
 most_shards = 256
 
+-- how many ranks a world may have
 abbrev pub most_ranks : ℕ
 most_ranks = 64
 
--- how many workers and shards a run has where it is not asked for others
+-- how many workers a run has where it is not asked for others
 abbrev pub usual_workers : ℕ
 usual_workers = 4
 
+-- how many shards the table of a run has where it is not asked for others
 abbrev pub usual_shards : ℕ
 usual_shards = 16
 

@@ -8,7 +8,7 @@ use Rattle.std.specs.Ordering.{nat_cmp, int_cmp, int_eq, on, then_cmp, eq_of_bot
 use Rattle.ptg_base.specs.Task.{Task}
 use Rattle.ptg_base.specs.TaskOrder.{task_before}
 
--- the same class and the same parameters
+-- two tasks are the same: they have one class and equal parameters
 abbrev pub same_task : Task → Task → Bool
 same_task = eq_of_both (on (λ (t : Task). t.class) nat_eq) (on (λ (t : Task). t.params) (pointwise int_eq))
 

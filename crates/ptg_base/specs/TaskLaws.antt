@@ -46,7 +46,7 @@ same_task-decides a b = (one, itself)
         (signed_items a.params b.params).1 (ap (λ (t : Task). t.params) e) in
         λ i. class_is i && params_are i
 
--- a first number decides, and else what follows it
+-- a comparison of first numbers decides, else what follows it does; signed numbers
 signed_then : (less more rest : Bool) (then : Ordering) → is_lt then ≡ rest
     → is_lt (ordering_then (cond less Less (cond more Greater Equal)) then)
     ≡ (less || (is_eq (cond less Less (cond more Greater Equal)) && rest))
@@ -54,6 +54,8 @@ signed_then true more rest then e = refl
 signed_then false true rest then e = refl
 signed_then false false rest then e = e
 
+-- a comparison of first numbers decides, else what follows it does; unsigned numbers, whose comparison tests for
+-- equality second
 unsigned_then : (less same rest : Bool) (then : Ordering) → is_lt then ≡ rest
     → is_lt (ordering_then (cond less Less (cond same Equal Greater)) then) ≡ (less || (same && rest))
 unsigned_then true same rest then e = refl
@@ -73,6 +75,7 @@ task_before-cmp a b =
     unsigned_then (nat_lt a.class b.class) (a.class == b.class) (params_before a.params b.params)
     (slice_cmp int_cmp a.params b.params) (params_before-cmp a.params b.params)
 
+-- a comparison answers Less exactly where its test for Less holds
 less_is : (r : Ordering) (b : Bool) → is_lt r ≡ b → (r ≡ Less) ↔ IsTrue b
 less_is r b e = (λ h. sym e ∙ ap is_lt h, λ h. by r (e ∙ h))
   where
@@ -81,6 +84,7 @@ less_is r b e = (λ h. sym e ∙ ap is_lt h, λ h. by r (e ∙ h))
     by Equal h = absurd (true≢false (sym h))
     by Greater h = absurd (true≢false (sym h))
 
+-- a comparison answers Greater exactly where the one with its sides exchanged answers Less
 greater_is : (r s : Ordering) → r ≡ ordering_reverse s → (r ≡ Greater) ↔ (s ≡ Less)
 greater_is r s e = (λ h. by s (sym e ∙ h), λ h. e ∙ ap ordering_reverse h)
   where

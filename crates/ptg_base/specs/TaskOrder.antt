@@ -5,12 +5,14 @@ use Rattle.std.specs.Prelude.{int_lt}
 use Rattle.std.specs.Ordering.{int_eq}
 use Rattle.ptg_base.specs.Task.{Task}
 
+-- a list of parameters is before another: the first number that differs decides, and a front is before the whole
 abbrev pub params_before : List ℤ → List ℤ → Bool
 params_before [] [] = false
 params_before [] (y ∷ ys) = true
 params_before (x ∷ xs) [] = false
 params_before (x ∷ xs) (y ∷ ys) = int_lt x y || (int_eq x y && params_before xs ys)
 
+-- a task is before another in task order
 abbrev pub task_before : Task → Task → Bool
 task_before a b = nat_lt a.class b.class || (a.class == b.class && params_before a.params b.params)
 

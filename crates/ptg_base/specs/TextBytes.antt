@@ -3,7 +3,7 @@ use Rattle.std.specs.Prelude.{◌≤◌, ℕ, List, take}
 use Rattle.ptg_base.specs.declared.text.Bytes.{Bytes}
 use Rattle.ptg_base.specs.declared.text.Bytes.TheVariants.{Short, Long}
 
--- the bytes of a text: so many of those that are held in place, or those of a vector
+-- the bytes of a text: this many of those that are held in place, or those of a vector
 abbrev pub bytes_of : Bytes → List ℕ
 bytes_of (Short count place) = take count place
 bytes_of (Long bytes) = bytes.value.items

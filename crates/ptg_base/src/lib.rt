@@ -1,8 +1,9 @@
-//! Names, tasks, places and tiles, with their order.
+//! Texts, sequences, tasks, edges, places and tiles with their order; the one refusal; names, digits and limits.
 #![tactic(auto)]
 
 mod digits;
 mod edge;
+mod index;
 mod laws;
 mod limits;
 mod memory;
@@ -16,6 +17,7 @@ mod tile;
 
 pub use digits::decimal;
 pub use edge::{Edge, Item, WriteBack};
+pub use index::index_in;
 pub use laws::{items_compare_field_by_field, tasks_compare_in_task_order};
 pub use limits::{
     MOST_BYTES, MOST_EDGES, MOST_FLOWS, MOST_LOCALS, MOST_PARAMS, MOST_RANKS, MOST_ROWS,

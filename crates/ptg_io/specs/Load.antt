@@ -17,14 +17,14 @@ ReadsInTurn gives name start [] end = start ≡ end
 ReadsInTurn {Files} gives name start (n ∷ counts) end =
     (before : Files) × ReadsInTurn gives name start counts before × gives before name (sum counts) n end
 
--- Reads of one file in turn, which gave so many bytes together.
+-- Reads of one file in turn, which gave this many bytes together.
 pub record HasRead {Files : Type 0} (gives : Files → List ℕ → ℕ → ℕ → Files → Type 0)
     (name : List ℕ) (start : Files) (size : ℕ) (end : Files) : Type 0 where
   pub counts : List ℕ
   pub reads : ReadsInTurn gives name start counts end
   pub together : sum counts ≡ size
 
--- Reads of one file in turn. The last is the first to go past so many bytes: none is made after it.
+-- Reads of one file in turn. The last is the first to go past this many bytes: none is made after it.
 pub record StopsPast {Files : Type 0} (gives : Files → List ℕ → ℕ → ℕ → Files → Type 0)
     (name : List ℕ) (limit : ℕ) (start end : Files) : Type 0 where
   pub last : ℕ
@@ -33,7 +33,7 @@ pub record StopsPast {Files : Type 0} (gives : Files → List ℕ → ℕ → �
   pub within : sum earlier ≤ limit
   pub past : limit < sum earlier + last
 
--- Reads of one file in turn, which gave at most so many bytes together, and then one from where they ended, which
+-- Reads of one file in turn, which gave at most this many bytes together, and then one from where they ended, which
 -- failed.
 pub record FailsWithin {Files : Type 0} (gives : Files → List ℕ → ℕ → ℕ → Files → Type 0)
     (fails : Files → List ℕ → ℕ → Files → Type 0)

@@ -45,8 +45,8 @@ pub record CountsRead (old new : MemoryFiles) : Type 0 where
         fails = old.fails;
       }
 
--- A read of a name that fails has the next number, which is one of those that fail, or its name is missing. It changes
--- the counts of faults beside.
+-- A read of a name that fails has the next number, which is one of those that fail, or its name is missing. Besides, it
+-- changes the counts of faults.
 pub record CountsFailedRead (old new : MemoryFiles) (name : List ℕ) : Type 0 where
   pub cause : Contains old.fails new.reads ⊎ (index_of old.files name ≡ None)
   pub next : new.reads ≡ one_more old.reads

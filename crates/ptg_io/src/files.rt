@@ -16,7 +16,7 @@ pub trait Files {
     /// How many reads of a name failed so far.
     ghost faults: { Self → List ℕ → ℕ };
 
-    /// How the files are after a read of a name from an offset gave so many bytes, as far as that is known.
+    /// How the files are after a read of a name from an offset gave this many bytes, as far as that is known.
     ghost read_gives: { Self → List ℕ → ℕ → ℕ → Self → Type 0 } = { λ _ _ _ _ _. ⊤ };
 
     /// How the files are after a read of a name from an offset failed, as far as that is known.

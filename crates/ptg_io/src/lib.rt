@@ -1,6 +1,7 @@
 //! Whole files in, bytes out, with the faults of the outside counted.
 #![tactic(auto)]
 
+mod bytewise;
 mod file;
 mod files;
 mod loading;
@@ -11,6 +12,7 @@ mod sink;
 mod tests;
 mod writing;
 
+pub use bytewise::{ByteFiles, ByteSink};
 pub use file::File;
 pub use files::{Failed, Files};
 pub use loading::{LoadFault, load};

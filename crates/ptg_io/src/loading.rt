@@ -73,7 +73,7 @@ pub fn load<F: Files>(alloc: Global, files: &mut F, name: &str) -> Result<Seq<u8
     Ok(Seq::of(bytes))
 }
 
-// So many zeros.
+// This many zeros.
 fn zeros(alloc: Global, count: usize) -> Result<Vec<u8>, AllocError>
     ensures { IfOk result (λ zeros. length zeros.items ≡ count) }
 {

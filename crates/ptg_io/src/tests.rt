@@ -1,44 +1,9 @@
 //! Whole files and all bytes, where each read gives one byte and each write takes one.
 
-ghost use Rattle.std.specs.Prelude.{None};
-ghost use Rattle.ptg_io.specs.Memory.{failed_reads};
-
-use crate::{Failed, File, Files, LoadFault, MemFiles, MemSink, Sink, load, write_all};
+use crate::{ByteFiles, ByteSink, Failed, File, LoadFault, MemFiles, MemSink, load, write_all};
 use ptg_base::{OutOfMemory, Seq, Text};
 use std::alloc::Global;
 use std::test::Fail;
-
-// Files in memory that give one byte a read.
-#[derive(Drop)]
-struct ByteFiles {
-    files: MemFiles,
-}
-
-impl Files for ByteFiles {
-    ghost contents = { λ _. None };
-
-    ghost faults = { λ f. failed_reads f.files };
-
-    fn read(&mut self, name: &str, from: u64, into: &mut [u8]) -> Result<usize, Failed> {
-        self.files.read(name, from, &mut into[..1])
-    }
-}
-
-// A sink in memory that takes one byte a write.
-#[derive(Drop)]
-struct ByteSink {
-    sink: MemSink,
-}
-
-impl Sink for ByteSink {
-    ghost bytes = { λ _. None };
-
-    ghost faults = { λ s. s.sink.failed };
-
-    fn write(&mut self, piece: &[u8]) -> Result<usize, Failed> {
-        self.sink.write(&piece[..1])
-    }
-}
 
 // The numbers of the calls that fail: this one.
 fn failing(alloc: Global, number: u64) -> Result<Seq<u64>, OutOfMemory> {

@@ -3,10 +3,11 @@ use Rattle.std.specs.Prelude.{◌≡◌, ℕ, ℤ, ◌+◌, ◌<◌, Bool, true,
 use Rattle.std.proofs.Common.{refl, ap, ◌∙◌, arith, subst, true≢false, sym}
 use Rattle.std.specs.Cmp.{unsigned_Decides}
 use Rattle.std.specs.Option.{unwrap_or}
+use Rattle.ptg_base.specs.Entry.{Entry}
 use Rattle.ptg_base.specs.Task.{Task}
 use Rattle.ptg_base.specs.TaskComparing.{same_task}
 use Rattle.ptg_base.specs.TaskLaws.{same_task-decides}
-use Rattle.dep_shard.specs.Content.{Content, Entry, Entries, HasWaiting, Updates, entry_before, entry_in, fresh, with_arrival}
+use Rattle.dep_shard.specs.Content.{Content, Entries, HasWaiting, Updates, entry_before, entry_in, fresh, with_arrival}
 use Rattle.ptg_measure.specs.Tasks.{task_of, HasNoneFrom, WaitFrom}
 
 number_is : (i k : ℕ) → task_of i ≡ task_of k → i ≡ k

@@ -8,9 +8,10 @@ use ptg_base::{Seq, Tile};
 use std::alloc::Global;
 use term_core::{BinOp, Block, Body, Expr, Stmt};
 
-// The slots of `x` and `i`.
+// The slot of `x`.
 const X: u16 = 0;
 
+// The slot of `i`.
 const I: u16 = 1;
 
 /// The body `int x = 0; for i = 1 .. size { x = x + i; } A[0] = x;`, where `A` is its one flow.
@@ -31,7 +32,7 @@ fn turns(alloc: Global, size: u32) -> Result<Body, Failure>
     })
 }
 
-/// A body of so many turns, run: the sum that it leaves in its tile.
+/// A body of this many turns, run: the sum that it leaves in its tile.
 pub fn body(alloc: Global, size: u32) -> Result<Counts, Failure> {
     let body = turns(alloc, size)?;
     let mut tiles = vec![in alloc; Some(Tile::zeros(alloc, 1)?)]?;

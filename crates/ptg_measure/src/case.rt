@@ -18,60 +18,60 @@ use std::thread::Threads;
 /// What is measured.
 #[derive(Clone, Copy, Debug, PartialEq, Eq)]
 pub enum Case {
-    /// A walk through a space of so many tasks, and the count of them by `space_size`.
+    /// A walk through a space of this many tasks, and the count of them by `space_size`.
     Space,
-    /// The count of so many tasks in one range, by `space_size` alone.
+    /// The count of this many tasks in one range, by `space_size` alone.
     Size,
-    /// The same in two nested ranges of so many values each.
+    /// The same in two nested ranges of this many values each.
     SizeOfSquare,
     /// The same with a third definition that is derived.
     SizeWithSum,
-    /// A body run that makes so many turns of a loop.
+    /// A body run that makes this many turns of a loop.
     Body,
-    /// The tokens of a JDF text of so many tokens.
+    /// The tokens of a JDF text of this many tokens.
     Tokens,
-    /// A data file of so many tiles with 2,000 numbers each, read.
+    /// A data file of this many tiles with 2,000 numbers each, read.
     LongTiles,
-    /// A data file of so many tiles of one number, read.
+    /// A data file of this many tiles of one number, read.
     ShortTiles,
-    /// A data file of so many integers, read.
+    /// A data file of this many integers, read.
     Ints,
-    /// A body with so many names, read under as many globals.
+    /// A body with this many names, read under as many globals.
     Names,
-    /// The plan of a job of the shape of a tiled Cholesky factorization, of so many rows of tiles, made from its texts.
+    /// The plan of a job of the shape of a tiled Cholesky factorization with this many rows of tiles, made from texts.
     Job,
-    /// The edges of a job of the shape of a tiled Cholesky factorization, of so many rows of tiles, walked in both
+    /// The edges of a job of the shape of a tiled Cholesky factorization, of this many rows of tiles, walked in both
     /// directions.
     Edges,
-    /// A broadcast to so many tasks and a gather from them, walked, and each edge asked for on its other side.
+    /// A broadcast to this many tasks and a gather from them, walked, and each edge asked for on its other side.
     Star,
-    /// The lists of a chain of so many tasks, each the source of the next.
+    /// The lists of a chain of this many tasks, each the source of the next.
     ChainLists,
     /// These, and whether they show that no chain is heavier.
     CheckedChain,
-    /// So many tasks in a ring, and whether they are a cycle.
+    /// This many tasks in a ring, and whether they are a cycle.
     CheckedCycle,
-    /// So many turns of a table, taken and given back by one pass alone.
+    /// This many turns of a table, taken and given back by one pass alone.
     Turns,
-    /// So many turns by each of three passes, one after the other, on one thread.
+    /// This many turns by each of three passes, one after the other, on one thread.
     TurnsOfThree,
-    /// So many turns of the same shards by each of four passes, each in a thread of its own.
+    /// This many turns of the same shards by each of four passes, each in a thread of its own.
     TurnsInThreads,
-    /// The job of so many tasks in a line.
+    /// The job of this many tasks in a line.
     Unopened,
     /// The same with a table.
     Opened,
-    /// The run of one task after which so many others wait, up to the close of the table.
+    /// The run of one task after which this many others wait, up to the close of the table.
     Close,
     /// The same, up to its answer.
     Outcome,
     /// What is done with one shard.
     Shard(ShardCase),
-    /// So many ids pushed to one deque and popped, in bursts.
+    /// This many ids pushed to one deque and popped, in bursts.
     Deque,
-    /// So many ids pushed to one deque, and then popped.
+    /// This many ids pushed to one deque, and then popped.
     DeepDeque,
-    /// So many ids pushed and popped, in bursts, while three others steal.
+    /// This many ids pushed and popped, in bursts, while three others steal.
     Thieves,
 }
 

@@ -17,7 +17,7 @@ const BURST: u32 = 1000;
 // How many workers there are where three of them steal.
 const WORKERS: u32 = 4;
 
-/// So many ids are pushed to one deque and popped, in bursts.
+/// This many ids are pushed to one deque and popped, in bursts.
 pub fn deque(alloc: Global, size: u32) -> Result<Counts, OutOfMemory> {
     let mut team = make(alloc, 1)?;
     let taken = match team.first_mut() {
@@ -27,7 +27,7 @@ pub fn deque(alloc: Global, size: u32) -> Result<Counts, OutOfMemory> {
     Ok(Counts::one(Count::of("taken", taken)))
 }
 
-/// So many ids are pushed to one deque, and then all are popped.
+/// This many ids are pushed to one deque, and then all are popped.
 pub fn deep_deque(alloc: Global, size: u32) -> Result<Counts, OutOfMemory> {
     let mut team = make(alloc, 1)?;
     let taken = match team.first_mut() {
@@ -55,7 +55,7 @@ fn push_and_pop(hands: &mut Hands, size: u32, burst: u32) -> u64 {
     taken.wrapping_add(pop_all(hands, pushed))
 }
 
-// Pops so many ids, or fewer where none is left.
+// Pops this many ids, or fewer where none is left.
 fn pop_all(hands: &mut Hands, most: u32) -> u64 {
     let mut taken: u64 = 0;
     for _ in 0..most {
@@ -74,7 +74,7 @@ struct Seat {
     taken: u64,
 }
 
-/// So many ids are pushed by one worker and popped, in bursts, while three others steal from it.
+/// This many ids are pushed by one worker and popped, in bursts, while three others steal from it.
 pub fn thieves<R: Threads + Wait + Sync>(
     rt: &R,
     alloc: Global,

@@ -4,11 +4,12 @@ ghost use Rattle.dep_iter.specs.Tasks.{IsTask};
 
 use crate::count::{Count, Counts, Failure};
 use crate::jobs::{cholesky, star};
-use dep_iter::{Direction, LentEdge, far_locals, in_edges, is_task, out_edges};
+use dep_iter::{LentEdge, has_other_end, in_edges, is_task, out_edges};
 use plan_core::Plan;
 use ptg_base::{MOST_LOCALS, TaskId};
 use range_space::Space;
 use std::alloc::Global;
+use term_core::Direction;
 
 // How many edges were walked.
 #[derive(Clone, Copy, Drop)]
@@ -19,6 +20,7 @@ struct Walked {
 }
 
 impl Walked {
+    // Nothing was walked.
     fn none() -> Walked {
         Walked {
             tasks: 0,
@@ -59,7 +61,7 @@ impl Walked {
     }
 }
 
-/// The edges of a job of the shape of a tiled Cholesky factorization with so many rows of tiles: those into each task
+/// The edges of a job of the shape of a tiled Cholesky factorization with this many rows of tiles: those into each task
 /// and those out of each.
 pub fn edges(alloc: Global, size: u32) -> Result<Counts, Failure> {
     let plan = cholesky(alloc, size)?;
@@ -80,7 +82,7 @@ fn received(plan: &Plan, task: &TaskId) -> u64
 {
     let mut count: u64 = 0;
     for edge in out_edges(plan, task) {
-        if far_locals(plan, Direction::Out, &LentEdge::of(&edge)).is_some() {
+        if has_other_end(plan, Direction::Out, &LentEdge::of(&edge)) {
             count = count.wrapping_add(1);
         }
     }
@@ -93,7 +95,7 @@ fn sent(plan: &Plan, task: &TaskId) -> u64
 {
     let mut count: u64 = 0;
     for edge in in_edges(plan, task) {
-        if far_locals(plan, Direction::In, &LentEdge::of(&edge)).is_some() {
+        if has_other_end(plan, Direction::In, &LentEdge::of(&edge)) {
             count = count.wrapping_add(1);
         }
     }
@@ -106,7 +108,7 @@ pub fn job(alloc: Global, size: u32) -> Result<Counts, Failure> {
     Ok(Counts::one(Count::of("classes", plan.classes.len() as u64)))
 }
 
-/// One task with an edge to and an edge from each of so many others: how many of them the others have too.
+/// One task with an edge to and an edge from each of this many others: how many of them the others have too.
 pub fn star_edges(alloc: Global, size: u32) -> Result<Counts, Failure> {
     let plan = star(alloc, size)?;
     let task = TaskId::new(0, &[0]);

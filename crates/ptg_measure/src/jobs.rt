@@ -6,7 +6,7 @@ use crate::count::Failure;
 use coll_data::Given;
 use dep_iter::Matched;
 use flow_check::{check, globals_of, missing};
-use job_stages::{JobVerdict, given_of, judge_texts, tree_of};
+use job_stages::{given_of, job_of_texts, tree_of};
 use plan_core::Plan;
 use ptg_base::MOST_ROWS;
 use std::alloc::Global;
@@ -90,7 +90,7 @@ fn plan_of(alloc: Global, jdf: &[u8], table: &[u8]) -> Result<Plan, Failure> {
     Ok(check(alloc, &tree, &given, &globals)?)
 }
 
-/// The plan of a job of the shape of a tiled Cholesky factorization with so many rows of tiles.
+/// The plan of a job of the shape of a tiled Cholesky factorization with this many rows of tiles.
 pub fn cholesky(alloc: Global, size: u32) -> Result<Plan, Failure> {
     if size < 1 || size > MOST_ROWS {
         return Err(Failure::TooLarge);
@@ -116,35 +116,32 @@ fn job_up_to(alloc: Global, jdf: &[u8], count: u32) -> Result<(Matched, Given), 
     ensures { IfOk result (λ j. DataFit j.0.colls j.0.elems j.1) }
 {
     let table = table_up_to(alloc, count)?;
-    match judge_texts(alloc, jdf, table.as_bytes())? {
-        JobVerdict::Consistent(matched, given) => Ok((matched, given)),
-        _ => Err(Failure::NotWellMade),
-    }
+    job_of_texts(alloc, jdf, table.as_bytes())?.ok_or(Failure::NotWellMade)
 }
 
-/// The plan of one task and so many others.
+/// The plan of one task and this many others.
 pub fn star(alloc: Global, others: u32) -> Result<Plan, Failure> {
     plan_up_to(alloc, STAR, others)
 }
 
-/// The plan of so many tasks in a line.
+/// The plan of this many tasks in a line.
 pub fn line(alloc: Global, tasks: u32) -> Result<Plan, Failure> {
     plan_up_to(alloc, LINE, tasks)
 }
 
-/// The plan of so many tasks in a ring.
+/// The plan of this many tasks in a ring.
 pub fn ring(alloc: Global, tasks: u32) -> Result<Plan, Failure> {
     plan_up_to(alloc, RING, tasks)
 }
 
-/// The job of so many tasks in a line.
+/// The job of this many tasks in a line.
 pub fn line_job(alloc: Global, tasks: u32) -> Result<(Matched, Given), Failure>
     ensures { IfOk result (λ j. DataFit j.0.colls j.0.elems j.1) }
 {
     job_up_to(alloc, LINE, tasks)
 }
 
-/// The job of one task that runs and so many others that wait for ever.
+/// The job of one task that runs and this many others that wait for ever.
 pub fn waiting_job(alloc: Global, others: u32) -> Result<(Matched, Given), Failure>
     ensures { IfOk result (λ j. DataFit j.0.colls j.0.elems j.1) }
 {

@@ -25,6 +25,7 @@ use std::sync::Wait;
 use std::thread::Threads;
 use std::{env, io};
 
+// What is printed where the words name no measures.
 const USAGE: &str = "usage: ptg_measure (CASE SIZE)..
 CASE is space, size, size_of_square, size_with_sum, body, tokens, long_tiles, short_tiles, ints, names, job, edges,
 star, chain_lists, checked_chain, checked_cycle, turns, turns_of_three, turns_in_threads, unopened, opened, close,

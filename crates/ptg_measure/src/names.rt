@@ -14,6 +14,7 @@ const VARIABLES: u32 = 256;
 // How many names an expression has: with the operators between them they are 127 of the 128 tokens that it may have.
 const NAMES: u32 = 64;
 
+// A table of this many names.
 fn integers(alloc: Global, count: u32) -> Result<NameTable<i64>, Failure> {
     let mut integers = NameTable::new(alloc);
     for number in 0..count {
@@ -54,7 +55,8 @@ fn add_name(text: &mut String, number: u32) -> Result<(), Failure> {
     Ok(())
 }
 
-// A body that declares all variables, and then uses so many names: one of 64 is a variable, and the others are globals.
+// A body that declares all variables, and then uses this many names: one of 64 is a variable, and the others are
+// globals.
 fn body(alloc: Global, size: u32) -> Result<String, Failure> {
     let mut text = String::new(alloc);
     for number in 0..VARIABLES {
@@ -69,7 +71,7 @@ fn body(alloc: Global, size: u32) -> Result<String, Failure> {
     Ok(text)
 }
 
-/// A body with so many names, read under as many globals: how many tokens and slots it has.
+/// A body with this many names, read under as many globals: how many tokens and slots it has.
 pub fn names(alloc: Global, size: u32) -> Result<Counts, Failure> {
     let ints = integers(alloc, size)?;
     let colls = NameTable::new(alloc);

@@ -17,23 +17,23 @@ const NUMBERS: u32 = 4;
 /// What is measured of a shard.
 #[derive(Clone, Copy, Debug, PartialEq, Eq)]
 pub enum ShardCase {
-    /// So many ready tasks added.
+    /// This many ready tasks added.
     Ready,
     /// The same, and all of them taken from the best to the last.
     Best,
     /// The same, and all of them taken by their numbers.
     ByTask,
-    /// The first of two edges into each of so many tasks.
+    /// The first of two edges into each of this many tasks.
     FirstEdges,
-    /// Both edges into each of so many tasks.
+    /// Both edges into each of this many tasks.
     LastEdges,
     /// The same in a shard with spares for all of it.
     Reserved,
-    /// Both edges into each of so many tasks, and all tasks taken from the best to the last.
+    /// Both edges into each of this many tasks, and all tasks taken from the best to the last.
     Fired,
-    /// So many ready tasks that are taken and trap.
+    /// This many ready tasks that are taken and trap.
     Trapped,
-    /// So many tiles written back.
+    /// This many tiles written back.
     Written,
 }
 
@@ -81,6 +81,7 @@ fn counts(case: ShardCase, size: u32, shard: &mut Shard, tile: &Tile) -> Result<
     }
 }
 
+// Adds ready tasks.
 fn ready(size: u32, shard: &mut Shard) -> Result<Counts, OutOfMemory>
     requires { HasNoneFrom 0 shard.old }
 {
@@ -88,6 +89,7 @@ fn ready(size: u32, shard: &mut Shard) -> Result<Counts, OutOfMemory>
     Ok(Counts::one(entries(shard)))
 }
 
+// Adds ready tasks, and takes them from the best to the last.
 fn best(size: u32, shard: &mut Shard) -> Result<Counts, OutOfMemory>
     requires { HasNoneFrom 0 shard.old }
 {
@@ -96,6 +98,7 @@ fn best(size: u32, shard: &mut Shard) -> Result<Counts, OutOfMemory>
     Ok(Counts::two(Count::of("taken", taken), entries(shard)))
 }
 
+// Adds ready tasks, and takes them by their numbers.
 fn by_task(size: u32, shard: &mut Shard) -> Result<Counts, OutOfMemory>
     requires { HasNoneFrom 0 shard.old }
 {
@@ -104,6 +107,7 @@ fn by_task(size: u32, shard: &mut Shard) -> Result<Counts, OutOfMemory>
     Ok(Counts::two(Count::of("taken", taken), entries(shard)))
 }
 
+// Sends the first of two edges into each task.
 fn first_edges(size: u32, shard: &mut Shard, tile: &Tile) -> Result<Counts, OutOfMemory>
     requires new { HasNoneFrom 0 shard.old }
     requires tile { IsTileOf shard.old.elems 0 tile.now }
@@ -112,6 +116,7 @@ fn first_edges(size: u32, shard: &mut Shard, tile: &Tile) -> Result<Counts, OutO
     Ok(Counts::one(entries(shard)))
 }
 
+// Sends both edges into each task.
 fn last_edges(size: u32, shard: &mut Shard, tile: &Tile) -> Result<Counts, OutOfMemory>
     requires new { HasNoneFrom 0 shard.old }
     requires tile { IsTileOf shard.old.elems 0 tile.now }
@@ -120,6 +125,7 @@ fn last_edges(size: u32, shard: &mut Shard, tile: &Tile) -> Result<Counts, OutOf
     Ok(Counts::two(Count::of("fired", fired), entries(shard)))
 }
 
+// Sends both edges into each task, with spares for all of it.
 fn reserved(size: u32, shard: &mut Shard, tile: &Tile) -> Result<Counts, OutOfMemory>
     requires new { HasNoneFrom 0 shard.old }
     requires tile { IsTileOf shard.old.elems 0 tile.now }
@@ -130,6 +136,7 @@ fn reserved(size: u32, shard: &mut Shard, tile: &Tile) -> Result<Counts, OutOfMe
     Ok(Counts::two(Count::of("fired", fired), entries(shard)))
 }
 
+// Sends both edges into each task, and takes the tasks from the best to the last.
 fn fired(size: u32, shard: &mut Shard, tile: &Tile) -> Result<Counts, OutOfMemory>
     requires new { HasNoneFrom 0 shard.old }
     requires tile { IsTileOf shard.old.elems 0 tile.now }
@@ -143,6 +150,7 @@ fn fired(size: u32, shard: &mut Shard, tile: &Tile) -> Result<Counts, OutOfMemor
     ))
 }
 
+// Adds ready tasks, and lets each of them trap.
 fn trapped(size: u32, shard: &mut Shard) -> Result<Counts, OutOfMemory>
     requires new { HasNoneFrom 0 shard.old }
     requires types { length shard.old.elems ≡ 1 }
@@ -156,6 +164,7 @@ fn trapped(size: u32, shard: &mut Shard) -> Result<Counts, OutOfMemory>
     ))
 }
 
+// Writes a tile back for each task.
 fn written(size: u32, shard: &mut Shard, tile: &Tile) -> Result<Counts, OutOfMemory>
     requires tile { IsTileOf shard.old.elems 0 tile.now }
     requires types { length shard.old.elems ≡ 1 }
@@ -170,6 +179,7 @@ fn entries(shard: &Shard) -> Count {
     Count::of("entries", shard.len() as u64)
 }
 
+// Adds this many ready tasks.
 fn add_ready(shard: &mut Shard, size: u32) -> Result<(), OutOfMemory>
     requires { HasNoneFrom 0 shard.old }
 {
@@ -192,6 +202,7 @@ fn edge_to(number: u32, flow: u8) -> Edge
     }
 }
 
+// Sends the first of two edges into each of this many tasks.
 fn send_first(shard: &mut Shard, size: u32, tile: &Tile) -> Result<(), OutOfMemory>
     requires new { HasNoneFrom 0 shard.old }
     requires tile { IsTileOf shard.old.elems 0 tile.now }
@@ -204,6 +215,7 @@ fn send_first(shard: &mut Shard, size: u32, tile: &Tile) -> Result<(), OutOfMemo
     Ok(())
 }
 
+// Sends the second of two edges into each of this many tasks. How many fired.
 fn send_last(shard: &mut Shard, size: u32, tile: &Tile) -> Result<u64, OutOfMemory>
     requires waits { WaitFrom 0 size shard.old }
     requires tile { IsTileOf shard.old.elems 0 tile.now }
@@ -218,7 +230,7 @@ fn send_last(shard: &mut Shard, size: u32, tile: &Tile) -> Result<u64, OutOfMemo
     Ok(fired)
 }
 
-// Both of two edges come to each of so many tasks. How many fired.
+// Both of two edges come to each of this many tasks. How many fired.
 fn send_both(shard: &mut Shard, size: u32, tile: &Tile) -> Result<u64, OutOfMemory>
     requires new { HasNoneFrom 0 shard.old }
     requires tile { IsTileOf shard.old.elems 0 tile.now }
@@ -247,6 +259,7 @@ fn run(shard: &mut Shard, task: &TaskId) -> bool {
     true
 }
 
+// Takes this many tasks, each the best that is ready. How many were taken.
 fn take_best(shard: &mut Shard, size: u32) -> u64 {
     let mut taken: u64 = 0;
     for _ in 0..size {
@@ -260,6 +273,7 @@ fn take_best(shard: &mut Shard, size: u32) -> u64 {
     taken
 }
 
+// Takes this many tasks by their numbers. How many were taken.
 fn take_by_task(shard: &mut Shard, size: u32) -> u64 {
     let mut taken: u64 = 0;
     for number in 0..size {
@@ -278,6 +292,7 @@ fn trap(shard: &mut Shard, task: &TaskId) -> Result<(), OutOfMemory> {
     shard.trap(task, Trap::Divide)
 }
 
+// Lets this many tasks trap.
 fn trap_by_task(shard: &mut Shard, size: u32) -> Result<(), OutOfMemory> {
     for number in 0..size {
         trap(shard, &task(number))?;
@@ -296,6 +311,7 @@ fn count_trapped(shard: &Shard, size: u32) -> u64 {
     count
 }
 
+// Writes a tile back for each of this many tasks.
 fn write_back(shard: &mut Shard, size: u32, tile: &Tile) -> Result<(), OutOfMemory>
     requires tile { IsTileOf shard.old.elems 0 tile.now }
 {

@@ -57,12 +57,12 @@ fn counted(alloc: Global, class: ClassSpace) -> Result<Counts, Failure>
     Ok(Counts::one(Count::of("counted", count)))
 }
 
-/// A class of so many tasks in one range.
+/// A class of this many tasks in one range.
 pub fn size_of_line(alloc: Global, count: u32) -> Result<Counts, Failure> {
     counted(alloc, line(alloc, count)?)
 }
 
-/// A class of two ranges of so many values each.
+/// A class of two ranges of this many values each.
 pub fn size_of_square(alloc: Global, side: u32) -> Result<Counts, Failure> {
     counted(alloc, square(alloc, side)?)
 }

@@ -9,7 +9,7 @@ use range_space::{Space, space_size};
 use std::alloc::Global;
 use term_core::{ClassSpace, Def, Expr, Params, Range};
 
-/// The class of one parameter with a value for each of so many tasks, `T(k)`: `k = 1 .. size`.
+/// The class of one parameter with a value for each of this many tasks, `T(k)`: `k = 1 .. size`.
 fn line(alloc: Global, size: u32) -> Result<ClassSpace, Failure>
     ensures { IfOk result (λ space. length space.defs ≤ most_locals) }
 {
@@ -36,7 +36,7 @@ fn walked(space: &ClassSpace) -> Option<u64>
     Some(count)
 }
 
-/// A class of so many tasks: how many a walk comes to, and how many `space_size` counts.
+/// A class of this many tasks: how many a walk comes to, and how many `space_size` counts.
 pub fn space(alloc: Global, size: u32) -> Result<Counts, Failure> {
     let classes = vec![in alloc; line(alloc, size)?]?;
     let walked = walked(&classes[0]).ok_or(Failure::TooLarge)?;

@@ -10,10 +10,7 @@ use crate::count::{Count, Counts, Failure};
 use crate::jobs::{line_job, waiting_job};
 use coll_data::Given;
 use dep_iter::Matched;
-use dep_table::closed::Closed;
-use dep_table::pass::Pass;
-use dep_table::table::DepTable;
-use dep_table::turn::Busy;
+use dep_table::{Busy, Closed, DepTable, Pass};
 use flow_meaning::Outcome;
 use ptg_base::OutOfMemory;
 use run_pool::{PrepareFault, Settings, prepare, run};
@@ -23,9 +20,10 @@ use std::thread;
 use std::thread::Threads;
 use worker_core::Always;
 
-// How many shards there are, and how many passes in threads.
+// How many shards there are.
 const SHARDS: u32 = 16;
 
+// How many passes in threads there are.
 const THREADS: u32 = 4;
 
 // A table of a job, with its first pass.
@@ -52,7 +50,7 @@ fn take_and_leave(table: &DepTable, pass: &mut Pass, shard: u32) -> bool
     }
 }
 
-// Goes for so many turns, of one shard after the other. How many it got.
+// Goes for this many turns, of one shard after the other. How many it got.
 fn take_turns(table: &DepTable, pass: &mut Pass, count: u32) -> u64
     requires { IsPassOf (id_of table.now) pass.old }
     ensures { IsPassOf (id_of table.now) pass.new }
@@ -70,14 +68,14 @@ fn take_turns(table: &DepTable, pass: &mut Pass, count: u32) -> u64
     taken
 }
 
-/// So many turns, taken and given back by one pass alone.
+/// This many turns, taken and given back by one pass alone.
 pub fn turns(alloc: Global, size: u32) -> Result<Counts, Failure> {
     let (table, mut pass) = open(alloc, line_job(alloc, 2)?)?;
     let taken = take_turns(&table, &mut pass, size);
     Ok(Counts::one(Count::of("taken", taken)))
 }
 
-/// So many turns by each of three passes, one after the other, on one thread.
+/// This many turns by each of three passes, one after the other, on one thread.
 pub fn turns_of_three(alloc: Global, size: u32) -> Result<Counts, Failure> {
     let (table, mut first) = open(alloc, line_job(alloc, 2)?)?;
     let mut second = table.split(&mut first);
@@ -119,7 +117,7 @@ fn take_at_last<R: Wait>(rt: &R, table: &DepTable, pass: &mut Pass, shard: u32)
     unreachable!()
 }
 
-// Takes so many turns, of one shard after the other, however long each takes. How many it got.
+// Takes this many turns, of one shard after the other, however long each takes. How many it got.
 fn take_all<R: Wait>(rt: &R, table: &DepTable, pass: Pass, count: u32) -> u64
     requires { IsPassOf (id_of table.now) pass }
 {
@@ -136,7 +134,7 @@ fn take_all<R: Wait>(rt: &R, table: &DepTable, pass: Pass, count: u32) -> u64
     taken
 }
 
-/// So many turns of the same shards by each of four passes, each in a thread of its own, however often they are found
+/// This many turns of the same shards by each of four passes, each in a thread of its own, however often they are found
 /// taken.
 pub fn turns_in_threads<R: Threads + Wait + Sync>(
     rt: &R,
@@ -159,7 +157,7 @@ pub fn turns_in_threads<R: Threads + Wait + Sync>(
     Ok(Counts::one(Count::of("taken", sum)))
 }
 
-/// The job of so many tasks in a line, without a table.
+/// The job of this many tasks in a line, without a table.
 pub fn unopened(alloc: Global, size: u32) -> Result<Counts, Failure> {
     let (matched, _given) = line_job(alloc, size)?;
     Ok(Counts::one(Count::of("tasks", matched.tasks())))
@@ -192,7 +190,7 @@ fn closed<R: Threads + Wait + Sync>(
     }
 }
 
-/// The run of one task after which so many others wait, up to the close of the table.
+/// The run of one task after which this many others wait, up to the close of the table.
 pub fn close<R: Threads + Wait + Sync>(
     rt: &R,
     alloc: Global,

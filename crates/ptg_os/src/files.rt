@@ -95,6 +95,7 @@ fn opened_at<R: rt::Files>(
     }
 }
 
+// Whether this file is open at this offset.
 fn is_at<F>(opened: &Opened<F>, name: &str, from: u64) -> bool {
     match &opened.name {
         Some(text) => opened.offset == from && text.bytes() == name.as_bytes(),
@@ -102,6 +103,7 @@ fn is_at<F>(opened: &Opened<F>, name: &str, from: u64) -> bool {
     }
 }
 
+// Opens a file at this offset.
 fn open_at<R: rt::Files>(
     system: &R,
     alloc: Global,

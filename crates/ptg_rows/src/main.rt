@@ -3,10 +3,8 @@
 //! write, and with many workers and shards. Prints the rows that came out otherwise.
 #![tactic(auto)]
 
-mod bytewise;
 mod settings;
 
-use crate::bytewise::{ByteFiles, ByteSink};
 use crate::settings::with_settings;
 use ptg_base::Seq;
 use ptg_io::{MemFiles, MemSink};
@@ -33,6 +31,7 @@ fn main(rt: HostRuntime) -> ExitCode {
     }
 }
 
+// Whether all rows come out as wanted, with each choice of settings.
 fn all_ways<R: Print + Files + Env + Threads + Wait + Sync + AllocGlobal>(
     rt: &R,
 ) -> io::Result<bool> {

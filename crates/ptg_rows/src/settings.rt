@@ -18,6 +18,7 @@ pub fn with_settings(
     Ok(words)
 }
 
+// Whether the words are a `run` without numbers of workers and shards.
 fn leaves_settings_open(words: &[Text]) -> bool {
     match words.first() {
         Some(verb) => verb.bytes() == b"run".as_slice()
@@ -26,6 +27,7 @@ fn leaves_settings_open(words: &[Text]) -> bool {
     }
 }
 
+// Whether the word is an option with a number.
 fn is_setting(word: &Text) -> bool {
     word.bytes().starts_with(b"--workers") || word.bytes().starts_with(b"--shards")
 }

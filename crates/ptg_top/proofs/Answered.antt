@@ -9,20 +9,19 @@ use Rattle.flow_meaning.specs.Answer.{answer}
 use Rattle.job_stages.specs.declared.verdict.JobVerdict.TheVariants as jobs
 use Rattle.run_pool.specs.declared.settings.Settings.{Settings}
 use Rattle.ptg_top.specs.Preload.{is_too_large}
-use Rattle.ptg_top.specs.declared.request.RankSettings.{RankSettings}
-use Rattle.ptg_top.specs.declared.request.Request.{Request}
-use Rattle.ptg_top.specs.declared.request.Request.TheVariants.{Certify, Check, Ranks, Run, Trace}
+use Rattle.ptg_words.specs.declared.order.Order.{Order}
+use Rattle.ptg_words.specs.declared.order.Order.TheVariants.{Certify, Check, Ranks, Run, Trace}
 use Rattle.ptg_top.specs.declared.verdict.Finding.TheVariants.{Answer}
 use Rattle.ptg_top.specs.declared.verdict.Verdict.{Verdict}
 use Rattle.ptg_top.specs.Denotation as verdicts
 use Rattle.ptg_top.specs.Denotation.{Denotation, denoted}
-use Rattle.ptg_top.specs.Answering.{IsAnswer, IsRefusal, OnConsistent}
+use Rattle.ptg_top.specs.Answering.{IsAnswer, IsRefusedByCheck, OnConsistent}
 use Rattle.ptg_top.specs.Certify.{IsCertified}
 use Rattle.ptg_top.specs.Trace.{IsTraced}
 use Rattle.ptg_top.specs.Ranks.{IsRanked}
 use Rattle.ptg_top.specs.JobFiles.{Entries, FilesDenote}
-use Rattle.ptg_top.specs.Meaning.{IsUnreadOf, MayBeUnreadFor, RequestDenotes}
-use Rattle.ptg_top.specs.Reports.{IsOfTexts, IsVerdictOnRequest}
+use Rattle.ptg_top.specs.Meaning.{CommandDenotes, IsUnreadOf, MayBeUnreadFor}
+use Rattle.ptg_top.specs.Reports.{IsOfTexts, IsVerdictOnCommand}
 
 module _ (Verb : Plan → Data → Denotation → Type 0) where
   pub once_on : (checked v w : Denotation) → ((P : Plan) (given : Data) → checked ≡ verdicts.Job (jobs.Consistent P given) → Verb P given v → Verb P given w → v ≡ w)
@@ -35,7 +34,7 @@ module _ (Verb : Plan → Data → Denotation → Type 0) where
   some_on checked some = (checked, refl)
 
   -- a refusal stays as it is
-  pub kept : (checked : Denotation) → IsRefusal checked → OnConsistent Verb checked checked
+  pub kept : (checked : Denotation) → IsRefusedByCheck checked → OnConsistent Verb checked checked
   kept (verdicts.Job (jobs.Consistent P given)) h = absurd h
   kept checked h = refl
 
@@ -56,74 +55,43 @@ answer_of_texts settings P given v h = subst IsOfTexts (sym h) (either (is_too_l
     either true = tt
     either false = tt
 
--- the request asks for a verb that goes on from the check of two files
-record GoesOn (request : Request) (jdf data_name : List ℕ) (Verb : Plan → Data → Denotation → Type 0) : Type 0 where
-  unread : (contents : Option Entries) (name : List ℕ) → IsUnreadOf contents jdf data_name name → MayBeUnreadFor contents request name
-  denotes : (files : Entries) (checked v : Denotation) → FilesDenote files jdf data_name checked → OnConsistent Verb checked v → RequestDenotes files request v
-  of_texts : IsVerbOfTexts Verb
+-- the command is of a verb that goes on from the check of two files
+pub record GoesOn (command : Order) (jdf data_name : List ℕ) (Verb : Plan → Data → Denotation → Type 0) : Type 0 where
+  pub unread : (contents : Option Entries) (name : List ℕ) → IsUnreadOf contents jdf data_name name → MayBeUnreadFor contents command name
+  pub denotes : (files : Entries) (checked v : Denotation) → FilesDenote files jdf data_name checked → OnConsistent Verb checked v → CommandDenotes files command v
+  pub of_texts : IsVerbOfTexts Verb
 
-run_goes_on : (jdf data_name : List ℕ) (settings : Settings) → GoesOn (Run jdf data_name settings) jdf data_name (IsAnswer settings)
+pub run_goes_on : (jdf data_name : List ℕ) (settings : Settings) → GoesOn (Run jdf data_name settings.workers settings.shards settings.preload) jdf data_name (IsAnswer settings)
 run_goes_on jdf data_name settings =
     record { unread = λ contents name h. h; denotes = λ files checked v h k. (checked, h, k); of_texts = answer_of_texts settings }
 
-trace_goes_on : (jdf data_name : List ℕ) (settings : Settings) → GoesOn (Trace jdf data_name settings) jdf data_name IsTraced
-trace_goes_on jdf data_name settings =
+pub trace_goes_on : (jdf data_name : List ℕ) (workers shards : ℕ) → GoesOn (Trace jdf data_name workers shards) jdf data_name IsTraced
+trace_goes_on jdf data_name workers shards =
     record { unread = λ contents name h. h; denotes = λ files checked v h k. (checked, h, k); of_texts = λ P given v h. subst IsOfTexts (sym h.2) tt }
 
-certify_goes_on : (jdf data_name : List ℕ) → GoesOn (Certify jdf data_name) jdf data_name IsCertified
+pub certify_goes_on : (jdf data_name : List ℕ) → GoesOn (Certify jdf data_name) jdf data_name IsCertified
 certify_goes_on jdf data_name =
     record { unread = λ contents name h. h; denotes = λ files checked v h k. (checked, h, k); of_texts = λ P given v h. subst IsOfTexts (sym h.2) tt }
 
-ranks_goes_on : (jdf data_name : List ℕ) (settings : RankSettings) → GoesOn (Ranks jdf data_name settings) jdf data_name (IsRanked settings.ranks)
-ranks_goes_on jdf data_name settings =
+pub ranks_goes_on : (jdf data_name : List ℕ) (ranks seed : ℕ) → GoesOn (Ranks jdf data_name ranks seed) jdf data_name (IsRanked ranks)
+ranks_goes_on jdf data_name ranks seed =
     record { unread = λ contents name h. h; denotes = λ files checked v h k. (checked, h, k); of_texts = λ P given v h. subst IsOfTexts (sym h) tt }
 
-module _ (contents : Option Entries) (old new : List ℕ → ℕ) (jdf data_name : List ℕ) where
-  module _ (request : Request) (Verb : Plan → Data → Denotation → Type 0) (on : GoesOn request jdf data_name Verb) where
-    -- the verdict of a verb, from that of `check`
-    verb_ends : (checked v : Denotation) → IsVerdictOnRequest contents old new (Check jdf data_name) checked → OnConsistent Verb checked v → IsVerdictOnRequest contents old new request v
-    verb_ends checked v (inl (name, rose, may, e)) h = inl (name, rose, on.unread contents name may, subst (λ (c : Denotation). OnConsistent Verb c v) e h)
-    verb_ends checked v (inr (of, known)) h = inr (on_texts Verb on.of_texts checked v of h, λ files t. on.denotes files checked v (known files t) h)
+module _ (contents : Option Entries) (old new : List ℕ → ℕ) {jdf data_name : List ℕ} {command : Order} {Verb : Plan → Data → Denotation → Type 0} (on : GoesOn command jdf data_name Verb) where
+  -- the verdict of a verb, from that of `check`
+  verb_ends : (checked v : Denotation) → IsVerdictOnCommand contents old new (Check jdf data_name) checked → OnConsistent Verb checked v → IsVerdictOnCommand contents old new command v
+  verb_ends checked v (inl (name, rose, may, e)) h = inl (name, rose, on.unread contents name may, subst (λ (c : Denotation). OnConsistent Verb c v) e h)
+  verb_ends checked v (inr (of, known)) h = inr (on_texts Verb on.of_texts checked v of h, λ files t. on.denotes files checked v (known files t) h)
 
-    verb_refuses : (checked : Denotation) → IsVerdictOnRequest contents old new (Check jdf data_name) checked → IsRefusal checked → IsVerdictOnRequest contents old new request checked
-    verb_refuses checked h refused = verb_ends checked checked h (kept Verb checked refused)
+  -- a refusal of `check` stays
+  pub verb_refuses : (checked refused : Verdict) → refused ≡ checked → IsVerdictOnCommand contents old new (Check jdf data_name) (denoted checked) → IsRefusedByCheck (denoted refused)
+      → IsVerdictOnCommand contents old new command (denoted refused)
+  verb_refuses checked refused e h r =
+      let found = subst (λ (v : Verdict). IsVerdictOnCommand contents old new (Check jdf data_name) (denoted v)) (sym e) h in
+      verb_ends (denoted refused) (denoted refused) found (kept Verb (denoted refused) r)
 
-    verb_finds : (checked : Denotation) (P : Plan) (given : Data) (r : Result Verdict OutOfMemory) → checked ≡ verdicts.Job (jobs.Consistent P given)
-        → IsVerdictOnRequest contents old new (Check jdf data_name) checked → IfOk r (λ v. Verb P given (denoted v)) → IfOk r (λ v. IsVerdictOnRequest contents old new request (denoted v))
-    verb_finds checked P given (Ok v) e h a = verb_ends checked (denoted v) h (subst (λ (c : Denotation). OnConsistent Verb c (denoted v)) (sym e) a)
-    verb_finds checked P given (Err x) e h a = tt
-
-  -- the verdict of `run`, from that of `check`
-  module _ (settings : Settings) where
-    pub refused_ends : (checked : Denotation) → IsVerdictOnRequest contents old new (Check jdf data_name) checked → IsRefusal checked → IsVerdictOnRequest contents old new (Run jdf data_name settings) checked
-    refused_ends = verb_refuses (Run jdf data_name settings) (IsAnswer settings) (run_goes_on jdf data_name settings)
-
-    pub answered_ends : (checked : Denotation) (P : Plan) (given : Data) (r : Result Verdict OutOfMemory) → checked ≡ verdicts.Job (jobs.Consistent P given)
-        → IsVerdictOnRequest contents old new (Check jdf data_name) checked → IfOk r (λ v. IsAnswer settings P given (denoted v)) → IfOk r (λ v. IsVerdictOnRequest contents old new (Run jdf data_name settings) (denoted v))
-    answered_ends = verb_finds (Run jdf data_name settings) (IsAnswer settings) (run_goes_on jdf data_name settings)
-
-  -- the verdict of `certify`, from that of `check`
-  pub certify_refuses : (checked : Denotation) → IsVerdictOnRequest contents old new (Check jdf data_name) checked → IsRefusal checked → IsVerdictOnRequest contents old new (Certify jdf data_name) checked
-  certify_refuses = verb_refuses (Certify jdf data_name) IsCertified (certify_goes_on jdf data_name)
-
-  pub certify_finds : (checked : Denotation) (P : Plan) (given : Data) (r : Result Verdict OutOfMemory) → checked ≡ verdicts.Job (jobs.Consistent P given)
-      → IsVerdictOnRequest contents old new (Check jdf data_name) checked → IfOk r (λ v. IsCertified P given (denoted v)) → IfOk r (λ v. IsVerdictOnRequest contents old new (Certify jdf data_name) (denoted v))
-  certify_finds = verb_finds (Certify jdf data_name) IsCertified (certify_goes_on jdf data_name)
-
-  -- the verdict of `trace`, from that of `check`
-  module _ (settings : Settings) where
-    pub trace_refuses : (checked : Denotation) → IsVerdictOnRequest contents old new (Check jdf data_name) checked → IsRefusal checked → IsVerdictOnRequest contents old new (Trace jdf data_name settings) checked
-    trace_refuses = verb_refuses (Trace jdf data_name settings) IsTraced (trace_goes_on jdf data_name settings)
-
-    pub trace_finds : (checked : Denotation) (P : Plan) (given : Data) (r : Result Verdict OutOfMemory) → checked ≡ verdicts.Job (jobs.Consistent P given)
-        → IsVerdictOnRequest contents old new (Check jdf data_name) checked → IfOk r (λ v. IsTraced P given (denoted v)) → IfOk r (λ v. IsVerdictOnRequest contents old new (Trace jdf data_name settings) (denoted v))
-    trace_finds = verb_finds (Trace jdf data_name settings) IsTraced (trace_goes_on jdf data_name settings)
-
-  -- the verdict of `ranks`, from that of `check`
-  module _ (settings : RankSettings) where
-    pub ranks_refuses : (checked : Denotation) → IsVerdictOnRequest contents old new (Check jdf data_name) checked → IsRefusal checked → IsVerdictOnRequest contents old new (Ranks jdf data_name settings) checked
-    ranks_refuses = verb_refuses (Ranks jdf data_name settings) (IsRanked settings.ranks) (ranks_goes_on jdf data_name settings)
-
-    pub ranks_finds : (checked : Denotation) (P : Plan) (given : Data) (r : Result Verdict OutOfMemory) → checked ≡ verdicts.Job (jobs.Consistent P given)
-        → IsVerdictOnRequest contents old new (Check jdf data_name) checked → IfOk r (λ v. IsRanked settings.ranks P given (denoted v)) → IfOk r (λ v. IsVerdictOnRequest contents old new (Ranks jdf data_name settings) (denoted v))
-    ranks_finds = verb_finds (Ranks jdf data_name settings) (IsRanked settings.ranks) (ranks_goes_on jdf data_name settings)
+  -- what the verb makes of the consistent job that `check` found
+  pub verb_finds : (checked : Denotation) (P : Plan) (given : Data) (r : Result Verdict OutOfMemory) → checked ≡ verdicts.Job (jobs.Consistent P given)
+      → IsVerdictOnCommand contents old new (Check jdf data_name) checked → IfOk r (λ v. Verb P given (denoted v)) → IfOk r (λ v. IsVerdictOnCommand contents old new command (denoted v))
+  verb_finds checked P given (Ok v) e h a = verb_ends checked (denoted v) h (subst (λ (c : Denotation). OnConsistent Verb c (denoted v)) (sym e) a)
+  verb_finds checked P given (Err x) e h a = tt

@@ -18,7 +18,6 @@ use Rattle.chain_cert.specs.declared.certificate.Certificate.TheVariants as cert
 use Rattle.chain_cert.proofs.Linking.{chain_task}
 use Rattle.chain_cert.proofs.TaskSorting.{order_task}
 use Rattle.ptg_top.specs.declared.verdict.Finding.{Finding}
-use Rattle.ptg_top.specs.declared.verdict.Finding.TheVariants as findings
 use Rattle.ptg_top.specs.declared.verdict.RanBy.{RanBy}
 use Rattle.ptg_top.specs.Certify.{IsCertified, certified}
 use Rattle.ptg_top.specs.Denotation as verdicts

@@ -15,13 +15,13 @@ use Rattle.job_stages.specs.DataText.{too_long}
 use Rattle.dep_iter.specs.Consistent.{IsConsistent}
 use Rattle.job_stages.specs.Verdict.{TextsDenote}
 use Rattle.job_stages.proofs.Once.{jdf_text_once, texts_once}
-use Rattle.ptg_top.specs.declared.request.Request.TheVariants.{Check}
+use Rattle.ptg_words.specs.declared.order.Order.TheVariants.{Check}
 use Rattle.ptg_top.specs.Denotation as verdicts
 use Rattle.ptg_top.specs.declared.verdict.Verdict.{Verdict}
 use Rattle.ptg_top.specs.Denotation.{Denotation, denoted}
 use Rattle.ptg_top.specs.JobFiles.{Entries, RefusesText, ContentsDenote, FilesDenote, JobTextsDenote}
 use Rattle.ptg_top.specs.Steps.{CheckOfDataEndsWith, IsTreeRead, TreeIsRefused}
-use Rattle.ptg_top.specs.Reports.{IsVerdictOnRequest}
+use Rattle.ptg_top.specs.Reports.{IsVerdictOnCommand}
 use Rattle.ptg_top.proofs.JdfFiles.{job_is_of_texts}
 use Rattle.report_text.proofs.Putting.{rose_from}
 
@@ -55,7 +55,7 @@ files_denote files jdf data_name text v there h = subst (λ (o : Option (List �
 module _ (contents : Option Entries) (old new : List ℕ → ℕ) (jdf data_name : List ℕ) where
   -- the check of the data file is the check of the files, where the tree of the JDF file was read
   tree_ends : (mid : ℕ) (J : Jdf) (v : Denotation) (read : IsTreeRead contents jdf J) → old data_name ≤ mid
-      → CheckOfDataEndsWith contents mid (new data_name) read.0 data_name v → IsVerdictOnRequest contents old new (Check jdf data_name) v
+      → CheckOfDataEndsWith contents mid (new data_name) read.0 data_name v → IsVerdictOnCommand contents old new (Check jdf data_name) v
   tree_ends mid J v read le (inl (e, rose)) =
       inl (data_name, rose_from (old data_name) mid (new data_name) le rose, inr (refl, λ files t. (J, (read.0, read.2 files t, read.1))), e)
   tree_ends mid J v read le (inr (job, e, known)) =
@@ -68,12 +68,12 @@ module _ (contents : Option Entries) (old new : List ℕ → ℕ) (jdf data_name
 
   pub tree_result_ends : (mid : ℕ) (J : Jdf) (r : Result Verdict OutOfMemory) → IsTreeRead contents jdf J → old data_name ≤ mid
       → ((text : List ℕ) → IsJdf text J → IfOk r (λ v. CheckOfDataEndsWith contents mid (new data_name) text data_name (denoted v)))
-      → IfOk r (λ v. IsVerdictOnRequest contents old new (Check jdf data_name) (denoted v))
+      → IfOk r (λ v. IsVerdictOnCommand contents old new (Check jdf data_name) (denoted v))
   tree_result_ends mid J (Ok v) read le h = tree_ends mid J (denoted v) read le (h read.0 read.1)
   tree_result_ends mid J (Err x) read le h = tt
 
   -- a JDF file without a tree
-  pub refusal_ends : (v : Denotation) → TreeIsRefused contents (old jdf) (new jdf) jdf v → IsVerdictOnRequest contents old new (Check jdf data_name) v
+  pub refusal_ends : (v : Denotation) → TreeIsRefused contents (old jdf) (new jdf) jdf v → IsVerdictOnCommand contents old new (Check jdf data_name) v
   refusal_ends v (inl (e, rose)) = inl (jdf, rose, inl refl, e)
   refusal_ends v (inr (is, known)) =
       inr (

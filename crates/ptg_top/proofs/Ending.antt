@@ -6,6 +6,7 @@ use Rattle.ptg_io.specs.Sink.{appended}
 use Rattle.flow_meaning.specs.declared.outcome.Outcome.{Outcome}
 use Rattle.flow_meaning.specs.declared.outcome.Outcome.TheVariants as outcome
 use Rattle.job_stages.specs.declared.verdict.JobVerdict.TheVariants as jobs
+use Rattle.report_text.specs.Refusal.{unread_line, usage_line}
 use Rattle.ptg_top.specs.declared.status.Status.{Status}
 use Rattle.ptg_top.specs.declared.status.Status.TheVariants as status
 use Rattle.ptg_top.specs.declared.verdict.Finding.TheVariants as findings
@@ -13,15 +14,15 @@ use Rattle.ptg_top.specs.Findings.{status_of_outcome}
 use Rattle.ptg_top.specs.Denotation as verdicts
 use Rattle.ptg_top.specs.Denotation.{Denotation}
 use Rattle.ptg_top.specs.JobFiles.{Entries}
-use Rattle.ptg_top.specs.Meaning.{Denotes, IsNoOrder, MayBeUnread}
+use Rattle.ptg_top.specs.Meaning.{Denotes, IsNoCommand, MayBeUnread}
 use Rattle.ptg_top.specs.Reports.{IsOfTexts, IsVerdictOnWords}
-use Rattle.ptg_top.specs.Headline.{text_of, status_of, unread_line, usage_line, IsExact, Prints}
+use Rattle.ptg_top.specs.Headline.{text_of, status_of, IsExact, Prints}
 
 -- arguments and files denote the verdict, unless it is a read fault
 pub is_denoted : (words : List (List ℕ)) (files : Entries) (contents : Option Entries) (old new : List ℕ → ℕ) (v : Denotation) → IsVerdictOnWords words contents old new v → contents ≡ Some files → ((name : List ℕ) → v ≡ verdicts.Unread name → Rose (old name) (new name) → ⊥) → Denotes words files v
 is_denoted words files contents old new v (inl h) t read = inl h
-is_denoted words files contents old new v (inr (request, asked, inl (name, rose, may, e))) t read = absurd (read name e rose)
-is_denoted words files contents old new v (inr (request, asked, inr (of, known))) t read = inr (request, asked, known files t)
+is_denoted words files contents old new v (inr (command, formed, inl (name, rose, may, e))) t read = absurd (read name e rose)
+is_denoted words files contents old new v (inr (command, formed, inr (of, known))) t read = inr (command, formed, known files t)
 
 pub exact_prints : (words : List (List ℕ)) (files : Entries) (contents : Option Entries) (old new : List ℕ → ℕ) (before after : Option (List ℕ)) (v : Denotation) (s : Status)
     → IsVerdictOnWords words contents old new v → contents ≡ Some files → after ≡ appended before (text_of v) → s ≡ status_of v → IsExact s → Prints words files before after s
@@ -76,28 +77,28 @@ module _ (words : List (List ℕ)) (contents : Option Entries) (old new : List �
   -- the status of usage comes with its line alone, and only to arguments that form no command
   pub usage_is_its_line : IsVerdictOnWords words contents old new v → status_of v ≡ status.Usage → text_of v ≡ usage_line
   usage_is_its_line (inl h) e = ap text_of h.1
-  usage_is_its_line (inr (request, asked, inl (name, rose, may, d))) e = absurd (not_usage (sym (ap status_of d) ∙ e))
-  usage_is_its_line (inr (request, asked, inr (of, known))) e = absurd ((of_texts v of).0 e)
+  usage_is_its_line (inr (command, formed, inl (name, rose, may, d))) e = absurd (not_usage (sym (ap status_of d) ∙ e))
+  usage_is_its_line (inr (command, formed, inr (of, known))) e = absurd ((of_texts v of).0 e)
 
-  pub usage_is_no_order : IsVerdictOnWords words contents old new v → status_of v ≡ status.Usage → IsNoOrder words
-  usage_is_no_order (inl h) e = h.0
-  usage_is_no_order (inr (request, asked, inl (name, rose, may, d))) e = absurd (not_usage (sym (ap status_of d) ∙ e))
-  usage_is_no_order (inr (request, asked, inr (of, known))) e = absurd ((of_texts v of).0 e)
+  pub usage_is_no_command : IsVerdictOnWords words contents old new v → status_of v ≡ status.Usage → IsNoCommand words
+  usage_is_no_command (inl h) e = h.0
+  usage_is_no_command (inr (command, formed, inl (name, rose, may, d))) e = absurd (not_usage (sym (ap status_of d) ∙ e))
+  usage_is_no_command (inr (command, formed, inr (of, known))) e = absurd ((of_texts v of).0 e)
 
   -- arguments that form no command have no other verdict
-  pub no_order_is_usage : IsVerdictOnWords words contents old new v → IsNoOrder words → status_of v ≡ status.Usage
-  no_order_is_usage (inl h) none = ap status_of h.1
-  no_order_is_usage (inr (request, asked, h)) none = absurd (none request asked)
+  pub no_command_is_usage : IsVerdictOnWords words contents old new v → IsNoCommand words → status_of v ≡ status.Usage
+  no_command_is_usage (inl h) none = ap status_of h.1
+  no_command_is_usage (inr (command, formed, h)) none = absurd (none command formed)
 
   -- the status of a read fault comes with the name of a file of which a read failed
   pub read_fault_names : IsVerdictOnWords words contents old new v → status_of v ≡ status.ReadFault
       → (name : List ℕ) × Rose (old name) (new name) × MayBeUnread words contents name × (text_of v ≡ unread_line name)
   read_fault_names (inl h) e = absurd (not_read_fault (sym (ap status_of h.1) ∙ e))
-  read_fault_names (inr (request, asked, inl (name, rose, may, d))) e = (name, rose, (request, asked, may), ap text_of d)
-  read_fault_names (inr (request, asked, inr (of, known))) e = absurd ((of_texts v of).1 e)
+  read_fault_names (inr (command, formed, inl (name, rose, may, d))) e = (name, rose, (command, formed, may), ap text_of d)
+  read_fault_names (inr (command, formed, inr (of, known))) e = absurd ((of_texts v of).1 e)
 
   -- no verdict has the status of a write fault
   pub no_write_fault : IsVerdictOnWords words contents old new v → status_of v ≡ status.WriteFault → ⊥
   no_write_fault (inl h) e = let d : ◌≡◌ {A = Status} status.Usage status.WriteFault = sym (ap status_of h.1) ∙ e in absurd cc
-  no_write_fault (inr (request, asked, inl (name, rose, may, d))) e = let f : ◌≡◌ {A = Status} status.ReadFault status.WriteFault = sym (ap status_of d) ∙ e in absurd cc
-  no_write_fault (inr (request, asked, inr (of, known))) e = (of_texts v of).2 e
+  no_write_fault (inr (command, formed, inl (name, rose, may, d))) e = let f : ◌≡◌ {A = Status} status.ReadFault status.WriteFault = sym (ap status_of d) ∙ e in absurd cc
+  no_write_fault (inr (command, formed, inr (of, known))) e = (of_texts v of).2 e

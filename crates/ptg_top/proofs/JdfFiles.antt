@@ -11,14 +11,14 @@ use Rattle.jdf_tree.specs.Fault.{IsJdfFault, first_spot}
 use Rattle.jdf_print.specs.Spelling.{spelling}
 use Rattle.job_stages.specs.declared.verdict.JobVerdict.{JobVerdict}
 use Rattle.job_stages.specs.declared.verdict.JobVerdict.TheVariants as jobs
-use Rattle.ptg_top.specs.declared.request.Request.TheVariants.{Show}
+use Rattle.ptg_words.specs.declared.order.Order.TheVariants.{Show}
 use Rattle.ptg_top.specs.Denotation as verdicts
 use Rattle.ptg_top.specs.declared.verdict.Verdict.{Verdict}
 use Rattle.ptg_top.specs.Denotation.{Denotation, denoted}
 use Rattle.ptg_top.specs.JobFiles.{Entries, RefusesText}
 use Rattle.ptg_top.specs.Meaning.{ContentShows}
 use Rattle.ptg_top.specs.Steps.{IsTreeRead, TreeIsRefused}
-use Rattle.ptg_top.specs.Reports.{IsOfTexts, IsVerdictOnRequest}
+use Rattle.ptg_top.specs.Reports.{IsOfTexts, IsVerdictOnCommand}
 
 -- the first fault of a text, too long or not
 pub fault_refuses : (text : List ℕ) (fault : JdfFault) → IsJdfFault text fault → RefusesText text (verdicts.Job (jobs.Jdf fault))
@@ -62,7 +62,7 @@ module _ (contents : Option Entries) where
       )
 
   -- what `show` denotes
-  pub tree_shown : (old new : List ℕ → ℕ) (jdf : List ℕ) (J : Jdf) (text : List ℕ) → IsTreeRead contents jdf J → text ≡ spelling J → IsVerdictOnRequest contents old new (Show jdf) (verdicts.Spelling text)
+  pub tree_shown : (old new : List ℕ → ℕ) (jdf : List ℕ) (J : Jdf) (text : List ℕ) → IsTreeRead contents jdf J → text ≡ spelling J → IsVerdictOnCommand contents old new (Show jdf) (verdicts.Spelling text)
   tree_shown old new jdf J text read e =
       inr (
         tt,
@@ -70,7 +70,7 @@ module _ (contents : Option Entries) where
             subst (λ (o : Option (List ℕ)). ContentShows jdf o (verdicts.Spelling text)) (sym (read.2 files t)) (inr (J, read.1, ap verdicts.Spelling e)),
       )
 
-  pub refusal_shown : (old new : List ℕ → ℕ) (jdf : List ℕ) (v : Denotation) → TreeIsRefused contents (old jdf) (new jdf) jdf v → IsVerdictOnRequest contents old new (Show jdf) v
+  pub refusal_shown : (old new : List ℕ → ℕ) (jdf : List ℕ) (v : Denotation) → TreeIsRefused contents (old jdf) (new jdf) jdf v → IsVerdictOnCommand contents old new (Show jdf) v
   refusal_shown old new jdf v (inl (e, rose)) = inl (jdf, rose, refl, e)
   refusal_shown old new jdf v (inr (is, known)) =
       inr (

@@ -1,4 +1,3 @@
-pub mod Requested
 pub mod JdfFiles
 pub mod Checked
 pub mod Answered

@@ -1,5 +1,5 @@
--- The receipt of a verdict: it is what was asked for, and its plan is the one that the files denote.
-use Rattle.std.proofs.Common.{◌≡◌, ℕ, List, Some, refl, sym, subst, inl, inr}
+-- The receipt of a verdict: it is that of the command, and its plan is the one that the files denote.
+use Rattle.std.proofs.Common.{◌≡◌, ℕ, List, Some, sym, subst, inl, inr}
 use Rattle.std.specs.Prelude.{Option, None, IfSome, IfNone, Bool, true, false, if◌then◌else◌}
 use Rattle.coll_data.specs.Data.{Data}
 use Rattle.plan_core.specs.declared.plan.Plan.{Plan}
@@ -13,8 +13,6 @@ use Rattle.ptg_words.specs.declared.order.Order.TheVariants as order
 use Rattle.ptg_words.specs.Words.{Orders}
 use Rattle.job_stages.specs.declared.verdict.JobVerdict.TheVariants as jobs
 use Rattle.run_pool.specs.declared.settings.Settings.{Settings}
-use Rattle.ptg_top.specs.declared.request.Request.{Request}
-use Rattle.ptg_top.specs.declared.request.Request.TheVariants.{Run, Show, Check, Demo, Trace as TraceOf, Replay, Certify, Ranks}
 use Rattle.ptg_top.specs.declared.status.Status.{Status}
 use Rattle.ptg_top.specs.declared.verdict.Finding.{Finding}
 use Rattle.ptg_top.specs.declared.verdict.Finding.TheVariants as findings
@@ -27,9 +25,8 @@ use Rattle.ptg_top.specs.Denotation.{Denotation, denoted}
 use Rattle.ptg_top.specs.Preload.{is_too_large}
 use Rattle.job_gen.specs.Job.{data_text, jdf_text}
 use Rattle.ptg_top.specs.JobFiles.{Entries, ContentsDenote, FilesDenote, JobTextsDenote}
-use Rattle.ptg_top.specs.Meaning.{ContentShows, Denotes, RequestDenotes}
+use Rattle.ptg_top.specs.Meaning.{CommandDenotes, ContentShows, Denotes}
 use Rattle.ptg_top.specs.Reports.{IsVerdictOnWords}
-use Rattle.ptg_top.specs.Requests.{request_of}
 use Rattle.ptg_top.specs.Certify.{IsCertified}
 use Rattle.ptg_top.specs.Demo.{IsSummary, MadeTextsDenote}
 use Rattle.ptg_top.specs.Replay.{IsReplayed}
@@ -38,10 +35,10 @@ use Rattle.ptg_top.specs.Findings.{status_of_finding, status_of_outcome}
 use Rattle.ptg_top.specs.Ranks.{IsRanked}
 use Rattle.ptg_top.specs.Headline.{status_of}
 use Rattle.ptg_top.specs.Tables.{usual_settings}
-use Rattle.ptg_top.specs.Receipts.{FindsPlan, HasConsistentPlan, IsAnswerStatus, IsOfRun, IsReceiptFor, IsRun, IsRunAsAsked, IsRunAsOrdered, receipt_of}
+use Rattle.ptg_top.specs.Receipts.{FindsPlan, HasConsistentPlan, IsAnswerStatus, IsOfRun, IsReceiptFor, IsRun, IsRunAsAsked, IsRunAsCommanded, receipt_of}
 use Rattle.ptg_top.proofs.Ending.{is_denoted}
 
--- ---- what is found of a job that was run has the receipt of what was asked
+-- ---- what is found of a job that was run has the receipt of the command
 
 an_answer_has_its_status : (outcome : Outcome) → IsAnswerStatus (status_of_outcome outcome)
 an_answer_has_its_status (outcomes.Complete count given) = tt
@@ -60,40 +57,24 @@ some_is_not_none : (r : ReceiptView) → ◌≡◌ {A = Option ReceiptView} (Som
 some_is_not_none r e = absurd cc
 
 module _ (r : ReceiptView) (finding : Finding) where
-  receipt_of_order : (o : Order) (request : Request) → request_of o ≡ request → IsRunAsAsked request (Ran (Table r) finding) → IsReceiptFor o r
-  receipt_of_order (order.Run j t w s p) request e h =
-      let same : request ≡ Run j t (record { workers = w; shards = s; preload = p }) = cc in
-      subst (λ (q : Request). IsRunAsAsked q (Ran (Table r) finding)) same h
-  receipt_of_order (order.Show j) request e h =
-      let same : request ≡ Show j = cc in
-      absurd (some_is_not_none r (subst (λ (q : Request). IsRunAsAsked q (Ran (Table r) finding)) same h))
-  receipt_of_order (order.Check j t) request e h =
-      let same : request ≡ Check j t = cc in
-      absurd (some_is_not_none r (subst (λ (q : Request). IsRunAsAsked q (Ran (Table r) finding)) same h))
-  receipt_of_order (order.Demo rows) request e h =
-      let same : request ≡ Demo rows = cc in
-      subst (λ (q : Request). IsRunAsAsked q (Ran (Table r) finding)) same h
-  receipt_of_order (order.Trace j t w s) request e h =
-      let same : request ≡ TraceOf j t (record { workers = w; shards = s; preload = false }) = cc in
-      subst (λ (q : Request). IsRunAsAsked q (Ran (Table r) finding)) same h
-  receipt_of_order (order.Replay j t l) request e h =
-      let same : request ≡ Replay j t l = cc in
-      absurd (some_is_not_none r (subst (λ (q : Request). IsRunAsAsked q (Ran (Table r) finding)) same h))
-  receipt_of_order (order.Certify j t) request e h =
-      let same : request ≡ Certify j t = cc in
-      subst (λ (q : Request). IsRunAsAsked q (Ran (Table r) finding)) same h
-  receipt_of_order (order.Ranks j t k s) request e h =
-      let same : request ≡ Ranks j t (record { ranks = k; seed = s }) = cc in
-      absurd (some_is_not_none r (subst (λ (q : Request). IsRunAsAsked q (Ran (Table r) finding)) same h))
+  receipt_of_order : (o : Order) → IsRunAsAsked o (Ran (Table r) finding) → IsReceiptFor o r
+  receipt_of_order (order.Run j t w s p) h = h
+  receipt_of_order (order.Show j) h = absurd (some_is_not_none r h)
+  receipt_of_order (order.Check j t) h = absurd (some_is_not_none r h)
+  receipt_of_order (order.Demo rows) h = h
+  receipt_of_order (order.Trace j t w s) h = h
+  receipt_of_order (order.Replay j t l) h = absurd (some_is_not_none r h)
+  receipt_of_order (order.Certify j t) h = h
+  receipt_of_order (order.Ranks j t k s) h = absurd (some_is_not_none r h)
 
 module _ (words : List (List ℕ)) (contents : Option Entries) (old new : List ℕ → ℕ) where
-  answer_receipt : (r : ReceiptView) (finding : Finding) → IsVerdictOnWords words contents old new (verdicts.Ran r.plan finding) → IsRunAsOrdered words (Ran (Table r) finding)
+  answer_receipt : (r : ReceiptView) (finding : Finding) → IsVerdictOnWords words contents old new (verdicts.Ran r.plan finding) → IsRunAsCommanded words (Ran (Table r) finding)
       → (o : Order) × Orders words o × IsReceiptFor o r
   answer_receipt r finding (inl (none, e)) ran = absurd cc
-  answer_receipt r finding (inr (request, asked, h)) ran =
-      (asked.order, asked.formed, receipt_of_order r finding asked.order request asked.asks (ran request asked))
+  answer_receipt r finding (inr (command, formed, h)) ran =
+      (command, formed, receipt_of_order r finding command (ran command formed))
 
-  asked_receipt : (v : Verdict) (s : Status) → IsVerdictOnWords words contents old new (denoted v) → IsRunAsOrdered words v → s ≡ status_of (denoted v)
+  asked_receipt : (v : Verdict) (s : Status) → IsVerdictOnWords words contents old new (denoted v) → IsRunAsCommanded words v → s ≡ status_of (denoted v)
       → IfSome (receipt_of v) (λ r. (o : Order) × Orders words o × IsReceiptFor o r × IsAnswerStatus s)
   asked_receipt (Ran (Table r) finding) s judged ran e =
       let at = answer_receipt r finding judged ran in
@@ -106,7 +87,7 @@ module _ (words : List (List ℕ)) (contents : Option Entries) (old new : List �
   asked_receipt (Ran (OneThread matched) finding) s judged ran e = tt
   asked_receipt (Trace fault) s judged ran e = tt
 
-  pub receipt_is_asked : (v : Verdict) (s : Status) (found : Option ReceiptView) → IsVerdictOnWords words contents old new (denoted v) → IsRunAsOrdered words v → s ≡ status_of (denoted v) → found ≡ receipt_of v
+  pub receipt_is_asked : (v : Verdict) (s : Status) (found : Option ReceiptView) → IsVerdictOnWords words contents old new (denoted v) → IsRunAsCommanded words v → s ≡ status_of (denoted v) → found ≡ receipt_of v
       → IfSome found (λ r. (o : Order) × Orders words o × IsReceiptFor o r × IsAnswerStatus s)
   receipt_is_asked v s found judged ran e is =
       subst (λ (x : Option ReceiptView). IfSome x (λ r. (o : Order) × Orders words o × IsReceiptFor o r × IsAnswerStatus s)) (sym is) (asked_receipt v s judged ran e)
@@ -114,21 +95,17 @@ module _ (words : List (List ℕ)) (contents : Option Entries) (old new : List �
 -- ---- a run without a receipt has no answer
 
 module _ (words : List (List ℕ)) (s : Status) where
-  unanswered : (v : Verdict) → IsRunAsOrdered words v → ((settings : Settings) → IsOfRun settings v → IsAnswerStatus s → ⊥)
+  unanswered : (v : Verdict) → IsRunAsCommanded words v → ((settings : Settings) → IsOfRun settings v → IsAnswerStatus s → ⊥)
       → (o : Order) → Orders words o → IsRun o → IsAnswerStatus s → ⊥
   unanswered v ran of_run (order.Run j t w k p) formed is_run answer_status =
-      let settings : Settings = record { workers = w; shards = k; preload = p } in
-      of_run settings (ran (Run j t settings) (record { order = order.Run j t w k p; formed = formed; asks = refl })) answer_status
+      of_run (record { workers = w; shards = k; preload = p }) (ran (order.Run j t w k p) formed) answer_status
   unanswered v ran of_run (order.Trace j t w k) formed is_run answer_status =
-      let settings : Settings = record { workers = w; shards = k; preload = false } in
-      of_run settings (ran (TraceOf j t settings) (record { order = order.Trace j t w k; formed = formed; asks = refl })) answer_status
-  unanswered v ran of_run (order.Demo rows) formed is_run answer_status =
-      of_run usual_settings (ran (Demo rows) (record { order = order.Demo rows; formed = formed; asks = refl })) answer_status
-  unanswered v ran of_run (order.Certify j t) formed is_run answer_status =
-      of_run usual_settings (ran (Certify j t) (record { order = order.Certify j t; formed = formed; asks = refl })) answer_status
+      of_run (record { workers = w; shards = k; preload = false }) (ran (order.Trace j t w k) formed) answer_status
+  unanswered v ran of_run (order.Demo rows) formed is_run answer_status = of_run usual_settings (ran (order.Demo rows) formed) answer_status
+  unanswered v ran of_run (order.Certify j t) formed is_run answer_status = of_run usual_settings (ran (order.Certify j t) formed) answer_status
   unanswered v ran of_run o formed is_run answer_status = absurd is_run
 
-  no_answer : (v : Verdict) → IsRunAsOrdered words v → s ≡ status_of (denoted v)
+  no_answer : (v : Verdict) → IsRunAsCommanded words v → s ≡ status_of (denoted v)
       → IfNone (receipt_of v) ((o : Order) → Orders words o → IsRun o → IsAnswerStatus s → ⊥)
   no_answer (Ran (Table r) finding) ran e = tt
   no_answer Usage ran e = unanswered Usage ran (λ settings h status. h (subst IsAnswerStatus e status))
@@ -139,7 +116,7 @@ module _ (words : List (List ℕ)) (s : Status) where
   no_answer (Ran (OneThread matched) finding) ran e = unanswered (Ran (OneThread matched) finding) ran (λ settings h status. h)
   no_answer (Trace fault) ran e = unanswered (Trace fault) ran (λ settings h status. h (subst IsAnswerStatus e status))
 
-  pub no_receipt_no_answer : (v : Verdict) (found : Option ReceiptView) → IsRunAsOrdered words v → s ≡ status_of (denoted v) → found ≡ receipt_of v
+  pub no_receipt_no_answer : (v : Verdict) (found : Option ReceiptView) → IsRunAsCommanded words v → s ≡ status_of (denoted v) → found ≡ receipt_of v
       → IfNone found ((o : Order) → Orders words o → IsRun o → IsAnswerStatus s → ⊥)
   no_receipt_no_answer v found ran e is =
       subst (λ (x : Option ReceiptView). IfNone x ((o : Order) → Orders words o → IsRun o → IsAnswerStatus s → ⊥)) (sym is) (no_answer v ran e)
@@ -192,44 +169,27 @@ module _ (P : Plan) (finding : Finding) where
   of_certified Q given (c, h, e) = cc
 
   module _ (files : Entries) where
-    order_finds : (o : Order) (request : Request) → request_of o ≡ request → RequestDenotes files request (verdicts.Ran P finding) → FindsPlan files o P
-    order_finds (order.Run j t w s p) request e h =
+    order_finds : (o : Order) → CommandDenotes files o (verdicts.Ran P finding) → FindsPlan files o P
+    order_finds (order.Run j t w s p) h =
         let settings : Settings = record { workers = w; shards = s; preload = p } in
-        let same : request ≡ Run j t settings = cc in
-        let at : RequestDenotes files (Run j t settings) (verdicts.Ran P finding) = subst (λ (q : Request). RequestDenotes files q (verdicts.Ran P finding)) same h in
         plan_is_found (FilesDenote files j t) (IsAnswer settings) (no_contents_are_run j t (file_of files j) (file_of files t))
-        (λ Q given a. of_answer (is_too_large settings Q) Q (findings.Answer (answer Q given)) a) at.0 at.1 at.2
-    order_finds (order.Show j) request e h =
-        let same : request ≡ Show j = cc in
-        absurd (no_text_is_run j (file_of files j) (subst (λ (q : Request). RequestDenotes files q (verdicts.Ran P finding)) same h))
-    order_finds (order.Check j t) request e h =
-        let same : request ≡ Check j t = cc in
-        absurd (no_contents_are_run j t (file_of files j) (file_of files t) (subst (λ (q : Request). RequestDenotes files q (verdicts.Ran P finding)) same h))
-    order_finds (order.Demo rows) request e h =
-        let same : request ≡ Demo rows = cc in
-        let at : RequestDenotes files (Demo rows) (verdicts.Ran P finding) = subst (λ (q : Request). RequestDenotes files q (verdicts.Ran P finding)) same h in
-        plan_is_found (MadeTextsDenote rows) (IsSummary rows) (no_texts_are_run jdf_text (data_text rows)) (of_summary rows) at.0 at.1 at.2
-    order_finds (order.Trace j t w s) request e h =
-        let settings : Settings = record { workers = w; shards = s; preload = false } in
-        let same : request ≡ TraceOf j t settings = cc in
-        let at : RequestDenotes files (TraceOf j t settings) (verdicts.Ran P finding) = subst (λ (q : Request). RequestDenotes files q (verdicts.Ran P finding)) same h in
-        plan_is_found (FilesDenote files j t) IsTraced (no_contents_are_run j t (file_of files j) (file_of files t)) of_traced at.0 at.1 at.2
-    order_finds (order.Replay j t l) request e h =
-        let same : request ≡ Replay j t l = cc in
-        let at : RequestDenotes files (Replay j t l) (verdicts.Ran P finding) = subst (λ (q : Request). RequestDenotes files q (verdicts.Ran P finding)) same h in
-        plan_is_found (FilesDenote files j t) (IsReplayed l (file_of files l)) (no_contents_are_run j t (file_of files j) (file_of files t)) (of_replayed l (file_of files l)) at.0 at.1 at.2
-    order_finds (order.Certify j t) request e h =
-        let same : request ≡ Certify j t = cc in
-        let at : RequestDenotes files (Certify j t) (verdicts.Ran P finding) = subst (λ (q : Request). RequestDenotes files q (verdicts.Ran P finding)) same h in
-        plan_is_found (FilesDenote files j t) IsCertified (no_contents_are_run j t (file_of files j) (file_of files t)) of_certified at.0 at.1 at.2
-    order_finds (order.Ranks j t k s) request e h =
-        let same : request ≡ Ranks j t (record { ranks = k; seed = s }) = cc in
-        let at : RequestDenotes files (Ranks j t (record { ranks = k; seed = s })) (verdicts.Ran P finding) = subst (λ (q : Request). RequestDenotes files q (verdicts.Ran P finding)) same h in
-        plan_is_found (FilesDenote files j t) (IsRanked k) (no_contents_are_run j t (file_of files j) (file_of files t)) (of_ranked k) at.0 at.1 at.2
+        (λ Q given a. of_answer (is_too_large settings Q) Q (findings.Answer (answer Q given)) a) h.0 h.1 h.2
+    order_finds (order.Show j) h = absurd (no_text_is_run j (file_of files j) h)
+    order_finds (order.Check j t) h = absurd (no_contents_are_run j t (file_of files j) (file_of files t) h)
+    order_finds (order.Demo rows) h =
+        plan_is_found (MadeTextsDenote rows) (IsSummary rows) (no_texts_are_run jdf_text (data_text rows)) (of_summary rows) h.0 h.1 h.2
+    order_finds (order.Trace j t w s) h =
+        plan_is_found (FilesDenote files j t) IsTraced (no_contents_are_run j t (file_of files j) (file_of files t)) of_traced h.0 h.1 h.2
+    order_finds (order.Replay j t l) h =
+        plan_is_found (FilesDenote files j t) (IsReplayed l (file_of files l)) (no_contents_are_run j t (file_of files j) (file_of files t)) (of_replayed l (file_of files l)) h.0 h.1 h.2
+    order_finds (order.Certify j t) h =
+        plan_is_found (FilesDenote files j t) IsCertified (no_contents_are_run j t (file_of files j) (file_of files t)) of_certified h.0 h.1 h.2
+    order_finds (order.Ranks j t k s) h =
+        plan_is_found (FilesDenote files j t) (IsRanked k) (no_contents_are_run j t (file_of files j) (file_of files t)) (of_ranked k) h.0 h.1 h.2
 
     answer_has_plan : (words : List (List ℕ)) → Denotes words files (verdicts.Ran P finding) → HasConsistentPlan words files P
     answer_has_plan words (inl (none, e)) = absurd cc
-    answer_has_plan words (inr (request, asked, h)) = (asked.order, asked.formed, order_finds asked.order request asked.asks h)
+    answer_has_plan words (inr (command, formed, h)) = (command, formed, order_finds command h)
 
 run_is_read : (P : Plan) (finding : Finding) (name : List ℕ) → verdicts.Ran P finding ≡ verdicts.Unread name → ⊥
 run_is_read P finding name e = absurd cc

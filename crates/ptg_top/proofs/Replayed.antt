@@ -8,20 +8,20 @@ use Rattle.plan_core.specs.declared.plan.Plan.{Plan}
 use Rattle.dep_iter.specs.Consistent.{IsConsistent}
 use Rattle.flow_meaning.specs.Answer.{answer}
 use Rattle.flow_meaning.specs.declared.outcome.Outcome.{Outcome}
-use Rattle.trace_core.specs.Faults.{IsTraceFault, too_long}
-use Rattle.trace_core.specs.declared.fault.TraceCode.TheVariants.{TooLong}
+use Rattle.trace_core.specs.Faults.{IsTraceFault, of_spelling}
+use Rattle.trace_core.specs.Reading.{over_length, too_long}
 use Rattle.trace_core.specs.declared.fault.TraceFault.{TraceFault}
 use Rattle.trace_exists.proofs.Either.{fault_or_trace}
 use Rattle.job_stages.specs.declared.verdict.JobVerdict.TheVariants as jobs
-use Rattle.ptg_top.specs.declared.request.Request.TheVariants.{Check, Replay}
+use Rattle.ptg_words.specs.declared.order.Order.TheVariants.{Check, Replay}
 use Rattle.ptg_top.specs.declared.verdict.Finding.TheVariants.{Answer}
 use Rattle.ptg_top.specs.declared.verdict.Verdict.{Verdict}
 use Rattle.ptg_top.specs.Denotation as verdicts
 use Rattle.ptg_top.specs.Denotation.{Denotation, denoted}
-use Rattle.ptg_top.specs.Answering.{IsRefusal}
+use Rattle.ptg_top.specs.Answering.{IsRefusedByCheck}
 use Rattle.ptg_top.specs.JobFiles.{Entries, FilesDenote}
 use Rattle.ptg_top.specs.Replay.{IsReplayed, IsReplayOf}
-use Rattle.ptg_top.specs.Reports.{IsOfTexts, IsVerdictOnRequest}
+use Rattle.ptg_top.specs.Reports.{IsOfTexts, IsVerdictOnCommand}
 use Rattle.ptg_top.specs.Steps.{ReplayEndsWith}
 use Rattle.ptg_top.proofs.Answered.{kept}
 use Rattle.report_text.proofs.Putting.{rose_from}
@@ -42,20 +42,20 @@ module _ (contents : Option Entries) (old new : ℕ) (trace : List ℕ) (P : Pla
   read_ends text (Err x) there h of = tt
 
   -- a trace file that is too long
-  pub long_ends : (f : TraceFault) → f.row ≡ 0 → f.code ≡ TooLong → ((files : Entries) → contents ≡ Some files → IsLonger files trace 16777216)
+  pub long_ends : (f : TraceFault) → f ≡ too_long → ((files : Entries) → contents ≡ Some files → IsLonger files trace 16777216)
       → ReplayEndsWith contents old new trace P given (verdicts.Trace f)
-  long_ends f row code long = inr (tt, λ files t. let at = long files t in (at.0, at.1, inl (f, too_long at.2 row code, refl)))
+  long_ends f is long = inr (tt, λ files t. let at = long files t in (at.0, at.1, inl (f, of_spelling (over_length at.2 is), refl)))
 
 module _ (contents : Option Entries) (jdf data_name trace : List ℕ) where
   module _ (old mid new : List ℕ → ℕ) (P : Plan) (given : Data) where
     -- the files denote the job that was found consistent
-    job_known : (checked : Denotation) → checked ≡ verdicts.Job (jobs.Consistent P given) → IsVerdictOnRequest contents old mid (Check jdf data_name) checked
+    job_known : (checked : Denotation) → checked ≡ verdicts.Job (jobs.Consistent P given) → IsVerdictOnCommand contents old mid (Check jdf data_name) checked
         → (files : Entries) → contents ≡ Some files → FilesDenote files jdf data_name (verdicts.Job (jobs.Consistent P given))
     job_known checked is (inl (name, rose, may, e)) files t = let d : verdicts.Job (jobs.Consistent P given) ≡ verdicts.Unread name = sym is ∙ e in absurd cc
     job_known checked is (inr (of, known)) files t = subst (FilesDenote files jdf data_name) is (known files t)
 
     trace_ends : (v : Denotation) → old trace ≤ mid trace → ((files : Entries) → contents ≡ Some files → FilesDenote files jdf data_name (verdicts.Job (jobs.Consistent P given)))
-        → ReplayEndsWith contents (mid trace) (new trace) trace P given v → IsVerdictOnRequest contents old new (Replay jdf data_name trace) v
+        → ReplayEndsWith contents (mid trace) (new trace) trace P given v → IsVerdictOnCommand contents old new (Replay jdf data_name trace) v
     trace_ends v le job (inl (e, rose)) = inl (trace, rose_from (old trace) (mid trace) (new trace) le rose, inr (refl, λ files t. (P, given, job files t)), e)
     trace_ends v le job (inr (of, known)) =
         inr (
@@ -67,14 +67,18 @@ module _ (contents : Option Entries) (jdf data_name trace : List ℕ) where
 
     -- the verdict of `replay`, from that of `check` and that on the trace file
     pub replay_finds : (checked : Denotation) (r : Result Verdict OutOfMemory) → checked ≡ verdicts.Job (jobs.Consistent P given) → old trace ≤ mid trace
-        → IsVerdictOnRequest contents old mid (Check jdf data_name) checked → IfOk r (λ v. ReplayEndsWith contents (mid trace) (new trace) trace P given (denoted v))
-        → IfOk r (λ v. IsVerdictOnRequest contents old new (Replay jdf data_name trace) (denoted v))
+        → IsVerdictOnCommand contents old mid (Check jdf data_name) checked → IfOk r (λ v. ReplayEndsWith contents (mid trace) (new trace) trace P given (denoted v))
+        → IfOk r (λ v. IsVerdictOnCommand contents old new (Replay jdf data_name trace) (denoted v))
     replay_finds checked (Ok v) is le h ends = trace_ends (denoted v) le (job_known checked is h) ends
     replay_finds checked (Err x) is le h ends = tt
 
   -- a refusal of `check` stays
-  pub replay_refuses : (old new : List ℕ → ℕ) (checked : Denotation) → IsVerdictOnRequest contents old new (Check jdf data_name) checked → IsRefusal checked
-      → IsVerdictOnRequest contents old new (Replay jdf data_name trace) checked
-  replay_refuses old new checked (inl (name, rose, may, e)) refused = inl (name, rose, inl may, e)
-  replay_refuses old new checked (inr (of, known)) refused =
-      inr (of, λ files t. (checked, known files t, kept (IsReplayed trace (file_of files trace)) checked refused))
+  stays : (old new : List ℕ → ℕ) (checked : Denotation) → IsVerdictOnCommand contents old new (Check jdf data_name) checked → IsRefusedByCheck checked
+      → IsVerdictOnCommand contents old new (Replay jdf data_name trace) checked
+  stays old new checked (inl (name, rose, may, e)) refused = inl (name, rose, inl may, e)
+  stays old new checked (inr (of, known)) refused = inr (of, λ files t. (checked, known files t, kept (IsReplayed trace (file_of files trace)) checked refused))
+
+  pub replay_refuses : (old new : List ℕ → ℕ) (checked refused : Verdict) → refused ≡ checked → IsVerdictOnCommand contents old new (Check jdf data_name) (denoted checked) → IsRefusedByCheck (denoted refused)
+      → IsVerdictOnCommand contents old new (Replay jdf data_name trace) (denoted refused)
+  replay_refuses old new checked refused e h r =
+      stays old new (denoted refused) (subst (λ (v : Verdict). IsVerdictOnCommand contents old new (Check jdf data_name) (denoted v)) (sym e) h) r

@@ -10,16 +10,16 @@ use Rattle.job_gen.specs.Job.{data_text, jdf_text}
 use Rattle.job_stages.specs.Verdict.{TextsDenote}
 use Rattle.job_stages.specs.declared.verdict.JobVerdict.{JobVerdict}
 use Rattle.job_stages.specs.declared.verdict.JobVerdict.TheVariants as jobs
-use Rattle.ptg_top.specs.declared.request.Request.{Request}
-use Rattle.ptg_top.specs.declared.request.Request.TheVariants.{Demo}
+use Rattle.ptg_words.specs.declared.order.Order.{Order}
+use Rattle.ptg_words.specs.declared.order.Order.TheVariants.{Demo}
 use Rattle.ptg_top.specs.declared.verdict.Verdict.{Verdict}
-use Rattle.ptg_top.specs.Answering.{IsRefusal, OnConsistent}
+use Rattle.ptg_top.specs.Answering.{IsRefusedByCheck, OnConsistent}
 use Rattle.ptg_top.specs.Demo.{DemoDenotes, IsSummary, MadeTextsDenote, summed}
 use Rattle.ptg_top.specs.Denotation as verdicts
 use Rattle.ptg_top.specs.Denotation.{Denotation, denoted}
 use Rattle.ptg_top.specs.Findings.{IsAnswered, IsFindingOf}
 use Rattle.ptg_top.specs.JobFiles.{Entries}
-use Rattle.ptg_top.specs.Reports.{IsOfTexts, IsVerdictOnRequest}
+use Rattle.ptg_top.specs.Reports.{IsOfTexts, IsVerdictOnCommand}
 use Rattle.ptg_top.proofs.Answered.{kept, on_texts}
 use Rattle.ptg_top.proofs.JdfFiles.{job_is_of_texts}
 
@@ -37,8 +37,8 @@ module _ (n : ℕ) where
       (job, subst (λ (t : List ℕ). TextsDenote t (data_text n) job) e made, refl)
 
   -- what refuses the made texts
-  pub refused_denoted : (checked : Denotation) → MadeTextsDenote n checked → IsRefusal checked → DemoDenotes n checked
-  refused_denoted checked h refused = (checked, h, kept (IsSummary n) checked refused)
+  pub refused_denoted : (checked refused : Verdict) → refused ≡ checked → MadeTextsDenote n (denoted checked) → IsRefusedByCheck (denoted refused) → DemoDenotes n (denoted refused)
+  refused_denoted checked refused e h r = (denoted refused, subst (λ (v : Verdict). MadeTextsDenote n (denoted v)) (sym e) h, kept (IsSummary n) (denoted refused) r)
 
   -- what is found of the job of the made texts
   pub summary_denoted : (checked : Denotation) (P : Plan) (given : Data) (r : Result Verdict OutOfMemory) → checked ≡ verdicts.Job (jobs.Consistent P given) → MadeTextsDenote n checked
@@ -49,9 +49,9 @@ module _ (n : ℕ) where
   demo_of_texts : (v : Denotation) → DemoDenotes n v → IsOfTexts v
   demo_of_texts v (checked, (job, h, e), k) = on_texts (IsSummary n) (λ P given w s. subst IsOfTexts (sym s) tt) checked v (job_is_of_texts checked job e) k
 
-  -- what is denoted is a verdict on the request, whatever the files are
-  pub demo_ends : (contents : Option Entries) (old new : List ℕ → ℕ) (request : Request) (r : Result Verdict OutOfMemory) → request ≡ Demo n → IfOk r (λ v. DemoDenotes n (denoted v))
-      → IfOk r (λ v. IsVerdictOnRequest contents old new request (denoted v))
-  demo_ends contents old new request (Ok v) e h =
-      subst (λ (q : Request). IsVerdictOnRequest contents old new q (denoted v)) (sym e) (inr (demo_of_texts (denoted v) h, λ files t. h))
-  demo_ends contents old new request (Err x) e h = tt
+  -- what is denoted is a verdict on the command, whatever the files are
+  pub demo_ends : (contents : Option Entries) (old new : List ℕ → ℕ) (command : Order) (r : Result Verdict OutOfMemory) → command ≡ Demo n → IfOk r (λ v. DemoDenotes n (denoted v))
+      → IfOk r (λ v. IsVerdictOnCommand contents old new command (denoted v))
+  demo_ends contents old new command (Ok v) e h =
+      subst (λ (q : Order). IsVerdictOnCommand contents old new q (denoted v)) (sym e) (inr (demo_of_texts (denoted v) h, λ files t. h))
+  demo_ends contents old new command (Err x) e h = tt

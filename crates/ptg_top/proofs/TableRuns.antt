@@ -4,7 +4,7 @@ use Rattle.coll_data.specs.Data.{Data}
 use Rattle.plan_core.specs.declared.plan.Plan.{Plan}
 use Rattle.flow_meaning.specs.Answer.{answer}
 use Rattle.flow_meaning.specs.declared.outcome.Outcome.{Outcome}
-use Rattle.table_rule.specs.declared.job.Job.{Job}
+use Rattle.table_rule.specs.declared.table_job.TableJob.{TableJob}
 use Rattle.dep_table.specs.ClosedTables.{ClosedView}
 use Rattle.dep_table.specs.Receipts.{ReceiptView, receipt_of}
 use Rattle.run_pool.specs.Runs.{Run, run_of}
@@ -24,13 +24,13 @@ module _ (s : Settings) (P : Plan) (G : Data) where
   closed_is_run p t r outcome run job passes receipt ended =
       let same : t.job ≡ (run_of P G s).job = job ∙ ap (λ (q : Run). q.job) run in
       record {
-        plan = ap (λ (x : ReceiptView). x.plan) receipt ∙ ap (λ (j : Job). j.matched) same;
+        plan = ap (λ (x : ReceiptView). x.plan) receipt ∙ ap (λ (j : TableJob). j.matched) same;
         settings = (
-          ap (λ (x : ReceiptView). x.shards) receipt ∙ ap (λ (j : Job). j.shards) same,
+          ap (λ (x : ReceiptView). x.shards) receipt ∙ ap (λ (j : TableJob). j.shards) same,
           ap (λ (x : ReceiptView). x.passes) receipt ∙ (passes ∙ ap (λ (q : Run). q.workers) run),
-          ap (λ (x : ReceiptView). x.preloaded) receipt ∙ ap (λ (j : Job). j.preloaded) same,
+          ap (λ (x : ReceiptView). x.preloaded) receipt ∙ ap (λ (j : TableJob). j.preloaded) same,
         );
-        answered = ended ∙ ap (λ (j : Job). answer j.matched j.given) same;
+        answered = ended ∙ ap (λ (j : TableJob). answer j.matched j.given) same;
       }
 
   module _ (by : RanBy) (outcome : Outcome) (h : IsRunOf s P G by outcome) where

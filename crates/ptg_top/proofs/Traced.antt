@@ -6,7 +6,7 @@ use Rattle.coll_data.specs.Data.{Data}
 use Rattle.plan_core.specs.declared.plan.Plan.{Plan}
 use Rattle.dep_iter.specs.Tasks.{IsTask}
 use Rattle.flow_meaning.specs.declared.outcome.Outcome.{Outcome}
-use Rattle.table_rule.specs.declared.job.Job.{Job}
+use Rattle.table_rule.specs.declared.table_job.TableJob.{TableJob}
 use Rattle.dep_table.specs.Receipts.{ReceiptView}
 use Rattle.dep_table.specs.StampOrders.{IsRanOrder}
 use Rattle.run_pool.specs.Runs.{Run, run_of}
@@ -28,9 +28,9 @@ ran_tasks P Q G ts us plan same order =
 pub traced_by : (s : Settings) (P : Plan) (G : Data) (p : Run) (r : ReceiptView) (outcome : Outcome) (ts us : List Task) (text : List ℕ) (Q : Plan) → p ≡ run_of P G s → IsRunOf s P G (Table r) outcome
     → IsRanOrder p.job.matched p.job.given ts → Q ≡ r.plan → us ≡ ts → text ≡ trace_text Q us → IsTraced P G (verdicts.Ran r.plan (Trace text))
 traced_by s P G p r outcome ts us text Q run of order plan same is =
-    let here : IsRanOrder P G ts = subst (λ (j : Job). IsRanOrder j.matched j.given ts) (ap (λ (q : Run). q.job) run) order in
+    let here : IsRanOrder P G ts = subst (λ (j : TableJob). IsRanOrder j.matched j.given ts) (ap (λ (q : Run). q.job) run) order in
     let printed : text ≡ trace_text P ts = is ∙ (ap (λ (R : Plan). trace_text R us) (plan ∙ of.plan) ∙ ap (trace_text P) same) in (
       ts,
-      record { legal = here.legal; all = here.ran },
+      here,
       ap (λ (R : Plan). verdicts.Ran R (Trace text)) of.plan ∙ ap (λ (x : List ℕ). verdicts.Ran P (Trace x)) printed,
     )

@@ -17,11 +17,11 @@ OnConsistent Verb (verdicts.Job (jobs.Consistent P given)) v = Verb P given v
 OnConsistent Verb checked v = v ≡ checked
 
 -- a refusal of `check`: every verdict of it but a consistent job
-abbrev pub IsRefusal : Denotation → Type 0
-IsRefusal (verdicts.Unread name) = Unit {0}
-IsRefusal (verdicts.Job (jobs.Consistent P given)) = ⊥
-IsRefusal (verdicts.Job job) = Unit {0}
-IsRefusal v = ⊥
+abbrev pub IsRefusedByCheck : Denotation → Type 0
+IsRefusedByCheck (verdicts.Unread name) = Unit {0}
+IsRefusedByCheck (verdicts.Job (jobs.Consistent P given)) = ⊥
+IsRefusedByCheck (verdicts.Job job) = Unit {0}
+IsRefusedByCheck v = ⊥
 
 -- the verdict of `run` on a consistent job: its preload is too large, or else its answer
 abbrev pub IsAnswer : Settings → Plan → Data → Denotation → Type 0

@@ -28,7 +28,7 @@ IsFindingOf P (Cycle found) = HasClassesOfCycle P found
 IsFindingOf P (Trace text) = Unit {0}
 IsFindingOf P (Ranked found) = IsAnswered P found.outcome
 
--- what is printed of it
+-- what is printed of a finding
 abbrev pub finding_text : Plan → Finding → List ℕ
 finding_text P (Answer outcome) = outcome_text P outcome
 finding_text P (Summary found) = summary_text found
@@ -37,12 +37,13 @@ finding_text P (Cycle found) = cycle_text P found
 finding_text P (Trace text) = text
 finding_text P (Ranked found) = ranked_text P found
 
+-- how a run with this outcome ends
 abbrev pub status_of_outcome : Outcome → Status
 status_of_outcome (outcomes.Complete count given) = status.Complete
 status_of_outcome (outcomes.Trapped rows) = status.Trapped
 status_of_outcome (outcomes.Stalled ran total rows) = status.Stalled
 
--- and its status
+-- the status of a finding
 abbrev pub status_of_finding : Finding → Status
 status_of_finding (Answer outcome) = status_of_outcome outcome
 status_of_finding (Summary found) = status.Complete

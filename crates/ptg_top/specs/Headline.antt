@@ -1,10 +1,9 @@
 -- What is printed for a verdict, and what a run of the program promises. Source: this project's own choice of lines and
 -- statuses.
-use Rattle.std.specs.Prelude.{◌≡◌, ℕ, List, [], ◌∷◌, Option, codes}
+use Rattle.std.specs.Prelude.{◌≡◌, ℕ, List, Option}
 use Rattle.ptg_io.specs.Sink.{appended}
-use Rattle.report_text.specs.Field.{line}
 use Rattle.report_text.specs.Puts.{HasPrefix}
-use Rattle.report_text.specs.Refusal.{refusal_text}
+use Rattle.report_text.specs.Refusal.{preload_line, refusal_text, unread_line, usage_line}
 use Rattle.report_text.specs.declared.refusal_line.Line.TheVariants as line_of
 use Rattle.ptg_top.specs.declared.status.Status.{Status}
 use Rattle.ptg_top.specs.declared.status.Status.TheVariants.{Complete, Usage, JdfRefused, DataRefused, Inconsistent, Trapped, Stalled, ReadFault, WriteFault, OutOfMemory, PreloadTooLarge, TraceRefused}
@@ -16,18 +15,6 @@ use Rattle.ptg_top.specs.Meaning.{Denotes}
 use Rattle.ptg_top.specs.Reports.{IsVerdictOnWords}
 use Rattle.ptg_top.specs.JobText.{job_text, status_of_job}
 
--- the line that names a file which could not be read
-abbrev pub unread_line : List ℕ → List ℕ
-unread_line name = line (codes "unread" ∷ name ∷ [])
-
--- the line for arguments that form no command
-abbrev pub usage_line : List ℕ
-usage_line = line (codes "usage" ∷ [])
-
--- the line for a preload that is too large
-abbrev pub preload_line : List ℕ
-preload_line = line (codes "preload" ∷ [])
-
 -- what is printed for a verdict
 abbrev pub text_of : Denotation → List ℕ
 text_of verdicts.Usage = usage_line
@@ -38,7 +25,7 @@ text_of (verdicts.Spelling text) = text
 text_of verdicts.Preload = preload_line
 text_of (verdicts.Trace fault) = refusal_text (line_of.Trace fault)
 
--- and its status
+-- the status of a verdict
 abbrev pub status_of : Denotation → Status
 status_of verdicts.Usage = Usage
 status_of (verdicts.Unread name) = ReadFault

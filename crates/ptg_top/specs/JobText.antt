@@ -30,7 +30,7 @@ job_text (jobs.Inconsistent P fault) =
     inconsistent_line fault (class_name P fault.class) (flow_name P fault.class fault.flow)
 job_text (jobs.Consistent P given) = consistent_text (length (all_tasks P)) (length (all_in P)) (length (all_writes P))
 
--- and its status
+-- the status of a job that is checked
 abbrev pub status_of_job : JobVerdict → Status
 status_of_job (jobs.Jdf fault) = JdfRefused
 status_of_job (jobs.Data fault) = DataRefused

@@ -1,4 +1,3 @@
-pub mod Requests
 pub mod Denotation
 pub mod Tables
 pub mod Findings

@@ -8,11 +8,11 @@ use Rattle.jdf_tree.specs.declared.tree.Jdf.{Jdf}
 use Rattle.jdf_tree.specs.Jdf.{IsJdf}
 use Rattle.jdf_print.specs.Spelling.{spelling}
 use Rattle.job_stages.specs.declared.verdict.JobVerdict.TheVariants as jobs
-use Rattle.ptg_top.specs.declared.request.Request.{Request}
-use Rattle.ptg_top.specs.declared.request.Request.TheVariants.{Run, Show, Check, Demo, Trace, Replay, Certify, Ranks}
+use Rattle.ptg_words.specs.declared.order.Order.{Order}
+use Rattle.ptg_words.specs.declared.order.Order.TheVariants.{Run, Show, Check, Demo, Trace, Replay, Certify, Ranks}
+use Rattle.ptg_words.specs.Words.{Orders}
 use Rattle.ptg_top.specs.Denotation as verdicts
 use Rattle.ptg_top.specs.Denotation.{Denotation}
-use Rattle.ptg_top.specs.Requests.{Requests}
 use Rattle.ptg_top.specs.JobFiles.{Entries, TreeAt, RefusesText, FilesDenote}
 use Rattle.ptg_top.specs.Answering.{IsAnswer, OnConsistent}
 use Rattle.ptg_top.specs.Certify.{IsCertified}
@@ -21,9 +21,9 @@ use Rattle.ptg_top.specs.Replay.{IsReplayed}
 use Rattle.ptg_top.specs.Trace.{IsTraced}
 use Rattle.ptg_top.specs.Ranks.{IsRanked}
 
--- the arguments form no command that is carried out
-abbrev pub IsNoOrder : List (List ℕ) → Type 0
-IsNoOrder words = (request : Request) → Requests words request → ⊥
+-- the arguments form no command
+abbrev pub IsNoCommand : List (List ℕ) → Type 0
+IsNoCommand words = (command : Order) → Orders words command → ⊥
 
 -- The verdict of `show` on the text of a JDF: its first fault, or the canonical spelling of its tree.
 abbrev pub Shows : List ℕ → Denotation → Type 0
@@ -34,33 +34,34 @@ abbrev pub ContentShows : List ℕ → Option (List ℕ) → Denotation → Type
 ContentShows name None v = v ≡ verdicts.Unread name
 ContentShows name (Some text) v = Shows text v
 
--- What the files denote for what is asked: `run` refuses what `check` refuses; of a job that `check` finds consistent
+-- What the files denote for a command: `run` refuses what `check` refuses; of a job that `check` finds consistent
 -- it refuses a preload that is too large, or answers the job. `trace`, `replay`, `certify` and `ranks` refuse what
 -- `check` refuses; of a consistent job `trace` gives the text of some whole order, `replay` the verdict on the trace
 -- file, `certify` finds the certificate, and `ranks` counts the messages and answers the job, whatever the seed. `demo`
 -- reads no file.
-abbrev pub RequestDenotes : Entries → Request → Denotation → Type 0
-RequestDenotes files (Run jdf data_name settings) v =
-    (checked : Denotation) × FilesDenote files jdf data_name checked × OnConsistent (IsAnswer settings) checked v
-RequestDenotes files (Show jdf) v = ContentShows jdf (file_of files jdf) v
-RequestDenotes files (Check jdf data_name) v = FilesDenote files jdf data_name v
-RequestDenotes files (Demo rows) v = DemoDenotes rows v
-RequestDenotes files (Trace jdf data_name settings) v =
+abbrev pub CommandDenotes : Entries → Order → Denotation → Type 0
+CommandDenotes files (Run jdf data_name workers shards preload) v =
+    (checked : Denotation) × FilesDenote files jdf data_name checked
+    × OnConsistent (IsAnswer (record { workers = workers; shards = shards; preload = preload })) checked v
+CommandDenotes files (Show jdf) v = ContentShows jdf (file_of files jdf) v
+CommandDenotes files (Check jdf data_name) v = FilesDenote files jdf data_name v
+CommandDenotes files (Demo rows) v = DemoDenotes rows v
+CommandDenotes files (Trace jdf data_name workers shards) v =
     (checked : Denotation) × FilesDenote files jdf data_name checked × OnConsistent IsTraced checked v
-RequestDenotes files (Replay jdf data_name trace) v =
+CommandDenotes files (Replay jdf data_name trace) v =
     (checked : Denotation) × FilesDenote files jdf data_name checked
     × OnConsistent (IsReplayed trace (file_of files trace)) checked v
-RequestDenotes files (Certify jdf data_name) v =
+CommandDenotes files (Certify jdf data_name) v =
     (checked : Denotation) × FilesDenote files jdf data_name checked × OnConsistent IsCertified checked v
-RequestDenotes files (Ranks jdf data_name settings) v =
-    (checked : Denotation) × FilesDenote files jdf data_name checked × OnConsistent (IsRanked settings.ranks) checked v
+CommandDenotes files (Ranks jdf data_name ranks seed) v =
+    (checked : Denotation) × FilesDenote files jdf data_name checked × OnConsistent (IsRanked ranks) checked v
 
 -- The arguments and the files denote this verdict: usage, if the arguments form no command; else what the files denote
--- for what the arguments ask. Of a trace they may denote several.
+-- for the command. Of a trace they may denote several.
 abbrev pub Denotes : List (List ℕ) → Entries → Denotation → Type 0
 Denotes words files v =
-    (IsNoOrder words × (v ≡ verdicts.Usage))
-    ⊎ ((request : Request) × Requests words request × RequestDenotes files request v)
+    (IsNoCommand words × (v ≡ verdicts.Usage))
+    ⊎ ((command : Order) × Orders words command × CommandDenotes files command v)
 
 -- this is the JDF file, or it is the data file and the JDF is the text of a tree, where the contents are known
 abbrev pub IsUnreadOf : Option Entries → List ℕ → List ℕ → List ℕ → Type 0
@@ -74,19 +75,19 @@ IsUnreadTrace contents jdf data_name trace name =
     × ((files : Entries) → contents ≡ Some files
     → (P : Plan) × (given : Data) × FilesDenote files jdf data_name (verdicts.Job (jobs.Consistent P given)))
 
--- the names that `unread` may have for what is asked
-abbrev pub MayBeUnreadFor : Option Entries → Request → List ℕ → Type 0
-MayBeUnreadFor contents (Run jdf data_name settings) name = IsUnreadOf contents jdf data_name name
+-- the names that `unread` may have for a command
+abbrev pub MayBeUnreadFor : Option Entries → Order → List ℕ → Type 0
+MayBeUnreadFor contents (Run jdf data_name workers shards preload) name = IsUnreadOf contents jdf data_name name
 MayBeUnreadFor contents (Show jdf) name = name ≡ jdf
 MayBeUnreadFor contents (Check jdf data_name) name = IsUnreadOf contents jdf data_name name
 MayBeUnreadFor contents (Demo rows) name = ⊥
-MayBeUnreadFor contents (Trace jdf data_name settings) name = IsUnreadOf contents jdf data_name name
+MayBeUnreadFor contents (Trace jdf data_name workers shards) name = IsUnreadOf contents jdf data_name name
 MayBeUnreadFor contents (Replay jdf data_name trace) name =
     IsUnreadOf contents jdf data_name name ⊎ IsUnreadTrace contents jdf data_name trace name
 MayBeUnreadFor contents (Certify jdf data_name) name = IsUnreadOf contents jdf data_name name
-MayBeUnreadFor contents (Ranks jdf data_name settings) name = IsUnreadOf contents jdf data_name name
+MayBeUnreadFor contents (Ranks jdf data_name ranks seed) name = IsUnreadOf contents jdf data_name name
 
 -- the names that `unread` may have: the JDF file's; the data file's if the JDF is the text of a tree, or the trace
 -- file's if the other two are those of a consistent job, where the contents are known
 abbrev pub MayBeUnread : List (List ℕ) → Option Entries → List ℕ → Type 0
-MayBeUnread words contents name = (request : Request) × Requests words request × MayBeUnreadFor contents request name
+MayBeUnread words contents name = (command : Order) × Orders words command × MayBeUnreadFor contents command name

@@ -1,8 +1,7 @@
 -- What `ranks` denotes: the answer of a job that is run by ranks, and how many messages they send one another, whatever
 -- the seed.
 -- Source: this project's own choice.
-use Rattle.std.specs.Prelude.{◌≡◌, ℕ, ◌≤◌}
-use Rattle.ptg_base.specs.Limits.{most_ranks}
+use Rattle.std.specs.Prelude.{◌≡◌, ℕ}
 use Rattle.coll_data.specs.Data.{Data}
 use Rattle.plan_core.specs.declared.plan.Plan.{Plan}
 use Rattle.flow_meaning.specs.Answer.{answer}
@@ -10,10 +9,6 @@ use Rattle.rank_core.specs.Sound.{message_count}
 use Rattle.ptg_top.specs.declared.verdict.Finding.TheVariants.{Ranked}
 use Rattle.ptg_top.specs.Denotation as verdicts
 use Rattle.ptg_top.specs.Denotation.{Denotation}
-
--- 1 to 64 ranks
-abbrev pub AreRanks : ℕ → Type 0
-AreRanks r = (1 ≤ r) × (r ≤ most_ranks)
 
 -- the verdict of `ranks` on a consistent job: as many messages as there are edges between two ranks whose source has
 -- outputs, and the answer of the job

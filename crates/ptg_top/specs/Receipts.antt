@@ -9,8 +9,6 @@ use Rattle.ptg_words.specs.declared.order.Order.TheVariants as order
 use Rattle.ptg_words.specs.Words.{Orders}
 use Rattle.job_stages.specs.declared.verdict.JobVerdict.TheVariants as jobs
 use Rattle.run_pool.specs.declared.settings.Settings.{Settings}
-use Rattle.ptg_top.specs.declared.request.Request.{Request}
-use Rattle.ptg_top.specs.declared.request.Request.TheVariants.{Run, Demo, Trace, Certify}
 use Rattle.ptg_top.specs.declared.status.Status.{Status}
 use Rattle.ptg_top.specs.declared.status.Status.TheVariants as status
 use Rattle.ptg_top.specs.declared.verdict.RanBy.TheVariants.{Table}
@@ -21,7 +19,6 @@ use Rattle.ptg_top.specs.Denotation.{denoted}
 use Rattle.ptg_top.specs.Demo.{MadeTextsDenote}
 use Rattle.ptg_top.specs.JobFiles.{Entries, FilesDenote}
 use Rattle.ptg_top.specs.Headline.{status_of}
-use Rattle.ptg_top.specs.Requests.{Requests}
 use Rattle.ptg_top.specs.Tables.{IsRunWith, ShowsSettings, usual_settings}
 
 -- the command runs a job
@@ -82,14 +79,16 @@ abbrev pub IsOfRun : Settings → Verdict → Type 0
 IsOfRun settings (Ran by finding) = IsRunWith settings by
 IsOfRun settings v = IsAnswerStatus (status_of (denoted v)) → ⊥
 
--- A verdict on what is asked: on a run with its settings, or without a receipt.
-abbrev pub IsRunAsAsked : Request → Verdict → Type 0
-IsRunAsAsked (Run jdf data_name settings) v = IsOfRun settings v
-IsRunAsAsked (Demo rows) v = IsOfRun usual_settings v
-IsRunAsAsked (Trace jdf data_name settings) v = IsOfRun settings v
-IsRunAsAsked (Certify jdf data_name) v = IsOfRun usual_settings v
-IsRunAsAsked request v = receipt_of v ≡ None
+-- A verdict on a command: on a run with its settings, or without a receipt.
+abbrev pub IsRunAsAsked : Order → Verdict → Type 0
+IsRunAsAsked (order.Run jdf data_name workers shards preload) v =
+    IsOfRun (record { workers = workers; shards = shards; preload = preload }) v
+IsRunAsAsked (order.Demo rows) v = IsOfRun usual_settings v
+IsRunAsAsked (order.Trace jdf data_name workers shards) v =
+    IsOfRun (record { workers = workers; shards = shards; preload = false }) v
+IsRunAsAsked (order.Certify jdf data_name) v = IsOfRun usual_settings v
+IsRunAsAsked command v = receipt_of v ≡ None
 
--- the same, of what the arguments ask
-abbrev pub IsRunAsOrdered : List (List ℕ) → Verdict → Type 0
-IsRunAsOrdered words v = (request : Request) → Requests words request → IsRunAsAsked request v
+-- a verdict on arguments: on a run with the settings of the command that they form, or without a receipt
+abbrev pub IsRunAsCommanded : List (List ℕ) → Verdict → Type 0
+IsRunAsCommanded words v = (command : Order) → Orders words command → IsRunAsAsked command v

@@ -11,11 +11,11 @@ ghost use Rattle.chain_cert.specs.Checked.{ShowsHeaviest};
 ghost use Rattle.chain_cert.specs.declared.certificate.Certificate.TheVariants as certificates;
 ghost use Rattle.chain_cert.specs.Checking.{AreWeights};
 ghost use Rattle.chain_cert.specs.Finding.{IsAccepted};
-ghost use Rattle.ptg_top.specs.declared.request.Request.TheVariants as asked;
+ghost use Rattle.ptg_words.specs.declared.order.Order.TheVariants as commands;
 ghost use Rattle.ptg_top.specs.Certify.{IsCertified, certified};
 ghost use Rattle.ptg_top.specs.Denotation.{denoted, plan_of};
 ghost use Rattle.ptg_top.specs.JobFiles.{HasFittingJob};
-ghost use Rattle.ptg_top.specs.Reports.{IsVerdictOnRequest};
+ghost use Rattle.ptg_top.specs.Reports.{IsVerdictOnCommand};
 ghost use Rattle.ptg_top.specs.Receipts.{IsOfRun};
 ghost use Rattle.ptg_top.specs.Tables.{usual_settings};
 
@@ -49,8 +49,8 @@ pub fn certify<R: Threads + Wait + Sync, F: Files, G: Gate>(
     ensures stays { F.contents files.new ≡ F.contents files.old }
     ensures grows { (other : List ℕ) → F.faults files.old other ≤ F.faults files.new other }
     ensures verdict { IfOk result (λ v.
-        IsVerdictOnRequest (F.contents files.old) (F.faults files.old) (F.faults files.new)
-        (asked.Certify jdf.now data_name.now) (denoted v)) }
+        IsVerdictOnCommand (F.contents files.old) (F.faults files.old) (F.faults files.new)
+        (commands.Certify jdf.now data_name.now) (denoted v)) }
     ensures fit { IfOk result (λ v. HasFittingJob (denoted v)) }
     ensures ran { IfOk result (λ v. IsOfRun usual_settings v) }
 {

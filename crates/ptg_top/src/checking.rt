@@ -4,11 +4,11 @@ ghost use Rattle.std.specs.Prelude.{◌≡◌, ◌≤◌, ℕ, List, IfOk};
 ghost use Rattle.std.specs.Str.{IsUtf8};
 ghost use Rattle.jdf_tree.specs.Jdf.{IsJdf};
 ghost use Rattle.jdf_tree.specs.TreeLimits.{IsWithinLimits};
-ghost use Rattle.ptg_top.specs.declared.request.Request.TheVariants as asked;
+ghost use Rattle.ptg_words.specs.declared.order.Order.TheVariants as commands;
 ghost use Rattle.ptg_top.specs.Denotation.{denoted};
 ghost use Rattle.ptg_top.specs.JobFiles.{IsChecked};
 ghost use Rattle.ptg_top.specs.Steps.{CheckOfDataEndsWith};
-ghost use Rattle.ptg_top.specs.Reports.{IsVerdictOnRequest};
+ghost use Rattle.ptg_top.specs.Reports.{IsVerdictOnCommand};
 
 use crate::jdf_file::tree_of_file;
 use crate::reading::{name_of, unread};
@@ -32,8 +32,8 @@ pub fn check<F: Files>(
     ensures stays { F.contents files.new ≡ F.contents files.old }
     ensures grows { (other : List ℕ) → F.faults files.old other ≤ F.faults files.new other }
     ensures verdict { IfOk result (λ v.
-        IsVerdictOnRequest (F.contents files.old) (F.faults files.old) (F.faults files.new)
-        (asked.Check jdf.now data_name.now) (denoted v)) }
+        IsVerdictOnCommand (F.contents files.old) (F.faults files.old) (F.faults files.new)
+        (commands.Check jdf.now data_name.now) (denoted v)) }
     ensures fit { IfOk result (λ v. IsChecked (denoted v)) }
 {
     let read = tree_of_file(alloc, jdf, files)?;

@@ -5,7 +5,7 @@ ghost use Rattle.plan_data.specs.Fit.{DataFit};
 ghost use Rattle.job_stages.specs.declared.verdict.JobVerdict.TheVariants as jobs;
 ghost use Rattle.ptg_top.specs.Denotation as verdicts;
 ghost use Rattle.ptg_top.specs.Denotation.{denoted};
-ghost use Rattle.ptg_top.specs.Answering.{IsRefusal};
+ghost use Rattle.ptg_top.specs.Answering.{IsRefusedByCheck};
 ghost use Rattle.ptg_top.specs.JobFiles.{IsChecked};
 
 use crate::verdict::Verdict;
@@ -18,7 +18,7 @@ pub fn consistent_job(checked: Verdict) -> Result<(Matched, Given), Verdict>
     requires { IsChecked (denoted checked) }
     ensures found { IfOk result (λ job. denoted checked ≡ verdicts.Job (jobs.Consistent job.0 job.1)) }
     ensures fit { IfOk result (λ job. DataFit job.0.colls job.0.elems job.1) }
-    ensures refused { IfErr result (λ v. (v ≡ checked) × IsRefusal (denoted v)) }
+    ensures refused { IfErr result (λ v. (v ≡ checked) × IsRefusedByCheck (denoted v)) }
 {
     match checked {
         Verdict::Job(JobVerdict::Consistent(matched, given)) => Ok((matched, given)),

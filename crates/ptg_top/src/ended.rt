@@ -3,7 +3,7 @@
 ghost use Rattle.std.specs.Prelude.{◌≡◌, None};
 
 use crate::status::Status;
-use dep_table::receipt::Receipt;
+use dep_table::Receipt;
 
 /// How a run of the program ended.
 #[derive(Drop)]

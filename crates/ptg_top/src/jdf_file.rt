@@ -4,7 +4,7 @@ ghost use Rattle.std.specs.Prelude.{◌≡◌, ◌≤◌, ℕ, List, IfOk, IfErr
 ghost use Rattle.std.specs.Str.{IsUtf8};
 ghost use Rattle.jdf_tree.specs.Jdf.{IsJdf};
 ghost use Rattle.jdf_tree.specs.TreeLimits.{IsWithinLimits};
-ghost use Rattle.ptg_top.specs.Answering.{IsRefusal};
+ghost use Rattle.ptg_top.specs.Answering.{IsRefusedByCheck};
 ghost use Rattle.ptg_top.specs.Denotation.{denoted};
 ghost use Rattle.ptg_top.specs.JobFiles.{IsChecked, RefusesText};
 ghost use Rattle.ptg_top.specs.Steps.{IsTreeRead, TreeIsRefused};
@@ -32,7 +32,7 @@ pub fn tree_of_file<F: Files>(
     ensures refused { IfOk result (λ read. IfErr read (λ v.
         TreeIsRefused (F.contents files.old) (F.faults files.old jdf.now) (F.faults files.new jdf.now) jdf.now
         (denoted v))) }
-    ensures refusal { IfOk result (λ read. IfErr read (λ v. IsRefusal (denoted v) × IsChecked (denoted v))) }
+    ensures refusal { IfOk result (λ read. IfErr read (λ v. IsRefusedByCheck (denoted v) × IsChecked (denoted v))) }
 {
     match load(alloc, files, name_of(jdf)) {
         Ok(text) => tree_of_text(alloc, text.as_slice()),
@@ -47,7 +47,7 @@ fn tree_of_text(alloc: Global, text: &[u8]) -> Result<Result<Jdf, Verdict>, OutO
     ensures tree { IfOk result (λ read. IfOk read (IsJdf text.now)) }
     ensures within { IfOk result (λ read. IfOk read IsWithinLimits) }
     ensures refused { IfOk result (λ read. IfErr read (λ v. RefusesText text.now (denoted v))) }
-    ensures refusal { IfOk result (λ read. IfErr read (λ v. IsRefusal (denoted v) × IsChecked (denoted v))) }
+    ensures refusal { IfOk result (λ read. IfErr read (λ v. IsRefusedByCheck (denoted v) × IsChecked (denoted v))) }
 {
     match tree_of(alloc, text) {
         Ok(tree) => Ok(Ok(tree)),

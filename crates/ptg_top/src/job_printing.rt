@@ -1,9 +1,7 @@
 //! Prints what the check of a job comes to; its status.
 
-ghost use Rattle.std.specs.Prelude.{◌≡◌, ◌≤◌, OnOk, OnErr};
-ghost use Rattle.ptg_io.specs.Faults.{Rose};
-ghost use Rattle.ptg_io.specs.Sink.{appended};
-ghost use Rattle.report_text.specs.Puts.{HasPrefix};
+ghost use Rattle.std.specs.Prelude.{◌≡◌};
+ghost use Rattle.report_text.specs.Puts.{PrintsText};
 ghost use Rattle.ptg_top.specs.JobText.{job_text, status_of_job};
 
 use crate::names::{class_name, flow_name};
@@ -14,10 +12,7 @@ use report_text::{Line, consistent, refusal};
 
 /// Prints what the check of a job comes to. On `Err` a prefix of its text was written.
 pub fn print_job<O: Sink>(job: &JobVerdict, out: &mut O) -> Result<(), Failed>
-    ensures ok { OnOk result (O.bytes out.new ≡ appended (O.bytes out.old) (job_text job.now)) }
-    ensures prefix { OnErr result (HasPrefix (O.bytes out.old) (O.bytes out.new) (job_text job.now)) }
-    ensures grows { O.faults out.old ≤ O.faults out.new }
-    ensures failed { OnErr result (Rose (O.faults out.old) (O.faults out.new)) }
+    ensures { PrintsText O.bytes O.faults result out.old out.new (job_text job.now) }
 {
     match job {
         JobVerdict::Jdf(fault) => refusal(&Line::Jdf(*fault), out),

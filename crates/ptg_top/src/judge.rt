@@ -1,17 +1,17 @@
 //! The verdict on arguments and files.
 
 ghost use Rattle.std.specs.Prelude.{◌≡◌, ◌≤◌, ℕ, List, IfOk};
+ghost use Rattle.ptg_words.specs.Laws.{AreText, HasNumbersInRange, files_of};
 ghost use Rattle.ptg_top.specs.Denotation.{denoted};
 ghost use Rattle.ptg_top.specs.JobFiles.{HasFittingJob};
-ghost use Rattle.ptg_top.specs.Reports.{IsProper, IsVerdictOnRequest, IsVerdictOnWords};
-ghost use Rattle.ptg_top.specs.Receipts.{IsRunAsAsked, IsRunAsOrdered};
+ghost use Rattle.ptg_top.specs.Reports.{IsVerdictOnCommand, IsVerdictOnWords};
+ghost use Rattle.ptg_top.specs.Receipts.{IsRunAsAsked, IsRunAsCommanded};
 
 use crate::certifying::certify;
 use crate::checking::check;
 use crate::host::Host;
-use crate::ranking::ranks;
+use crate::ranking::{RankSettings, ranks};
 use crate::replaying::replay;
-use crate::request::{Request, request_of};
 use crate::running::run;
 use crate::showing::show;
 use crate::summing::demo;
@@ -19,7 +19,8 @@ use crate::tracing::trace;
 use crate::verdict::Verdict;
 use ptg_base::{OutOfMemory, Text};
 use ptg_io::Files;
-use ptg_words::{WordsRefusal, files_are_text, orders_have_numbers_in_range, words};
+use ptg_words::{Order, WordsRefusal, commands_have_numbers_in_range, files_are_text, words};
+use run_pool::Settings;
 use std::sync::Wait;
 use std::thread::Threads;
 use worker_core::Gate;
@@ -35,44 +36,60 @@ pub fn judge<R: Threads + Wait + Sync, F: Files, G: Gate>(
     ensures judged { IfOk result (λ v.
         IsVerdictOnWords list.now (F.contents files.old) (F.faults files.old) (F.faults files.new) (denoted v)) }
     ensures fit { IfOk result (λ v. HasFittingJob (denoted v)) }
-    ensures ran { IfOk result (λ v. IsRunAsOrdered list.now v) }
+    ensures ran { IfOk result (λ v. IsRunAsCommanded list.now v) }
 {
     files_are_text();
-    orders_have_numbers_in_range();
+    commands_have_numbers_in_range();
     match words(host.alloc, list) {
-        Ok(order) => {
-            let request = request_of(order);
-            carry_out(host, &request, files)
-        }
+        Ok(order) => carry_out(host, &order, files),
         Err(WordsRefusal::Usage) => Ok(Verdict::Usage),
         Err(WordsRefusal::OutOfMemory) => Err(OutOfMemory),
     }
 }
 
-// The verdict on a request.
+// The verdict on a command.
 fn carry_out<R: Threads + Wait + Sync, F: Files, G: Gate>(
     host: &Host<R, G>,
-    request: &Request,
+    order: &Order,
     files: &mut F,
 ) -> Result<Verdict, OutOfMemory>
-    requires proper { IsProper request.now }
+    requires text { AreText (files_of order.now) }
+    requires numbers { HasNumbersInRange order.now }
     ensures stays { F.contents files.new ≡ F.contents files.old }
     ensures grows { (other : List ℕ) → F.faults files.old other ≤ F.faults files.new other }
     ensures judged { IfOk result (λ v.
-        IsVerdictOnRequest (F.contents files.old) (F.faults files.old) (F.faults files.new) request.now (denoted v)) }
+        IsVerdictOnCommand (F.contents files.old) (F.faults files.old) (F.faults files.new) order.now (denoted v)) }
     ensures fit { IfOk result (λ v. HasFittingJob (denoted v)) }
-    ensures ran { IfOk result (λ v. IsRunAsAsked request.now v) }
+    ensures ran { IfOk result (λ v. IsRunAsAsked order.now v) }
 {
-    match request {
-        Request::Run(jdf, data_name, settings) => run(host, jdf, data_name, files, *settings),
-        Request::Show(jdf) => show(host.alloc, jdf, files),
-        Request::Check(jdf, data_name) => check(host.alloc, jdf, data_name, files),
-        Request::Demo(rows) => demo(host, *rows),
-        Request::Trace(jdf, data_name, settings) => trace(host, jdf, data_name, files, *settings),
-        Request::Replay(jdf, data_name, list) => replay(host.alloc, jdf, data_name, list, files),
-        Request::Certify(jdf, data_name) => certify(host, jdf, data_name, files),
-        Request::Ranks(jdf, data_name, settings) => ranks(
-            host.alloc, jdf, data_name, files, *settings,
-        ),
+    match order {
+        Order::Run(jdf, data_name, workers, shards, preload) => {
+            let settings = Settings {
+                workers: *workers,
+                shards: *shards,
+                preload: *preload,
+            };
+            run(host, jdf, data_name, files, settings)
+        }
+        Order::Show(jdf) => show(host.alloc, jdf, files),
+        Order::Check(jdf, data_name) => check(host.alloc, jdf, data_name, files),
+        Order::Demo(rows) => demo(host, *rows),
+        Order::Trace(jdf, data_name, workers, shards) => {
+            let settings = Settings {
+                workers: *workers,
+                shards: *shards,
+                preload: false,
+            };
+            trace(host, jdf, data_name, files, settings)
+        }
+        Order::Replay(jdf, data_name, list) => replay(host.alloc, jdf, data_name, list, files),
+        Order::Certify(jdf, data_name) => certify(host, jdf, data_name, files),
+        Order::Ranks(jdf, data_name, count, seed) => {
+            let settings = RankSettings {
+                ranks: *count,
+                seed: *seed,
+            };
+            ranks(host.alloc, jdf, data_name, files, settings)
+        }
     }
 }

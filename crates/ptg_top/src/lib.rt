@@ -16,7 +16,6 @@ mod program;
 mod ranking;
 mod reading;
 mod replaying;
-mod request;
 mod running;
 mod showing;
 mod status;
@@ -27,6 +26,5 @@ mod verdict;
 
 pub use ended::Ended;
 pub use program::ptg_main;
-pub use request::{RankSettings, Request};
 pub use status::Status;
 pub use verdict::{Finding, RanBy, Verdict};

@@ -1,9 +1,7 @@
 //! Prints a verdict; the status of a verdict.
 
-ghost use Rattle.std.specs.Prelude.{◌≡◌, ◌≤◌, OnOk, OnErr};
-ghost use Rattle.ptg_io.specs.Faults.{Rose};
-ghost use Rattle.ptg_io.specs.Sink.{appended};
-ghost use Rattle.report_text.specs.Puts.{HasPrefix};
+ghost use Rattle.std.specs.Prelude.{◌≡◌};
+ghost use Rattle.report_text.specs.Puts.{PrintsText};
 ghost use Rattle.ptg_top.specs.Denotation.{denoted};
 ghost use Rattle.ptg_top.specs.JobFiles.{HasFittingJob};
 ghost use Rattle.ptg_top.specs.Headline.{text_of, status_of};
@@ -13,38 +11,24 @@ use crate::finding_printing::{print_finding, status_of_finding};
 use crate::job_printing::{print_job, status_of_job};
 use crate::status::Status;
 use crate::verdict::{RanBy, Verdict};
-use dep_table::receipt::Receipt;
-use ptg_base::Text;
+use dep_table::Receipt;
 use ptg_io::{Failed, Sink, write_all};
 use report_text::{Line, refusal};
 
 /// Prints a verdict. On `Err` a prefix of its text was written.
 pub fn print_verdict<O: Sink>(verdict: &Verdict, out: &mut O) -> Result<(), Failed>
     requires { HasFittingJob (denoted verdict.now) }
-    ensures ok { OnOk result (O.bytes out.new ≡ appended (O.bytes out.old) (text_of (denoted verdict.now))) }
-    ensures prefix { OnErr result (HasPrefix (O.bytes out.old) (O.bytes out.new) (text_of (denoted verdict.now))) }
-    ensures grows { O.faults out.old ≤ O.faults out.new }
-    ensures failed { OnErr result (Rose (O.faults out.old) (O.faults out.new)) }
+    ensures { PrintsText O.bytes O.faults result out.old out.new (text_of (denoted verdict.now)) }
 {
     match verdict {
         Verdict::Usage => refusal(&Line::Usage, out),
         Verdict::Unread(name) => refusal(&Line::Unread(name.bytes()), out),
         Verdict::Job(job) => print_job(job, out),
         Verdict::Ran(by, finding) => print_finding(by, finding, out),
-        Verdict::Spelling(text) => spell(text, out),
+        Verdict::Spelling(text) => write_all(out, text.bytes()),
         Verdict::Preload => refusal(&Line::Preload, out),
         Verdict::Trace(fault) => refusal(&Line::Trace(*fault), out),
     }
-}
-
-// Prints a text.
-fn spell<O: Sink>(text: &Text, out: &mut O) -> Result<(), Failed>
-    ensures ok { OnOk result (O.bytes out.new ≡ appended (O.bytes out.old) text.now) }
-    ensures prefix { OnErr result (HasPrefix (O.bytes out.old) (O.bytes out.new) text.now) }
-    ensures grows { O.faults out.old ≤ O.faults out.new }
-    ensures failed { OnErr result (Rose (O.faults out.old) (O.faults out.new)) }
-{
-    write_all(out, text.bytes())
 }
 
 /// The status of a verdict that was printed.

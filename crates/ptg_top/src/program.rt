@@ -3,9 +3,10 @@
 ghost use Rattle.std.specs.Prelude.{◌≡◌, ◌⊎◌, ◌≤◌, ℕ, List, Some, IfSome, IfNone};
 ghost use Rattle.ptg_io.specs.Faults.{Rose};
 ghost use Rattle.ptg_io.specs.Sink.{appended};
+ghost use Rattle.report_text.specs.Refusal.{unread_line, usage_line};
 ghost use Rattle.ptg_top.specs.JobFiles.{Entries};
-ghost use Rattle.ptg_top.specs.Meaning.{IsNoOrder, MayBeUnread};
-ghost use Rattle.ptg_top.specs.Headline.{IsExact, Prints, IsCut, unread_line, usage_line};
+ghost use Rattle.ptg_top.specs.Meaning.{IsNoCommand, MayBeUnread};
+ghost use Rattle.ptg_top.specs.Headline.{IsExact, Prints, IsCut};
 ghost use Rattle.ptg_top.specs.Receipts.{HasConsistentPlan, IsAnswerStatus, IsReceiptFor, IsRun};
 ghost use Rattle.ptg_words.specs.declared.order.Order.{Order};
 ghost use Rattle.ptg_words.specs.Words.{Orders};
@@ -74,9 +75,9 @@ pub fn ptg_main<R: Threads + Wait + Sync, F: Files, O: Sink, G: Gate>(
         ⊎ (result.status ≡ Status.OutOfMemory) }
     // Whatever the files: usage, with its line, is the answer only to arguments that form no command, and to those
     // nothing else is, unless a write failed or memory ran out.
-    ensures usage_only { result.status ≡ Status.Usage → IsNoOrder words.now }
+    ensures usage_only { result.status ≡ Status.Usage → IsNoCommand words.now }
     ensures usage_line { result.status ≡ Status.Usage → O.bytes out.new ≡ appended (O.bytes out.old) usage_line }
-    ensures usage { IsNoOrder words.now
+    ensures usage { IsNoCommand words.now
         → (result.status ≡ Status.Usage)
         ⊎ ((result.status ≡ Status.WriteFault) ⊎ (result.status ≡ Status.OutOfMemory)) }
     // The answer of a job that workers ran comes with the receipt of a table with the shards, the workers and the

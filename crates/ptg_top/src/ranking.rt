@@ -2,17 +2,17 @@
 
 ghost use Rattle.std.specs.Prelude.{◌≡◌, ◌≤◌, ℕ, List, IfOk, None};
 ghost use Rattle.std.specs.Str.{IsUtf8};
+ghost use Rattle.ptg_base.specs.Limits.{most_ranks};
 ghost use Rattle.plan_data.specs.Fit.{DataFit};
-ghost use Rattle.ptg_top.specs.declared.request.Request.TheVariants as asked;
+ghost use Rattle.ptg_words.specs.declared.order.Order.TheVariants as commands;
 ghost use Rattle.ptg_top.specs.Denotation.{denoted};
 ghost use Rattle.ptg_top.specs.JobFiles.{HasFittingJob};
-ghost use Rattle.ptg_top.specs.Ranks.{AreRanks, IsRanked};
-ghost use Rattle.ptg_top.specs.Reports.{IsVerdictOnRequest};
+ghost use Rattle.ptg_top.specs.Ranks.{IsRanked};
+ghost use Rattle.ptg_top.specs.Reports.{IsVerdictOnCommand};
 ghost use Rattle.ptg_top.specs.Receipts.{receipt_of};
 
 use crate::checking::check;
 use crate::consistent::consistent_job;
-use crate::request::RankSettings;
 use crate::verdict::{Finding, RanBy, Verdict};
 use coll_data::Given;
 use dep_iter::Matched;
@@ -21,6 +21,15 @@ use ptg_io::Files;
 use rank_world::ranks_of;
 use report_text::RankedAnswer;
 use std::alloc::Global;
+
+/// With what ranks run a job.
+#[derive(Clone, Copy, Debug, PartialEq, Eq)]
+pub struct RankSettings {
+    /// How many ranks there are.
+    pub ranks: u32,
+    /// The seed that chooses the order in which tasks run and messages come.
+    pub seed: u64,
+}
 
 /// The verdict of `ranks` on a JDF file and a data file: of a job that `check` finds consistent, how many messages the
 /// ranks send one another, and the job's answer; else the verdict of `check`.
@@ -33,12 +42,12 @@ pub fn ranks<F: Files>(
 ) -> Result<Verdict, OutOfMemory>
     requires jdf_text { IsUtf8 jdf.now }
     requires data_name_text { IsUtf8 data_name.now }
-    requires ranks { AreRanks settings.ranks }
+    requires ranks { (1 ≤ settings.ranks) × (settings.ranks ≤ most_ranks) }
     ensures stays { F.contents files.new ≡ F.contents files.old }
     ensures grows { (other : List ℕ) → F.faults files.old other ≤ F.faults files.new other }
     ensures verdict { IfOk result (λ v.
-        IsVerdictOnRequest (F.contents files.old) (F.faults files.old) (F.faults files.new)
-        (asked.Ranks jdf.now data_name.now settings) (denoted v)) }
+        IsVerdictOnCommand (F.contents files.old) (F.faults files.old) (F.faults files.new)
+        (commands.Ranks jdf.now data_name.now settings.ranks settings.seed) (denoted v)) }
     ensures fit { IfOk result (λ v. HasFittingJob (denoted v)) }
     ensures not_run { IfOk result (λ v. receipt_of v ≡ None) }
 {
@@ -57,7 +66,7 @@ fn ranked(
     settings: RankSettings,
 ) -> Result<Verdict, OutOfMemory>
     requires fit { DataFit matched.colls matched.elems given }
-    requires ranks { AreRanks settings.ranks }
+    requires ranks { (1 ≤ settings.ranks) × (settings.ranks ≤ most_ranks) }
     ensures ranked { IfOk result (λ v. IsRanked settings.ranks matched given (denoted v)) }
     ensures fit { IfOk result (λ v. HasFittingJob (denoted v)) }
     ensures not_run { IfOk result (λ v. receipt_of v ≡ None) }

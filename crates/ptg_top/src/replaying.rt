@@ -3,11 +3,11 @@
 ghost use Rattle.std.specs.Prelude.{◌≡◌, ◌≤◌, ℕ, List, IfOk, None};
 ghost use Rattle.std.specs.Str.{IsUtf8};
 ghost use Rattle.plan_data.specs.Fit.{DataFit};
-ghost use Rattle.ptg_top.specs.declared.request.Request.TheVariants as asked;
+ghost use Rattle.ptg_words.specs.declared.order.Order.TheVariants as commands;
 ghost use Rattle.ptg_top.specs.Denotation.{denoted};
 ghost use Rattle.ptg_top.specs.JobFiles.{HasFittingJob};
 ghost use Rattle.ptg_top.specs.Replay.{IsReplayOf};
-ghost use Rattle.ptg_top.specs.Reports.{IsOfTexts, IsVerdictOnRequest};
+ghost use Rattle.ptg_top.specs.Reports.{IsOfTexts, IsVerdictOnCommand};
 ghost use Rattle.ptg_top.specs.Receipts.{receipt_of};
 ghost use Rattle.ptg_top.specs.Steps.{ReplayEndsWith};
 
@@ -20,7 +20,7 @@ use dep_iter::Matched;
 use ptg_base::{OutOfMemory, Text};
 use ptg_io::{Files, LoadFault, load};
 use std::alloc::Global;
-use trace_core::{TraceCode, TraceFault};
+use trace_core::trace_too_long;
 use trace_replay::judge_trace;
 
 /// The verdict of `replay` on a JDF file, a data file and a trace file: of a job that `check` finds consistent, the
@@ -39,8 +39,8 @@ pub fn replay<F: Files>(
     ensures stays { F.contents files.new ≡ F.contents files.old }
     ensures grows { (other : List ℕ) → F.faults files.old other ≤ F.faults files.new other }
     ensures verdict { IfOk result (λ v.
-        IsVerdictOnRequest (F.contents files.old) (F.faults files.old) (F.faults files.new)
-        (asked.Replay jdf.now data_name.now trace.now) (denoted v)) }
+        IsVerdictOnCommand (F.contents files.old) (F.faults files.old) (F.faults files.new)
+        (commands.Replay jdf.now data_name.now trace.now) (denoted v)) }
     ensures fit { IfOk result (λ v. HasFittingJob (denoted v)) }
     ensures not_run { IfOk result (λ v. receipt_of v ≡ None) }
 {
@@ -71,10 +71,7 @@ fn replayed<F: Files>(
 {
     match load(alloc, files, name_of(trace)) {
         Ok(text) => replay_of(alloc, matched, given, text.as_slice()),
-        Err(LoadFault::TooLong) => Ok(Verdict::Trace(TraceFault {
-            row: 0,
-            code: TraceCode::TooLong,
-        })),
+        Err(LoadFault::TooLong) => Ok(Verdict::Trace(trace_too_long())),
         Err(LoadFault::Failed) => unread(alloc, trace),
         Err(LoadFault::OutOfMemory) => Err(OutOfMemory),
     }
@@ -93,7 +90,7 @@ fn replay_of(
     ensures fit { IfOk result (λ v. HasFittingJob (denoted v)) }
     ensures not_run { IfOk result (λ v. receipt_of v ≡ None) }
 {
-    matched.is_consistent();
+    matched.plan_is_consistent();
     let verdict = judge_trace(alloc, &matched, given, text)?;
     match verdict {
         Ok(outcome) => Ok(Verdict::Ran(RanBy::OneThread(matched), Finding::Answer(outcome))),

@@ -4,11 +4,11 @@ ghost use Rattle.std.specs.Prelude.{◌≡◌, ◌≤◌, ℕ, List, IfOk};
 ghost use Rattle.std.specs.Str.{IsUtf8};
 ghost use Rattle.plan_data.specs.Fit.{DataFit};
 ghost use Rattle.ptg_words.specs.Laws.{AreCounts};
-ghost use Rattle.ptg_top.specs.declared.request.Request.TheVariants as asked;
+ghost use Rattle.ptg_words.specs.declared.order.Order.TheVariants as commands;
 ghost use Rattle.ptg_top.specs.Denotation.{denoted};
 ghost use Rattle.ptg_top.specs.Answering.{IsAnswer};
 ghost use Rattle.ptg_top.specs.JobFiles.{HasFittingJob};
-ghost use Rattle.ptg_top.specs.Reports.{IsVerdictOnRequest};
+ghost use Rattle.ptg_top.specs.Reports.{IsVerdictOnCommand};
 ghost use Rattle.ptg_top.specs.Receipts.{IsOfRun};
 
 use crate::checking::check;
@@ -40,8 +40,8 @@ pub fn run<R: Threads + Wait + Sync, F: Files, G: Gate>(
     ensures stays { F.contents files.new ≡ F.contents files.old }
     ensures grows { (other : List ℕ) → F.faults files.old other ≤ F.faults files.new other }
     ensures verdict { IfOk result (λ v.
-        IsVerdictOnRequest (F.contents files.old) (F.faults files.old) (F.faults files.new)
-        (asked.Run jdf.now data_name.now settings) (denoted v)) }
+        IsVerdictOnCommand (F.contents files.old) (F.faults files.old) (F.faults files.new)
+        (commands.Run jdf.now data_name.now settings.workers settings.shards settings.preload) (denoted v)) }
     ensures fit { IfOk result (λ v. HasFittingJob (denoted v)) }
     ensures ran { IfOk result (λ v. IsOfRun settings v) }
 {

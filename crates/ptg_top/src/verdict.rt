@@ -1,7 +1,7 @@
 //! The verdict: what a run comes to, before it is printed.
 
 use dep_iter::Matched;
-use dep_table::receipt::Receipt;
+use dep_table::Receipt;
 use flow_meaning::Outcome;
 use job_stages::JobVerdict;
 use ptg_base::Text;

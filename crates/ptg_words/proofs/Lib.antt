@@ -10,6 +10,6 @@ mod ClapRules
 mod ClapCommands
 pub mod ValuesRead
 pub mod Rules
-pub mod OneOrder
+pub mod OneCommand
 pub mod Proper
-mod OrderFacts
+mod CommandFacts

@@ -10,7 +10,8 @@ use Rattle.ptg_base.specs.Decimal.{decimal, is_decimal, is_digit}
 use Rattle.ptg_words.specs.Parts.{Part, parts, operands, is_lacking, is_stray, has_twice}
 use Rattle.ptg_words.specs.declared.options.Options.{Options}
 use Rattle.ptg_words.specs.declared.order.Order.{Order}
-use Rattle.ptg_words.specs.Words.{Verb, Breaks, Orders, IsProper, IsUsage, no_verb, improper_word, stray_word, lacking_number, option_twice, operand_number, bad_number, formed, read, verb_of, options_of, operands_of, operand_count, has_bad_count, has_bad_operand, has_bad_number, has_wrong_count, is_number}
+use Rattle.ptg_words.specs.declared.verbs.Verb.{Verb}
+use Rattle.ptg_words.specs.Words.{Breaks, Orders, IsProper, IsUsage, no_verb, improper_word, stray_word, lacking_number, option_twice, operand_number, bad_number, formed, read, verb_of, options_of, operands_of, operand_count, has_bad_count, has_bad_operand, has_bad_number, has_wrong_count, is_number}
 use Rattle.ptg_words.specs.Readings.{AllProper, Forms, HasBadOperand, IsOf, IsReadOf, is_read, texts}
 use Rattle.ptg_words.specs.declared.order.WordsRefusal.{WordsRefusal}
 use Rattle.ptg_words.specs.declared.verb.ReadVerb.{ReadVerb}
@@ -78,7 +79,7 @@ number_at_most least most text h = at_most most text (go (nat_le (length text) 2
     go true false c e = absurd cc
     go false b c e = absurd cc
 
--- what the parts of proper words mean is what the words order
+-- what the parts of proper words mean is the command that the words form
 module _ (v : Verb) (ws : List (List ℕ)) (of : IsOf v ws) where
   abbrev pub rest_of : List Part
   rest_of = parts (options_of v) (drop 1 ws)
@@ -104,7 +105,7 @@ module _ (v : Verb) (ws : List (List ℕ)) (of : IsOf v ws) where
   read_with n opts r count options read =
       subst (λ m. IsReadOf m rest_of r) count (subst (λ o. IsReadOf n (parts o (drop 1 ws)) r) options read)
 
-  -- the order of what was read
+  -- the command of what was read
   pub orders : (r : ReadVerb) (result : Result Order WordsRefusal) → IsReadOf (operand_count v) rest_of r → IfOk result (Forms v r) → IfOk result (λ order. Orders ws order)
   orders r (Ok order) read forms = order_from order (texts r.operands.items) read.good read.counts read.operand_texts forms.good (forms.asks rest_of read.options)
   orders r (Err e) read forms = tt

@@ -6,15 +6,19 @@ use Rattle.clap.specs.declared.builder.action.ArgAction.TheVariants.{Set, SetTru
 use Rattle.ptg_words.specs.declared.options.Options.{Options}
 use Rattle.ptg_words.specs.declared.options.Options.TheVariants.{NoOptions, Counts, CountsAndPreload}
 
+-- an operand, which must be given
 abbrev pub operand_rule : Text → Rule
 operand_rule id = record (new_rule id) { required = true; action = Some Set }
 
+-- an option `--NAME` with a value
 abbrev pub option_rule : Text → Rule
 option_rule name = record (new_rule name) { long = Some name; action = Some Set }
 
+-- an option `--NAME` without a value
 abbrev pub flag_rule : Text → Rule
 flag_rule name = record (new_rule name) { long = Some name; action = Some SetTrue }
 
+-- a command with these rules, and no help flag
 abbrev pub command : Text → List Rule → App
 command name rules = record { top = record (new_shape name) { rules = rules; disable_help_flag = true }; subs = [] }
 

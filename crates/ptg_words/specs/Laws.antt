@@ -17,7 +17,7 @@ files_of (Replay jdf data_name list) = jdf ∷ data_name ∷ list ∷ []
 files_of (Certify jdf data_name) = jdf ∷ data_name ∷ []
 files_of (Ranks jdf data_name r seed) = jdf ∷ data_name ∷ []
 
--- each of them is text
+-- each of these names is text
 abbrev pub AreText : List (List ℕ) → Type 0
 AreText [] = Unit {0}
 AreText (name ∷ names) = IsUtf8 name × AreText names
@@ -42,5 +42,6 @@ HasNumbersInRange (Replay jdf data_name list) = Unit {0}
 HasNumbersInRange (Certify jdf data_name) = Unit {0}
 HasNumbersInRange (Ranks jdf data_name r seed) = (1 ≤ r) × (r ≤ most_ranks) × (seed < 2 ^ 64)
 
+-- each command that words form has its numbers in their ranges
 abbrev pub NumbersInRange : Type 0
 NumbersInRange = (words : List (List ℕ)) (order : Order) → Orders words order → HasNumbersInRange order

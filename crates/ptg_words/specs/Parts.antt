@@ -7,12 +7,13 @@ use Rattle.std.specs.Str.{bytes_eq}
 use Rattle.ptg_words.specs.declared.options.Options.{Options}
 use Rattle.ptg_words.specs.declared.options.Options.TheVariants.{NoOptions, Counts, CountsAndPreload}
 
--- the options with a number are there for every verb that has options, and `--preload` for those that have it
+-- the options with a number are there for every verb that has options
 abbrev pub has_counts : Options → Bool
 has_counts NoOptions = false
 has_counts Counts = true
 has_counts CountsAndPreload = true
 
+-- `--preload` is there for the verbs that have it
 abbrev pub has_preload : Options → Bool
 has_preload NoOptions = false
 has_preload Counts = false
@@ -23,6 +24,7 @@ pub data NumberOption : Type 0 where
   workers : NumberOption
   shards : NumberOption
 
+-- the name of an option with a number
 abbrev pub name_of : NumberOption → List ℕ
 name_of workers = codes "workers"
 name_of shards = codes "shards"
@@ -58,6 +60,7 @@ dashed_form options word =
     if is_dashed word then option_named options (before_first (λ b. b == 61) (drop 1 word)) (text_after (drop 1 word))
     else unknown
 
+-- the form of a word
 abbrev pub form_of : Options → List ℕ → Form
 form_of options word = if is_dashed word then dashed_form options (drop 1 word) else plain
 
@@ -78,15 +81,17 @@ after_word (named s (Some text)) word rest = given s text ∷ rest None
 after_word flag word rest = preload ∷ rest None
 after_word unknown word rest = stray ∷ rest None
 
--- the same, after `--NAME`: a word that begins with no `-` is its text
+-- the parts from a word of this form on after `--NAME`: a word that begins with no `-` is its text
 abbrev pub after_name : NumberOption → Form → List ℕ → (Option NumberOption → List Part) → List Part
 after_name s plain word rest = given s word ∷ rest None
 after_name s form word rest = lacking s ∷ after_word form word rest
 
+-- the parts of a word of this form and of what follows it; the word may follow `--NAME` of an option with a number
 abbrev pub after : Option NumberOption → Form → List ℕ → (Option NumberOption → List Part) → List Part
 after None = after_word
 after (Some s) = after_name s
 
+-- the part at the end of the words: an option that still lacks its number, if there is one
 abbrev pub at_end : Option NumberOption → List Part
 at_end None = []
 at_end (Some s) = lacking s ∷ []
@@ -96,6 +101,7 @@ unfoldable pub parts_from : Options → Option NumberOption → List (List ℕ) 
 parts_from offered due [] = at_end due
 parts_from offered due (word ∷ words) = after due (form_of offered word) word (λ next. parts_from offered next words)
 
+-- the parts of words
 abbrev pub parts : Options → List (List ℕ) → List Part
 parts offered words = parts_from offered None words
 
@@ -121,14 +127,17 @@ texts_of s (lacking t ∷ rest) = texts_of s rest
 texts_of s (preload ∷ rest) = texts_of s rest
 texts_of s (stray ∷ rest) = texts_of s rest
 
+-- the part is `--preload`
 abbrev pub is_preload : Part → Bool
 is_preload preload = true
 is_preload _ = false
 
+-- the part is an option that lacks its number
 abbrev pub is_lacking : Part → Bool
 is_lacking (lacking s) = true
 is_lacking _ = false
 
+-- the part is a stray word
 abbrev pub is_stray : Part → Bool
 is_stray stray = true
 is_stray _ = false
@@ -141,6 +150,7 @@ option_of (lacking s) = Some (name_of s)
 option_of preload = Some (codes "preload")
 option_of stray = None
 
+-- the part is an option of this name
 abbrev pub is_named : List ℕ → Part → Bool
 is_named name part = option_map_or (bytes_eq name) (option_of part) false
 

@@ -7,12 +7,12 @@ use Rattle.clap.specs.Matches.{first_value}
 use Rattle.clap.specs.declared.parser.matches.Found.{Found}
 use Rattle.ptg_words.specs.declared.clap_words.VerbWords.{VerbWords}
 use Rattle.ptg_words.specs.declared.verb.ReadVerb.{ReadVerb}
-use Rattle.ptg_words.specs.declared.verbs.Verb as verbs
+use Rattle.ptg_words.specs.declared.verbs.Verb.{Verb}
 use Rattle.ptg_words.specs.declared.order.Order.{Order}
 use Rattle.ptg_words.specs.Parts.{Part, parts, workers, shards, operands, texts_of, is_preload, is_lacking, is_stray, has_twice}
-use Rattle.ptg_words.specs.Words as Words
-use Rattle.ptg_words.specs.Words.{Verb, IsProper, read, formed, operands_of, options_of, workers_of, shards_of, has_bad_count, has_bad_operand}
+use Rattle.ptg_words.specs.Words.{IsProper, read, formed, operands_of, options_of, workers_of, shards_of, has_bad_count, has_bad_operand}
 
+-- each of these words is text and neither empty, `-` nor `--`
 abbrev pub AllProper : List (List ℕ) → Type 0
 AllProper [] = Unit {0}
 AllProper (word ∷ words) = IsProper word × AllProper words
@@ -59,7 +59,7 @@ pub record IsReadOf (n : ℕ) (ps : List Part) (r : ReadVerb) : Type 0 where
 abbrev pub HasBadOperand : Verb → ReadVerb → Type 0
 HasBadOperand verb r = has_bad_operand (operands_of verb) (texts r.operands.items) ≡ true
 
--- what was read is a command of the verb: of parts with the counts that were read, its operands form this order
+-- what was read is a command of the verb: of parts with the counts that were read, its operands form this command
 pub record Forms (verb : Verb) (r : ReadVerb) (order : Order) : Type 0 where
   pub good : has_bad_operand (operands_of verb) (texts r.operands.items) ≡ false
   pub asks : (ps : List Part) → HasCounts ps r → formed verb (texts r.operands.items) ps ≡ Some order
@@ -73,17 +73,6 @@ is_free_id id =
 abbrev pub are_ids : List (List ℕ) → Bool
 are_ids [] = true
 are_ids (id ∷ ids) = is_free_id id && (not (list_any (bytes_eq id) ids) && are_ids ids)
-
--- the verb that a value of the program's type denotes
-abbrev pub denoted : verbs.Verb → Verb
-denoted verbs.TheVariants.Run = Words.run
-denoted verbs.TheVariants.Show = Words.show
-denoted verbs.TheVariants.Check = Words.check
-denoted verbs.TheVariants.Demo = Words.demo
-denoted verbs.TheVariants.Trace = Words.trace
-denoted verbs.TheVariants.Replay = Words.replay
-denoted verbs.TheVariants.Certify = Words.certify
-denoted verbs.TheVariants.Ranks = Words.ranks
 
 -- proper words that begin with this verb
 pub record IsOf (verb : Verb) (words : List (List ℕ)) : Type 0 where

@@ -9,41 +9,33 @@ use Rattle.ptg_words.specs.declared.options.Options.{Options}
 use Rattle.ptg_words.specs.declared.options.Options.TheVariants.{NoOptions, Counts, CountsAndPreload}
 use Rattle.ptg_words.specs.declared.order.Order.{Order}
 use Rattle.ptg_words.specs.declared.order.Order.TheVariants.{Run, Show, Check, Demo, Trace, Replay, Certify, Ranks}
+use Rattle.ptg_words.specs.declared.verbs.Verb.{Verb}
+use Rattle.ptg_words.specs.declared.verbs.Verb.TheVariants as verbs
 use Rattle.ptg_words.specs.Parts.{Part, workers, shards, parts, operands, texts_of, is_preload, is_lacking, is_stray, has_twice}
 
--- the first word
-pub data Verb : Type 0 where
-  run : Verb
-  show : Verb
-  check : Verb
-  demo : Verb
-  trace : Verb
-  replay : Verb
-  certify : Verb
-  ranks : Verb
-
+-- the verb that the first word names
 abbrev pub verb_of : List ℕ → Option Verb
 verb_of word =
-    if bytes_eq word (codes "run") then Some run
-    else if bytes_eq word (codes "show") then Some show
-    else if bytes_eq word (codes "check") then Some check
-    else if bytes_eq word (codes "demo") then Some demo
-    else if bytes_eq word (codes "trace") then Some trace
-    else if bytes_eq word (codes "replay") then Some replay
-    else if bytes_eq word (codes "certify") then Some certify
-    else if bytes_eq word (codes "ranks") then Some ranks
+    if bytes_eq word (codes "run") then Some verbs.Run
+    else if bytes_eq word (codes "show") then Some verbs.Show
+    else if bytes_eq word (codes "check") then Some verbs.Check
+    else if bytes_eq word (codes "demo") then Some verbs.Demo
+    else if bytes_eq word (codes "trace") then Some verbs.Trace
+    else if bytes_eq word (codes "replay") then Some verbs.Replay
+    else if bytes_eq word (codes "certify") then Some verbs.Certify
+    else if bytes_eq word (codes "ranks") then Some verbs.Ranks
     else None
 
 -- `run` and `trace` have options
 abbrev pub options_of : Verb → Options
-options_of run = CountsAndPreload
-options_of trace = Counts
-options_of show = NoOptions
-options_of check = NoOptions
-options_of demo = NoOptions
-options_of replay = NoOptions
-options_of certify = NoOptions
-options_of ranks = NoOptions
+options_of verbs.Run = CountsAndPreload
+options_of verbs.Trace = Counts
+options_of verbs.Show = NoOptions
+options_of verbs.Check = NoOptions
+options_of verbs.Demo = NoOptions
+options_of verbs.Replay = NoOptions
+options_of verbs.Certify = NoOptions
+options_of verbs.Ranks = NoOptions
 
 -- an operand: the name of a file, or a number from a least to a greatest one
 pub data Operand : Type 0 where
@@ -53,14 +45,14 @@ pub data Operand : Type 0 where
 -- `run JDF DATA`, `show JDF`, `check JDF DATA`, `demo N`, `trace JDF DATA`, `replay JDF DATA TRACE`, `certify JDF
 -- DATA`, `ranks JDF DATA R SEED`: a made job of 1 to 96 tiles a side, 1 to 64 ranks, and a seed below 2^64
 abbrev pub operands_of : Verb → List Operand
-operands_of run = file ∷ file ∷ []
-operands_of show = file ∷ []
-operands_of check = file ∷ file ∷ []
-operands_of demo = number 1 most_rows ∷ []
-operands_of trace = file ∷ file ∷ []
-operands_of replay = file ∷ file ∷ file ∷ []
-operands_of certify = file ∷ file ∷ []
-operands_of ranks = file ∷ file ∷ number 1 most_ranks ∷ number 0 18446744073709551615 ∷ []
+operands_of verbs.Run = file ∷ file ∷ []
+operands_of verbs.Show = file ∷ []
+operands_of verbs.Check = file ∷ file ∷ []
+operands_of verbs.Demo = number 1 most_rows ∷ []
+operands_of verbs.Trace = file ∷ file ∷ []
+operands_of verbs.Replay = file ∷ file ∷ file ∷ []
+operands_of verbs.Certify = file ∷ file ∷ []
+operands_of verbs.Ranks = file ∷ file ∷ number 1 most_ranks ∷ number 0 18446744073709551615 ∷ []
 
 -- the verb, and the parts of the words after it
 abbrev pub read : List (List ℕ) → Option (Verb × List Part)
@@ -90,14 +82,16 @@ has_bad_operand (number least most ∷ rest) (text ∷ texts) =
     not (is_number least most text) || has_bad_operand rest texts
 has_bad_operand _ _ = false
 
--- 1 to 64 workers and 1 to 256 shards
+-- an option has no number of its range: 1 to 64 workers and 1 to 256 shards
 abbrev pub has_bad_count : List Part → Bool
 has_bad_count ps =
     has_no_number 1 most_workers (texts_of workers ps) || has_no_number 1 most_shards (texts_of shards ps)
 
+-- an option or an operand has no number of its range
 abbrev pub has_bad_number : Verb → List Part → Bool
 has_bad_number verb ps = has_bad_count ps || has_bad_operand (operands_of verb) (operands ps)
 
+-- how many operands a verb has
 abbrev pub operand_count : Verb → ℕ
 operand_count verb = length (operands_of verb)
 
@@ -127,23 +121,25 @@ abbrev pub number_or : ℕ → List (List ℕ) → ℕ
 number_or default [] = default
 number_or default (text ∷ texts) = decimal text
 
--- 4 workers and 16 shards unless others are given
+-- how many workers: 4 unless another number is given
 abbrev pub workers_of : List Part → ℕ
 workers_of ps = number_or usual_workers (texts_of workers ps)
 
+-- how many shards: 16 unless another number is given
 abbrev pub shards_of : List Part → ℕ
 shards_of ps = number_or usual_shards (texts_of shards ps)
 
 -- the command that a verb, its operands and its options form
 abbrev pub formed : Verb → List (List ℕ) → List Part → Option Order
-formed run (jdf ∷ data_name ∷ []) ps = Some (Run jdf data_name (workers_of ps) (shards_of ps) (list_any is_preload ps))
-formed show (jdf ∷ []) ps = Some (Show jdf)
-formed check (jdf ∷ data_name ∷ []) ps = Some (Check jdf data_name)
-formed demo (rows ∷ []) ps = Some (Demo (decimal rows))
-formed trace (jdf ∷ data_name ∷ []) ps = Some (Trace jdf data_name (workers_of ps) (shards_of ps))
-formed replay (jdf ∷ data_name ∷ list ∷ []) ps = Some (Replay jdf data_name list)
-formed certify (jdf ∷ data_name ∷ []) ps = Some (Certify jdf data_name)
-formed ranks (jdf ∷ data_name ∷ count ∷ seed ∷ []) ps = Some (Ranks jdf data_name (decimal count) (decimal seed))
+formed verbs.Run (jdf ∷ data_name ∷ []) ps =
+    Some (Run jdf data_name (workers_of ps) (shards_of ps) (list_any is_preload ps))
+formed verbs.Show (jdf ∷ []) ps = Some (Show jdf)
+formed verbs.Check (jdf ∷ data_name ∷ []) ps = Some (Check jdf data_name)
+formed verbs.Demo (rows ∷ []) ps = Some (Demo (decimal rows))
+formed verbs.Trace (jdf ∷ data_name ∷ []) ps = Some (Trace jdf data_name (workers_of ps) (shards_of ps))
+formed verbs.Replay (jdf ∷ data_name ∷ list ∷ []) ps = Some (Replay jdf data_name list)
+formed verbs.Certify (jdf ∷ data_name ∷ []) ps = Some (Certify jdf data_name)
+formed verbs.Ranks (jdf ∷ data_name ∷ count ∷ seed ∷ []) ps = Some (Ranks jdf data_name (decimal count) (decimal seed))
 formed _ _ ps = None
 
 -- the arguments break no rule, and form this command

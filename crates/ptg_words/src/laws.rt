@@ -9,6 +9,6 @@ pub fn files_are_text()
 
 /// A law: the numbers of a command are in their ranges: 1 to 64 workers or ranks, 1 to 256 shards, 1 to 96 rows of
 /// tiles, and a seed of 64 bits.
-pub fn orders_have_numbers_in_range()
+pub fn commands_have_numbers_in_range()
     ensures { NumbersInRange }
 {}

@@ -9,6 +9,7 @@ mod reading;
 mod verb;
 mod verbs;
 
-pub use laws::{files_are_text, orders_have_numbers_in_range};
+pub use laws::{commands_have_numbers_in_range, files_are_text};
 pub use order::{Order, WordsRefusal};
 pub use reading::words;
+pub use verbs::Verb;

@@ -4,7 +4,7 @@ ghost use Rattle.std.specs.Prelude.{◌≡◌, ◌≤◌, ◌∷◌, IfOk, Match
 ghost use Rattle.std.specs.List.{All};
 ghost use Rattle.ptg_words.specs.Words as Words;
 ghost use Rattle.ptg_words.specs.Words.{IsProper, IsUsage, Orders};
-ghost use Rattle.ptg_words.specs.Readings.{Forms, HasBadOperand, denoted, texts};
+ghost use Rattle.ptg_words.specs.Readings.{Forms, HasBadOperand, texts};
 
 use crate::order::{Order, WordsRefusal};
 use crate::verb::{ReadVerb, file, number, read_verb, small_number};
@@ -21,7 +21,7 @@ pub fn words(alloc: Global, list: &[Text]) -> Result<Order, WordsRefusal>
     ensures usage { result ≡ Err WordsRefusal.Usage → IsUsage list.now }
 {
     let words = texts_of(alloc, list)?;
-    order(alloc, words.as_slice())
+    command(alloc, words.as_slice())
 }
 
 // The words as text, if each is proper.
@@ -47,8 +47,8 @@ fn proper(word: &Text) -> Result<&str, WordsRefusal>
     }
 }
 
-// The order that proper words give.
-fn order(alloc: Global, words: &[&str]) -> Result<Order, WordsRefusal>
+// The command that proper words form.
+fn command(alloc: Global, words: &[&str]) -> Result<Order, WordsRefusal>
     requires { All IsProper (texts words.now) }
     ensures found { IfOk result (λ order. Orders (texts words.now) order) }
     ensures usage { result ≡ Err WordsRefusal.Usage → IsUsage (texts words.now) }
@@ -63,11 +63,11 @@ fn order(alloc: Global, words: &[&str]) -> Result<Order, WordsRefusal>
     formed(alloc, verb, &read)
 }
 
-// The order of a verb, of what was read after it.
+// The command of a verb, from what was read after it.
 fn formed(alloc: Global, verb: Verb, read: &ReadVerb) -> Result<Order, WordsRefusal>
-    requires { length read.now.operands.items ≡ Words.operand_count (denoted verb) }
-    ensures found { IfOk result (Forms (denoted verb) read.now) }
-    ensures usage { result ≡ Err WordsRefusal.Usage → HasBadOperand (denoted verb) read.now }
+    requires { length read.now.operands.items ≡ Words.operand_count verb }
+    ensures found { IfOk result (Forms verb read.now) }
+    ensures usage { result ≡ Err WordsRefusal.Usage → HasBadOperand verb read.now }
 {
     match verb {
         Verb::Run => run(alloc, read),
@@ -81,37 +81,41 @@ fn formed(alloc: Global, verb: Verb, read: &ReadVerb) -> Result<Order, WordsRefu
     }
 }
 
+// The command of `run JDF DATA` with its options.
 fn run(alloc: Global, read: &ReadVerb) -> Result<Order, WordsRefusal>
     requires { length read.now.operands.items ≡ 2 }
-    ensures found { IfOk result (Forms Words.run read.now) }
-    ensures usage { result ≡ Err WordsRefusal.Usage → HasBadOperand Words.run read.now }
+    ensures found { IfOk result (Forms Verb.Run read.now) }
+    ensures usage { result ≡ Err WordsRefusal.Usage → HasBadOperand Verb.Run read.now }
 {
     let (jdf, data_name) = job_files(alloc, read.operands.as_slice())?;
     Ok(Order::Run(jdf, data_name, read.workers, read.shards, read.preload))
 }
 
+// The command of `show JDF`.
 fn show(alloc: Global, read: &ReadVerb) -> Result<Order, WordsRefusal>
     requires { length read.now.operands.items ≡ 1 }
-    ensures found { IfOk result (Forms Words.show read.now) }
-    ensures usage { result ≡ Err WordsRefusal.Usage → HasBadOperand Words.show read.now }
+    ensures found { IfOk result (Forms Verb.Show read.now) }
+    ensures usage { result ≡ Err WordsRefusal.Usage → HasBadOperand Verb.Show read.now }
 {
     let operands = read.operands.as_slice();
     Ok(Order::Show(file(alloc, operands[0])?))
 }
 
+// The command of `check JDF DATA`.
 fn check(alloc: Global, read: &ReadVerb) -> Result<Order, WordsRefusal>
     requires { length read.now.operands.items ≡ 2 }
-    ensures found { IfOk result (Forms Words.check read.now) }
-    ensures usage { result ≡ Err WordsRefusal.Usage → HasBadOperand Words.check read.now }
+    ensures found { IfOk result (Forms Verb.Check read.now) }
+    ensures usage { result ≡ Err WordsRefusal.Usage → HasBadOperand Verb.Check read.now }
 {
     let (jdf, data_name) = job_files(alloc, read.operands.as_slice())?;
     Ok(Order::Check(jdf, data_name))
 }
 
+// The command of `demo N`.
 fn demo(read: &ReadVerb) -> Result<Order, WordsRefusal>
     requires { length read.now.operands.items ≡ 1 }
-    ensures found { IfOk result (Forms Words.demo read.now) }
-    ensures usage { result ≡ Err WordsRefusal.Usage → HasBadOperand Words.demo read.now }
+    ensures found { IfOk result (Forms Verb.Demo read.now) }
+    ensures usage { result ≡ Err WordsRefusal.Usage → HasBadOperand Verb.Demo read.now }
 {
     let operands = read.operands.as_slice();
     match small_number(operands[0], MOST_ROWS) {
@@ -120,39 +124,42 @@ fn demo(read: &ReadVerb) -> Result<Order, WordsRefusal>
     }
 }
 
+// The command of `trace JDF DATA` with its options.
 fn trace(alloc: Global, read: &ReadVerb) -> Result<Order, WordsRefusal>
     requires { length read.now.operands.items ≡ 2 }
-    ensures found { IfOk result (Forms Words.trace read.now) }
-    ensures usage { result ≡ Err WordsRefusal.Usage → HasBadOperand Words.trace read.now }
+    ensures found { IfOk result (Forms Verb.Trace read.now) }
+    ensures usage { result ≡ Err WordsRefusal.Usage → HasBadOperand Verb.Trace read.now }
 {
     let (jdf, data_name) = job_files(alloc, read.operands.as_slice())?;
     Ok(Order::Trace(jdf, data_name, read.workers, read.shards))
 }
 
+// The command of `replay JDF DATA TRACE`.
 fn replay(alloc: Global, read: &ReadVerb) -> Result<Order, WordsRefusal>
     requires { length read.now.operands.items ≡ 3 }
-    ensures found { IfOk result (Forms Words.replay read.now) }
-    ensures usage { result ≡ Err WordsRefusal.Usage → HasBadOperand Words.replay read.now }
+    ensures found { IfOk result (Forms Verb.Replay read.now) }
+    ensures usage { result ≡ Err WordsRefusal.Usage → HasBadOperand Verb.Replay read.now }
 {
     let operands = read.operands.as_slice();
     let (jdf, data_name) = job_files(alloc, operands)?;
     Ok(Order::Replay(jdf, data_name, file(alloc, operands[2])?))
 }
 
+// The command of `certify JDF DATA`.
 fn certify(alloc: Global, read: &ReadVerb) -> Result<Order, WordsRefusal>
     requires { length read.now.operands.items ≡ 2 }
-    ensures found { IfOk result (Forms Words.certify read.now) }
-    ensures usage { result ≡ Err WordsRefusal.Usage → HasBadOperand Words.certify read.now }
+    ensures found { IfOk result (Forms Verb.Certify read.now) }
+    ensures usage { result ≡ Err WordsRefusal.Usage → HasBadOperand Verb.Certify read.now }
 {
     let (jdf, data_name) = job_files(alloc, read.operands.as_slice())?;
     Ok(Order::Certify(jdf, data_name))
 }
 
-// The order of `ranks`: 1 to 64 ranks, and a seed of 64 bits.
+// The command of `ranks`: 1 to 64 ranks, and a seed of 64 bits.
 fn ranks(alloc: Global, read: &ReadVerb) -> Result<Order, WordsRefusal>
     requires { length read.now.operands.items ≡ 4 }
-    ensures found { IfOk result (Forms Words.ranks read.now) }
-    ensures usage { result ≡ Err WordsRefusal.Usage → HasBadOperand Words.ranks read.now }
+    ensures found { IfOk result (Forms Verb.Ranks read.now) }
+    ensures usage { result ≡ Err WordsRefusal.Usage → HasBadOperand Verb.Ranks read.now }
 {
     let operands = read.operands.as_slice();
     let Some(ranks) = small_number(operands[2], MOST_RANKS) else {

@@ -1,27 +1,35 @@
 //! The verbs of the command line.
 
-ghost use Rattle.std.specs.Prelude.{◌≡◌, length, option_map, true};
+ghost use Rattle.std.specs.Prelude.{◌≡◌, length, true};
 ghost use Rattle.ptg_words.specs.Words as Words;
-ghost use Rattle.ptg_words.specs.Readings.{are_ids, denoted, texts};
+ghost use Rattle.ptg_words.specs.Readings.{are_ids, texts};
 
 use crate::options::Options;
 
 /// The first word of a command.
 #[derive(Clone, Copy)]
-pub(crate) enum Verb {
+pub enum Verb {
+    /// Runs a job.
     Run,
+    /// Prints the canonical spelling of a JDF.
     Show,
+    /// Checks the consistency of a job.
     Check,
+    /// Runs the made job.
     Demo,
+    /// Runs a job, and prints the order in which its tasks ran.
     Trace,
+    /// Runs a job in the order of a trace.
     Replay,
+    /// Runs a job, and prints a heaviest chain of its tasks or a cycle.
     Certify,
+    /// Runs a job on ranks that send messages to each other.
     Ranks,
 }
 
 /// The verb with this name.
 pub(crate) fn verb_of(word: &str) -> Option<Verb>
-    ensures { option_map denoted result ≡ Words.verb_of word.now }
+    ensures { result ≡ Words.verb_of word.now }
 {
     match word {
         "run" => Some(Verb::Run),
@@ -40,7 +48,7 @@ impl Verb {
     /// The ids of its operands, in order.
     pub(crate) fn operand_ids(self) -> &'static [&'static str]
         ensures ids { are_ids (texts result.now) ≡ true }
-        ensures count { length result.now ≡ Words.operand_count (denoted self) }
+        ensures count { length result.now ≡ Words.operand_count self }
     {
         match self {
             Verb::Show => &["jdf"],
@@ -53,7 +61,7 @@ impl Verb {
 
     /// The options that it has.
     pub(crate) fn options(self) -> Options
-        ensures { result ≡ Words.options_of (denoted self) }
+        ensures { result ≡ Words.options_of self }
     {
         match self {
             Verb::Run => Options::CountsAndPreload,

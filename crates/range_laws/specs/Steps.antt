@@ -1,7 +1,7 @@
 -- The progression of a range.
 use Rattle.std.specs.Prelude.{ℕ, zero, suc, ℤ, ◌+ℤ◌}
 
--- the number that is so many steps from lo
+-- the number that is this many steps from lo
 abbrev pub steps_from : ℤ → ℤ → ℕ → ℤ
 steps_from lo step zero = lo
 steps_from lo step (suc k) = steps_from (lo +ℤ step) step k

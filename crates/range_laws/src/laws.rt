@@ -4,7 +4,7 @@ ghost use Rattle.std.specs.Prelude.{◌≡◌, ℕ, ℤ, Some, None, slice_get, 
 ghost use Rattle.range_space.specs.Values.{is_within, values};
 ghost use Rattle.range_laws.specs.Steps.{steps_from};
 
-/// A law: the value of a range at an index is the number so many steps from its start, where that is within its end.
+/// A law: the value of a range at an index is the number this many steps from its start, where that is within its end.
 pub fn values_are_a_progression()
     ensures { (lo hi step : ℤ) (index : ℕ)
         → slice_get (values lo hi step) index

@@ -18,10 +18,12 @@ number e env = map_fault Expr (value e env)
 abbrev pub nonzero : ℤ → Result ℤ SpanFault
 nonzero z = if int_eq z (pos 0) then Err ZeroStep else Ok z
 
+-- the value of a range's step
 abbrev pub step_number : Option Term → List ℤ → Result ℤ SpanFault
 step_number None env = Ok (pos 1)
 step_number (Some e) env = and_then (number e env) nonzero
 
+-- the values of a range's parts
 pub record Bounds : Type 0 where
   pub lo : ℤ
   pub hi : ℤ

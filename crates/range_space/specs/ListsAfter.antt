@@ -19,12 +19,12 @@ def_bounds (Value e) env = and_then (number e env) (λ z. Ok (record { lo = z; h
 abbrev pub lists_over : List Def → List ℤ → List ℤ → List (List ℤ)
 lists_over ds outer vs = flat_map (λ v. full_lists ds (outer ++ v ∷ [])) vs
 
--- those that extend it by a value after v, where the values are those of these bounds
+-- the full lists that extend `outer` by a value after v, where the values are those of these bounds
 abbrev pub lists_over_rest : List Def → List ℤ → Result Bounds SpanFault → ℤ → List (List ℤ)
 lists_over_rest ds outer (Ok b) v = lists_over ds outer (values (v +ℤ b.step) b.hi b.step)
 lists_over_rest ds outer (Err e) v = []
 
--- those that extend it by another value of the definition, after v: an expression has one value
+-- the full lists that extend `outer` by another value of the definition, after v: an expression has one value
 abbrev pub lists_past : Def → List Def → List ℤ → ℤ → List (List ℤ)
 lists_past (Span r) ds outer v = lists_over_rest ds outer (bounds r outer) v
 lists_past (Value e) ds outer v = []
@@ -42,7 +42,9 @@ pub record IsFirstOf (ds : List Def) (outer now : List ℤ) (lists : List (List 
   pub one_each : length locals ≡ length ds
   pub first : lists ≡ now ∷ lists_after ds outer locals
 
--- the same, where the first definition is a range with these bounds
+-- `now` extends `outer` by a value of these bounds and one value for each definition, and is the first of the lists;
+-- the
+-- others are those after it
 pub record IsFirstOver (bounds : Result Bounds SpanFault) (ds : List Def) (outer now : List ℤ)
     (lists : List (List ℤ)) : Type 0 where
   pub value : ℤ
@@ -51,7 +53,8 @@ pub record IsFirstOver (bounds : Result Bounds SpanFault) (ds : List Def) (outer
   pub one_each : length locals ≡ length ds
   pub first : lists ≡ now ∷ lists_after ds (outer ++ value ∷ []) locals ++ lists_over_rest ds outer bounds value
 
--- the same, where the first value is another one of this definition
+-- `now` extends `outer` by another value of this definition and one for each later one, and is the first of the lists;
+-- the others are those after it
 abbrev pub IsFirstPast : Def → List Def → List ℤ → List ℤ → List (List ℤ) → Type 0
 IsFirstPast (Span r) ds outer now lists = IsFirstOver (bounds r outer) ds outer now lists
 IsFirstPast (Value e) ds outer now lists = ⊥

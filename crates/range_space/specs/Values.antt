@@ -8,7 +8,7 @@ is_within hi (pos zero) v = false
 is_within hi (pos (suc n)) v = int_le v hi
 is_within hi (negsuc n) v = int_le hi v
 
--- v, v + step and so on while they are within hi, and at most so many of them
+-- v, v + step and so on while they are within hi, and at most this many of them
 unfoldable pub while_within : ℤ → ℤ → ℕ → ℤ → List ℤ
 while_within hi step zero v = []
 while_within hi step (suc most) v = if is_within hi step v then v ∷ while_within hi step most (v +ℤ step) else []

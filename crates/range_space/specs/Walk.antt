@@ -10,6 +10,7 @@ use Rattle.range_space.specs.declared.fault.SpaceFault.{SpaceFault}
 use Rattle.range_space.specs.declared.fault.SpaceFault.TheVariants.{BadExpr, TooManyTasks}
 use Rattle.range_space.specs.Tasks.{def_values, tasks}
 
+-- what the walk visits
 pub data Visit : Type 0 where
   -- the last value of a prefix of this class
   Prefix : ℕ → Visit
@@ -39,13 +40,14 @@ abbrev pub walk_all : ℕ → List ClassSpace → List Visit
 walk_all class [] = []
 walk_all class (s ∷ ss) = walk class s.defs [] ++ walk_all (suc class) ss
 
--- how many tasks, and how many prefixes
+-- how many of these visits are of tasks
 abbrev pub task_count : List Visit → ℕ
 task_count [] = 0
 task_count (Task c ∷ ms) = suc (task_count ms)
 task_count (Prefix c ∷ ms) = task_count ms
 task_count (NoValue c vs ∷ ms) = task_count ms
 
+-- how many of these visits are of prefixes
 abbrev pub prefix_count : List Visit → ℕ
 prefix_count [] = 0
 prefix_count (Prefix c ∷ ms) = suc (prefix_count ms)
@@ -59,14 +61,14 @@ AllHaveValues (Prefix c ∷ ms) = AllHaveValues ms
 AllHaveValues (Task c ∷ ms) = AllHaveValues ms
 AllHaveValues (NoValue c vs ∷ ms) = ⊥
 
--- nothing stops the walk, after so many tasks and prefixes: there are at most 1,000,000 tasks and 16,000,000 prefixes,
--- those before it counted
+-- nothing stops the walk, after this many tasks and prefixes: with those before it there are at most 1,000,000 tasks
+-- and 16,000,000 prefixes
 pub record IsUnstopped (tasks prefixes : ℕ) (ms : List Visit) : Type 0 where
   pub all_have_values : AllHaveValues ms
   pub tasks_at_most : tasks + task_count ms ≤ most_tasks
   pub prefixes_at_most : prefixes + prefix_count ms ≤ most_prefixes
 
--- the fault that stops the walk at a visit, after so many tasks and prefixes
+-- the fault that stops the walk at a visit, after this many tasks and prefixes
 abbrev pub StopsAt : ℕ → ℕ → Visit → SpaceFault → Type 0
 StopsAt tasks prefixes (NoValue c vs) fault = fault ≡ BadExpr c vs
 StopsAt tasks prefixes (Task c) fault = (tasks ≡ most_tasks) × (fault ≡ TooManyTasks c)
@@ -86,7 +88,7 @@ abbrev pub task_total : List ClassSpace → ℕ
 task_total [] = 0
 task_total (s ∷ ss) = length (tasks s) + task_total ss
 
--- so many tasks and prefixes after a walk that nothing stopped
+-- this many tasks and prefixes after a walk that nothing stopped
 pub record IsWalked (tasks prefixes tasks_after prefixes_after : ℕ) (ms : List Visit) : Type 0 where
   pub unstopped : IsUnstopped tasks prefixes ms
   pub all_tasks : tasks_after ≡ tasks + task_count ms

@@ -25,6 +25,7 @@ impl Model for Values {
 }
 
 impl Values {
+    // The values from `at` on.
     pub(crate) fn from(at: i64, hi: i64, step: i64) -> Values
         ensures { result ≡ values at hi step }
     {

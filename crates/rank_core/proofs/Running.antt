@@ -17,7 +17,7 @@ use Rattle.flow_meaning.specs.Backward.{ended}
 use Rattle.flow_meaning.specs.Comparing.{same_item}
 use Rattle.list_lemmas.specs.Counting.{as_number}
 use Rattle.flow_meaning.specs.Ending.{Ended, has_outputs, output_tile}
-use Rattle.flow_meaning.specs.Machine.{Claim, Event, Happen, MachineState, MayClaim, MaySend, Send, Sent, claim_count, end_in, send_count, sender, sent_with, state_after}
+use Rattle.flow_meaning.specs.Machine.{Claim, Event, Happen, MachineState, MayClaim, MaySend, Send, SentItem, claim_count, end_in, send_count, sender, sent_with, state_after}
 use Rattle.flow_meaning.specs.Sound.{HasAllArrived, IsSoundState}
 use Rattle.flow_meaning.proofs.Comparing.{same_item-decides}
 use Rattle.flow_meaning.proofs.Events.{claim_sound, ends_so, send_sound, unsent}
@@ -63,14 +63,14 @@ module _ (P : Plan) (G : Data) (con : IsConsistent P) where
       let here : sent_with P G S i ≡ item_from (ended P G t) i = λ k. record { item = i; tile = output_tile (end k) (item_flow i) } in
       let T : MachineState = state_after P G S (Send i) in
       let later : (j : Item) → IsIn j is → send_count (state_after P G S (Send i)) j ≡ 0 = λ j h.
-      let sum = weigh-push (λ (x : Sent). as_number (same_item j x.item)) S.sends (sent_with P G S i) in
+      let sum = weigh-push (λ (x : SentItem). as_number (same_item j x.item)) S.sends (sent_with P G S i) in
       by_test (same_item j i)
       (λ k. absurd (once.0 (subst (λ x. IsIn x is) ((same_item-decides j i).0 k) h)))
       (λ k. omega (arith, sum, ap as_number k, none j (inr h))) in
       let rest : Happen P G (map Send is) (state_after P G S (Send i)) (sends_after (state_after P G S (Send i)) t is) =
       send_all t o is (state_after P G S (Send i)) (send_sound P G con S sound i may) c (λ j h. among j (inr h)) once.1 later in
       let same : S.sends ++ sent_with P G S i ∷ map (item_from (ended P G t)) is ≡ S.sends ++ item_from (ended P G t) i ∷ map (item_from (ended P G t)) is = ap (λ x. S.sends ++ x ∷ map (item_from (ended P G t)) is) here in
-      (may, subst (λ (xs : List Sent). Happen P G (map Send is) (state_after P G S (Send i)) (record { claims = S.claims; sends = xs })) (append_assoc S.sends (sent_with P G S i ∷ []) (map (item_from (ended P G t)) is) ∙ same) rest)
+      (may, subst (λ (xs : List SentItem). Happen P G (map Send is) (state_after P G S (Send i)) (record { claims = S.claims; sends = xs })) (append_assoc S.sends (sent_with P G S i ∷ []) (map (item_from (ended P G t)) is) ∙ same) rest)
 
   module _ (r : ℕ) (w : WorldState) (sound : IsSoundWorld P G r w) where
     module _ (t : Task) (may : MayClaim P w.machine t) where
@@ -94,7 +94,7 @@ module _ (P : Plan) (G : Data) (con : IsConsistent P) where
       with_outputs : has_outputs (ended P G t) ≡ true → Happen P G (Claim t ∷ map Send (items_within P r t)) w.machine (after_run P G r w t).machine
       with_outputs o =
           let are : map (item_from (ended P G t)) (items_within P r t) ≡ items_by P r t (end_in P G w.machine t) = sym (items_with P r t (ended P G t) o) ∙ ap (items_by P r t) run_ends in
-          subst (λ (xs : List Sent). Happen P G (Claim t ∷ map Send (items_within P r t)) w.machine (record { claims = w.machine.claims ++ t ∷ []; sends = w.machine.sends ++ xs })) are
+          subst (λ (xs : List SentItem). Happen P G (Claim t ∷ map Send (items_within P r t)) w.machine (record { claims = w.machine.claims ++ t ∷ []; sends = w.machine.sends ++ xs })) are
           (part_happens o (items_within P r t) (λ i h. within_is_item P t r i h) (within_once P con t may.task r))
 
       without_outputs : has_outputs (ended P G t) ≡ false → Happen P G (Claim t ∷ []) w.machine (after_run P G r w t).machine

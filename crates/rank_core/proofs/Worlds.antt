@@ -19,7 +19,7 @@ use Rattle.flow_meaning.specs.Backward.{ended}
 use Rattle.flow_meaning.specs.Comparing.{same_item}
 use Rattle.list_lemmas.specs.Counting.{as_number}
 use Rattle.flow_meaning.specs.Ending.{has_outputs}
-use Rattle.flow_meaning.specs.Machine.{MachineState, MayClaim, Sent, end_in, is_sent, send_count}
+use Rattle.flow_meaning.specs.Machine.{MachineState, MayClaim, SentItem, end_in, is_sent, send_count}
 use Rattle.flow_meaning.proofs.Events.{happen_sound, member_send, opening_sound}
 use Rattle.rank_core.specs.declared.message.Message.{Message}
 use Rattle.rank_core.specs.World.{Deliver, IsPossibleIn, Run, WorldEvent, WorldState, after_delivery, after_run, item_from, items_by, items_within, messages_by, opening_world, is_delivered, with_message, world_after}
@@ -27,11 +27,11 @@ use Rattle.rank_core.specs.Sound.{IsSoundWorld}
 use Rattle.rank_core.proofs.Running.{delivered, items_with, run_ends, run_happens}
 
 -- what was sent is sent later
-pub still_sent : (S : MachineState) (claims : List Task) (more : List Sent) (i : Item) → is_sent S i ≡ true → is_sent (record { claims = claims; sends = S.sends ++ more }) i ≡ true
+pub still_sent : (S : MachineState) (claims : List Task) (more : List SentItem) (i : Item) → is_sent S i ≡ true → is_sent (record { claims = claims; sends = S.sends ++ more }) i ≡ true
 still_sent S claims more i h =
     let some = ltb-true 0 (send_count S i) h in
     let T : MachineState = record { claims = claims; sends = S.sends ++ more } in
-    lt-ltb 0 (send_count (record { claims = claims; sends = S.sends ++ more }) i) (omega (arith, weigh-append (λ (x : Sent). as_number (same_item i x.item)) S.sends more))
+    lt-ltb 0 (send_count (record { claims = claims; sends = S.sends ++ more }) i) (omega (arith, weigh-append (λ (x : SentItem). as_number (same_item i x.item)) S.sends more))
 
 -- a delivery changes no claim, and undoes nothing
 pub delivery_claims : (S : MachineState) (m : Message) → (with_message S m).claims ≡ S.claims
@@ -58,7 +58,7 @@ module _ (P : Plan) (G : Data) (con : IsConsistent P) (r : ℕ) where
           | inl e ↦
               let ends = run_ends P G con r w sound t may in
               let outputs : has_outputs (end_in P G w.machine t) ≡ true = ap has_outputs (sym ends) ∙ ap (λ v. has_outputs (ended P G v)) (sym e) ∙ o in
-              let x : Sent = item_from (end_in P G w.machine t) i in
+              let x : SentItem = item_from (end_in P G w.machine t) i in
               let among : IsIn (item_from (end_in P G w.machine t) i) (items_by P r t (end_in P G w.machine t)) =
               subst (λ xs. IsIn (item_from (end_in P G w.machine t) i) xs) (sym (items_with P r t (end_in P G w.machine t) outputs))
               (IsIn-map (item_from (end_in P G w.machine t)) (items_within P r t) i (subst (λ v. IsIn i (items_within P r v)) e h)) in

@@ -13,7 +13,7 @@ use Rattle.plan_core.specs.declared.plan.Plan.{Plan}
 use Rattle.coll_data.specs.Data.{Data}
 use Rattle.dep_iter.specs.Items.{item_flow, out_edges, write_backs}
 use Rattle.flow_meaning.specs.Ending.{Ended, has_outputs, output_tile}
-use Rattle.flow_meaning.specs.Machine.{MachineState, MayClaim, Sent, end_in, is_sent, opening_state}
+use Rattle.flow_meaning.specs.Machine.{MachineState, MayClaim, SentItem, end_in, is_sent, opening_state}
 use Rattle.shard_meaning.specs.Placing.{shard_of}
 use Rattle.shard_meaning.specs.Share.{Placement}
 use Rattle.rank_core.specs.declared.message.Message.{Message}
@@ -26,10 +26,11 @@ rank_of P r = shard_of P r
 abbrev pub is_between : Plan → ℕ → Edge → Bool
 is_between P r e = not (rank_of P r e.from == rank_of P r e.to)
 
--- the edges out of a task to its own rank, and those to other ranks, in the text's order
+-- the edges out of a task to its own rank, in the text's order
 abbrev pub edges_within : Plan → ℕ → Task → List Edge
 edges_within P r t = filter (λ e. not (is_between P r e)) (out_edges P t)
 
+-- the edges out of a task to other ranks, in the text's order
 abbrev pub edges_between : Plan → ℕ → Task → List Edge
 edges_between P r t = filter (is_between P r) (out_edges P t)
 
@@ -37,17 +38,19 @@ edges_between P r t = filter (is_between P r) (out_edges P t)
 abbrev pub items_within : Plan → ℕ → Task → List Item
 items_within P r t = map item.Write (write_backs P t) ++ map item.Edge (edges_within P r t)
 
--- an item, or a message of an edge, with the tile that its task leaves in the flow where the task ends so
-abbrev pub item_from : Option Ended → Item → Sent
+-- an item with the tile that its task leaves in the flow where the task ends so
+abbrev pub item_from : Option Ended → Item → SentItem
 item_from end i = record { item = i; tile = output_tile end (item_flow i) }
 
+-- the message of an edge, with the tile that its task leaves in the flow where the task ends so
 abbrev pub message_from : Option Ended → Edge → Message
 message_from end e = record { edge = e; tile = output_tile end e.out_flow }
 
--- the items of a task that stand as soon as it has ended so, and the messages that it sends: none where it traps
-abbrev pub items_by : Plan → ℕ → Task → Option Ended → List Sent
+-- the items of a task that stand as soon as it has ended so: none where it traps
+abbrev pub items_by : Plan → ℕ → Task → Option Ended → List SentItem
 items_by P r t end = if has_outputs end then map (item_from end) (items_within P r t) else []
 
+-- the messages that a task sends when it has ended so: none where it traps
 abbrev pub messages_by : Plan → ℕ → Task → Option Ended → List Message
 messages_by P r t end = if has_outputs end then map (message_from end) (edges_between P r t) else []
 
@@ -87,13 +90,14 @@ after_run P G r w t = record {
 abbrev pub is_delivered : MachineState → Message → Bool
 is_delivered S m = is_sent S (item.Edge m.edge)
 
--- after a message is delivered, its edge was sent with its tile; where it was delivered before, nothing changes
+-- a state after a message is delivered: its edge was sent with its tile; where it was sent before, nothing changes
 abbrev pub with_message : MachineState → Message → MachineState
 with_message S m =
     if is_delivered S m
     then S
     else record { claims = S.claims; sends = S.sends ++ record { item = item.Edge m.edge; tile = m.tile } ∷ [] }
 
+-- a world after the message of this number is delivered, if there is one
 abbrev pub after_delivery : WorldState → ℕ → WorldState
 after_delivery w n =
     record {
@@ -101,6 +105,7 @@ after_delivery w n =
       messages = w.messages;
     }
 
+-- a world after an event
 abbrev pub world_after : Plan → Data → ℕ → WorldState → WorldEvent → WorldState
 world_after P G r w (Run t) = after_run P G r w t
 world_after P G r w (Deliver n) = after_delivery w n

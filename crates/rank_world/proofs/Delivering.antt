@@ -24,7 +24,7 @@ use Rattle.flow_meaning.specs.Backward.{ended}
 use Rattle.flow_meaning.specs.Comparing.{same_item}
 use Rattle.list_lemmas.specs.Counting.{as_number}
 use Rattle.flow_meaning.specs.Ending.{output_tile}
-use Rattle.flow_meaning.specs.Machine.{MachineState, MaySend, Send, Sent, is_sent, send_count, sent_with, state_after}
+use Rattle.flow_meaning.specs.Machine.{MachineState, MaySend, Send, SentItem, is_sent, send_count, sent_with, state_after}
 use Rattle.flow_meaning.specs.Sound.{IsSoundState}
 use Rattle.flow_meaning.proofs.Comparing.{same_item-decides}
 use Rattle.shard_meaning.specs.Moment.{Moment, with_send}
@@ -39,7 +39,7 @@ use Rattle.rank_core.specs.World.{WorldState, after_delivery, rank_of, is_delive
 use Rattle.rank_core.proofs.Messages.{edges_once}
 use Rattle.rank_core.proofs.Running.{message_is, message_may}
 use Rattle.rank_world.specs.Keeping.{IsUnderWay, at_rest, unless_delivered}
-use Rattle.rank_world.specs.Sending.{MayTakeEdge, TakesEdge}
+use Rattle.shard_calls.specs.Taken.{MayTakeEdge, TakesEdge}
 
 -- an edge that may be sent may come to the rank of its target, with the tile that its task leaves
 pub may_take_edge : (P : Plan) (G : Data) → IsConsistent P → DataFit P.colls P.elems G → IsWellMade G → (of : Placement) (k : ℕ) (R : Moment) → IsSoundState P G R.state → (e : Edge) → MaySend P G R.state (item.Edge e) → of e.to ≡ k → (y : Content) → IsShardOf P G of k R y
@@ -113,7 +113,7 @@ module _ (P : Plan) (G : Data) (con : IsConsistent P) (r : ℕ) (w : WorldState)
 
     -- how often an item was sent then
     counted : (i : Item) → send_count (after_delivery w n).machine i ≡ send_count w.machine i + as_number (same_item i (item.Edge m.edge))
-    counted i = ap (λ S. send_count S i) (sym sends) ∙ weigh-push (λ (x : Sent). as_number (same_item i x.item)) w.machine.sends (sent_with P G w.machine (item.Edge m.edge))
+    counted i = ap (λ S. send_count S i) (sym sends) ∙ weigh-push (λ (x : SentItem). as_number (same_item i x.item)) w.machine.sends (sent_with P G w.machine (item.Edge m.edge))
 
     delivered_now : is_delivered (after_delivery w n).machine m ≡ true
     delivered_now = lt-ltb 0 (send_count (after_delivery w n).machine (item.Edge m.edge)) (omega (arith, counted (item.Edge m.edge), ap as_number ((same_item-decides (item.Edge m.edge) (item.Edge m.edge)).1 refl)))

@@ -2,6 +2,7 @@
 use Rattle.std.proofs.Common.{◌≡◌, ◌<◌, nat_eq, ℕ, true, false, cond, List, [], ◌∷◌, length, refl, ap, sym, ◌∙◌, subst, Option, Some, None, slice_get}
 use Rattle.std.specs.Cmp.{unsigned_Decides}
 use Rattle.std.specs.Map.{lookup}
+use Rattle.ptg_base.specs.Entry.{Entry}
 use Rattle.ptg_base.specs.Lists.{IsIn}
 use Rattle.ptg_base.specs.Task.{Task}
 use Rattle.plan_core.specs.declared.plan.Plan.{Plan}
@@ -9,7 +10,7 @@ use Rattle.coll_data.specs.Data.{Data}
 use Rattle.list_lemmas.proofs.Truth.{by_test}
 use Rattle.list_lemmas.proofs.Places.{slice_get_there, place_of_member, IsIn-slice_get}
 use Rattle.dep_iter.specs.Consistent.{IsConsistent}
-use Rattle.dep_shard.specs.Content.{Content, Entry, IsReady, entry_of}
+use Rattle.dep_shard.specs.Content.{Content, IsReady, entry_of}
 use Rattle.flow_meaning.specs.Machine.{MachineState, MayClaim}
 use Rattle.flow_meaning.proofs.Rest.{rests}
 use Rattle.shard_meaning.specs.Calm.{HasNoWork}

@@ -24,7 +24,7 @@ use Rattle.rank_world.specs.declared.mail.Mail.{Mail}
 use Rattle.rank_world.specs.Changes.{StaysAt, TakesEdgeAt}
 use Rattle.rank_world.specs.Keeping.{IsUnderWay, Keeps, at_rest}
 use Rattle.shard_calls.specs.Opened.{AreOpeningShards}
-use Rattle.rank_world.specs.Sending.{MayTakeEdge}
+use Rattle.shard_calls.specs.Taken.{MayTakeEdge}
 use Rattle.rank_world.proofs.Delivering.{away, here, its_tile, mail_then, may, may_take_edge}
 use Rattle.shard_meaning.proofs.Placing.{shard_below}
 use Rattle.rank_world.proofs.Keeping.{opening_mail, opening_shares, ready_at}

@@ -1,6 +1,7 @@
 -- What a task leaves within its rank, item after item, and the room for it.
-use Rattle.std.proofs.Common.{◌≡◌, ◌<◌, ◌≤◌, nat_eq, ℕ, ℤ, suc, Bool, true, false, not, cond, List, [], ◌∷◌, ◌++◌, length, map, refl, ap, sym, ◌∙◌, subst, append_assoc, inl, Option, Some, None, is_some, arith}
+use Rattle.std.proofs.Common.{◌≡◌, ◌<◌, ◌≤◌, IsTrue, nat_eq, ℕ, ℤ, suc, Bool, true, false, not, cond, List, [], ◌∷◌, ◌++◌, length, map, refl, ap, sym, ◌∙◌, subst, append_assoc, inl, Option, Some, None, IfSome, is_some, eqb-true, arith}
 use Rattle.std.proofs.lemmas.List.{append-nil, map-append}
+use Rattle.std.specs.Option.{IsSome}
 use Rattle.ptg_base.specs.Lists.{IsIn}
 use Rattle.ptg_base.specs.declared.edge.Edge.{Edge}
 use Rattle.ptg_base.specs.declared.edge.WriteBack.{WriteBack}
@@ -8,19 +9,22 @@ use Rattle.ptg_base.specs.declared.edge.Item.TheVariants as item
 use Rattle.list_lemmas.proofs.Members.{IsIn-append_right}
 use Rattle.list_lemmas.proofs.Truth.{by_test}
 use Rattle.std.proofs.lemmas.List.Elements.{filter-append}
+use Rattle.plan_core.specs.declared.flow.FlowPlan.{FlowPlan}
 use Rattle.plan_core.specs.declared.plan.Plan.{Plan}
+use Rattle.plan_core.specs.Kinds.{flow_of}
 use Rattle.dep_iter.specs.Items.{out_edges, write_backs}
 use Rattle.dep_iter.specs.Tasks.{IsTask}
-use Rattle.dep_shard.specs.Content.{Content, entry_of}
+use Rattle.dep_shard.specs.Content.{Content, IsTileOf, entry_of}
 use Rattle.dep_shard.specs.Stock.{tiles_used}
 use Rattle.flow_meaning.specs.Backward.{ended}
 use Rattle.flow_meaning.specs.Ending.{has_outputs, output_tile}
+use Rattle.shard_meaning.specs.Reserve.{has_type}
 use Rattle.rank_core.specs.World.{is_between}
 use Rattle.rank_core.proofs.Items.{out_from}
-use Rattle.rank_world.specs.declared.visit.Visit.{Visit}
-use Rattle.shard_calls.specs.WriteBacks.{MayTakeWrite}
-use Rattle.rank_world.specs.Sending.{HasRoomFor, MayTakeEdge, TakesEdge, TakesWrite}
-use Rattle.rank_world.specs.Visits.{HoldsAt, IsVisit, data_of, its_writes, part_way, plan_of, within_among}
+use Rattle.rank_world.specs.declared.running_task.RunningTask.{RunningTask}
+use Rattle.shard_calls.specs.Taken.{HasSpareForEdge, HasSpareForWrite, MayTakeEdge, MayTakeWrite, TakesEdge, TakesWrite}
+use Rattle.rank_world.specs.RankRoom.{HasRoomFor}
+use Rattle.rank_world.specs.RunningTasks.{HoldsAt, IsRunningTask, data_of, its_writes, part_way, plan_of, within_among}
 use Rattle.rank_world.proofs.Parts.{by_task, edge_holds, may_edge, may_write, write_holds}
 
 one_tile : (d k : ℕ) → tiles_used (Some d) k ≤ 1
@@ -39,25 +43,51 @@ one_entry true = omega arith
 one_entry false = omega arith
 
 -- the room that one write-back and one edge leave
-pub room_write : (n m : ℕ) (w : WriteBack) (tile : Option (List ℤ)) (y z : Content) → HasRoomFor n (suc m) y → TakesWrite w tile y z → HasRoomFor n m z
-room_write n m w tile y z room takes =
-    let u = takes.uses.1 in
+pub room_write : (P : Plan) (n m : ℕ) (w : WriteBack) (tile : Option (List ℤ)) (y z : Content) → HasRoomFor n (suc m) y → TakesWrite P w tile y z → HasRoomFor n m z
+room_write P n m w tile y z room takes =
+    let u = takes.uses in
     record {
       entries = omega (arith, room.entries, u.entries);
-      tiles = λ k small. omega (arith, room.tiles k (subst (λ l. k < length l) takes.rest.elems small), u.tiles k, one_tile takes.uses.0 k);
+      tiles = λ k small. omega (arith, room.tiles k (subst (λ l. k < length l) takes.rest.elems small), u.tiles k, one_tile takes.datatype k);
       writes = omega (arith, room.writes, u.writes);
       trap = omega (arith, room.trap, u.traps);
     }
 
 pub room_edge : (P : Plan) (n m : ℕ) (e : Edge) (tile : Option (List ℤ)) (y z : Content) → HasRoomFor (suc n) m y → TakesEdge P e tile y z → HasRoomFor n m z
 room_edge P n m e tile y z room takes =
-    let u = takes.uses.1 in
+    let u = takes.uses in
     record {
       entries = omega (arith, room.entries, u.entries, one_entry (is_some (entry_of y e.to)));
-      tiles = λ k small. omega (arith, room.tiles k (subst (λ l. k < length l) takes.rest.elems small), u.tiles k, some_tile (is_some tile) takes.uses.0 k);
+      tiles = λ k small. omega (arith, room.tiles k (subst (λ l. k < length l) takes.rest.elems small), u.tiles k, some_tile (is_some tile) takes.datatype k);
       writes = omega (arith, room.writes, u.writes);
       trap = omega (arith, room.trap, u.traps);
     }
+
+-- the type of a tile that is there is one of the shard's
+fitting_tile : (tile : Option (List ℤ)) (n : ℕ) (elems : List ℕ) → IsSome tile → IfSome tile (IsTileOf elems n) → n < length elems
+fitting_tile (Some x) n elems some fits = fits.known
+fitting_tile None n elems some fits = absurd cc
+
+-- a type that is that of a flow
+same_type : (d : ℕ) (f : FlowPlan) (o : Option FlowPlan) → o ≡ Some f → IsTrue (has_type d o) → f.datatype ≡ d
+same_type d f o is typed = eqb-true f.datatype d (ap (has_type d) (sym is) ∙ typed)
+
+-- the room of a rank is spares for an edge and for a write-back
+pub room_is_spare_edge : (P : Plan) (e : Edge) (tile : Option (List ℤ)) (y : Content) → MayTakeEdge P e tile y → HasRoomFor 1 0 y → HasSpareForEdge P e tile y
+room_is_spare_edge P e tile y may room = record {
+  entry = λ none. omega (arith, room.entries);
+  tiles = λ d typed some. let k = same_type d may.flow (flow_of P.classes e.to.class e.in_flow) may.is_flow typed in
+      let fits = fitting_tile tile may.flow.datatype y.elems some may.fits in
+      omega (arith, room.tiles d (subst (λ n. n < length y.elems) k fits));
+}
+
+pub room_is_spare_write : (P : Plan) (w : WriteBack) (tile : Option (List ℤ)) (y : Content) → MayTakeWrite P w tile y → HasRoomFor 0 1 y → HasSpareForWrite P w y
+room_is_spare_write P w tile y may room = record {
+  place = omega (arith, room.writes);
+  tiles = λ d typed. let k = same_type d may.flow (flow_of P.classes w.from.class w.flow) may.is_flow typed in
+      let fits = fitting_tile tile may.flow.datatype y.elems may.carries may.fits in
+      omega (arith, room.tiles d (subst (λ n. n < length y.elems) k fits));
+}
 
 pub less_room : (n m a b : ℕ) (y : Content) → HasRoomFor n m y → a ≤ n → b ≤ m → HasRoomFor a b y
 less_room n m a b y room few less = record {
@@ -68,20 +98,20 @@ less_room n m a b y room few less = record {
 }
 
 -- the write-backs that are left
-pub record WritesLeft (v : Visit) (whole left : List WriteBack) (a y : Content) : Type 0 where
+pub record WritesLeft (v : RunningTask) (whole left : List WriteBack) (a y : Content) : Type 0 where
   pub done : List WriteBack
   pub split : whole ≡ done ++ left
   pub holds : HoldsAt v (part_way v (map item.Write done)) y
   pub room : (n : ℕ) → HasRoomFor n (length whole) a → HasRoomFor n (length left) y
 
 -- the edges that are left
-pub record EdgesLeft (v : Visit) (whole left : List Edge) (y : Content) : Type 0 where
+pub record EdgesLeft (v : RunningTask) (whole left : List Edge) (y : Content) : Type 0 where
   pub done : List Edge
   pub split : whole ≡ done ++ left
   pub holds : HoldsAt v (part_way v (its_writes v ++ map item.Edge (within_among v done))) y
   pub room : HasRoomFor (length (within_among v left)) 0 y
 
-module _ (v : Visit) (h : IsVisit v) (outputs : has_outputs (ended (plan_of v) (data_of v) v.task.now) ≡ true) where
+module _ (v : RunningTask) (h : IsRunningTask v) (outputs : has_outputs (ended (plan_of v) (data_of v) v.task.now) ≡ true) where
   pub writes_first : (whole : List WriteBack) (a : Content) → HoldsAt v (part_way v []) a → WritesLeft v whole whole a a
   writes_first whole a holds = record { done = []; split = refl; holds = holds; room = λ n r. r }
 
@@ -97,13 +127,13 @@ module _ (v : Visit) (h : IsVisit v) (outputs : has_outputs (ended (plan_of v) (
     pub write_may : MayTakeWrite (plan_of v) w (output_tile (ended (plan_of v) (data_of v) w.from) w.flow) y
     write_may = may_write v h outputs (map item.Write l.done) w (map item.Write left ++ map item.Edge (within_among v (out_edges (plan_of v) v.task.now))) write_split y l.holds
 
-    pub write_then : (z : Content) → TakesWrite w (output_tile (ended (plan_of v) (data_of v) w.from) w.flow) y z → WritesLeft v whole left a z
+    pub write_then : (z : Content) → TakesWrite (plan_of v) w (output_tile (ended (plan_of v) (data_of v) w.from) w.flow) y z → WritesLeft v whole left a z
     write_then z takes = record {
       done = l.done ++ w ∷ [];
       split = l.split ∙ sym (append_assoc l.done (w ∷ []) left);
       holds = subst (λ is. HoldsAt v (part_way v is) z) (sym (map-append (λ (x : WriteBack). item.Write x) l.done (w ∷ [])))
           (write_holds v h outputs (map item.Write l.done) w (map item.Write left ++ map item.Edge (within_among v (out_edges (plan_of v) v.task.now))) write_split y z l.holds takes);
-      room = λ n r. room_write n (length left) w (output_tile (ended (plan_of v) (data_of v) w.from) w.flow) y z (l.room n r) takes;
+      room = λ n r. room_write (plan_of v) n (length left) w (output_tile (ended (plan_of v) (data_of v) w.from) w.flow) y z (l.room n r) takes;
     }
 
   pub writes_last : (whole : List WriteBack) → whole ≡ write_backs (plan_of v) v.task.now → (a y : Content) → WritesLeft v whole [] a y → HoldsAt v (part_way v (its_writes v)) y

@@ -30,11 +30,11 @@ use Rattle.rank_core.proofs.Running.{message_is, messages_with, messages_without
 use Rattle.rank_core.proofs.Worlds.{event_sound}
 use Rattle.rank_world.specs.declared.mail.Mail.{Mail}
 use Rattle.rank_world.specs.declared.room.Outgoing.{Outgoing}
-use Rattle.rank_world.specs.declared.visit.Visit.{Visit}
+use Rattle.rank_world.specs.declared.running_task.RunningTask.{RunningTask}
 use Rattle.indexmap.specs.IndexMap.{spare}
 use Rattle.rank_world.specs.Keeping.{IsMailOf, IsUnderWay}
 use Rattle.rank_world.specs.Outgoings.{AddsBlank, AddsWithin}
-use Rattle.rank_world.specs.Visits.{AreBlank, HasShape, IsVisit, after, before, between_among, data_of, part_way, plan_of, within_among}
+use Rattle.rank_world.specs.RunningTasks.{AreBlank, HasShape, IsRunningTask, after, before, between_among, data_of, part_way, plan_of, within_among}
 use Rattle.rank_world.proofs.Parts.{ends_so, part_sound}
 use Rattle.rank_world.proofs.Posted.{between_waits, mail_kept, one_posted}
 
@@ -45,14 +45,14 @@ blank_push P (d ∷ ds) [] e m are same shape = absurd are
 blank_push P (d ∷ ds) (x ∷ xs) e m are same shape = (are.0, are.1, blank_push P ds xs e m are.2 same shape)
 
 -- what will be sent of the edges so far
-pub record OutgoingSoFar (v : Visit) (whole left : List Edge) (o : Outgoing) : Type 0 where
+pub record OutgoingSoFar (v : RunningTask) (whole left : List Edge) (o : Outgoing) : Type 0 where
   pub done : List Edge
   pub split : whole ≡ done ++ left
   pub blank : AreBlank (plan_of v) (between_among v done) o.messages.items
   pub within : o.within ≡ length (within_among v done)
 
 -- the messages that are posted so far
-pub record PostedSoFar (v : Visit) (tiles : List (Option (List ℤ))) (left : List Message) (m : Mail) : Type 0 where
+pub record PostedSoFar (v : RunningTask) (tiles : List (Option (List ℤ))) (left : List Message) (m : Mail) : Type 0 where
   pub done : List Edge
   pub rest : List Edge
   pub split : edges_between (plan_of v) v.ranks v.task.now ≡ done ++ rest
@@ -61,7 +61,7 @@ pub record PostedSoFar (v : Visit) (tiles : List (Option (List ℤ))) (left : Li
   pub sent : m.sent ≡ length ((before v).messages ++ map (message_from (Some (Ok tiles))) done)
   pub room : length left ≤ spare m.under_way
 
-module _ (v : Visit) (h : IsVisit v) where
+module _ (v : RunningTask) (h : IsRunningTask v) where
   module _ (whole : List Edge) (are : whole ≡ out_edges (plan_of v) v.task.now) (e : Edge) (left : List Edge) (o : Outgoing) (l : OutgoingSoFar v whole (e ∷ left) o) where
     pub outgoing_among : IsIn e (out_edges (plan_of v) v.task.now)
     outgoing_among = subst (IsIn e) (sym l.split ∙ are) (IsIn-append_right e l.done (e ∷ left) (inl refl))
@@ -122,7 +122,7 @@ messages_at_most P G r w con sound =
     (con.same_edges e).1 (subst (λ d. IsIn d (all_out P)) (sym p.2) (IsIn-flat_map (out_edges P) (all_tasks P) p.0.edge.from p.0.edge ((listed P p.0.edge.from).0 job) out))) in
     omega (arith, few, con.in_edges_at_most, length-map w.messages (λ (m : Message). m.edge))
 
-module _ (v : Visit) (h : IsVisit v) (tiles : List (Option (List ℤ))) (ends : ended (plan_of v) (data_of v) v.task.now ≡ Some (Ok tiles)) where
+module _ (v : RunningTask) (h : IsRunningTask v) (tiles : List (Option (List ℤ))) (ends : ended (plan_of v) (data_of v) v.task.now ≡ Some (Ok tiles)) where
   outputs : has_outputs (ended (plan_of v) (data_of v) v.task.now) ≡ true
   outputs = ap has_outputs ends
 
@@ -254,7 +254,7 @@ module _ (v : Visit) (h : IsVisit v) (tiles : List (Option (List ℤ))) (ends : 
       record { under_way = subst (λ ms. IsUnderWay (after v).machine ms m.under_way.entries) (sym same) l.under_way; sent = l.sent ∙ ap length (sym same) }
 
 -- a trap sends nothing
-pub trap_mail : (v : Visit) (h : IsVisit v) → has_outputs (ended (plan_of v) (data_of v) v.task.now) ≡ false → (m : Mail) → IsMailOf (before v) m → IsMailOf (after v) m
+pub trap_mail : (v : RunningTask) (h : IsRunningTask v) → has_outputs (ended (plan_of v) (data_of v) v.task.now) ≡ false → (m : Mail) → IsMailOf (before v) m → IsMailOf (after v) m
 trap_mail v h none m mail =
     let same : (after v).messages ≡ (before v).messages = ap (λ ms. (before v).messages ++ ms) (ap (messages_by (plan_of v) v.ranks v.task.now) (sym (ends_so v h)) ∙ messages_without (plan_of v) v.ranks v.task.now (ended (plan_of v) (data_of v) v.task.now) none) ∙ append-nil (before v).messages in
     record { under_way = subst (λ ms. IsUnderWay (after v).machine ms m.under_way.entries) (sym same) (mail_kept v h m.under_way.entries mail.under_way); sent = mail.sent ∙ ap length (sym same) }

@@ -2,6 +2,7 @@
 use Rattle.std.proofs.Common.{◌≡◌, ◌≢◌, ◌<◌, ◌==◌, ℕ, Bool, true, false, not, cond, List, [], ◌∷◌, ◌++◌, map, refl, ap, sym, ◌∙◌, subst, append_assoc, inl, inr, Some, Ok, Err, Result, IsOk, OnOk, IsSome, IfSome, arith}
 use Rattle.std.proofs.lemmas.Bool.{false≢true, eqb-true}
 use Rattle.std.proofs.lemmas.List.{append-nil, map-append}
+use Rattle.ptg_base.specs.Entry.{FlowTile}
 use Rattle.ptg_base.specs.Lists.{HasNoRepeats, IsIn}
 use Rattle.ptg_base.specs.TaskLaws.{same_task-decides}
 use Rattle.ptg_base.specs.declared.edge.Edge.{Edge}
@@ -15,12 +16,11 @@ use Rattle.plan_core.specs.declared.plan.Plan.{Plan}
 use Rattle.coll_data.specs.Data.{Data}
 use Rattle.dep_iter.specs.Items.{item_flow, items, out_edges, write_backs}
 use Rattle.dep_iter.specs.Tasks.{IsTask}
-use Rattle.dep_shard.specs.Arrivals.{FlowTile}
 use Rattle.dep_shard.specs.Content.{Content, Ends, IsTileOf, KeepsEntriesAndWritten, Takes}
 use Rattle.flow_meaning.specs.Backward.{ended}
 use Rattle.list_lemmas.specs.Counting.{as_number}
 use Rattle.flow_meaning.specs.Ending.{has_outputs, output_tile}
-use Rattle.flow_meaning.specs.Machine.{Claim, Event, Happen, end_in, IsPossible, MachineState, MaySend, Send, Sent, sender, sent_with, state_after}
+use Rattle.flow_meaning.specs.Machine.{Claim, Event, Happen, end_in, IsPossible, MachineState, MaySend, Send, SentItem, sender, sent_with, state_after}
 use Rattle.flow_meaning.specs.Sound.{IsSoundState}
 use Rattle.flow_meaning.proofs.Events.{claim_sound, happen_sound}
 use Rattle.flow_meaning.proofs.Rest.{item_sender}
@@ -35,11 +35,10 @@ use Rattle.shard_meaning.proofs.Typing.{write_typed}
 use Rattle.rank_core.specs.World.{edges_within, is_between, item_from, items_by, items_within, rank_of}
 use Rattle.rank_core.proofs.Items.{within_is_item, within_once}
 use Rattle.rank_core.proofs.Running.{items_with, items_without, part_happens, run_ends}
-use Rattle.rank_world.specs.declared.visit.Visit.{Visit}
+use Rattle.rank_world.specs.declared.running_task.RunningTask.{RunningTask}
 use Rattle.rank_world.specs.Keeping.{at_rest}
-use Rattle.shard_calls.specs.WriteBacks.{MayTakeWrite}
-use Rattle.rank_world.specs.Sending.{MayTakeEdge, TakesEdge, TakesWrite}
-use Rattle.rank_world.specs.Visits.{HoldsAt, IsVisit, after, before, data_of, its_writes, part_way, plan_of}
+use Rattle.shard_calls.specs.Taken.{MayTakeEdge, MayTakeWrite, TakesEdge, TakesWrite}
+use Rattle.rank_world.specs.RunningTasks.{HoldsAt, IsRunningTask, after, before, data_of, its_writes, part_way, plan_of}
 use Rattle.rank_world.proofs.Delivering.{may_take_edge}
 
 happen-last : (P : Plan) (G : Data) (es : List Event) (e : Event) (S T U : MachineState) → Happen P G (es ++ e ∷ []) S U → Happen P G es S T → IsPossible P G T e
@@ -51,7 +50,7 @@ pub get_ok : {X E Q : Type 0} (r : Result X E) → IsOk r → OnOk r Q → Q
 get_ok (Ok x) k q = q
 get_ok (Err e) k q = absurd (false≢true k)
 
-module _ (v : Visit) (h : IsVisit v) where
+module _ (v : RunningTask) (h : IsRunningTask v) where
   -- the task ends as its body says
   pub ends_so : ended (plan_of v) (data_of v) v.task.now ≡ end_in (plan_of v) (data_of v) (before v).machine v.task.now
   ends_so = run_ends (plan_of v) (data_of v) h.consistent v.ranks (before v) h.sound v.task.now h.may
@@ -138,7 +137,7 @@ module _ (v : Visit) (h : IsVisit v) where
 
     pub next_part : (is : List Item) (i : Item) (rest : List Item) → is ++ i ∷ rest ≡ all → with_send (plan_of v) (data_of v) (part_way v is) i ≡ part_way v (is ++ i ∷ [])
     next_part is i rest split =
-        let f : Item → Sent = item_from (ended (plan_of v) (data_of v) v.task.now) in
+        let f : Item → SentItem = item_from (ended (plan_of v) (data_of v) v.task.now) in
         let here : sent_with (plan_of v) (data_of v) (part_way v is).state i ≡ item_from (ended (plan_of v) (data_of v) v.task.now) i =
         sent_is (plan_of v) (data_of v) h.consistent (part_way v is).state (part_sound is (i ∷ rest) split) i (next_may is i rest split)
         ∙ (λ k. record { item = i; tile = output_tile (ended (plan_of v) (data_of v) (by_task is i rest split k)) (item_flow i) }) in
@@ -161,7 +160,7 @@ module _ (v : Visit) (h : IsVisit v) where
             fits = subst (λ o. IfSome o (IsTileOf y.elems t.0.datatype)) (sym t.3) (subst (λ l. IsTileOf l t.0.datatype t.1) (sym holds.elems) t.4);
           }
 
-      pub write_holds : (y z : Content) → HoldsAt v (part_way v is) y → TakesWrite w (output_tile (ended (plan_of v) (data_of v) w.from) w.flow) y z → HoldsAt v (part_way v (is ++ item.Write w ∷ [])) z
+      pub write_holds : (y z : Content) → HoldsAt v (part_way v is) y → TakesWrite (plan_of v) w (output_tile (ended (plan_of v) (data_of v) w.from) w.flow) y z → HoldsAt v (part_way v (is ++ item.Write w ∷ [])) z
       write_holds y z holds takes =
           subst (λ R. HoldsAt v R z) (next_part is (item.Write w) rest split)
           (write_here (plan_of v) (data_of v) h.consistent (rank_of (plan_of v) v.ranks) v.rank (part_way v is) (part_sound is (item.Write w ∷ rest) split) w (next_may is (item.Write w) rest split) y z takes.content

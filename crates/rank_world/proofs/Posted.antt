@@ -17,7 +17,7 @@ use Rattle.dep_iter.specs.Items.{out_edges, write_backs}
 use Rattle.flow_meaning.specs.Comparing.{same_item}
 use Rattle.list_lemmas.specs.Counting.{as_number, weigh}
 use Rattle.flow_meaning.specs.Ending.{Ended, has_outputs}
-use Rattle.flow_meaning.specs.Machine.{MachineState, Sent, claim_count, end_in, send_count, sender}
+use Rattle.flow_meaning.specs.Machine.{MachineState, SentItem, claim_count, end_in, send_count, sender}
 use Rattle.flow_meaning.proofs.Comparing.{same_item-decides}
 use Rattle.flow_meaning.proofs.Events.{member_claim}
 use Rattle.flow_meaning.proofs.Rest.{item_sender}
@@ -25,9 +25,9 @@ use Rattle.rank_core.specs.declared.message.Message.{Message}
 use Rattle.rank_core.specs.World.{edges_between, edges_within, is_between, item_from, items_by, items_within, message_from, is_delivered}
 use Rattle.rank_core.proofs.Items.{out_from, within_is_item}
 use Rattle.rank_core.proofs.Running.{items_with, items_without, message_is, unclaimed_unsent}
-use Rattle.rank_world.specs.declared.visit.Visit.{Visit}
+use Rattle.rank_world.specs.declared.running_task.RunningTask.{RunningTask}
 use Rattle.rank_world.specs.Keeping.{IsUnderWay, unless_delivered}
-use Rattle.rank_world.specs.Visits.{IsVisit, after, before, data_of, plan_of}
+use Rattle.rank_world.specs.RunningTasks.{IsRunningTask, after, before, data_of, plan_of}
 
 -- a longer list, at its end and elsewhere
 last_at : {A : Type 0} (xs : List A) (x : A) → slice_get (xs ++ x ∷ []) (length xs) ≡ Some x
@@ -54,29 +54,29 @@ one_posted S ms m n old new_table under number fresh changes q =
     ∙ ap (unless_delivered S) (sym (not_last ms m q (λ e. false≢true (sym k ∙ (unsigned_Decides n q).1 (number ∙ e))))))
 
 -- an item that is none of those sent
-none_sent : (i : Item) (xs : List Sent) → ((x : Sent) → IsIn x xs → x.item ≡ i → ⊥) → weigh (λ (x : Sent). as_number (same_item i x.item)) xs ≡ 0
-none_sent i xs none = elim (cases_eq (weigh (λ (x : Sent). as_number (same_item i x.item)) xs) 0) [
+none_sent : (i : Item) (xs : List SentItem) → ((x : SentItem) → IsIn x xs → x.item ≡ i → ⊥) → weigh (λ (x : SentItem). as_number (same_item i x.item)) xs ≡ 0
+none_sent i xs none = elim (cases_eq (weigh (λ (x : SentItem). as_number (same_item i x.item)) xs) 0) [
   | inl z ↦ z
-  | inr more ↦ let p = some_passes (λ (x : Sent). same_item i x.item) xs (omega (arith, more)) in absurd (none p.0 p.1 (sym ((same_item-decides i p.0.item).0 p.2)))
+  | inr more ↦ let p = some_passes (λ (x : SentItem). same_item i x.item) xs (omega (arith, more)) in absurd (none p.0 p.1 (sym ((same_item-decides i p.0.item).0 p.2)))
 ]
 
-module _ (v : Visit) (h : IsVisit v) where
+module _ (v : RunningTask) (h : IsRunningTask v) where
   -- an item that the run does not send stands exactly where it stood
-  as_before : (i : Item) → ((x : Sent) → IsIn x (items_by (plan_of v) v.ranks v.task.now (end_in (plan_of v) (data_of v) (before v).machine v.task.now)) → x.item ≡ i → ⊥) → send_count (after v).machine i ≡ send_count (before v).machine i
+  as_before : (i : Item) → ((x : SentItem) → IsIn x (items_by (plan_of v) v.ranks v.task.now (end_in (plan_of v) (data_of v) (before v).machine v.task.now)) → x.item ≡ i → ⊥) → send_count (after v).machine i ≡ send_count (before v).machine i
   as_before i none =
       omega (
         arith,
-        weigh-append (λ (x : Sent). as_number (same_item i x.item)) (before v).machine.sends (items_by (plan_of v) v.ranks v.task.now (end_in (plan_of v) (data_of v) (before v).machine v.task.now)),
+        weigh-append (λ (x : SentItem). as_number (same_item i x.item)) (before v).machine.sends (items_by (plan_of v) v.ranks v.task.now (end_in (plan_of v) (data_of v) (before v).machine v.task.now)),
         none_sent i (items_by (plan_of v) v.ranks v.task.now (end_in (plan_of v) (data_of v) (before v).machine v.task.now)) none,
       )
 
   -- what the run sends are items of its task within the rank
-  sent_within : (end : Option Ended) (x : Sent) → IsIn x (items_by (plan_of v) v.ranks v.task.now end) → IsIn x.item (items_within (plan_of v) v.ranks v.task.now)
+  sent_within : (end : Option Ended) (x : SentItem) → IsIn x (items_by (plan_of v) v.ranks v.task.now end) → IsIn x.item (items_within (plan_of v) v.ranks v.task.now)
   sent_within end x i =
       by_test (has_outputs end)
       (λ o.
       let p = from_map (item_from end) (items_within (plan_of v) v.ranks v.task.now) x (subst (IsIn x) (items_with (plan_of v) v.ranks v.task.now end o) i) in
-      subst (λ j. IsIn j (items_within (plan_of v) v.ranks v.task.now)) (sym (ap (λ (y : Sent). y.item) p.2)) p.1)
+      subst (λ j. IsIn j (items_within (plan_of v) v.ranks v.task.now)) (sym (ap (λ (y : SentItem). y.item) p.2)) p.1)
       (λ o. let never : IsIn x [] = subst (IsIn x) (items_without (plan_of v) v.ranks v.task.now end o) i in absurd never)
 
   -- of the messages that were sent before, those are delivered that were

@@ -12,12 +12,12 @@ use Rattle.rank_core.specs.World.{Run, WorldState, rank_of}
 use Rattle.rank_core.proofs.Running.{fed}
 use Rattle.rank_core.proofs.Worlds.{event_sound}
 use Rattle.rank_world.specs.declared.mail.Mail.{Mail}
-use Rattle.rank_world.specs.declared.visit.Visit.{Visit}
+use Rattle.rank_world.specs.declared.running_task.RunningTask.{RunningTask}
 use Rattle.rank_world.specs.Keeping.{IsMailOf, Keeps, at_rest}
-use Rattle.rank_world.specs.Visits.{HoldsAt, IsVisit, after, before, data_of, plan_of}
+use Rattle.rank_world.specs.RunningTasks.{HoldsAt, IsRunningTask, after, before, data_of, plan_of}
 use Rattle.rank_world.proofs.Parts.{run_away, trap_away}
 
-module _ (v : Visit) (h : IsVisit v) where
+module _ (v : RunningTask) (h : IsRunningTask v) where
   ends : is_some (ended (plan_of v) (data_of v) v.task.now) ≡ true
   ends = it_ends (plan_of v) (data_of v) h.consistent (before v).machine h.sound.state v.task.now (fed (plan_of v) (data_of v) h.consistent v.ranks (before v) h.sound v.task.now h.may)
 

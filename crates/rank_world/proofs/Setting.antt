@@ -4,7 +4,7 @@ use Rattle.plan_core.specs.declared.plan.Plan.{Plan}
 use Rattle.dep_shard.specs.Content.{Content, IsUnchanged}
 use Rattle.rank_core.specs.declared.message.Message.{Message}
 use Rattle.rank_world.specs.Changes.{StaysAt, TakesEdgeAt}
-use Rattle.rank_world.specs.Sending.{TakesEdge}
+use Rattle.shard_calls.specs.Taken.{TakesEdge}
 use Rattle.std.proofs.lemmas.List.{length-set}
 use Rattle.list_lemmas.proofs.Places.{slice_get-set_other, slice_get-set_same}
 

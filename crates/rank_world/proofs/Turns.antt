@@ -17,7 +17,7 @@ use Rattle.dep_iter.proofs.Listing.{listed}
 use Rattle.flow_meaning.specs.Comparing.{same_item}
 use Rattle.list_lemmas.specs.Counting.{as_number, count, weigh}
 use Rattle.flow_meaning.specs.Ending.{Ended, has_outputs}
-use Rattle.flow_meaning.specs.Machine.{MachineState, MayClaim, Sent, end_in, send_count}
+use Rattle.flow_meaning.specs.Machine.{MachineState, MayClaim, SentItem, end_in, send_count}
 use Rattle.flow_meaning.specs.Sound.{IsSoundState}
 use Rattle.flow_meaning.proofs.Comparing.{same_item-decides}
 use Rattle.rank_core.specs.declared.message.Message.{Message}
@@ -127,7 +127,7 @@ module _ (w : WorldView) (n : ℕ) (m : Message) (is : slice_get w.state.message
   delivered_then : is_delivered w.state.machine m ≡ false → is_delivered (with_delivery n w).state.machine m ≡ true
   delivered_then new =
       let T : MachineState = record { claims = w.state.machine.claims; sends = w.state.machine.sends ++ record { item = item.Edge m.edge; tile = m.tile } ∷ [] } in
-      let sum = weigh-push (λ (x : Sent). as_number (same_item (item.Edge m.edge) x.item)) w.state.machine.sends (record { item = item.Edge m.edge; tile = m.tile }) in
+      let sum = weigh-push (λ (x : SentItem). as_number (same_item (item.Edge m.edge) x.item)) w.state.machine.sends (record { item = item.Edge m.edge; tile = m.tile }) in
       ap (λ S. is_delivered S m) (come ∙ ap (λ b. cond b w.state.machine (record { claims = w.state.machine.claims; sends = w.state.machine.sends ++ record { item = item.Edge m.edge; tile = m.tile } ∷ [] })) new)
       ∙ lt-ltb 0 (send_count (record { claims = w.state.machine.claims; sends = w.state.machine.sends ++ record { item = item.Edge m.edge; tile = m.tile } ∷ [] }) (item.Edge m.edge))
       (omega (arith, sum, ap as_number ((same_item-decides (item.Edge m.edge) (item.Edge m.edge)).1 refl)))

@@ -1,7 +1,7 @@
 pub mod Views
 pub mod Keeping
-pub mod Sending
-pub mod Visits
+pub mod RankRoom
+pub mod RunningTasks
 pub mod Outgoings
 pub mod Changes
 pub mod Driving

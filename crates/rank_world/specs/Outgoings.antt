@@ -4,7 +4,7 @@ use Rattle.ptg_base.specs.declared.edge.Edge.{Edge}
 use Rattle.plan_core.specs.declared.plan.Plan.{Plan}
 use Rattle.rank_core.specs.declared.message.Message.{Message}
 use Rattle.rank_world.specs.declared.room.Outgoing.{Outgoing}
-use Rattle.rank_world.specs.Visits.{HasShape}
+use Rattle.rank_world.specs.RunningTasks.{HasShape}
 
 -- a message of this edge, with a blank tile
 pub record AddsBlank (P : Plan) (e : Edge) (old new : Outgoing) : Type 0 where

@@ -16,10 +16,11 @@ pub record WorldView : Type 0 where
 abbrev pub opened : Plan → Data → ℕ → WorldView
 opened P G r = record { plan = P; given = G; ranks = r; state = opening_world }
 
--- the same world after a task has run, and after a message was delivered
+-- a world after a task has run
 abbrev pub with_run : Task → WorldView → WorldView
 with_run t w =
     record { plan = w.plan; given = w.given; ranks = w.ranks; state = after_run w.plan w.given w.ranks w.state t }
 
+-- a world after the message of this number was delivered
 abbrev pub with_delivery : ℕ → WorldView → WorldView
 with_delivery n w = record { plan = w.plan; given = w.given; ranks = w.ranks; state = after_delivery w.state n }

@@ -14,7 +14,7 @@ use flow_meaning::Outcome;
 use ptg_base::OutOfMemory;
 use std::alloc::Global;
 
-/// How many messages a run of a job by so many ranks sends, and the job's answer, from a world that is driven in the
+/// How many messages a run of a job by this many ranks sends, and the job's answer, from a world that is driven in the
 /// order of a seed.
 pub fn ranks_of(
     alloc: Global,

@@ -3,8 +3,10 @@
 ghost use Rattle.std.specs.Prelude.{◌≡◌};
 ghost use Rattle.rank_world.specs.Choices as choices;
 
+// The multiplier of Knuth's MMIX generator.
 const MULTIPLIER: u64 = 6364136223846793005;
 
+// The increment of Knuth's MMIX generator.
 const INCREMENT: u64 = 1442695040888963407;
 
 // The number of the generator that follows another one.

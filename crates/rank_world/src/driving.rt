@@ -100,7 +100,7 @@ fn message_first(world: &mut World<'_>, pick: u64) -> Result<bool, OutOfMemory>
     run_some(world, pick)
 }
 
-// The same, with the task first.
+// Runs a task that may run; if there is none, delivers a message that was not delivered before.
 fn task_first(world: &mut World<'_>, pick: u64) -> Result<bool, OutOfMemory>
     ensures events { IsLaterWorld world.old world.new }
     ensures fewer { IfOk result (λ more. IsTrue more → turns_left world.new < turns_left world.old) }

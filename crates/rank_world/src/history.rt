@@ -33,7 +33,7 @@ impl History {
         History {}
     }
 
-    // What happened before, and then a run of this task, in a world of so many ranks.
+    // What happened before, and then a run of this task, in a world of this many ranks.
     pub(crate) fn with_run(
         _before: &History,
         _m: &Matched,

@@ -8,33 +8,34 @@ ghost use Rattle.dep_iter.specs.Tasks.{IsTask};
 ghost use Rattle.flow_meaning.specs.Backward.{ended};
 ghost use Rattle.flow_meaning.specs.Ending.{output_tile};
 ghost use Rattle.rank_core.specs.World.{is_between};
-ghost use Rattle.shard_calls.specs.WriteBacks.{MayTakeWrite};
-ghost use Rattle.rank_world.specs.Sending.{HasRoomFor, MayTakeEdge, TakesEdge, TakesWrite};
-ghost use Rattle.rank_world.specs.Visits.{HoldsAt, IsVisit, data_of, its_writes, part_way, plan_of, within_among};
+ghost use Rattle.shard_calls.specs.Taken.{MayTakeEdge, MayTakeWrite, TakesEdge, TakesWrite};
+ghost use Rattle.rank_world.specs.RankRoom.{HasRoomFor};
+ghost use Rattle.rank_world.specs.RunningTasks.{HoldsAt, IsRunningTask, data_of, its_writes, part_way, plan_of, within_among};
 
-use crate::delivery::{take_edge, take_write};
 use crate::room::goes_away;
-use crate::visit::Visit;
+use crate::running_task::RunningTask;
 use dep_iter::{out_edges_under, write_backs_under};
 use dep_shard::Shard;
 use ptg_base::{Edge, WriteBack};
+use shard_calls::{take_edge, take_write};
 use task_run::Bench;
 
-// Keeps a write-back of the task of a visit in its rank, which has room for it.
-fn leave_write(at: &Visit, shard: &mut Shard, bench: &Bench, write: &WriteBack)
+// Keeps a write-back of a running task in its rank, which has room for it.
+#[tactic(auto, using(crate::proofs::LeftWithin::room_is_spare_write))]
+fn leave_write(at: &RunningTask, shard: &mut Shard, bench: &Bench, write: &WriteBack)
     requires tiles { ended (plan_of at.now) (data_of at.now) write.now.from ≡ Some (Ok bench.now.tiles) }
     requires may { MayTakeWrite (plan_of at.now) write.now
         (output_tile (ended (plan_of at.now) (data_of at.now) write.now.from) write.now.flow) shard.old }
     requires room { HasRoomFor 0 1 shard.old }
-    ensures { TakesWrite write.now (output_tile (ended (plan_of at.now) (data_of at.now) write.now.from) write.now.flow)
-        shard.old shard.new }
+    ensures { TakesWrite (plan_of at.now) write.now
+        (output_tile (ended (plan_of at.now) (data_of at.now) write.now.from) write.now.flow) shard.old shard.new }
 {
     take_write(shard, at.matched, write, bench.tile(write.flow)).unwrap();
 }
 
-// Keeps the write-backs of the task of a visit in its rank.
-fn leave_writes(at: &Visit, shard: &mut Shard, bench: &Bench)
-    requires visit { IsVisit at.now }
+// Keeps the write-backs of a running task in its rank.
+fn leave_writes(at: &RunningTask, shard: &mut Shard, bench: &Bench)
+    requires runs { IsRunningTask at.now }
     requires tiles { ended (plan_of at.now) (data_of at.now) at.now.task.now ≡ Some (Ok bench.now.tiles) }
     requires holds { HoldsAt at.now (part_way at.now []) shard.old }
     requires room { HasRoomFor 0 (length (items.write_backs (plan_of at.now) at.now.task.now)) shard.old }
@@ -47,9 +48,10 @@ fn leave_writes(at: &Visit, shard: &mut Shard, bench: &Bench)
     }
 }
 
-// Brings an edge of the task of a visit to its target, if that is of the same rank, which has room for it.
-fn leave_edge(at: &Visit, shard: &mut Shard, bench: &Bench, edge: &Edge)
-    requires visit { IsVisit at.now }
+// Brings an edge of a running task to its target, if that is of the same rank, which has room for it.
+#[tactic(auto, using(crate::proofs::LeftWithin::room_is_spare_edge))]
+fn leave_edge(at: &RunningTask, shard: &mut Shard, bench: &Bench, edge: &Edge)
+    requires runs { IsRunningTask at.now }
     requires from { edge.now.from ≡ at.now.task.now }
     requires to { IsTask (plan_of at.now) edge.now.to }
     requires tiles { ended (plan_of at.now) (data_of at.now) edge.now.from ≡ Some (Ok bench.now.tiles) }
@@ -65,12 +67,12 @@ fn leave_edge(at: &Visit, shard: &mut Shard, bench: &Bench, edge: &Edge)
     if goes_away(at, edge) {
         return;
     }
-    take_edge(shard, at.matched, edge, bench.tile(edge.out_flow)).unwrap();
+    let _arrived = take_edge(shard, at.matched, edge, bench.tile(edge.out_flow)).unwrap();
 }
 
-// Brings the edges of the task of a visit that stay within its rank to their targets.
-fn leave_edges(at: &Visit, shard: &mut Shard, bench: &Bench)
-    requires visit { IsVisit at.now }
+// Brings the edges of a running task that stay within its rank to their targets.
+fn leave_edges(at: &RunningTask, shard: &mut Shard, bench: &Bench)
+    requires runs { IsRunningTask at.now }
     requires tiles { ended (plan_of at.now) (data_of at.now) at.now.task.now ≡ Some (Ok bench.now.tiles) }
     requires holds { HoldsAt at.now (part_way at.now (its_writes at.now)) shard.old }
     requires room { HasRoomFor (length (within_among at.now (items.out_edges (plan_of at.now) at.now.task.now))) 0
@@ -86,9 +88,9 @@ fn leave_edges(at: &Visit, shard: &mut Shard, bench: &Bench)
     }
 }
 
-// Leaves what stays within its rank of the task of a visit: its write-backs, and then its edges.
-pub(crate) fn leave_within(at: &Visit, shard: &mut Shard, bench: &Bench)
-    requires visit { IsVisit at.now }
+// Leaves what stays within its rank of a running task: its write-backs, and then its edges.
+pub(crate) fn leave_within(at: &RunningTask, shard: &mut Shard, bench: &Bench)
+    requires runs { IsRunningTask at.now }
     requires tiles { ended (plan_of at.now) (data_of at.now) at.now.task.now ≡ Some (Ok bench.now.tiles) }
     requires holds { HoldsAt at.now (part_way at.now []) shard.old }
     requires room { HasRoomFor (length (within_among at.now (items.out_edges (plan_of at.now) at.now.task.now)))

@@ -3,7 +3,6 @@
 
 mod answering;
 mod choices;
-mod delivery;
 mod driving;
 mod history;
 mod leaving;
@@ -11,7 +10,7 @@ mod mail;
 mod posting;
 mod room;
 mod running;
-mod visit;
+mod running_task;
 mod world;
 
 pub use answering::ranks_of;

@@ -9,10 +9,10 @@ ghost use Rattle.dep_iter.specs.Items as items;
 ghost use Rattle.flow_meaning.specs.Backward.{ended};
 ghost use Rattle.flow_meaning.specs.Ending.{has_outputs, output_tile};
 ghost use Rattle.rank_world.specs.Keeping.{IsMailOf, IsUnderWay};
-ghost use Rattle.rank_world.specs.Visits.{AreBlank, IsVisit, after, before, between_among, data_of, plan_of};
+ghost use Rattle.rank_world.specs.RunningTasks.{AreBlank, IsRunningTask, after, before, between_among, data_of, plan_of};
 
 use crate::mail::Mail;
-use crate::visit::Visit;
+use crate::running_task::RunningTask;
 use ptg_base::Tile;
 use rank_core::Message;
 use task_run::Bench;
@@ -57,9 +57,9 @@ fn post(mail: &mut Mail, bench: &Bench, message: Message)
     mail.sent += 1;
 }
 
-// Posts the messages of the task of a visit, which has outputs. There is room for them.
-pub(crate) fn post_all(at: &Visit, mail: &mut Mail, bench: &Bench, messages: Vec<Message>)
-    requires visit { IsVisit at.now }
+// Posts the messages of a running task, which has outputs. There is room for them.
+pub(crate) fn post_all(at: &RunningTask, mail: &mut Mail, bench: &Bench, messages: Vec<Message>)
+    requires runs { IsRunningTask at.now }
     requires tiles { ended (plan_of at.now) (data_of at.now) at.now.task.now ≡ Some (Ok bench.now.tiles) }
     requires blank { AreBlank (plan_of at.now) (between_among at.now (items.out_edges (plan_of at.now) at.now.task.now))
         messages.items }

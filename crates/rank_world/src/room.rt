@@ -7,10 +7,10 @@ ghost use Rattle.dep_iter.specs.Tasks.{IsTask};
 ghost use Rattle.dep_shard.specs.Content.{IsUnchanged};
 ghost use Rattle.rank_core.specs.World.{is_between};
 ghost use Rattle.rank_world.specs.Outgoings.{AddsBlank, AddsWithin};
-ghost use Rattle.rank_world.specs.Sending.{HasRoomFor};
-ghost use Rattle.rank_world.specs.Visits.{AreBlank, IsShapeOf, IsVisit, between_among, plan_of, within_among};
+ghost use Rattle.rank_world.specs.RankRoom.{HasRoomFor};
+ghost use Rattle.rank_world.specs.RunningTasks.{AreBlank, IsShapeOf, IsRunningTask, between_among, plan_of, within_among};
 
-use crate::visit::Visit;
+use crate::running_task::RunningTask;
 use dep_iter::{Matched, out_edges_under, write_backs_under};
 use dep_shard::Shard;
 use plan_core::FlowPlan;
@@ -72,9 +72,9 @@ fn blank(alloc: Global, m: &Matched, edge: Edge) -> Result<Message, OutOfMemory>
     Ok(Message { edge, tile })
 }
 
-// Whether an edge out of the task of a visit goes to another rank.
-pub(crate) fn goes_away(at: &Visit, edge: &Edge) -> bool
-    requires visit { IsVisit at.now }
+// Whether an edge out of a running task goes to another rank.
+pub(crate) fn goes_away(at: &RunningTask, edge: &Edge) -> bool
+    requires runs { IsRunningTask at.now }
     requires from { edge.now.from ≡ at.now.task.now }
     requires to { IsTask (plan_of at.now) edge.now.to }
     ensures { result ≡ is_between (plan_of at.now) at.now.ranks edge.now }
@@ -82,14 +82,14 @@ pub(crate) fn goes_away(at: &Visit, edge: &Edge) -> bool
     shard_at(at.matched, at.ranks, &edge.to) != at.rank
 }
 
-// Adds an edge out of the task of a visit to what it will send.
+// Adds an edge out of a running task to what it will send.
 fn add_edge(
     alloc: Global,
-    at: &Visit,
+    at: &RunningTask,
     outgoing: &mut Outgoing,
     edge: Edge,
 ) -> Result<(), OutOfMemory>
-    requires visit { IsVisit at.now }
+    requires runs { IsRunningTask at.now }
     requires from { edge.from ≡ at.now.task.now }
     requires to { IsTask (plan_of at.now) edge.to }
     ensures between { OnOk result
@@ -106,9 +106,9 @@ fn add_edge(
     Ok(())
 }
 
-// What the task of a visit will send, if it has outputs.
-pub(crate) fn outgoing_of(alloc: Global, at: &Visit) -> Result<Outgoing, OutOfMemory>
-    requires { IsVisit at.now }
+// What a running task will send, if it has outputs.
+pub(crate) fn outgoing_of(alloc: Global, at: &RunningTask) -> Result<Outgoing, OutOfMemory>
+    requires { IsRunningTask at.now }
     ensures messages { IfOk result (λ o.
         AreBlank (plan_of at.now) (between_among at.now (items.out_edges (plan_of at.now) at.now.task.now))
         o.messages.items) }
@@ -125,9 +125,9 @@ pub(crate) fn outgoing_of(alloc: Global, at: &Visit) -> Result<Outgoing, OutOfMe
     Ok(outgoing)
 }
 
-// How many write-backs the task of a visit has.
-pub(crate) fn count_writes(at: &Visit) -> Result<u64, OutOfMemory>
-    requires { IsVisit at.now }
+// How many write-backs a running task has.
+pub(crate) fn count_writes(at: &RunningTask) -> Result<u64, OutOfMemory>
+    requires { IsRunningTask at.now }
     ensures { IfOk result (λ n. n ≡ length (items.write_backs (plan_of at.now) at.now.task.now)) }
 {
     let mut count = 0;
@@ -137,7 +137,7 @@ pub(crate) fn count_writes(at: &Visit) -> Result<u64, OutOfMemory>
     Ok(count)
 }
 
-// Takes memory in a rank for so many edges and write-backs of whatever types, and for a trap.
+// Takes memory in a rank for this many edges and write-backs of whatever types, and for a trap.
 pub(crate) fn make_room(
     alloc: Global,
     m: &Matched,

@@ -1,27 +1,26 @@
 //! The run of a task.
 
-ghost use Rattle.std.specs.Prelude.{◌≡◌, ◌≢◌, ◌<◌, ◌≤◌, ◌↔◌, [], Err, IfErr, IfOk, IsTrue, None, Ok, OnErr, OnOk, Some, false, if◌then◌else◌, length, slice_get, ℕ};
-ghost use Rattle.ptg_base.specs.Task.{Task};
+ghost use Rattle.std.specs.Prelude.{◌≡◌, ◌≢◌, ◌<◌, ◌≤◌, ◌↔◌, [], Err, IfErr, IfOk, IsTrue, Ok, OnErr, OnOk, Some, false, if◌then◌else◌, length, slice_get, ℕ};
 ghost use Rattle.indexmap.specs.IndexMap.{spare};
 ghost use Rattle.dep_iter.specs.Items as items;
 ghost use Rattle.dep_iter.specs.Tasks as tasks;
 ghost use Rattle.rank_core.specs.Sound.{IsSoundWorld};
 ghost use Rattle.rank_core.specs.World as world;
-ghost use Rattle.dep_shard.specs.Content.{Content, Entry as EntryValue, IsReady, entry_of};
+ghost use Rattle.dep_shard.specs.Content.{Content};
 ghost use Rattle.flow_meaning.specs.Backward.{ended};
 ghost use Rattle.flow_meaning.specs.Machine.{MayClaim};
 ghost use Rattle.task_run.specs.Bench.{IsBenchOf};
 ghost use Rattle.rank_world.specs.Keeping.{IsMailOf, at_rest};
-ghost use Rattle.rank_world.specs.Sending.{HasRoomFor};
+ghost use Rattle.rank_world.specs.RankRoom.{HasRoomFor};
 ghost use Rattle.rank_world.specs.Views.{with_run};
-ghost use Rattle.rank_world.specs.Visits.{AreBlank, HoldsAt, IsVisit, after, before, between_among, data_of, part_way, plan_of, within_among};
+ghost use Rattle.rank_world.specs.RunningTasks.{AreBlank, HoldsAt, IsRunningTask, after, before, between_among, data_of, part_way, plan_of, within_among};
 
 use crate::history::{History, Number};
 use crate::leaving::leave_within;
 use crate::mail::Mail;
 use crate::posting::post_all;
 use crate::room::{Outgoing, count_writes, make_room, outgoing_of};
-use crate::visit::Visit;
+use crate::running_task::RunningTask;
 use crate::world::World;
 use dep_iter::task_locals;
 use dep_shard::Shard;
@@ -32,30 +31,16 @@ use std::alloc::Global;
 use task_run::{Bench, Start};
 use term_core::Trap;
 
-// Whether the entry at this index is ready.
-fn is_ready_at(shard: &Shard, index: usize) -> bool
-    ensures { (e : EntryValue) (t : Task) → slice_get shard.now.entries index ≡ Some (t, e)
-        → IsTrue result ↔ IsReady e }
-{
-    match shard.entry(index) {
-        Some((_task, entry)) => entry.arrived() == entry.goal(),
-        None => false,
-    }
+// How the body of a task has ended, and the messages to other ranks, whose tiles are still blank.
+#[derive(Drop)]
+struct Ending {
+    body: Result<(), Trap>,
+    messages: Vec<Message>,
 }
 
-// Whether a task has a ready entry.
-fn is_ready(shard: &Shard, t: &TaskId) -> bool
-    ensures { IsTrue result ↔ ((e : EntryValue) × (entry_of shard.now t.now ≡ Some e) × IsReady e) }
-{
-    match shard.index_of(t) {
-        Some(index) => is_ready_at(shard, index),
-        None => false,
-    }
-}
-
-// Runs the body of the task of a visit, which its rank has ready. The task runs from then on.
-fn begin(at: &Visit, shard: &mut Shard, bench: &mut Bench) -> Result<(), Trap>
-    requires visit { IsVisit at.now }
+// Runs the body of a running task, which its rank has ready. The task runs from then on.
+fn begin(at: &RunningTask, shard: &mut Shard, bench: &mut Bench) -> Result<(), Trap>
+    requires runs { IsRunningTask at.now }
     requires bench { IsBenchOf (plan_of at.now) bench.old }
     requires holds { HoldsAt at.now (at_rest (before at.now).machine) shard.old }
     ensures holds { HoldsAt at.now (part_way at.now []) shard.new }
@@ -74,15 +59,15 @@ fn begin(at: &Visit, shard: &mut Shard, bench: &mut Bench) -> Result<(), Trap>
     bench.run(&start, arrivals)
 }
 
-// Ends the task of a visit, which has outputs, after what it leaves.
+// Ends a running task, which has outputs, after what it leaves.
 fn end_with_outputs(
-    at: &Visit,
+    at: &RunningTask,
     shard: &mut Shard,
     mail: &mut Mail,
     bench: &Bench,
     messages: Vec<Message>,
 )
-    requires visit { IsVisit at.now }
+    requires runs { IsRunningTask at.now }
     requires tiles { ended (plan_of at.now) (data_of at.now) at.now.task.now ≡ Some (Ok bench.now.tiles) }
     requires holds { HoldsAt at.now (part_way at.now []) shard.old }
     requires room { HasRoomFor (length (within_among at.now (items.out_edges (plan_of at.now) at.now.task.now)))
@@ -99,9 +84,9 @@ fn end_with_outputs(
     shard.end();
 }
 
-// Ends the task of a visit by a trap.
-fn end_by_trap(at: &Visit, shard: &mut Shard, cause: Trap)
-    requires visit { IsVisit at.now }
+// Ends a running task by a trap.
+fn end_by_trap(at: &RunningTask, shard: &mut Shard, cause: Trap)
+    requires runs { IsRunningTask at.now }
     requires trap { ended (plan_of at.now) (data_of at.now) at.now.task.now ≡ Some (Err cause) }
     requires holds { HoldsAt at.now (part_way at.now []) shard.old }
     requires room { (n : ℕ) × (m : ℕ) × HasRoomFor n m shard.old }
@@ -110,45 +95,40 @@ fn end_by_trap(at: &Visit, shard: &mut Shard, cause: Trap)
     shard.trap(at.task, cause).unwrap();
 }
 
-// Ends the task of a visit, whose body has ended so.
-fn end_run(
-    at: &Visit,
-    shard: &mut Shard,
-    mail: &mut Mail,
-    bench: &Bench,
-    outcome: (Result<(), Trap>, Vec<Message>),
-)
-    requires visit { IsVisit at.now }
-    requires ok { OnOk outcome.0 (ended (plan_of at.now) (data_of at.now) at.now.task.now ≡ Some (Ok bench.now.tiles)) }
-    requires trap { IfErr outcome.0 (λ cause.
+// Ends a running task, whose body has ended so.
+fn end_run(at: &RunningTask, shard: &mut Shard, mail: &mut Mail, bench: &Bench, ending: Ending)
+    requires runs { IsRunningTask at.now }
+    requires ok { OnOk ending.body
+        (ended (plan_of at.now) (data_of at.now) at.now.task.now ≡ Some (Ok bench.now.tiles)) }
+    requires trap { IfErr ending.body (λ cause.
         ended (plan_of at.now) (data_of at.now) at.now.task.now ≡ Some (Err cause)) }
     requires holds { HoldsAt at.now (part_way at.now []) shard.old }
     requires room { HasRoomFor (length (within_among at.now (items.out_edges (plan_of at.now) at.now.task.now)))
         (length (items.write_backs (plan_of at.now) at.now.task.now)) shard.old }
     requires blank { AreBlank (plan_of at.now) (between_among at.now (items.out_edges (plan_of at.now) at.now.task.now))
-        outcome.1.items }
+        ending.messages.items }
     requires mail { IsMailOf (before at.now) mail.old }
-    requires mail_room { length outcome.1.items ≤ spare mail.old.under_way }
+    requires mail_room { length ending.messages.items ≤ spare mail.old.under_way }
     ensures holds { HoldsAt at.now (at_rest (after at.now).machine) shard.new }
     ensures mail { IsMailOf (after at.now) mail.new }
 {
-    let (end, messages) = outcome;
-    if let Err(cause) = end {
+    let Ending { body, messages } = ending;
+    if let Err(cause) = body {
         end_by_trap(at, shard, cause);
         return;
     }
     end_with_outputs(at, shard, mail, bench, messages);
 }
 
-// Runs the task of a visit. All memory was taken before.
-fn run_visit(
-    at: &Visit,
+// Runs a running task. All memory was taken before.
+fn run_task(
+    at: &RunningTask,
     shard: &mut Shard,
     mail: &mut Mail,
     bench: &mut Bench,
     messages: Vec<Message>,
 )
-    requires visit { IsVisit at.now }
+    requires runs { IsRunningTask at.now }
     requires bench { IsBenchOf (plan_of at.now) bench.old }
     requires holds { HoldsAt at.now (at_rest (before at.now).machine) shard.old }
     requires room { HasRoomFor (length (within_among at.now (items.out_edges (plan_of at.now) at.now.task.now)))
@@ -161,20 +141,23 @@ fn run_visit(
     ensures mail { IsMailOf (after at.now) mail.new }
     ensures bench { IsBenchOf (plan_of at.now) bench.new }
 {
-    let end = begin(at, shard, bench);
-    end_run(at, shard, mail, bench, (end, messages));
+    let ending = Ending {
+        body: begin(at, shard, bench),
+        messages,
+    };
+    end_run(at, shard, mail, bench, ending);
     let _spent = bench.clear();
 }
 
-// Takes the memory for the task of a visit, and runs it. Without memory nothing but spares changes.
+// Takes the memory for a running task, and runs it. Without memory nothing but spares changes.
 fn run_in_shard(
     alloc: Global,
-    at: &Visit,
+    at: &RunningTask,
     shard: &mut Shard,
     mail: &mut Mail,
     bench: &mut Bench,
 ) -> Result<(), OutOfMemory>
-    requires visit { IsVisit at.now }
+    requires runs { IsRunningTask at.now }
     requires bench { IsBenchOf (plan_of at.now) bench.old }
     requires holds { HoldsAt at.now (at_rest (before at.now).machine) shard.old }
     requires mail { IsMailOf (before at.now) mail.old }
@@ -188,19 +171,19 @@ fn run_in_shard(
     let writes = count_writes(at)?;
     make_room(alloc, at.matched, shard, within, writes)?;
     mail.under_way.reserve(messages.len())?;
-    run_visit(at, shard, mail, bench, messages);
+    run_task(at, shard, mail, bench, messages);
     Ok(())
 }
 
-// The same in the rank of the visit.
+// Runs the task in the shard of its rank.
 fn run_at(
     alloc: Global,
-    at: &Visit,
+    at: &RunningTask,
     ranks: &mut Vec<Shard>,
     mail: &mut Mail,
     bench: &mut Bench,
 ) -> Result<(), OutOfMemory>
-    requires visit { IsVisit at.now }
+    requires runs { IsRunningTask at.now }
     requires within { at.now.rank < length ranks.old.items }
     requires bench { IsBenchOf (plan_of at.now) bench.old }
     requires holds { (y : Content) → slice_get ranks.old.items at.now.rank ≡ Some y
@@ -231,8 +214,8 @@ impl<'m> World<'m> {
         ensures err { OnErr result (self.new ≡ self.old) }
         ensures sound { IsSoundWorld self.new.plan self.new.given self.new.ranks self.new.state }
     {
-        self.given.is_well_made();
-        let at = Visit {
+        self.given.data_are_well_made();
+        let at = RunningTask {
             matched: self.matched,
             given: &self.given,
             history: &self.history,
@@ -270,7 +253,7 @@ impl<'m> World<'m> {
             return Ok(false);
         };
         let rank = shard_under(self.matched, self.ranks.len(), t, locals.as_slice());
-        if !is_ready(&self.ranks[rank], t) {
+        if !self.ranks[rank].is_ready(t) {
             return Ok(false);
         }
         self.run_ready(t, locals.as_slice(), rank)?;

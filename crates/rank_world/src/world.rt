@@ -14,21 +14,20 @@ ghost use Rattle.rank_core.specs.Sound.{IsSoundWorld, message_count};
 ghost use Rattle.rank_core.specs.World as world;
 ghost use Rattle.rank_core.specs.World.{IsQuiet, is_delivered};
 ghost use Rattle.rank_world.specs.Changes.{StaysAt, TakesEdgeAt};
-ghost use Rattle.rank_world.specs.Sending.{MayTakeEdge};
+ghost use Rattle.shard_calls.specs.Taken.{MayTakeEdge};
 ghost use Rattle.rank_world.specs.Views.{opened, with_delivery};
 
-use crate::delivery::take_edge;
 use crate::history::{History, Number};
 use crate::mail::Mail;
 use coll_data::Given;
 use dep_iter::Matched;
-use dep_shard::Shard;
+use dep_shard::{Arrived, Shard};
 use flow_meaning::Outcome;
 use indexmap::IndexMap;
 use ptg_base::{OutOfMemory, TaskId};
 use rank_core::Message;
 use shard_answer::{Room, outcome_of};
-use shard_calls::{have_no_work, opened_shards, shard_at};
+use shard_calls::{have_no_work, opened_shards, shard_at, take_edge};
 use std::alloc::Global;
 use std::marker::Model;
 use task_run::Bench;
@@ -84,7 +83,7 @@ fn take_edge_at(
     k: usize,
     m: &Matched,
     message: &Message,
-) -> Result<(), OutOfMemory>
+) -> Result<Arrived, OutOfMemory>
     requires within { k < length ranks.old.items }
     requires may { (y : Content) → slice_get ranks.old.items k ≡ Some y
         → MayTakeEdge m.now message.now.edge message.now.tile y }
@@ -119,7 +118,7 @@ impl<'m> World<'m> {
     {
         let shards = opened_shards(alloc, m, ranks)?;
         let bench = Bench::new(alloc, m)?;
-        m.is_consistent();
+        m.plan_is_consistent();
         Ok(World {
             alloc,
             matched: m,
@@ -152,7 +151,7 @@ impl<'m> World<'m> {
         self.ranks.len() as u32
     }
 
-    /// How many messages were sent. In a quiescent world they are as many as the job has at so many ranks.
+    /// How many messages were sent. In a quiescent world they are as many as the job has at this many ranks.
     pub fn messages(&self) -> u64
         ensures sent { result ≡ length self.now.state.messages }
         ensures all { IsQuiet self.now.plan self.now.state
@@ -212,7 +211,7 @@ impl<'m> World<'m> {
         ensures err { OnErr result (self.new ≡ self.old) }
         ensures sound { IsSoundWorld self.new.plan self.new.given self.new.ranks self.new.state }
     {
-        self.given.is_well_made();
+        self.given.data_are_well_made();
         let Some(message) = self.mail.under_way.get(&n) else {
             return Ok(false);
         };

@@ -27,7 +27,7 @@ pub record Thief : Type 0 where
   pub parts : ℕ
   pub taken : List Task
 
--- The owner's end after so many parts were given away.
+-- The owner's end after this many parts were given away.
 abbrev pub less : ℕ → Owner → Owner
 less given b = record b { parts = b.parts - given }
 
@@ -40,7 +40,7 @@ abbrev pub OthersHaveParts : ℕ → List Thief → Type 0
 OthersHaveParts number thieves =
     (k : ℕ) → k < length thieves → k ≢ number → slice_get (map (λ f. f.parts) thieves) k ≡ Some 1
 
--- Nothing was pushed or taken, and so many parts are given away.
+-- Nothing was pushed or taken, and this many parts are given away.
 pub record IsNew (given : ℕ) (b : Owner) : Type 0 where
   pub parts : b.parts + given ≡ all_parts
   pub pushed : b.pushed ≡ []

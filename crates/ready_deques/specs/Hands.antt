@@ -19,8 +19,8 @@ taken_from worker a = slice_index_or a.taken worker []
 abbrev pub fresh : List DequeId → ℕ → Account
 fresh deques number = record { number = number; deques = deques; pushed = []; taken = replicate (length deques) [] }
 
--- The accounts of so many workers, in order of their numbers from 0, before the first call. They share the deques, one
--- for each.
+-- The accounts of this many workers, in order of their numbers from 0, before the first call. They share the deques,
+-- one for each.
 pub record AreFresh (workers : ℕ) (deques : List DequeId) (team : List Account) : Type 0 where
   pub one_for_each : length deques ≡ workers
   pub all : length team ≡ workers

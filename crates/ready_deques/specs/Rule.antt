@@ -15,6 +15,7 @@ all_parts = most_workers + 1
 abbrev pub times : Task → List Task → ℕ
 times id ids = count_by (same_task id) ids
 
+-- The tally with these parts of the right, these pushed ids and these taken ones.
 abbrev pub tally : ℕ → List Task → List Task → Tally
 tally parts pushed taken = record { parts = parts; pushed = pushed; taken = taken }
 
@@ -22,6 +23,7 @@ tally parts pushed taken = record { parts = parts; pushed = pushed; taken = take
 abbrev pub IdleIsEmpty : Tally → Type 0
 IdleIsEmpty t = t.parts ≡ 0 → (t.pushed ≡ []) × (t.taken ≡ [])
 
+-- The tally is of one that has pushed nothing.
 abbrev pub HasNotPushed : Tally → Type 0
 HasNotPushed t = t.pushed ≡ []
 
@@ -42,7 +44,7 @@ pub record Balanced (held : List Task) (tallies : List Tally) : Type 0 where
 abbrev pub AllTaken : List Task → List Task → Type 0
 AllTaken pushed taken = (id : Task) → times id taken ≡ times id pushed
 
--- At one moment the deque held no id, and the rule held of all tallies, of which the worker's has so many parts and
+-- At one moment the deque held no id, and the rule held of all tallies, of which the worker's has this many parts and
 -- these pushed and taken.
 abbrev pub WasEmpty : ℕ → List Task → List Task → Type 0
 WasEmpty parts pushed taken = (others : List Tally) × Balanced [] (tally parts pushed taken ∷ others)
@@ -53,7 +55,8 @@ abbrev pub AtOneMoment : List Task → List Task → List Task → Type 0
 AtOneMoment held pushed taken =
     (tallies : List Tally) × (parts : ℕ) × Contains tallies (tally parts pushed taken) × Balanced held tallies
 
--- The same for some ids, at most so many.
+-- At one moment the deque held some ids, at most this many, and the rule held of them and of all tallies, one of them
+-- with these pushed and taken.
 abbrev pub HeldAtMost : ℕ → List Task → List Task → Type 0
 HeldAtMost most pushed taken = (held : List Task) × (length held ≤ most) × AtOneMoment held pushed taken
 

@@ -21,6 +21,7 @@ fn number_of(id: &TaskId) -> Option<i64> {
     id.params().first().copied()
 }
 
+// What these hands pop.
 fn pop(hands: &mut Hands) -> Option<i64>
     ensures { SameWorker hands.old hands.new }
 {
@@ -40,7 +41,7 @@ fn steal<R: Threads + Wait + Sync>(rt: &R, hands: &mut Hands, from: u32) -> Opti
     }
 }
 
-/// Whether so many workers are numbered from 0 on, and know how many they are.
+/// Whether this many workers are numbered from 0 on, and know how many they are.
 fn are_numbered(team: &[Hands], workers: u32) -> bool {
     for (k, hands) in team.iter().enumerate() {
         if hands.number() as usize != k || hands.workers() != workers {
@@ -66,7 +67,7 @@ fn last_two(alloc: Global) -> Result<(Hands, Hands), Fail> {
     Ok((middle, last))
 }
 
-/// Whether all of so many tasks were pushed.
+/// Whether all of this many tasks were pushed.
 fn push_all(hands: &mut Hands, count: i64) -> bool {
     let mut all = true;
     for k in 0..count {
@@ -131,6 +132,7 @@ impl Seat {
     }
 }
 
+// How many tasks worker 0 pushes.
 const TASKS: i64 = 3000;
 
 /// Worker 0 pushes the tasks and pops every third time; an id that comes back it notes as taken.

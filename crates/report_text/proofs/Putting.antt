@@ -7,7 +7,7 @@ use Rattle.std.proofs.lemmas.List.{append-nil, append_cancel_left, take-append-d
 use Rattle.ptg_io.specs.Faults.{Rose}
 use Rattle.ptg_io.specs.Sink.{appended}
 use Rattle.ptg_io.specs.declared.files.Failed.{Failed}
-use Rattle.report_text.specs.Puts.{Precedes, Puts, HasPrefix}
+use Rattle.report_text.specs.Puts.{Precedes, Puts, HasPrefix, PrintsText}
 use Rattle.ptg_io.proofs.Pieces.{appended_twice}
 
 pub appended_nil : (old : Option (List ℕ)) → appended old [] ≡ old
@@ -81,7 +81,7 @@ puts_some {bytes = bytes} {s = s} k k1 n out grew rose = record {
   failed = rose;
 }
 
--- what went out is some first bytes of the text
+-- what went out is a prefix of the text
 prefix_from : (before after : Option (List ℕ)) (text : List ℕ) → Precedes before after → Precedes after (appended before text) → HasPrefix before after text
 prefix_from None after text onward cut = (0, omega arith, sym onward.1)
 prefix_from (Some bytes) after text onward cut =
@@ -104,10 +104,23 @@ all_by bytes faults s s1 k k1 text (Ok x) empty out puts =
     let end : appended (bytes s1) k1 ≡ bytes s1 = ap (λ t. appended (bytes s1) t) out ∙ appended_nil (bytes s1) in
     sym end ∙ puts.ok ∙ ap (λ w. appended w text) start
 
--- a call that began with nothing kept back, and failed
-pub prefix_on_err : {S : Type 0} {bytes : S → Option (List ℕ)} {faults : S → ℕ} {s s1 : S} {k k1 text : List ℕ} {result : Result (Unit {0}) Failed} → k ≡ [] → Puts bytes faults result s k s1 k1 text → OnErr result (HasPrefix (bytes s) (bytes s1) text)
-prefix_on_err {bytes = bytes} {faults} {s} {s1} {k} {k1} {text} {result} empty puts = prefix_by bytes faults s s1 k k1 text result empty puts
+printed : {S : Type 0} {bytes : S → Option (List ℕ)} {faults : S → ℕ} {s s1 : S} {k k1 text : List ℕ} {result : Result (Unit {0}) Failed} → k ≡ [] → OnOk result (k1 ≡ []) → Puts bytes faults result s k s1 k1 text → PrintsText bytes faults result s s1 text
+printed {bytes = bytes} {faults} {s} {s1} {k} {k1} {text} {result} empty out puts = record {
+  ok = all_by bytes faults s s1 k k1 text result empty out puts;
+  prefix = prefix_by bytes faults s s1 k k1 text result empty puts;
+  grows = puts.grows;
+  failed = puts.failed;
+}
 
--- all that was put went out
-pub all_on_ok : {S : Type 0} {bytes : S → Option (List ℕ)} {faults : S → ℕ} {s s1 : S} {k k1 text : List ℕ} {result : Result (Unit {0}) Failed} → k ≡ [] → OnOk result (k1 ≡ []) → Puts bytes faults result s k s1 k1 text → OnOk result (bytes s1 ≡ appended (bytes s) text)
-all_on_ok {bytes = bytes} {faults} {s} {s1} {k} {k1} {text} {result} empty out puts = all_by bytes faults s s1 k k1 text result empty out puts
+cut_empty : (result : Result (Unit {0}) Failed) (k : List ℕ) → IsErr result → OnOk result (k ≡ [])
+cut_empty (Ok x) k err = absurd (false≢true err)
+cut_empty (Err e) k err = tt
+
+-- a call that began with nothing kept back, put a text and then let out all that it kept
+pub prints_all : {S : Type 0} {bytes : S → Option (List ℕ)} {faults : S → ℕ} {s s1 s2 : S} {k k1 k2 : List ℕ} (text : List ℕ) {result : Result (Unit {0}) Failed} → k ≡ [] → HasPut bytes faults s k s1 k1 text → Puts bytes faults result s1 k1 s2 k2 [] → OnOk result (k2 ≡ []) → PrintsText bytes faults result s s2 text
+prints_all text empty first then out = printed empty out (puts_then text first then (sym (append-nil text)))
+
+-- a call that began with nothing kept back, and failed while it put a text
+pub prints_cut : {S : Type 0} {bytes : S → Option (List ℕ)} {faults : S → ℕ} {s s1 : S} {k k1 : List ℕ} (text : List ℕ) {failure : Failed} {result : Result (Unit {0}) Failed} → k ≡ [] → HasFailed bytes faults failure s k s1 k1 text → IsErr result → PrintsText bytes faults result s s1 text
+prints_cut text {result = result} empty failed err =
+    printed {k1 = []} empty (cut_empty result [] err) (puts_cut [] text failed err (sym (append-nil text)))

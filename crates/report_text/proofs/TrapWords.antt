@@ -15,7 +15,8 @@ use Rattle.term_core.specs.declared.fault.ExprFault.TheVariants as fault
 use Rattle.term_core.specs.declared.trap.Trap.{Trap}
 use Rattle.term_core.specs.declared.trap.Trap.TheVariants.{Overflow, Divide, Index, Absent, Budget, Word}
 use Rattle.plan_core.specs.Bodies.{has_words}
-use Rattle.body_eval.specs.Element.{body_value, element_value, index_in, put_element, read, read_at, tile_of, written, written_at}
+use Rattle.ptg_base.specs.Index.{index_in}
+use Rattle.body_eval.specs.Element.{body_value, element_value, put_element, read, read_at, tile_of, written, written_at}
 use Rattle.body_eval.specs.State.{State, assigned, put, spent, value_in}
 use Rattle.body_eval.specs.Meaning.{body_meaning, first_then, for_meaning, if_meaning, opening, put_meaning, run, set_meaning, task_budget, turn_values, turns}
 

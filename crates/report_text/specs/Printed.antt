@@ -34,11 +34,19 @@ wait_line plan row =
     (codes "wait" ∷ class_name plan row.task.class
     ∷ (map signed_decimal row.task.params ++ decimal row.arrived ∷ decimal row.goal ∷ []))
 
+-- the line of a complete job: how many tasks ran
+abbrev pub complete_line : ℕ → List ℕ
+complete_line tasks = line (codes "complete" ∷ decimal tasks ∷ [])
+
+-- the line of a job that stalled: how many tasks ran, of how many
+abbrev pub stalled_line : ℕ → ℕ → List ℕ
+stalled_line ran tasks = line (codes "stalled" ∷ decimal ran ∷ decimal tasks ∷ [])
+
 -- the first line of an answer: what became of the job, with its counts
 abbrev pub first_line : Outcome → List ℕ
-first_line (Complete count given) = line (codes "complete" ∷ decimal count ∷ [])
+first_line (Complete count given) = complete_line count
 first_line (Trapped rows) = line (codes "trapped" ∷ decimal (length rows) ∷ [])
-first_line (Stalled ran total rows) = line (codes "stalled" ∷ decimal ran ∷ decimal total ∷ [])
+first_line (Stalled ran total rows) = stalled_line ran total
 
 -- the lines after it: the tiles of all collections in the data's order, or the tasks that trapped, or those that wait
 abbrev pub row_lines : Plan → Outcome → List ℕ

@@ -12,7 +12,7 @@ abbrev pub Precedes : Option (List ℕ) → Option (List ℕ) → Type 0
 Precedes front whole = (rest : List ℕ) × (appended front rest ≡ whole)
 
 -- a call put a text: the sink's bytes, with those after them that are kept back, grew by the text;
--- where the call failed, the sink has some first bytes of all that, and no others
+-- where the call failed, the sink has a prefix of all that, and no other bytes
 pub record Puts {S T E : Type 0} (bytes : S → Option (List ℕ)) (faults : S → ℕ) (result : Result T E)
     (sink : S) (kept : List ℕ) (sink_after : S) (kept_after : List ℕ) (text : List ℕ) : Type 0 where
   pub ok : OnOk result (appended (bytes sink_after) kept_after ≡ appended (appended (bytes sink) kept) text)
@@ -21,6 +21,15 @@ pub record Puts {S T E : Type 0} (bytes : S → Option (List ℕ)) (faults : S �
   pub grows : faults sink ≤ faults sink_after
   pub failed : OnErr result (Rose (faults sink) (faults sink_after))
 
--- the second is the first and then some first bytes of a text
+-- the second is the first and then a prefix of a text
 abbrev pub HasPrefix : Option (List ℕ) → Option (List ℕ) → List ℕ → Type 0
 HasPrefix before after text = (n : ℕ) × (n ≤ length text) × (after ≡ appended before (take n text))
+
+-- a call printed a text: the sink's bytes grew by the whole of it, or by a prefix where the call failed, and that only
+-- where a write failed
+pub record PrintsText {S T E : Type 0} (bytes : S → Option (List ℕ)) (faults : S → ℕ) (result : Result T E)
+    (sink sink_after : S) (text : List ℕ) : Type 0 where
+  pub ok : OnOk result (bytes sink_after ≡ appended (bytes sink) text)
+  pub prefix : OnErr result (HasPrefix (bytes sink) (bytes sink_after) text)
+  pub grows : faults sink ≤ faults sink_after
+  pub failed : OnErr result (Rose (faults sink) (faults sink_after))

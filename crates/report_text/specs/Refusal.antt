@@ -19,13 +19,25 @@ inconsistent_line fault class flow =
     (codes "inconsistent" ∷ match_code fault.code ∷ class
     ∷ (map signed_decimal fault.numbers ++ flow_text fault.flow flow ∷ []))
 
+-- the line for arguments that form no command
+abbrev pub usage_line : List ℕ
+usage_line = line (codes "usage" ∷ [])
+
+-- the line that names a file which could not be read
+abbrev pub unread_line : List ℕ → List ℕ
+unread_line name = line (codes "unread" ∷ name ∷ [])
+
+-- the line for a preload that is too large
+abbrev pub preload_line : List ℕ
+preload_line = line (codes "preload" ∷ [])
+
 -- what is printed of a refusal
 abbrev pub refusal_text : Line → List ℕ
-refusal_text Usage = line (codes "usage" ∷ [])
+refusal_text Usage = usage_line
 refusal_text (Jdf fault) =
     line (codes "refused" ∷ decimal fault.spot.line ∷ decimal fault.spot.column ∷ jdf_code fault.code ∷ [])
 refusal_text (Data fault) = line (codes "data" ∷ decimal fault.row ∷ data_code fault.code ∷ [])
 refusal_text (Match fault class flow) = inconsistent_line fault.now class.now flow.now
-refusal_text (Unread name) = line (codes "unread" ∷ name.now ∷ [])
-refusal_text Preload = line (codes "preload" ∷ [])
+refusal_text (Unread name) = unread_line name.now
+refusal_text Preload = preload_line
 refusal_text (Trace fault) = line (codes "trace" ∷ decimal fault.row ∷ trace_code fault.code ∷ [])

@@ -1,11 +1,8 @@
 //! The text of an answer.
 
-ghost use Rattle.std.specs.Prelude.{◌≡◌, ◌≤◌, OnOk, OnErr};
-ghost use Rattle.ptg_io.specs.Faults.{Rose};
-ghost use Rattle.ptg_io.specs.Sink.{appended};
-ghost use Rattle.report_text.specs.Puts.{Puts, HasPrefix};
+ghost use Rattle.report_text.specs.Puts.{PrintsText, Puts};
 ghost use Rattle.report_text.specs.Rows.{HasRowsOf};
-ghost use Rattle.report_text.specs.Printed.{consistent_text, first_line, outcome_text, row_lines};
+ghost use Rattle.report_text.specs.Printed.{complete_line, consistent_text, first_line, outcome_text, row_lines, stalled_line};
 
 use crate::fields::{Field, put_line};
 use crate::pieces::{Pieces, flush};
@@ -15,28 +12,20 @@ use flow_meaning::Outcome;
 use plan_core::Plan;
 use ptg_io::{Failed, Sink};
 
-/// Prints the answer of a job. On `Err` some first bytes of it went out.
+/// Prints the answer of a job. On `Err` a prefix of it was written.
 pub fn report<O: Sink>(plan: &Plan, outcome: &Outcome, sink: &mut O) -> Result<(), Failed>
     requires { HasRowsOf plan.now outcome.now }
-    ensures ok { OnOk result (O.bytes sink.new ≡ appended (O.bytes sink.old) (outcome_text plan.now outcome.now)) }
-    ensures prefix { OnErr result
-        (HasPrefix (O.bytes sink.old) (O.bytes sink.new) (outcome_text plan.now outcome.now)) }
-    ensures grows { O.faults sink.old ≤ O.faults sink.new }
-    ensures failed { OnErr result (Rose (O.faults sink.old) (O.faults sink.new)) }
+    ensures { PrintsText O.bytes O.faults result sink.old sink.new (outcome_text plan.now outcome.now) }
 {
     let mut out = Pieces::new();
     put_outcome(sink, &mut out, plan, outcome)?;
     flush(sink, &mut out)
 }
 
-/// Prints that a job is consistent, with its numbers of tasks, of edges and of write-backs. On `Err` some first bytes
-/// of it went out.
+/// Prints that a job is consistent, with its numbers of tasks, of edges and of write-backs. On `Err` a prefix of it was
+/// written.
 pub fn consistent<O: Sink>(tasks: u64, edges: u64, writes: u64, sink: &mut O) -> Result<(), Failed>
-    ensures ok { OnOk result (O.bytes sink.new ≡ appended (O.bytes sink.old) (consistent_text tasks edges writes)) }
-    ensures prefix { OnErr result
-        (HasPrefix (O.bytes sink.old) (O.bytes sink.new) (consistent_text tasks edges writes)) }
-    ensures grows { O.faults sink.old ≤ O.faults sink.new }
-    ensures failed { OnErr result (Rose (O.faults sink.old) (O.faults sink.new)) }
+    ensures { PrintsText O.bytes O.faults result sink.old sink.new (consistent_text tasks edges writes) }
 {
     let mut out = Pieces::new();
     let counts = [
@@ -67,15 +56,32 @@ fn put_first_line<O: Sink>(sink: &mut O, out: &mut Pieces, outcome: &Outcome) ->
     ensures { Puts O.bytes O.faults result sink.old out.old sink.new out.new (first_line outcome.now) }
 {
     match outcome {
-        Outcome::Complete(count, _) => put_line(sink, out, b"complete", &[Field::Number(*count)]),
+        Outcome::Complete(count, _) => put_complete(sink, out, *count),
         Outcome::Trapped(rows) => {
             put_line(sink, out, b"trapped", &[Field::Number(rows.len() as u64)])
         }
-        Outcome::Stalled(ran, total, _) => {
-            let counts = [Field::Number(*ran), Field::Number(*total)];
-            put_line(sink, out, b"stalled", &counts)
-        }
+        Outcome::Stalled(ran, total, _) => put_stalled(sink, out, *ran, *total),
     }
+}
+
+/// Puts the line of a complete job.
+pub fn put_complete<O: Sink>(sink: &mut O, out: &mut Pieces, tasks: u64) -> Result<(), Failed>
+    ensures { Puts O.bytes O.faults result sink.old out.old sink.new out.new (complete_line tasks) }
+{
+    put_line(sink, out, b"complete", &[Field::Number(tasks)])
+}
+
+/// Puts the line of a job that stalled.
+pub fn put_stalled<O: Sink>(
+    sink: &mut O,
+    out: &mut Pieces,
+    ran: u64,
+    tasks: u64,
+) -> Result<(), Failed>
+    ensures { Puts O.bytes O.faults result sink.old out.old sink.new out.new (stalled_line ran tasks) }
+{
+    let counts = [Field::Number(ran), Field::Number(tasks)];
+    put_line(sink, out, b"stalled", &counts)
 }
 
 // Puts the lines of the tiles, or of the tasks that trapped or wait.

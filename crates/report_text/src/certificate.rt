@@ -1,11 +1,9 @@
 //! The lines of a certificate: a heaviest chain with the levels of all tasks, or a cycle.
 
-ghost use Rattle.std.specs.Prelude.{◌≡◌, ◌≤◌, OnOk, OnErr};
-ghost use Rattle.ptg_io.specs.Faults.{Rose};
-ghost use Rattle.ptg_io.specs.Sink.{appended};
-ghost use Rattle.report_text.specs.Puts.{Puts, HasPrefix};
+ghost use Rattle.report_text.specs.Puts.{PrintsText, Puts};
 ghost use Rattle.report_text.specs.Found.{HasClassesOfChain, HasClassesOfCycle, chain_head, chain_text, cycle_head, cycle_text};
 
+use crate::answer::{put_complete, put_stalled};
 use crate::fields::{Field, put_line};
 use crate::links::{put_levels, put_links};
 use crate::pieces::{Pieces, flush};
@@ -37,30 +35,24 @@ pub struct FoundCycle {
     pub cycle: Seq<TaskId>,
 }
 
-/// Prints a heaviest chain and the levels of all tasks. On `Err` some first bytes of it went out.
+/// Prints a heaviest chain and the levels of all tasks. On `Err` a prefix of it was written.
 pub fn heaviest_chain<O: Sink>(
     plan: &Plan,
     found: &HeaviestChain,
     sink: &mut O,
 ) -> Result<(), Failed>
     requires { HasClassesOfChain plan.now found.now }
-    ensures ok { OnOk result (O.bytes sink.new ≡ appended (O.bytes sink.old) (chain_text plan.now found.now)) }
-    ensures prefix { OnErr result (HasPrefix (O.bytes sink.old) (O.bytes sink.new) (chain_text plan.now found.now)) }
-    ensures grows { O.faults sink.old ≤ O.faults sink.new }
-    ensures failed { OnErr result (Rose (O.faults sink.old) (O.faults sink.new)) }
+    ensures { PrintsText O.bytes O.faults result sink.old sink.new (chain_text plan.now found.now) }
 {
     let mut out = Pieces::new();
     put_chain(sink, &mut out, plan, found)?;
     flush(sink, &mut out)
 }
 
-/// Prints a cycle. On `Err` some first bytes of it went out.
+/// Prints a cycle. On `Err` a prefix of it was written.
 pub fn found_cycle<O: Sink>(plan: &Plan, found: &FoundCycle, sink: &mut O) -> Result<(), Failed>
     requires { HasClassesOfCycle plan.now found.now }
-    ensures ok { OnOk result (O.bytes sink.new ≡ appended (O.bytes sink.old) (cycle_text plan.now found.now)) }
-    ensures prefix { OnErr result (HasPrefix (O.bytes sink.old) (O.bytes sink.new) (cycle_text plan.now found.now)) }
-    ensures grows { O.faults sink.old ≤ O.faults sink.new }
-    ensures failed { OnErr result (Rose (O.faults sink.old) (O.faults sink.new)) }
+    ensures { PrintsText O.bytes O.faults result sink.old sink.new (cycle_text plan.now found.now) }
 {
     let mut out = Pieces::new();
     put_cycle(sink, &mut out, plan, found)?;
@@ -92,7 +84,7 @@ fn put_chain_head<O: Sink>(
 ) -> Result<(), Failed>
     ensures { Puts O.bytes O.faults result sink.old out.old sink.new out.new (chain_head found.now) }
 {
-    put_line(sink, out, b"complete", &[Field::Number(found.tasks)])?;
+    put_complete(sink, out, found.tasks)?;
     let length = Field::Number(found.chain.len() as u64);
     put_line(sink, out, b"chain", &[length, Field::Number(found.weight)])
 }
@@ -116,8 +108,7 @@ fn put_cycle<O: Sink>(
 fn put_cycle_head<O: Sink>(sink: &mut O, out: &mut Pieces, found: &FoundCycle) -> Result<(), Failed>
     ensures { Puts O.bytes O.faults result sink.old out.old sink.new out.new (cycle_head found.now) }
 {
-    let counts = [Field::Number(found.ran), Field::Number(found.tasks)];
-    put_line(sink, out, b"stalled", &counts)?;
+    put_stalled(sink, out, found.ran, found.tasks)?;
     put_line(
         sink,
         out,

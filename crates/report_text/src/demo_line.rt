@@ -1,9 +1,6 @@
 //! The line of the summary of a made job.
 
-ghost use Rattle.std.specs.Prelude.{◌≡◌, ◌≤◌, OnOk, OnErr};
-ghost use Rattle.ptg_io.specs.Faults.{Rose};
-ghost use Rattle.ptg_io.specs.Sink.{appended};
-ghost use Rattle.report_text.specs.Puts.{HasPrefix, Puts};
+ghost use Rattle.report_text.specs.Puts.{PrintsText, Puts};
 ghost use Rattle.report_text.specs.Found.{summary_text};
 
 use crate::fields::{Field, put_line};
@@ -21,12 +18,9 @@ pub struct Summary {
     pub sum: i128,
 }
 
-/// Prints the summary of a made job. On `Err` some first bytes of it went out.
+/// Prints the summary of a made job. On `Err` a prefix of it was written.
 pub fn summary_line<O: Sink>(found: &Summary, sink: &mut O) -> Result<(), Failed>
-    ensures ok { OnOk result (O.bytes sink.new ≡ appended (O.bytes sink.old) (summary_text found.now)) }
-    ensures prefix { OnErr result (HasPrefix (O.bytes sink.old) (O.bytes sink.new) (summary_text found.now)) }
-    ensures grows { O.faults sink.old ≤ O.faults sink.new }
-    ensures failed { OnErr result (Rose (O.faults sink.old) (O.faults sink.new)) }
+    ensures { PrintsText O.bytes O.faults result sink.old sink.new (summary_text found.now) }
 {
     let mut out = Pieces::new();
     put_summary(sink, &mut out, found)?;

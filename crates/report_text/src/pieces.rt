@@ -33,6 +33,7 @@ fn any_buffer() -> [u8; PIECE_SIZE] {
 }
 
 impl Pieces {
+    /// No bytes.
     pub fn new() -> Pieces
         ensures { result ≡ [] }
     {
@@ -42,24 +43,28 @@ impl Pieces {
         }
     }
 
+    // Whether the piece has no room for one more byte.
     fn is_full(&self) -> bool
         ensures { IsFalse result → length self.now < piece_size }
     {
         self.count == PIECE_SIZE
     }
 
+    // The bytes that are kept back.
     fn as_slice(&self) -> &[u8]
         ensures { result.now ≡ self.now }
     {
         &self.buffer[..self.count]
     }
 
+    // Forgets the bytes.
     fn clear(&mut self)
         ensures { self.new ≡ [] }
     {
         self.count = 0;
     }
 
+    // Adds a byte.
     fn push(&mut self, byte: u8)
         requires { length self.old < piece_size }
         ensures { self.new ≡ self.old ++ byte ∷ [] }

@@ -1,9 +1,6 @@
 //! The answer of a job that was run by ranks, after the line of the ranks.
 
-ghost use Rattle.std.specs.Prelude.{◌≡◌, ◌≤◌, OnOk, OnErr};
-ghost use Rattle.ptg_io.specs.Faults.{Rose};
-ghost use Rattle.ptg_io.specs.Sink.{appended};
-ghost use Rattle.report_text.specs.Puts.{Puts, HasPrefix};
+ghost use Rattle.report_text.specs.Puts.{PrintsText, Puts};
 ghost use Rattle.report_text.specs.Rows.{HasRowsOf};
 ghost use Rattle.report_text.specs.Ranked.{ranked_head, ranked_text};
 
@@ -25,14 +22,11 @@ pub struct RankedAnswer {
     pub outcome: Outcome,
 }
 
-/// Prints the line of the ranks, which goes out as a piece of its own, and the answer of the job. On `Err` some first
-/// bytes of both went out.
+/// Prints the line of the ranks, which goes out as a piece of its own, and the answer of the job. On `Err` a prefix of
+/// both was written.
 pub fn ranked_answer<O: Sink>(plan: &Plan, found: &RankedAnswer, sink: &mut O) -> Result<(), Failed>
     requires { HasRowsOf plan.now found.now.outcome }
-    ensures ok { OnOk result (O.bytes sink.new ≡ appended (O.bytes sink.old) (ranked_text plan.now found.now)) }
-    ensures prefix { OnErr result (HasPrefix (O.bytes sink.old) (O.bytes sink.new) (ranked_text plan.now found.now)) }
-    ensures grows { O.faults sink.old ≤ O.faults sink.new }
-    ensures failed { OnErr result (Rose (O.faults sink.old) (O.faults sink.new)) }
+    ensures { PrintsText O.bytes O.faults result sink.old sink.new (ranked_text plan.now found.now) }
 {
     let mut out = Pieces::new();
     put_ranked(sink, &mut out, plan, found)?;

@@ -1,9 +1,7 @@
 //! The line of a refusal.
 
-ghost use Rattle.std.specs.Prelude.{◌≡◌, ◌≤◌, OnOk, OnErr};
-ghost use Rattle.ptg_io.specs.Faults.{Rose};
-ghost use Rattle.ptg_io.specs.Sink.{appended};
-ghost use Rattle.report_text.specs.Puts.{Puts, HasPrefix};
+ghost use Rattle.std.specs.Prelude.{◌≡◌};
+ghost use Rattle.report_text.specs.Puts.{PrintsText, Puts};
 ghost use Rattle.report_text.specs.Refusal.{flow_text, inconsistent_line, refusal_text};
 
 use crate::codes::{data_code, jdf_code, match_code, trace_code};
@@ -35,12 +33,9 @@ pub enum Line<'a> {
     Trace(TraceFault),
 }
 
-/// Prints a refusal. On `Err` some first bytes of it went out.
+/// Prints a refusal. On `Err` a prefix of it was written.
 pub fn refusal<O: Sink>(line: &Line, sink: &mut O) -> Result<(), Failed>
-    ensures ok { OnOk result (O.bytes sink.new ≡ appended (O.bytes sink.old) (refusal_text line.now)) }
-    ensures prefix { OnErr result (HasPrefix (O.bytes sink.old) (O.bytes sink.new) (refusal_text line.now)) }
-    ensures grows { O.faults sink.old ≤ O.faults sink.new }
-    ensures failed { OnErr result (Rose (O.faults sink.old) (O.faults sink.new)) }
+    ensures { PrintsText O.bytes O.faults result sink.old sink.new (refusal_text line.now) }
 {
     let mut out = Pieces::new();
     put_refusal(sink, &mut out, line)?;

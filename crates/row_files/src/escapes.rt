@@ -53,6 +53,7 @@ fn spell_one<'a>(text: &'a [u8], bytes: &mut Vec<u8>) -> Result<&'a [u8], Why>
     }
 }
 
+// The byte that an escape of this letter stands for.
 fn escaped(letter: u8) -> Result<u8, Why> {
     match letter {
         b'n' => Ok(b'\n'),
@@ -64,6 +65,7 @@ fn escaped(letter: u8) -> Result<u8, Why> {
     }
 }
 
+// The value of a hexadecimal digit.
 fn hex(digit: u8) -> Result<u8, Why>
     ensures { IfOk result (λ value. value < 16) }
 {
@@ -100,6 +102,7 @@ fn split_at_first<'a>(text: &'a [u8], mark: &[u8]) -> Result<(&'a [u8], &'a [u8]
     Err(Why("a repetition that is not \\(TEXT * NUMBER)"))
 }
 
+// The bytes of a text that repeats nothing.
 fn spelled_plainly(alloc: Global, text: &[u8]) -> Result<Vec<u8>, Why> {
     let mut bytes = Vec::new(alloc);
     let mut rest = text;
@@ -109,6 +112,7 @@ fn spelled_plainly(alloc: Global, text: &[u8]) -> Result<Vec<u8>, Why> {
     Ok(bytes)
 }
 
+// The number of these digits.
 fn number(digits: &[u8]) -> Result<u32, Why> {
     let text = str::from_utf8(digits).map_err(|_| Why("a number that is none"))?;
     text.parse::<u32>()

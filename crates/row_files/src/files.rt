@@ -70,6 +70,7 @@ pub fn spelled(alloc: Global, piece: &str) -> Result<Vec<u8>, Why> {
     Ok(bytes)
 }
 
+// The text with the one occurrence of a piece replaced.
 fn changed(alloc: Global, text: &[u8], old: &[u8], new: &[u8]) -> Result<Vec<u8>, Why> {
     let (before, after) = around_only(text, old)?;
     let mut bytes = before.to_vec(alloc)?;

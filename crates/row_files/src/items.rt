@@ -25,6 +25,7 @@ struct Reading<'a> {
 }
 
 impl<'a> Reading<'a> {
+    // Takes a line: of the text that is open, or one that begins an item.
     fn add(&mut self, alloc: Global, number: usize, line: &'a str) -> Result<(), Why> {
         if line == DASHES {
             return self.open_or_close(alloc);
@@ -142,6 +143,7 @@ impl Item<'_> {
     }
 }
 
+// Adds a line of a text, with its escapes read.
 fn add_text_line(alloc: Global, line: &str, bytes: &mut Vec<u8>) -> Result<(), Why> {
     if spell(alloc, line.as_bytes(), bytes)? {
         bytes.push(b'\n')?;

@@ -67,6 +67,7 @@ impl Prefixes {
     }
 }
 
+// The length that these digits spell.
 fn length_of(digits: &str) -> Result<usize, Why> {
     digits
         .parse::<usize>()

@@ -80,6 +80,7 @@ fn try_items<'a, R: Print + Threads + Wait + Sync, C: Call>(
 }
 
 impl<'a> Reading<'a> {
+    // A reading that has taken no item.
     fn new(alloc: Global) -> Reading<'a> {
         Reading {
             all: WorkedRow::new(alloc),
@@ -106,6 +107,7 @@ impl<'a> Reading<'a> {
         Ok(())
     }
 
+    // Takes an item into the row that it belongs to.
     fn add(&mut self, alloc: Global, item: &Item<'a>) -> Result<(), Why> {
         match &mut self.row {
             _ if item.keyword == "row" => {
@@ -119,6 +121,7 @@ impl<'a> Reading<'a> {
         }
     }
 
+    // Takes an item before the first row: it belongs to all rows.
     fn add_for_all(&mut self, alloc: Global, item: &Item<'a>) -> Result<(), Why> {
         match item.keyword {
             "file" | "words" | "status" | "shows" => self.all.add(alloc, item),

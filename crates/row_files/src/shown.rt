@@ -25,6 +25,7 @@ pub fn difference(alloc: Global, tried: &Tried) -> Result<String, AllocError> {
     format!(in alloc; "wanted {wanted}, came {came}")
 }
 
+// A text and a status as they are shown, from the byte `from` on.
 fn shown(alloc: Global, printed: &Printed, from: usize) -> Result<String, AllocError> {
     let status = printed.status;
     let length = printed.text.len();

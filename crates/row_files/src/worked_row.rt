@@ -114,6 +114,7 @@ impl<'a> WorkedRow<'a> {
         }
     }
 
+    // Takes an item of one line.
     fn add_line(&mut self, alloc: Global, item: &Item<'a>) -> Result<(), Why> {
         match item.keyword {
             "shows" => {
@@ -130,6 +131,7 @@ impl<'a> WorkedRow<'a> {
         }
     }
 
+    // Takes the numbers of the reads or the writes that fail.
     fn add_failing(&mut self, rest: &str) -> Result<(), Why> {
         match first_word(rest) {
             ("reads", list) => add_numbers(&mut self.failing_reads, list),
@@ -191,6 +193,7 @@ fn set<T: Drop>(place: &mut Option<T>, value: T) -> Result<(), Why> {
     Ok(())
 }
 
+// The words of a list, with their escapes read.
 fn words(alloc: Global, list: &str) -> Result<Vec<Text>, Why> {
     let mut words = Vec::new(alloc);
     for word in list.split_whitespace() {
@@ -200,6 +203,7 @@ fn words(alloc: Global, list: &str) -> Result<Vec<Text>, Why> {
     Ok(words)
 }
 
+// Adds the numbers of a list.
 fn add_numbers(numbers: &mut Vec<u64>, list: &str) -> Result<(), Why> {
     for digits in list.split_whitespace() {
         let value = digits
@@ -210,12 +214,14 @@ fn add_numbers(numbers: &mut Vec<u64>, list: &str) -> Result<(), Why> {
     Ok(())
 }
 
+// The number of these digits.
 fn number(digits: &str) -> Result<usize, Why> {
     digits
         .parse::<usize>()
         .map_err(|_| Why("a number that is none"))
 }
 
+// The status of these digits.
 fn status(digits: &str) -> Result<u8, Why> {
     digits
         .parse::<u8>()

@@ -13,7 +13,7 @@ use Rattle.shard_meaning.proofs.Calming.{calm_quiescent}
 use Rattle.shard_meaning.proofs.Targets.{target_fires}
 use Rattle.work_board.specs.Sends.{IsNext}
 use Rattle.work_board.specs.declared.record.PassRecord.{PassRecord}
-use Rattle.table_rule.specs.declared.job.Job.{Job}
+use Rattle.table_rule.specs.declared.table_job.TableJob.{TableJob}
 use Rattle.shard_meaning.specs.Placing.{shard_of}
 use Rattle.table_rule.specs.Plays.{WasSeen, fires}
 use Rattle.table_rule.specs.Records.{joined}
@@ -21,7 +21,7 @@ use Rattle.table_rule.specs.Rule.{Rule, Table}
 use Rattle.table_rule.proofs.SameMembers.{joined_parts}
 use Rattle.table_rule.proofs.Seeing.{seen_next, seen_share}
 
-module _ (j : Job) (k : ℕ) (v : PassRecord) (y : Content) (w : WasSeen j k v y) where
+module _ (j : TableJob) (k : ℕ) (v : PassRecord) (y : Content) (w : WasSeen j k v y) where
   -- an edge fires exactly where it is the last one into its target that is sent
   pub seen_fires : (e : Edge) (tile : Option (List ℤ)) → IsNext j.matched j.given (item.Edge e) tile v → shard_of j.matched j.shards e.to ≡ k → IsTrue (fires j.matched y e) ↔ (arrived j.matched (joined w.table.views).state e.to + 1 ≡ goal j.matched e.to)
   seen_fires e tile next at =
@@ -31,7 +31,7 @@ module _ (j : Job) (k : ℕ) (v : PassRecord) (y : Content) (w : WasSeen j k v y
       ((λ q. f.0 (eqb-true (before.arrived + 1) before.goal q)), λ q. eq-eqb (before.arrived + 1) before.goal (f.1 q))
 
 -- where a pass has seen quiet, the moment of all passes is calm and no event is possible
-pub quiet_calm : (j : Job) (s : Table) (id : ℕ) (v : PassRecord) → Rule j s → get_elem? s.views id ≡ some v → v.quiet ≡ true → IsCalm j.matched (joined s.views) × IsQuiescent j.matched j.given (joined s.views).state
+pub quiet_calm : (j : TableJob) (s : Table) (id : ℕ) (v : PassRecord) → Rule j s → get_elem? s.views id ≡ some v → v.quiet ≡ true → IsCalm j.matched (joined s.views) × IsQuiescent j.matched j.given (joined s.views).state
 quiet_calm j s id v rule me quiet =
     let r = joined_parts j s rule in
     let calm = r.quieted.calm id v me quiet in

@@ -11,7 +11,7 @@ ghost use Rattle.flow_meaning.specs.Machine.{MaySend, arrived, IsQuiescent};
 ghost use Rattle.shard_meaning.specs.Moment.{run_count};
 ghost use Rattle.work_board.specs.Sends.{IsNext};
 ghost use Rattle.work_board.specs.declared.record.PassRecord.{PassRecord};
-ghost use Rattle.table_rule.specs.declared.job.Job.{Job};
+ghost use Rattle.table_rule.specs.declared.table_job.TableJob.{TableJob};
 ghost use Rattle.shard_meaning.specs.Placing.{shard_of};
 ghost use Rattle.table_rule.specs.Plays.{WasSeen, fires};
 ghost use Rattle.table_rule.specs.Records.{joined};
@@ -26,17 +26,17 @@ ghost use Rattle.table_rule.specs.Words.{live_word, stamp_word};
 /// that a task that it runs is one that runs; that what is next to send by its own record may be sent; and that an edge
 /// fires exactly where it is the last one into its target that is sent.
 pub fn a_taken_turn_tells_what_its_shard_had()
-    ensures shard { (j : Job) (k : ℕ) (v : PassRecord) (y : Content) (w : WasSeen j k v y) → k < j.shards }
-    ensures share { (j : Job) (k : ℕ) (v : PassRecord) (y : Content) (w : WasSeen j k v y)
+    ensures shard { (j : TableJob) (k : ℕ) (v : PassRecord) (y : Content) (w : WasSeen j k v y) → k < j.shards }
+    ensures share { (j : TableJob) (k : ℕ) (v : PassRecord) (y : Content) (w : WasSeen j k v y)
         → Share j (joined w.table.views) k y }
-    ensures reserve { (j : Job) (k : ℕ) (v : PassRecord) (y : Content) (w : WasSeen j k v y) → j.preloaded ≡ true
+    ensures reserve { (j : TableJob) (k : ℕ) (v : PassRecord) (y : Content) (w : WasSeen j k v y) → j.preloaded ≡ true
         → Reserve j (joined w.table.views) k y }
-    ensures runs { (j : Job) (k : ℕ) (v : PassRecord) (y : Content) (w : WasSeen j k v y) (t : Task)
+    ensures runs { (j : TableJob) (k : ℕ) (v : PassRecord) (y : Content) (w : WasSeen j k v y) (t : Task)
         → v.running ≡ t ∷ [] → 0 < run_count (joined w.table.views) t }
-    ensures next { (j : Job) (k : ℕ) (v : PassRecord) (y : Content) (w : WasSeen j k v y) (i : Item)
+    ensures next { (j : TableJob) (k : ℕ) (v : PassRecord) (y : Content) (w : WasSeen j k v y) (i : Item)
         (tile : Option (List ℤ))
         → IsNext j.matched j.given i tile v → MaySend j.matched j.given (joined w.table.views).state i }
-    ensures fires { (j : Job) (k : ℕ) (v : PassRecord) (y : Content) (w : WasSeen j k v y) (e : Edge)
+    ensures fires { (j : TableJob) (k : ℕ) (v : PassRecord) (y : Content) (w : WasSeen j k v y) (e : Edge)
         (tile : Option (List ℤ))
         → IsNext j.matched j.given (item.Edge e) tile v → shard_of j.matched j.shards e.to ≡ k
         → IsTrue (fires j.matched y e)
@@ -46,15 +46,15 @@ pub fn a_taken_turn_tells_what_its_shard_had()
 /// A law: where a pass has seen quiet, then and from then on, no task of all passes is ready or runs, and no event is
 /// possible.
 pub fn quiet_is_seen_for_good()
-    ensures { (j : Job) (s : Table) (id : ℕ) (v : PassRecord) → Rule j s → get_elem? s.views id ≡ some v
+    ensures { (j : TableJob) (s : Table) (id : ℕ) (v : PassRecord) → Rule j s → get_elem? s.views id ≡ some v
         → v.quiet ≡ true → IsCalm j.matched (joined s.views) × IsQuiescent j.matched j.given (joined s.views).state }
 {}
 
 /// A law: the live word is at most the number of tasks and the number of shards together, and the stamp word at most
 /// the number of tasks.
 pub fn the_words_stay_small()
-    ensures live { (j : Job) (s : Table) → Rule j s
+    ensures live { (j : TableJob) (s : Table) → Rule j s
         → slice_index s.words (live_word j.shards) ≤ length (all_tasks j.matched) + j.shards }
-    ensures stamp { (j : Job) (s : Table) → Rule j s
+    ensures stamp { (j : TableJob) (s : Table) → Rule j s
         → slice_index s.words (stamp_word j.shards) ≤ length (all_tasks j.matched) }
 {}

@@ -20,7 +20,7 @@ use Rattle.dep_iter.specs.Items.{item_flow, items}
 use Rattle.dep_iter.specs.Consistent.{IsConsistent}
 use Rattle.flow_meaning.specs.Ending.{has_outputs, output_tile}
 use Rattle.flow_meaning.specs.Backward.{ended}
-use Rattle.flow_meaning.specs.Machine.{MachineState, Sent, sender}
+use Rattle.flow_meaning.specs.Machine.{MachineState, SentItem, sender}
 use Rattle.flow_meaning.proofs.Destinations.{writing_flow}
 use Rattle.flow_meaning.proofs.Sizes.{item_sized}
 use Rattle.run_answer.specs.Written.{IsWritable}
@@ -40,7 +40,7 @@ tile_of_coll P G fit coll datatype tile type long =
 
 module _ (P : Plan) (G : Data) (con : IsConsistent P) (S : MachineState) (sound : IsSoundState P G S) (known : DataFit P.colls P.elems G) (well : IsWellMade G) where
   -- a write-back that was sent has a tile, and may be written
-  pub write_sent : (x : Sent) → IsIn x S.sends → (w : WriteBack) → x.item ≡ item.Write w → (tile : List ℤ) × (x.tile ≡ Some tile) × IsWritable G (w, tile)
+  pub write_sent : (x : SentItem) → IsIn x S.sends → (w : WriteBack) → x.item ≡ item.Write w → (tile : List ℤ) × (x.tile ≡ Some tile) × IsWritable G (w, tile)
   write_sent x i w q =
       let out = sound.sent_are_outputs x i in
       let from : sender x.item ≡ w.from = ap sender q in

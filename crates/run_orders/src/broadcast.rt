@@ -6,7 +6,7 @@ ghost use Rattle.ptg_base.specs.Limits.{most_ranks};
 
 use crate::jobs::{BROADCAST, numbers};
 use crate::steps::{Step, first_other};
-use job_stages::{JobVerdict, judge_texts};
+use job_stages::job_of_texts;
 use ptg_base::OutOfMemory;
 use rank_world::World;
 use std::alloc::Global;
@@ -168,12 +168,11 @@ fn ending(world: World<'_>) -> Result<End, OutOfMemory> {
     }
 }
 
-/// The broadcast in so many ranks, in one order of steps.
+/// The broadcast in this many ranks, in one order of steps.
 pub fn end_of(alloc: Global, ranks: u32, steps: &[(Step, bool)]) -> Result<End, OutOfMemory>
     requires { (0 < ranks) × (ranks ≤ most_ranks) }
 {
-    let JobVerdict::Consistent(job, given) = judge_texts(alloc, BROADCAST.jdf, BROADCAST.data)?
-    else {
+    let Some((job, given)) = job_of_texts(alloc, BROADCAST.jdf, BROADCAST.data)? else {
         return Ok(End::NoJob);
     };
     let mut world = World::new(alloc, &job, given, ranks)?;

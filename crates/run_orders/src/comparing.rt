@@ -4,6 +4,7 @@ use coll_data::Coll;
 use flow_meaning::{Outcome, TrapRow, WaitRow};
 use ptg_base::Tile;
 
+// Whether these are the same tiles.
 fn same_tiles(a: &[Tile], b: &[Tile]) -> bool {
     if a.len() != b.len() {
         return false;
@@ -16,6 +17,7 @@ fn same_tiles(a: &[Tile], b: &[Tile]) -> bool {
     true
 }
 
+// Whether these collections have the same tiles.
 fn same_colls(a: &[Coll], b: &[Coll]) -> bool {
     if a.len() != b.len() {
         return false;
@@ -28,6 +30,7 @@ fn same_colls(a: &[Coll], b: &[Coll]) -> bool {
     true
 }
 
+// Whether these are the same rows of traps.
 fn same_traps(a: &[TrapRow], b: &[TrapRow]) -> bool {
     if a.len() != b.len() {
         return false;
@@ -40,6 +43,7 @@ fn same_traps(a: &[TrapRow], b: &[TrapRow]) -> bool {
     true
 }
 
+// Whether these are the same rows of waiting tasks.
 fn same_waits(a: &[WaitRow], b: &[WaitRow]) -> bool {
     if a.len() != b.len() {
         return false;

@@ -7,29 +7,30 @@ use crate::comparing::same;
 use crate::jobs::Job;
 use crate::stepwise::answer_of_run_one;
 use flow_meaning::Outcome;
-use job_stages::{JobVerdict, judge_texts};
+use job_stages::job_of_texts;
 use ptg_base::OutOfMemory;
 use rank_world::ranks_of;
 use std::alloc::Global;
 use std::fmt;
 
+// The seeds that are tried.
 const SEEDS: &[u64] = &[0, 1, 7, 8, 4294967296, 18446744073709551615];
 
 /// How an answer ends, without its rows.
 #[derive(Drop)]
 pub enum End {
-    /// So many tasks ran, and that is all.
+    /// This many tasks ran, and that is all.
     Complete(u64),
-    /// So many tasks trapped.
+    /// This many tasks trapped.
     Trapped(usize),
-    /// So many tasks ran of so many.
+    /// This many tasks ran, of this many in all.
     Stalled(u64, u64),
 }
 
 /// What several seeds have in common.
 #[derive(Drop)]
 pub enum Finding {
-    /// Each sent so many messages, and gave the answer of one thread.
+    /// Each sent this many messages, and gave the answer of one thread.
     Agreed(u64, End),
     /// This seed sent another number of messages than the first.
     OtherMessages(u64),
@@ -54,6 +55,7 @@ impl fmt::Display for Finding {
     }
 }
 
+// How an answer ends.
 fn ending(outcome: &Outcome) -> End {
     match outcome {
         Outcome::Complete(count, _given) => End::Complete(*count),
@@ -62,7 +64,7 @@ fn ending(outcome: &Outcome) -> End {
     }
 }
 
-// How many messages a job sends in so many ranks, and its answer, in the order of a seed.
+// How many messages a job sends in this many ranks, and its answer, in the order of a seed.
 fn driven(
     alloc: Global,
     job: &Job,
@@ -71,15 +73,13 @@ fn driven(
 ) -> Result<Option<(u64, Outcome)>, OutOfMemory>
     requires { (0 < ranks) × (ranks ≤ most_ranks) }
 {
-    match judge_texts(alloc, job.jdf, job.data)? {
-        JobVerdict::Consistent(matched, given) => {
-            Ok(Some(ranks_of(alloc, &matched, given, ranks, seed)?))
-        }
-        _ => Ok(None),
+    match job_of_texts(alloc, job.jdf, job.data)? {
+        Some((matched, given)) => Ok(Some(ranks_of(alloc, &matched, given, ranks, seed)?)),
+        None => Ok(None),
     }
 }
 
-/// What the seeds have in common for a job in so many ranks.
+/// What the seeds have in common for a job in this many ranks.
 pub fn agreed(alloc: Global, job: &Job, ranks: u32) -> Result<Finding, OutOfMemory>
     requires { (0 < ranks) × (ranks ≤ most_ranks) }
 {

@@ -39,7 +39,7 @@ fn print_order<R: Print>(
     }
 }
 
-// Prints how it ends in so many ranks, in one order of steps.
+// Prints how it ends in this many ranks, in one order of steps.
 fn print_order_of_ranks<R: Print>(
     rt: &R,
     alloc: Global,
@@ -55,7 +55,7 @@ fn print_order_of_ranks<R: Print>(
     }
 }
 
-// Prints what several seeds have in common for a job in so many ranks.
+// Prints what several seeds have in common for a job in this many ranks.
 fn print_agreed<R: Print>(rt: &R, alloc: Global, job: &Job, ranks: u32) -> io::Result<()>
     requires { (0 < ranks) × (ranks ≤ most_ranks) }
 {

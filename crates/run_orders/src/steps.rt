@@ -10,16 +10,17 @@ pub enum Step {
     Run(u32, i64),
     /// Deliver the message with this number.
     Deliver(u64),
-    /// Is there a task of this rank that may run?
+    /// Whether there is a task of this rank that may run.
     HasReady(u32),
-    /// Is the task of this rank that may run this one?
+    /// Whether the task of this rank that may run is this one.
     Ready(u32, u32, i64),
-    /// Were so many messages sent?
+    /// Whether this many messages were sent.
     Sent(u64),
-    /// Can nothing more happen?
+    /// Whether nothing more can happen.
     IsQuiescent,
 }
 
+// A task of this rank that may run, if there are the rank and the task.
 fn ready(world: &mut World<'_>, rank: u32) -> Option<TaskId> {
     if rank >= world.ranks() {
         return None;
@@ -27,6 +28,7 @@ fn ready(world: &mut World<'_>, rank: u32) -> Option<TaskId> {
     world.ready(rank)
 }
 
+// Whether the task of this rank that may run is this one.
 fn is_ready(world: &mut World<'_>, rank: u32, task: &TaskId) -> bool {
     match ready(world, rank) {
         Some(found) => found == *task,
@@ -34,6 +36,7 @@ fn is_ready(world: &mut World<'_>, rank: u32, task: &TaskId) -> bool {
     }
 }
 
+// Delivers a message, if it was sent.
 fn deliver(world: &mut World<'_>, number: u64) -> Result<bool, OutOfMemory> {
     if number >= world.messages() {
         return Ok(false);

@@ -10,7 +10,7 @@ use coll_data::Given;
 use dep_iter::Matched;
 use flow_core::{State, run_one};
 use flow_meaning::Outcome;
-use job_stages::{JobVerdict, judge_texts};
+use job_stages::job_of_texts;
 use ptg_base::{Edge, Item, OutOfMemory, Place, TaskId, WriteBack};
 use std::alloc::Global;
 use std::marker::Model;
@@ -26,9 +26,9 @@ pub enum Step {
     Edge(i64),
     /// Send a write-back of the task of class 1 with this parameter, to a place of collection 0.
     Write(i64, i64),
-    /// Is the task running?
+    /// Whether the task is running.
     Runs(u32, i64),
-    /// Can nothing more happen?
+    /// Whether nothing more can happen.
     IsOver,
 }
 
@@ -57,6 +57,7 @@ impl Model for Stepwise {
         × ((t : Task) → IsRunning s.run t → IsIn t s.tried.items) };
 }
 
+// The edge from the first task to a task of class 1.
 fn edge(to: i64) -> Item {
     Item::Edge(Edge {
         from: TaskId::new(0, &[0]),
@@ -66,6 +67,7 @@ fn edge(to: i64) -> Item {
     })
 }
 
+// The write-back of a task of class 1 to a place.
 fn write(from: i64, place: i64) -> Item {
     Item::Write(WriteBack {
         from: TaskId::new(1, &[from]),
@@ -94,14 +96,14 @@ fn none_runs(run: &State, tasks: &[TaskId]) -> bool
 impl Stepwise {
     /// The run of a job, before anything has happened in it; nothing if the job is not consistent.
     pub fn start(alloc: Global, texts: &Job) -> Result<Option<Stepwise>, OutOfMemory> {
-        match judge_texts(alloc, texts.jdf, texts.data)? {
-            JobVerdict::Consistent(job, given) => Ok(Some(Stepwise {
+        match job_of_texts(alloc, texts.jdf, texts.data)? {
+            Some((job, given)) => Ok(Some(Stepwise {
                 job,
                 given,
                 run: State::start(alloc),
                 tried: Vec::new(alloc),
             })),
-            _ => Ok(None),
+            None => Ok(None),
         }
     }
 
@@ -127,11 +129,13 @@ impl Stepwise {
         Ok(None)
     }
 
+    // Claims a task, if it may be claimed.
     fn claim(&mut self, t: &TaskId) -> Result<bool, OutOfMemory> {
         self.tried.push(t.copy())?;
         self.run.claim(&self.job, t)
     }
 
+    // Ends a task, if it is running.
     fn finish(&mut self, t: &TaskId) -> Result<bool, OutOfMemory> {
         if !self.run.is_running(t) {
             return Ok(false);
@@ -140,6 +144,7 @@ impl Stepwise {
         Ok(true)
     }
 
+    // Whether nothing more can happen.
     fn is_over(&self) -> bool {
         none_runs(&self.run, self.tried.as_slice()) && self.run.quiescent(&self.job)
     }
@@ -164,8 +169,8 @@ impl Stepwise {
 
 /// The answer of a job as one thread finds it; nothing if the job is not consistent.
 pub fn answer_of_run_one(alloc: Global, texts: &Job) -> Result<Option<Outcome>, OutOfMemory> {
-    match judge_texts(alloc, texts.jdf, texts.data)? {
-        JobVerdict::Consistent(job, given) => Ok(Some(run_one(alloc, &job, given)?)),
-        _ => Ok(None),
+    match job_of_texts(alloc, texts.jdf, texts.data)? {
+        Some((job, given)) => Ok(Some(run_one(alloc, &job, given)?)),
+        None => Ok(None),
     }
 }

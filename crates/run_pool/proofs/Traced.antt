@@ -16,7 +16,7 @@ use Rattle.list_lemmas.specs.Counting.{weigh}
 use Rattle.shard_meaning.specs.Moment.{Moment}
 use Rattle.worker_core.specs.Working.{HasLogged, logged}
 use Rattle.work_board.specs.declared.record.PassRecord.{PassRecord}
-use Rattle.table_rule.specs.declared.job.Job.{Job}
+use Rattle.table_rule.specs.declared.table_job.TableJob.{TableJob}
 use Rattle.table_rule.specs.Live.{Stamp}
 use Rattle.table_rule.specs.Records.{joined}
 use Rattle.dep_table.specs.ClosedTables.{ClosedView}
@@ -82,19 +82,19 @@ module _ (ds es : List PaddedDesk) (count : length es ≡ length ds) (w : HaveLo
   logs_are = logged_all es its_log
 
 -- what a traced run gives beside its closed table
-pub trace_of : (j : Job) (t : ClosedView) (ps : List PassView) (es : List PaddedDesk) (ts : List Task) → t.job ≡ j → ps ≡ map pass_on es → IsClosedAt j (joined (map shown ps)) t.shards
+pub trace_of : (j : TableJob) (t : ClosedView) (ps : List PassView) (es : List PaddedDesk) (ts : List Task) → t.job ≡ j → ps ≡ map pass_on es → IsClosedAt j (joined (map shown ps)) t.shards
     → ((us : List Task) → AreInStampOrder (joined_stamps (map shown ps)) us → IsClaimOrder j.matched (joined (map shown ps)).state us) → AreInStampOrder (joined_stamps (map record_on es)) ts → IsTraceOf t ts
 trace_of j t ps es ts job passes at order sorted =
     let records : map shown ps ≡ map record_on es = ap (map shown) passes ∙ map-map shown pass_on es in
     let here : AreInStampOrder (joined_stamps (map shown ps)) ts = subst (λ (vs : List PassRecord). AreInStampOrder (joined_stamps vs) ts) (sym records) sorted in
     record {
       records = map shown ps;
-      at = subst (λ (i : Job). IsClosedAt i (joined (map shown ps)) t.shards) (sym job) at;
+      at = subst (λ (i : TableJob). IsClosedAt i (joined (map shown ps)) t.shards) (sym job) at;
       order = here;
-      legal = subst (λ (i : Job). IsClaimOrder i.matched (joined (map shown ps)).state ts) (sym job) (order ts here);
+      legal = subst (λ (i : TableJob). IsClaimOrder i.matched (joined (map shown ps)).state ts) (sym job) (order ts here);
     }
 
 -- the same list is one of what ran
-pub ran_order : ((j : Job) (R : Moment) (ys : List Content) (ts : List Task) → IsClosedAt j R ys → HaveNoWork ys → IsClaimOrder j.matched R.state ts → IsRanOrder j.matched j.given ts)
-    → (j : Job) (t : ClosedView) (ts : List Task) → t.job ≡ j → IsTraceOf t ts → HaveNoWork t.shards → IsRanOrder j.matched j.given ts
-ran_order law j t ts job trace none = subst (λ (i : Job). IsRanOrder i.matched i.given ts) job (law t.job (joined trace.records) t.shards ts trace.at none trace.legal)
+pub ran_order : ((j : TableJob) (R : Moment) (ys : List Content) (ts : List Task) → IsClosedAt j R ys → HaveNoWork ys → IsClaimOrder j.matched R.state ts → IsRanOrder j.matched j.given ts)
+    → (j : TableJob) (t : ClosedView) (ts : List Task) → t.job ≡ j → IsTraceOf t ts → HaveNoWork t.shards → IsRanOrder j.matched j.given ts
+ran_order law j t ts job trace none = subst (λ (i : TableJob). IsRanOrder i.matched i.given ts) job (law t.job (joined trace.records) t.shards ts trace.at none trace.legal)

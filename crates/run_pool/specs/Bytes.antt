@@ -15,11 +15,11 @@ use Rattle.list_lemmas.specs.Counting.{weigh}
 abbrev pub elements_of : Plan → Option FlowPlan → ℕ
 elements_of P f = option_map_or (λ (g : FlowPlan). slice_index P.elems g.datatype) f 0
 
--- how many numbers the tile of an edge, or of a write-back, has: by the flow that it comes to, or that it is written
--- from
+-- how many numbers the tile of an edge has: as many as the flow says that it comes to
 abbrev pub edge_elements : Plan → Edge → ℕ
 edge_elements P e = elements_of P (flow_of P.classes e.to.class e.in_flow)
 
+-- how many numbers the tile of a write-back has: as many as the flow says that it is written from
 abbrev pub write_elements : Plan → WriteBack → ℕ
 write_elements P w = elements_of P (flow_of P.classes w.from.class w.flow)
 
@@ -31,6 +31,6 @@ sent_elements P = weigh (edge_elements P) (all_data P) + weigh (write_elements P
 abbrev pub most_sent_elements : ℕ
 most_sent_elements = 32768000000
 
--- the bytes of a preload for so many workers, at eight for each number
+-- the bytes of a preload for this many workers, at eight for each number
 unfoldable pub preload_bytes : Plan → ℕ → ℕ
 preload_bytes P workers = 8 * (sent_elements P + most_flows * workers * sum P.elems)

@@ -47,7 +47,7 @@ module _ {P : Type 0} (shown : P → PassRecord) where
   abbrev pub HasLoggedAt : Desk P → Desk P → Type 0
   HasLoggedAt d e = HasLogged (shown d.pass) (shown e.pass) d.log.items e.log.items
 
-  -- the same of each worker
+  -- the log on each worker's desk has gained the claims of its pass, each with its stamp
   abbrev pub HaveLogged : List (CachePadded (Desk P)) → List (CachePadded (Desk P)) → Type 0
   HaveLogged ds es =
       (k : ℕ) (d : CachePadded (Desk P)) → k < length ds

@@ -13,13 +13,14 @@ use Rattle.run_pool.specs.Bytes.{edge_elements, write_elements}
 abbrev pub carried_elements : Plan → Edge → ℕ
 carried_elements P e = if is_data_edge P e then edge_elements P e else 0
 
--- over the edges into a task, and over its write-backs
+-- how many numbers the tiles of the edges into a task have
 abbrev pub in_elements : Plan → Task → ℕ
 in_elements P t = weigh (carried_elements P) (in_edges P t)
 
+-- how many numbers the tiles of the write-backs of a task have
 abbrev pub out_elements : Plan → Task → ℕ
 out_elements P t = weigh (write_elements P) (write_backs P t)
 
--- over both
+-- how many numbers the tiles of the edges into a task and of its write-backs have
 unfoldable pub task_elements : Plan → Task → ℕ
 task_elements P t = in_elements P t + out_elements P t

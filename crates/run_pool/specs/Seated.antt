@@ -19,10 +19,11 @@ use Rattle.run_pool.specs.Desks.{AreReady}
 abbrev pub PaddedDesk : Type 0
 PaddedDesk = CachePadded (Desk PassView)
 
--- the pass on a desk, and its record
+-- the pass on a desk
 abbrev pub pass_on : PaddedDesk → PassView
 pass_on d = (padded_value d).pass
 
+-- the record of the pass on a desk
 abbrev pub record_on : PaddedDesk → PassRecord
 record_on d = shown (pass_on d)
 

@@ -1,4 +1,4 @@
--- What a traced run gives beside its closed table. Source: this project's own choice; the usual topological order.
+-- What a traced run gives besides its closed table. Source: this project's own choice; the usual topological order.
 use Rattle.std.specs.Prelude.{List}
 use Rattle.ptg_base.specs.Task.{Task}
 use Rattle.work_board.specs.declared.record.PassRecord.{PassRecord}

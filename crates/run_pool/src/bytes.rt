@@ -20,7 +20,7 @@ fn type_elements(plan: &Plan) -> u64
     all
 }
 
-/// The bytes that a preload takes for so many workers: a tile for each data edge and each write-back, and for each
+/// The bytes that a preload takes for this many workers: a tile for each data edge and each write-back, and for each
 /// worker as many tiles of each type as a task may have flows. It takes no memory.
 pub fn preload_bytes(m: &Matched, workers: u32) -> u64
     ensures { result ≡ bytes.preload_bytes m.now workers }

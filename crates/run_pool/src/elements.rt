@@ -100,7 +100,7 @@ fn elements_of_all(m: &Matched) -> u64
     all
 }
 
-// The same where all tiles are of one type: a product, without a walk.
+// How many numbers go over all edges and write-backs where all tiles are of one type: a product, without a walk.
 fn elements_of_one_type(m: &Matched) -> u64
     requires { length m.now.elems ≡ 1 }
     ensures { result ≡ bytes.sent_elements m.now }

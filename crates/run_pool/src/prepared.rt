@@ -3,8 +3,7 @@
 ghost use Rattle.std.specs.Prelude.{◌≡◌};
 
 use crate::seating::PaddedDesk;
-use dep_table::pass::Pass;
-use dep_table::table::DepTable;
+use dep_table::{DepTable, Pass};
 use std::marker::Model;
 
 /// A run that is ready: its table, a desk for each worker, and room for the passes that the table is closed with.

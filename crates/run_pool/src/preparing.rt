@@ -14,8 +14,7 @@ use crate::seating::seat_workers;
 use crate::settings::Settings;
 use coll_data::Given;
 use dep_iter::Matched;
-use dep_table::pass::Pass;
-use dep_table::table::DepTable;
+use dep_table::{DepTable, Pass};
 use ptg_base::OutOfMemory;
 use ready_deques::make;
 use std::alloc::Global;
@@ -26,7 +25,7 @@ const MOST_PRELOAD: u64 = 1 << 30;
 /// Why a run was not made ready.
 #[derive(Clone, Copy, Debug, PartialEq, Eq)]
 pub enum PrepareFault {
-    /// A preload was asked for that takes so many bytes, more than 2^30.
+    /// A preload was asked for that takes this many bytes, more than 2^30.
     PreloadTooLarge(u64),
     /// Want of memory.
     OutOfMemory,

@@ -9,13 +9,11 @@ use crate::desk::Desk;
 use crate::prepared::Prepared;
 use crate::seating::PaddedDesk;
 use crate::workers::team;
-use dep_table::an_idle_pass_is_a_workers_pass;
-use dep_table::closed::Closed;
-use dep_table::pass::Pass;
+use dep_table::{Closed, Pass, an_idle_pass_is_a_workers_pass};
 use ptg_base::OutOfMemory;
 use std::sync::Wait;
 use std::thread::Threads;
-use table_rule::rules::all_passes_stay_all;
+use table_rule::all_passes_stay_all;
 use worker_core::Gate;
 
 // The passes of workers that have answered. Want of memory exactly where one of them had it.

@@ -12,14 +12,14 @@ ghost use Rattle.run_pool.specs.Seated.{AreSeated, log_on};
 use crate::desk::Desk;
 use crossbeam_utils::CachePadded;
 use dep_iter::Matched;
-use dep_table::pass::Pass;
-use dep_table::table::DepTable;
+use dep_table::{DepTable, Pass};
 use ptg_base::OutOfMemory;
 use ready_deques::Hands;
 use std::alloc::Global;
-use table_rule::rules::all_passes_stay_all;
+use table_rule::all_passes_stay_all;
 use task_run::Bench;
 
+// A worker's desk on cache lines of its own.
 pub(crate) type PaddedDesk = CachePadded<Desk<Pass>>;
 
 // A desk with this pass and these hands, for tasks of a plan.

@@ -14,14 +14,12 @@ use crate::prepared::Prepared;
 use crate::running::passes_of;
 use crate::seating::PaddedDesk;
 use crate::workers::team;
-use dep_table::an_idle_pass_is_a_workers_pass;
-use dep_table::closed::Closed;
-use dep_table::quiet::a_quiet_close_has_an_order_of_what_ran;
+use dep_table::{Closed, a_quiet_close_has_an_order_of_what_ran, an_idle_pass_is_a_workers_pass};
 use ptg_base::{OutOfMemory, TaskId};
 use std::alloc::Global;
 use std::sync::Wait;
 use std::thread::Threads;
-use table_rule::rules::all_passes_stay_all;
+use table_rule::all_passes_stay_all;
 use worker_core::Gate;
 
 // A log with copies of further entries.
@@ -70,8 +68,9 @@ fn in_stamp_order(alloc: Global, log: Vec<(u64, TaskId)>) -> Result<Vec<TaskId>,
     tasks_of(alloc, log)
 }
 
-/// The same as `run`, for a run that is not preloaded, with all claims of its passes in the order of their stamps: a
-/// legal order of the tasks that run. It may wait.
+/// Runs a job as `run` does, without a preload, and gives all claims of its passes in the order of their stamps: a
+/// legal
+/// order of the tasks that run. It may wait.
 pub fn run_traced<R: Threads + Wait + Sync, G: Gate>(
     alloc: Global,
     rt: &R,

@@ -35,7 +35,7 @@ fn work_untraced<R: Threads + Wait + Sync, B: Board, G: Gate>(
     desk.answer = Some(answer);
 }
 
-// The same, and its log gains its claims.
+// A worker works at its desk, leaves its answer there, and its log gains its claims.
 fn work_traced<R: Threads + Wait + Sync, B: Board, G: Gate>(
     rt: &R,
     board: &B,
@@ -61,7 +61,7 @@ fn work_traced<R: Threads + Wait + Sync, B: Board, G: Gate>(
     desk.answer = Some(logged);
 }
 
-// One or the other.
+// Lets a worker work at its desk, with a log in a traced run.
 fn work_at<R: Threads + Wait + Sync, B: Board, G: Gate>(
     rt: &R,
     board: &B,
@@ -81,7 +81,7 @@ fn work_at<R: Threads + Wait + Sync, B: Board, G: Gate>(
     }
 }
 
-/// Lets a worker work at each desk until all is quiet, in as many threads as desks where so many can be made. In a
+/// Lets a worker work at each desk until all is quiet, in as many threads as desks where that many can be made. In a
 /// traced run, which is not preloaded, each log gains the claims of its worker.
 pub fn team<R: Threads + Wait + Sync, B: Board, G: Gate>(
     rt: &R,

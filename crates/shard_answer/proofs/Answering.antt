@@ -3,6 +3,7 @@ use Rattle.std.proofs.Common.{◌≡◌, ℕ, ◌≤◌, false, cond, ◌==◌, 
 use Rattle.std.proofs.lemmas.Bool.{false_from_ne_true, eqb-true}
 use Rattle.std.specs.List.{IsDistinct, AllByRecursion}
 use Rattle.std.specs.Map.{keys_of}
+use Rattle.ptg_base.specs.Entry.{Entry}
 use Rattle.ptg_base.specs.Lists.{IsIn}
 use Rattle.ptg_base.specs.Task.{Task}
 use Rattle.ptg_base.specs.TaskComparing.{same_task}
@@ -22,7 +23,7 @@ use Rattle.plan_data.specs.Fit.{DataFit}
 use Rattle.dep_iter.specs.Consistent.{IsConsistent}
 use Rattle.dep_iter.specs.Tasks.{IsTask, all_tasks}
 use Rattle.dep_iter.proofs.Listing.{listed}
-use Rattle.dep_shard.specs.Content.{Content, Entries, Entry}
+use Rattle.dep_shard.specs.Content.{Content, Entries}
 use Rattle.dep_shard.proofs.QueueLemmas.{looked_up}
 use Rattle.flow_meaning.specs.declared.outcome.TrapRow.{TrapRow}
 use Rattle.flow_meaning.specs.declared.outcome.WaitRow.{WaitRow}

@@ -3,7 +3,7 @@ use Rattle.std.proofs.Common.{◌≡◌, ℕ, ◌≤◌, Bool, true, false, cond
 use Rattle.std.proofs.lemmas.Bool.{eqb-true, and_parts}
 use Rattle.std.specs.List.{filter}
 use Rattle.std.specs.Map.{lookup}
-use Rattle.std.specs.Prelude.{option_map}
+use Rattle.ptg_base.specs.Entry.{Entry}
 use Rattle.ptg_base.specs.Lists.{IsIn}
 use Rattle.ptg_base.specs.Task.{Task}
 use Rattle.ptg_base.specs.TaskComparing.{same_task}
@@ -18,7 +18,7 @@ use Rattle.coll_data.specs.Data.{Data}
 use Rattle.dep_iter.specs.Edges.{goal}
 use Rattle.dep_iter.specs.Tasks.{IsTask, all_tasks}
 use Rattle.dep_iter.proofs.Listing.{listed}
-use Rattle.dep_shard.specs.Content.{Content, Entries, Entry, entry_in}
+use Rattle.dep_shard.specs.Content.{Content, Entries, entry_in}
 use Rattle.flow_meaning.specs.declared.outcome.WaitRow.{WaitRow}
 use Rattle.list_lemmas.specs.Counting.{count}
 use Rattle.flow_meaning.specs.Machine.{MachineState, arrived, claim_count}
@@ -26,7 +26,6 @@ use Rattle.flow_meaning.specs.Table.{entry_of as table_row, is_ready, is_waiting
 use Rattle.flow_meaning.proofs.Once.{tasks_once}
 use Rattle.run_answer.specs.Rows.{AreOfDifferentTasks}
 use Rattle.run_answer.proofs.Sorting.{one_order}
-use Rattle.shard_meaning.specs.Share.{as_entry}
 use Rattle.shard_answer.specs.Ending.{HoldAnEnd}
 use Rattle.shard_answer.specs.Parts.{all_waits, wait_row, waits_of}
 use Rattle.shard_answer.proofs.Gathering.{differ, in_rows, row_of}
@@ -58,12 +57,9 @@ module _ (P : Plan) (G : Data) (ys : List Content) (h : HoldAnEnd P G ys) (found
   row t = record { task = t; arrived = arrived P state t; goal = goal P t }
 
   -- an entry at the end is that of a task that waits
-  entry_waits : (t : Task) (e : Entry) → IsTask P t → option_map as_entry (table_entry P state t) ≡ Some e → (is_waiting P state t ≡ true) × (wait_row (t, e) ≡ row t)
+  entry_waits : (t : Task) (e : Entry) → IsTask P t → table_entry P state t ≡ Some e → (is_waiting P state t ≡ true) × (wait_row (t, e) ≡ row t)
   entry_waits t e job is = by (is_ready P state t) refl (is_waiting P state t) refl
     where
-      whole : Entry
-      whole = as_entry (table_row P state t)
-
       unready : is_ready P state t ≡ true → ⊥
       unready k =
           let p = and_parts (claim_count state t == 0) (arrived P state t == goal P t) k in
@@ -72,15 +68,15 @@ module _ (P : Plan) (G : Data) (ys : List Content) (h : HoldAnEnd P G ys) (found
       by : (a : Bool) → is_ready P state t ≡ a → (b : Bool) → is_waiting P state t ≡ b → (is_waiting P state t ≡ true) × (wait_row (t, e) ≡ row t)
       by true k b l = absurd (unready k)
       by false k false l =
-          let none : None ≡ Some e = sym (λ i. option_map as_entry (cond (k i || l i) (Some (table_row P state t)) None)) ∙ is in
+          let none : None ≡ Some e = sym (λ i. cond (k i || l i) (Some (table_row P state t)) None) ∙ is in
           absurd cc
       by false k true l =
-          let one : Some (as_entry (table_row P state t)) ≡ Some e = sym (λ i. option_map as_entry (cond (k i || l i) (Some (table_row P state t)) None)) ∙ is in
-          let same : as_entry (table_row P state t) ≡ e = cc in
+          let one : Some (table_row P state t) ≡ Some e = sym (λ i. cond (k i || l i) (Some (table_row P state t)) None) ∙ is in
+          let same : table_row P state t ≡ e = cc in
           (l, ap (λ (w : Entry). wait_row (t, w)) (sym same))
 
-  waiting_entry : (t : Task) → is_waiting P state t ≡ true → option_map as_entry (table_entry P state t) ≡ Some (as_entry (table_row P state t))
-  waiting_entry t l = by_test (is_ready P state t) (λ k i. option_map as_entry (cond (k i || l i) (Some (table_row P state t)) None)) (λ k i. option_map as_entry (cond (k i || l i) (Some (table_row P state t)) None))
+  waiting_entry : (t : Task) → is_waiting P state t ≡ true → table_entry P state t ≡ Some (table_row P state t)
+  waiting_entry t l = by_test (is_ready P state t) (λ k i. cond (k i || l i) (Some (table_row P state t)) None) (λ k i. cond (k i || l i) (Some (table_row P state t)) None)
 
   abbrev waiting : List Task
   waiting = filter (is_waiting P state) (all_tasks P)
@@ -102,8 +98,8 @@ module _ (P : Plan) (G : Data) (ys : List Content) (h : HoldAnEnd P G ys) (found
       let job = (listed P p.0).1 q.0 in
       let y = slice_get_there ys (h.of p.0) (h.placed p.0 job) in
       let is = (h.shares (h.of p.0) y.0 y.1).there p.0 job refl ∙ waiting_entry p.0 q.1 in
-      let there = found_in p.0 (as_entry (table_row P state p.0)) y.0.entries is in
-      subst (λ s. IsIn s (all_waits ys)) (sym p.2) (in_rows waits_of ys (h.of p.0) y.0 (row p.0) y.1 (IsIn-map wait_row y.0.entries (p.0, as_entry (table_row P state p.0)) there))
+      let there = found_in p.0 (table_row P state p.0) y.0.entries is in
+      subst (λ s. IsIn s (all_waits ys)) (sym p.2) (in_rows waits_of ys (h.of p.0) y.0 (row p.0) y.1 (IsIn-map wait_row y.0.entries (p.0, table_row P state p.0) there))
 
   pub waits_differ : AreOfDifferentTasks (λ (r : WaitRow). r.task) (all_waits ys)
   waits_differ =

@@ -18,7 +18,7 @@ use Rattle.dep_iter.specs.Consistent.{IsConsistent}
 use Rattle.dep_shard.specs.Content.{Content}
 use Rattle.list_lemmas.specs.Counting.{weigh}
 use Rattle.flow_meaning.specs.Final.{replaced_data}
-use Rattle.flow_meaning.specs.Machine.{MachineState, Sent, sender}
+use Rattle.flow_meaning.specs.Machine.{MachineState, SentItem, sender}
 use Rattle.flow_meaning.specs.Sound.{IsReordered, IsSoundState}
 use Rattle.flow_meaning.specs.StateAnswer.{first_written, state_data}
 use Rattle.flow_meaning.specs.Table.{written_by}
@@ -46,31 +46,31 @@ own_weight of k f (item.Write w) None = sym (none_either (of w.from == k))
 own_weight of k f (item.Write w) (Some tile) = refl
 
 -- a write-back and its tile, as they are sent
-abbrev as_sent : WriteBack × List ℤ → Sent
+abbrev as_sent : WriteBack × List ℤ → SentItem
 as_sent w = record { item = item.Write w.0; tile = Some w.1 }
 
 abbrev edge_item : Item → Bool
 edge_item (item.Edge e) = true
 edge_item (item.Write w) = false
 
-abbrev is_edge : Sent → Bool
+abbrev is_edge : SentItem → Bool
 is_edge x = edge_item x.item
 
 written_edge : (i : Item) (o : Option (List ℤ)) → edge_item i ≡ true → written_by i o ≡ None
 written_edge (item.Edge e) o h = refl
 written_edge (item.Write w) o h = absurd cc
 
-abbrev write_of_sent : Sent → Option (WriteBack × Option (List ℤ))
+abbrev write_of_sent : SentItem → Option (WriteBack × Option (List ℤ))
 write_of_sent x = written_by x.item x.tile
 
-no_writes : (xs : List Sent) → filter_map write_of_sent (filter is_edge xs) ≡ []
+no_writes : (xs : List SentItem) → filter_map write_of_sent (filter is_edge xs) ≡ []
 no_writes [] = refl
 no_writes (x ∷ xs) =
     by_test (is_edge x)
     (λ k. ap (λ b. filter_map write_of_sent (cond b (x ∷ filter is_edge xs) (filter is_edge xs))) k ∙ (λ i. cons_option (written_edge x.item x.tile k i) (no_writes xs i)))
     (λ k. ap (λ b. filter_map write_of_sent (cond b (x ∷ filter is_edge xs) (filter is_edge xs))) k ∙ no_writes xs)
 
-all_writes_of : (ws : List (WriteBack × List ℤ)) (rest : List Sent) → filter_map write_of_sent rest ≡ [] → filter_map write_of_sent (map as_sent ws ++ rest) ≡ with_tiles ws
+all_writes_of : (ws : List (WriteBack × List ℤ)) (rest : List SentItem) → filter_map write_of_sent rest ≡ [] → filter_map write_of_sent (map as_sent ws ++ rest) ≡ with_tiles ws
 all_writes_of [] rest none = none
 all_writes_of (w ∷ ws) rest none = ap (λ l. (w.0, Some w.1) ∷ l) (all_writes_of ws rest none)
 
@@ -82,14 +82,14 @@ module _ (P : Plan) (G : Data) (con : IsConsistent P) (known : DataFit P.colls P
   abbrev pub in_shard_order : MachineState
   in_shard_order = record { claims = state.claims; sends = map as_sent (all_written ys) ++ filter is_edge state.sends }
 
-  all_weights : (f : WriteBack × List ℤ → ℕ) → weigh f (all_written ys) ≡ weigh (λ (x : Sent). any_weight f x.item x.tile) state.sends
+  all_weights : (f : WriteBack × List ℤ → ℕ) → weigh f (all_written ys) ≡ weigh (λ (x : SentItem). any_weight f x.item x.tile) state.sends
   all_weights f =
       weigh-flat_map f (λ (y : Content). y.written) ys
-      ∙ gathered (λ (x : Sent). h.of (sender x.item)) (λ (x : Sent). any_weight f x.item x.tile) (λ (y : Content). weigh f y.written) ys state.sends
-      (λ k y at. (h.shares k y at).written f ∙ weigh-same (part (λ (x : Sent). h.of (sender x.item)) (λ (x : Sent). any_weight f x.item x.tile) k) (write_weight h.of k f) state.sends (λ x i. own_weight h.of k f x.item x.tile))
+      ∙ gathered (λ (x : SentItem). h.of (sender x.item)) (λ (x : SentItem). any_weight f x.item x.tile) (λ (y : Content). weigh f y.written) ys state.sends
+      (λ k y at. (h.shares k y at).written f ∙ weigh-same (part (λ (x : SentItem). h.of (sender x.item)) (λ (x : SentItem). any_weight f x.item x.tile) k) (write_weight h.of k f) state.sends (λ x i. own_weight h.of k f x.item x.tile))
       (λ x i. h.placed (sender x.item) (h.sound.claimed_have_all (sender x.item) (h.sound.sent_are_outputs x i).claimed).task)
 
-  one_sent : (f : Sent → ℕ) (x : Sent) → IsIn x state.sends → (i : Item) → x.item ≡ i → (o : Option (List ℤ)) → x.tile ≡ o → any_weight (λ w. f (as_sent w)) i o + cond (edge_item i) (f x) 0 ≡ f x
+  one_sent : (f : SentItem → ℕ) (x : SentItem) → IsIn x state.sends → (i : Item) → x.item ≡ i → (o : Option (List ℤ)) → x.tile ≡ o → any_weight (λ w. f (as_sent w)) i o + cond (edge_item i) (f x) 0 ≡ f x
   one_sent f x among (item.Edge e) is o has = omega arith
   one_sent f x among (item.Write w) is None has =
       let s = write_sent P G con state h.sound known well x among w is in
@@ -104,8 +104,8 @@ module _ (P : Plan) (G : Data) (con : IsConsistent P) (known : DataFit P.colls P
     claims = λ f. refl;
     sends = λ f.
         let g : WriteBack × List ℤ → ℕ = λ w. f (as_sent w) in
-        let a : Sent → ℕ = λ x. any_weight g x.item x.tile in
-        let b : Sent → ℕ = λ x. cond (is_edge x) (f x) 0 in
+        let a : SentItem → ℕ = λ x. any_weight g x.item x.tile in
+        let b : SentItem → ℕ = λ x. cond (is_edge x) (f x) 0 in
         omega (
           arith,
           weigh-append f (map as_sent (all_written ys)) (filter is_edge state.sends),

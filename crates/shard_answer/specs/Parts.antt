@@ -3,11 +3,12 @@
 use Rattle.std.specs.Prelude.{◌≡◌, ℕ, ℤ, List, Some, map, flat_map, slice_get}
 use Rattle.std.specs.List.{IsDistinct}
 use Rattle.std.specs.Map.{keys_of}
+use Rattle.ptg_base.specs.Entry.{Entry}
 use Rattle.ptg_base.specs.Task.{Task}
 use Rattle.ptg_base.specs.TaskComparing.{same_task}
 use Rattle.ptg_base.specs.declared.edge.WriteBack.{WriteBack}
 use Rattle.term_core.specs.declared.trap.Trap.{Trap}
-use Rattle.dep_shard.specs.Content.{Content, Entry}
+use Rattle.dep_shard.specs.Content.{Content}
 use Rattle.flow_meaning.specs.declared.outcome.TrapRow.{TrapRow}
 use Rattle.flow_meaning.specs.declared.outcome.WaitRow.{WaitRow}
 use Rattle.list_lemmas.specs.Counting.{weigh}
@@ -16,10 +17,11 @@ use Rattle.list_lemmas.specs.Counting.{weigh}
 abbrev pub trap_row : Task × Trap → TrapRow
 trap_row x = record { task = x.0; cause = x.1 }
 
--- the rows of the tasks of a shard that trapped, and of all shards, one after another
+-- the rows of the tasks of a shard that trapped
 abbrev pub traps_of : Content → List TrapRow
 traps_of y = map trap_row y.trapped
 
+-- the rows of the tasks of all shards that trapped, one shard after another
 abbrev pub all_traps : List Content → List TrapRow
 all_traps ys = flat_map traps_of ys
 
@@ -27,10 +29,11 @@ all_traps ys = flat_map traps_of ys
 abbrev pub wait_row : Task × Entry → WaitRow
 wait_row x = record { task = x.0; arrived = x.1.arrived; goal = x.1.goal }
 
--- the rows of the tasks that have an entry in a shard, and of all shards, one after another
+-- the rows of the tasks that have an entry in a shard
 abbrev pub waits_of : Content → List WaitRow
 waits_of y = map wait_row y.entries
 
+-- the rows of the tasks that have an entry in some shard, one shard after another
 abbrev pub all_waits : List Content → List WaitRow
 all_waits ys = flat_map waits_of ys
 

@@ -37,8 +37,8 @@ pub fn outcome_of(
     ensures answer { IfOk result (λ outcome. outcome ≡ answer m.now given) }
     ensures succeeds { length (all_tasks m.now) ≤ room → IsOk result }
 {
-    m.is_consistent();
-    given.is_well_made();
+    m.plan_is_consistent();
+    given.data_are_well_made();
     match incomplete(m, &given, shards.as_slice(), room)? {
         Some(outcome) => Ok(outcome),
         None => Ok(Outcome::Complete(m.tasks(), final_data(given, shards))),
@@ -61,8 +61,8 @@ fn incomplete(
         ≡ answer m.now given.now) }
     ensures succeeds { length (all_tasks m.now) ≤ room → IsOk result }
 {
-    m.is_consistent();
-    given.is_well_made();
+    m.plan_is_consistent();
+    given.data_are_well_made();
     let (traps, waits) = room.into_rows();
     let traps = trap_rows(m, given, shards, traps)?;
     if !traps.is_empty() {
@@ -83,7 +83,7 @@ fn trap_rows(
     ensures rows { IfOk result (λ traps. traps ≡ in_task_order (λ (r : TrapRowValue). r.task) (all_traps shards.now)) }
     ensures succeeds { length (all_tasks m.now) ≤ vec_capacity rows → IsOk result }
 {
-    m.is_consistent();
+    m.plan_is_consistent();
     let mut rows = rows;
     push_traps(shards, &mut rows)?;
     Ok(traps_in_task_order(rows))
@@ -107,8 +107,8 @@ fn stall(
         ≡ answer m.now given.now) }
     ensures succeeds { length (all_tasks m.now) ≤ vec_capacity rows → IsOk result }
 {
-    m.is_consistent();
-    given.is_well_made();
+    m.plan_is_consistent();
+    given.data_are_well_made();
     let ran = ended_of(shards);
     let all = m.tasks();
     if ran == all {

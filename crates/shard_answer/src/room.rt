@@ -30,7 +30,7 @@ impl Room {
         }
     }
 
-    /// Takes memory for so many rows of each kind. An `Err` leaves at least the room that there was.
+    /// Takes memory for this many rows of each kind. An `Err` leaves at least the room that there was.
     pub fn reserve(&mut self, rows: u64) -> Result<(), OutOfMemory>
         ensures ok { OnOk result (rows ≤ self.new) }
         ensures err { OnErr result (self.old ≤ self.new) }

@@ -1,6 +1,7 @@
 -- The opening of shards, task by task.
 use Rattle.std.proofs.Common.{◌≡◌, ◌≢◌, ℕ, ◌<◌, ◌==◌, false, cond, List, [], ◌∷◌, ◌++◌, length, refl, ap, sym, ◌∙◌, subst, Option, Some, None, slice_get, inl, inr, if◌then◌else◌, ne_eqb}
 use Rattle.std.proofs.lemmas.Bool.{false≢true, cases_eq}
+use Rattle.ptg_base.specs.Entry.{Entry}
 use Rattle.ptg_base.specs.Lists.{IsIn}
 use Rattle.ptg_base.specs.Task.{Task}
 use Rattle.ptg_base.specs.TaskComparing.{same_task}
@@ -11,7 +12,7 @@ use Rattle.list_lemmas.proofs.Places.{slice_get_there}
 use Rattle.plan_core.specs.declared.plan.Plan.{Plan}
 use Rattle.dep_iter.specs.Edges.{goal}
 use Rattle.dep_iter.specs.Hints.{priority}
-use Rattle.dep_shard.specs.Content.{Content, Entry, entry_of, fresh}
+use Rattle.dep_shard.specs.Content.{Content, entry_of, fresh}
 use Rattle.shard_meaning.specs.Opening.{opening_entry}
 use Rattle.shard_meaning.specs.Share.{Placement}
 use Rattle.shard_calls.specs.Opened.{Enters, EntersIn, IsOpenedFor, Opens}

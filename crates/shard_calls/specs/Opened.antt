@@ -1,11 +1,13 @@
 -- How shards are opened: they get a ready entry of each task that no edge goes into. Source: DAGuE (Parallel Computing,
 -- 2012): a task without dependences may run at once.
-use Rattle.std.specs.Prelude.{◌≡◌, ◌≢◌, ℕ, ◌==◌, ℤ, List, [], ◌∷◌, ◌++◌, length, filter, slice_get, Some, None}
+use Rattle.std.specs.Prelude.{◌≡◌, ℕ, ◌==◌, ℤ, List, [], ◌∷◌, ◌++◌, length, filter, slice_get, Some, None}
+use Rattle.ptg_base.specs.Entry.{Entry}
 use Rattle.ptg_base.specs.Lists.{IsIn}
 use Rattle.ptg_base.specs.Task.{Task}
 use Rattle.plan_core.specs.declared.plan.Plan.{Plan}
 use Rattle.dep_iter.specs.Edges.{goal}
-use Rattle.dep_shard.specs.Content.{Content, Entry, IsNew, KeepsAllButEntries, Updates, entry_of, fresh}
+use Rattle.dep_shard.specs.Content.{Content, IsNew, KeepsAllButEntries, Updates, entry_of, fresh}
+use Rattle.list_lemmas.specs.Changes.{ChangesAt}
 use Rattle.shard_meaning.specs.Opening.{IsOpeningShard, opening_entry}
 use Rattle.shard_meaning.specs.Placing.{shard_of}
 use Rattle.shard_meaning.specs.Share.{Placement}
@@ -41,17 +43,15 @@ pub record EntersIn (t : Task) (priority : ℤ) (old new : Content) : Type 0 whe
   pub rest : KeepsAllButEntries old new
 
 -- A ready entry of the task is entered into the shard k, and the other shards stay.
-pub record Enters (k : ℕ) (t : Task) (priority : ℤ) (old new : List Content) : Type 0 where
-  pub count : length new ≡ length old
-  pub others : (i : ℕ) → i ≢ k → slice_get new i ≡ slice_get old i
-  pub here : (y z : Content) → slice_get old k ≡ Some y → slice_get new k ≡ Some z → EntersIn t priority y z
+abbrev pub Enters : ℕ → Task → ℤ → List Content → List Content → Type 0
+Enters k t priority old new = ChangesAt (EntersIn t priority) k old new
 
--- so many new shards, with tiles of these lengths
+-- this many new shards, with tiles of these lengths
 pub record AreNew (n : ℕ) (lengths : List ℕ) (ys : List Content) : Type 0 where
   pub count : length ys ≡ n
   pub each : (k : ℕ) (y : Content) → slice_get ys k ≡ Some y → IsNew y lengths
 
--- so many shards, opened: each has the ready entries of its own tasks that no edge goes into
+-- this many shards, opened: each has the ready entries of its own tasks that no edge goes into
 pub record AreOpeningShards (P : Plan) (n : ℕ) (ys : List Content) : Type 0 where
   pub count : length ys ≡ n
   pub each : (k : ℕ) (y : Content) → slice_get ys k ≡ Some y → IsOpeningShard P (shard_of P n) k y

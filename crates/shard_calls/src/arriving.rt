@@ -16,8 +16,8 @@ use dep_shard::{Arrived, Shard};
 use goal_count::goal_under;
 use ptg_base::{Edge, OutOfMemory, TaskId, Tile};
 
-/// The number of the type of the tiles of a flow.
-pub fn type_of_flow(m: &Matched, t: &TaskId, flow: u8) -> u32
+// The number of the type of the tiles of a flow.
+pub(crate) fn type_of_flow(m: &Matched, t: &TaskId, flow: u8) -> u32
     requires task { IsTask m.now t.now }
     requires flow { IsSome (flow_of m.now.classes t.now.class flow) }
     ensures { (f : FlowPlanValue) → flow_of m.now.classes t.now.class flow ≡ Some f → result ≡ f.datatype }
@@ -62,12 +62,12 @@ fn arrive_first(
 {
     let locals = locals_of(m.plan(), &edge.to);
     let goal = goal_under(m, &edge.to, locals.as_slice());
-    let urgency = priority_under(m.plan(), &edge.to, locals.as_slice());
-    shard.arrive_first(edge, goal, urgency, datatype, tile)
+    let priority = priority_under(m.plan(), &edge.to, locals.as_slice());
+    shard.arrive_first(edge, goal, priority, datatype, tile)
 }
 
-/// An edge comes to its target, with its tile. Without memory the shard stays as it was, but for spares that grow.
-pub fn arrive(
+// An edge comes to its target, with its tile. Without memory the shard stays as it was, but for spares that grow.
+pub(crate) fn arrive(
     shard: &mut Shard,
     m: &Matched,
     edge: &Edge,

@@ -45,12 +45,12 @@ fn open_task(shards: &mut Vec<Shard>, m: &Matched, t: &TaskId) -> Result<bool, O
         return Ok(false);
     }
     let k = shard_under(m, shards.len(), t, env.as_slice());
-    let urgency = priority_under(m.plan(), t, env.as_slice());
-    enter(shards, k, t, urgency)?;
+    let priority = priority_under(m.plan(), t, env.as_slice());
+    enter(shards, k, t, priority)?;
     Ok(true)
 }
 
-// So many new shards.
+// This many new shards.
 fn new_shards(alloc: Global, m: &Matched, count: u32) -> Result<Vec<Shard>, OutOfMemory>
     ensures { IfOk result (λ v. AreNew count m.now.elems v.items) }
 {
@@ -62,7 +62,7 @@ fn new_shards(alloc: Global, m: &Matched, count: u32) -> Result<Vec<Shard>, OutO
     Ok(shards)
 }
 
-/// So many new shards: each has the ready entries of its own tasks that no edge goes into. The walk stops once all of
+/// This many new shards: each has the ready entries of its own tasks that no edge goes into. The walk stops once all of
 /// these are found.
 pub fn opened_shards(alloc: Global, m: &Matched, shards: u32) -> Result<Vec<Shard>, OutOfMemory>
     requires { (0 < shards) × (shards ≤ most_shards) }

@@ -9,7 +9,7 @@ ghost use Rattle.shard_meaning.specs.Placing.{shard_of};
 use dep_iter::{Matched, affinity_under, locals_of, place_number};
 use ptg_base::TaskId;
 
-/// The shard of a task with these locals, where there are so many shards.
+/// The shard of a task with these locals, among `shards` shards.
 #[tactic(auto, unfolding(shard_meaning::specs::Placing::shard_of))]
 pub fn shard_under(m: &Matched, shards: usize, t: &TaskId, env: &[i64]) -> usize
     requires task { IsTask m.now t.now }
@@ -26,7 +26,7 @@ pub fn shard_under(m: &Matched, shards: usize, t: &TaskId, env: &[i64]) -> usize
     ((coll + number) % count) as usize
 }
 
-/// The shard of a task, where there are so many shards.
+/// The shard of a task, among `shards` shards.
 pub fn shard_at(m: &Matched, shards: usize, t: &TaskId) -> usize
     requires task { IsTask m.now t.now }
     requires shards { (0 < shards) × (shards ≤ most_shards) }

@@ -6,6 +6,7 @@ use Rattle.std.specs.Cmp.{unsigned_Decides}
 use Rattle.std.proofs.lemmas.Bool.{false_from_ne_true}
 use mathlib.Core.Logic.{dite}
 use native.Mathlib.Decide.{ℕ_discrete}
+use Rattle.ptg_base.specs.Entry.{Entry, FlowTile}
 use Rattle.ptg_base.specs.Lists.{IsIn}
 use Rattle.ptg_base.specs.Task.{Task}
 use Rattle.ptg_base.specs.declared.edge.Edge.{Edge}
@@ -22,8 +23,8 @@ use Rattle.dep_iter.specs.Edges.{data_source, goal, in_edges}
 use Rattle.dep_iter.specs.Hints.{priority}
 use Rattle.dep_iter.specs.Tasks.{IsTask, flows_of}
 use Rattle.dep_iter.specs.Well.{IsWellTask}
-use Rattle.dep_shard.specs.Arrivals.{FlowTile, tile_of}
-use Rattle.dep_shard.specs.Content.{Content, Entry, entry_before}
+use Rattle.dep_shard.specs.Arrivals.{tile_of}
+use Rattle.dep_shard.specs.Content.{Content, entry_before}
 use Rattle.flow_meaning.specs.Machine.{MaySend, sent_tile}
 use Rattle.flow_meaning.specs.Sound.{IsSoundState}
 use Rattle.flow_meaning.specs.Starting.{Delivery, delivered_from, delivered_tile, delivered_tiles, delivered_to}

@@ -1,13 +1,14 @@
 //! Laws of moments of a run, and of what shards hold of them and have written.
 
 ghost use Rattle.std.specs.Prelude.{◌≡◌, ℕ, ℤ, List, ◌<◌, ◌≢◌, ◌≤◌, ◌+◌, [], length, ◌↔◌, None, Option, Some};
+ghost use Rattle.ptg_base.specs.Entry.{Entry};
 ghost use Rattle.ptg_base.specs.Lists.{IsIn};
 ghost use Rattle.ptg_base.specs.declared.edge.Item.TheVariants as item;
 ghost use Rattle.ptg_base.specs.declared.edge.WriteBack.{WriteBack};
 ghost use Rattle.plan_core.specs.declared.plan.Plan.{Plan};
 ghost use Rattle.coll_data.specs.Data.{Data};
 ghost use Rattle.dep_iter.specs.Consistent.{IsConsistent};
-ghost use Rattle.dep_shard.specs.Content.{Content, Entry, IsReady, IsWaiting, entry_before, entry_of, with_arrival};
+ghost use Rattle.dep_shard.specs.Content.{Content, IsReady, IsWaiting, entry_before, entry_of, with_arrival};
 ghost use Rattle.flow_meaning.specs.Machine.{MaySend, MayClaim, arrived};
 ghost use Rattle.flow_meaning.specs.Sound.{IsSoundState};
 ghost use Rattle.shard_meaning.specs.Moment.{Moment, IsSoundMoment, opening_moment, run_count, with_claim, with_end, with_send};

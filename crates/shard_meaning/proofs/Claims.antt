@@ -1,10 +1,10 @@
 -- A claim changes the shard of its task as the call does that takes the entry, and no other shard.
 use Rattle.std.proofs.Common.{◌≡◌, ◌≢◌, ℕ, List, ap, ◌∙◌, arith, eq-eqb, ne_eqb}
+use Rattle.ptg_base.specs.Entry.{FlowTile}
 use Rattle.ptg_base.specs.Task.{Task}
 use Rattle.plan_core.specs.declared.plan.Plan.{Plan}
 use Rattle.coll_data.specs.Data.{Data}
 use Rattle.dep_iter.specs.Consistent.{IsConsistent}
-use Rattle.dep_shard.specs.Arrivals.{FlowTile}
 use Rattle.dep_shard.specs.Content.{Content, Takes}
 use Rattle.list_lemmas.specs.Counting.{as_number, weigh}
 use Rattle.flow_meaning.specs.Sound.{IsSoundState}

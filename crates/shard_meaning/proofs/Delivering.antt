@@ -2,6 +2,7 @@
 use Rattle.std.proofs.Common.{◌≡◌, ◌≢◌, ℕ, zero, suc, ◌+◌, ◌<◌, ◌≤◌, ℤ, Bool, true, false, cond, List, [], ◌∷◌, ◌++◌, map, sym, refl, ap, ◌∙◌, subst, arith, Option, Some, None, slice_get, nat_eq, add-zero}
 use Rattle.std.specs.Prelude.{option_map, option_to_list}
 use Rattle.std.proofs.lemmas.Bool.{lt-ltb, le-ltb, ne_eqb}
+use Rattle.ptg_base.specs.Entry.{FlowTile}
 use Rattle.ptg_base.specs.Lists.{IsIn}
 use Rattle.ptg_base.specs.Task.{Task}
 use Rattle.ptg_base.specs.declared.edge.Edge.{Edge}
@@ -14,7 +15,7 @@ use Rattle.dep_iter.specs.declared.source.Source.TheVariants as source
 use Rattle.dep_iter.specs.Edges.{data_source, in_edges}
 use Rattle.dep_iter.specs.Tasks.{IsTask, flows_of}
 use Rattle.dep_iter.specs.Well.{IsWellTask}
-use Rattle.dep_shard.specs.Arrivals.{FlowTile, with_tile}
+use Rattle.dep_shard.specs.Arrivals.{with_tile}
 use Rattle.flow_meaning.specs.Starting.{Delivery, delivered_from, delivered_tile, delivered_tiles, delivered_to}
 use Rattle.flow_meaning.proofs.SourceEdges.{only_source, source_at_flow}
 

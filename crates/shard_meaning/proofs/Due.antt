@@ -15,7 +15,7 @@ use Rattle.dep_iter.specs.Tasks.{all_tasks}
 use Rattle.dep_shard.specs.Content.{Content, entry_of}
 use Rattle.flow_meaning.specs.Comparing.{same_item}
 use Rattle.list_lemmas.specs.Counting.{as_number, count}
-use Rattle.flow_meaning.specs.Machine.{MachineState, MaySend, Send, Sent, claim_count, is_sent, send_count, sent_with, state_after}
+use Rattle.flow_meaning.specs.Machine.{MachineState, MaySend, Send, SentItem, claim_count, is_sent, send_count, sent_with, state_after}
 use Rattle.flow_meaning.specs.Table.{is_unclaimed}
 use Rattle.flow_meaning.proofs.Comparing.{same_item-decides}
 use Rattle.shard_meaning.specs.Moment.{Moment, run_count, with_claim, with_end, with_send}
@@ -85,7 +85,7 @@ due-claim R t free = record {
 
 module _ (P : Plan) (G : Data) (R : Moment) (i : Item) (may : MaySend P G R.state i) where
   sum : (j : Item) → send_count (state_after P G R.state (Send i)) j ≡ send_count R.state j + as_number (same_item j i)
-  sum j = weigh-push (λ (x : Sent). as_number (same_item j x.item)) R.state.sends (sent_with P G R.state i)
+  sum j = weigh-push (λ (x : SentItem). as_number (same_item j x.item)) R.state.sends (sent_with P G R.state i)
 
   -- after a send
   pub due-send : IsDueBefore R (with_send P G R i)

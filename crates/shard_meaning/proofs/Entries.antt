@@ -1,9 +1,10 @@
 -- What an event changes of the entries that a shard should hold.
 use Rattle.std.proofs.Common.{◌≡◌, ◌≢◌, ℕ, suc, ◌+◌, ◌<◌, ◌≤◌, ℤ, true, false, cond, List, [], ◌∷◌, ◌++◌, sym, refl, ap, ◌∙◌, subst, inl, inr, arith, Option, Some, None, Bool}
-use Rattle.std.specs.Prelude.{option_map, unwrap_or}
+use Rattle.std.specs.Prelude.{unwrap_or}
 use Rattle.std.proofs.lemmas.Bool.{false_from_ne_true, false≢true}
 use mathlib.Core.Logic.{dite}
 use native.Mathlib.Decide.{ℕ_discrete}
+use Rattle.ptg_base.specs.Entry.{Entry}
 use Rattle.ptg_base.specs.Lists.{IsIn}
 use Rattle.ptg_base.specs.Task.{Task}
 use Rattle.ptg_base.specs.TaskComparing.{same_task}
@@ -25,27 +26,27 @@ use Rattle.dep_iter.specs.Hints.{priority}
 use Rattle.dep_iter.specs.Items.{items}
 use Rattle.dep_iter.specs.Tasks.{IsTask, flows_of}
 use Rattle.dep_iter.proofs.Items.{Edge-injective, item_edge}
-use Rattle.dep_shard.specs.Content.{Content, Entry, Updates, entry_before, entry_in, entry_of, fresh, tiles_after, with_arrival}
+use Rattle.dep_shard.specs.Content.{Content, Updates, entry_before, entry_in, entry_of, fresh, tiles_after, with_arrival}
 use Rattle.list_lemmas.specs.Counting.{as_number}
 use Rattle.flow_meaning.specs.Comparing.{same_item}
 use Rattle.flow_meaning.specs.Machine.{Claim, MachineState, MaySend, Send, arrived, claim_count, is_sent, sent_tile, state_after}
 use Rattle.flow_meaning.specs.Sound.{IsSoundState}
 use Rattle.flow_meaning.specs.Starting.{delivered_from, delivered_tiles, delivered_to}
-use Rattle.flow_meaning.specs.Table.{TableEntry, table_entry}
+use Rattle.flow_meaning.specs.Table.{table_entry}
 use Rattle.flow_meaning.proofs.Arriving.{arrives, arrives_not, delivers_as_before, delivers_now, sent_edge_in, writes_not}
 use Rattle.flow_meaning.proofs.Comparing.{same_item-decides}
 use Rattle.flow_meaning.proofs.Members.{in_edge_to}
 use Rattle.flow_meaning.proofs.Events.{claim_member, unsent}
 use Rattle.flow_meaning.proofs.Rounds.{delivered_tiles-same}
 use Rattle.flow_meaning.proofs.Reordering.{first_none}
-use Rattle.shard_meaning.specs.Share.{Placement, as_entry}
+use Rattle.shard_meaning.specs.Share.{Placement}
 use Rattle.shard_meaning.proofs.Carrying.{Carries, edge_tile}
 use Rattle.shard_meaning.proofs.Delivering.{in_order}
 use Rattle.shard_meaning.proofs.TableEntries.{by_same, no_entry, none_came, some_entry}
 
 -- the entries of the shard k in a state
 pub record HoldsEntries (P : Plan) (of : Placement) (k : ℕ) (S : MachineState) (y : Content) : Type 0 where
-  pub there : (t : Task) → IsTask P t → of t ≡ k → entry_of y t ≡ option_map as_entry (table_entry P S t)
+  pub there : (t : Task) → IsTask P t → of t ≡ k → entry_of y t ≡ table_entry P S t
   pub only : (t : Task) (e : Entry) → entry_of y t ≡ Some e → IsTask P t × (of t ≡ k)
 
 -- where nothing is delivered there is no tile
@@ -83,8 +84,8 @@ module _ (P : Plan) (G : Data) (con : IsConsistent P) (S : MachineState) (sound 
   pub claim_entries : (t : Task) (y y' : Content) → Updates y.entries y'.entries t None → HoldsEntries P of k S y → HoldsEntries P of k (state_after P G S (Claim t)) y'
   claim_entries t y y' updates h = record {
     there = λ u task here. by_test (same_task t u)
-        (λ e. now_there y y' t u None updates e ∙ sym (ap (option_map as_entry) (no_entry P u (claim_count (state_after P G S (Claim t)) u) _ _ (subst (λ v. 0 < claim_count (state_after P G S (Claim t)) v) ((same_task-decides t u).0 e) (claimed_now t)))))
-        (λ ne. still_there y y' t u None updates ne ∙ (h.there u task here ∙ ap (option_map as_entry) (by_same P u _ _ _ _ _ _ (sym (claimed_before t u (λ e. false≢true (sym ne ∙ (same_task-decides t u).1 e)))) refl refl)));
+        (λ e. now_there y y' t u None updates e ∙ sym (no_entry P u (claim_count (state_after P G S (Claim t)) u) _ _ (subst (λ v. 0 < claim_count (state_after P G S (Claim t)) v) ((same_task-decides t u).0 e) (claimed_now t))))
+        (λ ne. still_there y y' t u None updates ne ∙ (h.there u task here ∙ by_same P u _ _ _ _ _ _ (sym (claimed_before t u (λ e. false≢true (sym ne ∙ (same_task-decides t u).1 e)))) refl refl));
     only = λ u e is. by_test (same_task t u)
         (λ b. let gone : entry_in y'.entries u ≡ None = now_there y y' t u None updates b in absurd cc)
         (λ b. h.only u e (sym (still_there y y' t u None updates b) ∙ is));
@@ -92,15 +93,15 @@ module _ (P : Plan) (G : Data) (con : IsConsistent P) (S : MachineState) (sound 
 
   pub claim_entries_elsewhere : (t : Task) (y : Content) → of t ≢ k → HoldsEntries P of k S y → HoldsEntries P of k (state_after P G S (Claim t)) y
   claim_entries_elsewhere t y away h = record {
-    there = λ u task here. h.there u task here ∙ ap (option_map as_entry) (by_same P u _ _ _ _ _ _ (sym (claimed_before t u (λ e. away (ap of e ∙ here)))) refl refl);
+    there = λ u task here. h.there u task here ∙ by_same P u _ _ _ _ _ _ (sym (claimed_before t u (λ e. away (ap of e ∙ here)))) refl refl;
     only = h.only;
   }
 
   -- a send of a write-back changes no entry
   pub write_entries : (w : WriteBack) → MaySend P G S (item.Write w) → (y : Content) → HoldsEntries P of k S y → HoldsEntries P of k (state_after P G S (Send (item.Write w))) y
   write_entries w may y h = record {
-    there = λ u task here. h.there u task here ∙ ap (option_map as_entry) (by_same P u (claim_count S u) (claim_count S u) _ _ _ _ refl (sym (writes_not P G con S sound w may u))
-        (sym (delivered_tiles-same P G con u task (sent_tile (state_after P G S (Send (item.Write w)))) (sent_tile S) (λ d i. delivers_as_before P G S (item.Write w) d (λ q. absurd cc)))));
+    there = λ u task here. h.there u task here ∙ by_same P u (claim_count S u) (claim_count S u) _ _ _ _ refl (sym (writes_not P G con S sound w may u))
+        (sym (delivered_tiles-same P G con u task (sent_tile (state_after P G S (Send (item.Write w)))) (sent_tile S) (λ d i. delivers_as_before P G S (item.Write w) d (λ q. absurd cc))));
     only = h.only;
   }
 
@@ -154,9 +155,9 @@ module _ (P : Plan) (G : Data) (con : IsConsistent P) (S : MachineState) (sound 
     -- what the edge finds in the shard of its target: as the table has it
     pub finds : (y : Content) → of e.to ≡ k → HoldsEntries P of k S y → entry_before y e.to (goal P e.to) (priority P e.to) ≡ record { goal = goal P e.to; arrived = arrived P S e.to; priority = priority P e.to; tiles = delivered_tiles P (sent_tile S) e.to }
     finds y here h = ap (λ o. unwrap_or o (fresh (goal P e.to) (priority P e.to))) (h.there e.to target here) ∙ dite (ℕ_discrete (arrived P S e.to) 0)
-        (λ z. ap (λ (o : Option TableEntry). unwrap_or (option_map as_entry o) (fresh (goal P e.to) (priority P e.to))) (by_same P e.to (claim_count S e.to) 0 (arrived P S e.to) 0 _ _ target_unclaimed z refl ∙ none_came P e.to (delivered_tiles P (sent_tile S) e.to) (omega (arith, missing)))
+        (λ z. ap (λ (o : Option Entry). unwrap_or o (fresh (goal P e.to) (priority P e.to))) (by_same P e.to (claim_count S e.to) 0 (arrived P S e.to) 0 _ _ target_unclaimed z refl ∙ none_came P e.to (delivered_tiles P (sent_tile S) e.to) (omega (arith, missing)))
         ∙ (λ i. record { goal = goal P e.to; arrived = sym z i; priority = priority P e.to; tiles = sym (none_yet z) i }))
-        (λ nz. ap (λ (o : Option TableEntry). unwrap_or (option_map as_entry o) (fresh (goal P e.to) (priority P e.to))) (by_same P e.to (claim_count S e.to) 0 (arrived P S e.to) (arrived P S e.to) _ _ target_unclaimed refl refl ∙ some_entry P e.to (arrived P S e.to) (delivered_tiles P (sent_tile S) e.to) (omega arith) (omega (arith, missing))))
+        (λ nz. ap (λ (o : Option Entry). unwrap_or o (fresh (goal P e.to) (priority P e.to))) (by_same P e.to (claim_count S e.to) 0 (arrived P S e.to) (arrived P S e.to) _ _ target_unclaimed refl refl ∙ some_entry P e.to (arrived P S e.to) (delivered_tiles P (sent_tile S) e.to) (omega arith) (omega (arith, missing))))
       where
         none_yet : arrived P S e.to ≡ 0 → delivered_tiles P (sent_tile S) e.to ≡ []
         none_yet z = delivered_tiles-same P G con e.to target (sent_tile S) (λ _. None) (λ d i. first_none (item.Edge d) S.sends (unsent S (item.Edge d) (false_from_ne_true (is_sent S (item.Edge d)) (λ q. absurd (omega (arith, z, count-some (λ x. is_sent S (item.Edge x)) (in_edges P e.to) d i q)))))) ∙ nothing_comes P e.to
@@ -166,8 +167,8 @@ module _ (P : Plan) (G : Data) (con : IsConsistent P) (S : MachineState) (sound 
         → HoldsEntries P of k (state_after P G S (Send (item.Edge e))) y'
     edge_entries y y' here carries h updates = record {
       there = λ u task at. by_test (same_task e.to u)
-          (λ q. let same : e.to ≡ u = (same_task-decides e.to u).0 q in subst (λ (v : Task). entry_in y'.entries v ≡ option_map as_entry (table_entry P (state_after P G S (Send (item.Edge e))) v)) same (now_there y y' e.to e.to _ updates ((same_task-decides e.to e.to).1 refl) ∙ entry_now))
-          (λ q. still_there y y' e.to u _ updates q ∙ (h.there u task at ∙ ap (option_map as_entry) (elsewhere u task (λ same. false≢true (sym q ∙ (same_task-decides e.to u).1 (sym same))))));
+          (λ q. let same : e.to ≡ u = (same_task-decides e.to u).0 q in subst (λ (v : Task). entry_in y'.entries v ≡ table_entry P (state_after P G S (Send (item.Edge e))) v) same (now_there y y' e.to e.to _ updates ((same_task-decides e.to e.to).1 refl) ∙ entry_now))
+          (λ q. still_there y y' e.to u _ updates q ∙ (h.there u task at ∙ elsewhere u task (λ same. false≢true (sym q ∙ (same_task-decides e.to u).1 (sym same)))));
       only = λ u f is. by_test (same_task e.to u)
           (λ q. let same : e.to ≡ u = (same_task-decides e.to u).0 q in (subst (IsTask P) same target, sym (ap of same) ∙ here))
           (λ q. h.only u f (sym (still_there y y' e.to u _ updates q) ∙ is));
@@ -176,13 +177,13 @@ module _ (P : Plan) (G : Data) (con : IsConsistent P) (S : MachineState) (sound 
         came : arrived P S e.to + 1 ≡ arrived P (state_after P G S (Send (item.Edge e))) e.to
         came = sym (arrives P G con S sound e may)
 
-        entry_now : Some (with_arrival (entry_before y e.to (goal P e.to) (priority P e.to)) e.in_flow tile) ≡ option_map as_entry (table_entry P (state_after P G S (Send (item.Edge e))) e.to)
+        entry_now : Some (with_arrival (entry_before y e.to (goal P e.to) (priority P e.to)) e.in_flow tile) ≡ table_entry P (state_after P G S (Send (item.Edge e))) e.to
         entry_now = ap (λ (x : Entry). Some (with_arrival x e.in_flow tile)) (finds y here h)
             ∙ ((λ i. Some (record { goal = goal P e.to; arrived = came i; priority = priority P e.to; tiles = sym (tiles_there carries) i }))
-            ∙ sym (ap (option_map as_entry) (by_same P e.to (claim_count S e.to) 0 _ _ _ _ target_unclaimed refl refl ∙ some_entry P e.to (arrived P (state_after P G S (Send (item.Edge e))) e.to) (delivered_tiles P (sent_tile (state_after P G S (Send (item.Edge e)))) e.to) (omega (arith, came)) (omega (arith, came, missing)))))
+            ∙ sym (by_same P e.to (claim_count S e.to) 0 _ _ _ _ target_unclaimed refl refl ∙ some_entry P e.to (arrived P (state_after P G S (Send (item.Edge e))) e.to) (delivered_tiles P (sent_tile (state_after P G S (Send (item.Edge e)))) e.to) (omega (arith, came)) (omega (arith, came, missing))))
 
     pub edge_entries_elsewhere : (y : Content) → of e.to ≢ k → HoldsEntries P of k S y → HoldsEntries P of k (state_after P G S (Send (item.Edge e))) y
     edge_entries_elsewhere y away h = record {
-      there = λ u task at. h.there u task at ∙ ap (option_map as_entry) (elsewhere u task (λ same. away (sym (ap of same) ∙ at)));
+      there = λ u task at. h.there u task at ∙ elsewhere u task (λ same. away (sym (ap of same) ∙ at));
       only = h.only;
     }

@@ -2,42 +2,37 @@
 -- most.
 use Rattle.std.proofs.Common.{◌≡◌, ℕ, ◌+◌, ◌<◌, ◌≤◌, Bool, true, false, cond, ◌==◌, ◌&&◌, ◌||◌, List, refl, ap, sym, ◌∙◌, subst, arith, Some, None, nat_lt, IsSome}
 use Rattle.std.proofs.lemmas.Bool.{eqb-true}
-use Rattle.std.specs.Prelude.{option_map}
+use Rattle.ptg_base.specs.Entry.{Entry, FlowTile}
 use Rattle.ptg_base.specs.Task.{Task}
 use Rattle.plan_core.specs.declared.plan.Plan.{Plan}
 use Rattle.coll_data.specs.Data.{Data}
 use Rattle.dep_iter.specs.Consistent.{IsConsistent}
 use Rattle.dep_iter.specs.Edges.{goal}
-use Rattle.dep_iter.specs.Hints.{priority}
 use Rattle.dep_iter.specs.Tasks.{IsTask}
-use Rattle.dep_shard.specs.Arrivals.{FlowTile}
-use Rattle.dep_shard.specs.Content.{Content, Entry, IsReady, Takes, entry_of}
+use Rattle.dep_shard.specs.Content.{Content, IsReady, Takes, entry_of}
 use Rattle.flow_meaning.specs.Backward.{ended, inputs}
 use Rattle.list_lemmas.specs.Counting.{as_number}
 use Rattle.flow_meaning.specs.Machine.{MachineState, MayClaim, arrived, claim_count, sent_tile}
 use Rattle.flow_meaning.specs.Sound.{IsSoundState}
 use Rattle.flow_meaning.specs.Starting.{delivered_tiles}
-use Rattle.flow_meaning.specs.Table.{is_ready, is_waiting}
+use Rattle.flow_meaning.specs.Table.{entry_of as whole_entry, is_ready, is_waiting}
 use Rattle.list_lemmas.proofs.Counts.{count-at_most, weigh-member}
 use Rattle.list_lemmas.proofs.Tasks.{counted_member}
 use Rattle.std.proofs.lemmas.Option.{same_Some}
 use Rattle.flow_meaning.proofs.Events.{has_inputs, it_ends}
 use Rattle.flow_meaning.proofs.Once.{claims_at_most}
 use Rattle.shard_meaning.specs.Moment.{Moment, run_count}
-use Rattle.shard_meaning.specs.Share.{IsShardOf, Placement, as_entry, is_of}
+use Rattle.shard_meaning.specs.Share.{IsShardOf, Placement, is_of}
 use Rattle.shard_meaning.proofs.Claims.{one_here}
 use Rattle.shard_meaning.proofs.SoundMoments.{claims_below}
 use Rattle.shard_meaning.proofs.TableEntries.{by_same, full_entry}
-
-abbrev whole_entry : Plan → MachineState → Task → Entry
-whole_entry P S t = record { goal = goal P t; arrived = arrived P S t; priority = priority P t; tiles = delivered_tiles P (sent_tile S) t }
 
 -- what an entry of the table is, and that its task is not claimed
 pub record IsEntryOf (P : Plan) (S : MachineState) (t : Task) (e : Entry) : Type 0 where
   pub unclaimed : claim_count S t ≡ 0
   pub is : e ≡ whole_entry P S t
 
-entry_is : (P : Plan) (S : MachineState) (t : Task) (e : Entry) (b : Bool) → is_ready P S t || is_waiting P S t ≡ b → option_map as_entry (cond b (Some (record { goal = goal P t; arrived = arrived P S t; priority = priority P t; tiles = delivered_tiles P (sent_tile S) t })) None) ≡ Some e → IsEntryOf P S t e
+entry_is : (P : Plan) (S : MachineState) (t : Task) (e : Entry) (b : Bool) → is_ready P S t || is_waiting P S t ≡ b → cond b (Some (whole_entry P S t)) None ≡ Some e → IsEntryOf P S t e
 entry_is P S t e true h is = record { unclaimed = free (claim_count S t == 0) refl h; is = sym (same_Some (whole_entry P S t) e is) }
   where
     free : (b : Bool) → (claim_count S t == 0) ≡ b → ((b && (arrived P S t == goal P t)) || (b && (nat_lt 0 (arrived P S t) && nat_lt (arrived P S t) (goal P t)))) ≡ true → claim_count S t ≡ 0
@@ -65,7 +60,7 @@ module _ (P : Plan) (G : Data) (of : Placement) (k : ℕ) (R : Moment) (y : Cont
   -- and a task of the shard that may be claimed has one
   pub may_ready : (t : Task) → of t ≡ k → MayClaim P R.state t → (entry_of y t ≡ Some (whole_entry P R.state t)) × IsReady (whole_entry P R.state t)
   may_ready t at may = (
-    h.there t may.task at ∙ ap (option_map as_entry) (by_same P t (claim_count R.state t) 0 (arrived P R.state t) (arrived P R.state t) _ _ may.unclaimed refl refl ∙ full_entry P t (arrived P R.state t) (delivered_tiles P (sent_tile R.state) t) may.all_arrived),
+    h.there t may.task at ∙ (by_same P t (claim_count R.state t) 0 (arrived P R.state t) (arrived P R.state t) _ _ may.unclaimed refl refl ∙ full_entry P t (arrived P R.state t) (delivered_tiles P (sent_tile R.state) t) may.all_arrived),
     may.all_arrived,
   )
 

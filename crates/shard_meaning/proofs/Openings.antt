@@ -1,6 +1,5 @@
 -- What shards hold, and what they need to spare, before the first event.
 use Rattle.std.proofs.Common.{◌≡◌, ℕ, Bool, true, false, cond, ◌&&◌, ◌==◌, [], refl, ap, sym, ◌∙◌, arith, Some, None, is_none, eq-eqb, ne_eqb}
-use Rattle.std.specs.Prelude.{option_map}
 use Rattle.std.proofs.lemmas.Bool.{and_from, and_parts, eqb-true}
 use mathlib.Core.Logic.{dite}
 use native.Mathlib.Decide.{ℕ_discrete}
@@ -23,7 +22,7 @@ use Rattle.shard_meaning.specs.Calm.{AreFinished}
 use Rattle.shard_meaning.specs.Moment.{opening_moment}
 use Rattle.shard_meaning.specs.Opening.{HasOpeningReserve, IsOpeningShard, is_edge_to, is_to_enter, is_write_from, opening_entry}
 use Rattle.shard_meaning.specs.Reserve.{HasReserve, is_due_edge, is_due_end, is_due_entry, is_due_write, is_due_write_tile, is_edge_of_type, is_write_of_type}
-use Rattle.shard_meaning.specs.Share.{IsShardOf, Placement, as_entry, is_of}
+use Rattle.shard_meaning.specs.Share.{IsShardOf, Placement, is_of}
 use Rattle.shard_meaning.proofs.Entries.{nothing_comes}
 use Rattle.shard_meaning.proofs.TableEntries.{by_same, entry_by, full_entry, none_came}
 
@@ -32,15 +31,15 @@ pub none_arrived : (P : Plan) (t : Task) → arrived P opening_state t ≡ 0
 none_arrived P t = weigh-zero _ (in_edges P t) (λ e i. refl)
 
 -- the entry of a task before the first event is that of the table
-opening_is : (P : Plan) (t : Task) → opening_entry P t ≡ option_map as_entry (table_entry P opening_state t)
+opening_is : (P : Plan) (t : Task) → opening_entry P t ≡ table_entry P opening_state t
 opening_is P t =
     let table : table_entry P opening_state t ≡ entry_by P t 0 0 [] = by_same P t 0 0 (arrived P opening_state t) 0 (delivered_tiles P (sent_tile opening_state) t) [] refl (none_arrived P t) (nothing_comes P t) in
     dite (ℕ_discrete (goal P t) 0)
     (λ z. ap (λ b. cond b (Some (fresh 0 (priority P t))) None) (eq-eqb (goal P t) 0 z)
     ∙ ((λ i. Some (record { goal = sym z i; arrived = 0; priority = priority P t; tiles = [] }))
-    ∙ (ap (option_map as_entry) (sym (full_entry P t 0 [] (sym z))) ∙ ap (option_map as_entry) (sym table))))
+    ∙ (sym (full_entry P t 0 [] (sym z)) ∙ sym table)))
     (λ ne. ap (λ b. cond b (Some (fresh 0 (priority P t))) None) (ne_eqb (goal P t) 0 ne)
-    ∙ (ap (option_map as_entry) (sym (none_came P t [] (omega arith))) ∙ ap (option_map as_entry) (sym table)))
+    ∙ (sym (none_came P t [] (omega arith)) ∙ sym table))
 
 module _ (P : Plan) (of : Placement) (k : ℕ) (y : Content) (opening : IsOpeningShard P of k y) where
   pub opening_share : (G : Data) → IsShardOf P G of k opening_moment y

@@ -1,7 +1,6 @@
 -- In whatever order tasks were claimed and items sent, shards hold the same, and the moment is as sound, finished and
 -- calm.
 use Rattle.std.proofs.Common.{◌≡◌, ℕ, length, ap, sym, ◌∙◌, arith, nat_lt, inl, inr, ◌||◌, ◌==◌}
-use Rattle.std.specs.Prelude.{option_map}
 use Rattle.ptg_base.specs.Task.{Task}
 use Rattle.ptg_base.specs.TaskComparing.{same_task}
 use Rattle.ptg_base.specs.declared.edge.Item.{Item}
@@ -13,12 +12,12 @@ use Rattle.list_lemmas.proofs.Counts.{weigh-one}
 use Rattle.dep_shard.specs.Content.{Content}
 use Rattle.flow_meaning.specs.Comparing.{same_item}
 use Rattle.list_lemmas.specs.Counting.{as_number}
-use Rattle.flow_meaning.specs.Machine.{Claim, Sent, claim_count, is_sent}
+use Rattle.flow_meaning.specs.Machine.{Claim, SentItem, claim_count, is_sent}
 use Rattle.flow_meaning.proofs.Reordering.{back, claim_in, possible_there, reordered_sound, table_same}
 use Rattle.shard_meaning.specs.Calm.{AreFinished, IsCalm}
 use Rattle.shard_meaning.specs.Moment.{IsReorderedMoment, IsSoundMoment, Moment, run_count}
 use Rattle.shard_meaning.specs.Reserve.{HasReserve}
-use Rattle.shard_meaning.specs.Share.{IsShardOf, Placement, as_entry, is_of, trap_weight, write_weight}
+use Rattle.shard_meaning.specs.Share.{IsShardOf, Placement, is_of, trap_weight, write_weight}
 use Rattle.shard_meaning.proofs.Due.{IsDueBefore}
 use Rattle.shard_meaning.proofs.Reserving.{reserve-away}
 
@@ -30,7 +29,7 @@ module _ (P : Plan) (R T : Moment) (same : IsReorderedMoment R T) where
   runs t = sym (same.running (λ u. as_number (same_task t u)))
 
   sent : (i : Item) → is_sent T.state i ≡ is_sent R.state i
-  sent i = sym (ap (nat_lt 0) (same.state.sends (λ (x : Sent). as_number (same_item i x.item))))
+  sent i = sym (ap (nat_lt 0) (same.state.sends (λ (x : SentItem). as_number (same_item i x.item))))
 
   as_due : IsDueBefore R T
   as_due = record {
@@ -55,7 +54,7 @@ module _ (P : Plan) (R T : Moment) (same : IsReorderedMoment R T) where
     module _ (con : IsConsistent P) where
       pub reordered_share : (of : Placement) (k : ℕ) (y : Content) → IsShardOf P G of k R y → IsShardOf P G of k T y
       reordered_share of k y h = record {
-        there = λ t job at. h.there t job at ∙ ap (option_map as_entry) (table_same P G con R.state T.state sound.state same.state t);
+        there = λ t job at. h.there t job at ∙ table_same P G con R.state T.state sound.state same.state t;
         only = h.only;
         written = λ f. h.written f ∙ same.state.sends (write_weight of k f);
         trapped = λ f. omega (arith, h.trapped f, same.running (trap_weight P G of k f), same.state.claims (trap_weight P G of k f));

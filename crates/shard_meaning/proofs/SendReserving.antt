@@ -4,6 +4,7 @@ use Rattle.std.proofs.Common.{◌≡◌, ℕ, ◌+◌, ◌<◌, ◌≤◌, true,
 use Rattle.std.proofs.lemmas.Bool.{and_from, false_from_ne_true, false≢true}
 use Rattle.std.specs.Cmp.{unsigned_Decides}
 use Rattle.std.specs.Prelude.{option_map}
+use Rattle.ptg_base.specs.Entry.{Entry}
 use Rattle.ptg_base.specs.Lists.{HasNoRepeats, IsIn}
 use Rattle.ptg_base.specs.Task.{Task}
 use Rattle.ptg_base.specs.TaskComparing.{same_task}
@@ -27,7 +28,7 @@ use Rattle.dep_iter.specs.Tasks.{IsTask, all_tasks}
 use Rattle.dep_iter.proofs.Listing.{listed}
 use Rattle.dep_iter.proofs.Once.{once-all_tasks}
 use Rattle.dep_iter.proofs.Items.{item_write}
-use Rattle.dep_shard.specs.Content.{Content, Entry, KeepsAllButWritten, Updates, Uses, entry_in, entry_of}
+use Rattle.dep_shard.specs.Content.{Content, KeepsAllButWritten, Updates, Uses, entry_in, entry_of}
 use Rattle.dep_shard.specs.Stock.{tiles_used}
 use Rattle.flow_meaning.specs.Backward.{ended}
 use Rattle.list_lemmas.specs.Counting.{count}

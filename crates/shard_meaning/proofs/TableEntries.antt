@@ -4,15 +4,14 @@ use Rattle.std.proofs.Common.{◌≡◌, ℕ, ◌<◌, ◌≤◌, false, cond, �
 use Rattle.std.proofs.lemmas.Bool.{lt-ltb}
 use mathlib.Core.Logic.{dite}
 use native.Mathlib.Decide.{ℕ_discrete}
+use Rattle.ptg_base.specs.Entry.{Entry, FlowTile}
 use Rattle.ptg_base.specs.Task.{Task}
 use Rattle.plan_core.specs.declared.plan.Plan.{Plan}
 use Rattle.dep_iter.specs.Edges.{goal}
 use Rattle.dep_iter.specs.Hints.{priority}
-use Rattle.flow_meaning.specs.Starting.{FlowTile}
-use Rattle.flow_meaning.specs.Table.{TableEntry}
 
 module _ (P : Plan) (t : Task) where
-  abbrev pub entry_by : ℕ → ℕ → List FlowTile → Option TableEntry
+  abbrev pub entry_by : ℕ → ℕ → List FlowTile → Option Entry
   entry_by claims came tiles =
       cond (((claims == 0) && (came == goal P t)) || ((claims == 0) && (nat_lt 0 came && nat_lt came (goal P t))))
       (Some (record { goal = goal P t; arrived = came; priority = priority P t; tiles = tiles })) None

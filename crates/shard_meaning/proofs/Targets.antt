@@ -2,6 +2,7 @@
 use Rattle.std.proofs.Common.{◌≡◌, ◌↔◌, ℕ, ◌+◌, ◌<◌, ℤ, List, [], length, ap, sym, subst, arith, Option, Some}
 use Rattle.std.specs.Prelude.{unwrap_or}
 use Rattle.std.specs.Option.{option_map_or}
+use Rattle.ptg_base.specs.Entry.{Entry}
 use Rattle.ptg_base.specs.Lists.{IsIn}
 use Rattle.ptg_base.specs.declared.edge.Edge.{Edge}
 use Rattle.ptg_base.specs.declared.edge.Item.TheVariants as item
@@ -14,7 +15,7 @@ use Rattle.dep_iter.specs.Edges.{goal, in_edges}
 use Rattle.dep_iter.specs.Hints.{priority}
 use Rattle.dep_iter.specs.Tasks.{IsTask, flows_of}
 use Rattle.dep_iter.proofs.Belonging.{in_edge_is}
-use Rattle.dep_shard.specs.Content.{Content, Entry, IsReady, IsWaiting, entry_before, entry_of, fresh, with_arrival}
+use Rattle.dep_shard.specs.Content.{Content, IsReady, IsWaiting, entry_before, entry_of, fresh, with_arrival}
 use Rattle.flow_meaning.specs.Machine.{MaySend, arrived, sent_tile}
 use Rattle.flow_meaning.specs.Sound.{IsSoundState}
 use Rattle.flow_meaning.specs.Starting.{delivered_tiles}

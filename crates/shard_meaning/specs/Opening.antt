@@ -1,6 +1,7 @@
 -- What a shard holds before the first event: of its tasks, those that no edge goes into are ready. Source: DAGuE
 -- (Parallel Computing, 2012): a task without dependences may run at once.
 use Rattle.std.specs.Prelude.{◌≡◌, ◌≤◌, ℕ, ◌+◌, Bool, true, false, ◌&&◌, ◌==◌, [], Option, Some, None, slice_index, if◌then◌else◌}
+use Rattle.ptg_base.specs.Entry.{Entry}
 use Rattle.ptg_base.specs.Task.{Task}
 use Rattle.ptg_base.specs.declared.edge.Edge.{Edge}
 use Rattle.ptg_base.specs.declared.edge.WriteBack.{WriteBack}
@@ -9,7 +10,7 @@ use Rattle.dep_iter.specs.Consistent.{all_data, all_writes}
 use Rattle.dep_iter.specs.Edges.{goal}
 use Rattle.dep_iter.specs.Hints.{priority}
 use Rattle.dep_iter.specs.Tasks.{IsTask, all_tasks}
-use Rattle.dep_shard.specs.Content.{Content, Entry, entry_of, fresh}
+use Rattle.dep_shard.specs.Content.{Content, entry_of, fresh}
 use Rattle.list_lemmas.specs.Counting.{count}
 use Rattle.shard_meaning.specs.Share.{Placement, is_of}
 use Rattle.shard_meaning.specs.Reserve.{is_edge_of_type, is_write_of_type}
@@ -32,10 +33,11 @@ pub record IsOpeningShard (P : Plan) (of : Placement) (k : ℕ) (y : Content) : 
 abbrev pub is_to_enter : Plan → Placement → ℕ → Task → Bool
 is_to_enter P of k t = is_of of k t && (if goal P t == 0 then false else true)
 
--- whether a data edge goes to a task of the shard k, or a write-back is of one, with a tile of this type
+-- whether an edge goes to a task of the shard k, with a tile of this type
 abbrev pub is_edge_to : Plan → Placement → ℕ → ℕ → Edge → Bool
 is_edge_to P of k datatype e = is_of of k e.to && is_edge_of_type P datatype e
 
+-- whether a write-back is of a task of the shard k, with a tile of this type
 abbrev pub is_write_from : Plan → Placement → ℕ → ℕ → WriteBack → Bool
 is_write_from P of k datatype w = is_of of k w.from && is_write_of_type P datatype w
 

@@ -1,7 +1,6 @@
 -- Which shard a task belongs to. Source: this project's own choice. Tasks whose affinity is one tile share a shard. A
 -- run depends on this number nowhere; the rank of a task is this number too, and so which edges are messages.
 use Rattle.std.specs.Prelude.{ℕ, ◌+◌, ◌%◌}
-use Rattle.ptg_base.specs.Task.{Task}
 use Rattle.ptg_base.specs.declared.place.Place.{Place}
 use Rattle.plan_core.specs.declared.plan.Plan.{Plan}
 use Rattle.dep_iter.specs.Hints.{affinity, place_number}

@@ -22,11 +22,11 @@ use Rattle.shard_meaning.specs.Share.{Placement, is_of}
 abbrev pub has_type : ℕ → Option FlowPlan → Bool
 has_type datatype f = option_map_or (λ (g : FlowPlan). g.datatype == datatype) f false
 
--- whether the tile of an edge, or of a write-back, is of this type: that of the flow that it comes to, or that it is
--- written from
+-- whether the tile of an edge is of this type: that of the flow that it comes to
 abbrev pub is_edge_of_type : Plan → ℕ → Edge → Bool
 is_edge_of_type P datatype e = has_type datatype (flow_of P.classes e.to.class e.in_flow)
 
+-- whether the tile of a write-back is of this type: that of the flow that it is written from
 abbrev pub is_write_of_type : Plan → ℕ → WriteBack → Bool
 is_write_of_type P datatype w = has_type datatype (flow_of P.classes w.from.class w.flow)
 
@@ -42,7 +42,7 @@ is_due_edge P of k datatype S e = (is_of of k e.to && is_edge_of_type P datatype
 abbrev pub is_due_write : Placement → ℕ → MachineState → WriteBack → Bool
 is_due_write of k S w = is_of of k w.from && not (is_sent S (item.Write w))
 
--- the same, and its tile is of this type
+-- whether a write-back of a task of the shard k is not sent, and its tile is of this type
 abbrev pub is_due_write_tile : Plan → Placement → ℕ → ℕ → MachineState → WriteBack → Bool
 is_due_write_tile P of k datatype S w =
     (is_of of k w.from && is_write_of_type P datatype w) && not (is_sent S (item.Write w))

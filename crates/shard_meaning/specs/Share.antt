@@ -1,7 +1,8 @@
 -- What a shard of the dependency table holds of a moment of a run. Source: DAGuE (Parallel Computing, 2012), where the
 -- tasks that are discovered are kept in a table by task; that the table is cut into shards, each with the tasks of its
 -- number, is this project's own choice.
-use Rattle.std.specs.Prelude.{◌≡◌, ℕ, ◌+◌, ℤ, Bool, ◌==◌, List, Option, Some, None, Ok, Err, option_map, if◌then◌else◌}
+use Rattle.std.specs.Prelude.{◌≡◌, ℕ, ◌+◌, ℤ, Bool, ◌==◌, List, Option, Some, None, Ok, Err, if◌then◌else◌}
+use Rattle.ptg_base.specs.Entry.{Entry}
 use Rattle.ptg_base.specs.Task.{Task}
 use Rattle.ptg_base.specs.declared.edge.WriteBack.{WriteBack}
 use Rattle.ptg_base.specs.declared.edge.Item.{Item}
@@ -10,12 +11,12 @@ use Rattle.term_core.specs.declared.trap.Trap.{Trap}
 use Rattle.plan_core.specs.declared.plan.Plan.{Plan}
 use Rattle.coll_data.specs.Data.{Data}
 use Rattle.dep_iter.specs.Tasks.{IsTask}
-use Rattle.dep_shard.specs.Content.{Content, Entry, entry_of}
+use Rattle.dep_shard.specs.Content.{Content, entry_of}
 use Rattle.list_lemmas.specs.Counting.{count, weigh}
 use Rattle.flow_meaning.specs.Ending.{Ended}
 use Rattle.flow_meaning.specs.Backward.{ended}
-use Rattle.flow_meaning.specs.Machine.{Sent}
-use Rattle.flow_meaning.specs.Table.{TableEntry, table_entry}
+use Rattle.flow_meaning.specs.Machine.{SentItem}
+use Rattle.flow_meaning.specs.Table.{table_entry}
 use Rattle.shard_meaning.specs.Moment.{Moment}
 
 -- the number of the shard that a task belongs to. An edge belongs to the shard of its target, a write-back to that of
@@ -27,10 +28,6 @@ Placement = Task → ℕ
 abbrev pub is_of : Placement → ℕ → Task → Bool
 is_of of k t = of t == k
 
--- an entry of the table, as a shard has it
-abbrev pub as_entry : TableEntry → Entry
-as_entry e = record { goal = e.goal; arrived = e.arrived; priority = e.priority; tiles = e.tiles }
-
 -- the weight of an item that was sent with this tile: that of the write-back and the tile, if the item is a write-back
 -- of a task of the shard k, else 0. In a consistent job each write-back has a tile
 abbrev pub written_weight : Placement → ℕ → (WriteBack × List ℤ → ℕ) → Item → Option (List ℤ) → ℕ
@@ -38,7 +35,8 @@ written_weight of k f (item.Edge e) tile = 0
 written_weight of k f (item.Write w) None = 0
 written_weight of k f (item.Write w) (Some tile) = if is_of of k w.from then f (w, tile) else 0
 
-abbrev pub write_weight : Placement → ℕ → (WriteBack × List ℤ → ℕ) → Sent → ℕ
+-- the weight of a sent item with its tile
+abbrev pub write_weight : Placement → ℕ → (WriteBack × List ℤ → ℕ) → SentItem → ℕ
 write_weight of k f x = written_weight of k f x.item x.tile
 
 -- the weight of a task that ends so: that of the task and the cause, if it traps, else 0
@@ -47,14 +45,14 @@ ended_weight f t None = 0
 ended_weight f t (Some (Ok tiles)) = 0
 ended_weight f t (Some (Err cause)) = f (t, cause)
 
--- the same for a task of the shard k, and 0 for one of another shard
+-- the weight of a task of the shard k that traps in the job: that of the task and the cause; 0 for any other task
 abbrev pub trap_weight : Plan → Data → Placement → ℕ → (Task × Trap → ℕ) → Task → ℕ
 trap_weight P G of k f t = if is_of of k t then ended_weight f t (ended P G t) else 0
 
 -- the shard k at rest holds its part of this moment, and nothing else
 pub record IsShardOf (P : Plan) (G : Data) (of : Placement) (k : ℕ) (R : Moment) (y : Content) : Type 0 where
   -- of each of its tasks it has the entry of the table, where the task is ready or waits; it has no other entries
-  pub there : (t : Task) → IsTask P t → of t ≡ k → entry_of y t ≡ option_map as_entry (table_entry P R.state t)
+  pub there : (t : Task) → IsTask P t → of t ≡ k → entry_of y t ≡ table_entry P R.state t
   pub only : (t : Task) (e : Entry) → entry_of y t ≡ Some e → IsTask P t × (of t ≡ k)
   -- the write-backs of its tasks that were sent, with their tiles, in whatever order
   pub written : (f : WriteBack × List ℤ → ℕ) → weigh f y.written ≡ weigh (write_weight of k f) R.state.sends

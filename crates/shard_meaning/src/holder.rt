@@ -2,6 +2,7 @@
 //! bounds of its two numbers.
 
 ghost use Rattle.std.specs.Prelude.{◌≡◌, ◌<◌, ◌≤◌, ◌+◌, ℕ, IsSome, List, Some};
+ghost use Rattle.ptg_base.specs.Entry.{Entry, FlowTile};
 ghost use Rattle.ptg_base.specs.Limits.{most_tasks};
 ghost use Rattle.ptg_base.specs.Task.{Task};
 ghost use Rattle.ptg_base.specs.declared.edge.Item.{Item};
@@ -9,8 +10,7 @@ ghost use Rattle.plan_core.specs.declared.plan.Plan.{Plan};
 ghost use Rattle.coll_data.specs.Data.{Data};
 ghost use Rattle.dep_iter.specs.Consistent.{IsConsistent};
 ghost use Rattle.dep_iter.specs.Tasks.{IsTask};
-ghost use Rattle.dep_shard.specs.Arrivals.{FlowTile};
-ghost use Rattle.dep_shard.specs.Content.{Content, Entry, IsReady, Takes, entry_of};
+ghost use Rattle.dep_shard.specs.Content.{Content, IsReady, Takes, entry_of};
 ghost use Rattle.flow_meaning.specs.Backward.{ended, inputs};
 ghost use Rattle.flow_meaning.specs.Machine.{MayClaim, claim_count, send_count, sender};
 ghost use Rattle.flow_meaning.specs.Sound.{IsSoundState};

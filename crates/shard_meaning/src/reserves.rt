@@ -1,6 +1,7 @@
 //! Laws of the reserve: each event keeps it for every shard, and it is enough for each call.
 
 ghost use Rattle.std.specs.Prelude.{◌≡◌, ◌<◌, ℕ, ℤ, IsTrue, List, None, Some, if◌then◌else◌, is_some, slice_index};
+ghost use Rattle.ptg_base.specs.Entry.{Entry, FlowTile};
 ghost use Rattle.ptg_base.specs.Task.{Task};
 ghost use Rattle.ptg_base.specs.declared.edge.Edge.{Edge};
 ghost use Rattle.ptg_base.specs.declared.edge.Item.TheVariants as item;
@@ -10,8 +11,7 @@ ghost use Rattle.plan_core.specs.Kinds.{flow_of};
 ghost use Rattle.plan_core.specs.declared.plan.Plan.{Plan};
 ghost use Rattle.coll_data.specs.Data.{Data};
 ghost use Rattle.dep_iter.specs.Consistent.{IsConsistent};
-ghost use Rattle.dep_shard.specs.Arrivals.{FlowTile};
-ghost use Rattle.dep_shard.specs.Content.{Content, Entry, KeepsAllButWritten, KeepsEntriesAndWritten, Takes, Updates, Uses, entry_of};
+ghost use Rattle.dep_shard.specs.Content.{Content, KeepsAllButWritten, KeepsEntriesAndWritten, Takes, Updates, Uses, entry_of};
 ghost use Rattle.flow_meaning.specs.Backward.{ended};
 ghost use Rattle.flow_meaning.specs.Ending.{output_tile};
 ghost use Rattle.flow_meaning.specs.Machine.{MayClaim, MaySend};

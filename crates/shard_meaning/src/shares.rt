@@ -1,6 +1,7 @@
 //! Laws of what a shard holds: each event changes the shard that it belongs to as the call does, and no other shard.
 
 ghost use Rattle.std.specs.Prelude.{◌≡◌, ◌≢◌, ◌<◌, ◌++◌, ℕ, ℤ, Err, IsTrue, List, None, Some, ◌∷◌, []};
+ghost use Rattle.ptg_base.specs.Entry.{FlowTile};
 ghost use Rattle.ptg_base.specs.Task.{Task};
 ghost use Rattle.ptg_base.specs.declared.edge.Edge.{Edge};
 ghost use Rattle.ptg_base.specs.declared.edge.Item.TheVariants as item;
@@ -11,7 +12,6 @@ ghost use Rattle.coll_data.specs.Data.{Data};
 ghost use Rattle.dep_iter.specs.Consistent.{IsConsistent};
 ghost use Rattle.dep_iter.specs.Edges.{goal};
 ghost use Rattle.dep_iter.specs.Hints.{priority};
-ghost use Rattle.dep_shard.specs.Arrivals.{FlowTile};
 ghost use Rattle.dep_shard.specs.Content.{Content, Ends, IsUnchanged, KeepsAllButEntries, KeepsAllButWritten, KeepsEntriesAndWritten, Takes, Updates, Uses, entry_before, with_arrival};
 ghost use Rattle.flow_meaning.specs.Backward.{ended};
 ghost use Rattle.flow_meaning.specs.Ending.{has_outputs, output_tile};

@@ -5,10 +5,12 @@ use dep_iter::Matched;
 use dep_shard::Shard;
 use plan_core::Plan;
 
+// Compiles only where T may be shared between threads.
 fn needs_sync<T: Sync>(x: &T) {
     let _x = x;
 }
 
+// Compiles only where T may be handed to another thread.
 fn needs_send<T: Send>(x: &T) {
     let _x = x;
 }

@@ -8,7 +8,7 @@ use Rattle.flow_meaning.specs.Machine.{sender}
 use Rattle.list_lemmas.proofs.Counts.{weigh-one, same_in, HasSameMembers-sym}
 use Rattle.shard_meaning.specs.Moment.{IsReorderedMoment}
 use Rattle.work_board.specs.declared.record.PassRecord.{PassRecord}
-use Rattle.table_rule.specs.declared.job.Job.{Job}
+use Rattle.table_rule.specs.declared.table_job.TableJob.{TableJob}
 use Rattle.table_rule.specs.Live.{AreStamps, Stamp}
 use Rattle.table_rule.specs.Names.{AreAll}
 use Rattle.table_rule.specs.Owning.{IsEmpty}
@@ -22,7 +22,7 @@ use Rattle.table_rule.proofs.SameMembers.{reordered_parts}
 use Rattle.table_rule.proofs.Turning.{turns_in}
 use Rattle.table_rule.proofs.Weighing.{weigh_alone}
 
-module _ (j : Job) (s : Table) (id : ℕ) (v : PassRecord) (rule : Rule j s) (me : get_elem? s.views id ≡ some v) (all : AreAll (v ∷ [])) where
+module _ (j : TableJob) (s : Table) (id : ℕ) (v : PassRecord) (rule : Rule j s) (me : get_elem? s.views id ≡ some v) (all : AreAll (v ∷ [])) where
   others_empty : (i : ℕ) (u : PassRecord) → i ≢ id → get_elem? s.views i ≡ some u → IsEmpty u
   others_empty i u ne e = (rule.1.owned.each i u e).nameless (nameless s.views id v rule.1.owned.names me all i u ne e)
 

@@ -4,17 +4,17 @@ use Rattle.std.proofs.lemmas.List.{length-append}
 use mathlib.Core.Option.{none, some}
 use lib.ListN.{get_elem?}
 use Rattle.atomic_table.specs.Table.{Allows, gives, rest, step, stepped}
+use Rattle.ptg_base.specs.Entry.{FlowTile}
 use Rattle.ptg_base.specs.Task.{Task}
 use Rattle.ptg_base.specs.TaskComparing.{same_task}
 use Rattle.list_lemmas.proofs.Members.{IsIn-append_left}
 use Rattle.list_lemmas.proofs.Counts.{weigh-one, weigh-push}
 use Rattle.plan_core.specs.declared.plan.Plan.{Plan}
 use Rattle.coll_data.specs.Data.{Data}
-use Rattle.dep_shard.specs.Arrivals.{FlowTile}
 use Rattle.dep_shard.specs.Content.{Content, Takes, Uses}
 use Rattle.flow_meaning.specs.Comparing.{same_item}
 use Rattle.list_lemmas.specs.Counting.{as_number, weigh}
-use Rattle.flow_meaning.specs.Machine.{MayClaim, Sent, claim_count, send_count, sender}
+use Rattle.flow_meaning.specs.Machine.{MayClaim, SentItem, claim_count, send_count, sender}
 use Rattle.flow_meaning.proofs.Events.{claim_sound}
 use Rattle.flow_meaning.proofs.Rest.{item_sender}
 use Rattle.shard_meaning.specs.Moment.{Moment, with_claim}
@@ -27,7 +27,7 @@ use Rattle.shard_meaning.proofs.ReadyCount.{ready-claim, ready_count}
 use Rattle.shard_meaning.proofs.Reserving.{reserve-claim, reserve-claim_away}
 use Rattle.work_board.specs.Claims.{MayStart}
 use Rattle.work_board.specs.declared.record.PassRecord.{PassRecord}
-use Rattle.table_rule.specs.declared.job.Job.{Job}
+use Rattle.table_rule.specs.declared.table_job.TableJob.{TableJob}
 use Rattle.table_rule.specs.Changes.{turn_left, with_own_claim}
 use Rattle.table_rule.specs.Live.{OwnsLives}
 use Rattle.table_rule.specs.Owning.{OwnsWork}
@@ -58,7 +58,7 @@ claim_lives v t k y₀ none_left turn o l = record {
 }
 
 -- of a task that is not claimed no pass has sent an item
-nothing_sent : (j : Job) (s : Table) (R : Moment) (id : ℕ) (v : PassRecord) (t : Task) (tiles : List FlowTile) (k : ℕ) (y₀ y : Content) → Parts j s R → get_elem? s.views id ≡ some v → Takes y₀ y t tiles
+nothing_sent : (j : TableJob) (s : Table) (R : Moment) (id : ℕ) (v : PassRecord) (t : Task) (tiles : List FlowTile) (k : ℕ) (y₀ y : Content) → Parts j s R → get_elem? s.views id ≡ some v → Takes y₀ y t tiles
     → IsShardOf j.matched j.given (shard_of j.matched j.shards) k R y₀ → MayStart j.matched j.given t tiles v
 nothing_sent j s R id v t tiles k y₀ y r me takes share = let P : Plan = j.matched in let G : Data = j.given in let of : Placement = shard_of j.matched j.shards in
     let may : MayClaim P R.state t = ready_may P G of k R y₀ share t takes.entry takes.is takes.ready in
@@ -67,11 +67,11 @@ nothing_sent j s R id v t tiles k y₀ y r me takes share = let P : Plan = j.mat
       runs = claim_ends P G R r.consistent r.sound t may;
       inputs = claim_inputs P G of k R y₀ share r.consistent r.sound y t tiles takes;
       unsent = λ i among. let none_sent : send_count R.state i ≡ 0 = unclaimed_unsent P G R.state r.sound i (ap (claim_count R.state) (item_sender P t i among) ∙ may.unclaimed) in
-          omega (arith, none_sent, r.records.sends (λ (x : Sent). as_number (same_item i x.item)), term_le (λ (u : PassRecord). weigh (λ (x : Sent). as_number (same_item i x.item)) u.sends) s.views id v me);
+          omega (arith, none_sent, r.records.sends (λ (x : SentItem). as_number (same_item i x.item)), term_le (λ (u : PassRecord). weigh (λ (x : SentItem). as_number (same_item i x.item)) u.sends) s.views id v me);
     }
 
 -- the turn is given back with a claim, where the shard had a ready entry of the task
-pub claims : (j : Job) (n id : ℕ) (m : Seated) (k : ℕ) (t : Task) (y₀ y : Content) (tiles : List FlowTile) → HasTurn m k y₀ y 0 → Takes y₀ y t tiles → Uses y₀.spare y.spare 0 None 0 0
+pub claims : (j : TableJob) (n id : ℕ) (m : Seated) (k : ℕ) (t : Task) (y₀ y : Content) (tiles : List FlowTile) → HasTurn m k y₀ y 0 → Takes y₀ y t tiles → Uses y₀.spare y.spare 0 None 0 0
     → Allows (Rule j) n id m (turn_word k) (λ _. 0) (λ _. gave_claim (Some j) t tiles (step n (turn_word k) 0 0 none) m 0)
 claims j n id m k t y₀ y tiles h takes uses s rule wide me _ = let P : Plan = j.matched in let G : Data = j.given in let of : Placement = shard_of j.matched j.shards in
     let R : Moment = rule.0 in let r = rule.1 in let v : PassRecord = m.0 in let w : PassRecord = turn_left (with_own_claim v t) in

@@ -16,7 +16,7 @@ use Rattle.dep_shard.specs.Content.{Content, Ends, KeepsEntriesAndWritten, Uses}
 use Rattle.flow_meaning.specs.Comparing.{same_item}
 use Rattle.list_lemmas.specs.Counting.{as_number, count, weigh}
 use Rattle.flow_meaning.specs.Ending.{has_outputs}
-use Rattle.flow_meaning.specs.Machine.{Sent, claim_count, send_count}
+use Rattle.flow_meaning.specs.Machine.{SentItem, claim_count, send_count}
 use Rattle.flow_meaning.specs.Sound.{IsFinished}
 use Rattle.flow_meaning.proofs.Events.{claim_member}
 use Rattle.shard_meaning.specs.Moment.{IsSoundMoment, Moment, run_count, with_end}
@@ -28,7 +28,7 @@ use Rattle.shard_meaning.proofs.Reserving.{reserve-end, reserve-end_away, reserv
 use Rattle.work_board.specs.Records.{done_by}
 use Rattle.work_board.specs.Sends.{MayEnd, MayTrap}
 use Rattle.work_board.specs.declared.record.PassRecord.{PassRecord}
-use Rattle.table_rule.specs.declared.job.Job.{Job}
+use Rattle.table_rule.specs.declared.table_job.TableJob.{TableJob}
 use Rattle.table_rule.specs.Changes.{turn_left, with_own_end}
 use Rattle.table_rule.specs.Live.{OwnsLives, own_claims, own_runs, own_stamps}
 use Rattle.table_rule.specs.Owning.{OwnsWork}
@@ -45,7 +45,7 @@ use Rattle.table_rule.proofs.Passes.{same_weight}
 use Rattle.table_rule.proofs.Weighing.{term_le, weigh-set, weigh_terms}
 
 -- the tasks that run are among the claims, so a sound state and the running tasks are a sound moment
-pub sound_moment : (j : Job) (s : Table) (R : Moment) → Parts j s R → IsSoundMoment j.matched j.given R
+pub sound_moment : (j : TableJob) (s : Table) (R : Moment) → Parts j s R → IsSoundMoment j.matched j.given R
 sound_moment j s R r = record {
   state = r.sound;
   claimed = λ t. omega (
@@ -85,13 +85,13 @@ end_lives v t k y₀ none_left turn runs stamped once o l = record {
 }
 
 -- what an end makes of the shard of the task, and that the task does no more
-record Ending (j : Job) (R : Moment) (v : PassRecord) (k : ℕ) (t : Task) (y₀ y : Content) : Type 0 where
+record Ending (j : TableJob) (R : Moment) (v : PassRecord) (k : ℕ) (t : Task) (y₀ y : Content) : Type 0 where
   finished : IsFinished j.matched j.given R.state t
   here : Share j R k y₀ → Share j (with_end R t) k y
   spare : j.preloaded ≡ true → Reserve j R k y₀ → Reserve j (with_end R t) k y
 
 -- the turn is given back with the end of the running task
-ends : (j : Job) (n id : ℕ) (m : Seated) (k : ℕ) (t : Task) (y₀ y : Content) → HasTurn m k y₀ y 0 → m.0.running ≡ t ∷ [] → shard_of j.matched j.shards t ≡ k → 0 < own_stamps m.0 t
+ends : (j : TableJob) (n id : ℕ) (m : Seated) (k : ℕ) (t : Task) (y₀ y : Content) → HasTurn m k y₀ y 0 → m.0.running ≡ t ∷ [] → shard_of j.matched j.shards t ≡ k → 0 < own_stamps m.0 t
     → ((s : Table) (R : Moment) → Parts j s R → get_elem? s.views id ≡ some m.0 → Ending j R m.0 k t y₀ y)
     → Allows (Rule j) n id m (turn_word k) (λ _. 0) (λ _. gave_end (step n (turn_word k) 0 0 none) m 0)
 ends j n id m k t y₀ y h runs at stamped does s rule wide me _ = let P : Plan = j.matched in let G : Data = j.given in let of : Placement = shard_of j.matched j.shards in
@@ -128,17 +128,17 @@ ends j n id m k t y₀ y h runs at stamped does s rule wide me _ = let P : Plan 
     )
 
 -- after its items
-pub ends_with_items : (j : Job) (n id : ℕ) (m : Seated) (k : ℕ) (t : Task) (y₀ y : Content) → HasTurn m k y₀ y 0 → MayEnd j.matched j.given t m.0 → shard_of j.matched j.shards t ≡ k → 0 < own_stamps m.0 t
+pub ends_with_items : (j : TableJob) (n id : ℕ) (m : Seated) (k : ℕ) (t : Task) (y₀ y : Content) → HasTurn m k y₀ y 0 → MayEnd j.matched j.given t m.0 → shard_of j.matched j.shards t ≡ k → 0 < own_stamps m.0 t
     → Ends y₀ y → KeepsEntriesAndWritten y₀ y → y.trapped ≡ y₀.trapped → Uses y₀.spare y.spare 0 None 0 0
     → Allows (Rule j) n id m (turn_word k) (λ _. 0) (λ _. gave_end (step n (turn_word k) 0 0 none) m 0)
 ends_with_items j n id m k t y₀ y h may at stamped ending kept trapped uses = ends j n id m k t y₀ y h may.runs at stamped (λ s R r me. let own = it_runs s.views R r.records id m.0 me t may.runs in record {
-  finished = inr (λ i among. lt-ltb 0 (send_count R.state i) (omega (arith, ltb-true 0 (send_count (done_by m.0) i) (may.sent i among), r.records.sends (λ (x : Sent). as_number (same_item i x.item)), term_le (λ (u : PassRecord). weigh (λ (x : Sent). as_number (same_item i x.item)) u.sends) s.views id m.0 me)));
+  finished = inr (λ i among. lt-ltb 0 (send_count R.state i) (omega (arith, ltb-true 0 (send_count (done_by m.0) i) (may.sent i among), r.records.sends (λ (x : SentItem). as_number (same_item i x.item)), term_le (λ (u : PassRecord). weigh (λ (x : SentItem). as_number (same_item i x.item)) u.sends) s.views id m.0 me)));
   here = λ q. end_here j.matched j.given (shard_of j.matched j.shards) k R t own y₀ y at may.outputs ending kept trapped q;
   spare = λ pre q. reserve-end j.matched (shard_of j.matched j.shards) k R t own y₀ y kept uses q;
 })
 
 -- by a trap
-pub ends_by_trap : (j : Job) (n id : ℕ) (m : Seated) (k : ℕ) (t : Task) (cause : Trap) (y₀ y : Content) → HasTurn m k y₀ y 0 → MayTrap j.matched j.given t cause m.0 → shard_of j.matched j.shards t ≡ k → 0 < own_stamps m.0 t
+pub ends_by_trap : (j : TableJob) (n id : ℕ) (m : Seated) (k : ℕ) (t : Task) (cause : Trap) (y₀ y : Content) → HasTurn m k y₀ y 0 → MayTrap j.matched j.given t cause m.0 → shard_of j.matched j.shards t ≡ k → 0 < own_stamps m.0 t
     → Ends y₀ y → KeepsEntriesAndWritten y₀ y → y.trapped ≡ y₀.trapped ++ (t, cause) ∷ [] → Uses y₀.spare y.spare 0 None 0 1
     → Allows (Rule j) n id m (turn_word k) (λ _. 0) (λ _. gave_end (step n (turn_word k) 0 0 none) m 0)
 ends_by_trap j n id m k t cause y₀ y h may at stamped ending kept trapped uses = ends j n id m k t y₀ y h may.runs at stamped (λ s R r me. let own = it_runs s.views R r.records id m.0 me t may.runs in record {

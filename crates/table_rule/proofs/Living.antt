@@ -16,7 +16,7 @@ use Rattle.dep_iter.specs.Tasks.{all_tasks}
 use Rattle.dep_iter.proofs.Listing.{listed}
 use Rattle.dep_shard.specs.Content.{Content}
 use Rattle.list_lemmas.specs.Counting.{as_number, count, weigh}
-use Rattle.flow_meaning.specs.Machine.{MachineState, Sent, claim_count, sender}
+use Rattle.flow_meaning.specs.Machine.{MachineState, SentItem, claim_count, sender}
 use Rattle.flow_meaning.specs.Sound.{IsSoundState}
 use Rattle.flow_meaning.specs.Table.{ready_tasks}
 use Rattle.list_lemmas.proofs.Counts.{count-some, some_passes, weigh-one, weigh-flat_map, weigh-plus}
@@ -67,7 +67,7 @@ stamp_counts v x i = count-some (λ (y : Stamp). same_task x.0 y.0) v.stamps x i
 module _ (P : Plan) (R R' : Moment) (live stamp : ℕ) (vs : List PassRecord) (id : ℕ) (v w : PassRecord) (me : get_elem? vs id ≡ some v) where
   -- the two words stay, and the ready tasks, the running ones and the credits add up to the same
   pub live_kept : length (ready_tasks P R'.state) + length R'.running + w.credit ≡ length (ready_tasks P R.state) + length R.running + v.credit
-      → OwnsLives w → w.stamps ≡ v.stamps → ((x : Sent) → IsIn x R'.state.sends → IsIn x R.state.sends ⊎ ((s : ℕ) × IsIn (sender x.item, s) v.stamps))
+      → OwnsLives w → w.stamps ≡ v.stamps → ((x : SentItem) → IsIn x R'.state.sends → IsIn x R.state.sends ⊎ ((s : ℕ) × IsIn (sender x.item, s) v.stamps))
       → AreLive P R live stamp vs → AreLive P R' live stamp (set vs id w)
   live_kept sum owns stamps senders r = record {
     live = omega (arith, r.live, sum, weigh-set (λ (u : PassRecord). u.credit) vs id v w me);

@@ -13,7 +13,7 @@ use Rattle.shard_meaning.specs.Calm.{IsCalm}
 use Rattle.shard_meaning.specs.Moment.{Moment}
 use Rattle.work_board.specs.Word.{Halt, Turn, Word}
 use Rattle.work_board.specs.declared.record.PassRecord.{PassRecord}
-use Rattle.table_rule.specs.declared.job.Job.{Job}
+use Rattle.table_rule.specs.declared.table_job.TableJob.{TableJob}
 use Rattle.table_rule.specs.Changes.{with_look, with_quiet, with_turn}
 use Rattle.table_rule.specs.Live.{AreLive, OwnsLives}
 use Rattle.table_rule.specs.Owning.{OwnsWork}
@@ -28,7 +28,7 @@ use Rattle.table_rule.proofs.Turning.{taking}
 use Rattle.table_rule.proofs.Naming.{named_not_empty}
 
 -- a pass that has looked at a word, and maybe has seen quiet
-module _ (j : Job) (s : Table) (id : ℕ) (v : PassRecord) (R : Moment) (r : Parts j s R) (me : get_elem? s.views id ≡ some v) where
+module _ (j : TableJob) (s : Table) (id : ℕ) (v : PassRecord) (R : Moment) (r : Parts j s R) (me : get_elem? s.views id ≡ some v) where
   owns : OwnsWork v
   owns = r.owned.each id v me
 
@@ -103,7 +103,7 @@ module _ (j : Job) (s : Table) (id : ℕ) (v : PassRecord) (R : Moment) (r : Par
       here_or_held Q x z q held h = ⊎_elim (λ (e : (x, z) ≡ (k, y)). subst (λ (p : ℕ × Content). Q p.0 p.1) (sym e) q) (λ t. held x z t) h
 
 -- the turn of a shard is taken, or was found taken
-pub takes_turn : (j : Job) (n id : ℕ) (m : Seated) (k : ℕ) → k < j.shards → HasName m.0 → Allows (Rule j) n id m (turn_word k) (λ _. 1) (took (Some j) k (step n (turn_word k) 1 0 none) m)
+pub takes_turn : (j : TableJob) (n id : ℕ) (m : Seated) (k : ℕ) → k < j.shards → HasName m.0 → Allows (Rule j) n id m (turn_word k) (λ _. 1) (took (Some j) k (step n (turn_word k) 1 0 none) m)
 takes_turn j n id m k near named s rule wide me _ = let R : Moment = rule.0 in let r = rule.1 in let v : PassRecord = m.0 in
     dite (ℕ_discrete (get_or s.words (turn_word k) 0) 0)
     (λ free. let close : k < length s.homes = omega (arith, r.slots) in let home = r.at_rest k close free in let y : Content = home.0 in (
@@ -127,7 +127,7 @@ takes_turn j n id m k near named s rule wide me _ = let R : Moment = rule.0 in l
     same_home Q slots y e t = subst Q (some-injective t.0 y (some-injective (some t.0) (some y) (sym t.1 ∙ e))) t.2
 
 -- the halt word is read
-pub reads_halt : (j : Job) (n id : ℕ) (m : Seated) → Allows (Rule j) n id m (halt_word j.shards) (λ x. x) (read_halt (Some j) (step n (halt_word j.shards) 0 0 none) m)
+pub reads_halt : (j : TableJob) (n id : ℕ) (m : Seated) → Allows (Rule j) n id m (halt_word j.shards) (λ x. x) (read_halt (Some j) (step n (halt_word j.shards) 0 0 none) m)
 reads_halt j n id m s rule wide me _ = let found : ℕ = get_or s.words (halt_word j.shards) 0 in (
   with_look m.0 Halt found,
   keeps,

@@ -9,7 +9,7 @@ use Rattle.flow_meaning.specs.Sound.{IsSoundState}
 use Rattle.shard_meaning.specs.Calm.{AreFinished, IsCalm}
 use Rattle.shard_meaning.specs.Moment.{Moment}
 use Rattle.work_board.specs.declared.record.PassRecord.{PassRecord}
-use Rattle.table_rule.specs.declared.job.Job.{Job}
+use Rattle.table_rule.specs.declared.table_job.TableJob.{TableJob}
 use Rattle.table_rule.specs.Live.{AreLive}
 use Rattle.table_rule.specs.Owning.{AreOwned, OwnsWork}
 use Rattle.table_rule.specs.Quiet.{IsQuieted, raised}
@@ -32,7 +32,7 @@ owned_kept vs id v w me names owns r = record {
 }
 
 -- a step on a turn word: what it makes of the pass, of its shard and of all other shards
-pub record Turning (j : Job) (s : Table) (id : ℕ) (v w : PassRecord) (k new : ℕ) (slot : mathlib.Core.Option.Option Content) (R R' : Moment) : Type 0 where
+pub record Turning (j : TableJob) (s : Table) (id : ℕ) (v w : PassRecord) (k new : ℕ) (slot : mathlib.Core.Option.Option Content) (R R' : Moment) : Type 0 where
   pub records : AreRecordsOf R' (set s.views id w)
   pub sound : IsSoundState j.matched j.given R'.state
   pub finished : AreFinished j.matched j.given R'
@@ -49,7 +49,7 @@ pub record Turning (j : Job) (s : Table) (id : ℕ) (v w : PassRecord) (k new : 
   pub spare_others : j.preloaded ≡ true → (x : ℕ) (y : Content) → x ≢ k → Reserve j R x y → Reserve j R' x y
   pub spare_held : j.preloaded ≡ true → (x : ℕ) (y : Content) → IsIn (x, y) w.turns → Reserve j R' x y
 
-module _ (j : Job) (s : Table) (id : ℕ) (v w : PassRecord) (k new : ℕ) (slot : mathlib.Core.Option.Option Content) (R R' : Moment)
+module _ (j : TableJob) (s : Table) (id : ℕ) (v w : PassRecord) (k new : ℕ) (slot : mathlib.Core.Option.Option Content) (R R' : Moment)
     (r : Parts j s R) (t : Retunes s.words s.homes s.views id v w k new slot) where
   other_word : (i : ℕ) → j.shards ≤ i → get_or (set s.words (turn_word k) new) (16 * i) 0 ≡ get_or s.words (16 * i) 0
   other_word i far = let near = t.near in let slots = r.slots in get_or-set_other s.words (turn_word k) (16 * i) new 0 (λ e. absurd (omega arith))
@@ -88,7 +88,7 @@ module _ (j : Job) (s : Table) (id : ℕ) (v w : PassRecord) (k new : ℕ) (slot
       }
 
 -- a turn is given back, with y in the shard
-pub record Giving (j : Job) (s : Table) (id : ℕ) (v w : PassRecord) (k : ℕ) (y : Content) (R R' : Moment) : Type 0 where
+pub record Giving (j : TableJob) (s : Table) (id : ℕ) (v w : PassRecord) (k : ℕ) (y : Content) (R R' : Moment) : Type 0 where
   pub records : AreRecordsOf R' (set s.views id w)
   pub sound : IsSoundState j.matched j.given R'.state
   pub finished : AreFinished j.matched j.given R'
@@ -103,7 +103,7 @@ pub record Giving (j : Job) (s : Table) (id : ℕ) (v w : PassRecord) (k : ℕ) 
   pub spare_here : j.preloaded ≡ true → Reserve j R' k y
   pub spare_others : j.preloaded ≡ true → (x : ℕ) (z : Content) → x ≢ k → Reserve j R x z → Reserve j R' x z
 
-module _ (j : Job) (s : Table) (id : ℕ) (v w : PassRecord) (k : ℕ) (y₀ y : Content) (more : List (ℕ × Content)) (R R' : Moment)
+module _ (j : TableJob) (s : Table) (id : ℕ) (v w : PassRecord) (k : ℕ) (y₀ y : Content) (more : List (ℕ × Content)) (R R' : Moment)
     (r : Parts j s R) (me : get_elem? s.views id ≡ some v) (turn : v.turns ≡ (k, y₀) ∷ more) (left : w.turns ≡ more) where
   pub given_back : Giving j s id v w k y R R' → Parts j (board (set s.words (turn_word k) 0) (set s.homes k (some y)) (set s.views id w)) R'
   given_back g =
@@ -130,7 +130,7 @@ module _ (j : Job) (s : Table) (id : ℕ) (v w : PassRecord) (k : ℕ) (y₀ y :
       })
 
 -- a step on another word, or on none: the turn words, the slots and the moment stay
-pub record Besides (j : Job) (s : Table) (words : List ℕ) (vs : List PassRecord) (R : Moment) : Type 0 where
+pub record Besides (j : TableJob) (s : Table) (words : List ℕ) (vs : List PassRecord) (R : Moment) : Type 0 where
   pub long : length words ≡ length s.words
   pub turn_words : (k : ℕ) → k < j.shards → get_or words (turn_word k) 0 ≡ get_or s.words (turn_word k) 0
   pub records : AreRecordsOf R vs
@@ -140,7 +140,7 @@ pub record Besides (j : Job) (s : Table) (words : List ℕ) (vs : List PassRecor
   pub live : AreLive j.matched R (get_or words (live_word j.shards) 0) (get_or words (stamp_word j.shards) 0) vs
   pub halt : j.preloaded ≡ true → get_or words (halt_word j.shards) 0 ≡ 0
 
-pub beside : (j : Job) (s : Table) (words : List ℕ) (vs : List PassRecord) (R : Moment) → Parts j s R → ((Q : ℕ → Content → Type 0) → AreHeld Q s.views → AreHeld Q vs) → Besides j s words vs R → Parts j (board words s.homes vs) R
+pub beside : (j : TableJob) (s : Table) (words : List ℕ) (vs : List PassRecord) (R : Moment) → Parts j s R → ((Q : ℕ → Content → Type 0) → AreHeld Q s.views → AreHeld Q vs) → Besides j s words vs R → Parts j (board words s.homes vs) R
 beside j s words vs R r keeps b =
     let near : (k : ℕ) → k < length s.homes → k < j.shards = λ k l. omega (arith, r.slots) in
     record {
@@ -171,7 +171,7 @@ beside j s words vs R r keeps b =
     }
 
 -- the record of one pass changes, and its lists do not but for its stamps
-pub record Aside (j : Job) (s : Table) (id : ℕ) (v w : PassRecord) (words : List ℕ) (R : Moment) : Type 0 where
+pub record Aside (j : TableJob) (s : Table) (id : ℕ) (v w : PassRecord) (words : List ℕ) (R : Moment) : Type 0 where
   pub me : get_elem? s.views id ≡ some v
   pub claims : w.claims ≡ v.claims
   pub sends : w.sends ≡ v.sends
@@ -185,7 +185,7 @@ pub record Aside (j : Job) (s : Table) (id : ℕ) (v w : PassRecord) (words : Li
   pub live : AreLive j.matched R (get_or words (live_word j.shards) 0) (get_or words (stamp_word j.shards) 0) (set s.views id w)
   pub halt : j.preloaded ≡ true → get_or words (halt_word j.shards) 0 ≡ 0
 
-pub aside : (j : Job) (s : Table) (id : ℕ) (v w : PassRecord) (words : List ℕ) (R : Moment) → Parts j s R → Aside j s id v w words R → Parts j (board words s.homes (set s.views id w)) R
+pub aside : (j : TableJob) (s : Table) (id : ℕ) (v w : PassRecord) (words : List ℕ) (R : Moment) → Parts j s R → Aside j s id v w words R → Parts j (board words s.homes (set s.views id w)) R
 aside j s id v w words R r a = beside j s words (set s.views id w) R r
     (λ Q old. each_kept (λ (u : PassRecord). (k : ℕ) (y : Content) → IsIn (k, y) u.turns → Q k y) s.views id w (λ k y h. old id v a.me k y (subst (IsIn (k, y)) a.turns h)) old)
     (record {

@@ -11,7 +11,7 @@ use Rattle.flow_meaning.proofs.Events.{opening_sound}
 use Rattle.shard_meaning.specs.Moment.{opening_moment}
 use Rattle.shard_meaning.proofs.Openings.{opening_finished, opening_reserve, opening_share}
 use Rattle.work_board.specs.declared.record.PassRecord.{PassRecord}
-use Rattle.table_rule.specs.declared.job.Job.{Job}
+use Rattle.table_rule.specs.declared.table_job.TableJob.{TableJob}
 use Rattle.table_rule.specs.Changes.{first_pass}
 use Rattle.table_rule.specs.Live.{OwnsLives}
 use Rattle.table_rule.specs.Names.{is_named}
@@ -34,7 +34,7 @@ some_shard [] k l = absurd (omega arith)
 some_shard (y ∷ ys) zero l = (y, refl, refl)
 some_shard (y ∷ ys) (suc k) l = some_shard ys k (omega arith)
 
-pub opens : (j : Job) (words : List ℕ) (shards : List Content) → IsOpening j words shards → Rule j (opening words shards first_pass)
+pub opens : (j : TableJob) (words : List ℕ) (shards : List Content) → IsOpening j words shards → Rule j (opening words shards first_pass)
 opens j words shards o =
     let long : length (map some shards) ≡ j.shards = length-map shards some ∙ o.shard_count in
     let free : (k : ℕ) → k < length (map some shards) → get_or words (turn_word k) 0 ≡ 0 = λ k l. o.zero (turn_word k) (λ e. omega (arith, long)) in

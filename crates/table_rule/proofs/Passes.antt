@@ -7,7 +7,7 @@ use Rattle.ptg_base.specs.Task.{Task}
 use Rattle.plan_core.specs.declared.plan.Plan.{Plan}
 use Rattle.coll_data.specs.Data.{Data}
 use Rattle.list_lemmas.specs.Counting.{weigh}
-use Rattle.flow_meaning.specs.Machine.{Sent, sent_with}
+use Rattle.flow_meaning.specs.Machine.{SentItem, sent_with}
 use Rattle.list_lemmas.proofs.Counts.{weigh-push}
 use Rattle.shard_meaning.specs.Moment.{Moment, with_claim, with_send}
 use Rattle.ptg_base.specs.declared.edge.Item.{Item}
@@ -44,7 +44,7 @@ module _ (vs : List PassRecord) (id : ℕ) (v w : PassRecord) (me : get_elem? vs
     running = λ f. omega (arith, r.running f, weigh-set (λ (u : PassRecord). weigh f u.running) vs id v w me, ap (weigh f) running, weigh-push f v.running t, weigh-push f R.running t);
   }
 
-  pub send_records : (P : Plan) (G : Data) (R : Moment) (i : Item) (x : Sent) → x ≡ sent_with P G R.state i → w.claims ≡ v.claims → w.sends ≡ v.sends ++ x ∷ [] → w.running ≡ v.running → AreRecordsOf R vs → AreRecordsOf (with_send P G R i) (set vs id w)
+  pub send_records : (P : Plan) (G : Data) (R : Moment) (i : Item) (x : SentItem) → x ≡ sent_with P G R.state i → w.claims ≡ v.claims → w.sends ≡ v.sends ++ x ∷ [] → w.running ≡ v.running → AreRecordsOf R vs → AreRecordsOf (with_send P G R i) (set vs id w)
   send_records P G R i x is claims sends running r = record {
     claims = λ f. r.claims f ∙ sym (same_weight (λ (u : PassRecord). weigh f u.claims) (ap (weigh f) claims));
     sends = λ f. omega (arith, r.sends f, weigh-set (λ (u : PassRecord). weigh f u.sends) vs id v w me, ap (weigh f) sends, weigh-push f v.sends x, weigh-push f R.state.sends (sent_with P G R.state i), ap f is);

@@ -10,16 +10,16 @@ use Rattle.dep_iter.specs.Tasks.{all_tasks}
 use Rattle.dep_shard.specs.Content.{Content}
 use Rattle.flow_meaning.specs.Comparing.{same_item}
 use Rattle.list_lemmas.specs.Counting.{as_number}
-use Rattle.flow_meaning.specs.Machine.{MachineState, Sent, arrived, is_sent, same_sent}
+use Rattle.flow_meaning.specs.Machine.{MachineState, SentItem, arrived, is_sent, same_sent_item}
 use Rattle.flow_meaning.specs.Sound.{IsReordered}
 use Rattle.flow_meaning.specs.Table.{is_ready, ready_tasks}
 use Rattle.list_lemmas.proofs.Counts.{weigh-one, same_in, HasSameMembers-sym, weigh-flat_map}
-use Rattle.flow_meaning.proofs.Reordering.{same_sent-decides}
+use Rattle.flow_meaning.proofs.Reordering.{same_sent_item-decides}
 use Rattle.shard_meaning.specs.Moment.{IsReorderedMoment, Moment}
 use Rattle.shard_meaning.proofs.ReadyCount.{ready_count}
 use Rattle.shard_meaning.proofs.Reordered.{reordered_calm, reordered_finished, reordered_moment, reordered_reserve, reordered_share}
 use Rattle.work_board.specs.declared.record.PassRecord.{PassRecord}
-use Rattle.table_rule.specs.declared.job.Job.{Job}
+use Rattle.table_rule.specs.declared.table_job.TableJob.{TableJob}
 use Rattle.table_rule.specs.Live.{AreLive}
 use Rattle.shard_meaning.specs.Placing.{shard_of}
 use Rattle.table_rule.specs.Records.{AreRecordsOf, joined}
@@ -32,7 +32,7 @@ ready_same : (P : Plan) (S T : MachineState) → IsReordered S T → length (rea
 ready_same P S T same = omega (arith, ready_count P T, ready_count P S, weigh-same (λ t. as_number (is_ready P T t)) (λ t. as_number (is_ready P S t)) (all_tasks P) (λ t. ap as_number (still t)))
   where
     sent : (e : Edge) → is_sent T (item.Edge e) ≡ is_sent S (item.Edge e)
-    sent e = ap (nat_lt 0) (sym (same.sends (λ (x : Sent). as_number (same_item (item.Edge e) x.item))))
+    sent e = ap (nat_lt 0) (sym (same.sends (λ (x : SentItem). as_number (same_item (item.Edge e) x.item))))
 
     came : (t : Task) → arrived P T t ≡ arrived P S t
     came t = weigh-same (λ e. as_number (is_sent T (item.Edge e))) (λ e. as_number (is_sent S (item.Edge e))) (in_edges P t) (λ e. ap as_number (sent e))
@@ -40,7 +40,7 @@ ready_same P S T same = omega (arith, ready_count P T, ready_count P S, weigh-sa
     still : (t : Task) → is_ready P T t ≡ is_ready P S t
     still t = λ k. (sym (same.claims (λ u. as_number (same_task t u))) k == 0) && (came t k == goal P t)
 
-module _ (j : Job) (s : Table) (R T : Moment) (r : Parts j s R) (same : IsReorderedMoment R T) where
+module _ (j : TableJob) (s : Table) (R T : Moment) (r : Parts j s R) (same : IsReorderedMoment R T) where
   live_same : (live stamp : ℕ) → AreLive j.matched R live stamp s.views → AreLive j.matched T live stamp s.views
   live_same live stamp l = record {
     live = omega (arith, l.live, ready_same j.matched R.state T.state same.state, same.running (λ _. 1), weigh-one R.running, weigh-one T.running);
@@ -52,7 +52,7 @@ module _ (j : Job) (s : Table) (R T : Moment) (r : Parts j s R) (same : IsReorde
       differ = l.drawn.differ;
       below = l.drawn.below;
       above_sources = l.drawn.above_sources;
-      senders = λ x i. l.drawn.senders x (same_in same_sent same_sent-decides T.state.sends R.state.sends (HasSameMembers-sym R.state.sends T.state.sends same.state.sends) x i);
+      senders = λ x i. l.drawn.senders x (same_in same_sent_item same_sent_item-decides T.state.sends R.state.sends (HasSameMembers-sym R.state.sends T.state.sends same.state.sends) x i);
     };
   }
 
@@ -98,5 +98,5 @@ joined_members R vs r = record {
 }
 
 -- the rule holds at the moment of all passes, joined
-pub joined_parts : (j : Job) (s : Table) → Rule j s → Parts j s (joined s.views)
+pub joined_parts : (j : TableJob) (s : Table) → Rule j s → Parts j s (joined s.views)
 joined_parts j s rule = reordered_parts j s rule.0 (joined s.views) rule.1 (joined_members rule.0 s.views rule.1.records)

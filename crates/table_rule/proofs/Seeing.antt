@@ -11,7 +11,7 @@ use Rattle.flow_meaning.specs.Machine.{MaySend}
 use Rattle.shard_meaning.specs.Moment.{run_count}
 use Rattle.work_board.specs.Sends.{IsNext}
 use Rattle.work_board.specs.declared.record.PassRecord.{PassRecord}
-use Rattle.table_rule.specs.declared.job.Job.{Job}
+use Rattle.table_rule.specs.declared.table_job.TableJob.{TableJob}
 use Rattle.table_rule.specs.Plays.{WasSeen}
 use Rattle.table_rule.specs.Records.{joined}
 use Rattle.table_rule.specs.Rule.{Parts, Reserve, Share}
@@ -25,7 +25,7 @@ near_home [] k a e = absurd (some-ne-none a (sym e))
 near_home (x ∷ xs) zero a e = omega arith
 near_home (x ∷ xs) (suc k) a e = omega (arith, near_home xs k a e)
 
-module _ (j : Job) (k : ℕ) (v : PassRecord) (y : Content) (w : WasSeen j k v y) where
+module _ (j : TableJob) (k : ℕ) (v : PassRecord) (y : Content) (w : WasSeen j k v y) where
   seen_parts : Parts j w.table (joined w.table.views)
   seen_parts = joined_parts j w.table w.rule
 

@@ -28,7 +28,7 @@ use Rattle.dep_shard.specs.Content.{Content, KeepsAllButEntries, KeepsAllButWrit
 use Rattle.flow_meaning.specs.Comparing.{same_item}
 use Rattle.list_lemmas.specs.Counting.{as_number, count, weigh}
 use Rattle.flow_meaning.specs.Ending.{output_tile}
-use Rattle.flow_meaning.specs.Machine.{MaySend, Sent, end_in, send_count, sender, sent_with}
+use Rattle.flow_meaning.specs.Machine.{MaySend, SentItem, end_in, send_count, sender, sent_with}
 use Rattle.flow_meaning.specs.Sound.{IsSoundState}
 use Rattle.flow_meaning.specs.Table.{ready_tasks}
 use Rattle.flow_meaning.proofs.Comparing.{same_item-decides}
@@ -46,7 +46,7 @@ use Rattle.shard_meaning.proofs.Targets.{target_fires}
 use Rattle.work_board.specs.Records.{done_by}
 use Rattle.work_board.specs.Sends.{IsNext}
 use Rattle.work_board.specs.declared.record.PassRecord.{PassRecord}
-use Rattle.table_rule.specs.declared.job.Job.{Job}
+use Rattle.table_rule.specs.declared.table_job.TableJob.{TableJob}
 use Rattle.table_rule.specs.Changes.{turn_left, with_own_send}
 use Rattle.table_rule.specs.Live.{OwnsLives, Stamp, own_claims, own_stamps}
 use Rattle.table_rule.specs.Owning.{OwnsWork}
@@ -64,24 +64,24 @@ use Rattle.table_rule.proofs.Weighing.{terms_le, weightless}
 
 -- what a pass sent of an item
 abbrev own_sends : Item → PassRecord → ℕ
-own_sends i v = weigh (λ (x : Sent). as_number (same_item i x.item)) v.sends
+own_sends i v = weigh (λ (x : SentItem). as_number (same_item i x.item)) v.sends
 
 -- the item that a pass may send next, by its own record, may be sent
-module _ (j : Job) (s : Table) (R : Moment) (r : Parts j s R) (id : ℕ) (v : PassRecord) (me : get_elem? s.views id ≡ some v) (i : Item) (tile : Option (List ℤ)) (next : IsNext j.matched j.given i tile v) where
+module _ (j : TableJob) (s : Table) (R : Moment) (r : Parts j s R) (id : ℕ) (v : PassRecord) (me : get_elem? s.views id ≡ some v) (i : Item) (tile : Option (List ℤ)) (next : IsNext j.matched j.given i tile v) where
   own_claimed : 0 < own_claims v (sender i)
   own_claimed = omega (arith, own_run s.views R r.records id v me (sender i) next.runs, (r.owned.each id v me).running (λ u. as_number (same_task (sender i) u)))
 
   -- what a pass sent is of a task that it claimed
   sent_claimed : (u : PassRecord) → OwnsWork u → 0 < own_sends i u → 0 < own_claims u (sender i)
   sent_claimed u o h =
-      let p = some_passes (λ (x : Sent). same_item i x.item) u.sends h in
-      let x : Sent = p.0 in
+      let p = some_passes (λ (x : SentItem). same_item i x.item) u.sends h in
+      let x : SentItem = p.0 in
       let is_i : i ≡ x.item = (same_item-decides i x.item).0 p.2 in
       count-some (same_task (sender i)) u.claims (sender x.item) (o.sends x p.1) ((same_task-decides (sender i) (sender x.item)).1 (ap sender is_i))
 
   -- so no other pass sent it
   unsent_yet : send_count R.state i ≡ 0
-  unsent_yet = r.records.sends (λ (x : Sent). as_number (same_item i x.item)) ∙ weightless (own_sends i) s.views (λ n u e. dite (ℕ_discrete n id)
+  unsent_yet = r.records.sends (λ (x : SentItem). as_number (same_item i x.item)) ∙ weightless (own_sends i) s.views (λ n u e. dite (ℕ_discrete n id)
       (λ q. let is_v : u ≡ v = some-injective u v (sym e ∙ (ap (λ k. get_elem? s.views k) q ∙ me)) in ap (own_sends i) is_v ∙ next.unsent)
       (λ ne. dite (ℕ_discrete (own_sends i u) 0) (λ z. z) (λ nz.
       absurd (omega (arith, own_claimed, sent_claimed u (r.owned.each n u e) (omega arith), terms_le (λ (w : PassRecord). own_claims w (sender i)) s.views id n v u ne me e, r.records.claims (λ z. as_number (same_task (sender i) z)), r.sound.claimed_once (sender i))))))
@@ -95,17 +95,17 @@ module _ (j : Job) (s : Table) (R : Moment) (r : Parts j s R) (id : ℕ) (v : Pa
       λ n. record { item = i; tile = tile_is n }
 
 -- the pass after the send
-send_owns : (v : PassRecord) (x : Sent) → HasName v → v.running ≡ sender x.item ∷ [] → OwnsWork v → OwnsWork (turn_left (with_own_send v x))
+send_owns : (v : PassRecord) (x : SentItem) → HasName v → v.running ≡ sender x.item ∷ [] → OwnsWork v → OwnsWork (turn_left (with_own_send v x))
 send_owns v x named runs o = record {
   running = o.running;
-  sends = λ y i. ⊎_elim (λ old. o.sends y old) (λ new. ⊎_elim (λ (e : y ≡ x). subst (λ (t : Task). IsIn t v.claims) (sym (ap (λ (z : Sent). sender z.item) e)) mine) (λ never. absurd never) new) (from_append y v.sends (x ∷ []) i);
+  sends = λ y i. ⊎_elim (λ old. o.sends y old) (λ new. ⊎_elim (λ (e : y ≡ x). subst (λ (t : Task). IsIn t v.claims) (sym (ap (λ (z : SentItem). sender z.item) e)) mine) (λ never. absurd never) new) (from_append y v.sends (x ∷ []) i);
   nameless = λ e. absurd (named_not_empty v.names named e);
 }
   where
     mine : IsIn (sender x.item) v.claims
     mine = claim_member (done_by v) (sender x.item) (omega (arith, o.running (λ u. as_number (same_task (sender x.item) u)), ap (weigh (λ u. as_number (same_task (sender x.item) u))) runs, ap as_number ((same_task-decides (sender x.item) (sender x.item)).1 refl)))
 
-send_lives : (v : PassRecord) (x : Sent) (k : ℕ) (y₀ : Content) → v.turns ≡ (k, y₀) ∷ [] → OwnsWork v → OwnsLives v → OwnsLives (turn_left (with_own_send v x))
+send_lives : (v : PassRecord) (x : SentItem) (k : ℕ) (y₀ : Content) → v.turns ≡ (k, y₀) ∷ [] → OwnsWork v → OwnsLives v → OwnsLives (turn_left (with_own_send v x))
 send_lives v x k y₀ turn o l = record { credit = omega (arith, o.running (λ _. 1), weigh-one v.running, weigh-one v.claims); stamps = l.stamps; stamped = l.stamped }
 
 -- a task with a stamp has one in the list
@@ -116,18 +116,18 @@ stamp_in v t h =
     (x.1, subst (λ (u : Task). IsIn (u, x.1) v.stamps) (sym ((same_task-decides t x.0).0 p.2)) p.1)
 
 -- what a send makes of the shards, and of the number of ready tasks
-record Sending (j : Job) (R : Moment) (i : Item) (k credits : ℕ) (y₀ y : Content) : Type 0 where
+record Sending (j : TableJob) (R : Moment) (i : Item) (k credits : ℕ) (y₀ y : Content) : Type 0 where
   here : Share j R k y₀ → Share j (with_send j.matched j.given R i) k y
   others : (x : ℕ) (z : Content) → x ≢ k → Share j R x z → Share j (with_send j.matched j.given R i) x z
   spare : j.preloaded ≡ true → Reserve j R k y₀ → Reserve j (with_send j.matched j.given R i) k y
   ready : Share j R k y₀ → length (ready_tasks j.matched (with_send j.matched j.given R i).state) ≡ length (ready_tasks j.matched R.state) + credits
 
 -- the turn is given back with a send
-sends : (j : Job) (n id : ℕ) (m : Seated) (k : ℕ) (i : Item) (tile : Option (List ℤ)) (y₀ y : Content) (credits : ℕ) → HasTurn m k y₀ y credits → IsNext j.matched j.given i tile m.0 → 0 < own_stamps m.0 (sender i)
+sends : (j : TableJob) (n id : ℕ) (m : Seated) (k : ℕ) (i : Item) (tile : Option (List ℤ)) (y₀ y : Content) (credits : ℕ) → HasTurn m k y₀ y credits → IsNext j.matched j.given i tile m.0 → 0 < own_stamps m.0 (sender i)
     → ((R : Moment) → IsSoundState j.matched j.given R.state → IsConsistent j.matched → MaySend j.matched j.given R.state i → Sending j R i k credits y₀ y)
     → Allows (Rule j) n id m (turn_word k) (λ _. 0) (λ _. gave_send record { item = i; tile = tile } (step n (turn_word k) 0 0 none) m 0)
 sends j n id m k i tile y₀ y credits h next stamped does s rule wide me _ = let P : Plan = j.matched in let G : Data = j.given in
-    let R : Moment = rule.0 in let r = rule.1 in let v : PassRecord = m.0 in let x : Sent = record { item = i; tile = tile } in let w : PassRecord = turn_left (with_own_send v x) in
+    let R : Moment = rule.0 in let r = rule.1 in let v : PassRecord = m.0 in let x : SentItem = record { item = i; tile = tile } in let w : PassRecord = turn_left (with_own_send v x) in
     let held = holds_turn m k y₀ y credits h in
     let share = r.held id v me k y₀ held in
     let may : MaySend P G R.state i = may_send j s R r id v me i tile next in
@@ -153,7 +153,7 @@ sends j n id m k i tile y₀ y credits h next stamped does s rule wide me _ = le
           sees = λ q. absurd (busy (r.quieted.calm id v me q).none_runs);
           live = live_kept P R (with_send P G R i) (get_or s.words (live_word j.shards) 0) (get_or s.words (stamp_word j.shards) 0) s.views id v w me
               (omega (arith, d.ready share, h.credit)) (send_lives v x k y₀ h.turn (r.owned.each id v me) (r.live.each id v me)) refl
-              (λ z q. ⊎_elim (λ old. inl old) (λ new. ⊎_elim (λ (e : z ≡ sent_with P G R.state i). inr (stamp.0, subst (λ (u : Sent). IsIn (sender u.item, stamp.0) v.stamps) (sym e) stamp.1)) (λ never. absurd never) new) (from_append z R.state.sends (sent_with P G R.state i ∷ []) q)) r.live;
+              (λ z q. ⊎_elim (λ old. inl old) (λ new. ⊎_elim (λ (e : z ≡ sent_with P G R.state i). inr (stamp.0, subst (λ (u : SentItem). IsIn (sender u.item, stamp.0) v.stamps) (sym e) stamp.1)) (λ never. absurd never) new) (from_append z R.state.sends (sent_with P G R.state i ∷ []) q)) r.live;
           spare_here = λ pre. d.spare pre ((r.reserved pre).held id v me k y₀ held);
           spare_others = λ pre z c ne q. reserve-send_away P (shard_of P j.shards) z G R i may c q;
         }),
@@ -162,7 +162,7 @@ sends j n id m k i tile y₀ y credits h next stamped does s rule wide me _ = le
     )
 
 -- an edge: a credit is spent exactly where its target fires
-pub sends_edge : (j : Job) (n id : ℕ) (m : Seated) (k : ℕ) (e : Edge) (tile : Option (List ℤ)) (y₀ y : Content) (datatype : ℕ) → HasTurn m k y₀ y (as_number (fires j.matched y₀ e)) → IsNext j.matched j.given (item.Edge e) tile m.0
+pub sends_edge : (j : TableJob) (n id : ℕ) (m : Seated) (k : ℕ) (e : Edge) (tile : Option (List ℤ)) (y₀ y : Content) (datatype : ℕ) → HasTurn m k y₀ y (as_number (fires j.matched y₀ e)) → IsNext j.matched j.given (item.Edge e) tile m.0
     → shard_of j.matched j.shards e.to ≡ k → 0 < own_stamps m.0 e.from
     → Updates y₀.entries y.entries e.to (Some (with_arrival (entry_before y₀ e.to (goal j.matched e.to) (priority j.matched e.to)) e.in_flow tile)) → KeepsAllButEntries y₀ y
     → IsTrue (has_type datatype (flow_of j.matched.classes e.to.class e.in_flow)) → Uses y₀.spare y.spare (if is_some (entry_of y₀ e.to) then 0 else 1) (if is_some tile then Some datatype else None) 0 0
@@ -178,7 +178,7 @@ sends_edge j n id m k e tile y₀ y datatype h next at stamped updates kept type
     })
 
 -- a write-back
-pub sends_write : (j : Job) (n id : ℕ) (m : Seated) (k : ℕ) (b : WriteBack) (tile : List ℤ) (y₀ y : Content) (datatype : ℕ) → HasTurn m k y₀ y 0 → IsNext j.matched j.given (item.Write b) (Some tile) m.0
+pub sends_write : (j : TableJob) (n id : ℕ) (m : Seated) (k : ℕ) (b : WriteBack) (tile : List ℤ) (y₀ y : Content) (datatype : ℕ) → HasTurn m k y₀ y 0 → IsNext j.matched j.given (item.Write b) (Some tile) m.0
     → shard_of j.matched j.shards b.from ≡ k → 0 < own_stamps m.0 b.from
     → y.written ≡ y₀.written ++ (b, tile) ∷ [] → KeepsAllButWritten y₀ y
     → IsTrue (has_type datatype (flow_of j.matched.classes b.from.class b.flow)) → Uses y₀.spare y.spare 0 (Some datatype) 1 0

@@ -13,11 +13,11 @@ use Rattle.list_lemmas.proofs.Counts.{weigh-append}
 use Rattle.std.proofs.lemmas.Bool.{or_cases}
 use Rattle.dep_shard.specs.Content.{Content}
 use Rattle.list_lemmas.specs.Counting.{as_number, weigh}
-use Rattle.flow_meaning.specs.Machine.{Sent, sender}
+use Rattle.flow_meaning.specs.Machine.{SentItem, sender}
 use Rattle.shard_meaning.specs.Calm.{IsCalm}
 use Rattle.shard_meaning.specs.Moment.{Moment}
 use Rattle.work_board.specs.declared.record.PassRecord.{PassRecord}
-use Rattle.table_rule.specs.declared.job.Job.{Job}
+use Rattle.table_rule.specs.declared.table_job.TableJob.{TableJob}
 use Rattle.table_rule.specs.Changes.{after_split, both, joined_away, new_pass, split_off}
 use Rattle.table_rule.specs.Live.{AreLive, OwnsLives, Stamp}
 use Rattle.table_rule.specs.Names.{Name, names_after_split, names_split_off}
@@ -42,16 +42,16 @@ new_lives names = record { credit = omega arith; stamps = λ t. omega arith; sta
 
 -- the passes change, and no weight does
 module _ (R : Moment) (old new : List PassRecord) where
-  pub records_weigh : ((f : Task → ℕ) → weigh (λ (v : PassRecord). weigh f v.claims) new ≡ weigh (λ (v : PassRecord). weigh f v.claims) old) → ((f : Sent → ℕ) → weigh (λ (v : PassRecord). weigh f v.sends) new ≡ weigh (λ (v : PassRecord). weigh f v.sends) old)
+  pub records_weigh : ((f : Task → ℕ) → weigh (λ (v : PassRecord). weigh f v.claims) new ≡ weigh (λ (v : PassRecord). weigh f v.claims) old) → ((f : SentItem → ℕ) → weigh (λ (v : PassRecord). weigh f v.sends) new ≡ weigh (λ (v : PassRecord). weigh f v.sends) old)
       → ((f : Task → ℕ) → weigh (λ (v : PassRecord). weigh f v.running) new ≡ weigh (λ (v : PassRecord). weigh f v.running) old) → AreRecordsOf R old → AreRecordsOf R new
   records_weigh claims sends running r = record { claims = λ f. r.claims f ∙ sym (claims f); sends = λ f. r.sends f ∙ sym (sends f); running = λ f. r.running f ∙ sym (running f) }
 
-live_weighs : (j : Job) (R : Moment) (live stamp : ℕ) (old new : List PassRecord) → weigh (λ (v : PassRecord). v.credit) new ≡ weigh (λ (v : PassRecord). v.credit) old → ((f : Stamp → ℕ) → weigh (λ (v : PassRecord). weigh f v.stamps) new ≡ weigh (λ (v : PassRecord). weigh f v.stamps) old) → Each OwnsLives new
+live_weighs : (j : TableJob) (R : Moment) (live stamp : ℕ) (old new : List PassRecord) → weigh (λ (v : PassRecord). v.credit) new ≡ weigh (λ (v : PassRecord). v.credit) old → ((f : Stamp → ℕ) → weigh (λ (v : PassRecord). weigh f v.stamps) new ≡ weigh (λ (v : PassRecord). weigh f v.stamps) old) → Each OwnsLives new
     → AreLive j.matched R live stamp old → AreLive j.matched R live stamp new
 live_weighs j R live stamp old new credits stamps each r = record { live = omega (arith, r.live, credits); each = each; stamps = r.stamps; theirs = λ f. r.theirs f ∙ sym (stamps f); drawn = r.drawn }
 
 -- a pass with one name is split
-pub splits : (j : Job) (id : ℕ) (v : PassRecord) (x : Name) → v.names ≡ x ∷ [] → Splits (Rule j) id v (after_split v) (split_off v)
+pub splits : (j : TableJob) (id : ℕ) (v : PassRecord) (x : Name) → v.names ≡ x ∷ [] → Splits (Rule j) id v (after_split v) (split_off v)
 splits j id v x names s rule me = let R : Moment = rule.0 in let r = rule.1 in
     let w : PassRecord = after_split v in
     let u : PassRecord = split_off v in
@@ -88,7 +88,7 @@ splits j id v x names s rule me = let R : Moment = rule.0 in let r = rule.1 in
     still_named [] x e h = cc
     still_named (z ∷ zs) x e h = cc
 
-pub splits_one : (j : Job) (id : ℕ) (v : PassRecord) → length v.names ≡ 1 → Splits (Rule j) id v (after_split v) (split_off v)
+pub splits_one : (j : TableJob) (id : ℕ) (v : PassRecord) → length v.names ≡ 1 → Splits (Rule j) id v (after_split v) (split_off v)
 splits_one j id v one = by v.names refl one
   where
     by : (l : List Name) → v.names ≡ l → length l ≡ 1 → Splits (Rule j) id v (after_split v) (split_off v)
@@ -103,7 +103,7 @@ one_or false true = (omega arith, omega arith, omega arith)
 one_or false false = (omega arith, omega arith, omega arith)
 
 -- a pass is joined to one that has a name
-pub joins : (j : Job) (id : ℕ) (v : PassRecord) (other : ℕ) (u : PassRecord) → HasName v → Joins (Rule j) id v other u (both v u) joined_away
+pub joins : (j : TableJob) (id : ℕ) (v : PassRecord) (other : ℕ) (u : PassRecord) → HasName v → Joins (Rule j) id v other u (both v u) joined_away
 joins j id v other u named s rule me apart them = let R : Moment = rule.0 in let r = rule.1 in
     let w : PassRecord = both v u in
     let vs : List PassRecord = set s.views id w in

@@ -3,7 +3,7 @@ use Rattle.std.specs.Prelude.{ℕ, ◌+◌, ◌-◌, true, false, ◌||◌, List
 use Rattle.atomic_table.specs.Table.{rest}
 use Rattle.ptg_base.specs.Task.{Task}
 use Rattle.dep_shard.specs.Content.{Content}
-use Rattle.flow_meaning.specs.Machine.{Sent}
+use Rattle.flow_meaning.specs.Machine.{SentItem}
 use Rattle.work_board.specs.Word.{Halt, Turn, Word}
 use Rattle.work_board.specs.declared.record.PassRecord.{PassRecord}
 use Rattle.table_rule.specs.Names.{Name, names_after_split, names_split_off}
@@ -30,57 +30,59 @@ new_pass names =
 abbrev pub first_pass : PassRecord
 first_pass = new_pass (([], 0) ∷ [])
 
--- it looked at a word and found this number
+-- a pass that looked at a word and found this number
 abbrev pub with_look : PassRecord → Word → ℕ → PassRecord
 with_look v word found = record v { look = (word, found); looks = v.looks + 1 }
 
--- it found a turn free and took it: the shard k had the content y
+-- a pass that found a turn free and took it: the shard k had the content y
 abbrev pub with_turn : PassRecord → ℕ → Content → PassRecord
 with_turn v k y = record v { look = (Turn k, 0); looks = v.looks + 1; turns = (k, y) ∷ v.turns; last = (k, y) ∷ [] }
 
--- it gave back the turn that it took last
+-- a pass that gave back the turn that it took last
 abbrev pub turn_left : PassRecord → PassRecord
 turn_left v = record v { turns = rest v.turns }
 
--- it claimed a task, which it runs
+-- a pass that claimed a task, which it runs
 abbrev pub with_own_claim : PassRecord → Task → PassRecord
 with_own_claim v t = record v { claims = v.claims ++ t ∷ []; running = v.running ++ t ∷ [] }
 
--- it sent an item, and a task that fired thereby is ready in place of its credit
-abbrev pub with_own_send : PassRecord → Sent → PassRecord
+-- a pass that sent an item; a task that fired thereby is ready in place of its credit
+abbrev pub with_own_send : PassRecord → SentItem → PassRecord
 with_own_send v x = record v { sends = v.sends ++ x ∷ []; credit = 0 }
 
--- it runs nothing more, and has a credit in place of the task
+-- a pass that runs nothing more, and has a credit in place of the task
 abbrev pub with_own_end : PassRecord → PassRecord
 with_own_end v = record v { running = []; credit = v.credit + 1 }
 
--- it has seen quiet
+-- a pass that has seen quiet
 abbrev pub with_quiet : PassRecord → PassRecord
 with_quiet v = record v { quiet = true }
 
--- it raised the halt word
+-- a pass that raised the halt word
 abbrev pub with_halt : PassRecord → PassRecord
 with_halt v = record v { halts = true }
 
--- it has one credit more, or one fewer
+-- a pass with one credit more
 abbrev pub with_credit : PassRecord → PassRecord
 with_credit v = record v { credit = v.credit + 1 }
 
+-- a pass with one credit fewer
 abbrev pub without_credit : PassRecord → PassRecord
 without_credit v = record v { credit = v.credit - 1 }
 
--- it drew a stamp for a task
+-- a pass that drew a stamp for a task
 abbrev pub with_stamp : PassRecord → Task → ℕ → PassRecord
 with_stamp v t s = record v { stamps = v.stamps ++ (t, s) ∷ [] }
 
--- a pass after another was split off it, and that other one
+-- a pass after another was split off it
 abbrev pub after_split : PassRecord → PassRecord
 after_split v = record v { names = names_after_split v.names }
 
+-- the pass that was split off it
 abbrev pub split_off : PassRecord → PassRecord
 split_off v = new_pass (names_split_off v.names)
 
--- a pass that has taken over what another one did and holds, and that other one
+-- a pass that has taken over what another one did and holds
 abbrev pub both : PassRecord → PassRecord → PassRecord
 both v w =
     record v {
@@ -95,5 +97,6 @@ both v w =
       stamps = v.stamps ++ w.stamps;
     }
 
+-- the pass whose part another one has taken over
 abbrev pub joined_away : PassRecord
 joined_away = new_pass []

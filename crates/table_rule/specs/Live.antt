@@ -7,7 +7,7 @@ use Rattle.ptg_base.specs.declared.edge.Edge.{Edge}
 use Rattle.plan_core.specs.declared.plan.Plan.{Plan}
 use Rattle.dep_iter.specs.Edges.{in_edges}
 use Rattle.list_lemmas.specs.Counting.{count, weigh}
-use Rattle.flow_meaning.specs.Machine.{Sent, sender}
+use Rattle.flow_meaning.specs.Machine.{SentItem, sender}
 use Rattle.flow_meaning.specs.Table.{ready_tasks}
 use Rattle.shard_meaning.specs.Moment.{Moment}
 use Rattle.work_board.specs.declared.record.PassRecord.{PassRecord}
@@ -17,16 +17,19 @@ use Rattle.table_rule.specs.Records.{Each}
 abbrev pub Stamp : Type 0
 Stamp = Task × ℕ
 
--- how often a pass has claimed a task, runs it, and drew a stamp for it
+-- how often a pass has claimed a task
 abbrev pub own_claims : PassRecord → Task → ℕ
 own_claims v t = count (same_task t) v.claims
 
+-- how often a pass runs a task
 abbrev pub own_runs : PassRecord → Task → ℕ
 own_runs v t = count (same_task t) v.running
 
+-- how often a pass drew a stamp for a task
 abbrev pub own_stamps : PassRecord → Task → ℕ
 own_stamps v t = count (λ (x : Stamp). same_task t x.0) v.stamps
 
+-- the credit and the stamps of a pass fit what it did and holds
 pub record OwnsLives (v : PassRecord) : Type 0 where
   -- the credit is at most the number of its claims that it runs no more and of the turns that it holds
   pub credit : v.credit + length v.running ≤ length v.claims + length v.turns
@@ -45,8 +48,9 @@ pub record AreStamps (P : Plan) (R : Moment) (stamps : List Stamp) (word : ℕ) 
   pub above_sources : (e : Edge) (s r : ℕ) → IsIn e (in_edges P e.to) → IsIn (e.from, s) stamps → IsIn (e.to, r) stamps
       → s < r
   -- a task that has sent an item has a stamp
-  pub senders : (x : Sent) → IsIn x R.state.sends → (s : ℕ) × IsIn (sender x.item, s) stamps
+  pub senders : (x : SentItem) → IsIn x R.state.sends → (s : ℕ) × IsIn (sender x.item, s) stamps
 
+-- the live word and the stamp word of a table fit its moment and its passes
 pub record AreLive (P : Plan) (R : Moment) (live_word stamp_word : ℕ) (vs : List PassRecord) : Type 0 where
   -- the live word counts the ready tasks, the running ones and the credits
   pub live : live_word ≡ length (ready_tasks P R.state) + length R.running + weigh (λ (v : PassRecord). v.credit) vs

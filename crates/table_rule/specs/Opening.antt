@@ -8,13 +8,13 @@ use Rattle.dep_shard.specs.Content.{Content}
 use Rattle.flow_meaning.specs.Machine.{opening_state}
 use Rattle.flow_meaning.specs.Table.{ready_tasks}
 use Rattle.shard_meaning.specs.Opening.{HasOpeningReserve, IsOpeningShard}
-use Rattle.table_rule.specs.declared.job.Job.{Job}
+use Rattle.table_rule.specs.declared.table_job.TableJob.{TableJob}
 use Rattle.shard_meaning.specs.Placing.{shard_of}
 use Rattle.table_rule.specs.Words.{live_word, word_count}
 
 -- the words and the shards of a new table: the tasks that no edge goes into are entries of their shards, the live word
 -- counts them, and each other word is 0
-pub record IsOpening (j : Job) (words : List ℕ) (shards : List Content) : Type 0 where
+pub record IsOpening (j : TableJob) (words : List ℕ) (shards : List Content) : Type 0 where
   pub consistent : IsConsistent j.matched
   pub some_shards : 0 < j.shards
   pub shards_at_most : j.shards ≤ most_shards

@@ -7,10 +7,11 @@ use Rattle.shard_meaning.specs.Moment.{Moment}
 use Rattle.work_board.specs.declared.record.PassRecord.{PassRecord}
 use Rattle.table_rule.specs.Records.{Each}
 
--- how many of the passes raised the halt word
+-- 1 for a pass that raised the halt word, else 0
 abbrev pub raised : PassRecord → ℕ
 raised v = as_number v.halts
 
+-- what passes have seen of quiet and raised of the halt word fits the moment and the halt word
 pub record IsQuieted (P : Plan) (R : Moment) (halt : ℕ) (vs : List PassRecord) : Type 0 where
   -- where a pass has seen quiet, no task is ready or runs
   pub calm : Each (λ v. v.quiet ≡ true → IsCalm P R) vs

@@ -5,7 +5,7 @@ use mathlib.Core.Option.{some}
 use lib.ListN.{get_elem?}
 use Rattle.ptg_base.specs.Task.{Task}
 use Rattle.list_lemmas.specs.Counting.{weigh}
-use Rattle.flow_meaning.specs.Machine.{Sent}
+use Rattle.flow_meaning.specs.Machine.{SentItem}
 use Rattle.shard_meaning.specs.Moment.{Moment}
 use Rattle.work_board.specs.Records.{done_by}
 use Rattle.work_board.specs.declared.record.PassRecord.{PassRecord}
@@ -17,7 +17,7 @@ Each Q vs = (i : ℕ) (v : PassRecord) → get_elem? vs i ≡ some v → Q v
 -- the claims, the sends and the running tasks of a moment are those of all passes together, in whatever order
 pub record AreRecordsOf (R : Moment) (vs : List PassRecord) : Type 0 where
   pub claims : (f : Task → ℕ) → weigh f R.state.claims ≡ weigh (λ (v : PassRecord). weigh f v.claims) vs
-  pub sends : (f : Sent → ℕ) → weigh f R.state.sends ≡ weigh (λ (v : PassRecord). weigh f v.sends) vs
+  pub sends : (f : SentItem → ℕ) → weigh f R.state.sends ≡ weigh (λ (v : PassRecord). weigh f v.sends) vs
   pub running : (f : Task → ℕ) → weigh f R.running ≡ weigh (λ (v : PassRecord). weigh f v.running) vs
 
 -- the lists of all passes, one pass after the other

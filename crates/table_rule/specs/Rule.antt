@@ -11,7 +11,7 @@ use Rattle.shard_meaning.specs.Moment.{Moment}
 use Rattle.shard_meaning.specs.Reserve.{HasReserve}
 use Rattle.shard_meaning.specs.Share.{IsShardOf}
 use Rattle.work_board.specs.declared.record.PassRecord.{PassRecord}
-use Rattle.table_rule.specs.declared.job.Job.{Job}
+use Rattle.table_rule.specs.declared.table_job.TableJob.{TableJob}
 use Rattle.table_rule.specs.Live.{AreLive}
 use Rattle.table_rule.specs.Owning.{AreOwned}
 use Rattle.shard_meaning.specs.Placing.{shard_of}
@@ -24,22 +24,23 @@ use Rattle.table_rule.specs.Words.{halt_word, live_word, stamp_word, word_count}
 abbrev pub Table : Type 0
 Table = State Content PassRecord
 
--- the shard k has its part of a moment, and spares for all that is due
-abbrev pub Share : Job → Moment → ℕ → Content → Type 0
+-- the shard k has its part of a moment
+abbrev pub Share : TableJob → Moment → ℕ → Content → Type 0
 Share j R k y = IsShardOf j.matched j.given (shard_of j.matched j.shards) k R y
 
-abbrev pub Reserve : Job → Moment → ℕ → Content → Type 0
+-- the shard k has spares for all that is due there
+abbrev pub Reserve : TableJob → Moment → ℕ → Content → Type 0
 Reserve j R k y = HasReserve j.matched (shard_of j.matched j.shards) k R y
 
 -- a preloaded table: no pass has given up, and each shard has its spares, at rest and when a turn was taken
-pub record IsReserved (j : Job) (R : Moment) (halted : ℕ)
+pub record IsReserved (j : TableJob) (R : Moment) (halted : ℕ)
     (words : List ℕ) (slots : List (Option Content)) (vs : List PassRecord) : Type 0 where
   pub halt : halted ≡ 0
   pub at_rest : AtRest (Reserve j R) words slots
   pub held : AreHeld (Reserve j R) vs
 
 -- the rule at this moment of the run, part by part
-pub record Parts (j : Job) (s : Table) (R : Moment) : Type 0 where
+pub record Parts (j : TableJob) (s : Table) (R : Moment) : Type 0 where
   -- a consistent job, from 1 to 256 shards, and the words for them
   pub consistent : IsConsistent j.matched
   pub some_shards : 0 < j.shards
@@ -67,5 +68,5 @@ pub record Parts (j : Job) (s : Table) (R : Moment) : Type 0 where
   pub reserved : j.preloaded ≡ true → IsReserved j R (slice_index s.words (halt_word j.shards)) s.words s.homes s.views
 
 -- there is a moment of the run at which all parts hold. Which one it is, is no more than the order of its lists
-abbrev pub Rule : Job → Table → Type 0
+abbrev pub Rule : TableJob → Table → Type 0
 Rule j s = (R : Moment) × Parts j s R

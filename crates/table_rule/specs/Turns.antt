@@ -23,6 +23,7 @@ AreHeld Q vs = Each (λ v. (k : ℕ) (y : Content) → IsIn (k, y) v.turns → Q
 abbrev pub holds : ℕ → PassRecord → ℕ
 holds k v = count (λ (x : ℕ × Content). x.0 == k) v.turns
 
+-- the turn words and the slots of a table fit the turns that its passes hold
 pub record AreTurns (words : List ℕ) (slots : List (Option Content)) (vs : List PassRecord) : Type 0 where
   -- a turn word is 1 where one pass holds the turn, and 0 where none does
   pub counted : (k : ℕ) → k < length slots → weigh (holds k) vs ≡ slice_index words (turn_word k)

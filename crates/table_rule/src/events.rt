@@ -4,6 +4,7 @@
 ghost use Rattle.std.specs.Prelude.{◌≡◌, ◌<◌, ◌++◌, ℕ, ℤ, List, [], ◌∷◌, Option, None, Some, IsTrue, is_some, if◌then◌else◌};
 ghost use mathlib.Core.Option.{none};
 ghost use Rattle.atomic_table.specs.Table.{Allows, step};
+ghost use Rattle.ptg_base.specs.Entry.{FlowTile};
 ghost use Rattle.ptg_base.specs.Task.{Task};
 ghost use Rattle.ptg_base.specs.declared.edge.Edge.{Edge};
 ghost use Rattle.ptg_base.specs.declared.edge.Item.TheVariants as item;
@@ -12,12 +13,11 @@ ghost use Rattle.term_core.specs.declared.trap.Trap.{Trap};
 ghost use Rattle.plan_core.specs.Kinds.{flow_of};
 ghost use Rattle.dep_iter.specs.Edges.{goal};
 ghost use Rattle.dep_iter.specs.Hints.{priority};
-ghost use Rattle.dep_shard.specs.Arrivals.{FlowTile};
 ghost use Rattle.dep_shard.specs.Content.{Content, Ends, KeepsAllButEntries, KeepsAllButWritten, KeepsEntriesAndWritten, Takes, Updates, Uses, entry_before, entry_of, with_arrival};
 ghost use Rattle.list_lemmas.specs.Counting.{as_number};
 ghost use Rattle.shard_meaning.specs.Reserve.{has_type};
 ghost use Rattle.work_board.specs.Sends.{IsNext, MayEnd, MayTrap};
-ghost use Rattle.table_rule.specs.declared.job.Job.{Job};
+ghost use Rattle.table_rule.specs.declared.table_job.TableJob.{TableJob};
 ghost use Rattle.table_rule.specs.Live.{own_stamps};
 ghost use Rattle.shard_meaning.specs.Placing.{shard_of};
 ghost use Rattle.table_rule.specs.Plays.{HasTurn, Seated, fires, gave_claim, gave_end, gave_send};
@@ -28,7 +28,7 @@ ghost use Rattle.table_rule.specs.Words.{turn_word};
 /// claim of that task. It is told that the task ends, that the tiles of the entry are its inputs, and that it has sent
 /// no item of it.
 pub fn a_turn_is_given_back_with_a_claim()
-    ensures { (j : Job) (n id : ℕ) (m : Seated) (k : ℕ) (t : Task) (y z : Content) (tiles : List FlowTile)
+    ensures { (j : TableJob) (n id : ℕ) (m : Seated) (k : ℕ) (t : Task) (y z : Content) (tiles : List FlowTile)
         → HasTurn m k y z 0 → Takes y z t tiles → Uses y.spare z.spare 0 None 0 0
         → Allows (Rule j) n id m (turn_word k) (λ _. 0) (λ _.
         gave_claim (Some j) t tiles (step n (turn_word k) 0 0 none) m 0) }
@@ -38,7 +38,7 @@ pub fn a_turn_is_given_back_with_a_claim()
 /// shard has the arrival or the written tile. For an edge it has a credit exactly where the target fires, and spends
 /// it.
 pub fn a_turn_is_given_back_with_a_send()
-    ensures edge { (j : Job) (n id : ℕ) (m : Seated) (k : ℕ) (e : Edge) (tile : Option (List ℤ)) (y z : Content)
+    ensures edge { (j : TableJob) (n id : ℕ) (m : Seated) (k : ℕ) (e : Edge) (tile : Option (List ℤ)) (y z : Content)
         (datatype : ℕ)
         → HasTurn m k y z (as_number (fires j.matched y e)) → IsNext j.matched j.given (item.Edge e) tile m.0
         → shard_of j.matched j.shards e.to ≡ k → 0 < own_stamps m.0 e.from
@@ -49,7 +49,7 @@ pub fn a_turn_is_given_back_with_a_send()
         (if is_some tile then Some datatype else None) 0 0
         → Allows (Rule j) n id m (turn_word k) (λ _. 0) (λ _.
         gave_send record { item = item.Edge e; tile = tile } (step n (turn_word k) 0 0 none) m 0) }
-    ensures write { (j : Job) (n id : ℕ) (m : Seated) (k : ℕ) (w : WriteBack) (tile : List ℤ) (y z : Content)
+    ensures write { (j : TableJob) (n id : ℕ) (m : Seated) (k : ℕ) (w : WriteBack) (tile : List ℤ) (y z : Content)
         (datatype : ℕ)
         → HasTurn m k y z 0 → IsNext j.matched j.given (item.Write w) (Some tile) m.0
         → shard_of j.matched j.shards w.from ≡ k → 0 < own_stamps m.0 w.from → z.written ≡ y.written ++ (w, tile) ∷ []
@@ -62,11 +62,11 @@ pub fn a_turn_is_given_back_with_a_send()
 /// A law: a pass may give the turn of its running task's shard back with the end of that task, which has its stamp:
 /// where the task has outputs and the pass has sent all its items, or where it traps and the shard has the row.
 pub fn a_turn_is_given_back_with_an_end()
-    ensures end { (j : Job) (n id : ℕ) (m : Seated) (k : ℕ) (t : Task) (y z : Content) → HasTurn m k y z 0
+    ensures end { (j : TableJob) (n id : ℕ) (m : Seated) (k : ℕ) (t : Task) (y z : Content) → HasTurn m k y z 0
         → MayEnd j.matched j.given t m.0 → shard_of j.matched j.shards t ≡ k → 0 < own_stamps m.0 t → Ends y z
         → KeepsEntriesAndWritten y z → z.trapped ≡ y.trapped → Uses y.spare z.spare 0 None 0 0
         → Allows (Rule j) n id m (turn_word k) (λ _. 0) (λ _. gave_end (step n (turn_word k) 0 0 none) m 0) }
-    ensures trap { (j : Job) (n id : ℕ) (m : Seated) (k : ℕ) (t : Task) (cause : Trap) (y z : Content)
+    ensures trap { (j : TableJob) (n id : ℕ) (m : Seated) (k : ℕ) (t : Task) (cause : Trap) (y z : Content)
         → HasTurn m k y z 0 → MayTrap j.matched j.given t cause m.0 → shard_of j.matched j.shards t ≡ k
         → 0 < own_stamps m.0 t → Ends y z → KeepsEntriesAndWritten y z → z.trapped ≡ y.trapped ++ (t, cause) ∷ []
         → Uses y.spare z.spare 0 None 0 1

@@ -4,7 +4,7 @@ ghost use Rattle.table_rule.specs.Rule.{Rule};
 ghost use Rattle.table_rule.specs.Changes.{after_split, both, first_pass, joined_away, split_off};
 ghost use Rattle.table_rule.specs.Plays.{drew_stamp, gave_claim, gave_end, gave_send, left, lowered_live, raised_halt, raised_live, read_halt, read_live, took};
 
-use crate::job::Job;
+use crate::table_job::TableJob;
 use atomic_table::{Join, Play, Split, TableRule};
 use dep_shard::Shard;
 use std::marker::{Brand, PhantomData};
@@ -13,7 +13,7 @@ use work_board::PassRecord;
 /// The rule of the table.
 pub struct Law;
 
-impl TableRule<Shard, PassRecord, Job> for Law {
+impl TableRule<Shard, PassRecord, TableJob> for Law {
     ghost holds = { Rule };
 
     ghost first = { λ _. first_pass };
@@ -23,13 +23,13 @@ impl TableRule<Shard, PassRecord, Job> for Law {
 /// caller.
 pub trait Event {
     ghost use Rattle.std.specs.Prelude.{List, Option, ℕ};
+    ghost use Rattle.ptg_base.specs.Entry.{FlowTile};
     ghost use Rattle.ptg_base.specs.Task.{Task};
-    ghost use Rattle.dep_shard.specs.Arrivals.{FlowTile};
-    ghost use Rattle.flow_meaning.specs.Machine.{Sent};
-    ghost use Rattle.table_rule.specs.declared.job.Job.{Job};
+    ghost use Rattle.flow_meaning.specs.Machine.{SentItem};
+    ghost use Rattle.table_rule.specs.declared.table_job.TableJob.{TableJob};
 
     // The job, if there is one: there is no plan that could stand where none is meant.
-    ghost job: { Option Job };
+    ghost job: { Option TableJob };
 
     // The shard whose turn is taken.
     ghost shard: { ℕ };
@@ -41,7 +41,7 @@ pub trait Event {
     ghost tiles: { List FlowTile };
 
     // The item that is sent, with its tile.
-    ghost sent: { Sent };
+    ghost sent: { SentItem };
 }
 
 impl Event for Brand {

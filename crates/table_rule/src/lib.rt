@@ -1,8 +1,27 @@
 //! The rule of the shared dependency table, and that each kind of step keeps it.
 #![tactic(auto)]
 
-pub mod events;
-pub mod job;
-pub mod law;
-pub mod rules;
-pub mod steps;
+mod events;
+mod law;
+mod rules;
+mod steps;
+mod table_job;
+
+pub use events::{
+    a_turn_is_given_back_with_a_claim, a_turn_is_given_back_with_a_send,
+    a_turn_is_given_back_with_an_end,
+};
+pub use law::{
+    Claim, DrawStamp, End, Event, JoinTo, Law, Leave, LowerLive, RaiseHalt, RaiseLive, ReadHalt,
+    ReadLive, Send, SplitOff, Take,
+};
+pub use rules::{
+    a_pass_with_all_names_is_alone, all_passes_stay_all, each_task_has_a_shard,
+    the_rule_holds_before_the_first_step, the_rule_holds_of_the_joined_records,
+};
+pub use steps::{
+    a_pass_is_split, a_stamp_is_drawn, a_turn_is_given_back, a_turn_is_taken_or_found_taken,
+    halt_is_raised, halt_is_read, the_live_word_is_lowered, the_live_word_is_raised,
+    the_live_word_is_read, two_passes_are_joined,
+};
+pub use table_job::TableJob;

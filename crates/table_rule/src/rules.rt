@@ -9,7 +9,7 @@ ghost use Rattle.plan_core.specs.declared.plan.Plan.{Plan};
 ghost use Rattle.dep_shard.specs.Content.{Content};
 ghost use Rattle.list_lemmas.specs.Counting.{HasSameMembers};
 ghost use Rattle.work_board.specs.declared.record.PassRecord.{PassRecord};
-ghost use Rattle.table_rule.specs.declared.job.Job.{Job};
+ghost use Rattle.table_rule.specs.declared.table_job.TableJob.{TableJob};
 ghost use Rattle.table_rule.specs.Changes.{after_split, both, first_pass, split_off};
 ghost use Rattle.table_rule.specs.Live.{AreStamps};
 ghost use Rattle.table_rule.specs.Names.{AreAll};
@@ -21,23 +21,23 @@ ghost use Rattle.table_rule.specs.Words.{stamp_word, turn_word};
 
 /// A law: where the rule holds at some moment, it holds at the one of all passes, their lists joined.
 pub fn the_rule_holds_of_the_joined_records()
-    ensures { (j : Job) (s : Table) → Rule j s → Parts j s (joined s.views) }
+    ensures { (j : TableJob) (s : Table) → Rule j s → Parts j s (joined s.views) }
 {}
 
 /// A law: before the first step, with one pass that has done nothing, the rule holds.
 pub fn the_rule_holds_before_the_first_step()
-    ensures { (j : Job) (words : List ℕ) (shards : List Content) → IsOpening j words shards
+    ensures { (j : TableJob) (words : List ℕ) (shards : List Content) → IsOpening j words shards
         → Rule j (opening words shards first_pass) }
 {}
 
 /// A law: where one pass has all names, the rule holds at what that pass did, all stamps are its own and, if it holds
 /// no turn, each turn is free.
 pub fn a_pass_with_all_names_is_alone()
-    ensures moment { (j : Job) (s : Table) (id : ℕ) (v : PassRecord) → Rule j s → get_elem? s.views id ≡ some v
+    ensures moment { (j : TableJob) (s : Table) (id : ℕ) (v : PassRecord) → Rule j s → get_elem? s.views id ≡ some v
         → AreAll (v ∷ []) → Parts j s (moment_of v) }
-    ensures stamps { (j : Job) (s : Table) (id : ℕ) (v : PassRecord) → Rule j s → get_elem? s.views id ≡ some v
+    ensures stamps { (j : TableJob) (s : Table) (id : ℕ) (v : PassRecord) → Rule j s → get_elem? s.views id ≡ some v
         → AreAll (v ∷ []) → AreStamps j.matched (moment_of v) v.stamps (slice_index s.words (stamp_word j.shards)) }
-    ensures free { (j : Job) (s : Table) (id : ℕ) (v : PassRecord) → Rule j s → get_elem? s.views id ≡ some v
+    ensures free { (j : TableJob) (s : Table) (id : ℕ) (v : PassRecord) → Rule j s → get_elem? s.views id ≡ some v
         → AreAll (v ∷ []) → v.turns ≡ [] → (k : ℕ) → k < j.shards → slice_index s.words (turn_word k) ≡ 0 }
 {}
 

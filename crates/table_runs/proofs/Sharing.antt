@@ -6,7 +6,7 @@ use Rattle.std.proofs.Crossing.{crosses}
 use Rattle.atomic_table.proofs.send_lease.SendLease.TheSendSync.{the_sync as lease_sync}
 use Rattle.atomic_table.proofs.shared.Shared.TheSendSync.{the_sync as shared_sync}
 use Rattle.shard_meaning.proofs.Sharing.{declared_sync, given_sync, matched_sync, shard_send, shard_sync}
-use Rattle.table_rule.specs.contracts.job.Job.{the_type as job_type}
+use Rattle.table_rule.specs.contracts.table_job.TableJob.{the_type as job_type}
 use Rattle.dep_table.specs.contracts.closing_room.ClosingRoom.{the_type as closing_type}
 use Rattle.dep_table.specs.contracts.table.DepTable.{the_type as table_type}
 use Rattle.table_runs.specs.contracts.unscanned.Unscanned.{the_row as unscanned_row, the_type as unscanned_type}

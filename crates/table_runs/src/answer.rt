@@ -1,6 +1,6 @@
 //! What a closed table answers.
 
-use dep_table::closed::Closed;
+use dep_table::Closed;
 use flow_meaning::Outcome;
 use ptg_base::OutOfMemory;
 use std::fmt;

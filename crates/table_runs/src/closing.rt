@@ -7,12 +7,10 @@ ghost use Rattle.dep_table.specs.Views.{shown};
 ghost use Rattle.table_rule.specs.Changes.{first_pass};
 ghost use Rattle.table_runs.specs.Watching.{split_as};
 
-use dep_table::closed::Closed;
-use dep_table::pass::Pass;
-use dep_table::table::DepTable;
+use dep_table::{Closed, DepTable, Pass};
 use ptg_base::OutOfMemory;
 use std::alloc::Global;
-use table_rule::rules::all_passes_stay_all;
+use table_rule::all_passes_stay_all;
 
 /// Closes a table with its first pass, off which none was split.
 pub fn close_one(alloc: Global, table: DepTable, pass: Pass) -> Result<Closed, OutOfMemory>

@@ -240,7 +240,7 @@ C[0] = C[0] + 1;
 END
 ";
 
-/// That shape with four rows of tiles, and with twenty. Each task adds 1 to one element.
+/// That shape with four rows of tiles. Each task adds 1 to one element.
 pub const CHOLESKY_4: Texts = Texts {
     name: "cholesky 4",
     jdf: CHOLESKY_JDF,
@@ -250,6 +250,7 @@ coll,D,4,4
 ",
 };
 
+/// That shape with twenty rows of tiles.
 pub const CHOLESKY_20: Texts = Texts {
     name: "cholesky 20",
     jdf: CHOLESKY_JDF,

@@ -34,9 +34,10 @@ use std::io;
 use std::sync::Wait;
 use std::thread::Threads;
 
-// The numbers of shards, and of workers.
+// The numbers of shards that are tried.
 const SHARDS: [u32; 3] = [1, 3, 256];
 
+// The numbers of workers that are tried.
 const WORKERS: [u32; 3] = [1, 2, 5];
 
 // A job played over a new table, if it is consistent and the number of shards is right.

@@ -11,9 +11,8 @@ ghost use Rattle.dep_table.specs.Views.{shown};
 use crate::jobs::Texts;
 use coll_data::Given;
 use dep_iter::Matched;
-use dep_table::pass::Pass;
-use dep_table::table::DepTable;
-use job_stages::{JobVerdict, judge_texts};
+use dep_table::{DepTable, Pass};
+use job_stages::job_of_texts;
 use ptg_base::{MOST_SHARDS, OutOfMemory};
 use std::alloc::Global;
 
@@ -22,16 +21,6 @@ use std::alloc::Global;
 pub struct Make {
     pub shards: u32,
     pub preload: bool,
-}
-
-/// The job of two texts, if it is consistent.
-pub fn job_of(alloc: Global, texts: &Texts) -> Result<Option<(Matched, Given)>, OutOfMemory>
-    ensures { IfOk result (λ job. IfSome job (λ j. DataFit j.0.colls j.0.elems j.1)) }
-{
-    match judge_texts(alloc, texts.jdf, texts.data)? {
-        JobVerdict::Consistent(matched, given) => Ok(Some((matched, given))),
-        _ => Ok(None),
-    }
 }
 
 // A table of a job, with its first pass.
@@ -65,7 +54,7 @@ pub fn table_of(
     if make.shards == 0 || make.shards > MOST_SHARDS {
         return Ok(None);
     }
-    let Some((matched, given)) = job_of(alloc, texts)? else {
+    let Some((matched, given)) = job_of_texts(alloc, texts.jdf, texts.data)? else {
         return Ok(None);
     };
     Ok(Some(open(alloc, matched, given, make)?))

@@ -13,9 +13,7 @@ use crate::hands::two_workers;
 use crate::jobs::Texts;
 use crate::opening::{Make, table_of};
 use crate::unscanned::{PassPair, Unscanned};
-use dep_table::an_idle_pass_is_a_workers_pass;
-use dep_table::pass::Pass;
-use dep_table::table::DepTable;
+use dep_table::{DepTable, Pass, an_idle_pass_is_a_workers_pass};
 use ptg_base::OutOfMemory;
 use ready_deques::Hands;
 use std::alloc::Global;
@@ -28,7 +26,7 @@ use worker_core::{Always, work};
 /// How the work of the thief ended.
 #[derive(Clone, Copy)]
 pub enum End {
-    /// It saw that all is quiet, after it had run so many tasks.
+    /// It saw that all is quiet, after it had run this many tasks.
     Quiet(u64),
     /// Its board was halted first, or it had no memory.
     Halted,
@@ -105,7 +103,7 @@ fn ran_with<R: Threads + Wait + Sync>(
 }
 
 /// Lets worker 1 of two work at a table of one shard that can't be scanned. The id of the job's ready task, the one of
-/// class 0 with the parameter 0, is in the deque of worker 0 so many times: at least twice where it is to be found,
+/// class 0 with the parameter 0, is in the deque of worker 0 this many times: at least twice where it is to be found,
 /// since a steal may leave the last id.
 pub fn ran_by_thief<R: Threads + Wait + Sync>(
     rt: &R,

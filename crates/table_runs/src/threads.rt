@@ -5,8 +5,8 @@ ghost use Rattle.run_pool.specs.Runs.{AreSettings};
 
 use crate::answer::{Answer, answer_of};
 use crate::jobs::Texts;
-use crate::opening::job_of;
-use dep_table::closed::Closed;
+use dep_table::Closed;
+use job_stages::job_of_texts;
 use ptg_base::{MOST_SHARDS, MOST_WORKERS, OutOfMemory, TaskId};
 use run_pool::{PrepareFault, Settings, prepare, run, run_traced};
 use std::alloc::Global;
@@ -37,7 +37,7 @@ pub fn answer_by<R: Threads + Wait + Sync>(
     if !are_settings(settings) {
         return Ok(None);
     }
-    let Some((matched, given)) = job_of(alloc, texts)? else {
+    let Some((matched, given)) = job_of_texts(alloc, texts.jdf, texts.data)? else {
         return Ok(None);
     };
     match prepare(alloc, matched, given, settings) {
@@ -69,6 +69,7 @@ fn repeats(tasks: &[TaskId]) -> usize {
     again
 }
 
+// The claims of a run, with its answer.
 fn claims_of(tasks: Vec<TaskId>, closed: Closed) -> Result<Claims, OutOfMemory> {
     let mut tasks = tasks;
     tasks.sort_unstable();
@@ -85,7 +86,7 @@ pub fn traced<R: Threads + Wait + Sync>(
     alloc: Global,
     texts: &Texts,
 ) -> Result<Option<Claims>, OutOfMemory> {
-    let Some((matched, given)) = job_of(alloc, texts)? else {
+    let Some((matched, given)) = job_of_texts(alloc, texts.jdf, texts.data)? else {
         return Ok(None);
     };
     let settings = Settings {

@@ -10,13 +10,12 @@ ghost use Rattle.dep_table.specs.Views as views;
 use coll_data::Given;
 use dep_iter::Matched;
 use dep_shard::Arrivals;
-use dep_table::pass::Pass;
-use dep_table::table::DepTable;
+use dep_table::{DepTable, Pass};
 use ptg_base::{Item, OutOfMemory, TaskId, Tile};
 use term_core::Trap;
 use work_board::{Board, Claim, Scan, Sent};
 
-// After so many looks for quiet the table is halted.
+// After this many looks for quiet the table is halted.
 const LOOKS: u64 = 1_000_000;
 
 /// A table of whose shards only the first ones can be scanned: where none can, a worker gets at its tasks by ids alone.

@@ -7,9 +7,7 @@ ghost use Rattle.dep_table.specs.Views.{shown};
 ghost use Rattle.table_runs.specs.Watching.{IsWatcher, is_refusal};
 
 use crate::seen::Reply;
-use dep_table::pass::Pass;
-use dep_table::table::DepTable;
-use dep_table::turn::Busy;
+use dep_table::{Busy, DepTable, Pass};
 use ptg_base::TaskId;
 use work_board::{Board, Claim};
 

@@ -3,7 +3,7 @@
 ghost use Rattle.std.specs.Prelude.{IfOk};
 ghost use Rattle.task_order.specs.Greatest.{IsGreatestOrder};
 
-use crate::growing::{pass, start};
+use crate::order_builder::{pass, start};
 use dep_iter::Matched;
 use ptg_base::{OutOfMemory, Seq, TaskId};
 use std::alloc::Global;
@@ -13,13 +13,13 @@ use std::alloc::Global;
 pub fn order_of(alloc: Global, m: &Matched) -> Result<Seq<TaskId>, OutOfMemory>
     ensures { IfOk result (λ order. IsGreatestOrder m.now order) }
 {
-    m.is_consistent();
-    let mut growing = start(alloc, m)?;
+    m.plan_is_consistent();
+    let mut builder = start(alloc, m)?;
     let mut at: usize = 0;
-    while at < growing.order.len() {
-        let t = growing.order[at].copy();
-        pass(&mut growing, m, &t)?;
+    while at < builder.order.len() {
+        let t = builder.order[at].copy();
+        pass(&mut builder, m, &t)?;
         at += 1;
     }
-    Ok(Seq::of(growing.order))
+    Ok(Seq::of(builder.order))
 }

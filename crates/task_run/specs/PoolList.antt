@@ -29,7 +29,7 @@ pub record HasMore (old new : List TypePool) (k : ℕ) : Type 0 where
   pub taken : IsTakenFrom after.pool before.pool
   pub zeros : after.zeros ≡ before.zeros
 
--- the same for a tile that was lent by the pool of a type, or by none
+-- in the new pools a tile has come back to the pool of the type that lent it, or nothing has changed if none did
 abbrev pub IsGivenBack : List TypePool → Option ℕ → List TypePool → Type 0
 IsGivenBack old None new = new ≡ old
 IsGivenBack old (Some k) new = HasMore old new k

@@ -35,6 +35,6 @@ pub record LendsTo (old new : Lent) (tile : Option (List ℤ)) : Type 0 where
   pub lent : new ≡ with_lent old type
   pub fits : (k : ℕ) → type ≡ Some k → option_map length tile ≡ Some (slice_index old.elems k)
 
--- each type that was lent is one of so many
+-- each type that was lent is one of this many
 abbrev pub AreBelow : ℕ → List (Option ℕ) → Type 0
 AreBelow types lent = (n k : ℕ) → slice_get lent n ≡ Some (Some k) → k < types

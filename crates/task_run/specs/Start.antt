@@ -1,12 +1,13 @@
 -- What a task starts on. Source: DAGuE (Parallel Computing, 2012): a task runs on what its sources gave.
 use Rattle.std.specs.Prelude.{◌≡◌, ℕ, ◌≤◌, ℤ, List, IsSome, None}
+use Rattle.ptg_base.specs.Entry.{FlowTile}
 use Rattle.ptg_base.specs.Task.{Task}
 use Rattle.plan_core.specs.declared.plan.Plan.{Plan}
 use Rattle.coll_data.specs.Data.{Data}
 use Rattle.plan_data.specs.Fit.{DataFit}
 use Rattle.dep_iter.specs.Tasks.{IsTask, locals_of}
 use Rattle.dep_iter.specs.Consistent.{IsConsistent}
-use Rattle.dep_shard.specs.Arrivals.{FlowTile, tile_of}
+use Rattle.dep_shard.specs.Arrivals.{tile_of}
 use Rattle.flow_meaning.specs.Starting.{Delivery}
 use Rattle.flow_meaning.specs.Backward.{ended, inputs, source_tile}
 

@@ -8,6 +8,7 @@ use Rattle.term_core.specs.declared.body.Block.TheDeep.{deep-Stmt}
 use Rattle.term_core.specs.StatementList.{statement_count}
 use Rattle.term_core.specs.BlockStatementList.{statement_list}
 
+-- statements are nested at most as deep as there are statements
 pub depth_at_most_count : (ss : List Stmt) → max (most deep-Stmt ss) 0 ≤ statement_count (statement_list ss)
 depth_at_most_count [] = omega arith
 depth_at_most_count (stmt.Set n e ∷ ss) = omega (arith, depth_at_most_count ss)

@@ -1,6 +1,8 @@
 -- What a flow of each kind does. Source: PaRSEC 2013: a CTL flow carries order alone, every other flow a tile; the JDF
 -- documentation: READ takes a tile, WRITE changes one, RW does both.
 use Rattle.std.specs.Prelude.{Bool, true, false}
+use Rattle.term_core.specs.declared.direction.Direction.{Direction}
+use Rattle.term_core.specs.declared.direction.Direction.TheVariants.{In, Out}
 use Rattle.term_core.specs.declared.flow.FlowKind.{FlowKind}
 use Rattle.term_core.specs.declared.flow.FlowKind.TheVariants.{Read, Write, Rw, Ctl}
 
@@ -45,3 +47,8 @@ takes_first Read = true
 takes_first Write = true
 takes_first Rw = true
 takes_first Ctl = false
+
+-- whether of its dependences in this direction the first that holds counts alone
+abbrev pub first_alone : Direction → FlowKind → Bool
+first_alone In kind = takes_first kind
+first_alone Out kind = false

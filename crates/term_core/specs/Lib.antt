@@ -10,4 +10,5 @@ pub mod BlockStatementList
 pub mod BlockSize
 pub mod WellBody
 pub mod Trap
+pub mod Directions
 pub mod Kinds

@@ -6,6 +6,7 @@ use Rattle.term_core.specs.declared.expr.Node.{Node}
 use Rattle.term_core.specs.declared.expr.Node.TheVariants as node
 use Rattle.term_core.specs.Term.{Term, Num, Local, Elem, Unary, Binary, Choose}
 
+-- a leaf as a tree
 abbrev pub leaf_term : Leaf → Term
 leaf_term (leaf.Num z) = Num z
 leaf_term (leaf.Local n) = Local n
@@ -15,6 +16,7 @@ abbrev pub leaf_number : Leaf → List ℤ → ℤ
 leaf_number (leaf.Num z) env = z
 leaf_number (leaf.Local n) env = slice_index_or env n (pos 0)
 
+-- the tree of boxed nodes
 abbrev pub term_of : Node → Term
 term_of (node.Num z) = Num z
 term_of (node.Local n) = Local n

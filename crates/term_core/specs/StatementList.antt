@@ -3,6 +3,7 @@
 use Rattle.std.specs.Prelude.{ℕ, ◌+◌}
 use Rattle.term_core.specs.Term.{Term}
 
+-- the statements of a block, each with the rest of the block
 pub data StatementList : Type 0 where
   -- nothing
   Done : StatementList

@@ -21,6 +21,7 @@ code_of_statement_list (ForThen a b c d e) =
     (gcons (ghost_of b) (gcons (ghost_of c) (gcons (code_of_statement_list d) (code_of_statement_list e)))))
 code_of_statement_list (TrapThen a b) = gcons (gnum 5) (gcons (gnum a) (code_of_statement_list b))
 
+-- blocks with one code are equal
 pub one_statement_list : (x y : StatementList) → code_of_statement_list x ≡ code_of_statement_list y → x ≡ y
 unfolding code_of_statement_list
 one_statement_list Done Done same = refl
@@ -78,5 +79,6 @@ one_statement_list (TrapThen a b) (TrapThen a' b') same =
     let ha : a ≡ a' = cc in
     let hb : b ≡ b' = one_statement_list b b' cc in cc
 
+-- the code of a block, with the proof that it is injective
 abbrev pub statement_list_code : Coded StatementList
 statement_list_code = record { code = code_of_statement_list; inj = one_statement_list }

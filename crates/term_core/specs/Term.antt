@@ -3,6 +3,7 @@ use Rattle.std.specs.Prelude.{ℕ, ℤ}
 use Rattle.term_core.specs.declared.operator.UnOp.{UnOp}
 use Rattle.term_core.specs.declared.operator.BinOp.{BinOp}
 
+-- an expression with its names resolved
 pub data Term : Type 0 where
   -- a number
   Num : ℤ → Term

@@ -9,11 +9,12 @@ use Rattle.term_core.specs.declared.operator.UnOp.TheVariants.{Neg, Not}
 use Rattle.term_core.specs.declared.operator.BinOp.{BinOp}
 use Rattle.term_core.specs.declared.operator.BinOp.TheVariants.{Add, Sub, Mul, Div, Rem, Eq, Ne, Lt, Le, Gt, Ge, And, Or}
 
--- operators by number
+-- the number of a prefix operator
 pub unary_number : UnOp → ℕ
 unary_number Neg = 0
 unary_number Not = 1
 
+-- the prefix operator of a number
 unary_of : ℕ → UnOp
 unary_of zero = Neg
 unary_of (suc n) = Not
@@ -23,6 +24,7 @@ unfolding unary_of unary_number
 unary-back Neg = refl
 unary-back Not = refl
 
+-- the number of an infix operator
 pub binary_number : BinOp → ℕ
 binary_number Add = 0
 binary_number Sub = 1
@@ -38,6 +40,7 @@ binary_number Ge = 10
 binary_number And = 11
 binary_number Or = 12
 
+-- the infix operators by number
 operators : List BinOp
 operators = Add ∷ Sub ∷ Mul ∷ Div ∷ Rem ∷ Eq ∷ Ne ∷ Lt ∷ Le ∷ Gt ∷ Ge ∷ And ∷ Or ∷ []
 
@@ -66,12 +69,15 @@ ghost_of (Unary o a) = gcons (gnum 3) (gcons (gnum (unary_number o)) (ghost_of a
 ghost_of (Binary o a b) = gcons (gnum 4) (gcons (gnum (binary_number o)) (gcons (ghost_of a) (ghost_of b)))
 ghost_of (Choose a b c) = gcons (gnum 5) (gcons (ghost_of a) (gcons (ghost_of b) (ghost_of c)))
 
+-- prefix operators with one number are equal
 pub one_unary : (o p : UnOp) → unary_number o ≡ unary_number p → o ≡ p
 one_unary o p e = sym (unary-back o) ∙ ap unary_of e ∙ unary-back p
 
+-- infix operators with one number are equal
 pub one_binary : (o p : BinOp) → binary_number o ≡ binary_number p → o ≡ p
 one_binary o p e = sym (binary-back o) ∙ ap (λ (n : ℕ). get_or operators n Add) e ∙ binary-back p
 
+-- terms with one code are equal
 pub one_term : (x y : Term) → ghost_of x ≡ ghost_of y → x ≡ y
 unfolding ghost_of
 one_term (Num a) (Num b) e = ap Num (coded_ℤ.inj a b cc)
@@ -117,5 +123,6 @@ one_term (Choose a b c) (Choose d f g) e =
     let i : b ≡ f = one_term b f cc in
     let j : c ≡ g = one_term c g cc in cc
 
+-- the code of a term, with the proof that it is injective
 abbrev pub term_code : Coded Term
 term_code = record { code = ghost_of; inj = one_term }

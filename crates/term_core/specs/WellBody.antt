@@ -6,11 +6,11 @@ use Rattle.term_core.specs.StatementList.{StatementList, Done, SetThen, PutThen,
 use Rattle.term_core.specs.Value.{is_closed_with}
 use Rattle.term_core.specs.declared.body.Body.{Body}
 
--- whether a slot is that of a variable: one of so many slots, and none of so many locals, whose slots come first
+-- whether a slot is that of a variable: one of this many slots, and none of this many locals, whose slots come first
 abbrev pub is_variable : ℕ → ℕ → ℕ → Bool
 is_variable locals slots n = nat_le locals n && nat_lt n slots
 
--- whether the statements name only so many slots and flows, and set no slot of so many locals
+-- whether the statements name only this many slots and flows, and set no slot of this many locals
 abbrev pub are_well_made : ℕ → ℕ → ℕ → StatementList → Bool
 are_well_made locals slots flows Done = true
 are_well_made locals slots flows (SetThen n e rest) =
@@ -26,7 +26,7 @@ are_well_made locals slots flows (ForThen n lo hi turn rest) =
     && are_well_made locals slots flows turn && are_well_made locals slots flows rest
 are_well_made locals slots flows (TrapThen w rest) = are_well_made locals slots flows rest
 
--- a body for so many locals (at most 16) and so many flows (at most 8), with at most 256 variables of its own
+-- a body for this many locals (at most 16) and this many flows (at most 8), with at most 256 variables of its own
 pub record IsWellBody (locals flows : ℕ) (b : Body) : Type 0 where
   pub locals_at_most : locals ≤ most_locals
   pub flows_at_most : flows ≤ most_flows

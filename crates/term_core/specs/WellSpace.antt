@@ -9,17 +9,18 @@ use Rattle.term_core.specs.declared.space.Def.{Def}
 use Rattle.term_core.specs.declared.space.Def.TheVariants.{Span, Value}
 use Rattle.term_core.specs.declared.space.ClassSpace.{ClassSpace}
 
--- whether a step, a guard or a priority names only the first so many definitions; one that is not written names none
+-- whether a step, a guard or a priority names only definitions with lower numbers than this; one that is not written
+-- names none
 abbrev pub is_closed_option : ℕ → Option Term → Bool
 is_closed_option before None = true
 is_closed_option before (Some e) = is_closed before e
 
--- whether a definition names only the first so many definitions, and no element of a tile
+-- whether a definition names only definitions with lower numbers than this, and no element of a tile
 abbrev pub is_closed_def : ℕ → Def → Bool
 is_closed_def before (Span r) = is_closed before r.lo && is_closed before r.hi && is_closed_option before r.step
 is_closed_def before (Value e) = is_closed before e
 
--- whether each definition names only those before it, where so many come before the first
+-- whether each definition names only those before it, where this many come before the first
 abbrev pub are_closed : ℕ → List Def → Bool
 are_closed before [] = true
 are_closed before (d ∷ ds) = is_closed_def before d && are_closed (suc before) ds
@@ -28,7 +29,7 @@ are_closed before (d ∷ ds) = is_closed_def before d && are_closed (suc before)
 abbrev pub is_among : ℕ → List ℕ → Bool
 is_among n ps = list_any (λ p. p == n) ps
 
--- whether each range is the definition of a parameter, where so many definitions come before the first
+-- whether each range is the definition of a parameter, where this many definitions come before the first
 abbrev pub spans_are_params : ℕ → List Def → List ℕ → Bool
 spans_are_params before [] params = true
 spans_are_params before (Span r ∷ ds) params = is_among before params && spans_are_params (suc before) ds params

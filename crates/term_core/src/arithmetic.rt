@@ -6,6 +6,7 @@ ghost use Rattle.term_core.specs.Arith.{fitted, divided, truth, holds, arithmeti
 use crate::fault::ExprFault;
 use crate::operator::{BinOp, UnOp};
 
+// The sum, if it fits 64 bits.
 fn sum(a: i64, b: i64) -> Result<i64, ExprFault>
     ensures { result ≡ fitted (a +ℤ b) }
 {
@@ -15,6 +16,7 @@ fn sum(a: i64, b: i64) -> Result<i64, ExprFault>
     }
 }
 
+// The difference, if it fits 64 bits.
 fn difference(a: i64, b: i64) -> Result<i64, ExprFault>
     ensures { result ≡ fitted (a -ℤ b) }
 {
@@ -24,6 +26,7 @@ fn difference(a: i64, b: i64) -> Result<i64, ExprFault>
     }
 }
 
+// The product, if it fits 64 bits.
 fn product(a: i64, b: i64) -> Result<i64, ExprFault>
     ensures { result ≡ fitted (a *ℤ b) }
 {
@@ -33,6 +36,7 @@ fn product(a: i64, b: i64) -> Result<i64, ExprFault>
     }
 }
 
+// The quotient, rounded towards 0, if the divisor is not 0 and it fits 64 bits.
 fn quotient(a: i64, b: i64) -> Result<i64, ExprFault>
     ensures { result ≡ divided a b (int_div a b) }
 {
@@ -45,6 +49,7 @@ fn quotient(a: i64, b: i64) -> Result<i64, ExprFault>
     }
 }
 
+// The remainder, with the sign of `a`, if the divisor is not 0 and the quotient fits 64 bits.
 fn remainder(a: i64, b: i64) -> Result<i64, ExprFault>
     ensures { result ≡ divided a b (int_rem a b) }
 {
@@ -57,6 +62,7 @@ fn remainder(a: i64, b: i64) -> Result<i64, ExprFault>
     }
 }
 
+// A condition as a number: 1 where it holds, else 0.
 fn number(condition: bool) -> i64
     ensures { result ≡ truth condition }
 {

@@ -74,6 +74,7 @@ fn flat_value<R: ReadElement>(op: BinOp, x: i64, y: i64) -> Result<i64, R::Fault
     with_fault::<R>(arith(op, x, y))
 }
 
+// The value of a tree of boxed nodes.
 fn node_value<R: ReadElement>(node: &Node, env: &[i64], elements: &R) -> Result<i64, R::Fault>
     ensures { result ≡ value_with R.fault_of (R.element_of elements.now) env.now (term_of node.now) }
 {

@@ -3,6 +3,8 @@
 ghost use Rattle.std.specs.Prelude.{◌≡◌};
 ghost use Rattle.term_core.specs.Kinds as kinds;
 
+use crate::direction::Direction;
+
 /// What a flow of a task does with its tile.
 #[derive(Clone, Copy, Debug, PartialEq, Eq)]
 pub enum FlowKind {
@@ -70,5 +72,15 @@ impl FlowKind {
         ensures { result ≡ kinds.takes_first self }
     {
         self.is_data()
+    }
+
+    /// Whether of its dependences in this direction the first that holds counts alone.
+    pub fn first_alone(self, direction: Direction) -> bool
+        ensures { result ≡ kinds.first_alone direction self }
+    {
+        match direction {
+            Direction::In => self.takes_first(),
+            Direction::Out => false,
+        }
     }
 }

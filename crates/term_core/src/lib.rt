@@ -3,6 +3,7 @@
 
 mod arithmetic;
 mod body;
+mod direction;
 mod evaluate;
 mod expr;
 mod fault;
@@ -13,6 +14,7 @@ mod trap;
 
 pub use arithmetic::{arith, decide, unary};
 pub use body::{Block, Body, Stmt};
+pub use direction::Direction;
 pub use evaluate::{ReadElement, eval, eval_with, local};
 pub use expr::Expr;
 pub use fault::ExprFault;

@@ -1,10 +1,11 @@
 -- A predictive grammar is read exactly.
 use Rattle.std.proofs.Common.{◌≡◌, ℕ, ◌-◌, List, length, Result, Ok, Err, ◌⊎◌, inl, inr, refl, sym, ap, ◌∙◌, arith}
 use Rattle.std.specs.Prelude.{None}
+use Rattle.grammar_core.specs.declared.fault.ReadFault.{ReadFault}
 use Rattle.grammar_core.specs.declared.token.Token.{Token}
 use Rattle.grammar_core.specs.declared.code.Code.{Code}
 use Rattle.grammar_core.specs.Production.{Production, IsText, IsFirstFault}
-use Rattle.grammar_core.specs.Reading.{FaultFromEnd, whole}
+use Rattle.grammar_core.specs.Reading.{whole, fault_from_end}
 use Rattle.grammar_core.specs.Predictive.{Claims}
 use Rattle.grammar_core.specs.ExactReading.{IsPredictive}
 use Rattle.text_laws.specs.ExactReading.{ReadsExactly}
@@ -18,26 +19,26 @@ module _ {N : Type 0} {Tree : N → Type 0} (body : (n : N) → Production N Tre
   only : (s : List Token) (t : A) → IsText body g s t None → whole body g s ≡ Ok t
   only = whole_text.text_only body claims h.nonterminals h.nonterminal_limits g h.start h.start_limits
 
-  fault : (s : List Token) (left : ℕ) (c : Code) → whole body g s ≡ Err (left, c) → IsFirstFault body g s (length s - left) c
-  fault s left c e = whole_text.fault_is body claims h.nonterminals h.nonterminal_limits g h.start h.start_limits s (left, c) e
+  fault : (s : List Token) (left : ℕ) (c : Code) → whole body g s ≡ Err (fault_from_end left c) → IsFirstFault body g s (length s - left) c
+  fault s left c e = whole_text.fault_is body claims h.nonterminals h.nonterminal_limits g h.start h.start_limits s (fault_from_end left c) e
 
-  refused : (s : List Token) (i : ℕ) (c : Code) → IsFirstFault body g s i c → whole body g s ≡ Err (length s - i, c)
+  refused : (s : List Token) (i : ℕ) (c : Code) → IsFirstFault body g s i c → whole body g s ≡ Err (fault_from_end (length s - i) c)
   refused = whole_text.one_fault body claims h.nonterminals h.nonterminal_limits g h.start h.start_limits
 
   one_fault : (s : List Token) (i j : ℕ) (c d : Code) → IsFirstFault body g s i c → IsFirstFault body g s j d → (i ≡ j) × (c ≡ d)
   one_fault s i j c d a b =
-      let same : (length s - i, c) ≡ (length s - j, d) = same_Err (length s - i, c) (length s - j, d) (sym (refused s i c a) ∙ refused s j d b) in
-      let left : length s - i ≡ length s - j = ap (λ (n : FaultFromEnd). n.0) same in
+      let same : fault_from_end (length s - i) c ≡ fault_from_end (length s - j) d = same_Err (fault_from_end (length s - i) c) (fault_from_end (length s - j) d) (sym (refused s i c a) ∙ refused s j d b) in
+      let left : length s - i ≡ length s - j = ap (λ (n : ReadFault). n.left) same in
       let x = whole_text.fault_index body g s i c a in
       let y = whole_text.fault_index body g s j d b in
-      (omega (arith, left, x, y), ap (λ (n : FaultFromEnd). n.1) same)
+      (omega (arith, left, x, y), ap (λ (n : ReadFault). n.code) same)
 
   either : (s : List Token) → ((t : A) × IsText body g s t None) ⊎ ((i : ℕ) × (c : Code) × IsFirstFault body g s i c)
   either s = go (whole body g s) refl
     where
-      go : (r : Result A FaultFromEnd) → whole body g s ≡ r → ((t : A) × IsText body g s t None) ⊎ ((i : ℕ) × (c : Code) × IsFirstFault body g s i c)
+      go : (r : Result A ReadFault) → whole body g s ≡ r → ((t : A) × IsText body g s t None) ⊎ ((i : ℕ) × (c : Code) × IsFirstFault body g s i c)
       go (Ok t) e = inl (t, found s t e)
-      go (Err n) e = inr (length s - n.0, n.1, fault s n.0 n.1 e)
+      go (Err n) e = inr (length s - n.left, n.code, fault s n.left n.code e)
 
   pub exact : ReadsExactly body g
   exact =
@@ -49,5 +50,5 @@ module _ {N : Type 0} {Tree : N → Type 0} (body : (n : N) → Production N Tre
         one_tree = λ s t u a b. same_Ok t u (sym (only s t a) ∙ only s u b);
         one_fault = one_fault;
         either = either;
-        not_both = λ s t i c a f. Ok≢Err t (length s - i, c) (sym (only s t a) ∙ refused s i c f);
+        not_both = λ s t i c a f. Ok≢Err t (fault_from_end (length s - i) c) (sym (only s t a) ∙ refused s i c f);
       }

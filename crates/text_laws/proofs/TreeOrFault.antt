@@ -7,13 +7,14 @@ use Rattle.std.proofs.lemmas.List.{take_all}
 use Rattle.std.proofs.lemmas.Str.{IsUtf8-nil, IsUtf8-from_is_utf8, is_utf8-from_IsUtf8}
 use Rattle.jdf_lex.specs.declared.fault.JdfCode.TheVariants as jdf
 use Rattle.jdf_lex.specs.declared.fault.JdfFault.{JdfFault}
+use Rattle.grammar_core.specs.declared.fault.ReadFault.{ReadFault}
 use Rattle.grammar_core.specs.declared.token.Spot.{Spot}
 use Rattle.grammar_core.specs.declared.token.Token.{Token}
 use Rattle.jdf_lex.specs.Tokens.{IsLexed, spot_after}
 use Rattle.text_laws.proofs.TokensOrFault as lex
 use Rattle.grammar_core.specs.declared.code.Code.{Code}
 use Rattle.grammar_core.specs.Production.{IsFirstFault}
-use Rattle.grammar_core.specs.Reading.{FaultFromEnd, whole}
+use Rattle.grammar_core.specs.Reading.{whole}
 use Rattle.jdf_tree.specs.declared.tree.Jdf.{Jdf}
 use Rattle.jdf_tree.specs.Grammar.{productions, file}
 use Rattle.jdf_tree.specs.Jdf.{IsJdf}
@@ -83,10 +84,10 @@ named_fault tokens end i c first = go (slice_get tokens i) refl
 by_grammar : (bytes : List ℕ) → length bytes ≤ 16777216 → IsUtf8 bytes → (tokens : List Token) (end : Spot) → IsLexed bytes tokens end → length tokens ≤ 1000000 → Either bytes
 by_grammar bytes size utf8 tokens end lexed number = go (whole productions file tokens) refl
   where
-    go : (r : Result Jdf FaultFromEnd) → whole productions file tokens ≡ r → Either bytes
+    go : (r : Result Jdf ReadFault) → whole productions file tokens ≡ r → Either bytes
     go (Ok tree) e = inl (tree, record { bytes_at_most = size; utf8 = utf8; tokens = tokens; end = end; lexed = lexed; tokens_at_most = number; text = found tokens tree e })
     go (Err n) e =
-        let fault = named_fault tokens end (length tokens - n.0) n.1 (faulty tokens n.0 n.1 e) in
+        let fault = named_fault tokens end (length tokens - n.left) n.code (faulty tokens n.left n.code e) in
         inr (fault.0, inr (inr (inr (record { bytes_at_most = size; utf8 = utf8; tokens = tokens; end = end; lexed = lexed; tokens_at_most = number; fault_is = fault.1 }))))
 
 -- ---- the text

@@ -4,7 +4,7 @@ use Rattle.std.specs.Prelude.{◌≡◌, ℕ, ◌-◌, List, length, None, Ok, E
 use Rattle.grammar_core.specs.declared.token.Token.{Token}
 use Rattle.grammar_core.specs.declared.code.Code.{Code}
 use Rattle.grammar_core.specs.Production.{Production, IsText, IsFirstFault}
-use Rattle.grammar_core.specs.Reading.{whole}
+use Rattle.grammar_core.specs.Reading.{whole, fault_from_end}
 
 -- Whatever the tokens are, reading gives the one tree that the grammar derives for all of them, or else their one first
 -- fault.
@@ -15,11 +15,11 @@ pub record ReadsExactly {N : Type 0} {Tree : N → Type 0} (body : (n : N) → P
   -- a tree that is derived without a fault is read
   pub only : (s : List Token) (t : A) → IsText body g s t None → whole body g s ≡ Ok t
   -- a fault that reading meets is in the tokens, or at their end, and is their first one
-  pub fault : (s : List Token) (left : ℕ) (c : Code) → whole body g s ≡ Err (left, c)
+  pub fault : (s : List Token) (left : ℕ) (c : Code) → whole body g s ≡ Err (fault_from_end left c)
       → IsFirstFault body g s (length s - left) c
   -- the first fault is what reading meets
   pub refused : (s : List Token) (index : ℕ) (c : Code) → IsFirstFault body g s index c
-      → whole body g s ≡ Err (length s - index, c)
+      → whole body g s ≡ Err (fault_from_end (length s - index) c)
   -- there is one tree at most
   pub one_tree : (s : List Token) (t u : A) → IsText body g s t None → IsText body g s u None → t ≡ u
   -- there is one first fault at most

@@ -3,20 +3,20 @@ use Rattle.std.proofs.Common.{ℕ, List, Some, refl, subst, ◌⊎◌, inl, inr}
 use Rattle.std.specs.Prelude.{Option, None, if◌then◌else◌}
 use Rattle.ptg_io.specs.Files.{file_of}
 use Rattle.ptg_io.specs.Sink.{appended}
-use Rattle.word_laws.specs.Commands.{OrderOrUsage}
+use Rattle.word_laws.specs.Commands.{CommandOrUsage}
 use Rattle.jdf_print.specs.Spelling.{spelling}
 use Rattle.flow_meaning.specs.Answer.{answer}
 use Rattle.text_laws.proofs.TreeOrFault.{tree_or_fault}
 use Rattle.job_stages.specs.declared.verdict.JobVerdict.TheVariants as jobs
 use Rattle.job_laws.proofs.Always.{texts_some}
-use Rattle.ptg_top.specs.declared.request.Request.{Request}
-use Rattle.ptg_top.specs.declared.request.Request.TheVariants.{Run, Show, Check, Demo, Trace, Replay, Certify, Ranks}
+use Rattle.ptg_words.specs.declared.order.Order.{Order}
+use Rattle.ptg_words.specs.declared.order.Order.TheVariants.{Run, Show, Check, Demo, Trace, Replay, Certify, Ranks}
+use Rattle.ptg_words.specs.Words.{Orders}
 use Rattle.ptg_top.specs.Denotation as verdicts
 use Rattle.ptg_top.specs.Denotation.{Denotation}
-use Rattle.ptg_top.specs.Requests.{Requests, request_of}
 use Rattle.job_gen.specs.Job.{data_text, jdf_text}
 use Rattle.ptg_top.specs.JobFiles.{Entries, ContentsDenote, JobTextsDenote}
-use Rattle.ptg_top.specs.Meaning.{ContentShows, IsNoOrder, RequestDenotes, Shows}
+use Rattle.ptg_top.specs.Meaning.{CommandDenotes, ContentShows, IsNoCommand, Shows}
 use Rattle.ptg_top.specs.Headline.{text_of, status_of}
 use Rattle.top_laws.specs.Meanings.{SomeMeaning, SomeOutput}
 use Rattle.ptg_top.specs.Answering.{IsAnswer}
@@ -41,12 +41,12 @@ use Rattle.ptg_top.proofs.Answered.{some_on}
 use Rattle.ptg_top.proofs.Checked.{contents_consistent}
 use Rattle.ptg_top.proofs.JdfFiles.{fault_refuses}
 
--- ---- what is asked
+-- ---- the command
 
-asked_or_none : OrderOrUsage → (words : List (List ℕ)) → ((request : Request) × Requests words request) ⊎ IsNoOrder words
-asked_or_none either words = elim (either words) [
-  | inl o ↦ inl (request_of o.0, record { order = o.0; formed = o.1; asks = refl })
-  | inr usage ↦ inr (λ request asked. asked.formed.breaks_no_rule usage)
+formed_or_none : CommandOrUsage → (words : List (List ℕ)) → ((command : Order) × Orders words command) ⊎ IsNoCommand words
+formed_or_none either words = elim (either words) [
+  | inl formed ↦ inl formed
+  | inr usage ↦ inr (λ command formed. formed.breaks_no_rule usage)
 ]
 
 -- ---- what the files denote
@@ -84,7 +84,7 @@ certified_some P given con =
     let c = some_certificate P given ws con in
     (verdicts.Ran P (certified ws (answer P given) c.0), (c.0, c.1, refl))
 
-certify_some : (files : Entries) (jdf data_name : List ℕ) → (v : Denotation) × RequestDenotes files (Certify jdf data_name) v
+certify_some : (files : Entries) (jdf data_name : List ℕ) → (v : Denotation) × CommandDenotes files (Certify jdf data_name) v
 certify_some files jdf data_name =
     let a = file_of files jdf in
     let b = file_of files data_name in
@@ -97,8 +97,8 @@ traced_some P given con =
     let order = some_whole_order P given con in
     (verdicts.Ran P (TraceText (trace_text P order.0)), (order.0, order.1, refl))
 
-trace_some : (files : Entries) (jdf data_name : List ℕ) (settings : Settings) → (v : Denotation) × RequestDenotes files (Trace jdf data_name settings) v
-trace_some files jdf data_name settings =
+trace_some : (files : Entries) (jdf data_name : List ℕ) (workers shards : ℕ) → (v : Denotation) × CommandDenotes files (Trace jdf data_name workers shards) v
+trace_some files jdf data_name workers shards =
     let a = file_of files jdf in
     let b = file_of files data_name in
     let checked = contents_some jdf data_name a b in
@@ -112,7 +112,7 @@ replayed_some trace (Some text) P given con = elim (fault_or_trace P given con t
   | inr found ↦ (verdicts.Ran P (Answer (answer P given)), inr (found, refl))
 ]
 
-replay_some : (files : Entries) (jdf data_name trace : List ℕ) → (v : Denotation) × RequestDenotes files (Replay jdf data_name trace) v
+replay_some : (files : Entries) (jdf data_name trace : List ℕ) → (v : Denotation) × CommandDenotes files (Replay jdf data_name trace) v
 replay_some files jdf data_name trace =
     let a = file_of files jdf in
     let b = file_of files data_name in
@@ -124,33 +124,35 @@ replay_some files jdf data_name trace =
 abbrev ranked : ℕ → Plan → Data → Denotation
 ranked r P given = verdicts.Ran P (Ranked (record { ranks = r; messages = message_count P given r; outcome = answer P given }))
 
-ranks_some : (files : Entries) (jdf data_name : List ℕ) (r seed : ℕ) → (v : Denotation) × RequestDenotes files (Ranks jdf data_name (record { ranks = r; seed = seed })) v
+ranks_some : (files : Entries) (jdf data_name : List ℕ) (r seed : ℕ) → (v : Denotation) × CommandDenotes files (Ranks jdf data_name r seed) v
 ranks_some files jdf data_name r seed =
     let checked = contents_some jdf data_name (file_of files jdf) (file_of files data_name) in
     let found = some_on (IsRanked r) checked.0 (λ P given is. (ranked r P given, refl)) in
     (found.0, (checked.0, checked.1, found.1))
 
-request_some : (files : Entries) (request : Request) → (v : Denotation) × RequestDenotes files request v
-request_some files (Run jdf data_name settings) = let checked = contents_some jdf data_name (file_of files jdf) (file_of files data_name) in
+command_some : (files : Entries) (command : Order) → (v : Denotation) × CommandDenotes files command v
+command_some files (Run jdf data_name workers shards preload) =
+    let settings : Settings = record { workers = workers; shards = shards; preload = preload } in
+    let checked = contents_some jdf data_name (file_of files jdf) (file_of files data_name) in
     let found = some_on (IsAnswer settings) checked.0 (λ P given is. (if is_too_large settings P then verdicts.Preload else verdicts.Ran P (Answer (answer P given)), refl)) in
     (found.0, (checked.0, checked.1, found.1))
-request_some files (Show jdf) = content_shows_some jdf (file_of files jdf)
-request_some files (Check jdf data_name) = contents_some jdf data_name (file_of files jdf) (file_of files data_name)
-request_some files (Demo rows) = demo_some rows
-request_some files (Trace jdf data_name settings) = trace_some files jdf data_name settings
-request_some files (Replay jdf data_name trace) = replay_some files jdf data_name trace
-request_some files (Certify jdf data_name) = certify_some files jdf data_name
-request_some files (Ranks jdf data_name settings) = ranks_some files jdf data_name settings.ranks settings.seed
+command_some files (Show jdf) = content_shows_some jdf (file_of files jdf)
+command_some files (Check jdf data_name) = contents_some jdf data_name (file_of files jdf) (file_of files data_name)
+command_some files (Demo rows) = demo_some rows
+command_some files (Trace jdf data_name workers shards) = trace_some files jdf data_name workers shards
+command_some files (Replay jdf data_name trace) = replay_some files jdf data_name trace
+command_some files (Certify jdf data_name) = certify_some files jdf data_name
+command_some files (Ranks jdf data_name ranks seed) = ranks_some files jdf data_name ranks seed
 
 -- ---- arguments and files
 
-pub some_meaning : OrderOrUsage → SomeMeaning
-some_meaning either words files = elim (asked_or_none either words) [
-  | inl asked ↦ let found = request_some files asked.0 in (found.0, inr (asked.0, asked.1, found.1))
+pub some_meaning : CommandOrUsage → SomeMeaning
+some_meaning either words files = elim (formed_or_none either words) [
+  | inl formed ↦ let found = command_some files formed.0 in (found.0, inr (formed.0, formed.1, found.1))
   | inr none ↦ (verdicts.Usage, inl (none, refl))
 ]
 
-pub some_output : OrderOrUsage → SomeOutput
+pub some_output : CommandOrUsage → SomeOutput
 some_output either words files before =
     let found = some_meaning either words files in
     (appended before (text_of found.0), status_of found.0, record { verdict = found.0; denoted = found.1; text = refl; ends = refl })

@@ -6,13 +6,13 @@ use Rattle.ptg_io.specs.Sink.{appended}
 use Rattle.jdf_tree.specs.declared.tree.Jdf.{Jdf}
 use Rattle.jdf_print.specs.Spelling.{spelling}
 use Rattle.jdf_read.proofs.Once.{one_tree}
-use Rattle.ptg_top.specs.declared.request.Request.{Request}
-use Rattle.ptg_top.specs.declared.request.Request.TheVariants.{Run, Show, Check, Demo, Trace, Replay, Certify, Ranks}
+use Rattle.ptg_words.specs.declared.order.Order.{Order}
+use Rattle.ptg_words.specs.declared.order.Order.TheVariants.{Run, Show, Check, Demo, Trace, Replay, Certify, Ranks}
 use Rattle.ptg_top.specs.Denotation as verdicts
 use Rattle.ptg_top.specs.Denotation.{Denotation}
 use Rattle.ptg_top.specs.JobFiles.{Entries, ContentsDenote, FilesDenote}
 use Rattle.job_gen.specs.Job.{data_text, jdf_text}
-use Rattle.ptg_top.specs.Meaning.{Shows, ContentShows, RequestDenotes}
+use Rattle.ptg_top.specs.Meaning.{CommandDenotes, Shows, ContentShows}
 use Rattle.ptg_top.specs.Headline.{text_of, status_of}
 use Rattle.top_laws.specs.Meanings.{AreTracesOfOneJob, IsNoTrace, OneJob, OneMeaning, OneOutput}
 use Rattle.ptg_top.specs.Answering.{IsAnswer, OnConsistent}
@@ -33,7 +33,7 @@ use Rattle.job_stages.specs.declared.verdict.JobVerdict.TheVariants as jobs
 use Rattle.run_pool.specs.declared.settings.Settings.{Settings}
 use Rattle.ptg_top.specs.Ranks.{IsRanked}
 use Rattle.ptg_top.proofs.Answered.{once_on}
-use Rattle.ptg_top.proofs.Requested.{one_request}
+use Rattle.ptg_words.proofs.OneCommand.{one_command}
 use Rattle.ptg_top.proofs.Checked.{refused_once, refused_or_read, contents_consistent, contents_once, job_texts_once}
 
 shows_once : (text : List ℕ) (v w : Denotation) → Shows text v → Shows text w → v ≡ w
@@ -58,7 +58,7 @@ certified_once P given v w con (c, h, e) (d, k, q) =
     let ws = class_weights P given in
     e ∙ (ap (λ (x : Certificate). verdicts.Ran P (certified ws (answer P given) x)) (one P given ws c d con h k) ∙ sym q)
 
-certify_once : (files : Entries) (jdf data_name : List ℕ) (v w : Denotation) → RequestDenotes files (Certify jdf data_name) v → RequestDenotes files (Certify jdf data_name) w → v ≡ w
+certify_once : (files : Entries) (jdf data_name : List ℕ) (v w : Denotation) → CommandDenotes files (Certify jdf data_name) v → CommandDenotes files (Certify jdf data_name) w → v ≡ w
 certify_once files jdf data_name v w (a, h, e) (b, k, d) =
     let a_file = file_of files jdf in
     let b_file = file_of files data_name in
@@ -77,7 +77,7 @@ replayed_once : (trace : List ℕ) (content : Option (List ℕ)) (P : Plan) (giv
 replayed_once trace None P given v w con h k = h ∙ sym k
 replayed_once trace (Some text) P given v w con h k = replay_of_once P given text v w con h k
 
-replay_once : (files : Entries) (jdf data_name trace : List ℕ) (v w : Denotation) → RequestDenotes files (Replay jdf data_name trace) v → RequestDenotes files (Replay jdf data_name trace) w → v ≡ w
+replay_once : (files : Entries) (jdf data_name trace : List ℕ) (v w : Denotation) → CommandDenotes files (Replay jdf data_name trace) v → CommandDenotes files (Replay jdf data_name trace) w → v ≡ w
 replay_once files jdf data_name trace v w (a, h, e) (b, k, d) =
     let a_file = file_of files jdf in
     let b_file = file_of files data_name in
@@ -91,51 +91,52 @@ traces_on : (files : Entries) (jdf data_name : List ℕ) (checked v w : Denotati
 traces_on files jdf data_name (verdicts.Job (jobs.Consistent P given)) v w found h k = inr (jdf, data_name, P, given, found, h, k)
 traces_on files jdf data_name checked v w found h k = inl (h ∙ sym k)
 
-traces_of_one_job : (files : Entries) (jdf data_name : List ℕ) (settings : Settings) (v w : Denotation) → RequestDenotes files (Trace jdf data_name settings) v → RequestDenotes files (Trace jdf data_name settings) w
+traces_of_one_job : (files : Entries) (jdf data_name : List ℕ) (workers shards : ℕ) (v w : Denotation) → CommandDenotes files (Trace jdf data_name workers shards) v → CommandDenotes files (Trace jdf data_name workers shards) w
     → (v ≡ w) ⊎ AreTracesOfOneJob files v w
-traces_of_one_job files jdf data_name settings v w (a, h, e) (b, k, d) =
+traces_of_one_job files jdf data_name workers shards v w (a, h, e) (b, k, d) =
     traces_on files jdf data_name b v w k (subst (λ (c : Denotation). OnConsistent IsTraced c v) (contents_once jdf data_name (file_of files jdf) (file_of files data_name) a b h k) e) d
 
--- what is asked and the files denote one verdict at most, where it is no trace
-request_once : (files : Entries) (request : Request) (v w : Denotation) → IsNoTrace request → RequestDenotes files request v → RequestDenotes files request w → v ≡ w
-request_once files (Trace jdf data_name settings) v w free h k = absurd free
-request_once files (Run jdf data_name settings) v w free (a, h, e) (b, k, d) =
+-- a command and the files denote one verdict at most, where it is no trace
+command_once : (files : Entries) (command : Order) (v w : Denotation) → IsNoTrace command → CommandDenotes files command v → CommandDenotes files command w → v ≡ w
+command_once files (Trace jdf data_name workers shards) v w free h k = absurd free
+command_once files (Run jdf data_name workers shards preload) v w free (a, h, e) (b, k, d) =
+    let settings : Settings = record { workers = workers; shards = shards; preload = preload } in
     once_on (IsAnswer settings) b v w (λ P given is p q. p ∙ sym q)
     (subst (λ (c : Denotation). OnConsistent (IsAnswer settings) c v) (contents_once jdf data_name (file_of files jdf) (file_of files data_name) a b h k) e) d
-request_once files (Show jdf) v w free h k = content_shows_once jdf (file_of files jdf) v w h k
-request_once files (Check jdf data_name) v w free h k = contents_once jdf data_name (file_of files jdf) (file_of files data_name) v w h k
-request_once files (Demo rows) v w free h k = demo_once rows v w h k
-request_once files (Replay jdf data_name trace) v w free h k = replay_once files jdf data_name trace v w h k
-request_once files (Certify jdf data_name) v w free h k = certify_once files jdf data_name v w h k
-request_once files (Ranks jdf data_name settings) v w free (a, h, e) (b, k, d) =
-    let Verb = IsRanked settings.ranks in
+command_once files (Show jdf) v w free h k = content_shows_once jdf (file_of files jdf) v w h k
+command_once files (Check jdf data_name) v w free h k = contents_once jdf data_name (file_of files jdf) (file_of files data_name) v w h k
+command_once files (Demo rows) v w free h k = demo_once rows v w h k
+command_once files (Replay jdf data_name trace) v w free h k = replay_once files jdf data_name trace v w h k
+command_once files (Certify jdf data_name) v w free h k = certify_once files jdf data_name v w h k
+command_once files (Ranks jdf data_name ranks seed) v w free (a, h, e) (b, k, d) =
+    let Verb = IsRanked ranks in
     once_on Verb b v w (λ P given is p q. p ∙ sym q)
     (subst (λ (c : Denotation). OnConsistent Verb c v) (contents_once jdf data_name (file_of files jdf) (file_of files data_name) a b h k) e) d
 
 pub one_meaning : OneMeaning
 one_meaning words files v w free (inl h) (inl k) = h.1 ∙ sym k.1
-one_meaning words files v w free (inl h) (inr (request, asked, k)) = absurd (h.0 request asked)
-one_meaning words files v w free (inr (request, asked, h)) (inl k) = absurd (k.0 request asked)
-one_meaning words files v w free (inr (a, asked, h)) (inr (b, other, k)) =
-    request_once files b v w (free b other) (subst (λ (r : Request). RequestDenotes files r v) (one_request words a b asked other) h) k
+one_meaning words files v w free (inl h) (inr (command, formed, k)) = absurd (h.0 command formed)
+one_meaning words files v w free (inr (command, formed, h)) (inl k) = absurd (k.0 command formed)
+one_meaning words files v w free (inr (a, formed, h)) (inr (b, other, k)) =
+    command_once files b v w (free b other) (subst (λ (r : Order). CommandDenotes files r v) (one_command words a b formed other) h) k
 
 -- and two of a trace are of one job
-one_or_traces : (files : Entries) (request : Request) (v w : Denotation) → RequestDenotes files request v → RequestDenotes files request w → (v ≡ w) ⊎ AreTracesOfOneJob files v w
-one_or_traces files (Trace jdf data_name settings) v w h k = traces_of_one_job files jdf data_name settings v w h k
-one_or_traces files (Run jdf data_name settings) v w h k = inl (request_once files (Run jdf data_name settings) v w tt h k)
-one_or_traces files (Show jdf) v w h k = inl (request_once files (Show jdf) v w tt h k)
-one_or_traces files (Check jdf data_name) v w h k = inl (request_once files (Check jdf data_name) v w tt h k)
-one_or_traces files (Demo rows) v w h k = inl (request_once files (Demo rows) v w tt h k)
-one_or_traces files (Replay jdf data_name trace) v w h k = inl (request_once files (Replay jdf data_name trace) v w tt h k)
-one_or_traces files (Certify jdf data_name) v w h k = inl (request_once files (Certify jdf data_name) v w tt h k)
-one_or_traces files (Ranks jdf data_name settings) v w h k = inl (request_once files (Ranks jdf data_name settings) v w tt h k)
+one_or_traces : (files : Entries) (command : Order) (v w : Denotation) → CommandDenotes files command v → CommandDenotes files command w → (v ≡ w) ⊎ AreTracesOfOneJob files v w
+one_or_traces files (Trace jdf data_name workers shards) v w h k = traces_of_one_job files jdf data_name workers shards v w h k
+one_or_traces files (Run jdf data_name workers shards preload) v w h k = inl (command_once files (Run jdf data_name workers shards preload) v w tt h k)
+one_or_traces files (Show jdf) v w h k = inl (command_once files (Show jdf) v w tt h k)
+one_or_traces files (Check jdf data_name) v w h k = inl (command_once files (Check jdf data_name) v w tt h k)
+one_or_traces files (Demo rows) v w h k = inl (command_once files (Demo rows) v w tt h k)
+one_or_traces files (Replay jdf data_name trace) v w h k = inl (command_once files (Replay jdf data_name trace) v w tt h k)
+one_or_traces files (Certify jdf data_name) v w h k = inl (command_once files (Certify jdf data_name) v w tt h k)
+one_or_traces files (Ranks jdf data_name ranks seed) v w h k = inl (command_once files (Ranks jdf data_name ranks seed) v w tt h k)
 
 pub one_job : OneJob
 one_job words files v w (inl h) (inl k) = inl (h.1 ∙ sym k.1)
-one_job words files v w (inl h) (inr (request, asked, k)) = absurd (h.0 request asked)
-one_job words files v w (inr (request, asked, h)) (inl k) = absurd (k.0 request asked)
-one_job words files v w (inr (a, asked, h)) (inr (b, other, k)) =
-    one_or_traces files b v w (subst (λ (r : Request). RequestDenotes files r v) (one_request words a b asked other) h) k
+one_job words files v w (inl h) (inr (command, formed, k)) = absurd (h.0 command formed)
+one_job words files v w (inr (command, formed, h)) (inl k) = absurd (k.0 command formed)
+one_job words files v w (inr (a, formed, h)) (inr (b, other, k)) =
+    one_or_traces files b v w (subst (λ (r : Order). CommandDenotes files r v) (one_command words a b formed other) h) k
 
 pub one_output : OneOutput
 one_output words files before after other status another free first second =

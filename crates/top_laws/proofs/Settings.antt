@@ -3,23 +3,20 @@ use Rattle.std.proofs.Common.{◌≡◌, ℕ, List, refl, ◌∙◌, ap, subst, 
 use Rattle.std.specs.Prelude.{Bool, false, if◌then◌else◌}
 use Rattle.plan_core.specs.declared.plan.Plan.{Plan}
 use Rattle.flow_meaning.specs.Answer.{answer}
-use Rattle.ptg_words.specs.declared.order.Order.TheVariants as order
 use Rattle.ptg_words.specs.Words.{Orders}
 use Rattle.run_pool.specs.declared.settings.Settings.{Settings}
-use Rattle.ptg_top.specs.declared.request.Request.{Request}
-use Rattle.ptg_top.specs.declared.request.RankSettings.{RankSettings}
-use Rattle.ptg_top.specs.declared.request.Request.TheVariants.{Ranks, Run}
+use Rattle.ptg_words.specs.declared.order.Order.{Order}
+use Rattle.ptg_words.specs.declared.order.Order.TheVariants.{Ranks, Run}
 use Rattle.ptg_top.specs.declared.verdict.Finding.TheVariants.{Answer}
 use Rattle.ptg_top.specs.Denotation as verdicts
 use Rattle.ptg_top.specs.Denotation.{Denotation}
 use Rattle.ptg_top.specs.Preload.{is_too_large}
-use Rattle.ptg_top.specs.Requests.{Requests}
 use Rattle.ptg_top.specs.JobFiles.{Entries}
-use Rattle.ptg_top.specs.Meaning.{Denotes, RequestDenotes}
+use Rattle.ptg_top.specs.Meaning.{CommandDenotes, Denotes}
 use Rattle.top_laws.specs.Settings.{SeedsChangeNothing, ShardsChangeNothing, WorkersChangeNothing}
 use Rattle.ptg_top.specs.Answering.{IsAnswer, OnConsistent}
 use Rattle.job_stages.specs.declared.verdict.JobVerdict.TheVariants as jobs
-use Rattle.ptg_top.proofs.Requested.{one_request}
+use Rattle.ptg_words.proofs.OneCommand.{one_command}
 
 -- settings with which the same preloads are too large
 abbrev AreAlike : Settings → Settings → Type 0
@@ -33,34 +30,25 @@ alike_on a b same (verdicts.Job (jobs.Consistent P given)) v h = h ∙ ap (λ (l
 alike_on a b same checked v h = h
 
 module _ (one other : List (List ℕ)) (jdf data_name : List ℕ) (a b : Settings) (files : Entries) (v : Denotation) where
-  same_denoted : AreAlike a b → Requests one (Run jdf data_name a) → Requests other (Run jdf data_name b) → Denotes one files v → Denotes other files v
-  same_denoted same first second (inl (none, e)) = absurd (none (Run jdf data_name a) first)
-  same_denoted same first second (inr (request, asked, h)) =
-      let is : RequestDenotes files (Run jdf data_name a) v = subst (λ (r : Request). RequestDenotes files r v) (one_request one request (Run jdf data_name a) asked first) h in
-      inr (Run jdf data_name b, second, (is.0, is.1, alike_on a b same is.0 v is.2))
-
-asked : (words : List (List ℕ)) (jdf data_name : List ℕ) (w s : ℕ) (p : Bool) → Orders words (order.Run jdf data_name w s p) → Requests words (Run jdf data_name (record { workers = w; shards = s; preload = p }))
-asked words jdf data_name w s p formed = record { order = order.Run jdf data_name w s p; formed = formed; asks = refl }
+  same_denoted : AreAlike a b → Orders one (Run jdf data_name a.workers a.shards a.preload) → Orders other (Run jdf data_name b.workers b.shards b.preload)
+      → Denotes one files v → Denotes other files v
+  same_denoted same first second (inl (none, e)) = absurd (none (Run jdf data_name a.workers a.shards a.preload) first)
+  same_denoted same first second (inr (command, formed, h)) =
+      let here : Order = Run jdf data_name a.workers a.shards a.preload in
+      let is : CommandDenotes files here v = subst (λ (c : Order). CommandDenotes files c v) (one_command one command here formed first) h in
+      inr (Run jdf data_name b.workers b.shards b.preload, second, (is.0, is.1, alike_on a b same is.0 v is.2))
 
 pub shards_change_nothing : ShardsChangeNothing
 shards_change_nothing one other jdf data_name w s t p files v first second h =
-    same_denoted one other jdf data_name (record { workers = w; shards = s; preload = p }) (record { workers = w; shards = t; preload = p }) files v
-    (λ P. refl) (asked one jdf data_name w s p first) (asked other jdf data_name w t p second) h
+    same_denoted one other jdf data_name (record { workers = w; shards = s; preload = p }) (record { workers = w; shards = t; preload = p }) files v (λ P. refl) first second h
 
 pub workers_change_nothing : WorkersChangeNothing
 workers_change_nothing one other jdf data_name w u s t files v first second h =
-    same_denoted one other jdf data_name (record { workers = w; shards = s; preload = false }) (record { workers = u; shards = t; preload = false }) files v
-    (λ P. refl) (asked one jdf data_name w s false first) (asked other jdf data_name u t false second) h
-
-ranks_asked : (words : List (List ℕ)) (jdf data_name : List ℕ) (r seed : ℕ) → Orders words (order.Ranks jdf data_name r seed) → Requests words (Ranks jdf data_name (record { ranks = r; seed = seed }))
-ranks_asked words jdf data_name r seed formed = record { order = order.Ranks jdf data_name r seed; formed = formed; asks = refl }
+    same_denoted one other jdf data_name (record { workers = w; shards = s; preload = false }) (record { workers = u; shards = t; preload = false }) files v (λ P. refl) first second h
 
 pub seeds_change_nothing : SeedsChangeNothing
-seeds_change_nothing one other jdf data_name r seed another files v first second (inl (none, e)) =
-    absurd (none (Ranks jdf data_name (record { ranks = r; seed = seed })) (ranks_asked one jdf data_name r seed first))
-seeds_change_nothing one other jdf data_name r seed another files v first second (inr (request, asked, h)) =
-    let here : RankSettings = record { ranks = r; seed = seed } in
-    let there : RankSettings = record { ranks = r; seed = another } in
-    let same = one_request one request (Ranks jdf data_name here) asked (ranks_asked one jdf data_name r seed first) in
-    let is : RequestDenotes files (Ranks jdf data_name here) v = subst (λ (q : Request). RequestDenotes files q v) same h in
-    inr (Ranks jdf data_name there, ranks_asked other jdf data_name r another second, is)
+seeds_change_nothing one other jdf data_name r seed another files v first second (inl (none, e)) = absurd (none (Ranks jdf data_name r seed) first)
+seeds_change_nothing one other jdf data_name r seed another files v first second (inr (command, formed, h)) =
+    let here : Order = Ranks jdf data_name r seed in
+    let is : CommandDenotes files here v = subst (λ (c : Order). CommandDenotes files c v) (one_command one command here formed first) h in
+    inr (Ranks jdf data_name r another, second, is)

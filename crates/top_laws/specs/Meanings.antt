@@ -3,25 +3,25 @@ use Rattle.std.specs.Prelude.{◌≡◌, ◌⊎◌, ℕ, List, Option}
 use Rattle.coll_data.specs.Data.{Data}
 use Rattle.plan_core.specs.declared.plan.Plan.{Plan}
 use Rattle.job_stages.specs.declared.verdict.JobVerdict.TheVariants as jobs
-use Rattle.ptg_top.specs.declared.request.Request.{Request}
-use Rattle.ptg_top.specs.declared.request.Request.TheVariants.{Trace}
+use Rattle.ptg_words.specs.declared.order.Order.{Order}
+use Rattle.ptg_words.specs.declared.order.Order.TheVariants.{Trace}
+use Rattle.ptg_words.specs.Words.{Orders}
 use Rattle.ptg_top.specs.declared.status.Status.{Status}
 use Rattle.ptg_top.specs.Denotation as verdicts
 use Rattle.ptg_top.specs.Denotation.{Denotation}
 use Rattle.ptg_top.specs.Headline.{Prints}
 use Rattle.ptg_top.specs.JobFiles.{Entries, FilesDenote}
 use Rattle.ptg_top.specs.Meaning.{Denotes}
-use Rattle.ptg_top.specs.Requests.{Requests}
 use Rattle.ptg_top.specs.Trace.{IsTraced}
 
--- what is asked is no trace
-abbrev pub IsNoTrace : Request → Type 0
-IsNoTrace (Trace jdf data_name settings) = ⊥
-IsNoTrace request = Unit {0}
+-- the command is no trace
+abbrev pub IsNoTrace : Order → Type 0
+IsNoTrace (Trace jdf data_name workers shards) = ⊥
+IsNoTrace command = Unit {0}
 
 -- the arguments ask for no trace
 abbrev pub AskForNoTrace : List (List ℕ) → Type 0
-AskForNoTrace words = (request : Request) → Requests words request → IsNoTrace request
+AskForNoTrace words = (command : Order) → Orders words command → IsNoTrace command
 
 -- arguments that ask for no trace and files denote one verdict at most
 abbrev pub OneMeaning : Type 0
@@ -42,7 +42,7 @@ OneJob =
     (words : List (List ℕ)) (files : Entries) (v w : Denotation) → Denotes words files v → Denotes words files w
     → (v ≡ w) ⊎ AreTracesOfOneJob files v w
 
--- and they denote one, whatever they are
+-- any arguments and files denote a verdict
 abbrev pub SomeMeaning : Type 0
 SomeMeaning = (words : List (List ℕ)) (files : Entries) → (v : Denotation) × Denotes words files v
 
@@ -53,7 +53,7 @@ OneOutput =
     → AskForNoTrace words → Prints words files before after status → Prints words files before other another
     → (after ≡ other) × (status ≡ another)
 
--- and whatever they are, something is printed for them, with a status
+-- for any arguments and files something is printed, with a status
 abbrev pub SomeOutput : Type 0
 SomeOutput =
     (words : List (List ℕ)) (files : Entries) (before : Option (List ℕ))

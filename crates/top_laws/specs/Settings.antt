@@ -14,7 +14,7 @@ ShardsChangeNothing =
     → Orders one (Run jdf data_name workers shards preload) → Orders other (Run jdf data_name workers others preload)
     → Denotes one files v → Denotes other files v
 
--- and where they differ in their workers and their shards, without a preload
+-- two runs of the same files without a preload denote the same where they differ in their workers and their shards
 abbrev pub WorkersChangeNothing : Type 0
 WorkersChangeNothing =
     (one other : List (List ℕ)) (jdf data_name : List ℕ) (workers more shards others : ℕ)
@@ -22,7 +22,7 @@ WorkersChangeNothing =
     → Orders one (Run jdf data_name workers shards false) → Orders other (Run jdf data_name more others false)
     → Denotes one files v → Denotes other files v
 
--- and where they run the job by as many ranks and differ in the seed alone
+-- two runs of the same files by as many ranks denote the same where they differ in the seed alone
 abbrev pub SeedsChangeNothing : Type 0
 SeedsChangeNothing =
     (one other : List (List ℕ)) (jdf data_name : List ℕ) (ranks seed another : ℕ) (files : Entries) (v : Denotation)

@@ -8,7 +8,7 @@ ghost use Rattle.plan_core.specs.declared.plan.Plan.{Plan as PlanValue};
 ghost use Rattle.dep_iter.specs.Consistent.{all_data, all_writes};
 ghost use Rattle.run_pool.specs.Bytes as bytes;
 
-use word_laws::words_give_one_order;
+use word_laws::words_form_one_command;
 
 /// A law: arguments that ask for no trace and files denote one verdict at most, and so determine what is printed.
 pub fn one_meaning()
@@ -27,7 +27,7 @@ pub fn some_meaning()
     ensures meaning { SomeMeaning }
     ensures output { SomeOutput }
 {
-    words_give_one_order();
+    words_form_one_command();
 }
 
 /// A law: the number of shards changes nothing in what arguments and files denote. Without a preload the number of

@@ -7,7 +7,7 @@ use Rattle.plan_core.specs.declared.plan.Plan.{Plan}
 use Rattle.dep_iter.specs.Tasks.{IsTask}
 use Rattle.trace_core.specs.Naming.{AreRowsOf}
 use Rattle.trace_core.specs.Reading.{IsListOf}
-use Rattle.trace_core.specs.Spelling.{BeginsWith, IsWellSpelled}
+use Rattle.trace_core.specs.Spelling.{IsWellSpelled}
 use Rattle.trace_core.specs.Text.{Entry, entry_of, head_line, rows_text, trace_text}
 use Rattle.trace_core.proofs.Named.{one_task}
 

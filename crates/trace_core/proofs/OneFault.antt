@@ -1,5 +1,5 @@
 -- A text has one first fault at most, and none where all its rows may run and no task that runs is missing.
-use Rattle.std.proofs.Common.{◌≡◌, ◌≢◌, ℕ, ◌+◌, ◌≤◌, true, List, [], ◌∷◌, ◌++◌, map, length, refl, ap, sym, ◌∙◌, subst, ◌⊎◌, inl, inr, append_assoc, arith}
+use Rattle.std.proofs.Common.{◌≡◌, ◌≢◌, ℕ, ◌+◌, ◌≤◌, List, [], ◌∷◌, ◌++◌, map, length, refl, ap, sym, ◌∙◌, subst, ◌⊎◌, inl, inr, append_assoc, arith}
 use Rattle.std.proofs.lemmas.Bool.{false≢true}
 use Rattle.std.proofs.lemmas.List.{append-nil}
 use Rattle.ptg_base.specs.Lists.{IsIn}
@@ -12,8 +12,9 @@ use Rattle.flow_meaning.specs.Answer.{ran}
 use Rattle.trace_core.specs.declared.fault.TraceCode.{TraceCode}
 use Rattle.trace_core.specs.declared.fault.TraceCode.TheVariants.{TooLong, BadTrace, UnknownTask, RanTwice, TooEarly, Unfinished}
 use Rattle.trace_core.specs.declared.fault.TraceFault.{TraceFault}
-use Rattle.trace_core.specs.Faults.{IsFaultOfRow, IsMissing, IsRowFault, IsTraceFault, too_long, bad_trace, of_tasks, IsUnfinished}
+use Rattle.trace_core.specs.Faults.{IsFaultOfRow, IsMissing, IsRowFault, IsTraceFault, of_spelling, of_tasks, IsUnfinished}
 use Rattle.trace_core.specs.Orders.{MayAllRunAfter, MayRunAfter}
+use Rattle.trace_core.specs.Reading.{IsSpellingFault, of_a_row, over_length}
 use Rattle.trace_core.specs.Spelling.{IsWellSpelled}
 use Rattle.trace_core.specs.Text.{Entry, entry_of}
 use Rattle.trace_core.proofs.Named.{one_task}
@@ -21,6 +22,17 @@ use Rattle.trace_core.proofs.OneText.{one_bad_row, one_spelling, spelled_or_bad}
 
 pub same_fault : (f g : TraceFault) → f.row ≡ g.row → f.code ≡ g.code → f ≡ g
 same_fault f g p q = λ i. record { row = p i; code = q i }
+
+-- a text has one fault of its length or its spelling at most, and none where it is well spelled
+pub one_spelling_fault : (text : List ℕ) (f g : TraceFault) → IsSpellingFault text f → IsSpellingFault text g → f ≡ g
+one_spelling_fault text f g (over_length l p) (over_length m r) = p ∙ sym r
+one_spelling_fault text f g (over_length l p) (of_a_row le b c) = absurd (omega arith)
+one_spelling_fault text f g (of_a_row le a c) (over_length m r) = absurd (omega arith)
+one_spelling_fault text f g (of_a_row le a c) (of_a_row ge b d) = same_fault f g (one_bad_row text f.row g.row a b) (c ∙ sym d)
+
+pub no_spelling_fault : (text : List ℕ) (es : List Entry) (f : TraceFault) → length text ≤ 16777216 → IsWellSpelled text es → IsSpellingFault text f → ⊥
+no_spelling_fault text es f le w (over_length l p) = absurd (omega arith)
+no_spelling_fault text es f le w (of_a_row ge a c) = spelled_or_bad text es f.row w a
 
 module _ (P : Plan) (G : Data) where
   pub not_missing : (before : List Task) (t : Task) → MayRunAfter P G before t → (x : Edge) → IsIn x (in_edges P t) → IsMissing P G before x → ⊥
@@ -129,21 +141,15 @@ module _ (P : Plan) (G : Data) where
   one_of_tasks es f g (inr a) (inr b) = same_fault f g (a.row ∙ sym b.row) (a.code ∙ sym b.code)
 
   pub one_fault : (text : List ℕ) (f g : TraceFault) → IsTraceFault P G text f → IsTraceFault P G text g → f ≡ g
-  one_fault text f g (too_long l p q) (too_long m r s) = same_fault f g (p ∙ sym r) (q ∙ sym s)
-  one_fault text f g (too_long l p q) (bad_trace le b c) = absurd (omega arith)
-  one_fault text f g (too_long l p q) (of_tasks ds le v b) = absurd (omega arith)
-  one_fault text f g (bad_trace le a c) (too_long m r s) = absurd (omega arith)
-  one_fault text f g (bad_trace le a c) (bad_trace ge b d) = same_fault f g (one_bad_row text f.row g.row a b) (c ∙ sym d)
-  one_fault text f g (bad_trace le a c) (of_tasks ds ge v b) = absurd (spelled_or_bad text ds f.row v a)
-  one_fault text f g (of_tasks es le w a) (too_long m r s) = absurd (omega arith)
-  one_fault text f g (of_tasks es le w a) (bad_trace ge b d) = absurd (spelled_or_bad text es g.row w b)
+  one_fault text f g (of_spelling a) (of_spelling b) = one_spelling_fault text f g a b
+  one_fault text f g (of_spelling a) (of_tasks es le w b) = absurd (no_spelling_fault text es f le w a)
+  one_fault text f g (of_tasks es le w a) (of_spelling b) = absurd (no_spelling_fault text es g le w b)
   one_fault text f g (of_tasks es le w a) (of_tasks ds ge v b) =
       one_of_tasks es f g a (subst (λ l. IsFaultOfRow P G l g ⊎ IsUnfinished P G l g) (sym (one_spelling text es ds w v)) b)
 
   -- a text whose rows are tasks that may run, with each task that runs among them, has no fault
   pub faultless : (text : List ℕ) (ts : List Task) → length text ≤ 16777216 → IsWellSpelled text (map (entry_of P) ts) → MayAllRunAfter P G [] ts → ((t : Task) → IsIn t (ran P G) → IsIn t ts) → (f : TraceFault) → IsTraceFault P G text f → ⊥
-  faultless text ts le w may all f (too_long l p q) = absurd (omega arith)
-  faultless text ts le w may all f (bad_trace ge a c) = spelled_or_bad text (map (entry_of P) ts) f.row w a
+  faultless text ts le w may all f (of_spelling a) = no_spelling_fault text (map (entry_of P) ts) f le w a
   faultless text ts le w may all f (of_tasks es ge v a) = by (subst (λ l. IsFaultOfRow P G l f ⊎ IsUnfinished P G l f) (one_spelling text es (map (entry_of P) ts) v w) a)
     where
       by : IsFaultOfRow P G (map (entry_of P) ts) f ⊎ IsUnfinished P G (map (entry_of P) ts) f → ⊥

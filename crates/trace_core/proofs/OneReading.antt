@@ -15,12 +15,12 @@ use Rattle.trace_core.specs.declared.fault.TraceCode.{TraceCode}
 use Rattle.trace_core.specs.declared.fault.TraceCode.TheVariants.{TooLong, BadTrace, UnknownTask, RanTwice, TooEarly, Unfinished}
 use Rattle.trace_core.specs.declared.fault.TraceFault.{TraceFault}
 use Rattle.trace_core.specs.Naming.{AreRowsBefore, AreRowsOf, IsNamingFault, Names}
-use Rattle.trace_core.specs.Reading.{IsReadFault, IsReading, over_length, of_a_row}
+use Rattle.trace_core.specs.Reading.{IsReadFault, IsReading}
 use Rattle.trace_core.specs.Text.{Entry, entry_of}
 use Rattle.trace_core.proofs.Lists.{same_list}
 use Rattle.trace_core.proofs.Named.{one_task}
-use Rattle.trace_core.proofs.OneFault.{same_fault}
-use Rattle.trace_core.proofs.OneText.{one_bad_row, one_spelling, spelled_or_bad}
+use Rattle.trace_core.proofs.OneFault.{no_spelling_fault, one_spelling_fault, same_fault}
+use Rattle.trace_core.proofs.OneText.{one_spelling}
 
 module _ (P : Plan) where
   -- a row that names a task which is new has no fault
@@ -104,8 +104,7 @@ module _ (P : Plan) where
   module _ (text : List ℕ) where
     -- a text that is read as a list of different tasks has no fault
     no_fault_of_a_list : (ts : List Task) (f : TraceFault) → IsReading P text ts None → IsReadFault P text f → ⊥
-    no_fault_of_a_list ts f r (inl (over_length more p q)) = let le = r.at_most in absurd (omega arith)
-    no_fault_of_a_list ts f r (inl (of_a_row le bad q)) = spelled_or_bad text r.entries f.row r.spelled bad
+    no_fault_of_a_list ts f r (inl a) = no_spelling_fault text r.entries f r.at_most r.spelled a
     no_fault_of_a_list ts f r (inr g) =
         let rows : AreRowsOf P r.entries ts = r.read in
         let front : AreRowsBefore P g.1.entries g.0 f.code = g.1.read.0 in
@@ -121,14 +120,9 @@ module _ (P : Plan) where
         same_list P ts us rows.tasks lines.tasks (sym rows.named ∙ one_spelling text r.entries s.entries r.spelled s.spelled ∙ lines.named)
 
     one_read_fault : (f g : TraceFault) → IsReadFault P text f → IsReadFault P text g → f ≡ g
-    one_read_fault f g (inl (over_length l p q)) (inl (over_length m r s)) = same_fault f g (p ∙ sym r) (q ∙ sym s)
-    one_read_fault f g (inl (over_length l p q)) (inl (of_a_row le b s)) = absurd (omega arith)
-    one_read_fault f g (inl (over_length l p q)) (inr b) = let le = b.1.at_most in absurd (omega arith)
-    one_read_fault f g (inl (of_a_row le a q)) (inl (over_length m r s)) = absurd (omega arith)
-    one_read_fault f g (inl (of_a_row le a q)) (inl (of_a_row ge b s)) = same_fault f g (one_bad_row text f.row g.row a b) (q ∙ sym s)
-    one_read_fault f g (inl (of_a_row le a q)) (inr b) = absurd (spelled_or_bad text b.1.entries f.row b.1.spelled a)
-    one_read_fault f g (inr a) (inl (over_length m r s)) = let le = a.1.at_most in absurd (omega arith)
-    one_read_fault f g (inr a) (inl (of_a_row le b s)) = absurd (spelled_or_bad text a.1.entries g.row a.1.spelled b)
+    one_read_fault f g (inl a) (inl b) = one_spelling_fault text f g a b
+    one_read_fault f g (inl a) (inr b) = absurd (no_spelling_fault text b.1.entries f b.1.at_most b.1.spelled a)
+    one_read_fault f g (inr a) (inl b) = absurd (no_spelling_fault text a.1.entries g a.1.at_most a.1.spelled b)
     one_read_fault f g (inr a) (inr b) =
         let front : AreRowsBefore P a.1.entries a.0 f.code = a.1.read.0 in
         let before : AreRowsBefore P b.1.entries b.0 g.code = b.1.read.0 in

@@ -1,9 +1,9 @@
 -- A text is well spelled in one way, or has one first row that is not.
-use Rattle.std.proofs.Common.{◌≡◌, ◌≢◌, ℕ, suc, ◌+◌, ◌<◌, ◌≤◌, List, [], ◌∷◌, ◌++◌, length, refl, ap, sym, ◌∙◌, subst, ◌⊎◌, inl, inr, append_assoc, length-append, arith}
+use Rattle.std.proofs.Common.{◌≡◌, ℕ, ◌+◌, ◌<◌, ◌≤◌, List, [], ◌∷◌, ◌++◌, length, refl, ap, sym, ◌∙◌, ◌⊎◌, inl, inr, append_assoc, length-append, arith}
 use Rattle.std.specs.List.{AllByRecursion}
 use Rattle.std.proofs.lemmas.List.{append-nil}
 use Rattle.trace_core.specs.Spelling.{BeginsWith, HasNoHead, HasNoRow, IsBadRow, bad_head, bad_row, row_too_many, IsSpelled, IsWellSpelled}
-use Rattle.trace_core.specs.Text.{Entry, head_line, row_line, rows_text}
+use Rattle.trace_core.specs.Text.{Entry, row_line, rows_text}
 use Rattle.trace_core.proofs.Spelled.{same_head, same_row}
 
 -- where the rest of a text, behind the rows `es`, goes on with rows to those of `ds` and its rest

@@ -1,11 +1,11 @@
 -- How the text of a trace is put together.
-use Rattle.std.proofs.Common.{◌≡◌, ◌≤◌, ℕ, List, [], ◌∷◌, ◌++◌, codes, length, map, take, refl, ap, sym, ◌∙◌, append_assoc, Some, slice_get}
+use Rattle.std.proofs.Common.{◌≡◌, ◌≤◌, ℕ, List, [], ◌∷◌, ◌++◌, codes, length, map, take, ap, sym, ◌∙◌, append_assoc, Some, slice_get}
 use Rattle.std.proofs.lemmas.List.{take_all}
 use Rattle.ptg_base.specs.Task.{Task}
 use Rattle.plan_core.specs.declared.class.ClassPlan.{ClassPlan}
 use Rattle.plan_core.specs.declared.plan.Plan.{Plan}
-use Rattle.trace_core.specs.Rows.{number_fields, row_content}
-use Rattle.trace_core.specs.Text.{Entry, entry_of, head_line, row_line, rows_text, trace_text}
+use Rattle.trace_core.specs.Rows.{number_fields}
+use Rattle.trace_core.specs.Text.{entry_of, head_line, row_line, rows_text, trace_text}
 use Rattle.trace_core.proofs.Named.{class_name_at}
 use Rattle.trace_core.proofs.Spelled.{row_line_is}
 

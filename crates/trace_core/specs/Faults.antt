@@ -1,6 +1,6 @@
 -- The first fault of a text as a trace of a job: of its length, else of how it is spelled, else of the first row whose
 -- task may not run then. Source: this project's own choice.
-use Rattle.std.specs.Prelude.{◌≡◌, ◌⊎◌, ◌+◌, ◌<◌, ◌≤◌, ℕ, List, [], ◌∷◌, ◌++◌, IsFalse, length, map}
+use Rattle.std.specs.Prelude.{◌≡◌, ◌⊎◌, ◌+◌, ◌≤◌, ℕ, List, [], ◌∷◌, ◌++◌, IsFalse, length, map}
 use Rattle.ptg_base.specs.Limits.{most_bytes}
 use Rattle.ptg_base.specs.Lists.{IsIn}
 use Rattle.ptg_base.specs.Task.{Task}
@@ -16,7 +16,8 @@ use Rattle.trace_core.specs.declared.fault.TraceCode.TheVariants.{TooLong, BadTr
 use Rattle.trace_core.specs.declared.fault.TraceFault.{TraceFault}
 use Rattle.trace_core.specs.Naming.{IsNamingFault, Names}
 use Rattle.trace_core.specs.Orders.{MayAllRunAfter}
-use Rattle.trace_core.specs.Spelling.{IsBadRow, IsWellSpelled}
+use Rattle.trace_core.specs.Reading.{IsSpellingFault}
+use Rattle.trace_core.specs.Spelling.{IsWellSpelled}
 use Rattle.trace_core.specs.Text.{Entry, entry_of}
 
 -- the source of an edge is none of these tasks, or traps
@@ -52,9 +53,8 @@ pub record IsUnfinished (P : Plan) (G : Data) (es : List Entry) (f : TraceFault)
   pub code : f.code ≡ Unfinished
   pub row : f.row ≡ length es + 2
 
--- the first fault of a text
+-- the first fault of a text: of its length or its spelling, else of its rows
 pub data IsTraceFault (P : Plan) (G : Data) (text : List ℕ) (f : TraceFault) : Type 0 where
-  too_long : most_bytes < length text → f.row ≡ 0 → f.code ≡ TooLong → IsTraceFault P G text f
-  bad_trace : length text ≤ most_bytes → IsBadRow text f.row → f.code ≡ BadTrace → IsTraceFault P G text f
+  of_spelling : IsSpellingFault text f → IsTraceFault P G text f
   of_tasks : (es : List Entry) → length text ≤ most_bytes → IsWellSpelled text es
       → IsFaultOfRow P G es f ⊎ IsUnfinished P G es f → IsTraceFault P G text f

@@ -1,5 +1,5 @@
 -- Which task a row names, and how far the rows of a text name tasks that are new. Source: this project's own choice.
-use Rattle.std.specs.Prelude.{◌≡◌, ◌+◌, ◌<◌, ◌≤◌, ℕ, List, [], ◌∷◌, ◌++◌, Option, Some, None, length, map, slice_get}
+use Rattle.std.specs.Prelude.{◌≡◌, ◌+◌, ℕ, List, ◌∷◌, ◌++◌, Some, map, slice_get}
 use Rattle.std.specs.List.{AllByRecursion}
 use Rattle.ptg_base.specs.Lists.{HasNoRepeats, IsIn}
 use Rattle.ptg_base.specs.Task.{Task}
@@ -8,9 +8,7 @@ use Rattle.plan_core.specs.declared.plan.Plan.{Plan}
 use Rattle.dep_iter.specs.Tasks.{IsTask}
 use Rattle.trace_core.specs.declared.fault.TraceCode.{TraceCode}
 use Rattle.trace_core.specs.declared.fault.TraceCode.TheVariants.{TooLong, BadTrace, UnknownTask, RanTwice, TooEarly, Unfinished}
-use Rattle.trace_core.specs.declared.fault.TraceFault.{TraceFault}
-use Rattle.trace_core.specs.Spelling.{IsBadRow, IsWellSpelled}
-use Rattle.trace_core.specs.Text.{Entry, entry_of, trace_text}
+use Rattle.trace_core.specs.Text.{Entry, entry_of}
 
 -- the class with this number has this name
 abbrev pub IsNamed : List ClassPlan → List ℕ → ℕ → Type 0
@@ -43,8 +41,3 @@ pub record AreRowsBefore (P : Plan) (es : List Entry) (ts : List Task) (code : T
   pub split : es ≡ front ++ failed ∷ later
   pub rows : AreRowsOf P front ts
   pub fault : IsNamingFault P ts failed code
-
--- these tasks are those of all rows, or of the rows before one with this code
-abbrev pub AreRead : Plan → List Entry → List Task → Option TraceCode → Type 0
-AreRead P es ts None = AreRowsOf P es ts
-AreRead P es ts (Some code) = AreRowsBefore P es ts code

@@ -13,9 +13,13 @@ use Rattle.trace_core.specs.Naming.{AreRowsBefore, AreRowsOf}
 use Rattle.trace_core.specs.Spelling.{IsBadRow, IsWellSpelled}
 use Rattle.trace_core.specs.Text.{Entry, trace_text}
 
+-- the fault of a text that is longer than 16 MiB
+abbrev pub too_long : TraceFault
+too_long = record { row = 0; code = TooLong }
+
 -- a text is too long, or a row of it is not well spelled, and this is its fault
 pub data IsSpellingFault (text : List ℕ) (f : TraceFault) : Type 0 where
-  over_length : most_bytes < length text → f.row ≡ 0 → f.code ≡ TooLong → IsSpellingFault text f
+  over_length : most_bytes < length text → f ≡ too_long → IsSpellingFault text f
   of_a_row : length text ≤ most_bytes → IsBadRow text f.row → f.code ≡ BadTrace → IsSpellingFault text f
 
 -- the fault with this code of the row after those of these tasks

@@ -6,10 +6,11 @@ use Rattle.trace_core.specs.Cutting.{opens_with}
 use Rattle.trace_core.specs.Spelling.{IsSpelled, is_number}
 use Rattle.trace_core.specs.Text.{Entry, row_line}
 
--- a number with a comma before it, and numbers, one after another
+-- a number with a comma before it
 abbrev pub number_field : ℤ → List ℕ
 number_field n = 44 ∷ signed_decimal n
 
+-- numbers, each with a comma before it
 abbrev pub number_fields : List ℤ → List ℕ
 number_fields ns = flat_map number_field ns
 
@@ -23,6 +24,7 @@ pub record BeginsWithNumber (text : List ℕ) (n : ℤ) (rest : List ℕ) : Type
   pub fits : IsTrue (is_number n)
   pub next : IsTrue (opens_with 44 rest)
 
+-- a text begins with no number and its comma
 abbrev pub HasNoNumber : List ℕ → Type 0
 HasNoNumber text = (n : ℤ) (rest : List ℕ) → BeginsWithNumber text n rest → ⊥
 
@@ -31,6 +33,7 @@ pub record AreNumbers (text : List ℕ) (ns : List ℤ) : Type 0 where
   pub spelled : text ≡ number_fields ns
   pub fit : IsTrue (list_all is_number ns)
 
+-- a text is numbers that fit 64 bits, whichever they are
 abbrev pub IsOfNumbers : List ℕ → Type 0
 IsOfNumbers text = (ns : List ℤ) × AreNumbers text ns
 

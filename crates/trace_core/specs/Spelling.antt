@@ -22,10 +22,11 @@ pub record BeginsWith (text : List ℕ) (n : ℕ) (es : List Entry) (rest : List
 abbrev pub IsWellSpelled : List ℕ → List Entry → Type 0
 IsWellSpelled text es = BeginsWith text (length es) es []
 
--- a text does not begin with the head of a trace, or not with a row
+-- a text does not begin with the head of a trace
 abbrev pub HasNoHead : List ℕ → Type 0
 HasNoHead text = (n : ℕ) (rest : List ℕ) → n ≤ most_tasks → text ≡ head_line n ++ rest → ⊥
 
+-- a text does not begin with a row
 abbrev pub HasNoRow : List ℕ → Type 0
 HasNoRow text = (e : Entry) (rest : List ℕ) → IsSpelled e → text ≡ row_line e ++ rest → ⊥
 

@@ -12,7 +12,7 @@ pub record Entry : Type 0 where
   pub name : List ℕ
   pub params : List ℤ
 
--- the first line of a text with so many rows after it
+-- the first line of a text with this many rows after it
 abbrev pub head_line : ℕ → List ℕ
 head_line n = line (codes "trace" ∷ decimal n ∷ [])
 

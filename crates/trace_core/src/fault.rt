@@ -1,5 +1,8 @@
 //! Faults of traces.
 
+ghost use Rattle.std.specs.Prelude.{◌≡◌};
+ghost use Rattle.trace_core.specs.Reading.{too_long};
+
 use ptg_base::Refusal;
 
 /// What is wrong with a text as a trace of a job.
@@ -29,3 +32,13 @@ pub struct TraceFault {
 
 /// Why a trace is refused.
 pub type TraceRefusal = Refusal<TraceFault>;
+
+/// The fault of a text that was not read to its end, since it has more than 16 MiB.
+pub fn trace_too_long() -> TraceFault
+    ensures { result ≡ too_long }
+{
+    TraceFault {
+        row: 0,
+        code: TraceCode::TooLong,
+    }
+}

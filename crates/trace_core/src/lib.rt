@@ -11,7 +11,7 @@ mod rows;
 mod spelling;
 mod text;
 
-pub use fault::{TraceCode, TraceFault, TraceRefusal};
+pub use fault::{TraceCode, TraceFault, TraceRefusal, trace_too_long};
 pub use laws::a_text_has_one_first_fault;
 pub use reading::{Reading, read_rows, read_trace};
 pub use text::trace_text;

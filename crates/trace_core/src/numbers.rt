@@ -25,7 +25,7 @@ fn read_number(field: &[u8]) -> Option<i64>
     }
 }
 
-// The number of which a field is the spelling, if it fits 64 bits.
+// The number that a field spells exactly, if it fits 64 bits.
 pub(crate) fn number(field: &[u8]) -> Option<i64>
     ensures { MatchOption result ((n : ℤ) → IsTrue (is_number n) → field.now ≢ signed_decimal n) (λ n.
         IsTrue (is_number n) × (field.now ≡ signed_decimal n)) }

@@ -4,14 +4,13 @@ ghost use Rattle.std.specs.Prelude.{◌≡◌, [], List, Err, None, IfOk};
 ghost use Rattle.std.specs.List.{AllByRecursion};
 ghost use Rattle.ptg_base.specs.Returns.{FindsOrRefuses};
 ghost use Rattle.ptg_base.specs.declared.refusal.Refusal.TheVariants.{Fault};
-ghost use Rattle.trace_core.specs.Naming.{AreRead};
 ghost use Rattle.trace_core.specs.Reading.{IsListOf, IsReadAs, IsReadFault, IsReading, IsSpellingFault};
 ghost use Rattle.trace_core.specs.Reading as reading;
 ghost use Rattle.trace_core.specs.Spelling.{IsSpelled};
 ghost use Rattle.trace_core.specs.Text.{Entry, rows_text};
 ghost use Rattle.trace_core.specs.declared.fault.TraceFault.{TraceFault as TraceFaultValue};
 
-use crate::fault::{TraceCode, TraceFault, TraceRefusal};
+use crate::fault::{TraceCode, TraceFault, TraceRefusal, trace_too_long};
 use crate::naming::task_of;
 use crate::rows::next_row;
 use crate::spelling::spelled_rows;
@@ -30,7 +29,7 @@ pub(crate) fn add_tasks(
     requires { tasks.old.keys ≡ [] }
     ensures { IfOk result (λ code.
         (es : List Entry) → AllByRecursion IsSpelled es → rows.now ≡ rows_text es
-        → AreRead plan.now es tasks.new.keys code) }
+        → IsReadAs plan.now es tasks.new.keys (reading.fault_after tasks.new.keys code)) }
 {
     let mut left = rows;
     'rows: while let Some((row, later)) = next_row(left) {
@@ -66,7 +65,7 @@ fn tasks_of(alloc: Global, set: IndexSet<TaskId>) -> Result<Seq<TaskId>, OutOfMe
     Ok(Seq::of(tasks))
 }
 
-// The fault with this code of the row after so many tasks, if there is one.
+// The fault with this code of the row after this many tasks, if there is one.
 fn fault_after(tasks: &Seq<TaskId>, code: Option<TraceCode>) -> Option<TraceFault>
     ensures { result ≡ reading.fault_after tasks.now code }
 {
@@ -104,7 +103,7 @@ pub fn read_rows(alloc: Global, m: &Matched, bytes: &[u8]) -> Result<Reading, Tr
     ensures fault { (f : TraceFaultValue) → result ≡ Err (Fault f) → IsSpellingFault bytes.now f }
 {
     if bytes.len() > MOST_BYTES {
-        return refused(0, TraceCode::TooLong);
+        return Err(Refusal::Fault(trace_too_long()));
     }
     let rows = match spelled_rows(bytes) {
         Ok(rows) => rows,

@@ -51,7 +51,7 @@ pub(crate) fn next_row(text: &[u8]) -> Option<(Row<'_>, &[u8])>
     }
 }
 
-// The number of rows that a field says, if a text may have so many.
+// The number of rows that a field says, if a text may have that many.
 fn row_count(field: &[u8]) -> Option<u64>
     ensures { MatchOption result ((n : ℕ) → n ≤ most_tasks → field.now ≢ decimal n) (λ n.
         (n ≤ most_tasks) × (field.now ≡ decimal n)) }

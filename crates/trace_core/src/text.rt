@@ -31,7 +31,7 @@ fn put_numbers(out: &mut Seq<u8>, numbers: &[i64]) -> Result<(), OutOfMemory>
     Ok(())
 }
 
-// Appends the first line of a text with so many rows.
+// Appends the first line of a text with this many rows.
 fn put_head(out: &mut Seq<u8>, rows: usize) -> Result<(), OutOfMemory>
     ensures { OnOk result (out.new ≡ out.old ++ head_line rows) }
 {

@@ -11,9 +11,10 @@ use Rattle.dep_iter.specs.Consistent.{IsConsistent}
 use Rattle.flow_meaning.specs.Answer.{ran}
 use Rattle.flow_meaning.specs.Order.{IsLegalOrder}
 use Rattle.task_order.proofs.Orders.{legal_tasks}
-use Rattle.trace_core.specs.declared.fault.TraceCode.TheVariants.{TooLong, BadTrace, Unfinished}
+use Rattle.trace_core.specs.declared.fault.TraceCode.TheVariants.{BadTrace, Unfinished}
 use Rattle.trace_core.specs.declared.fault.TraceFault.{TraceFault}
-use Rattle.trace_core.specs.Faults.{IsTraceFault, too_long, bad_trace, of_tasks}
+use Rattle.trace_core.specs.Faults.{IsTraceFault, of_spelling, of_tasks}
+use Rattle.trace_core.specs.Reading.{of_a_row, over_length, too_long}
 use Rattle.trace_core.specs.Spelling.{IsWellSpelled}
 use Rattle.trace_core.specs.Text.{Entry}
 use Rattle.trace_core.proofs.Wholes.{whole}
@@ -41,10 +42,10 @@ module _ (P : Plan) (G : Data) (con : IsConsistent P) (text : List ℕ) where
 
   pub fault_or_trace : FaultOrTrace
   fault_or_trace = elim (cases_lt 16777216 (length text)) [
-    | inl long ↦ inl (record { row = 0; code = TooLong }, too_long long refl refl)
+    | inl long ↦ inl (too_long, of_spelling (over_length long refl))
     | inr size ↦ elim (spelled_or_bad text) [
       | inl p ↦ by_rows size p.0 p.1
-      | inr p ↦ inl (record { row = p.0; code = BadTrace }, bad_trace size p.1 refl)
+      | inr p ↦ inl (record { row = p.0; code = BadTrace }, of_spelling (of_a_row size p.1 refl))
     ]
   ]
 

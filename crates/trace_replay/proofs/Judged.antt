@@ -5,7 +5,7 @@ use Rattle.ptg_base.specs.declared.refusal.Refusal.{Refusal}
 use Rattle.ptg_base.specs.declared.refusal.Refusal.TheVariants as refusals
 use Rattle.ptg_base.specs.declared.refusal.Refusal.TheVariants.{Fault}
 use Rattle.rank_world.specs.Views.{WorldView}
-use Rattle.std.proofs.Common.{◌≡◌, ℕ, ◌+◌, true, List, [], ◌∷◌, ◌++◌, map, length, refl, ap, sym, ◌∙◌, subst, inl, inr, append_assoc, Option, Some, None, Result, Ok, Err, arith}
+use Rattle.std.proofs.Common.{◌≡◌, ℕ, ◌+◌, List, [], ◌∷◌, ◌++◌, map, length, refl, ap, sym, ◌∙◌, subst, inl, inr, append_assoc, Option, Some, None, Result, Ok, Err, arith}
 use Rattle.std.specs.List.{AllByRecursion}
 use Rattle.std.proofs.lemmas.List.{append-nil, map-append}
 use Rattle.ptg_base.specs.Lists.{HasNoRepeats, IsIn}
@@ -22,10 +22,10 @@ use Rattle.list_lemmas.proofs.Distinct.{HasNoRepeats-apart}
 use Rattle.trace_core.specs.declared.fault.TraceCode.{TraceCode}
 use Rattle.trace_core.specs.declared.fault.TraceCode.TheVariants.{TooLong, BadTrace, UnknownTask, RanTwice, TooEarly, Unfinished}
 use Rattle.trace_core.specs.declared.fault.TraceFault.{TraceFault}
-use Rattle.trace_core.specs.Faults.{IsMissing, IsRowFault, IsTraceFault, too_long, bad_trace, of_tasks}
+use Rattle.trace_core.specs.Faults.{IsMissing, IsRowFault, IsTraceFault, of_spelling, of_tasks}
 use Rattle.trace_core.specs.Naming.{IsNamingFault}
 use Rattle.trace_core.specs.Orders.{IsWholeOrder, MayAllRunAfter}
-use Rattle.trace_core.specs.Reading.{IsListOf, IsReadAs, IsReading, IsSpellingFault, over_length, of_a_row}
+use Rattle.trace_core.specs.Reading.{IsListOf, IsReadAs, IsReading, IsSpellingFault}
 use Rattle.trace_core.specs.Spelling.{IsWellSpelled}
 use Rattle.trace_core.specs.Text.{Entry, entry_of}
 use Rattle.trace_core.proofs.Lists.{is_list}
@@ -147,10 +147,6 @@ pub verdict_answer : (P : Plan) (G : Data) (es : List Entry) (ts : List Task) (v
 verdict_answer P G es ts (Err f) v = tt
 verdict_answer P G es ts (Ok o) v = v.0
 
-spelling_of_text : (P : Plan) (G : Data) (text : List ℕ) (f : TraceFault) → IsSpellingFault text f → IsTraceFault P G text f
-spelling_of_text P G text f (over_length l p q) = too_long l p q
-spelling_of_text P G text f (of_a_row le b q) = bad_trace le b q
-
 -- what the turns of tasks came to
 pub stopped_at : (P : Plan) (G : Data) (ts : List Task) (w : WorldView) (o : Option ℕ) (index : ℕ) → MatchOption o (HasRunInOrder P G ts w) (λ i. StopsAt P G ts i) → o ≡ Some index → StopsAt P G ts index
 stopped_at P G ts w o index h is = subst (λ x. MatchOption x (HasRunInOrder P G ts w) (λ i. StopsAt P G ts i)) is h
@@ -161,7 +157,7 @@ ran_all P G ts w o h is = subst (λ x. MatchOption x (HasRunInOrder P G ts w) (�
 -- a text that could not be read, as its refusal says
 module _ (P : Plan) (G : Data) (text : List ℕ) {E : Type 0} (r : Result (Result Outcome TraceFault) E) where
   pub unread_fault : (refusal : Refusal TraceFault) → ((f : TraceFault) → refusal ≡ Fault f → r ≡ Ok (Err f)) → (refusal ≡ refusals.OutOfMemory → IsErr r) → ((f : TraceFault) → refusal ≡ Fault f → IsSpellingFault text f) → IfOk r (λ v. IfErr v (λ f. IsTraceFault P G text f))
-  unread_fault (Fault f) known memory spelling = subst (λ x. IfOk x (λ v. IfErr v (λ g. IsTraceFault P G text g))) (sym (known f refl)) (spelling_of_text P G text f (spelling f refl))
+  unread_fault (Fault f) known memory spelling = subst (λ x. IfOk x (λ v. IfErr v (λ g. IsTraceFault P G text g))) (sym (known f refl)) (of_spelling (spelling f refl))
   unread_fault refusals.OutOfMemory known memory spelling = on_err r (memory refl)
     where
       on_err : (x : Result (Result Outcome TraceFault) E) → IsErr x → IfOk x (λ v. IfErr v (λ g. IsTraceFault P G text g))
@@ -170,7 +166,7 @@ module _ (P : Plan) (G : Data) (text : List ℕ) {E : Type 0} (r : Result (Resul
 
   pub unread_only : (refusal : Refusal TraceFault) → ((f : TraceFault) → refusal ≡ Fault f → r ≡ Ok (Err f)) → (refusal ≡ refusals.OutOfMemory → IsErr r) → ((f : TraceFault) → refusal ≡ Fault f → IsSpellingFault text f) → (g : TraceFault) → IsTraceFault P G text g → IfOk r (λ v. v ≡ Err g)
   unread_only (Fault f) known memory spelling g h =
-      subst (λ x. IfOk x (λ v. v ≡ Err g)) (sym (known f refl)) (ap (λ x. Err x) (one_fault P G text f g (spelling_of_text P G text f (spelling f refl)) h))
+      subst (λ x. IfOk x (λ v. v ≡ Err g)) (sym (known f refl)) (ap (λ x. Err x) (one_fault P G text f g (of_spelling (spelling f refl)) h))
   unread_only refusals.OutOfMemory known memory spelling g h = on_err r (memory refl)
     where
       on_err : (x : Result (Result Outcome TraceFault) E) → IsErr x → IfOk x (λ v. v ≡ Err g)

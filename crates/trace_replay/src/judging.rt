@@ -38,7 +38,7 @@ fn judge_tasks(
     ensures { IfOk result (λ v.
         (es : List Entry) → IsReadAs m.now es tasks.now fault → IsVerdictOn m.now given es tasks.now v) }
 {
-    m.is_consistent();
+    m.plan_is_consistent();
     let (world, early) = run_in_order(alloc, m, given, tasks)?;
     if let Some(index) = early {
         return Ok(Err(TraceFault {
@@ -110,7 +110,7 @@ pub fn judge_trace(
         OnOk v ((tasks : List Task) × IsListOf m.now bytes.now tasks × IsWholeOrder m.now given tasks)) }
     ensures answer { IfOk result (λ v. IfOk v (λ outcome. outcome ≡ meaning.answer m.now given)) }
 {
-    m.is_consistent();
+    m.plan_is_consistent();
     let reading = match read_rows(alloc, m, bytes) {
         Ok(reading) => reading,
         Err(refusal) => return unread(refusal),

@@ -19,7 +19,7 @@ fn opened<'m>(alloc: Global, m: &'m Matched, given: Given) -> Result<World<'m>, 
     requires { DataFit m.now.colls m.now.elems given }
     ensures { IfOk result (HasRunInOrder m.now given []) }
 {
-    m.is_consistent();
+    m.plan_is_consistent();
     World::new(alloc, m, given, 1)
 }
 
@@ -35,7 +35,7 @@ pub(crate) fn run_in_order<'m>(
     ensures { IfOk result (λ r.
         MatchOption r.1 (HasRunInOrder m.now given list.now r.0) (λ index. StopsAt m.now given list.now index)) }
 {
-    m.is_consistent();
+    m.plan_is_consistent();
     let mut world = opened(alloc, m, given)?;
     let mut index = 0;
     'tasks: for t in list {
@@ -57,7 +57,7 @@ pub(crate) fn judge_end(
     requires { IsOfOneRank m.now world.given world }
     ensures { IfOk result (IsEndOf m.now world.entry.given world.entry.state.machine.claims unfinished) }
 {
-    m.is_consistent();
+    m.plan_is_consistent();
     if !world.quiescent() {
         return Ok(Err(unfinished));
     }

@@ -5,12 +5,13 @@ use Rattle.std.specs.List.{All, Any, list_any}
 use Rattle.ptg_words.specs.declared.order.Order.{Order}
 use Rattle.ptg_words.specs.Parts.{Part, has_twice, is_lacking, is_stray, operands, parts}
 use Rattle.ptg_words.specs.Readings.{is_read}
-use Rattle.ptg_words.specs.Words as words
-use Rattle.ptg_words.specs.Words.{IsProper, IsUsage, Orders, Verb, formed, has_bad_number, has_wrong_count, improper_word, lacking_number, no_verb, operand_count, operand_number, option_twice, options_of, read, stray_word, verb_of}
+use Rattle.ptg_words.specs.declared.verbs.Verb.TheVariants as verbs
+use Rattle.ptg_words.specs.declared.verbs.Verb.{Verb}
+use Rattle.ptg_words.specs.Words.{IsProper, IsUsage, Orders, formed, has_bad_number, has_wrong_count, improper_word, lacking_number, no_verb, operand_count, operand_number, option_twice, options_of, read, stray_word, verb_of}
 use Rattle.ptg_words.proofs.Proper.{all_or_any}
 use Rattle.ptg_words.proofs.Rules.{breaks_none, breaks_number, to_rule}
 use Rattle.ptg_words.proofs.ValuesRead.{counted}
-use Rattle.word_laws.specs.Commands.{OrderOrUsage}
+use Rattle.word_laws.specs.Commands.{CommandOrUsage}
 
 -- arguments whose parts break a rule
 pub breaks_rule : (ws : List (List ℕ)) (v : Verb) (ps : List Part) → read ws ≡ Some (v, ps) → is_read (operand_count v) ps ≡ false → IsUsage ws
@@ -26,14 +27,14 @@ breaks_rule ws v ps e h = go (list_any is_stray ps) (list_any is_lacking ps) (ha
 -- ---- the command of parts that keep the rules
 
 all_formed : (v : Verb) (ops : List (List ℕ)) (ps : List Part) → length ops ≡ operand_count v → (order : Order) × (formed v ops ps ≡ Some order)
-all_formed words.run (jdf ∷ data_name ∷ []) ps n = (_, refl)
-all_formed words.show (jdf ∷ []) ps n = (_, refl)
-all_formed words.check (jdf ∷ data_name ∷ []) ps n = (_, refl)
-all_formed words.demo (rows ∷ []) ps n = (_, refl)
-all_formed words.trace (jdf ∷ data_name ∷ []) ps n = (_, refl)
-all_formed words.replay (jdf ∷ data_name ∷ list ∷ []) ps n = (_, refl)
-all_formed words.certify (jdf ∷ data_name ∷ []) ps n = (_, refl)
-all_formed words.ranks (jdf ∷ data_name ∷ count ∷ seed ∷ []) ps n = (_, refl)
+all_formed verbs.Run (jdf ∷ data_name ∷ []) ps n = (_, refl)
+all_formed verbs.Show (jdf ∷ []) ps n = (_, refl)
+all_formed verbs.Check (jdf ∷ data_name ∷ []) ps n = (_, refl)
+all_formed verbs.Demo (rows ∷ []) ps n = (_, refl)
+all_formed verbs.Trace (jdf ∷ data_name ∷ []) ps n = (_, refl)
+all_formed verbs.Replay (jdf ∷ data_name ∷ list ∷ []) ps n = (_, refl)
+all_formed verbs.Certify (jdf ∷ data_name ∷ []) ps n = (_, refl)
+all_formed verbs.Ranks (jdf ∷ data_name ∷ count ∷ seed ∷ []) ps n = (_, refl)
 all_formed v ops ps n = absurd (omega (arith, n))
 
 by_rules : (ws : List (List ℕ)) (v : Verb) (ps : List Part) → read ws ≡ Some (v, ps) → All IsProper ws → (a b : Bool) → is_read (operand_count v) ps ≡ a → has_bad_number v ps ≡ b
@@ -44,9 +45,9 @@ by_rules ws v ps e all true false reads numbers =
     let f = all_formed v (operands ps) ps (counted (operand_count v) ps reads).0 in
     inl (f.0, record { verb = v; rest = ps; reads = e; asks = f.1; breaks_no_rule = breaks_none ws v ps e all reads numbers })
 
-pub order_or_usage : OrderOrUsage
-order_or_usage [] = inr (no_verb refl)
-order_or_usage (w ∷ ws) = by_verb (verb_of w) refl
+pub command_or_usage : CommandOrUsage
+command_or_usage [] = inr (no_verb refl)
+command_or_usage (w ∷ ws) = by_verb (verb_of w) refl
   where
     parts_of : Verb → Verb × List Part
     parts_of v = (v, parts (options_of v) ws)

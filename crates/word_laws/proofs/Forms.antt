@@ -6,30 +6,32 @@ use Rattle.std.specs.List.{before_first}
 use Rattle.std.specs.Str.{bytes_eq}
 use Rattle.std.specs.Prelude.{if◌then◌else◌}
 use Rattle.ptg_words.specs.Parts.{Form, NumberOption, dashed_form, flag, form_of, has_counts, has_preload, named, option_named, plain, shards, text_after, unknown, workers}
-use Rattle.ptg_words.specs.Words.{Verb, options_of, run, show, check, demo, trace, replay, certify, ranks}
+use Rattle.ptg_words.specs.declared.verbs.Verb.{Verb}
+use Rattle.ptg_words.specs.declared.verbs.Verb.TheVariants.{Run, Show, Check, Demo, Trace, Replay, Certify, Ranks}
+use Rattle.ptg_words.specs.Words.{options_of}
 use Rattle.word_laws.specs.Forms.{HasForm, begins_with_dash, has_flag, has_numbers, operand_or_value, preload_alone, shards_alone, shards_with, takes_next, workers_alone, workers_with}
 use Rattle.word_laws.proofs.Cutting.{cut}
 use Rattle.list_lemmas.proofs.Truth.{and-false}
 
 pub counts_are : (verb : Verb) → has_counts (options_of verb) ≡ has_numbers verb
-counts_are run = refl
-counts_are show = refl
-counts_are check = refl
-counts_are demo = refl
-counts_are trace = refl
-counts_are replay = refl
-counts_are certify = refl
-counts_are ranks = refl
+counts_are Run = refl
+counts_are Show = refl
+counts_are Check = refl
+counts_are Demo = refl
+counts_are Trace = refl
+counts_are Replay = refl
+counts_are Certify = refl
+counts_are Ranks = refl
 
 pub flags_are : (verb : Verb) → has_preload (options_of verb) ≡ has_flag verb
-flags_are run = refl
-flags_are show = refl
-flags_are check = refl
-flags_are demo = refl
-flags_are trace = refl
-flags_are replay = refl
-flags_are certify = refl
-flags_are ranks = refl
+flags_are Run = refl
+flags_are Show = refl
+flags_are Check = refl
+flags_are Demo = refl
+flags_are Trace = refl
+flags_are Replay = refl
+flags_are Certify = refl
+flags_are Ranks = refl
 
 -- what a form says of its word
 abbrev pub Says : Verb → List ℕ → Form → Type 0

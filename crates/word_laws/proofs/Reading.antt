@@ -6,7 +6,8 @@ use Rattle.std.specs.Prelude.{IsTrue}
 use Rattle.std.proofs.Math.Bool.{not-not}
 use Rattle.ptg_base.specs.Lists.{IsIn}
 use Rattle.ptg_words.specs.Parts.{Form, NumberOption, Part, after, flag, form_of, is_lacking, is_stray, named, operands, parts, parts_from, plain, unknown}
-use Rattle.ptg_words.specs.Words.{Verb, options_of}
+use Rattle.ptg_words.specs.declared.verbs.Verb.{Verb}
+use Rattle.ptg_words.specs.Words.{options_of}
 use Rattle.word_laws.specs.Forms.{HasForm, LacksValue, NoValueFollows, begins_with_dash, has_numbers, is_other, is_value, takes_next, with_previous}
 use Rattle.word_laws.proofs.Forms.{dashed, is_name_alone, is_plain, is_unknown, known_has_form, taking, unknown_has_none}
 use Rattle.list_lemmas.proofs.Truth.{by_test, and-false}

@@ -6,7 +6,8 @@ use Rattle.std.specs.Option.{option_map_or}
 use Rattle.ptg_base.specs.Lists.{IsIn}
 use Rattle.list_lemmas.proofs.Members.{some_member_passes, list_any-from_member}
 use Rattle.ptg_words.specs.Parts.{Part, has_twice, is_lacking, is_stray, operands, parts, shards, texts_of, workers}
-use Rattle.ptg_words.specs.Words.{Breaks, IsUsage, Verb, bad_number, has_bad_count, has_bad_number, has_bad_operand, has_no_number, has_wrong_count, improper_word, is_number, lacking_number, no_verb, operand_count, operand_number, operands_of, option_twice, options_of, read, stray_word, verb_of}
+use Rattle.ptg_words.specs.declared.verbs.Verb.{Verb}
+use Rattle.ptg_words.specs.Words.{Breaks, IsUsage, bad_number, has_bad_count, has_bad_number, has_bad_operand, has_no_number, has_wrong_count, improper_word, is_number, lacking_number, no_verb, operand_count, operand_number, operands_of, option_twice, options_of, read, stray_word, verb_of}
 use Rattle.word_laws.specs.Rules.{BreaksRule, bad_operand, bad_shards, bad_workers, improper, no_form, no_value, other_words, preload_twice, shards_twice, workers_twice, wrong_count}
 use Rattle.word_laws.proofs.Reading.{lacks_iff, stray_iff, which}
 use Rattle.word_laws.proofs.Texts.{texts_iff}

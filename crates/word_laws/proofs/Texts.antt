@@ -5,7 +5,8 @@ use Rattle.std.specs.List.{zip}
 use Rattle.std.specs.Str.{bytes_eq}
 use Rattle.ptg_base.specs.Lists.{IsIn}
 use Rattle.ptg_words.specs.Parts.{Form, NumberOption, Part, after, flag, form_of, is_of, named, parts, parts_from, plain, shards, texts_of, unknown, workers}
-use Rattle.ptg_words.specs.Words.{Verb, options_of}
+use Rattle.ptg_words.specs.declared.verbs.Verb.{Verb}
+use Rattle.ptg_words.specs.Words.{options_of}
 use Rattle.word_laws.specs.Forms.{HasForm, begins_with_dash, has_numbers, shards_alone, shards_with, with_previous, workers_alone, workers_with}
 use Rattle.word_laws.proofs.Forms.{Says, says}
 use Rattle.list_lemmas.proofs.Members.{IsIn-append_left, IsIn-append_right, from_append}

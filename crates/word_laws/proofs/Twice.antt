@@ -6,7 +6,8 @@ use Rattle.std.specs.List.{filter_map, list_any}
 use Rattle.std.specs.Str.{bytes_eq}
 use Rattle.std.specs.Prelude.{IsTrue}
 use Rattle.ptg_words.specs.Parts.{Form, NumberOption, Part, after, flag, form_of, given, has_twice, is_named, lacking, name_of, named, operand, option_of, parts, parts_from, plain, preload, shards, stray, unknown, workers}
-use Rattle.ptg_words.specs.Words.{Verb, options_of}
+use Rattle.ptg_words.specs.declared.verbs.Verb.{Verb}
+use Rattle.ptg_words.specs.Words.{options_of}
 use Rattle.word_laws.specs.Forms.{HasForm, IsPreload, IsShards, IsWorkers, OccursTwice, begins_with_dash, preload_alone, shards_alone, shards_with, workers_alone, workers_with}
 use Rattle.word_laws.proofs.Forms.{Says, says}
 

@@ -4,21 +4,23 @@ use Rattle.std.specs.Prelude.{◌≡◌, ◌⊎◌, ◌&&◌, ◌||◌, not, ℕ
 use Rattle.std.specs.List.{zip}
 use Rattle.std.specs.Str.{bytes_eq}
 use Rattle.ptg_base.specs.Lists.{IsIn}
-use Rattle.ptg_words.specs.Words.{Verb, run, trace}
+use Rattle.ptg_words.specs.declared.verbs.Verb.{Verb}
+use Rattle.ptg_words.specs.declared.verbs.Verb.TheVariants.{Run, Trace}
 
 -- the first character is `-`
 abbrev pub begins_with_dash : List ℕ → Bool
 begins_with_dash [] = false
 begins_with_dash (b ∷ bs) = bytes_eq (b ∷ []) (codes "-")
 
--- `run` and `trace` have `--workers` and `--shards`, and `run` has `--preload`
+-- `run` and `trace` have `--workers` and `--shards`
 abbrev pub has_numbers : Verb → Bool
-has_numbers run = true
-has_numbers trace = true
+has_numbers Run = true
+has_numbers Trace = true
 has_numbers _ = false
 
+-- `run` alone has `--preload`
 abbrev pub has_flag : Verb → Bool
-has_flag run = true
+has_flag Run = true
 has_flag _ = false
 
 -- a word of a form that the verb has: an operand or a value, which begins with no `-`, or an option of the verb
@@ -60,15 +62,17 @@ is_value verb p = takes_next verb p.0 && not (begins_with_dash p.1)
 abbrev pub is_other : Verb → List ℕ × List ℕ → Bool
 is_other verb p = not (takes_next verb p.0) && not (begins_with_dash p.1)
 
--- a word is this option of the verb, alone or with a text after `=`
+-- a word is `--workers` of the verb, alone or with a text after `=`
 abbrev pub IsWorkers : Verb → List ℕ → Type 0
 IsWorkers verb word =
     (has_numbers verb ≡ true) × ((word ≡ codes "--workers") ⊎ ((text : List ℕ) × (word ≡ codes "--workers=" ++ text)))
 
+-- a word is `--shards` of the verb, alone or with a text after `=`
 abbrev pub IsShards : Verb → List ℕ → Type 0
 IsShards verb word =
     (has_numbers verb ≡ true) × ((word ≡ codes "--shards") ⊎ ((text : List ℕ) × (word ≡ codes "--shards=" ++ text)))
 
+-- a word is `--preload` of the verb
 abbrev pub IsPreload : Verb → List ℕ → Type 0
 IsPreload verb word = (has_flag verb ≡ true) × (word ≡ codes "--preload")
 
@@ -83,13 +87,14 @@ pub record OccursTwice (Is : List ℕ → Type 0) (words : List (List ℕ)) : Ty
   pub first_is : Is first
   pub second_is : Is second
 
--- a text is given to an option: by `=`, or as the value after it
+-- a text is given to `--workers`: by `=`, or as the value after it
 abbrev pub IsTextOfWorkers : Verb → List (List ℕ) → List ℕ → Type 0
 IsTextOfWorkers verb words text =
     (has_numbers verb ≡ true)
     × (IsIn (codes "--workers=" ++ text) words
     ⊎ (IsIn (codes "--workers", text) (with_previous words) × (begins_with_dash text ≡ false)))
 
+-- a text is given to `--shards`: by `=`, or as the value after it
 abbrev pub IsTextOfShards : Verb → List (List ℕ) → List ℕ → Type 0
 IsTextOfShards verb words text =
     (has_numbers verb ≡ true)

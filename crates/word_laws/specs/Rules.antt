@@ -3,7 +3,8 @@ use Rattle.std.specs.Prelude.{◌≡◌, ◌≢◌, ℕ, true, false, List, ◌�
 use Rattle.std.specs.List.{Any, filter}
 use Rattle.ptg_base.specs.Limits.{most_shards, most_workers}
 use Rattle.ptg_base.specs.Lists.{IsIn}
-use Rattle.ptg_words.specs.Words.{IsProper, Verb, has_bad_operand, is_number, operand_count, operands_of}
+use Rattle.ptg_words.specs.declared.verbs.Verb.{Verb}
+use Rattle.ptg_words.specs.Words.{IsProper, has_bad_operand, is_number, operand_count, operands_of}
 use Rattle.word_laws.specs.Forms.{HasForm, IsPreload, IsShards, IsTextOfShards, IsTextOfWorkers, IsWorkers, LacksValue, OccursTwice, is_other, with_previous}
 
 -- the words that are neither options nor values, in their order

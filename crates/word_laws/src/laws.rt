@@ -5,16 +5,17 @@ ghost use Rattle.std.specs.Prelude.{◌∷◌, ◌≡◌, ◌⊎◌, ◌↔◌, 
 ghost use Rattle.std.specs.List.{filter, list_any};
 ghost use Rattle.ptg_base.specs.Lists.{IsIn};
 ghost use Rattle.ptg_words.specs.Parts.{has_twice, is_lacking, is_stray, operands, parts, shards, texts_of, workers};
-ghost use Rattle.ptg_words.specs.Words.{IsUsage, Verb, options_of, verb_of};
-ghost use Rattle.word_laws.specs.Commands.{NeverBoth, OneOrder, OrderOrUsage};
+ghost use Rattle.ptg_words.specs.declared.verbs.Verb.{Verb};
+ghost use Rattle.ptg_words.specs.Words.{IsUsage, options_of, verb_of};
+ghost use Rattle.word_laws.specs.Commands.{NeverBoth, OneCommand, CommandOrUsage};
 ghost use Rattle.word_laws.specs.Forms.{HasForm, IsPreload, IsShards, IsTextOfShards, IsTextOfWorkers, IsWorkers, LacksValue, OccursTwice, begins_with_dash, is_other, is_value, with_previous};
 ghost use Rattle.word_laws.specs.Rules.{BreaksRule};
 
 /// A law: arguments form one command, or break a rule, and never both.
-pub fn words_give_one_order()
-    ensures one { OneOrder }
+pub fn words_form_one_command()
+    ensures one { OneCommand }
     ensures never_both { NeverBoth }
-    ensures some { OrderOrUsage }
+    ensures some { CommandOrUsage }
 {}
 
 /// A law: there is a stray option exactly where some word has a form that the verb does not have.

@@ -1,6 +1,7 @@
 -- What a claim answers, and how it changes the record of its pass. Source: DAGuE (Parallel Computing, 2012), where a
 -- worker takes a ready task from the table; the answers are this project's own choice.
 use Rattle.std.specs.Prelude.{◌≡◌, ℕ, List, [], ◌∷◌, ◌++◌, Some, IsSome}
+use Rattle.ptg_base.specs.Entry.{Entry, FlowTile}
 use Rattle.ptg_base.specs.Lists.{IsIn}
 use Rattle.ptg_base.specs.Task.{Task}
 use Rattle.ptg_base.specs.declared.edge.Item.{Item}
@@ -8,8 +9,7 @@ use Rattle.plan_core.specs.declared.plan.Plan.{Plan}
 use Rattle.coll_data.specs.Data.{Data}
 use Rattle.dep_iter.specs.Tasks.{IsTask}
 use Rattle.dep_iter.specs.Items.{items}
-use Rattle.dep_shard.specs.Arrivals.{FlowTile}
-use Rattle.dep_shard.specs.Content.{Content, Entry, HasNoReady, IsBest, IsReady, entry_of}
+use Rattle.dep_shard.specs.Content.{Content, HasNoReady, IsBest, IsReady, entry_of}
 use Rattle.flow_meaning.specs.Backward.{ended, inputs}
 use Rattle.flow_meaning.specs.Machine.{send_count}
 use Rattle.work_board.specs.declared.record.PassRecord.{PassRecord}
@@ -64,7 +64,7 @@ pub record FoundGone (k : ℕ) (t : Task) (v w : PassRecord) : Type 0 where
   pub gone : HasNoReadyOf shard t
   pub still : IsStill v w
 
--- what the answer of a claim of task t, which lies in shard k, says
+-- what the answer of a claim of task t, which belongs to shard k, says
 abbrev pub Claimed : Plan → Data → ℕ → Task → Claim → PassRecord → PassRecord → Type 0
 Claimed P G k t (claim.Got tiles) v w = HasClaimed P G k t tiles v w
 Claimed P G k t claim.Gone v w = FoundGone k t v w

@@ -3,6 +3,7 @@
 -- answers are this project's own choice.
 use Rattle.std.specs.Prelude.{◌≡◌, ℕ, ◌+◌, ◌<◌, ℤ, true, false, Bool, List, [], ◌∷◌, ◌++◌, Option, Err, Some, IsTrue}
 use Rattle.std.specs.Option.{option_map_or}
+use Rattle.ptg_base.specs.Entry.{Entry}
 use Rattle.ptg_base.specs.Lists.{IsIn}
 use Rattle.ptg_base.specs.Task.{Task}
 use Rattle.ptg_base.specs.declared.edge.Item.{Item}
@@ -12,7 +13,7 @@ use Rattle.plan_core.specs.declared.plan.Plan.{Plan}
 use Rattle.coll_data.specs.Data.{Data}
 use Rattle.dep_iter.specs.Edges.{goal}
 use Rattle.dep_iter.specs.Items.{item_flow, items}
-use Rattle.dep_shard.specs.Content.{Content, Entry, entry_of}
+use Rattle.dep_shard.specs.Content.{Content, entry_of}
 use Rattle.flow_meaning.specs.Ending.{has_outputs, output_tile}
 use Rattle.flow_meaning.specs.Backward.{ended}
 use Rattle.flow_meaning.specs.Machine.{is_sent, send_count, sender}
@@ -68,7 +69,7 @@ pub record HasSent (P : Plan) (k : ℕ) (i : Item) (tile : Option (List ℤ)) (a
   pub answer : AnswersFor P shard i a
   pub added : AddsSend i tile v w
 
--- what the answer of a send says, where the item lies in shard k
+-- what the answer of a send says, where the item belongs to shard k
 abbrev pub SentAs : Plan → ℕ → Item → Option (List ℤ) → Sent → PassRecord → PassRecord → Type 0
 SentAs P k i tile answer.Waits v w = HasSent P k i tile answer.Waits v w
 SentAs P k i tile answer.Fired v w = HasSent P k i tile answer.Fired v w
@@ -94,7 +95,7 @@ pub record HasEnded (k : ℕ) (v w : PassRecord) : Type 0 where
   pub done : KeepsDone v w
   pub kept : KeepsNamesAndMarks v w
 
--- what the answer of an end or of a trap says, where the task lies in shard k: false is a turn that was taken
+-- what the answer of an end or of a trap says, where the task belongs to shard k: false is a turn that was taken
 abbrev pub EndedIf : Bool → ℕ → PassRecord → PassRecord → Type 0
 EndedIf true k v w = HasEnded k v w
 EndedIf false k v w = FoundBusy (Turn k) v w

@@ -3,7 +3,7 @@
 ghost use Rattle.std.specs.Prelude.{Bool, List, ℕ};
 ghost use Rattle.ptg_base.specs.Task.{Task};
 ghost use Rattle.dep_shard.specs.Content.{Content};
-ghost use Rattle.flow_meaning.specs.Machine.{Sent};
+ghost use Rattle.flow_meaning.specs.Machine.{SentItem};
 ghost use Rattle.work_board.specs.Word.{Word};
 
 use std::marker::Model;
@@ -15,7 +15,7 @@ pub struct PassRecord {
     /// The tasks that it claimed.
     pub ghost claims: { List Task },
     /// The items that it sent, each with its tile.
-    pub ghost sends: { List Sent },
+    pub ghost sends: { List SentItem },
     /// The tasks that it runs: at most one until passes are joined.
     pub ghost running: { List Task },
     /// The shards whose turns it holds, each with what the shard had when the turn was taken.

@@ -23,7 +23,7 @@ use Rattle.list_lemmas.specs.Counting.{as_number, count, weigh}
 use Rattle.flow_meaning.specs.Comparing.{same_item}
 use Rattle.flow_meaning.specs.Ending.{has_outputs}
 use Rattle.flow_meaning.specs.Backward.{ended}
-use Rattle.flow_meaning.specs.Machine.{Sent, send_count, sender}
+use Rattle.flow_meaning.specs.Machine.{SentItem, send_count, sender}
 use Rattle.flow_meaning.proofs.Comparing.{same_item-decides}
 use Rattle.flow_meaning.proofs.Rest.{item_sender}
 use Rattle.flow_meaning.specs.Sound.{with_its_tile}
@@ -63,15 +63,15 @@ is_among i (j ∷ js) h = elim h [
 ]
 
 module _ (P : Plan) (G : Data) where
-  sent_count : (i : Item) (js : List Item) → weigh (λ (x : Sent). as_number (same_item i x.item)) (map (with_its_tile P G) js) ≡ count (same_item i) js
+  sent_count : (i : Item) (js : List Item) → weigh (λ (x : SentItem). as_number (same_item i x.item)) (map (with_its_tile P G) js) ≡ count (same_item i) js
   sent_count i [] = refl
   sent_count i (j ∷ js) = ap (λ n. as_number (same_item i j) + n) (sent_count i js)
 
   -- after these sends an item was sent as often as before, and as often as it is among them
   count_after : (is : List Item) (v w : PassRecord) (i : Item) → HasSentAll P G is v w → send_count (done_by w) i ≡ send_count (done_by v) i + count (same_item i) is
   count_after is v w i sent =
-      ap (weigh (λ (x : Sent). as_number (same_item i x.item))) sent.sends
-      ∙ weigh-append (λ (x : Sent). as_number (same_item i x.item)) v.sends (map (with_its_tile P G) is)
+      ap (weigh (λ (x : SentItem). as_number (same_item i x.item))) sent.sends
+      ∙ weigh-append (λ (x : SentItem). as_number (same_item i x.item)) v.sends (map (with_its_tile P G) is)
       ∙ ap (λ n. send_count (done_by v) i + n) (sent_count i is)
 
   -- some of all these items were sent, and the others are left

@@ -10,7 +10,7 @@ use Rattle.coll_data.specs.Data.{Data}
 use Rattle.flow_meaning.specs.Backward.{ended}
 use Rattle.list_lemmas.specs.Counting.{as_number}
 use Rattle.flow_meaning.specs.Comparing.{same_item}
-use Rattle.flow_meaning.specs.Machine.{Sent, is_sent, send_count}
+use Rattle.flow_meaning.specs.Machine.{SentItem, is_sent, send_count}
 use Rattle.flow_meaning.specs.Sound.{IsFinished}
 use Rattle.list_lemmas.proofs.Counts.{weigh-append}
 use Rattle.list_lemmas.proofs.Members.{from_push}
@@ -25,12 +25,12 @@ more_positive : (m n : ℕ) → nat_lt 0 m ≡ true → nat_lt 0 (m + n) ≡ tru
 more_positive m n h = grind (arith, nat_tests)
 
 -- what was sent stays sent
-sent_stays : (i : Item) (claims after : List Task) (sends more : List Sent) → IsTrue (is_sent (record { claims = claims; sends = sends }) i) → IsTrue (is_sent (record { claims = after; sends = sends ++ more }) i)
+sent_stays : (i : Item) (claims after : List Task) (sends more : List SentItem) → IsTrue (is_sent (record { claims = claims; sends = sends }) i) → IsTrue (is_sent (record { claims = after; sends = sends ++ more }) i)
 sent_stays i claims after sends more h =
-    subst (λ n. nat_lt 0 n ≡ true) (sym (weigh-append (λ (x : Sent). as_number (same_item i x.item)) sends more))
+    subst (λ n. nat_lt 0 n ≡ true) (sym (weigh-append (λ (x : SentItem). as_number (same_item i x.item)) sends more))
     (more_positive (send_count (record { claims = claims; sends = sends }) i) (send_count (record { claims = claims; sends = more }) i) h)
 
-finished_stays : (P : Plan) (G : Data) (t : Task) (v w : PassRecord) (more : List Sent) → w.sends ≡ v.sends ++ more → IsFinished P G (done_by v) t → IsFinished P G (done_by w) t
+finished_stays : (P : Plan) (G : Data) (t : Task) (v w : PassRecord) (more : List SentItem) → w.sends ≡ v.sends ++ more → IsFinished P G (done_by v) t → IsFinished P G (done_by w) t
 finished_stays P G t v w more e (inl none) = inl none
 finished_stays P G t v w more e (inr all) = inr (λ i h. subst (λ l. IsTrue (is_sent (record { claims = w.claims; sends = l }) i)) (sym e) (sent_stays i v.claims w.claims v.sends more (all i h)))
 

@@ -30,7 +30,7 @@ Searched P G (search.Task f) v w = HasGot P G f v w
 Searched P G search.Quiet v w = IsQuietAfter v w
 Searched P G search.Nothing v w = IsStill v w
 
--- The same, and where the log keeps what is noted, it has gained the claim with its stamp.
+-- The pass has got the found task, and where the log keeps what is noted, it has gained the claim with its stamp.
 pub record HasGotLogged (P : Plan) (G : Data) (keeps : Bool) (f : Found)
     (v w : PassRecord) (old new : List (ℕ × Task)) : Type 0 where
   pub got : HasGot P G f v w

@@ -10,7 +10,7 @@ use Rattle.dep_iter.specs.Items.{items}
 use Rattle.dep_iter.specs.Consistent.{IsConsistent}
 use Rattle.flow_meaning.specs.Ending.{has_outputs}
 use Rattle.flow_meaning.specs.Backward.{ended}
-use Rattle.flow_meaning.specs.Machine.{Sent, send_count}
+use Rattle.flow_meaning.specs.Machine.{SentItem, send_count}
 use Rattle.flow_meaning.specs.Sound.{with_its_tile}
 use Rattle.work_board.specs.declared.record.PassRecord.{PassRecord}
 use Rattle.work_board.specs.Records.{KeepsNamesAndMarks, done_by}
@@ -41,7 +41,7 @@ pub record RunsUnsent (P : Plan) (t : Task) (v : PassRecord) : Type 0 where
 
 -- The pass has sent some items more, and claimed nothing.
 pub record HasSentSome (v w : PassRecord) : Type 0 where
-  pub more_sends : List Sent
+  pub more_sends : List SentItem
   pub names : w.names ≡ v.names
   pub claims : w.claims ≡ v.claims
   pub stamps : w.stamps ≡ v.stamps

@@ -5,21 +5,22 @@ use Rattle.ptg_base.specs.Task.{Task}
 use Rattle.plan_core.specs.declared.plan.Plan.{Plan}
 use Rattle.coll_data.specs.Data.{Data}
 use Rattle.flow_meaning.specs.Backward.{ended}
-use Rattle.flow_meaning.specs.Machine.{Sent}
+use Rattle.flow_meaning.specs.Machine.{SentItem}
 use Rattle.flow_meaning.specs.Sound.{IsFinished}
 use Rattle.work_board.specs.declared.record.PassRecord.{PassRecord}
 use Rattle.work_board.specs.Records.{done_by}
 
--- claims, each with its stamp, and their tasks
+-- claims, each with its stamp
 abbrev pub Stamped : Type 0
 Stamped = List (Task × ℕ)
 
+-- the tasks of claims
 abbrev pub tasks_of : Stamped → List Task
 tasks_of claims = map (λ (c : Task × ℕ). c.0) claims
 
 -- The pass has these claims more, with their stamps, and maybe more sends; its names stay.
 pub record HasClaimedMore (more : Stamped) (v w : PassRecord) : Type 0 where
-  pub more_sends : List Sent
+  pub more_sends : List SentItem
   pub names : w.names ≡ v.names
   pub claims : w.claims ≡ v.claims ++ tasks_of more
   pub stamps : w.stamps ≡ v.stamps ++ more
@@ -31,7 +32,7 @@ pub record AreFollowed (P : Plan) (G : Data) (lets : Task → Type 0) (tasks : L
   pub let_through : (t : Task) → IsIn t tasks → lets t
   pub finished : (t : Task) → IsIn t tasks → IsFinished P G (done_by w) t
 
--- The pass claimed so many tasks more, followed each, and runs nothing.
+-- The pass claimed this many tasks more, followed each, and runs nothing.
 pub record HasWorked (P : Plan) (G : Data) (lets : Task → Type 0) (ran : ℕ) (v w : PassRecord) : Type 0 where
   pub more : Stamped
   pub claimed : HasClaimedMore more v w
@@ -54,7 +55,7 @@ pub record HasLogged (v w : PassRecord) (old new : List (ℕ × Task)) : Type 0 
   pub claimed : HasClaimedMore more v w
   pub gained : new ≡ old ++ logged more
 
--- the same where the log keeps what is noted
+-- The pass has new claims, and where the log keeps what is noted, it has gained exactly these, each with its stamp.
 pub record HasGrown (keeps : Bool) (v w : PassRecord) (old new : List (ℕ × Task)) : Type 0 where
   pub more : Stamped
   pub claimed : HasClaimedMore more v w

@@ -13,7 +13,7 @@ pub(crate) struct Post<'a, R, B, G> {
 
 // A claimed task with its locals.
 #[derive(Drop)]
-pub(crate) struct TaskAt<'a> {
+pub(crate) struct ClaimedTask<'a> {
     pub(crate) task: &'a TaskId,
     pub(crate) locals: &'a [i64],
 }

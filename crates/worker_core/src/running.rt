@@ -14,7 +14,7 @@ ghost use Rattle.worker_core.specs.Working.{HasRun};
 use crate::claiming::Found;
 use crate::ending::{end_one, trap_one};
 use crate::gate::Gate;
-use crate::post::{Post, TaskAt};
+use crate::post::{ClaimedTask, Post};
 use crate::sending::send_all;
 use dep_shard::Arrivals;
 use ptg_base::OutOfMemory;
@@ -29,7 +29,7 @@ use work_board::Board;
 fn run_body<R: Threads + Wait + Sync, B: Board, G: Gate>(
     post: &Post<R, B, G>,
     bench: &mut Bench,
-    at: &TaskAt,
+    at: &ClaimedTask,
     arrivals: Arrivals,
 ) -> Result<(), Trap>
     requires gate { G.lets post.now.gate.now post.now.worker at.now.task.now }
@@ -59,7 +59,7 @@ fn send_and_end<R: Threads + Wait + Sync, B: Board, G>(
     pass: &mut B::Pass,
     hands: &mut Hands,
     bench: &mut Bench,
-    at: &TaskAt,
+    at: &ClaimedTask,
 ) -> Result<(), OutOfMemory>
     requires pass { B.is_pass post.now.board.now pass.old }
     requires task { IsTask (B.plan post.now.board.now) at.now.task.now }
@@ -85,7 +85,7 @@ fn send_and_end<R: Threads + Wait + Sync, B: Board, G>(
 fn note_trap<R: Threads + Wait + Sync, B: Board, G>(
     post: &Post<R, B, G>,
     pass: &mut B::Pass,
-    at: &TaskAt,
+    at: &ClaimedTask,
     cause: Trap,
 ) -> Result<(), OutOfMemory>
     requires pass { B.is_pass post.now.board.now pass.old }
@@ -128,11 +128,11 @@ pub(crate) fn run_found<R: Threads + Wait + Sync, B: Board, G: Gate>(
         locals,
         arrivals,
     } = found;
-    let at = TaskAt {
+    let at = ClaimedTask {
         task: &task,
         locals: locals.as_slice(),
     };
-    post.board.matched().is_consistent();
+    post.board.matched().plan_is_consistent();
     post.gate.before_body(post.rt, post.worker, &task);
     let answer = match run_body(post, bench, &at, arrivals) {
         Ok(()) => send_and_end(post, pass, hands, bench, &at),

@@ -14,7 +14,7 @@ ghost use Rattle.work_board.specs.Records.{IsStill};
 ghost use Rattle.work_board.specs.Sends.{AddsSend, IsNext, MayEnd};
 ghost use Rattle.worker_core.specs.Sending.{HasSentAll, HasSentSome, MaySendAll, RunsUnsent};
 
-use crate::post::{Post, TaskAt};
+use crate::post::{ClaimedTask, Post};
 use crossbeam_utils::Backoff;
 use dep_iter::{out_edges_under, write_backs_under};
 use ptg_base::{Edge, Item, OutOfMemory, Tile, WriteBack};
@@ -95,7 +95,7 @@ fn send_edges<R: Threads + Wait + Sync, B: Board, G>(
     pass: &mut B::Pass,
     hands: &mut Hands,
     bench: &Bench,
-    at: &TaskAt,
+    at: &ClaimedTask,
 ) -> Result<(), OutOfMemory>
     requires pass { B.is_pass post.now.board.now pass.old }
     requires task { IsTask (B.plan post.now.board.now) at.now.task.now }
@@ -150,7 +150,7 @@ fn send_writes<R: Threads + Wait + Sync, B: Board, G>(
     post: &Post<R, B, G>,
     pass: &mut B::Pass,
     bench: &Bench,
-    at: &TaskAt,
+    at: &ClaimedTask,
 ) -> Result<(), OutOfMemory>
     requires pass { B.is_pass post.now.board.now pass.old }
     requires task { IsTask (B.plan post.now.board.now) at.now.task.now }
@@ -180,7 +180,7 @@ pub(crate) fn send_all<R: Threads + Wait + Sync, B: Board, G>(
     pass: &mut B::Pass,
     hands: &mut Hands,
     bench: &Bench,
-    at: &TaskAt,
+    at: &ClaimedTask,
 ) -> Result<(), OutOfMemory>
     requires pass { B.is_pass post.now.board.now pass.old }
     requires task { IsTask (B.plan post.now.board.now) at.now.task.now }

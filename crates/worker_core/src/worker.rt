@@ -87,12 +87,12 @@ fn run_all<R: Threads + Wait + Sync, B: Board, G: Gate, L: Log>(
             None => return Ok(Worked { ran }),
         }
     }
-    // No job has so many tasks.
+    // No job has that many tasks.
     for _ in post.rt.forever() {}
     unreachable!()
 }
 
-// The same; where memory is wanted, all workers stop.
+// Claims and runs tasks until all is quiet; where memory is wanted, halts the board.
 fn work_with<R: Threads + Wait + Sync, B: Board, G: Gate, L: Log>(
     post: &Post<R, B, G>,
     pass: &mut B::Pass,
@@ -159,8 +159,8 @@ pub fn work<R: Threads + Wait + Sync, B: Board, G: Gate>(
     work_with(&post, pass, hands, bench, &mut NoLog)
 }
 
-/// The same, for a board that is not preloaded. It takes room in the log before each claim; afterwards, whatever the
-/// answer, the log has gained exactly the claims of the pass, each with its stamp.
+/// A worker works on a board that is not preloaded, with a log. It takes room in the log before each claim; afterwards,
+/// whatever the answer, the log has gained exactly the claims of the pass, each with its stamp.
 pub fn work_logged<R: Threads + Wait + Sync, B: Board, G: Gate>(
     rt: &R,
     worker: u32,

@@ -75,7 +75,7 @@ impl State {
         ensures { IfOk result (λ outcome. outcome ≡ meaning.answer m.now given) }
     {
         a_quiescent_state_has_the_meaning();
-        m.is_consistent();
+        m.plan_is_consistent();
         let found = self.incomplete(m);
         self.complete_unless(m, given, found)
     }
@@ -213,8 +213,8 @@ impl State {
         requires known { DataFit m.now.colls m.now.elems given }
         ensures { IfOk result (λ end. end ≡ state_data given (machine self)) }
     {
-        m.is_consistent();
-        given.is_well_made();
+        m.plan_is_consistent();
+        given.data_are_well_made();
         let written = self.into_writes()?;
         Ok(with_written(given, written))
     }

@@ -28,7 +28,7 @@ impl State {
         requires fits { (G : Data) × Fits m.now G self.now }
         ensures { (G : Data) → Fits m.now G self.now → IsTrue result ↔ IsQuiescent m.now G (machine self.now) }
     {
-        m.is_consistent();
+        m.plan_is_consistent();
         if self.has_ready(m) {
             return false;
         }

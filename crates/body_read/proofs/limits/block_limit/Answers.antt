@@ -1,4 +1,4 @@
-use Rattle.std.proofs.Common.{◌≡◌, ℕ, ◌+◌, ◌-◌, ◌<◌, ◌≤◌, Bool, true, false, cond, length, drop, refl, sym, ap, ◌∙◌, arith}
+use Rattle.std.proofs.Common.{◌≡◌, ℕ, ◌+◌, ◌-◌, ◌<◌, ◌≤◌, true, false, length, drop, refl, sym, ap, ◌∙◌, arith}
 use Rattle.std.specs.Prelude.{nat_le, ◌&&◌}
 use Rattle.std.proofs.lemmas.Bool.Decides.{nat_tests}
 use Rattle.std.proofs.lemmas.List.{take_rest}
@@ -6,7 +6,7 @@ use Rattle.jdf_alphabet.specs.declared.terminal.Terminal.TheVariants.{LeftBrace,
 use Rattle.jdf_alphabet.specs.Sets.{starts}
 use Rattle.jdf_alphabet.specs.Terminals.{is}
 use Rattle.jdf_tree.specs.BodyLimits.{most_blocks}
-use Rattle.body_read.proofs.LimitSearch.{BlocksSoFar, blocks_begin, blocks_end, blocks_stop, blocks_go_on}
+use Rattle.body_read.proofs.LimitSearch.{blocks_begin, blocks_end, blocks_stop, blocks_go_on}
 use Rattle.body_read.proofs.limits.block_limit.Goals as goal
 use Rattle.body_read.proofs.limits.block_limit.Goals.{else-opens-via-then-opens+else-saturating_sub-most, else-opens-via-else-opens}
 

@@ -1,10 +1,10 @@
-use Rattle.std.proofs.Common.{◌≡◌, ℕ, ◌+◌, ◌<◌, ◌≤◌, Bool, true, false, cond, length, drop, refl, sym, ap, ◌∙◌, arith}
+use Rattle.std.proofs.Common.{◌≡◌, ℕ, ◌+◌, ◌<◌, true, false, length, drop, refl, sym, ap, ◌∙◌, arith}
 use Rattle.std.specs.Prelude.{nat_le, ◌&&◌}
 use Rattle.std.proofs.lemmas.Bool.Decides.{nat_tests}
 use Rattle.std.proofs.lemmas.List.{take_rest}
 use Rattle.jdf_alphabet.specs.Sets.{starts}
 use Rattle.jdf_tree.specs.BodyLimits.{declares}
-use Rattle.body_read.proofs.LimitSearch.{VariablesSoFar, variables_begin, variables_end, variables_stop, variables_go_on}
+use Rattle.body_read.proofs.LimitSearch.{variables_begin, variables_end, variables_stop, variables_go_on}
 use Rattle.body_read.proofs.limits.variable_limit.Goals as goal
 use Rattle.body_read.proofs.limits.variable_limit.Goals.{else-declares-via-then-declares+else-declared-ge-MOST_VARIABLES, else-declares-via-else-declares}
 

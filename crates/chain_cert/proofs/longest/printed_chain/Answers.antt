@@ -19,7 +19,7 @@ loop-next-preserved c =
     let P = c.args.m.now in
     let ws = c.args.weights.now in
     let w = subst (IsTracing P ws c.loop-next.back.items) c.in-Some.is c.loop-next.invariant in
-    subst (λ l. IsTracing P ws l c.step_back-next.result) (sym c.in_ok-push.ensures.items) (trace_next P ws c.is_consistent.ensures c.loop-next.back.items c.in-Some.t c.step_back-next.result w c.step_back-next.ensures)
+    subst (λ l. IsTracing P ws l c.step_back-next.result) (sym c.in_ok-push.ensures.items) (trace_next P ws c.plan_is_consistent.ensures c.loop-next.back.items c.in-Some.t c.step_back-next.result w c.step_back-next.ensures)
 
 pub returns : goal.returns
 returns c =

@@ -6,7 +6,7 @@ use Rattle.data_read.proofs.field.field.Goals as goal
 
 pub returns-in-Some : goal.returns-in-Some
 returns-in-Some c =
-    let here = field_or_none (fields_of c.args.row.now) c.args.at (Some c.in-Some.bytes.now) c.in-Some.ensures.value in
+    let here = field_or_none (fields_of c.args.fields.now) c.args.at (Some c.in-Some.bytes.now) c.in-Some.ensures.value in
     c.without_blanks.ensures ∙ ap without_blanks here
 
 no_blanks : [] ≡ without_blanks []
@@ -14,4 +14,4 @@ unfolding after_blanks content_length
 no_blanks = refl
 
 pub returns-in-None : goal.returns-in-None
-returns-in-None c = c.as_slice.ensures ∙ no_blanks ∙ ap without_blanks (field_or_none (fields_of c.args.row.now) c.args.at None c.in-None.ensures.value)
+returns-in-None c = c.as_slice.ensures ∙ no_blanks ∙ ap without_blanks (field_or_none (fields_of c.args.fields.now) c.args.at None c.in-None.ensures.value)

@@ -18,7 +18,7 @@ use Rattle.data_read.proofs.tiles.add_tile.Goals as goal
 pub returns-in_err-index-clause-step : goal.returns-in_err-index-clause-step
 returns-in_err-index-clause-step c =
     let all = c.args.all.now in
-    let fields = fields_of c.args.row.now in
+    let fields = fields_of c.args.fields.now in
     let at = c.in-Some.at in
     let coll = c.index.result.now in
     let p = err_from_is_err_and c.from_residual-in_err-index.result c.from_residual-in_err-index.ensures.1 in
@@ -32,7 +32,7 @@ returns-in_err-index-clause-step c =
 pub returns-clause-step : goal.returns-clause-step
 returns-clause-step c =
     let all = c.args.all.now in
-    let fields = fields_of c.args.row.now in
+    let fields = fields_of c.args.fields.now in
     let at = c.in-Some.at in
     let coll = c.index.result.now in
     let lent = c.index_mut-coll.result.now in

@@ -10,7 +10,7 @@ use Rattle.data_read.proofs.tiles.new_tile.Goals as goal
 
 pub returns-in-Err-clause-tile : goal.returns-in-Err-clause-tile
 returns-in-Err-clause-tile c =
-    let fields = fields_of c.args.row.now in
+    let fields = fields_of c.args.fields.now in
     let coll = c.args.coll.now in
     let first = first_value coll.shape.1 in
     let some : nat_le 1 (length fields - first) ≡ true = le-leb 1 (length fields - first) (omega (arith, c.if-len-first.false, c.first_value-first.ensures, c.len.ensures)) in

@@ -11,7 +11,7 @@ loop-k-init c = opening_first c.args.elements c.in_ok-tile.tile c.in_ok-tile.ens
 
 pub returns-in_default : goal.returns-in_default
 returns-in_default c =
-    let fields = fields_of c.args.row.now in
+    let fields = fields_of c.args.fields.now in
     let values = drop c.args.first fields in
     let size = length-drop c.args.first fields in
     let same = ap without_blanks (get_or-drop c.args.first fields c.loop-k.k []) in
@@ -20,7 +20,7 @@ returns-in_default c =
 
 pub loop-k-preserved : goal.loop-k-preserved
 loop-k-preserved c =
-    let fields = fields_of c.args.row.now in
+    let fields = fields_of c.args.fields.now in
     let values = drop c.args.first fields in
     let size = length-drop c.args.first fields in
     let same = ap without_blanks (get_or-drop c.args.first fields c.loop-k.k []) in
@@ -30,6 +30,6 @@ loop-k-preserved c =
 
 pub returns : goal.returns
 returns c =
-    let fields = fields_of c.args.row.now in
+    let fields = fields_of c.args.fields.now in
     let size = length-drop c.args.first fields in
     opening_last c.args.elements (drop c.args.first fields) c.loop-k.tile c.loop-k.k c.loop-k.invariant (omega (arith, size, c.loop-k-test.false, c.len.ensures))

@@ -5,4 +5,4 @@ use Rattle.data_read.proofs.tiles.opened_tile.Given as goal
 
 -- the tile has the values of the fields so far
 abbrev pub invariant-loop-k : goal.invariant-loop-k
-invariant-loop-k l = IsOpening l.elements (take l.k (drop l.first (fields_of l.row))) l.tile
+invariant-loop-k l = IsOpening l.elements (take l.k (drop l.first (fields_of l.fields))) l.tile

@@ -1,9 +1,7 @@
-use Rattle.std.proofs.Common.{suc, drop, map, add-one, arith, ◌≡◌, []}
-use Rattle.std.specs.Iterator.{YieldsFirst}
-use Rattle.ptg_base.specs.Task.{Task}
+use Rattle.std.proofs.Common.{map, add-one, arith, ◌≡◌, []}
 use Rattle.range_space.specs.Tasks.{tasks}
 use Rattle.list_lemmas.proofs.Places.{slice_get_there, drop_from}
-use Rattle.dep_iter.specs.Tasks.{task, tasks_from}
+use Rattle.dep_iter.specs.Tasks.{task}
 use Rattle.dep_iter.proofs.task_walk.+next_task.Goals as goal
 
 pub returns : goal.returns

@@ -1,5 +1,5 @@
 use Rattle.std.proofs.Common.{length}
-use Rattle.dep_iter.specs.declared.direction.Direction.TheVariants.{Out}
+use Rattle.term_core.specs.declared.direction.Direction.TheVariants.{Out}
 use Rattle.dep_iter.specs.Walking.{targets_left}
 use Rattle.dep_iter.proofs.writes.+next_write.Given as goal
 

@@ -1,4 +1,4 @@
-use Rattle.dep_iter.specs.declared.direction.Direction.TheVariants.{Out}
+use Rattle.term_core.specs.declared.direction.Direction.TheVariants.{Out}
 use Rattle.dep_iter.proofs.Joining.{write_backs-targets}
 use Rattle.dep_iter.proofs.writes.write_backs_under.Goals as goal
 

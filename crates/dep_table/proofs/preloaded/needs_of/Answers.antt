@@ -19,7 +19,7 @@ loop-t-init c =
       is_finite = search rules;
       count = none.count;
       types = λ k n at. (none.each k n at).types_count;
-      room = subst (λ ts. HaveRoomFor P ts ns) (sym all) (room_all P c.is_consistent.ensures c.args.shards (length P.elems) ns none);
+      room = subst (λ ts. HaveRoomFor P ts ns) (sym all) (room_all P c.plan_is_consistent.ensures c.args.shards (length P.elems) ns none);
       so_far = subst (IsSoFar P (λ ts. AreNeedsOf P (shard_of P c.args.shards) ts ns)) (sym all) (begun P (λ ts. AreNeedsOf P (shard_of P c.args.shards) ts ns) (no_task P (shard_of P c.args.shards) c.args.shards ns none));
     }
 

@@ -2,9 +2,9 @@ use Rattle.std.proofs.Common.{suc, drop, add-one, sym, ◌&&◌, arith}
 use Rattle.std.specs.Cmp.{unsigned_Decides}
 use Rattle.list_lemmas.proofs.Truth.{on_true_weaker}
 use Rattle.list_lemmas.proofs.Places.{slice_get_at, drop_from, passes_at}
+use Rattle.term_core.specs.declared.direction.Direction.TheVariants.{In}
 use Rattle.plan_core.specs.declared.flow.FlowPlan.{FlowPlan}
 use Rattle.dep_iter.specs.Links.{dependences_fit}
-use Rattle.dep_iter.specs.declared.direction.Direction.TheVariants.{In}
 use Rattle.dep_iter.proofs.Belonging.{before-no_dependences}
 use Rattle.edge_accept.specs.Flows.{HasSoundSource}
 use Rattle.edge_accept.proofs.SentItems.{sent_nothing}

@@ -16,7 +16,7 @@ returns c =
     let here : kind_of P.classes e.to.class e.in_flow ≡ Some at.flow.now.kind = rw (c.requires.task, c.requires.flow) (kind_of-here P t at.number at.flow.now at.here) in
     let found = subst (λ (n : ℕ). IsTrue c.has_edge_before.result ↔ IsIn e (in_edges_before P t n c.args.k)) c.requires.flow (c.has_edge_before.ensures P t at.locals (c.requires.task, rw c.requires.flow at.here)) in
     OnTrue_from _ _ (λ h. taken_one P before c.args.ins.now c.add.new.self e (is_data (Some at.flow.now.kind))
-    c.in-Some.ensures.0
+    (c.has_other_end.ensures.0 c.if-not-has_other_end.false)
     (λ k. false≢true (sym c.if-has_edge_before.false ∙ found.1 k))
     (ap is_data here)
     (OnTrue_at h c.add.ensures.edges) (OnTrue_at h (rw c.is_data.ensures at c.add.ensures.data_edges)))

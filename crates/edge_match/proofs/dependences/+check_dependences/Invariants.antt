@@ -1,5 +1,5 @@
 use Rattle.std.proofs.Common.{◌-◌, length}
-use Rattle.dep_iter.specs.Directions.{dependences}
+use Rattle.plan_core.specs.Flows.{dependences}
 use Rattle.edge_match.proofs.dependences.+check_dependences.Given as goal
 
 abbrev pub decreases-check_dependences : goal.decreases-check_dependences

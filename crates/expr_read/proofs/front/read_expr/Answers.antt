@@ -1,4 +1,4 @@
-use Rattle.std.proofs.Common.{◌+◌, arith}
+use Rattle.std.proofs.Common.{arith}
 use Rattle.expr_read.specs.Front.{part_of}
 use Rattle.grammar_core.proofs.Refusals.{fault_is}
 use Rattle.expr_read.proofs.Answer.{rest_within, left_within, found_exact, no_memory, fault_exact}

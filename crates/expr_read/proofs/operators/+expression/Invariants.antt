@@ -1,19 +1,19 @@
 use Rattle.std.proofs.Common.{◌≡◌, ℕ, ◌+◌, ◌*◌, ◌≤◌, length}
 use Rattle.grammar_core.specs.Reading.{reading}
 use Rattle.jdf_tree.specs.Grammar.{productions}
-use Rattle.expr_read.specs.declared.rank.Rank.{Rank}
-use Rattle.expr_read.specs.declared.rank.Rank.TheVariants as rank
-use Rattle.expr_read.specs.Ranks.{of_rank}
+use Rattle.expr_read.specs.declared.precedence.Precedence.{Precedence}
+use Rattle.expr_read.specs.declared.precedence.Precedence.TheVariants as precedence
+use Rattle.expr_read.specs.Precedences.{of_precedence}
 use Rattle.expr_read.proofs.Loops.{tail, joined}
 use Rattle.expr_read.proofs.operators.+expression.Given as goal
 
-abbrev height : Rank → ℕ
-height rank.Product = 3
-height rank.Sum = 5
-height rank.Relation = 7
-height rank.Equality = 9
-height rank.Conjunction = 11
-height rank.Disjunction = 13
+abbrev height : Precedence → ℕ
+height precedence.Product = 3
+height precedence.Sum = 5
+height precedence.Relation = 7
+height precedence.Equality = 9
+height precedence.Conjunction = 11
+height precedence.Disjunction = 13
 
 abbrev pub decreases-expression : goal.decreases-expression
 decreases-expression l = 16 * length l.tokens.now + 15
@@ -21,11 +21,11 @@ decreases-expression l = 16 * length l.tokens.now + 15
 abbrev pub decreases-branches : goal.decreases-branches
 decreases-branches l = 16 * length l.tokens.now
 
-abbrev pub decreases-ranked : goal.decreases-ranked
-decreases-ranked l = 16 * length l.tokens.now + height l.rank + 1
+abbrev pub decreases-operands : goal.decreases-operands
+decreases-operands l = 16 * length l.tokens.now + height l.precedence + 1
 
 abbrev pub decreases-operand : goal.decreases-operand
-decreases-operand l = 16 * length l.tokens.now + height l.rank
+decreases-operand l = 16 * length l.tokens.now + height l.precedence
 
 abbrev pub decreases-unary : goal.decreases-unary
 decreases-unary l = 16 * length l.tokens.now + 2
@@ -45,11 +45,11 @@ decreases-parens l = 16 * length l.tokens.now
 abbrev pub decreases-index : goal.decreases-index
 decreases-index l = 16 * length l.tokens.now
 
-abbrev pub invariant-ranked-loop-operator : goal.invariant-ranked-loop-operator
-invariant-ranked-loop-operator l = record {
-  reads : joined l.spot l.left (tail l.part l.rank l.rest) ≡ reading productions (of_rank l.rank l.part) l.tokens;
+abbrev pub invariant-operands-loop-operator : goal.invariant-operands-loop-operator
+invariant-operands-loop-operator l = record {
+  reads : joined l.spot l.left (tail l.part l.precedence l.rest) ≡ reading productions (of_precedence l.precedence l.part) l.tokens;
   shorter : length l.rest ≤ length l.tokens;
 }
 
-abbrev pub decreases-ranked-loop-operator : goal.decreases-ranked-loop-operator
-decreases-ranked-loop-operator l = length l.rest
+abbrev pub decreases-operands-loop-operator : goal.decreases-operands-loop-operator
+decreases-operands-loop-operator l = length l.rest

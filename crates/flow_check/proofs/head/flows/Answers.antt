@@ -1,4 +1,4 @@
-use Rattle.std.proofs.Common.{List, arith, flat_map, subst, take}
+use Rattle.std.proofs.Common.{List, arith, flat_map, subst}
 use Rattle.std.proofs.lemmas.List.{take_all}
 use Rattle.check_names.specs.Alphabet.{FlowTree}
 use Rattle.check_names.specs.Contexts.{job_of}

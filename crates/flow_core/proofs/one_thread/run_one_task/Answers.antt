@@ -38,7 +38,7 @@ returns c =
     let between = between_sent c.args.m.now c.args.given.now c.args.t.now c.args.runner.now.running.items c.args.runner.now.run c.finish.new.self c.in_ok-finish.field-0 e c.in_ok-finish.ensures.fits last.run last.running.items d c.in_ok-send_items.ensures.running in
     let outputs = ap has_outputs (d.ends c.args.t.now) ∙ e.outputs (sym c.if-is_some.ensures) in
     record {
-      between = let_go_between c.args.m.now c.args.given.now c.is_consistent.ensures c.args.t.now last.run c.let_go.new.self last.running.items between outputs c.let_go.ensures;
+      between = let_go_between c.args.m.now c.args.given.now c.plan_is_consistent.ensures c.args.t.now last.run c.let_go.new.self last.running.items between outputs c.let_go.ensures;
       ended = ap ended_among c.let_go.ensures.claims ∙ d.ended ∙ e.ended;
       goals = c.in_ok-send_items.ensures.goals;
     }

@@ -3,9 +3,10 @@ use Rattle.jdf_alphabet.specs.Codes.{TooManyClasses}
 use Rattle.jdf_alphabet.specs.Sets.{starts}
 use Rattle.jdf_tree.specs.declared.part.Part.TheVariants.{Class}
 use Rattle.jdf_tree.specs.GrammarParts.{names}
+use Rattle.ptg_base.specs.Returns.{ReturnsRefusal}
 use Rattle.grammar_core.specs.declared.code.Code.{Code}
 use Rattle.grammar_core.specs.Reading.{reading}
-use Rattle.grammar_core.specs.Returns.{ReadRefusal, Fails, fault_with}
+use Rattle.grammar_core.specs.Refusing.{ReadRefusal, fault_with}
 use Rattle.jdf_tree.specs.Grammar.{productions, class_and_skips, classes}
 use Rattle.jdf_tree.proofs.Lists.{list_moves}
 use Rattle.jdf_read.proofs.ListSteps.{counted_goes_on, counted_fails, counted_is_full, counted_ends}
@@ -37,7 +38,7 @@ returns-then-len-eq-MOST_CLASSES c =
     let some = c.more.invariant.some in
     let full : length c.more.list - 1 ≡ 63 = omega (arith, c.len.ensures, some) in
     let comes : starts (names Class) c.more.rest.now ≡ true = sym c.is_name_next.ensures ∙ c.more-test.true in
-    subst (λ (e : ReadRefusal). Fails e (reading productions classes c.args.tokens.now))
+    subst (λ (e : ReadRefusal). ReturnsRefusal e (reading productions classes c.args.tokens.now))
     (sym (c.refusal_at.ensures ∙ ap (λ (d : Code). fault_with (length c.more.rest.now) d) c.code.ensures))
     (counted_is_full 63 TooManyClasses (length c.more.list - 1) c.more.list c.more.rest.now _ classes_listed full comes c.more.invariant.reads)
 

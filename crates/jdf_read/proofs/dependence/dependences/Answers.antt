@@ -1,8 +1,9 @@
 use Rattle.std.proofs.Common.{sym, ap, ◌∙◌, subst, length, rules}
 use Rattle.jdf_alphabet.specs.Codes.{TooManyDeps}
+use Rattle.ptg_base.specs.Returns.{ReturnsRefusal}
 use Rattle.grammar_core.specs.declared.code.Code.{Code}
 use Rattle.grammar_core.specs.Reading.{reading}
-use Rattle.grammar_core.specs.Returns.{ReadRefusal, Fails, fault_with}
+use Rattle.grammar_core.specs.Refusing.{ReadRefusal, fault_with}
 use Rattle.jdf_tree.specs.ClassGrammar.{dependence, dependences}
 use Rattle.jdf_tree.specs.Grammar.{productions}
 use Rattle.jdf_tree.proofs.Lists.{list_moves}
@@ -38,6 +39,6 @@ returns-in_err-next c =
 
 pub returns-then-len-eq-MOST_DEPENDENCES : goal.returns-then-len-eq-MOST_DEPENDENCES
 returns-then-len-eq-MOST_DEPENDENCES c =
-    subst (λ (e : ReadRefusal). Fails e (reading productions dependences c.args.tokens.now))
+    subst (λ (e : ReadRefusal). ReturnsRefusal e (reading productions dependences c.args.tokens.now))
     (sym (c.refusal_at.ensures ∙ ap (λ (d : Code). fault_with (length c.more.rest.now) d) c.code.ensures))
     (counted_is_full 16 TooManyDeps (length c.more.list) c.more.list c.more.rest.now _ dependences_listed (sym c.len.ensures ∙ c.if-len-eq-MOST_DEPENDENCES.true) (sym c.is_arrow_next.ensures ∙ c.more-test.true) c.more.invariant.reads)

@@ -1,8 +1,8 @@
 use Rattle.std.proofs.Common.{subst, sym}
 use Rattle.std.specs.Prelude.{IfOk}
-use Rattle.ptg_top.specs.declared.request.Request.{Request}
+use Rattle.ptg_words.specs.declared.order.Order.{Order}
 use Rattle.ptg_top.specs.Denotation.{denoted}
-use Rattle.ptg_top.specs.Reports.{IsVerdictOnRequest}
+use Rattle.ptg_top.specs.Reports.{IsVerdictOnCommand}
 use Rattle.ptg_top.proofs.Summed.{demo_ends}
 use Rattle.ptg_top.proofs.judge.carry_out.Goals as goal
 
@@ -10,7 +10,7 @@ use Rattle.ptg_top.proofs.judge.carry_out.Goals as goal
 pub returns-in-Demo-clause-judged : goal.returns-in-Demo-clause-judged
 returns-in-Demo-clause-judged g c =
     let faults = g.F.Files.faults c.args.files.now in
-    demo_ends c.in-Demo.rows (g.F.Files.contents c.args.files.now) faults faults c.args.request.now c.demo.result c.in-Demo.is c.demo.ensures.denotes
+    demo_ends c.in-Demo.rows (g.F.Files.contents c.args.files.now) faults faults c.args.order.now c.demo.result c.in-Demo.is c.demo.ensures.denotes
 
 -- the verdict on the three files
 pub returns-in-Replay-clause-judged : goal.returns-in-Replay-clause-judged
@@ -18,5 +18,5 @@ returns-in-Replay-clause-judged g c =
     let contents = g.F.Files.contents c.args.files.now in
     let old = g.F.Files.faults c.args.files.now in
     let new = g.F.Files.faults c.replay.new.files in
-    let Judged : Request → Type 0 = λ r. IfOk c.replay.result (λ v. IsVerdictOnRequest contents old new r (denoted v)) in
+    let Judged : Order → Type 0 = λ r. IfOk c.replay.result (λ v. IsVerdictOnCommand contents old new r (denoted v)) in
     subst Judged (sym c.in-Replay.is) c.replay.ensures.verdict

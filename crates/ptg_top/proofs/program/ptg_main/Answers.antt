@@ -1,7 +1,7 @@
 use Rattle.std.proofs.Common.{ap, sym, ◌∙◌, inl}
 use Rattle.ptg_io.specs.Sink.{appended}
 use Rattle.ptg_top.specs.Denotation.{denoted}
-use Rattle.ptg_top.proofs.Ending.{exact_prints, complete_prints, usage_is_its_line, usage_is_no_order, no_order_is_usage, read_fault_names, no_write_fault}
+use Rattle.ptg_top.proofs.Ending.{exact_prints, complete_prints, usage_is_its_line, usage_is_no_command, no_command_is_usage, read_fault_names, no_write_fault}
 use Rattle.ptg_top.proofs.Receipts.{receipt_is_asked, no_receipt_no_answer, receipt_has_plan}
 use Rattle.ptg_top.proofs.program.ptg_main.Goals as goal
 
@@ -47,14 +47,14 @@ returns-in-Ok-print_verdict-clause-usage_line g c usage =
 -- and only to arguments that form no command, which have no other
 pub returns-in-Ok-print_verdict-clause-usage_only : goal.returns-in-Ok-print_verdict-clause-usage_only
 returns-in-Ok-print_verdict-clause-usage_only g c usage =
-    usage_is_no_order c.args.words.now (g.F.Files.contents c.args.files.now) (g.F.Files.faults c.args.files.now) (g.F.Files.faults c.judge.new.files)
+    usage_is_no_command c.args.words.now (g.F.Files.contents c.args.files.now) (g.F.Files.faults c.args.files.now) (g.F.Files.faults c.judge.new.files)
     (denoted c.in-Ok.verdict) c.in-Ok.ensures.judged (sym c.status.ensures ∙ usage)
 
 pub returns-in-Ok-print_verdict-clause-usage : goal.returns-in-Ok-print_verdict-clause-usage
 returns-in-Ok-print_verdict-clause-usage g c none =
     inl (
     c.status.ensures
-    ∙ no_order_is_usage c.args.words.now (g.F.Files.contents c.args.files.now) (g.F.Files.faults c.args.files.now) (g.F.Files.faults c.judge.new.files)
+    ∙ no_command_is_usage c.args.words.now (g.F.Files.contents c.args.files.now) (g.F.Files.faults c.args.files.now) (g.F.Files.faults c.judge.new.files)
     (denoted c.in-Ok.verdict) c.in-Ok.ensures.judged none
     )
 

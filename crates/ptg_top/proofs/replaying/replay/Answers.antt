@@ -1,10 +1,7 @@
-use Rattle.std.proofs.Common.{subst, sym}
+use Rattle.std.proofs.Common.{subst}
 use Rattle.std.specs.Prelude.{Option, IfOk}
-use Rattle.ptg_top.specs.declared.request.Request.TheVariants.{Check}
-use Rattle.ptg_top.specs.declared.verdict.Verdict.{Verdict}
 use Rattle.ptg_top.specs.Denotation.{denoted}
 use Rattle.ptg_top.specs.JobFiles.{Entries}
-use Rattle.ptg_top.specs.Reports.{IsVerdictOnRequest}
 use Rattle.ptg_top.specs.Steps.{ReplayEndsWith}
 use Rattle.ptg_top.proofs.Replayed.{replay_finds, replay_refuses}
 use Rattle.ptg_top.proofs.replaying.replay.Goals as goal
@@ -25,10 +22,5 @@ returns-in-Ok-clause-verdict g c =
 -- a refusal
 pub returns-in-Err-clause-verdict : goal.returns-in-Err-clause-verdict
 returns-in-Err-clause-verdict g c =
-    let contents = g.F.Files.contents c.args.files.now in
-    let old = g.F.Files.faults c.args.files.now in
-    let new = g.F.Files.faults c.check.new.files in
-    let jdf = c.args.jdf.now in
-    let data_name = c.args.data_name.now in
-    let Checked : Verdict → Type 0 = λ v. IsVerdictOnRequest contents old new (Check jdf data_name) (denoted v) in
-    replay_refuses contents jdf data_name c.args.trace.now old new (denoted c.in-Err.refused) (subst Checked (sym c.in-Err.ensures.refused.0) c.in_ok-checked.ensures.verdict) c.in-Err.ensures.refused.1
+    replay_refuses (g.F.Files.contents c.args.files.now) c.args.jdf.now c.args.data_name.now c.args.trace.now (g.F.Files.faults c.args.files.now) (g.F.Files.faults c.check.new.files)
+    c.in_ok-checked.checked c.in-Err.refused c.in-Err.ensures.refused.0 c.in_ok-checked.ensures.verdict c.in-Err.ensures.refused.1

@@ -1,4 +1,4 @@
-use Rattle.std.proofs.Common.{List, ℕ, Some, Err, ap, refl, sym, ◌∙◌, subst}
+use Rattle.std.proofs.Common.{List, ℕ, Some, Err, ap, sym, ◌∙◌, subst}
 use Rattle.ptg_io.specs.Files.{file_of, IsLonger}
 use Rattle.ptg_top.proofs.Replayed.{long_ends, read_ends}
 use Rattle.ptg_top.proofs.replaying.replayed.Goals as goal
@@ -17,5 +17,5 @@ pub returns-in-Err-TooLong-clause-verdict : goal.returns-in-Err-TooLong-clause-v
 returns-in-Err-TooLong-clause-verdict g c =
     let trace = c.args.trace.now in
     long_ends (g.F.Files.contents c.args.files.now) (g.F.Files.faults c.args.files.now trace) (g.F.Files.faults c.load.new.files trace) trace c.args.matched c.args.given
-    _ refl refl
+    c.trace_too_long.result c.trace_too_long.ensures
     (λ files e. subst (λ (name : List ℕ). IsLonger files name 16777216) c.name_of.ensures (c.in-Err-TooLong.ensures.too_long (ap Err c.in-Err-TooLong.field-0-is) files e))

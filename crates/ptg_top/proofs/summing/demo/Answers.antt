@@ -1,6 +1,3 @@
-use Rattle.std.proofs.Common.{subst, sym}
-use Rattle.ptg_top.specs.declared.verdict.Verdict.{Verdict}
-use Rattle.ptg_top.specs.Demo.{MadeTextsDenote}
 use Rattle.ptg_top.specs.Denotation.{denoted}
 use Rattle.ptg_top.proofs.Summed.{refused_denoted, summary_denoted}
 use Rattle.ptg_top.proofs.summing.demo.Goals as goal
@@ -13,5 +10,4 @@ returns-in-Ok-clause-denotes g c =
 -- a refusal
 pub returns-in-Err-clause-denotes : goal.returns-in-Err-clause-denotes
 returns-in-Err-clause-denotes g c =
-    let Made : Verdict → Type 0 = λ v. MadeTextsDenote c.args.rows (denoted v) in
-    refused_denoted c.args.rows (denoted c.in-Err.refused) (subst Made (sym c.in-Err.ensures.refused.0) c.in_ok-checked.ensures.denotes) c.in-Err.ensures.refused.1
+    refused_denoted c.args.rows c.in_ok-checked.checked c.in-Err.refused c.in-Err.ensures.refused.0 c.in_ok-checked.ensures.denotes c.in-Err.ensures.refused.1

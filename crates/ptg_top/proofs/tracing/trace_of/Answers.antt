@@ -1,5 +1,5 @@
 use Rattle.std.proofs.Common.{ap, ◌∙◌}
-use Rattle.table_rule.specs.declared.job.Job.{Job}
+use Rattle.table_rule.specs.declared.table_job.TableJob.{TableJob}
 use Rattle.dep_table.specs.Receipts.{ReceiptView}
 use Rattle.ptg_top.proofs.TableRuns.{closed_is_run}
 use Rattle.ptg_top.proofs.Traced.{ran_tasks, traced_by}
@@ -8,7 +8,7 @@ use Rattle.ptg_top.proofs.tracing.trace_of.Goals as goal
 -- the tasks are those of the plan of the table
 pub trace_text-requires : goal.trace_text-requires
 trace_text-requires g c =
-    let plan = c.plan.ensures.same ∙ (c.matched.ensures ∙ (ap (λ (r : ReceiptView). r.plan) c.in_ok-_outcome.ensures.receipt ∙ ap (λ (j : Job). j.matched) c.in_ok-tasks.ensures.job)) in
+    let plan = c.plan.ensures.same ∙ (c.matched.ensures ∙ (ap (λ (r : ReceiptView). r.plan) c.in_ok-_outcome.ensures.receipt ∙ ap (λ (j : TableJob). j.matched) c.in_ok-tasks.ensures.job)) in
     ran_tasks _ c.plan.result.now _ c.in_ok-tasks.tasks.items c.as_slice.result.now plan c.as_slice.ensures.value c.in_ok-tasks.ensures.order
 
 pub returns-clause-trace : goal.returns-clause-trace

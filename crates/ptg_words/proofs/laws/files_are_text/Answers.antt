@@ -1,4 +1,4 @@
-use Rattle.ptg_words.proofs.OrderFacts.{files_are_text}
+use Rattle.ptg_words.proofs.CommandFacts.{files_are_text}
 use Rattle.ptg_words.proofs.laws.files_are_text.Goals as goal
 
 pub returns : goal.returns

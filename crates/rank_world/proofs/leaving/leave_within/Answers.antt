@@ -1,6 +1,6 @@
 use Rattle.std.proofs.Common.{length, arith}
 use Rattle.dep_iter.specs.Items.{out_edges, write_backs}
-use Rattle.rank_world.specs.Visits.{plan_of, within_among}
+use Rattle.rank_world.specs.RunningTasks.{plan_of, within_among}
 use Rattle.rank_world.proofs.LeftWithin.{less_room}
 use Rattle.rank_world.proofs.leaving.leave_within.Goals as goal
 

@@ -4,18 +4,18 @@ use Rattle.plan_core.specs.declared.plan.Plan.{Plan}
 use Rattle.dep_iter.specs.Items.{write_backs}
 use Rattle.flow_meaning.specs.Backward.{ended}
 use Rattle.flow_meaning.specs.Ending.{has_outputs}
-use Rattle.rank_world.specs.Sending.{HasRoomFor}
-use Rattle.rank_world.specs.Visits.{data_of, plan_of}
+use Rattle.rank_world.specs.RankRoom.{HasRoomFor}
+use Rattle.rank_world.specs.RunningTasks.{data_of, plan_of}
 use Rattle.rank_world.proofs.LeftWithin.{WritesLeft, less_room, write_from, write_may, write_then, writes_first, writes_last}
 use Rattle.rank_world.proofs.leaving.leave_writes.Goals as goal
 
 pub loop-write-init : goal.loop-write-init
-loop-write-init c = record { can_next = tt; is_finite = tt; left = writes_first c.args.at.now c.requires.visit (ap has_outputs c.requires.tiles) c.into_iter-write-iterator.result c.args.shard.now c.requires.holds }
+loop-write-init c = record { can_next = tt; is_finite = tt; left = writes_first c.args.at.now c.requires.runs (ap has_outputs c.requires.tiles) c.into_iter-write-iterator.result c.args.shard.now c.requires.holds }
 
 pub leave_write-requires : goal.leave_write-requires
 leave_write-requires c =
     let v = c.args.at.now in
-    let h = c.requires.visit in
+    let h = c.requires.runs in
     let o = ap has_outputs c.requires.tiles in
     let all = c.into_iter-write-iterator.result in
     let are : all ≡ write_backs (plan_of v) v.task.now = c.into_iter-write-iterator.ensures.into_iter_gives ∙ c.write_backs_under-write-items.ensures ∙ ap (λ (p : Plan). write_backs p v.task.now) c.plan.ensures.same in
@@ -29,7 +29,7 @@ leave_write-requires c =
 pub loop-write-preserved : goal.loop-write-preserved
 loop-write-preserved c =
     let v = c.args.at.now in
-    let h = c.requires.visit in
+    let h = c.requires.runs in
     let o = ap has_outputs c.requires.tiles in
     let all = c.into_iter-write-iterator.result in
     let are : all ≡ write_backs (plan_of v) v.task.now = c.into_iter-write-iterator.ensures.into_iter_gives ∙ c.write_backs_under-write-items.ensures ∙ ap (λ (p : Plan). write_backs p v.task.now) c.plan.ensures.same in
@@ -39,7 +39,7 @@ loop-write-preserved c =
 pub returns : goal.returns
 returns c =
     let v = c.args.at.now in
-    let h = c.requires.visit in
+    let h = c.requires.runs in
     let o = ap has_outputs c.requires.tiles in
     let all = c.into_iter-write-iterator.result in
     let are : all ≡ write_backs (plan_of v) v.task.now = c.into_iter-write-iterator.ensures.into_iter_gives ∙ c.write_backs_under-write-items.ensures ∙ ap (λ (p : Plan). write_backs p v.task.now) c.plan.ensures.same in

@@ -3,7 +3,7 @@ use Rattle.indexmap.specs.IndexMap.{spare}
 use Rattle.dep_iter.specs.Items.{out_edges}
 use Rattle.std.proofs.lemmas.List.{nil_from_length}
 use Rattle.rank_core.specs.declared.message.Message.{Message}
-use Rattle.rank_world.specs.Visits.{AreBlank, between_among, plan_of}
+use Rattle.rank_world.specs.RunningTasks.{AreBlank, between_among, plan_of}
 use Rattle.rank_world.proofs.Outgoings.{PostedSoFar, post_few, post_room, post_shape, post_then, posted_first, posted_last}
 use Rattle.rank_world.proofs.posting.post_all.Goals as goal
 
@@ -13,7 +13,7 @@ loop-message-init c =
     record {
       can_next = tt;
       is_finite = tt;
-      so_far = posted_first v c.requires.visit c.args.bench.now.tiles c.requires.tiles c.into_iter-message-iterator.result.rest.items c.args.mail.now
+      so_far = posted_first v c.requires.runs c.args.bench.now.tiles c.requires.tiles c.into_iter-message-iterator.result.rest.items c.args.mail.now
           (subst (λ ms. AreBlank (plan_of v) (between_among v (out_edges (plan_of v) v.task.now)) ms) (sym c.into_iter-message-iterator.ensures.into_iter_gives.0) c.requires.blank)
           c.requires.mail (subst (λ ms. length ms ≤ spare c.args.mail.now.under_way) (sym c.into_iter-message-iterator.ensures.into_iter_gives.0) c.requires.room);
     }
@@ -21,7 +21,7 @@ loop-message-init c =
 pub post-requires : goal.post-requires
 post-requires c =
     let v = c.args.at.now in
-    let h = c.requires.visit in
+    let h = c.requires.runs in
     let l = subst (λ (ms : List Message). PostedSoFar v c.args.bench.now.tiles ms c.loop-message.mail) c.in-Some.ensures.steps.0 c.loop-message.invariant.so_far in
     record {
       room = post_room v h c.args.bench.now.tiles c.requires.tiles c.in-Some.message c.next.new.self.rest.items c.loop-message.mail l;
@@ -32,7 +32,7 @@ post-requires c =
 pub loop-message-preserved : goal.loop-message-preserved
 loop-message-preserved c =
     let v = c.args.at.now in
-    let h = c.requires.visit in
+    let h = c.requires.runs in
     let l = subst (λ (ms : List Message). PostedSoFar v c.args.bench.now.tiles ms c.loop-message.mail) c.in-Some.ensures.steps.0 c.loop-message.invariant.so_far in
     record { can_next = tt; is_finite = tt; so_far = post_then v h c.args.bench.now.tiles c.requires.tiles c.in-Some.message c.next.new.self.rest.items c.loop-message.mail l c.post.new.mail c.post.ensures.table c.post.ensures.sent c.post.ensures.room }
 
@@ -40,4 +40,4 @@ pub returns : goal.returns
 returns c =
     let v = c.args.at.now in
     let l = subst (λ (ms : List Message). PostedSoFar v c.args.bench.now.tiles ms c.loop-message.mail) (nil_from_length c.loop-message.message-iterator.rest.items (sym c.loop-message.message-iterator.rest.ok.0 ∙ c.in-None.ensures.steps.0)) c.loop-message.invariant.so_far in
-    posted_last v c.requires.visit c.args.bench.now.tiles c.requires.tiles c.loop-message.mail l
+    posted_last v c.requires.runs c.args.bench.now.tiles c.requires.tiles c.loop-message.mail l

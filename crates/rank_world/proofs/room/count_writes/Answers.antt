@@ -1,7 +1,7 @@
 use Rattle.std.proofs.Common.{◌≡◌, length, ap, ◌∙◌, arith}
 use Rattle.plan_core.specs.declared.plan.Plan.{Plan}
 use Rattle.dep_iter.specs.Items.{write_backs}
-use Rattle.rank_world.specs.Visits.{plan_of}
+use Rattle.rank_world.specs.RunningTasks.{plan_of}
 use Rattle.rank_world.proofs.room.count_writes.Goals as goal
 
 pub loop-write-init : goal.loop-write-init

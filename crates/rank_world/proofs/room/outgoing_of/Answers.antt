@@ -2,7 +2,7 @@ use Rattle.std.proofs.Common.{◌≡◌, List, ap, ◌∙◌, subst}
 use Rattle.ptg_base.specs.declared.edge.Edge.{Edge}
 use Rattle.plan_core.specs.declared.plan.Plan.{Plan}
 use Rattle.dep_iter.specs.Items.{out_edges}
-use Rattle.rank_world.specs.Visits.{plan_of}
+use Rattle.rank_world.specs.RunningTasks.{plan_of}
 use Rattle.rank_world.proofs.Outgoings.{OutgoingSoFar, outgoing_blank, outgoing_from, outgoing_next, outgoing_to, outgoing_within}
 use Rattle.rank_world.proofs.room.outgoing_of.Goals as goal
 
@@ -13,7 +13,7 @@ add_edge-requires c =
     let all = c.into_iter-edge-iterator.result in
     let are : all ≡ out_edges (plan_of v) v.task.now = c.into_iter-edge-iterator.ensures.into_iter_gives ∙ c.out_edges_under-edge-items.ensures ∙ ap (λ (p : Plan). out_edges p v.task.now) c.plan.ensures.same in
     let l = subst (λ (es : List Edge). OutgoingSoFar v all es c.loop-edge.outgoing) c.in-Some.ensures.steps c.loop-edge.invariant.so_far in
-    record { visit = h; from = outgoing_from v h all are c.in-Some.edge c.next.new.self c.loop-edge.outgoing l; to = outgoing_to v h all are c.in-Some.edge c.next.new.self c.loop-edge.outgoing l }
+    record { runs = h; from = outgoing_from v h all are c.in-Some.edge c.next.new.self c.loop-edge.outgoing l; to = outgoing_to v h all are c.in-Some.edge c.next.new.self c.loop-edge.outgoing l }
 
 pub loop-edge-preserved : goal.loop-edge-preserved
 loop-edge-preserved c =

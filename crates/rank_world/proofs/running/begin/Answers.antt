@@ -6,14 +6,14 @@ use Rattle.rank_core.proofs.Running.{fed}
 use Rattle.rank_core.specs.World.{rank_of}
 use Rattle.task_run.specs.Start.{MayRun}
 use Rattle.rank_world.specs.Keeping.{at_rest}
-use Rattle.rank_world.specs.Visits.{before, data_of, plan_of}
+use Rattle.rank_world.specs.RunningTasks.{before, data_of, plan_of}
 use Rattle.rank_world.proofs.Parts.{claim_holds}
 use Rattle.rank_world.proofs.running.begin.Goals as goal
 
 pub run-requires-clause-inputs : goal.run-requires-clause-inputs
 run-requires-clause-inputs c =
     let v = c.args.at.now in
-    let h = c.requires.visit in
+    let h = c.requires.runs in
     let takes = subst (λ o. IfSome o (λ tiles. Takes c.args.shard.now c.take_ready.new.self v.task.now tiles)) c.unwrap-arrivals.ensures c.take_ready.ensures.some in
     subst (λ p. MayRun p c.args.at.now.given.now c.args.at.now.task.now c.unwrap-arrivals.result) (sym c.plan.ensures.same) (record {
       runs = it_ends (plan_of v) (data_of v) h.consistent (before v).machine h.sound.state v.task.now (fed (plan_of v) (data_of v) h.consistent v.ranks (before v) h.sound v.task.now h.may);
@@ -24,4 +24,4 @@ pub returns-clause-holds : goal.returns-clause-holds
 returns-clause-holds c =
     let v = c.args.at.now in
     let takes = subst (λ o. IfSome o (λ tiles. Takes c.args.shard.now c.take_ready.new.self v.task.now tiles)) c.unwrap-arrivals.ensures c.take_ready.ensures.some in
-    claim_holds v c.requires.visit c.args.shard.now c.take_ready.new.self c.unwrap-arrivals.result c.requires.holds takes
+    claim_holds v c.requires.runs c.args.shard.now c.take_ready.new.self c.unwrap-arrivals.result c.requires.holds takes

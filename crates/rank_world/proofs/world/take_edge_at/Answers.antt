@@ -1,6 +1,6 @@
 use Rattle.std.proofs.Common.{Some, ap, sym, ◌∙◌, subst}
 use Rattle.std.proofs.lemmas.Option.{slice_get-get_or}
-use Rattle.rank_world.specs.Sending.{MayTakeEdge, TakesEdge}
+use Rattle.shard_calls.specs.Taken.{MayTakeEdge, TakesEdge}
 use Rattle.rank_world.proofs.Setting.{stays_at, takes_at}
 use Rattle.rank_world.proofs.world.take_edge_at.Goals as goal
 use Rattle.std.proofs.lemmas.Result.{on_err_weaker, on_ok_weaker}

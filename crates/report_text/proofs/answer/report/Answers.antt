@@ -1,14 +1,11 @@
-use Rattle.std.proofs.Common.{[], sym, append-nil}
 use Rattle.report_text.specs.Printed.{outcome_text}
-use Rattle.report_text.proofs.Putting.{puts_then, puts_cut, prefix_on_err}
+use Rattle.report_text.proofs.Putting.{prints_all, prints_cut}
 use Rattle.report_text.proofs.answer.report.Goals as goal
 
-pub returns-in_err-put_outcome-clause-prefix : goal.returns-in_err-put_outcome-clause-prefix
-returns-in_err-put_outcome-clause-prefix g c =
-    let text = outcome_text c.args.plan.now c.args.outcome.now in
-    prefix_on_err c.new-out.ensures (puts_cut {k2 = []} [] text c.in_err-put_outcome.ensures c.from_residual.ensures.0 (sym (append-nil text)))
+pub returns-in_err-put_outcome : goal.returns-in_err-put_outcome
+returns-in_err-put_outcome g c =
+    prints_cut (outcome_text c.args.plan.now c.args.outcome.now) c.new-out.ensures c.in_err-put_outcome.ensures c.from_residual.ensures.0
 
-pub returns-clause-prefix : goal.returns-clause-prefix
-returns-clause-prefix g c =
-    let text = outcome_text c.args.plan.now c.args.outcome.now in
-    prefix_on_err c.new-out.ensures (puts_then text c.in_ok-put_outcome.ensures c.flush.ensures.puts (sym (append-nil text)))
+pub returns : goal.returns
+returns g c =
+    prints_all (outcome_text c.args.plan.now c.args.outcome.now) c.new-out.ensures c.in_ok-put_outcome.ensures c.flush.ensures.puts c.flush.ensures.empty

@@ -1,8 +1,9 @@
 use Rattle.std.proofs.Common.{Some, ap, sym, subst}
 use Rattle.std.specs.Option.{option_copied, unwrap_or}
+use Rattle.ptg_base.specs.Entry.{Entry}
 use Rattle.dep_iter.specs.Edges.{goal as goal_of}
 use Rattle.dep_iter.specs.Hints.{priority}
-use Rattle.dep_shard.specs.Content.{Entry, Updates, fresh, with_arrival}
+use Rattle.dep_shard.specs.Content.{Updates, fresh, with_arrival}
 use Rattle.std.proofs.lemmas.Result.{on_ok_weaker}
 use Rattle.shard_calls.proofs.arriving.arrive.Goals as goal
 

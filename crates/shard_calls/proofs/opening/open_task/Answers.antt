@@ -20,9 +20,9 @@ returns-clause-opened c =
     let of = shard_of P (length old) in
     let count : c.len.result ≡ length old = c.len.ensures ∙ c.args.shards.now.ok.0 in
     let here : c.shard_under-k.result ≡ of t = c.shard_under-k.ensures.number ∙ ap (λ n. shard_of P n t) count in
-    let urgency : c.priority_under-urgency.result ≡ hints.priority P t = c.priority_under-urgency.ensures ∙ ap (λ (Q : Plan). hints.priority Q t) c.plan-2.ensures.same in
+    let priority : c.priority_under-priority.result ≡ hints.priority P t = c.priority_under-priority.ensures ∙ ap (λ (Q : Plan). hints.priority Q t) c.plan-2.ensures.same in
     let near : of t < length old = subst (λ k. k < length old) here (subst (λ n. c.shard_under-k.result < n) count c.shard_under-k.ensures.within) in
-    let fits : FitsSigned w64 c.priority_under-urgency.result = search rules in
+    let fits : FitsSigned w64 c.priority_under-priority.result = search rules in
     let entered = simp to_z-of_z at c.in_ok-enter.ensures in
-    let e = subst (λ p. Enters (of t) t p old new) urgency (subst (λ k. Enters k t c.priority_under-urgency.result old new) here entered) in
+    let e = subst (λ p. Enters (of t) t p old new) priority (subst (λ k. Enters k t c.priority_under-priority.result old new) here entered) in
     opens_root P of t old new (sym c.goal_under.ensures ∙ c.if-goal_under-ne0.false) near e

@@ -5,8 +5,8 @@ use Rattle.task_order.proofs.order.order_of.Given as goal
 
 abbrev pub invariant-loop-at : goal.invariant-loop-at
 invariant-loop-at l = record {
-  within : l.at ≤ length l.growing.order.items;
-  grown : HasGrown l.m (edges_of l.m (take l.at l.growing.order.items)) l.growing.order.items l.growing.lacking.entries;
+  within : l.at ≤ length l.builder.order.items;
+  grown : HasGrown l.m (edges_of l.m (take l.at l.builder.order.items)) l.builder.order.items l.builder.lacking.entries;
 }
 
 -- each turn, the edges out of one more task have come

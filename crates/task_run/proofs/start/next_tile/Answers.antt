@@ -1,5 +1,6 @@
 use Rattle.std.proofs.Common.{length, ap, sym, ◌∙◌, arith, List}
-use Rattle.dep_shard.specs.Arrivals.{FlowTile, tile_of}
+use Rattle.ptg_base.specs.Entry.{FlowTile}
+use Rattle.dep_shard.specs.Arrivals.{tile_of}
 use Rattle.task_run.specs.Start.{delivered}
 use Rattle.task_run.proofs.Arriving.{arrived_tile, missing_tile, others_stay}
 use Rattle.task_run.proofs.start.next_tile.Goals as goal

@@ -1,4 +1,4 @@
-use Rattle.std.proofs.Common.{◌≡◌, sym, ◌∙◌, ap, nat_eq}
+use Rattle.std.proofs.Common.{◌∙◌}
 use Rattle.std.proofs.lemmas.Bool.{false≢true}
 use Rattle.trace_core.proofs.Named.{later_class}
 use Rattle.list_lemmas.proofs.Texts.{equal_bytes}

@@ -1,10 +1,7 @@
-use Rattle.std.proofs.Common.{◌≡◌, ◌++◌, List, length, map}
+use Rattle.std.proofs.Common.{◌≡◌, List, length}
 use Rattle.std.specs.List.{AllByRecursion}
-use Rattle.ptg_base.specs.Lists.{HasNoRepeats}
-use Rattle.dep_iter.specs.Tasks.{IsTask}
 use Rattle.trace_core.specs.Spelling.{IsSpelled}
-use Rattle.trace_core.specs.Text.{Entry, entry_of, rows_text}
-use Rattle.trace_core.specs.Naming.{AreRowsOf}
+use Rattle.trace_core.specs.Text.{Entry, rows_text}
 use Rattle.trace_core.proofs.ReadRows.{IsReadTo}
 use Rattle.trace_core.proofs.reading.add_tasks.Given as goal
 

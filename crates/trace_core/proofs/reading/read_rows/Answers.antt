@@ -7,4 +7,4 @@ use Rattle.trace_core.proofs.reading.read_rows.Goals as goal
 pub returns-in-Err-clause-fault : goal.returns-in-Err-clause-fault
 returns-in-Err-clause-fault c = λ f e.
     let bad : IsSpellingFault c.args.bytes.now (record { row = c.in-Err.row; code = BadTrace }) = of_a_row (omega arith) c.in-Err.ensures.err refl in
-    subst (IsSpellingFault c.args.bytes.now) (fault_is c.refused-in-Err.result f (record { row = c.in-Err.row; code = BadTrace }) c.refused-in-Err.ensures e) bad
+    subst (IsSpellingFault c.args.bytes.now) (fault_is c.refused.result f (record { row = c.in-Err.row; code = BadTrace }) c.refused.ensures e) bad

@@ -1,5 +1,4 @@
-use lib.Signed.{◌≤ℤ◌, ◌<ℤ◌}
-use Rattle.std.proofs.Common.{◌≡◌, ◌≤◌, ℕ, ℤ, pos, arith}
+use Rattle.std.proofs.Common.{arith}
 use Rattle.std.proofs.lemmas.Int.{ints}
 use Rattle.trace_core.proofs.Heads.{no_count, other_count}
 use Rattle.trace_core.proofs.rows.row_count.Goals as goal

@@ -1,6 +1,6 @@
-use Rattle.std.proofs.Common.{◌≡◌, ◌==◌, ◌+◌, List, [], ◌∷◌, ◌++◌, length, ap, sym, ◌∙◌, arith}
+use Rattle.std.proofs.Common.{◌==◌, ◌+◌, [], ◌∷◌, ◌++◌, length, ap, sym, ◌∙◌, arith}
 use Rattle.std.proofs.lemmas.Bool.{false≢true}
-use Rattle.trace_core.specs.Spelling.{bad_head, bad_row, row_too_many}
+use Rattle.trace_core.specs.Spelling.{bad_row, row_too_many}
 use Rattle.trace_core.proofs.Heads.{begin_more, ended_rows}
 use Rattle.trace_core.proofs.spelling.spelled_rows.Goals as goal
 use Rattle.std.proofs.lemmas.List.{length_push}

@@ -1,4 +1,4 @@
-use Rattle.std.proofs.Common.{◌≡◌, ◌++◌, ap, sym, ◌∙◌, slice_get, Some}
+use Rattle.std.proofs.Common.{◌++◌, ap, sym, ◌∙◌, slice_get}
 use Rattle.trace_core.specs.Rows.{number_fields}
 use Rattle.trace_core.proofs.Texts.{row_put}
 use Rattle.trace_core.proofs.text.put_row.Goals as goal

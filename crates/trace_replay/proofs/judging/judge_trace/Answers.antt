@@ -1,7 +1,5 @@
-use Rattle.std.proofs.Common.{List, Err, ap, sym, subst, ◌∙◌}
-use Rattle.ptg_base.specs.Task.{Task}
-use Rattle.trace_core.specs.Reading.{IsReadAs, IsReading}
-use Rattle.trace_replay.specs.Replaying.{IsVerdictOn}
+use Rattle.std.proofs.Common.{Err, ap, sym, subst, ◌∙◌}
+use Rattle.trace_core.specs.Reading.{IsReading}
 use Rattle.trace_replay.proofs.Judged.{only_fault, read_tasks, unread_fault, unread_only, unread_whole, verdict_answer, verdict_fault, verdict_whole}
 use Rattle.trace_replay.proofs.judging.judge_trace.Goals as goal
 
@@ -26,17 +24,17 @@ judge_tasks-requires c =
 pub returns-clause-fault : goal.returns-clause-fault
 returns-clause-fault c =
     let r = subst (λ ts. IsReading c.args.m.now c.args.bytes.now ts c.in-Ok.reading.fault) (sym c.as_slice.ensures) c.in-Ok.ensures.read in
-    verdict_fault c.args.m.now c.args.given c.is_consistent.ensures c.args.bytes.now c.as_slice.result.now c.in-Ok.reading.fault r c.in_ok-verdict.verdict (c.in_ok-verdict.ensures r.entries r.read)
+    verdict_fault c.args.m.now c.args.given c.plan_is_consistent.ensures c.args.bytes.now c.as_slice.result.now c.in-Ok.reading.fault r c.in_ok-verdict.verdict (c.in_ok-verdict.ensures r.entries r.read)
 
 pub returns-clause-refused : goal.returns-clause-refused
 returns-clause-refused c =
     let r = subst (λ ts. IsReading c.args.m.now c.args.bytes.now ts c.in-Ok.reading.fault) (sym c.as_slice.ensures) c.in-Ok.ensures.read in
-    only_fault c.args.m.now c.args.given c.is_consistent.ensures c.args.bytes.now c.as_slice.result.now c.in-Ok.reading.fault r c.in_ok-verdict.verdict (c.in_ok-verdict.ensures r.entries r.read)
+    only_fault c.args.m.now c.args.given c.plan_is_consistent.ensures c.args.bytes.now c.as_slice.result.now c.in-Ok.reading.fault r c.in_ok-verdict.verdict (c.in_ok-verdict.ensures r.entries r.read)
 
 pub returns-clause-whole : goal.returns-clause-whole
 returns-clause-whole c =
     let r = subst (λ ts. IsReading c.args.m.now c.args.bytes.now ts c.in-Ok.reading.fault) (sym c.as_slice.ensures) c.in-Ok.ensures.read in
-    verdict_whole c.args.m.now c.args.given c.is_consistent.ensures c.args.bytes.now c.as_slice.result.now c.in-Ok.reading.fault r c.in_ok-verdict.verdict (c.in_ok-verdict.ensures r.entries r.read)
+    verdict_whole c.args.m.now c.args.given c.plan_is_consistent.ensures c.args.bytes.now c.as_slice.result.now c.in-Ok.reading.fault r c.in_ok-verdict.verdict (c.in_ok-verdict.ensures r.entries r.read)
 
 pub returns-clause-answer : goal.returns-clause-answer
 returns-clause-answer c =

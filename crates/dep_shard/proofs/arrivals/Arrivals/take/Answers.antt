@@ -1,5 +1,6 @@
 use Rattle.std.proofs.Common.{rules, arith, ◌∙◌, ap, sym, List}
-use Rattle.dep_shard.specs.Arrivals.{FlowTile, tile_of, without_tile}
+use Rattle.ptg_base.specs.Entry.{FlowTile}
+use Rattle.dep_shard.specs.Arrivals.{tile_of, without_tile}
 use Rattle.dep_shard.proofs.ByFlow.{tile_of-tiles_by_flow, tiles_by_flow-clear}
 use Rattle.dep_shard.proofs.arrivals.Arrivals.take.Goals as goal
 

@@ -1,5 +1,6 @@
 use Rattle.std.proofs.Common.{rules, arith, ◌∙◌, ap, sym, subst, List}
-use Rattle.dep_shard.specs.Arrivals.{FlowTile, tile_of, IsInFlowOrder}
+use Rattle.ptg_base.specs.Entry.{FlowTile}
+use Rattle.dep_shard.specs.Arrivals.{tile_of, IsInFlowOrder}
 use Rattle.dep_shard.proofs.ByFlow.{tile_of-tiles_by_flow, in_order}
 use Rattle.dep_shard.proofs.arrivals.Arrivals.tile.Goals as goal
 

@@ -1,6 +1,7 @@
 use Rattle.std.proofs.Common.{◌≡◌, Some, ap, sym, subst}
 use Rattle.std.specs.Option.{option_copied, unwrap_or}
-use Rattle.dep_shard.specs.Content.{Entry, Updates, entry_before, fresh, with_arrival}
+use Rattle.ptg_base.specs.Entry.{Entry}
+use Rattle.dep_shard.specs.Content.{Updates, entry_before, fresh, with_arrival}
 use Rattle.std.proofs.lemmas.Result.{on_ok_weaker}
 use Rattle.dep_shard.proofs.shard.Shard.arrive.Goals as goal
 

@@ -1,7 +1,8 @@
 use Rattle.std.proofs.Common.{rules, arith, refl, ◌≡◌, ◌<◌, subst, ap, ◌∙◌, Some, slice_get, slice_index}
 use Rattle.std.specs.BinaryHeap.{heap_items}
+use Rattle.ptg_base.specs.Entry.{Entry}
 use Rattle.indexmap.specs.IndexMap.{set_value_at}
-use Rattle.dep_shard.specs.Content.{Content, Entry, IsReady, IsWaiting}
+use Rattle.dep_shard.specs.Content.{Content, IsReady, IsWaiting}
 use Rattle.dep_shard.proofs.QueueLemmas.{arrives_at, lands, fires, one_row, some_wait, updates_at}
 use Rattle.dep_shard.proofs.shard.Shard.land.Goals as goal
 use Rattle.list_lemmas.proofs.Options.{on_success}

@@ -1,7 +1,8 @@
 use Rattle.std.proofs.Common.{rules, ◌≡◌, sym, subst, ap, Some, None, ◌∙◌, slice_get}
+use Rattle.ptg_base.specs.Entry.{Entry}
 use Rattle.ptg_base.specs.Task.{Task}
 use Rattle.std.specs.BinaryHeap.{heap_items}
-use Rattle.dep_shard.specs.Content.{Content, Entry, Entries, IsReady, Updates}
+use Rattle.dep_shard.specs.Content.{Content, Entries, IsReady, Updates}
 use Rattle.dep_shard.proofs.QueueLemmas.{leaves, one_row}
 use Rattle.dep_shard.proofs.shard.Shard.take_at.Goals as goal
 

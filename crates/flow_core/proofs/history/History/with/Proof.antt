@@ -31,7 +31,7 @@ use Rattle.flow_core.specs.contracts.history.History.with as f
 use Rattle.flow_core.proofs.history.History.with.Statement as stated
 use Rattle.flow_core.proofs.history.History.with.Code as code
 use Rattle.flow_core.specs.contracts.history.History as trail
-use Rattle.flow_core.specs.contracts.history.Shipment as name
+use Rattle.flow_core.specs.contracts.history.SentItem as name
 
 abbrev stayed : Stays (f.ended).signature.params (f.ended).kept
 stayed = (stay_none_ref (0 ∷ []) tt (plain (λ _. trail.the_row)) yes, (stay_none_ref (1 ∷ []) tt (plain (λ _. name.the_row)) yes, tt))

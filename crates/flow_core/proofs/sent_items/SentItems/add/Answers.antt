@@ -1,5 +1,5 @@
 use Rattle.std.proofs.Common.{◌≡◌, ◌∷◌, [], ◌++◌, cond, ap, sym, ◌∙◌}
-use Rattle.flow_meaning.specs.Machine.{Sent}
+use Rattle.flow_meaning.specs.Machine.{SentItem}
 use Rattle.flow_core.specs.Kept.{SentAndKept, sent_as}
 use Rattle.flow_core.proofs.sent_items.SentItems.add.Goals as goal
 
@@ -17,7 +17,7 @@ enter-requires-2 c =
 
 pub returns-then-is_write-clause-ok : goal.returns-then-is_write-clause-ok
 returns-then-is_write-clause-ok c =
-    let x : Sent = record { item = c.args.item; tile = c.args.tile } in
+    let x : SentItem = record { item = c.args.item; tile = c.args.tile } in
     let s = c.args.self.now in
     let sends : c.with-history.result.sends ≡ s.sends ++ x ∷ [] = c.with-history.ensures ∙ ap (λ (y : SentAndKept). y.sends ++ x ∷ []) c.self.view_is in
     let edges = ap (λ (y : SentAndKept). y.edges) c.self.view_is in
@@ -26,7 +26,7 @@ returns-then-is_write-clause-ok c =
 
 pub returns-clause-ok : goal.returns-clause-ok
 returns-clause-ok c =
-    let x : Sent = record { item = c.args.item; tile = c.args.tile } in
+    let x : SentItem = record { item = c.args.item; tile = c.args.tile } in
     let s = c.args.self.now in
     let sends : c.with-history.result.sends ≡ s.sends ++ x ∷ [] = c.with-history.ensures ∙ ap (λ (y : SentAndKept). y.sends ++ x ∷ []) c.self.view_is in
     let edges = c.in_ok-enter-2.ensures.ok ∙ ap (λ (y : SentAndKept). y.edges ++ x ∷ []) c.self.view_is in

@@ -16,7 +16,7 @@ returns c =
     let P = c.args.m.now in
     let G = c.args.given in
     let r = c.args.self in
-    let meant = sym (c.a_quiescent_state_has_the_meaning.ensures.answer P G (machine r) c.is_consistent.ensures c.requires.fits.sound c.requires.quiet) in
+    let meant = sym (c.a_quiescent_state_has_the_meaning.ensures.answer P G (machine r) c.plan_is_consistent.ensures c.requires.fits.sound c.requires.quiet) in
     c.complete_unless.ensures (meaning.answer P G)
     (IfOk-weaker c.incomplete-found.result
     (λ (found : Option Outcome). (G : Data) → Fits P G r → unwrap_or found (Complete (length (all_tasks P)) (state_data G (machine r))) ≡ state_answer P G (machine r))

@@ -1,6 +1,6 @@
 use Rattle.std.proofs.Common.{◌≡◌, ◌+◌, None, ap, subst, sym, ◌∙◌}
 use Rattle.list_lemmas.specs.Counting.{as_number}
-use Rattle.flow_meaning.specs.Machine.{Sent}
+use Rattle.flow_meaning.specs.Machine.{SentItem}
 use Rattle.flow_core.specs.Arrivals.{edges_to, is_edge_to, number_at}
 use Rattle.flow_core.specs.Kept.{AreKept, SentAndKept, kept_with, sent_as}
 use Rattle.flow_core.specs.RunState.{RunState, mark_of}
@@ -21,7 +21,7 @@ add-requires c =
 pub invariant_of-self-2 : goal.invariant_of-self-2
 invariant_of-self-2 c =
     let sent = c.self.inside.sent in
-    let x : Sent = record { item = c.copy_of_item.result; tile = c.in_ok-tile.tile } in
+    let x : SentItem = record { item = c.copy_of_item.result; tile = c.in_ok-tile.tile } in
     record {
       counts = λ t none.
           counts_push c.self.inside.arrived.entries c.count_item.new.table.entries c.self.inside.claims.entries sent.sends x c.self.invariant.counts

@@ -25,7 +25,7 @@ take_edge_at-requires c =
     let number : c.shard_at-k.result ≡ rank_of i.matched.now (length i.ranks.items) m.edge.to = c.shard_at-k.ensures.number ∙ ap (λ r. rank_of i.matched.now r m.edge.to) count in
     record {
       within = omega (arith, c.shard_at-k.ensures.within, count);
-      may = λ y at. takes i.matched.now i.given i.history.state i.ranks.items i.bench i.mail c.self.invariant c.args.n m is.0 is.1 c.is_well_made.ensures y (ap (slice_get i.ranks.items) (sym number) ∙ at);
+      may = λ y at. takes i.matched.now i.given i.history.state i.ranks.items i.bench i.mail c.self.invariant c.args.n m is.0 is.1 c.data_are_well_made.ensures y (ap (slice_get i.ranks.items) (sym number) ∙ at);
     }
 
 pub invariant_of-self : goal.invariant_of-self

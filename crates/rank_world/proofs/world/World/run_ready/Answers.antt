@@ -4,10 +4,10 @@ use Rattle.flow_meaning.specs.Machine.{MayClaim}
 use Rattle.shard_meaning.specs.Share.{IsShardOf}
 use Rattle.rank_core.specs.Sound.{IsSoundWorld}
 use Rattle.rank_core.specs.World.{after_run, rank_of}
-use Rattle.rank_world.specs.declared.visit.Visit.{Visit}
+use Rattle.rank_world.specs.declared.running_task.RunningTask.{RunningTask}
 use Rattle.rank_world.specs.Keeping.{at_rest}
 use Rattle.rank_world.specs.Views.{WorldView}
-use Rattle.rank_world.specs.Visits.{IsVisit}
+use Rattle.rank_world.specs.RunningTasks.{IsRunningTask}
 use Rattle.shard_meaning.proofs.Placing.{shard_below}
 use Rattle.rank_world.proofs.Ran.{ran, refused}
 use Rattle.rank_world.proofs.world.World.run_ready.Goals as goal
@@ -34,11 +34,11 @@ invariant_of-self c =
     let k = c.self.invariant in
     let count : c.len.result ≡ length i.ranks.items = c.len.ensures ∙ i.ranks.ok.0 in
     let is : c.args.rank ≡ rank_of i.matched.now (length i.ranks.items) c.args.t.now = subst (λ (w : WorldView). c.args.rank ≡ rank_of w.plan w.ranks c.args.t.now) (sym c.self.view_is) c.requires.rank in
-    let v : Visit = record { matched = i.matched; given = record { ref_ptr = c.args.t.ref_ptr; now = i.given }; history = record { ref_ptr = c.args.t.ref_ptr; now = i.history }; ranks = c.len.result; task = c.args.t; locals = c.args.locals; rank = c.args.rank } in
-    let h : IsVisit (record { matched = i.matched; given = record { ref_ptr = c.args.t.ref_ptr; now = i.given }; history = record { ref_ptr = c.args.t.ref_ptr; now = i.history }; ranks = c.len.result; task = c.args.t; locals = c.args.locals; rank = c.args.rank }) = record {
+    let v : RunningTask = record { matched = i.matched; given = record { ref_ptr = c.args.t.ref_ptr; now = i.given }; history = record { ref_ptr = c.args.t.ref_ptr; now = i.history }; ranks = c.len.result; task = c.args.t; locals = c.args.locals; rank = c.args.rank } in
+    let h : IsRunningTask (record { matched = i.matched; given = record { ref_ptr = c.args.t.ref_ptr; now = i.given }; history = record { ref_ptr = c.args.t.ref_ptr; now = i.history }; ranks = c.len.result; task = c.args.t; locals = c.args.locals; rank = c.args.rank }) = record {
       consistent = k.consistent;
       fit = k.fit;
-      well = c.is_well_made.ensures;
+      well = c.data_are_well_made.ensures;
       some_ranks = omega (arith, count, k.some_ranks);
       ranks_at_most = omega (arith, count, k.ranks_at_most);
       sound = subst (λ r. IsSoundWorld i.matched.now i.given r i.history.state) (sym count) k.sound;
@@ -55,11 +55,11 @@ invariant_of-self-2 c =
     let k = c.self.invariant in
     let count : c.len.result ≡ length i.ranks.items = c.len.ensures ∙ i.ranks.ok.0 in
     let is : c.args.rank ≡ rank_of i.matched.now (length i.ranks.items) c.args.t.now = subst (λ (w : WorldView). c.args.rank ≡ rank_of w.plan w.ranks c.args.t.now) (sym c.self.view_is) c.requires.rank in
-    let v : Visit = record { matched = i.matched; given = record { ref_ptr = c.args.t.ref_ptr; now = i.given }; history = record { ref_ptr = c.args.t.ref_ptr; now = i.history }; ranks = c.len.result; task = c.args.t; locals = c.args.locals; rank = c.args.rank } in
-    let h : IsVisit (record { matched = i.matched; given = record { ref_ptr = c.args.t.ref_ptr; now = i.given }; history = record { ref_ptr = c.args.t.ref_ptr; now = i.history }; ranks = c.len.result; task = c.args.t; locals = c.args.locals; rank = c.args.rank }) = record {
+    let v : RunningTask = record { matched = i.matched; given = record { ref_ptr = c.args.t.ref_ptr; now = i.given }; history = record { ref_ptr = c.args.t.ref_ptr; now = i.history }; ranks = c.len.result; task = c.args.t; locals = c.args.locals; rank = c.args.rank } in
+    let h : IsRunningTask (record { matched = i.matched; given = record { ref_ptr = c.args.t.ref_ptr; now = i.given }; history = record { ref_ptr = c.args.t.ref_ptr; now = i.history }; ranks = c.len.result; task = c.args.t; locals = c.args.locals; rank = c.args.rank }) = record {
       consistent = k.consistent;
       fit = k.fit;
-      well = c.is_well_made.ensures;
+      well = c.data_are_well_made.ensures;
       some_ranks = omega (arith, count, k.some_ranks);
       ranks_at_most = omega (arith, count, k.ranks_at_most);
       sound = subst (λ r. IsSoundWorld i.matched.now i.given r i.history.state) (sym count) k.sound;
@@ -78,11 +78,11 @@ returns-clause-sound c =
     let k = c.self.invariant in
     let count : c.len.result ≡ length i.ranks.items = c.len.ensures ∙ i.ranks.ok.0 in
     let is : c.args.rank ≡ rank_of i.matched.now (length i.ranks.items) c.args.t.now = subst (λ (w : WorldView). c.args.rank ≡ rank_of w.plan w.ranks c.args.t.now) (sym c.self.view_is) c.requires.rank in
-    let v : Visit = record { matched = i.matched; given = record { ref_ptr = c.args.t.ref_ptr; now = i.given }; history = record { ref_ptr = c.args.t.ref_ptr; now = i.history }; ranks = c.len.result; task = c.args.t; locals = c.args.locals; rank = c.args.rank } in
-    let h : IsVisit (record { matched = i.matched; given = record { ref_ptr = c.args.t.ref_ptr; now = i.given }; history = record { ref_ptr = c.args.t.ref_ptr; now = i.history }; ranks = c.len.result; task = c.args.t; locals = c.args.locals; rank = c.args.rank }) = record {
+    let v : RunningTask = record { matched = i.matched; given = record { ref_ptr = c.args.t.ref_ptr; now = i.given }; history = record { ref_ptr = c.args.t.ref_ptr; now = i.history }; ranks = c.len.result; task = c.args.t; locals = c.args.locals; rank = c.args.rank } in
+    let h : IsRunningTask (record { matched = i.matched; given = record { ref_ptr = c.args.t.ref_ptr; now = i.given }; history = record { ref_ptr = c.args.t.ref_ptr; now = i.history }; ranks = c.len.result; task = c.args.t; locals = c.args.locals; rank = c.args.rank }) = record {
       consistent = k.consistent;
       fit = k.fit;
-      well = c.is_well_made.ensures;
+      well = c.data_are_well_made.ensures;
       some_ranks = omega (arith, count, k.some_ranks);
       ranks_at_most = omega (arith, count, k.ranks_at_most);
       sound = subst (λ r. IsSoundWorld i.matched.now i.given r i.history.state) (sym count) k.sound;

@@ -1,0 +1,18 @@
+//! The precedence of operators.
+
+/// The precedence of infix operators, the tightest first.
+#[derive(Clone, Copy)]
+pub(crate) enum Precedence {
+    /// `*`, `/` and `%`
+    Product,
+    /// `+` and `-`
+    Sum,
+    /// `<`, `<=`, `>` and `>=`
+    Relation,
+    /// `==` and `!=`
+    Equality,
+    /// `&&` and `&`
+    Conjunction,
+    /// `||` and `|`
+    Disjunction,
+}

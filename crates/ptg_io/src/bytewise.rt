@@ -1,0 +1,41 @@
+//! Files that give one byte a read, and a sink that takes one byte a write.
+
+ghost use Rattle.std.specs.Prelude.{None};
+ghost use Rattle.ptg_io.specs.Memory.{failed_reads};
+
+use crate::files::{Failed, Files};
+use crate::memory_files::MemFiles;
+use crate::memory_sink::MemSink;
+use crate::sink::Sink;
+
+/// Files in memory that give one byte a read.
+#[derive(Drop)]
+pub struct ByteFiles {
+    pub files: MemFiles,
+}
+
+impl Files for ByteFiles {
+    ghost contents = { λ _. None };
+
+    ghost faults = { λ f. failed_reads f.files };
+
+    fn read(&mut self, name: &str, from: u64, into: &mut [u8]) -> Result<usize, Failed> {
+        self.files.read(name, from, &mut into[..1])
+    }
+}
+
+/// A sink in memory that takes one byte a write.
+#[derive(Drop)]
+pub struct ByteSink {
+    pub sink: MemSink,
+}
+
+impl Sink for ByteSink {
+    ghost bytes = { λ _. None };
+
+    ghost faults = { λ s. s.sink.failed };
+
+    fn write(&mut self, piece: &[u8]) -> Result<usize, Failed> {
+        self.sink.write(&piece[..1])
+    }
+}

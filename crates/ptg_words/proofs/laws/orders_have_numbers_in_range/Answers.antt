@@ -1,5 +1,0 @@
-use Rattle.ptg_words.proofs.OrderFacts.{numbers_in_range}
-use Rattle.ptg_words.proofs.laws.orders_have_numbers_in_range.Goals as goal
-
-pub returns : goal.returns
-returns c = numbers_in_range
