@@ -7,7 +7,7 @@ mod settings;
 
 use crate::settings::with_settings;
 use ptg_base::Seq;
-use ptg_io::{MemFiles, MemSink};
+use ptg_io::{ByteFiles, ByteSink, MemFiles, MemSink};
 use ptg_top::ptg_main;
 use row_files::{Call, Order, Printed, Why, all_as_wanted};
 use std::alloc::Global;
