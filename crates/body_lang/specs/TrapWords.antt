@@ -1,6 +1,6 @@
 -- The trap words of a body: as its text has them, and as the body has them. Source: this project's own choice.
-use Rattle.std.specs.Prelude.{ℕ, List, [], ◌∷◌, ◌++◌, Option, Some, None, position}
-use Rattle.std.specs.Str.{bytes_eq}
+use Rattle.std.specs.Prelude.{ℕ, List, [], ◌∷◌, ◌++◌, Option, Some, None}
+use Rattle.name_table.specs.Names.{index_named}
 use Rattle.jdf_tree.specs.Statements.{Statements, Done, DeclareThen, SetThen, PutThen, IfThen, ForThen, TrapThen}
 use Rattle.term_core.specs.StatementList.{StatementList}
 use Rattle.term_core.specs.StatementList as list
@@ -32,5 +32,4 @@ with_word front w (Some n) = front
 -- the words in front, then those of the second list that are new, in the order of their first use
 abbrev pub words_in_order : List (List ℕ) → List (List ℕ) → List (List ℕ)
 words_in_order front [] = front
-words_in_order front (w ∷ more) =
-    words_in_order (with_word front w (position (λ (v : List ℕ). bytes_eq v w) front)) more
+words_in_order front (w ∷ more) = words_in_order (with_word front w (index_named front w)) more

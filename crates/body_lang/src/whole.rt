@@ -1,7 +1,7 @@
 //! A body, read.
 
 ghost use Rattle.std.specs.Prelude.{◌≤◌, ◌-◌, length, IfOk};
-ghost use Rattle.ptg_base.specs.Returns.{FindsOrRefuses, ReturnsRefusal, and_then};
+ghost use Rattle.ptg_base.specs.Returns.{FindsOrRefuses, ReturnsRefusal};
 ghost use Rattle.term_core.specs.WellBody.{IsWellBody};
 ghost use Rattle.expr_read.specs.Front.{fault_at};
 ghost use Rattle.body_names.specs.Environment.{environment_of};

@@ -23,7 +23,7 @@ use Rattle.body_names.specs.Meanings.{meaning_of}
 use Rattle.expr_names.specs.Symbols.{Resolved}
 use Rattle.body_names.specs.Expressions.{slot_of, written_flow, term_of}
 use Rattle.body_names.specs.Bindings.{Bindings, require_room, require_fresh, numbered}
-use Rattle.body_names.specs.Statements.{Resolver, declare, set, put, in_block, for_loop, follow, resolved, statement_of, body_of}
+use Rattle.body_names.specs.Statements.{declare, set, put, resolved, statement_of}
 use Rattle.body_names.specs.Statements as resolving
 use Rattle.body_names.specs.TokenScan.{TokenScan, declared, fault_of}
 use Rattle.body_laws.proofs.Along.{along, along_append, after_after, after_same, with_previous}

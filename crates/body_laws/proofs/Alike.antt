@@ -4,6 +4,7 @@ use Rattle.std.specs.Prelude.{Option, Some, None, option_map, find, reverse, ◌
 use Rattle.std.specs.Str.{bytes_eq}
 use Rattle.std.specs.List.{list_any}
 use Rattle.std.proofs.lemmas.List.{reverse-append}
+use Rattle.name_table.specs.Names.{index_named}
 use Rattle.jdf_lex.specs.declared.fault.JdfCode.TheVariants.{NameTwice}
 use Rattle.jdf_tree.specs.declared.expression.Word.{Word}
 use Rattle.jdf_tree.specs.Expression.{Expression, Num, Name, Elem, Unary, Binary, Choose}
@@ -12,7 +13,7 @@ use Rattle.expr_names.specs.declared.meaning.Meaning.{Meaning}
 use Rattle.expr_names.specs.declared.meaning.Meaning.TheVariants as meaning
 use Rattle.body_names.specs.Environment.{Environment}
 use Rattle.body_names.specs.declared.variable.Variable.{Variable}
-use Rattle.body_names.specs.Meanings.{last_named, variable_or, local_named, local_or, integer_or, collection_or_nothing, meaning_of}
+use Rattle.body_names.specs.Meanings.{last_named, variable_or, meaning_of, outer_meaning}
 use Rattle.expr_names.specs.Symbols.{Resolved}
 use Rattle.body_names.specs.Expressions.{value_of, slot_of, read_flow, term_of}
 use Rattle.body_names.specs.Bindings.{Bindings, require_fresh}
@@ -105,7 +106,7 @@ slot_alike_by w m (Some v) (Some u) e = go v.is_loop_variable u.is_loop_variable
 
 module _ (scope : Environment) (xs ys : List Variable) (e : names_of xs ≡ names_of ys) where
   abbrev other : List ℕ → Meaning
-  other name = local_or (local_named scope name) (integer_or (scope.integer name) (collection_or_nothing (scope.is_collection name)))
+  other name = outer_meaning (index_named scope.locals name) (scope.integer name) (scope.is_collection name)
 
   value_alike : (w : Word) → fault_of (value_of w (meaning_of scope xs w.text)) ≡ fault_of (value_of w (meaning_of scope ys w.text))
   value_alike w = value_alike_by w (other w.text) (last_named xs w.text) (last_named ys w.text) (last_alike w.text xs ys e)

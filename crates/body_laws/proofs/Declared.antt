@@ -24,7 +24,7 @@ use Rattle.jdf_tree.specs.BodyGrammar.{block, value, declare_of, declaration, el
 use Rattle.jdf_tree.specs.BodyLimits.{how_many, declares, is_too_many, variable_limit}
 use Rattle.jdf_tree.specs.ExpressionGrammar.{outer}
 use Rattle.jdf_tree.specs.Grammar.{productions}
-use Rattle.jdf_tree.specs.Nonterminal.{Nonterminal, an_expr, a_unary, an_opening, a_block, TreeOf, Grammar}
+use Rattle.jdf_tree.specs.Nonterminal.{Nonterminal, an_expr, a_unary, a_file, a_block, TreeOf, Grammar}
 use Rattle.jdf_tree.specs.GrammarParts.{word, prefixed_by, suffixed_by, any, name}
 use Rattle.jdf_tree.specs.Statements.{Statements}
 use Rattle.body_laws.specs.Declarations.{declarations}
@@ -69,7 +69,7 @@ statements_declare (s ∷ ss) = then_declares s (statements_of ss) ∙ ap (λ (n
 abbrev of_name : (n : Nonterminal) → TreeOf n → ℕ
 of_name (an_expr part) t = 0
 of_name (a_unary part) t = 0
-of_name an_opening t = 0
+of_name a_file t = 0
 of_name a_block t = declarations t
 
 -- a tree declares no more than its tokens do
@@ -222,7 +222,7 @@ unfolding productions
 within_spends zero n s t o r h = absurd h
 within_spends (suc k) (an_expr part) s t o r h = none (DerivedWithin productions k) (within_spends k) (productions (an_expr part)) s t o r h
 within_spends (suc k) (a_unary part) s t o r h = none (DerivedWithin productions k) (within_spends k) (productions (a_unary part)) s t o r h
-within_spends (suc k) an_opening s t o r h = none (DerivedWithin productions k) (within_spends k) (productions an_opening) s t o r h
+within_spends (suc k) a_file s t o r h = none (DerivedWithin productions k) (within_spends k) (productions a_file) s t o r h
 within_spends (suc k) a_block s t o r h = block_rest_spends (DerivedWithin productions k) (within_spends k) s t o r h
 
 text_declares : (s : List Token) (t : Statements) (o : Fault) (r : List Token) → Derives (Derived productions) text s t o r → declarations t + remaining r ≤ remaining s

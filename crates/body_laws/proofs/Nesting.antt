@@ -2,6 +2,7 @@
 use Rattle.std.proofs.Common.{◌≡◌, ℕ, zero, suc, ◌+◌, ◌-◌, ◌≤◌, Bool, true, false, List, [], ◌∷◌, ◌++◌, length, take, Ok, Err, refl, sym, ap, ◌∙◌, subst, inl, inr, append_assoc, arith}
 use Rattle.std.specs.Prelude.{Option, Some, None, slice_get}
 use Rattle.std.proofs.lemmas.List.{append-nil, take_all}
+use Rattle.std.specs.Option.{unwrap_or}
 use Rattle.grammar_core.specs.declared.token.Token.{Token}
 use Rattle.jdf_alphabet.specs.declared.terminal.Terminal.{Terminal}
 use Rattle.jdf_alphabet.specs.declared.terminal.Terminal.TheVariants as terminal
@@ -18,13 +19,13 @@ use Rattle.jdf_tree.specs.declared.expression.ExprWithSpot.{ExprWithSpot}
 use Rattle.jdf_tree.specs.declared.expression.Word.{Word}
 use Rattle.jdf_tree.specs.declared.part.Part.TheVariants as part
 use Rattle.jdf_tree.specs.BlockStatements.{then, statements_of}
-use Rattle.jdf_tree.specs.BodyGrammar.{block, or_done, if_of, condition, otherwise, choice, for_of, for_loop, statement, statements, block_rest, text, body}
+use Rattle.jdf_tree.specs.BodyGrammar.{block, if_of, condition, otherwise, choice, for_of, for_loop, statement, statements, block_rest, text, body}
 use Rattle.jdf_tree.specs.ExpressionGrammar.{outer}
 use Rattle.jdf_tree.specs.Grammar.{productions}
 use Rattle.jdf_tree.specs.Nonterminal.{Nonterminal, a_block, TreeOf}
 use Rattle.jdf_tree.specs.GrammarParts.{any, word_of, name}
 use Rattle.jdf_tree.specs.GrammarParts as piece
-use Rattle.jdf_tree.specs.Statements.{Statements}
+use Rattle.jdf_tree.specs.Statements.{Statements, Done}
 use Rattle.body_names.specs.Environment.{Environment}
 use Rattle.expr_names.specs.Symbols.{Resolved}
 use Rattle.body_names.specs.Expressions.{term_of}
@@ -217,7 +218,7 @@ module _ (scope : Environment) where
         })
 
     -- an else part, or none
-    may_walk : (s : List Token) (t : Option Statements) (o : Fault) (r : List Token) → Derives R (opt otherwise) s t o r → Walks scope s r (declarations (or_done t)) (in_block block_opened (resolved scope (or_done t)))
+    may_walk : (s : List Token) (t : Option Statements) (o : Fault) (r : List Token) → Derives R (opt otherwise) s t o r → Walks scope s r (declarations (unwrap_or t Done)) (in_block block_opened (resolved scope (unwrap_or t Done)))
     may_walk s None o r h =
         record {
           word = [];
@@ -246,7 +247,7 @@ module _ (scope : Environment) where
       where
         by_parts : (x : Token) (m : List Token) → s ≡ x ∷ m → is terminal.If (terminal_of x) ≡ true → (c : ExprWithSpot) (first : Statements) (second : Option Statements) (o : Fault)
             → Derives R (seq condition (seq block (opt otherwise))) m (c, (first, second)) o r
-            → Walks scope s r (declarations first + declarations (or_done second)) (resolving.if_else scope c.tree (resolved scope first) (resolved scope (or_done second)))
+            → Walks scope s r (declarations first + declarations (unwrap_or second Done)) (resolving.if_else scope c.tree (resolved scope first) (resolved scope (unwrap_or second Done)))
         by_parts x m e is_if c first second o h =
             let rest = h.4 in
             let i = condition_walks m c h.1 h.0 h.3 in
@@ -264,14 +265,14 @@ module _ (scope : Environment) where
                   ∙ (past_index m h.0 (a.word ++ b.word) r c i behind_it st1
                   ∙ after_same (fault_of (term_of scope st.bindings.seen c.tree)) (λ _. along scope st2 (a.word ++ b.word) r) (λ _. and_then (along scope st2 a.word rest.0) (λ q. along scope q b.word r))
                   (λ _. along_append scope st2 a.word b.word r ∙ ap (λ (l : List Token). and_then (along scope st2 a.word l) (λ q. along scope q b.word r)) (sym b.parts))) in
-                  walked st.open_blocks (resolving.if_else scope c.tree (resolved scope first) (resolved scope (or_done second)) k) _ _ along_is
+                  walked st.open_blocks (resolving.if_else scope c.tree (resolved scope first) (resolved scope (unwrap_or second Done)) k) _ _ along_is
                   (first_step st.open_blocks (term_of scope k.seen c.tree) _ (fault_of (term_of scope st.bindings.seen c.tree)) _ (term_alike scope k.seen st.bindings.seen ready.alike.seen c.tree)
                   (λ y _. last_step st.open_blocks st.open_blocks (in_block block_opened (resolved scope first) k) _ (along scope st2 a.word rest.0) (λ q. along scope q b.word r)
                   (a.follows block_opened k None (ready_inside k) st2 ready.alike ready.naming (omega (arith, at_most)))
                   (λ z q is around_is ready'.
                   let adds = block_adds k first block_opened z (omega (arith, at_most)) is in
-                  subst (λ (l : List (ℕ × ℕ)). Follows l (and_then (in_block block_opened (resolved scope (or_done second)) z.1) (λ v. Ok (out.If y z.0 v.0, v.1))) (along scope q b.word r)) around_is
-                  (mapped q.open_blocks (λ v. out.If y z.0 v.0) (in_block block_opened (resolved scope (or_done second)) z.1) (along scope q b.word r) (b.follows z.1 q ready' (omega (arith, at_most, adds)))))));
+                  subst (λ (l : List (ℕ × ℕ)). Follows l (and_then (in_block block_opened (resolved scope (unwrap_or second Done)) z.1) (λ v. Ok (out.If y z.0 v.0, v.1))) (along scope q b.word r)) around_is
+                  (mapped q.open_blocks (λ v. out.If y z.0 v.0) (in_block block_opened (resolved scope (unwrap_or second Done)) z.1) (along scope q b.word r) (b.follows z.1 q ready' (omega (arith, at_most, adds)))))));
             }
 
     -- ---- loops

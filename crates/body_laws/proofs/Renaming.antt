@@ -5,6 +5,8 @@ use Rattle.std.specs.Str.{bytes_eq}
 use Rattle.std.specs.List.{list_any}
 use Rattle.std.proofs.lemmas.List.{reverse-append, take_at}
 use Rattle.std.proofs.lemmas.Slice.Eq.{bytes_eq-Decides}
+use Rattle.std.specs.Option.{option_or}
+use Rattle.std.proofs.lemmas.List.Folds.{find-append}
 use Rattle.name_table.specs.Names.{index_named}
 use Rattle.jdf_lex.specs.declared.fault.JdfCode.TheVariants.{NameTwice}
 use Rattle.term_core.specs.declared.body.Stmt.{Stmt}
@@ -22,7 +24,7 @@ use Rattle.expr_names.specs.declared.meaning.Meaning.{Meaning}
 use Rattle.expr_names.specs.declared.meaning.Meaning.TheVariants as meaning
 use Rattle.body_names.specs.Environment.{Environment}
 use Rattle.body_names.specs.declared.variable.Variable.{Variable}
-use Rattle.body_names.specs.Meanings.{last_named, variable_or, local_or, local_named, integer_or, collection_or_nothing, meaning_of}
+use Rattle.body_names.specs.Meanings.{last_named, variable_or, meaning_of, outer_meaning}
 use Rattle.expr_names.specs.Symbols.{Resolved, fault_at}
 use Rattle.expr_names.specs.Expressions.{together}
 use Rattle.body_names.specs.Expressions.{value_of, slot_of, read_flow, written_flow, term_of}
@@ -50,22 +52,10 @@ fresh_is false w u e = refl
 
 -- ---- the last variable of a name
 
-abbrev or_else : Option Variable → Option Variable → Option Variable
-or_else None o = o
-or_else (Some u) o = Some u
-
-find_append : (p : Variable → Bool) (xs ys : List Variable) → find p (xs ++ ys) ≡ or_else (find p xs) (find p ys)
-find_append p [] ys = refl
-find_append p (x ∷ xs) ys = go (p x) (find_append p xs ys)
-  where
-    go : (b : Bool) → find p (xs ++ ys) ≡ or_else (find p xs) (find p ys) → cond b (Some x) (find p (xs ++ ys)) ≡ or_else (cond b (Some x) (find p xs)) (find p ys)
-    go true h = refl
-    go false h = h
-
-last_append : (us ws : List Variable) (z : List ℕ) → last_named (us ++ ws) z ≡ or_else (last_named ws z) (last_named us z)
+last_append : (us ws : List Variable) (z : List ℕ) → last_named (us ++ ws) z ≡ option_or (last_named ws z) (last_named us z)
 last_append us ws z =
     ap (λ (l : List Variable). find (λ (v : Variable). bytes_eq v.name z) l) (reverse-append us ws)
-    ∙ find_append (λ (v : Variable). bytes_eq v.name z) (reverse ws) (reverse us)
+    ∙ find-append (λ (v : Variable). bytes_eq v.name z) (reverse ws) (reverse us)
 
 -- whether one of the variables has the name
 abbrev has : List ℕ → List Variable → Bool
@@ -80,17 +70,17 @@ none_named [] z h = refl
 none_named (u ∷ us) z h =
     let rest = none_named us z (second_false (bytes_eq u.name z) (has z us) h) in
     let here = first_false (bytes_eq u.name z) (has z us) h in
-    last_append (u ∷ []) us z ∙ (ap (λ (o : Option Variable). or_else o (last_named (u ∷ []) z)) rest ∙ ap (λ (b : Bool). cond b (Some u) None) here)
+    last_append (u ∷ []) us z ∙ (ap (λ (o : Option Variable). option_or o (last_named (u ∷ []) z)) rest ∙ ap (λ (b : Bool). cond b (Some u) None) here)
 
 some_named : (vs : List Variable) (z : List ℕ) → has z vs ≡ true → (u : Variable) × (last_named vs z ≡ Some u)
 some_named [] z h = absurd cc
 some_named (u ∷ us) z h = go (has z us) refl (some_named us z)
   where
     go : (b : Bool) → has z us ≡ b → (has z us ≡ true → (w : Variable) × (last_named us z ≡ Some w)) → (w : Variable) × (last_named (u ∷ us) z ≡ Some w)
-    go true k later = let r = later k in (r.0, last_append (u ∷ []) us z ∙ ap (λ (o : Option Variable). or_else o (last_named (u ∷ []) z)) r.1)
+    go true k later = let r = later k in (r.0, last_append (u ∷ []) us z ∙ ap (λ (o : Option Variable). option_or o (last_named (u ∷ []) z)) r.1)
     go false k later =
         let here : bytes_eq u.name z ≡ true = other_true (bytes_eq u.name z) (has z us) h k in
-        (u, last_append (u ∷ []) us z ∙ (ap (λ (o : Option Variable). or_else o (last_named (u ∷ []) z)) (none_named us z k) ∙ ap (λ (b : Bool). cond b (Some u) None) here))
+        (u, last_append (u ∷ []) us z ∙ (ap (λ (o : Option Variable). option_or o (last_named (u ∷ []) z)) (none_named us z k) ∙ ap (λ (b : Bool). cond b (Some u) None) here))
 
 -- another variable in the place of one, where it does not have the name
 drop_has : (v u : Variable) (z : List ℕ) → bytes_eq u.name z ≡ false → (o : ℕ) (pre post : List Variable) → has z (drop o (pre ++ v ∷ post)) ≡ false → has z (drop o (pre ++ u ∷ post)) ≡ false
@@ -120,10 +110,10 @@ module _ (scope : Environment) (old new : List ℕ) (pre : List Variable) (v : V
 
   -- the last of a name, by whether the variable in the middle has it
   abbrev by_test : Variable → List Variable → List ℕ → Bool → Option Variable
-  by_test u post z b = or_else (or_else (last_named post z) (cond b (Some u) None)) (last_named pre z)
+  by_test u post z b = option_or (option_or (last_named post z) (cond b (Some u) None)) (last_named pre z)
 
   looked : (u : Variable) (post : List Variable) (z : List ℕ) → last_named (pre ++ u ∷ post) z ≡ by_test u post z (bytes_eq u.name z)
-  looked u post z = last_append pre (u ∷ post) z ∙ ap (λ (o : Option Variable). or_else o (last_named pre z)) (last_append (u ∷ []) post z)
+  looked u post z = last_append pre (u ∷ post) z ∙ ap (λ (o : Option Variable). option_or o (last_named pre z)) (last_append (u ∷ []) post z)
 
   old_apart : (z : List ℕ) → bytes_eq old z ≡ false → bytes_eq v.name z ≡ false
   old_apart z h = ap (λ (n : List ℕ). bytes_eq n z) is_old ∙ h
@@ -135,14 +125,14 @@ module _ (scope : Environment) (old new : List ℕ) (pre : List Variable) (v : V
   look_hidden post z h =
       let r = some_named post z h in
       looked other post z
-      ∙ (ap (λ (o : Option Variable). or_else (or_else o (cond (bytes_eq new z) (Some other) None)) (last_named pre z)) r.1
-      ∙ (sym (ap (λ (o : Option Variable). or_else (or_else o (cond (bytes_eq v.name z) (Some v) None)) (last_named pre z)) r.1) ∙ sym (looked v post z)))
+      ∙ (ap (λ (o : Option Variable). option_or (option_or o (cond (bytes_eq new z) (Some other) None)) (last_named pre z)) r.1
+      ∙ (sym (ap (λ (o : Option Variable). option_or (option_or o (cond (bytes_eq v.name z) (Some v) None)) (last_named pre z)) r.1) ∙ sym (looked v post z)))
 
   sees : (u : Variable) (post : List Variable) (z : List ℕ) → u.name ≡ z → has z post ≡ false → last_named (pre ++ u ∷ post) z ≡ Some u
   sees u post z e h =
       looked u post z
-      ∙ (ap (λ (o : Option Variable). or_else (or_else o (cond (bytes_eq u.name z) (Some u) None)) (last_named pre z)) (none_named post z h)
-      ∙ ap (λ (b : Bool). or_else (cond b (Some u) None) (last_named pre z)) ((bytes_eq-Decides u.name z).1 e))
+      ∙ (ap (λ (o : Option Variable). option_or (option_or o (cond (bytes_eq u.name z) (Some u) None)) (last_named pre z)) (none_named post z h)
+      ∙ ap (λ (b : Bool). option_or (cond b (Some u) None) (last_named pre z)) ((bytes_eq-Decides u.name z).1 e))
 
   -- ---- words
 
@@ -153,7 +143,7 @@ module _ (scope : Environment) (old new : List ℕ) (pre : List Variable) (v : V
 
   -- what a name means that is no variable
   abbrev no_variable : List ℕ → Meaning
-  no_variable z = local_or (local_named scope z) (integer_or (scope.integer z) (collection_or_nothing (scope.is_collection z)))
+  no_variable z = outer_meaning (index_named scope.locals z) (scope.integer z) (scope.is_collection z)
 
   module _ (post : List Variable) (no_new : has new post ≡ false) where
     pub word_same : (h : Bool) → has old post ≡ h → (w : Word) → bytes_eq w.text new ≡ false → meaning_of scope (under_new post) (changed h w).text ≡ meaning_of scope (under_old post) w.text

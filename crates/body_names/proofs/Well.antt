@@ -3,6 +3,8 @@ use Rattle.std.proofs.Common.{◌≡◌, ℕ, ◌<◌, ◌≤◌, Bool, true, fa
 use Rattle.std.specs.Prelude.{Option, Some, None, slice_get}
 use Rattle.std.specs.Str.{bytes_eq}
 use Rattle.std.proofs.lemmas.Bool.{lt-ltb}
+use Rattle.std.specs.Option.{option_map_or}
+use Rattle.name_table.specs.Names.{index_named}
 use Rattle.term_core.specs.declared.flow.FlowKind.{FlowKind}
 use Rattle.term_core.specs.declared.flow.FlowKind.TheVariants as kind
 use Rattle.term_core.specs.Term.{Term}
@@ -15,7 +17,7 @@ use Rattle.expr_names.specs.declared.meaning.Meaning.TheVariants as meaning
 use Rattle.body_names.specs.Environment.{Environment}
 use Rattle.body_names.specs.declared.scope.FlowName.{FlowName}
 use Rattle.body_names.specs.declared.variable.Variable.{Variable}
-use Rattle.body_names.specs.Meanings.{last_named, variable_or, local_named, local_or, integer_or, collection_or_nothing, meaning_of, flow_named}
+use Rattle.body_names.specs.Meanings.{last_named, variable_or, collection_or_nothing, meaning_of, flow_named, outer_meaning}
 use Rattle.expr_names.specs.Symbols.{Resolved}
 use Rattle.body_names.specs.Expressions.{value_of, slot_of, readable, writable, if_flow, flow_by, read_flow, written_flow, symbols_of, term_of}
 use Rattle.expr_names.proofs.Closed as closed
@@ -35,12 +37,12 @@ module _ (scope : Environment) (end : ℕ) (room : length scope.locals ≤ end) 
   IsThere meaning.Collection = Unit {0}
   IsThere meaning.Nothing = Unit {0}
 
-  global_there : (o : Option _) (b : Bool) → IsThere (integer_or o (collection_or_nothing b))
+  global_there : (o : Option _) (b : Bool) → IsThere (option_map_or meaning.Integer o (collection_or_nothing b))
   global_there None true = tt
   global_there None false = tt
   global_there (Some z) b = tt
 
-  local_there : (o : Option ℕ) (m : Meaning) → ((n : ℕ) → o ≡ Some n → n < length scope.locals) → IsThere m → IsThere (local_or o m)
+  local_there : (o : Option ℕ) (m : Meaning) → ((n : ℕ) → o ≡ Some n → n < length scope.locals) → IsThere m → IsThere (option_map_or meaning.Local o m)
   local_there None m below h = h
   local_there (Some n) m below h = below n refl
 
@@ -55,9 +57,9 @@ module _ (scope : Environment) (end : ℕ) (room : length scope.locals ≤ end) 
   module _ (seen : List Variable) (slots : AreSlots (length scope.locals) end seen) where
     meaning_there : (name : List ℕ) → IsThere (meaning_of scope seen name)
     meaning_there name =
-        variable_there (last_named seen name) (local_or (local_named scope name) (integer_or (scope.integer name) (collection_or_nothing (scope.is_collection name))))
+        variable_there (last_named seen name) (outer_meaning (index_named scope.locals name) (scope.integer name) (scope.is_collection name))
         (λ v e. last_found (length scope.locals) end (λ (v : Variable). bytes_eq v.name name) seen v slots e)
-        (local_there (local_named scope name) (integer_or (scope.integer name) (collection_or_nothing (scope.is_collection name)))
+        (local_there (index_named scope.locals name) (option_map_or meaning.Integer (scope.integer name) (collection_or_nothing (scope.is_collection name)))
         (λ n e. position_within (λ (text : List ℕ). bytes_eq text name) scope.locals n e) (global_there (scope.integer name) (scope.is_collection name)))
 
     -- the meaning of a name is closed

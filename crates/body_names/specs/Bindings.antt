@@ -7,7 +7,7 @@ use Rattle.std.specs.List.{list_any}
 use Rattle.ptg_base.specs.Limits.{most_variables}
 use Rattle.jdf_lex.specs.declared.fault.JdfCode.TheVariants.{NameTwice, TooManyVars}
 use Rattle.jdf_tree.specs.declared.expression.Word.{Word}
-use Rattle.body_names.specs.declared.variable.BindingTable.{BindingTable}
+use Rattle.body_names.specs.declared.bindings.BindingTable.{BindingTable}
 use Rattle.body_names.specs.declared.variable.Variable.{Variable}
 use Rattle.body_names.specs.Environment.{Environment}
 use Rattle.expr_names.specs.Symbols.{Resolved, fault_at}

@@ -1,10 +1,11 @@
 -- What the names in a body mean. The language of bodies is this project's own choice.
 use Rattle.std.specs.Prelude.{ℕ, List, reverse, Option, Some, None, find, position, if◌then◌else◌}
 use Rattle.std.specs.Str.{bytes_eq}
+use Rattle.name_table.specs.Names.{index_named}
 use Rattle.body_names.specs.declared.variable.Variable.{Variable}
 use Rattle.expr_names.specs.declared.meaning.Meaning.{Meaning}
 use Rattle.expr_names.specs.declared.meaning.Meaning.TheVariants as meaning
-pub use Rattle.expr_names.specs.Meanings.{local_or, integer_or, collection_or_nothing, outer_meaning}
+pub use Rattle.expr_names.specs.Meanings.{collection_or_nothing, outer_meaning}
 use Rattle.body_names.specs.Environment.{Environment}
 use Rattle.body_names.specs.declared.scope.FlowName.{FlowName}
 
@@ -17,15 +18,11 @@ abbrev pub variable_or : Option Variable → Meaning → Meaning
 variable_or None other = other
 variable_or (Some v) other = if v.is_loop_variable then meaning.LoopVariable v.slot else meaning.Variable v.slot
 
--- the number of the first definition of the class with this name
-abbrev pub local_named : Environment → List ℕ → Option ℕ
-local_named scope name = position (λ (text : List ℕ). bytes_eq text name) scope.locals
-
 -- A name in an expression is a variable of the body, else a local of the class, else a global.
 abbrev pub meaning_of : Environment → List Variable → List ℕ → Meaning
 meaning_of scope seen name =
     variable_or (last_named seen name)
-    (outer_meaning (local_named scope name) (scope.integer name) (scope.is_collection name))
+    (outer_meaning (index_named scope.locals name) (scope.integer name) (scope.is_collection name))
 
 -- the number of the first flow of this name
 abbrev pub flow_named : Environment → List ℕ → Option ℕ

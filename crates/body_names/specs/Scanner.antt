@@ -1,5 +1,5 @@
 -- A scanner of the code as what is known at a token.
-use Rattle.body_names.specs.declared.variable.Scanner.{Scanner}
+use Rattle.body_names.specs.declared.scanner.Scanner.{Scanner}
 use Rattle.body_names.specs.Bindings.{bindings_of}
 use Rattle.body_names.specs.TokenScan.{TokenScan}
 

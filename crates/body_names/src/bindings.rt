@@ -1,6 +1,6 @@
 //! What the names of a body are bound to, between two of its tokens.
 
-ghost use Rattle.std.specs.Prelude.{◌≡◌, ◌<◌, length, take, OnOk, IfOk, drop};
+ghost use Rattle.std.specs.Prelude.{◌≡◌, ◌<◌, take, OnOk, IfOk, drop};
 ghost use Rattle.std.specs.List.{list_any};
 ghost use Rattle.std.specs.Str.{bytes_eq};
 ghost use Rattle.ptg_base.specs.Limits.{most_variables};
@@ -9,12 +9,35 @@ ghost use Rattle.ptg_base.specs.Returns.{Returns};
 ghost use Rattle.body_names.specs.Bindings.{bindings_of, no_bindings, next_slot, with_variable, require_room, require_fresh, word_number};
 
 use crate::scope::{Context, Scope};
-use crate::variable::{BindingTable, Variable};
+use crate::variable::Variable;
 use jdf_lex::{JdfCode, JdfRefusal, fault_at};
 use jdf_tree::Word;
 use name_table::NameSet;
 use ptg_base::{MOST_VARIABLES, OutOfMemory, Text};
 use std::alloc::Global;
+
+/// What the names of a body are bound to, between two of its tokens.
+pub struct BindingTable {
+    /// The variables that are seen there, in the order of their declarations.
+    pub seen: Vec<Variable>,
+    /// How many of these are of blocks around the innermost one.
+    pub outside: usize,
+    /// How many variables the body has declared so far.
+    pub declared: u16,
+    /// The trap words so far, in the order of their first use.
+    pub words: NameSet,
+}
+
+impl Drop for BindingTable {
+    fn drop(self) {
+        let BindingTable {
+            seen: _seen,
+            outside: _outside,
+            declared: _declared,
+            words: _words,
+        } = self;
+    }
+}
 
 impl BindingTable {
     /// Before a body nothing is bound.
@@ -27,6 +50,19 @@ impl BindingTable {
             declared: 0,
             words: NameSet::new(alloc),
         }
+    }
+
+    // The trap words alone.
+    pub(crate) fn into_words(self) -> NameSet
+        ensures { result ≡ self.words }
+    {
+        let BindingTable {
+            seen: _seen,
+            outside: _outside,
+            declared: _declared,
+            words,
+        } = self;
+        words
     }
 }
 

@@ -1,22 +1,21 @@
 //! The names at the front of a body that is broken further on.
 
-ghost use Rattle.std.specs.Prelude.{◌≡◌, ◌≤◌, length, IfOk};
+ghost use Rattle.std.specs.Prelude.{◌≤◌, length};
 ghost use Rattle.body_names.specs.Environment.{environment_of};
 ghost use Rattle.ptg_base.specs.Returns.{Returns};
 ghost use Rattle.body_names.specs.Bindings.{bindings_of};
 ghost use Rattle.body_names.specs.TokenScan.{judged_as, judged, judged_among, front_fault};
 ghost use Rattle.body_names.specs.Scanner.{scan_of};
 
-use crate::bindings::require_fresh;
+use crate::bindings::{BindingTable, require_fresh};
 use crate::expression::slot_of;
 use crate::flow::{read_flow, written_flow};
 use crate::lookup::meaning_of;
 use crate::role::{Role, role_of};
-use crate::scanner::pass;
+use crate::scanner::{Scanner, pass};
 use crate::scope::Scope;
-use crate::variable::{BindingTable, Scanner};
 use expr_names::value_of;
-use expr_read::{is_name_next, name};
+use expr_read::name;
 use grammar_core::ReadRefusal;
 use jdf_lex::{JdfRefusal, Token};
 use jdf_tree::{Part, Word};

@@ -1,8 +1,9 @@
 //! What a name means, looked up.
 
 ghost use Rattle.std.specs.Prelude.{◌≡◌, ◌<◌, length, MatchOption, IfSome, None, Some};
+ghost use Rattle.name_table.specs.Names.{index_named};
 ghost use Rattle.body_names.specs.Environment.{environment_of};
-ghost use Rattle.body_names.specs.Meanings.{last_named, local_named, meaning_of, flow_named};
+ghost use Rattle.body_names.specs.Meanings.{last_named, meaning_of, flow_named};
 
 use crate::scope::Scope;
 use crate::variable::Variable;
@@ -25,7 +26,7 @@ fn last_named<'a>(seen: &'a [Variable], name: &[u8]) -> Option<&'a Variable>
 
 // The number of the first definition of the class with this name.
 fn local_named(scope: &Scope, name: &[u8]) -> Option<usize>
-    ensures value { result ≡ local_named (environment_of scope.now) name.now }
+    ensures value { result ≡ index_named scope.now.locals name.now }
     ensures within { IfSome result (λ n. n < length scope.now.locals) }
 {
     scope

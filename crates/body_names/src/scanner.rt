@@ -4,13 +4,36 @@ ghost use Rattle.std.specs.Prelude.{◌≡◌, OnOk};
 ghost use Rattle.body_names.specs.TokenScan.{declared, block_entered, block_left, named_by, after_token, at_first};
 ghost use Rattle.body_names.specs.Scanner.{scan_of};
 
-use crate::bindings::close;
+use crate::bindings::{BindingTable, close};
 use crate::role::previous_is;
-use crate::variable::{BindingTable, Scanner, Variable};
+use crate::variable::Variable;
 use jdf_alphabet::Terminal;
 use jdf_lex::Token;
 use ptg_base::{OutOfMemory, Text};
 use std::alloc::Global;
+
+/// What is known at a token of a body.
+pub struct Scanner {
+    pub bindings: BindingTable,
+    /// For each block that is open, the innermost last, how many variables were seen before it, and how many of these
+    /// were of blocks around.
+    pub open_blocks: Vec<(usize, usize)>,
+    /// The variable whose declaration has begun.
+    pub naming: Option<Text>,
+    /// The token before.
+    pub previous: Option<Terminal>,
+}
+
+impl Drop for Scanner {
+    fn drop(self) {
+        let Scanner {
+            bindings: _bindings,
+            open_blocks: _open_blocks,
+            naming: _naming,
+            previous: _previous,
+        } = self;
+    }
+}
 
 impl Scanner {
     /// At the first token.

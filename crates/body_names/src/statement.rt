@@ -1,16 +1,17 @@
 //! Statements and blocks with their names resolved.
 
-ghost use Rattle.std.specs.Prelude.{◌≡◌, true};
+ghost use Rattle.std.specs.Prelude.{true};
 ghost use Rattle.body_names.specs.Environment.{environment_of};
 ghost use Rattle.ptg_base.specs.Returns.{Returns};
 ghost use Rattle.body_names.specs.Bindings.{bindings_of, block_opened};
 ghost use Rattle.body_names.specs.Statements.{declare, set, put, in_block, if_else, for_loop, trap, resolved, statement_of};
 
-use crate::bindings::{add_variable, close, next_slot, require_fresh, require_room, word_number};
+use crate::bindings::{
+    BindingTable, add_variable, close, next_slot, require_fresh, require_room, word_number,
+};
 use crate::expression::{slot_of, term_of};
 use crate::flow::written_flow;
 use crate::scope::Context;
-use crate::variable::BindingTable;
 use jdf_lex::JdfRefusal;
 use jdf_tree::{BlockTree, ExprTree, StmtTree, Word};
 use ptg_base::Seq;

@@ -1,14 +1,14 @@
 //! A body as a whole.
 
-ghost use Rattle.std.specs.Prelude.{◌≡◌, IfOk, length};
+ghost use Rattle.std.specs.Prelude.{IfOk, length};
 ghost use Rattle.term_core.specs.WellBody.{IsWellBody};
 ghost use Rattle.body_names.specs.Environment.{environment_of};
 ghost use Rattle.ptg_base.specs.Returns.{Returns};
 ghost use Rattle.body_names.specs.Statements.{body_of};
 
+use crate::bindings::BindingTable;
 use crate::scope::{Context, Scope};
 use crate::statement::block;
-use crate::variable::BindingTable;
 use jdf_lex::JdfRefusal;
 use jdf_tree::BlockTree;
 use ptg_base::{Seq, Text};

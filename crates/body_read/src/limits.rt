@@ -1,6 +1,6 @@
 //! Where a body passes its limits.
 
-ghost use Rattle.std.specs.Prelude.{◌≡◌, ◌<◌, ◌-◌, ◌&&◌, nat_le, length, drop, if◌then◌else◌};
+ghost use Rattle.std.specs.Prelude.{◌≡◌, ◌-◌, ◌&&◌, if◌then◌else◌};
 ghost use Rattle.jdf_alphabet.specs.declared.terminal.Terminal.TheVariants.{LeftBrace};
 ghost use Rattle.jdf_alphabet.specs.Sets.{starts};
 ghost use Rattle.jdf_alphabet.specs.Terminals.{is};

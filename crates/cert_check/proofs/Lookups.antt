@@ -3,6 +3,7 @@ use Rattle.std.proofs.Common.{◌≡◌, ℕ, ◌<◌, IsTrue, slice_index_or, O
 use Rattle.std.specs.Prelude.{nat_le}
 use Rattle.std.proofs.lemmas.Bool.{leb-true, le-leb}
 use Rattle.std.proofs.lemmas.List.{append-nil, take-append-drop}
+use Rattle.std.specs.Map.{keys_of}
 use Rattle.ptg_base.specs.Lists.{IsIn}
 use Rattle.ptg_base.specs.Task.{Task}
 use Rattle.ptg_base.specs.TaskOrder.{task_before}
@@ -13,38 +14,38 @@ use Rattle.plan_core.specs.declared.plan.Plan.{Plan}
 use Rattle.dep_iter.specs.Edges.{in_edges}
 use Rattle.chain_cert.specs.Chains.{IsSourceOf}
 use Rattle.cert_check.specs.Checking.{IsAboveSource}
-use Rattle.chain_cert.specs.Checking.{IsRising, tasks_of}
+use Rattle.chain_cert.specs.Checking.{IsRising}
 use Rattle.chain_cert.proofs.TaskSorting.{not_both, not_itself}
 
-row_task : (t : Task) (k : ℕ) (rows : List (Task × ℕ)) → IsIn (t, k) rows → IsIn t (tasks_of rows)
+row_task : (t : Task) (k : ℕ) (rows : List (Task × ℕ)) → IsIn (t, k) rows → IsIn t (keys_of rows)
 row_task t k rows i = IsIn-map (λ (row : Task × ℕ). row.0) rows (t, k) i
 
 -- rows that rise do so in each part
-pub rising_left : (before : List (Task × ℕ)) (row : Task × ℕ) (later : List (Task × ℕ)) → IsRising (tasks_of (before ++ row ∷ later)) → IsRising (tasks_of before)
+pub rising_left : (before : List (Task × ℕ)) (row : Task × ℕ) (later : List (Task × ℕ)) → IsRising (keys_of (before ++ row ∷ later)) → IsRising (keys_of before)
 rising_left [] row later up = tt
 rising_left (r ∷ rs) row later up = (λ u i. up.0 u (in_left rs (row ∷ later) u i), rising_left rs row later up.1)
   where
-    in_left : (xs ys : List (Task × ℕ)) (u : Task) → IsIn u (tasks_of xs) → IsIn u (tasks_of (xs ++ ys))
+    in_left : (xs ys : List (Task × ℕ)) (u : Task) → IsIn u (keys_of xs) → IsIn u (keys_of (xs ++ ys))
     in_left [] ys u i = absurd i
     in_left (x ∷ xs) ys u i = elim i [ inl e ↦ inl e | inr deep ↦ inr (in_left xs ys u deep) ]
 
-pub rising_right : (before : List (Task × ℕ)) (row : Task × ℕ) (later : List (Task × ℕ)) → IsRising (tasks_of (before ++ row ∷ later)) → IsRising (tasks_of (row ∷ later))
+pub rising_right : (before : List (Task × ℕ)) (row : Task × ℕ) (later : List (Task × ℕ)) → IsRising (keys_of (before ++ row ∷ later)) → IsRising (keys_of (row ∷ later))
 rising_right [] row later up = up
 rising_right (r ∷ rs) row later up = rising_right rs row later up.1
 
 -- the tasks of the rows before one are before its task
-before_all : (before : List (Task × ℕ)) (row : Task × ℕ) (later : List (Task × ℕ)) → IsRising (tasks_of (before ++ row ∷ later)) → (u : Task) → IsIn u (tasks_of before) → task_before u row.0 ≡ true
+before_all : (before : List (Task × ℕ)) (row : Task × ℕ) (later : List (Task × ℕ)) → IsRising (keys_of (before ++ row ∷ later)) → (u : Task) → IsIn u (keys_of before) → task_before u row.0 ≡ true
 before_all [] row later up u i = absurd i
 before_all (r ∷ rs) row later up u i = elim i [
   | inl e ↦ subst (λ v. task_before v row.0 ≡ true) (sym e) (up.0 row.0 (among rs row later))
   | inr deep ↦ before_all rs row later up.1 u deep
 ]
   where
-    among : (rs : List (Task × ℕ)) (row : Task × ℕ) (later : List (Task × ℕ)) → IsIn row.0 (tasks_of (rs ++ row ∷ later))
+    among : (rs : List (Task × ℕ)) (row : Task × ℕ) (later : List (Task × ℕ)) → IsIn row.0 (keys_of (rs ++ row ∷ later))
     among [] row later = inl refl
     among (r ∷ rs) row later = inr (among rs row later)
 
-module _ (before : List (Task × ℕ)) (row : Task × ℕ) (later : List (Task × ℕ)) (up : IsRising (tasks_of (before ++ row ∷ later))) (t : Task) (k : ℕ) where
+module _ (before : List (Task × ℕ)) (row : Task × ℕ) (later : List (Task × ℕ)) (up : IsRising (keys_of (before ++ row ∷ later))) (t : Task) (k : ℕ) where
   -- a task before that of the row is to be sought before it, one after it behind it
   pub left_of : task_before t row.0 ≡ true → IsIn (t, k) (before ++ row ∷ later) ↔ IsIn (t, k) before
   left_of h = (

@@ -1,6 +1,7 @@
 -- Rows that have each task of a job, in task order.
 use Rattle.std.proofs.Common.{◌≡◌, ℕ, suc, ◌≤◌, ◌↔◌, Bool, true, false, List, [], ◌∷◌, length, refl, ap, sym, ◌∙◌, subst, inl, inr, IsTrue, arith}
 use Rattle.std.proofs.lemmas.Bool.{false≢true}
+use Rattle.std.specs.Map.{keys_of}
 use Rattle.ptg_base.specs.Lists.{HasNoRepeats, IsIn}
 use Rattle.ptg_base.specs.Task.{Task}
 use Rattle.ptg_base.specs.TaskOrder.{in_task_order, insert_by, task_before}
@@ -12,7 +13,7 @@ use Rattle.dep_iter.specs.Tasks.{IsTask, all_tasks}
 use Rattle.dep_iter.proofs.Listing.{listed}
 use Rattle.chain_cert.specs.Certificates.{HasTasksInOrder, tasks_in_order}
 use Rattle.cert_check.specs.Checking.{AreInPlace, IsBeforeFirst}
-use Rattle.chain_cert.specs.Checking.{IsRising, tasks_of}
+use Rattle.chain_cert.specs.Checking.{IsRising}
 use Rattle.chain_cert.proofs.TaskSorting.{here, in_order, not_itself, one_rising, past, sorted_rising, sorted_task}
 
 length_insert : (t : Task) (us : List Task) → length (insert_by (λ (v : Task). v) t us) ≡ suc (length us)
@@ -30,7 +31,7 @@ pub rising_once : (ts : List Task) → IsRising ts → HasNoRepeats ts
 rising_once [] up = tt
 rising_once (t ∷ ts) up = (λ i. not_itself t (up.0 t i), rising_once ts up.1)
 
-length_tasks : (rows : List (Task × ℕ)) → length (tasks_of rows) ≡ length rows
+length_tasks : (rows : List (Task × ℕ)) → length (keys_of rows) ≡ length rows
 length_tasks [] = refl
 length_tasks (row ∷ rows) = ap suc (length_tasks rows)
 
@@ -55,16 +56,16 @@ in_place P (t ∷ ts) up job = ((job t (inl refl), before_first t ts up.0), in_p
 
 module _ (P : Plan) where
   -- as many rows as tasks, in place, are all tasks in their order
-  pub has_order : (rows : List (Task × ℕ)) → length rows ≡ length (all_tasks P) → (b : Bool) → IsTrue b ↔ AreInPlace P (tasks_of rows) → IsTrue b ↔ HasTasksInOrder P rows
+  pub has_order : (rows : List (Task × ℕ)) → length rows ≡ length (all_tasks P) → (b : Bool) → IsTrue b ↔ AreInPlace P (keys_of rows) → IsTrue b ↔ HasTasksInOrder P rows
   has_order rows many b h = (
     λ e.
         let placed = h.0 e in
-        let up = place_rising P (tasks_of rows) placed in
-        let few : length (all_tasks P) ≤ length (tasks_of rows) = omega (arith, many, length_tasks rows) in
-        let within : (t : Task) → IsIn t (tasks_of rows) → IsIn t (all_tasks P) = λ t i. (listed P t).0 (place_task P (tasks_of rows) placed t i) in
-        one_rising (tasks_of rows) (tasks_in_order P) up (sorted_rising P) (λ t. (
-          λ i. (sorted_task P t).1 (place_task P (tasks_of rows) placed t i),
-          λ i. onto (tasks_of rows) (all_tasks P) (rising_once (tasks_of rows) up) within few t ((in_order t (all_tasks P)).0 i),
+        let up = place_rising P (keys_of rows) placed in
+        let few : length (all_tasks P) ≤ length (keys_of rows) = omega (arith, many, length_tasks rows) in
+        let within : (t : Task) → IsIn t (keys_of rows) → IsIn t (all_tasks P) = λ t i. (listed P t).0 (place_task P (keys_of rows) placed t i) in
+        one_rising (keys_of rows) (tasks_in_order P) up (sorted_rising P) (λ t. (
+          λ i. (sorted_task P t).1 (place_task P (keys_of rows) placed t i),
+          λ i. onto (keys_of rows) (all_tasks P) (rising_once (keys_of rows) up) within few t ((in_order t (all_tasks P)).0 i),
         )),
     λ q. h.1 (subst (AreInPlace P) (sym q) (in_place P (tasks_in_order P) (sorted_rising P) (λ t i. (sorted_task P t).0 i))),
   )
@@ -76,5 +77,5 @@ module _ (P : Plan) where
     λ q. absurd (other (sym (length_tasks rows) ∙ ap length q ∙ length_order (all_tasks P))),
   )
 
-  pub order_rising : (rows : List (Task × ℕ)) → HasTasksInOrder P rows → IsRising (tasks_of rows)
+  pub order_rising : (rows : List (Task × ℕ)) → HasTasksInOrder P rows → IsRising (keys_of rows)
   order_rising rows q = subst IsRising (sym q) (sorted_rising P)

@@ -1,13 +1,14 @@
 //! Levels of tasks, looked up by halves, and whether they are high enough, without memory.
 
 ghost use Rattle.std.specs.Prelude.{◌≡◌, ◌↔◌, ℕ, IsTrue, MatchOption};
+ghost use Rattle.std.specs.Map.{keys_of};
 ghost use Rattle.ptg_base.specs.Lists.{IsIn};
 ghost use Rattle.ptg_base.specs.Task.{Task};
 ghost use Rattle.dep_iter.specs.Tasks.{IsTask};
 ghost use Rattle.chain_cert.specs.Certificates.{HasTasksInOrder};
 ghost use Rattle.chain_cert.specs.Chains.{IsSourceOf};
 ghost use Rattle.cert_check.specs.Checking.{AreHighEnough, AreInPlace, IsAboveSource, IsHighEnough, IsInPlace};
-ghost use Rattle.chain_cert.specs.Checking.{IsRising, tasks_of};
+ghost use Rattle.chain_cert.specs.Checking.{IsRising};
 
 use chain_cert::{is_before, weight_of};
 use dep_iter::{Matched, in_edges, is_task};
@@ -17,7 +18,7 @@ use std::cmp::Ordering;
 
 // Whether the first of these rows is of a task of the job that is before the task of the second, if there is one.
 fn is_in_place(plan: &Plan, rows: &[(TaskId, u64)]) -> bool
-    ensures { IsTrue result ↔ IsInPlace plan.now (tasks_of rows.now) }
+    ensures { IsTrue result ↔ IsInPlace plan.now (keys_of rows.now) }
 {
     let Some((row, later)) = rows.split_first() else {
         return true;
@@ -33,7 +34,7 @@ fn is_in_place(plan: &Plan, rows: &[(TaskId, u64)]) -> bool
 
 // Whether the rows are of different tasks of the job, in task order.
 fn are_in_place(plan: &Plan, rows: &[(TaskId, u64)]) -> bool
-    ensures { IsTrue result ↔ AreInPlace plan.now (tasks_of rows.now) }
+    ensures { IsTrue result ↔ AreInPlace plan.now (keys_of rows.now) }
 {
     for at in 0..rows.len() {
         if !is_in_place(plan, &rows[at..]) {
@@ -55,7 +56,7 @@ pub(crate) fn has_tasks_in_order(m: &Matched, rows: &[(TaskId, u64)]) -> bool
 
 // The level in the row of a task, if there is one, where the rows are in task order.
 fn level_of(rows: &[(TaskId, u64)], t: &TaskId) -> Option<u64>
-    requires { IsRising (tasks_of rows.now) }
+    requires { IsRising (keys_of rows.now) }
     ensures { MatchOption result ((k : ℕ) → IsIn (t.now, k) rows.now → ⊥) (λ n.
         (k : ℕ) → IsIn (t.now, k) rows.now ↔ (k ≡ n)) }
 {
@@ -72,7 +73,7 @@ fn level_of(rows: &[(TaskId, u64)], t: &TaskId) -> Option<u64>
 
 // Whether a level n is at least that of the source s and a weight.
 fn is_above_source(levels: &[(TaskId, u64)], w: u64, n: u64, s: &TaskId) -> bool
-    requires { IsRising (tasks_of levels.now) }
+    requires { IsRising (keys_of levels.now) }
     ensures { IsTrue result ↔ IsAboveSource levels.now w n s.now }
 {
     match level_of(levels, s) {
@@ -84,7 +85,7 @@ fn is_above_source(levels: &[(TaskId, u64)], w: u64, n: u64, s: &TaskId) -> bool
 // Whether the level of a row is at least that of each source of its task and a weight.
 fn is_above_sources(plan: &Plan, levels: &[(TaskId, u64)], row: &(TaskId, u64), w: u64) -> bool
     requires task { IsTask plan.now row.now.0 }
-    requires rising { IsRising (tasks_of levels.now) }
+    requires rising { IsRising (keys_of levels.now) }
     ensures { IsTrue result ↔ ((s : Task) → IsSourceOf plan.now s row.now.0 → IsAboveSource levels.now w row.now.1 s) }
 {
     for edge in in_edges(plan, &row.0) {
@@ -103,7 +104,7 @@ fn is_high_enough(
     row: &(TaskId, u64),
 ) -> bool
     requires task { IsTask plan.now row.now.0 }
-    requires rising { IsRising (tasks_of levels.now) }
+    requires rising { IsRising (keys_of levels.now) }
     ensures { IsTrue result ↔ IsHighEnough plan.now weights.now levels.now row.now }
 {
     let w = weight_of(weights, &row.0);

@@ -60,7 +60,7 @@ fn any_flow_names(flows: &[FlowPlan], env: &[i64], far: &TaskId) -> bool
     let Some((flow, others)) = flows.split_first() else {
         return false;
     };
-    if any_names(flow.kind.takes_first(), flow.ins.as_slice(), env, far) {
+    if any_names(flow.kind.is_data(), flow.ins.as_slice(), env, far) {
         return true;
     }
     any_flow_names(others, env, far)

@@ -1,6 +1,7 @@
 -- The printed chain with the levels of all tasks is shown to be heaviest.
 use Rattle.std.proofs.Common.{◌≡◌, ℕ, ◌+◌, ◌≤◌, List, [], ◌∷◌, reverse, refl, ap, sym, ◌∙◌, subst, inl, inr, arith}
 use Rattle.std.proofs.lemmas.List.{append-nil}
+use Rattle.std.specs.Map.{keys_of}
 use Rattle.ptg_base.specs.Lists.{IsIn}
 use Rattle.ptg_base.specs.Task.{Task}
 use Rattle.plan_core.specs.declared.plan.Plan.{Plan}
@@ -10,7 +11,6 @@ use Rattle.dep_iter.proofs.Listing.{listed}
 use Rattle.chain_cert.specs.Certificates.{AreLevels}
 use Rattle.chain_cert.specs.Chains.{IsChain}
 use Rattle.chain_cert.specs.Checked.{ShowsHeaviest, greatest_level}
-use Rattle.chain_cert.specs.Checking.{tasks_of}
 use Rattle.chain_cert.specs.Levels.{IsLevel}
 use Rattle.chain_cert.specs.Printed.{IsChainBack, IsPrintedChain, IsTracedBack}
 use Rattle.chain_cert.specs.Weights.{chain_weight, weight}
@@ -56,7 +56,7 @@ module _ (P : Plan) (con : IsConsistent P) (ws : List ℕ) where
                 omega (arith, ap (chain_weight ws) same, q.1, is_level, over, under),
           )
         where
-          in_rows : (rs : List (Task × ℕ)) (r : Task × ℕ) → IsIn r rs → IsIn r.0 (tasks_of rs)
+          in_rows : (rs : List (Task × ℕ)) (r : Task × ℕ) → IsIn r rs → IsIn r.0 (keys_of rs)
           in_rows [] r i = absurd i
           in_rows (x ∷ xs) r i = elim i [ inl e ↦ inl (ap (λ (y : Task × ℕ). y.0) e) | inr later ↦ inr (in_rows xs r later) ]
 
@@ -73,7 +73,7 @@ module _ (P : Plan) (con : IsConsistent P) (ws : List ℕ) where
         heaviest = q.1 levels a;
       }
     where
-      in_rows : (rs : List (Task × ℕ)) (t : Task) (n : ℕ) → IsIn (t, n) rs → IsIn t (tasks_of rs)
+      in_rows : (rs : List (Task × ℕ)) (t : Task) (n : ℕ) → IsIn (t, n) rs → IsIn t (keys_of rs)
       in_rows [] t n i = absurd i
       in_rows (x ∷ xs) t n i = elim i [ inl e ↦ inl (ap (λ (y : Task × ℕ). y.0) e) | inr later ↦ inr (in_rows xs t n later) ]
 

@@ -20,8 +20,9 @@ use Rattle.chain_cert.specs.Chains.{EndsWith, IsChain, IsSourceOf}
 use Rattle.chain_cert.specs.Checking.{AreWeights}
 use Rattle.chain_cert.specs.Levels.{IsLevel}
 use Rattle.chain_cert.specs.Weights.{chain_weight, weight}
-use Rattle.chain_cert.specs.Finding.{HasLevels, IsLevelAmong, IsNextTask, greatest_among, level_in}
+use Rattle.chain_cert.specs.Finding.{HasLevels, IsLevelAmong, IsNextTask, greatest_among}
 use Rattle.chain_cert.proofs.Unique.{last_or_none}
+use Rattle.flow_meaning.specs.Numbers.{number_for}
 
 -- a chain with one more task at its end
 pub chain_push : (P : Plan) (f : List Task) (s t : Task) → IsChain P (f ++ s ∷ []) → IsTask P t → IsSourceOf P s t → IsChain P ((f ++ s ∷ []) ++ t ∷ [])
@@ -80,39 +81,39 @@ module _ (P : Plan) (ws : List ℕ) (t : Task) (job : IsTask P t) where
               omega (arith, ap (chain_weight ws) is, weigh-push (weight ws) (front ++ s ∷ []) t, under, b.2)
 
 -- the greatest level that a table has for some tasks
-pub at_most_among : (table : List (Task × ℕ)) (ts : List Task) (t : Task) → IsIn t ts → level_in table t ≤ greatest_among table ts
+pub at_most_among : (table : List (Task × ℕ)) (ts : List Task) (t : Task) → IsIn t ts → number_for table t ≤ greatest_among table ts
 at_most_among table [] t i = absurd i
 at_most_among table (u ∷ us) t i = elim i [
-  | inl e ↦ omega (arith, ap (level_in table) e)
+  | inl e ↦ omega (arith, ap (number_for table) e)
   | inr later ↦ omega (arith, at_most_among table us t later)
 ]
 
-pub among_reached : (table : List (Task × ℕ)) (ts : List Task) → (greatest_among table ts ≡ 0) ⊎ ((t : Task) × IsIn t ts × (level_in table t ≡ greatest_among table ts))
+pub among_reached : (table : List (Task × ℕ)) (ts : List Task) → (greatest_among table ts ≡ 0) ⊎ ((t : Task) × IsIn t ts × (number_for table t ≡ greatest_among table ts))
 among_reached table [] = inl refl
 among_reached table (u ∷ us) =
-    by_test (nat_le (greatest_among table us) (level_in table u))
-    (λ k. let le = leb-true (greatest_among table us) (level_in table u) k in inr (u, inl refl, omega (arith, le)))
+    by_test (nat_le (greatest_among table us) (number_for table u))
+    (λ k. let le = leb-true (greatest_among table us) (number_for table u) k in inr (u, inl refl, omega (arith, le)))
     (λ k.
-    let lt = leb-false (greatest_among table us) (level_in table u) k in
+    let lt = leb-false (greatest_among table us) (number_for table u) k in
     elim (among_reached table us) [
       | inl none ↦ absurd (omega (arith, lt, none))
       | inr p ↦ inr (p.0, inr p.1, omega (arith, lt, p.2))
     ])
 
-pub among_bounded : (table : List (Task × ℕ)) (n : ℕ) → ((t : Task) → level_in table t ≤ n) → (ts : List Task) → greatest_among table ts ≤ n
+pub among_bounded : (table : List (Task × ℕ)) (n : ℕ) → ((t : Task) → number_for table t ≤ n) → (ts : List Task) → greatest_among table ts ≤ n
 among_bounded table n h [] = omega arith
 among_bounded table n h (t ∷ ts) = omega (arith, h t, among_bounded table n h ts)
 
 module _ (P : Plan) (ws : List ℕ) (ts : List Task) (table : List (Task × ℕ)) (h : HasLevels P ws ts table) where
   -- what the table has for one of the tasks, and for any
-  pub found : (t : Task) → IsIn t ts → IsLevel P ws t (level_in table t)
+  pub found : (t : Task) → IsIn t ts → IsLevel P ws t (number_for table t)
   found t i = by (lookup (same_task t) table) (h t)
     where
       by : (o : Option ℕ) → IsLevelAmong P ws ts t o → IsLevel P ws t (unwrap_or o 0)
       by None a = absurd (a i)
       by (Some n) a = a.1
 
-  pub bounded : (t : Task) → level_in table t ≤ 1000000 * length ts
+  pub bounded : (t : Task) → number_for table t ≤ 1000000 * length ts
   bounded t = by (lookup (same_task t) table) (h t)
     where
       by : (o : Option ℕ) → IsLevelAmong P ws ts t o → unwrap_or o 0 ≤ 1000000 * length ts
@@ -125,7 +126,7 @@ module _ (P : Plan) (ws : List ℕ) (ts : List Task) (table : List (Task × ℕ)
       let there : (s : Task) → IsSourceOf P s t → IsIn s ts =
       λ s link. let e = from_map (λ (d : Edge). d.from) (in_edges P t) s link in subst (λ u. IsIn u ts) (sym e.2) (may.after_sources e.0 e.1) in
       level_from P ws t may.task (greatest_among table (sources P t))
-      (λ s link. (level_in table s, found s (there s link), at_most_among table (sources P t) s link))
+      (λ s link. (number_for table s, found s (there s link), at_most_among table (sources P t) s link))
       (elim (among_reached table (sources P t)) [
         | inl none ↦ inl none
         | inr p ↦ inr (p.0, p.1, subst (IsLevel P ws p.0) p.2 (found p.0 (there p.0 p.1)))

@@ -3,6 +3,7 @@ use Rattle.std.proofs.Common.{◌≡◌, ℕ, ◌↔◌, true, false, cond, List
 use Rattle.std.proofs.lemmas.Bool.{false≢true}
 use Rattle.std.specs.declared.cmp.Ordering.{Ordering}
 use Rattle.std.specs.declared.cmp.Ordering.TheVariants.{Less, Equal, Greater}
+use Rattle.std.specs.Map.{keys_of}
 use Rattle.ptg_base.specs.Lists.{HasNoRepeats, IsIn}
 use Rattle.ptg_base.specs.Task.{Task}
 use Rattle.ptg_base.specs.TaskOrder.{in_task_order, insert_by, task_before}
@@ -15,7 +16,7 @@ use Rattle.dep_iter.specs.Tasks.{IsTask, all_tasks}
 use Rattle.dep_iter.proofs.Listing.{listed}
 use Rattle.dep_iter.proofs.Once.{once-all_tasks}
 use Rattle.chain_cert.specs.Certificates.{HasTasksInOrder, tasks_in_order}
-use Rattle.chain_cert.specs.Checking.{IsRising, tasks_of}
+use Rattle.chain_cert.specs.Checking.{IsRising}
 
 -- of two tasks one is before the other, or they are the same
 pub data IsOrdered (a b : Task) : Type 0 where
@@ -116,5 +117,5 @@ module _ (P : Plan) where
   pub sorted_rising : IsRising (tasks_in_order P)
   sorted_rising = rising_order (all_tasks P) (once-all_tasks P)
 
-  pub order_task : (rows : List (Task × ℕ)) → HasTasksInOrder P rows → (t : Task) → IsIn t (tasks_of rows) ↔ IsTask P t
+  pub order_task : (rows : List (Task × ℕ)) → HasTasksInOrder P rows → (t : Task) → IsIn t (keys_of rows) ↔ IsTask P t
   order_task rows q t = (λ i. (sorted_task t).0 (subst (IsIn t) q i), λ job. subst (IsIn t) (sym q) ((sorted_task t).1 job))

@@ -1,7 +1,7 @@
 -- The printed chain, built from its end back.
 use Rattle.std.proofs.Common.{◌≡◌, ℕ, ◌+◌, ◌<◌, ◌≤◌, true, List, [], ◌∷◌, ◌++◌, length, reverse, refl, ap, sym, ◌∙◌, subst, append_assoc, inl, inr, Option, Some, None, MatchOption, IsSomeAnd, arith}
 use Rattle.std.specs.Prelude.{unwrap_or}
-use Rattle.std.specs.Map.{lookup}
+use Rattle.std.specs.Map.{lookup, keys_of}
 use Rattle.std.proofs.lemmas.Bool.{eq-eqb, eqb-true, false≢true}
 use Rattle.std.proofs.lemmas.List.{append-nil, length-reverse, reverse-append}
 use Rattle.ptg_base.specs.Lists.{IsIn}
@@ -16,8 +16,7 @@ use Rattle.dep_iter.specs.Consistent.{IsConsistent}
 use Rattle.dep_iter.proofs.Listing.{listed}
 use Rattle.chain_cert.specs.Certificates.{AreLevels}
 use Rattle.chain_cert.specs.Chains.{HasNoCycle, IsChain, IsSourceOf}
-use Rattle.chain_cert.specs.Checking.{tasks_of}
-use Rattle.chain_cert.specs.Finding.{HasAllLevels, IsHeaviestRow, IsLeastWhere, is_heaviest_source, level_in}
+use Rattle.chain_cert.specs.Finding.{HasAllLevels, IsHeaviestRow, IsLeastWhere, is_heaviest_source}
 use Rattle.chain_cert.specs.Levels.{IsLevel}
 use Rattle.chain_cert.specs.Printed.{HasGreatestLevel, IsChainBack, IsHeaviestSource, IsLeast, IsTracedBack}
 use Rattle.chain_cert.specs.Weights.{chain_weight, weight}
@@ -28,9 +27,10 @@ use Rattle.chain_cert.proofs.Linking.{chain_task}
 use Rattle.chain_cert.proofs.TaskSorting.{order_task}
 use Rattle.chain_cert.proofs.Turning.{source_task}
 use Rattle.chain_cert.proofs.Unique.{level_one}
+use Rattle.flow_meaning.specs.Numbers.{number_for}
 
 -- what a table of all levels has
-pub has_level : (P : Plan) (ws : List ℕ) (table : List (Task × ℕ)) → HasAllLevels P ws table → (t : Task) → IsTask P t → IsLevel P ws t (level_in table t)
+pub has_level : (P : Plan) (ws : List ℕ) (table : List (Task × ℕ)) → HasAllLevels P ws table → (t : Task) → IsTask P t → IsLevel P ws t (number_for table t)
 has_level P ws table h t job = by (lookup (same_task t) table) (h t job)
   where
     by : (o : Option ℕ) → IsSomeAnd o (IsLevel P ws t) → IsLevel P ws t (unwrap_or o 0)
@@ -38,50 +38,50 @@ has_level P ws table h t job = by (lookup (same_task t) table) (h t job)
     by (Some n) a = a
 
 module _ (P : Plan) (con : IsConsistent P) (ws : List ℕ) (table : List (Task × ℕ)) (h : HasAllLevels P ws table) (t : Task) (job : IsTask P t) where
-  here : IsLevel P ws t (level_in table t)
+  here : IsLevel P ws t (number_for table t)
   here = has_level P ws table h t job
 
   -- where the level of a task is not its weight, it comes by a source
-  by_source : (level_in table t ≡ weight ws t → ⊥) → (s : Task) × IsSourceOf P s t × (level_in table s + weight ws t ≡ level_in table t)
+  by_source : (number_for table t ≡ weight ws t → ⊥) → (s : Task) × IsSourceOf P s t × (number_for table s + weight ws t ≡ number_for table t)
   by_source more = by (comes_to P t here.chain here.is_chain here.ends)
     where
-      by : ComesTo P t here.chain → (s : Task) × IsSourceOf P s t × (level_in table s + weight ws t ≡ level_in table t)
+      by : ComesTo P t here.chain → (s : Task) × IsSourceOf P s t × (number_for table s + weight ws t ≡ number_for table t)
       by (Alone is) = absurd (more (omega (arith, here.reached, ap (chain_weight ws) is)))
       by (BySource front s is before link) =
           let level = has_level P ws table h s (source_task P con s t job link) in
           let under = level.most (front ++ s ∷ []) before (front, refl) in
-          let q = longer P ws t job s (level_in table s) link level in
+          let q = longer P ws t job s (number_for table s) link level in
           let over = here.most q.0 q.1 q.2 in
           (s, link, omega (arith, here.reached, ap (chain_weight ws) is, weigh-push (weight ws) (front ++ s ∷ []) t, under, over, q.3))
 
   -- a source is one by which a heaviest chain comes exactly where it passes the test
-  pub heaviest_passes : (s : Task) → IsSourceOf P s t → is_heaviest_source table (weight ws t) (level_in table t) s ≡ true → IsHeaviestSource P ws t s
+  pub heaviest_passes : (s : Task) → IsSourceOf P s t → is_heaviest_source table (weight ws t) (number_for table t) s ≡ true → IsHeaviestSource P ws t s
   heaviest_passes s link passes = record {
     source = link;
-    level = level_in table s;
+    level = number_for table s;
     source_level = has_level P ws table h s (source_task P con s t job link);
-    task_level = subst (IsLevel P ws t) (sym (eqb-true (level_in table s + weight ws t) (level_in table t) passes)) here;
+    task_level = subst (IsLevel P ws t) (sym (eqb-true (number_for table s + weight ws t) (number_for table t) passes)) here;
   }
 
-  pub passes_heaviest : (s : Task) → IsHeaviestSource P ws t s → is_heaviest_source table (weight ws t) (level_in table t) s ≡ true
+  pub passes_heaviest : (s : Task) → IsHeaviestSource P ws t s → is_heaviest_source table (weight ws t) (number_for table t) s ≡ true
   passes_heaviest s k =
-      let a = level_one P ws s k.level (level_in table s) k.source_level (has_level P ws table h s (source_task P con s t job k.source)) in
-      let b = level_one P ws t (k.level + weight ws t) (level_in table t) k.task_level here in
-      eq-eqb (level_in table s + weight ws t) (level_in table t) (omega (arith, a, b))
+      let a = level_one P ws s k.level (number_for table s) k.source_level (has_level P ws table h s (source_task P con s t job k.source)) in
+      let b = level_one P ws t (k.level + weight ws t) (number_for table t) k.task_level here in
+      eq-eqb (number_for table s + weight ws t) (number_for table t) (omega (arith, a, b))
 
   -- one step back
   abbrev pub StepBack : Option Task → Type 0
   StepBack o = MatchOption o (IsLevel P ws t (weight ws t)) (λ s. (IsLevel P ws t (weight ws t) → ⊥) × IsLeast (IsHeaviestSource P ws t) s)
 
-  pub step_ends : level_in table t ≡ weight ws t → StepBack None
+  pub step_ends : number_for table t ≡ weight ws t → StepBack None
   step_ends e = subst (IsLevel P ws t) e here
 
-  pub step_by : (level_in table t ≡ weight ws t → ⊥) → (o : Option Task) → IsLeastWhere (is_heaviest_source table (weight ws t) (level_in table t)) (sources P t) o → StepBack o
+  pub step_by : (number_for table t ≡ weight ws t → ⊥) → (o : Option Task) → IsLeastWhere (is_heaviest_source table (weight ws t) (number_for table t)) (sources P t) o → StepBack o
   step_by more None l =
       let p = by_source more in
-      absurd (false≢true (sym (l p.0 p.1) ∙ eq-eqb (level_in table p.0 + weight ws t) (level_in table t) p.2))
+      absurd (false≢true (sym (l p.0 p.1) ∙ eq-eqb (number_for table p.0 + weight ws t) (number_for table t) p.2))
   step_by more (Some s) l = (
-    λ own. more (level_one P ws t (level_in table t) (weight ws t) here own),
+    λ own. more (level_one P ws t (number_for table t) (weight ws t) here own),
     record {
       kind = heaviest_passes s l.0 l.1;
       least = λ u k. l.2 u k.source (passes_heaviest u k);
@@ -95,12 +95,12 @@ module _ (P : Plan) (ws : List ℕ) (rows : List (Task × ℕ)) (levels : AreLev
     where
       by : (ts : List Task) → ((t : Task) → IsIn t ts → IsTask P t) → ts ≡ []
       by [] job = refl
-      by (t ∷ ts) job = absurd (subst (λ l. IsIn t (tasks_of l)) none ((order_task P rows levels.tasks t).1 (job t (inl refl))))
+      by (t ∷ ts) job = absurd (subst (λ (l : List (Task × ℕ)). IsIn t (keys_of l)) none ((order_task P rows levels.tasks t).1 (job t (inl refl))))
 
   row_task : (t : Task) (n : ℕ) → IsIn (t, n) rows → IsTask P t
   row_task t n i = (order_task P rows levels.tasks t).0 (in_rows rows t n i)
     where
-      in_rows : (rs : List (Task × ℕ)) (t : Task) (n : ℕ) → IsIn (t, n) rs → IsIn t (tasks_of rs)
+      in_rows : (rs : List (Task × ℕ)) (t : Task) (n : ℕ) → IsIn (t, n) rs → IsIn t (keys_of rs)
       in_rows [] t n i = absurd i
       in_rows (r ∷ rs) t n i = elim i [ inl e ↦ inl (ap (λ (x : Task × ℕ). x.0) e) | inr later ↦ inr (in_rows rs t n later) ]
 

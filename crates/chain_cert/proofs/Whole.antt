@@ -1,6 +1,6 @@
 -- A legal order of all tasks: the job has no cycle, and the rows of the levels are in task order.
 use Rattle.std.proofs.Common.{◌≡◌, ℕ, ◌<◌, ◌≤◌, List, [], ◌∷◌, ◌++◌, length, take, slice_index_or, refl, ap, sym, ◌∙◌, subst, inl, inr, Option, Some, None, IsSomeAnd, arith}
-use Rattle.std.specs.Map.{lookup}
+use Rattle.std.specs.Map.{lookup, keys_of}
 use Rattle.std.proofs.lemmas.List.{length-take}
 use Rattle.ptg_base.specs.Lists.{HasNoRepeats, IsIn}
 use Rattle.ptg_base.specs.Task.{Task}
@@ -20,12 +20,12 @@ use Rattle.run_answer.specs.Rows.{AreOfDifferentTasks}
 use Rattle.task_order.proofs.Orders.{legal_once, legal_tasks}
 use Rattle.chain_cert.specs.Certificates.{AreLevels, tasks_in_order}
 use Rattle.chain_cert.specs.Chains.{HasNoCycle, IsCycle}
-use Rattle.chain_cert.specs.Checking.{tasks_of}
-use Rattle.chain_cert.specs.Finding.{HasAllLevels, HasLevels, IsLevelAmong, IsNextTask, level_in, rows_by}
+use Rattle.chain_cert.specs.Finding.{HasAllLevels, HasLevels, IsLevelAmong, IsNextTask, rows_by}
 use Rattle.chain_cert.specs.Levels.{IsLevel}
 use Rattle.chain_cert.proofs.TableLevels.{follows_at, found}
 use Rattle.chain_cert.proofs.Linking.{chain_task, cycle_source}
 use Rattle.chain_cert.proofs.TaskSorting.{in_order, one_rising, rising_order, sorted_rising, sorted_task}
+use Rattle.flow_meaning.specs.Numbers.{number_for}
 
 -- a legal order has no task of a cycle
 none_of_cycle : (P : Plan) (before ts c : List Task) → IsLegalAfter P before ts → IsCycle P c → ((t : Task) → IsIn t before → IsIn t c → ⊥) → (t : Task) → IsIn t ts → IsIn t c → ⊥
@@ -44,9 +44,9 @@ none_of_cycle P before (u ∷ us) c l cycle other t i j =
     ]
 
 -- the tasks of rows that are made from tasks
-pub tasks_of_rows : (table : List (Task × ℕ)) (ts : List Task) → tasks_of (rows_by table ts) ≡ ts
-tasks_of_rows table [] = refl
-tasks_of_rows table (t ∷ ts) = ap (λ l. t ∷ l) (tasks_of_rows table ts)
+pub keys_of-rows_by : (table : List (Task × ℕ)) (ts : List Task) → keys_of (rows_by table ts) ≡ ts
+keys_of-rows_by table [] = refl
+keys_of-rows_by table (t ∷ ts) = ap (λ l. t ∷ l) (keys_of-rows_by table ts)
 
 -- tasks without repeats are different
 pub different : (ts : List Task) → HasNoRepeats ts → AreOfDifferentTasks (λ t. t) ts
@@ -95,10 +95,10 @@ module _ (P : Plan) (order : List Task) (legal : IsLegalOrder P order) where
 
       pub are_levels : (rows : List (Task × ℕ)) → rows ≡ rows_by table (in_task_order (λ t. t) order) → AreLevels P ws rows
       are_levels rows is = record {
-        tasks = ap tasks_of is ∙ tasks_of_rows table (in_task_order (λ t. t) order) ∙ sorted_is;
+        tasks = ap keys_of is ∙ keys_of-rows_by table (in_task_order (λ t. t) order) ∙ sorted_is;
         each = λ t n i.
-            let p = from_map (λ (u : Task). (u, level_in table u)) (in_task_order (λ u. u) order) (t, n) (subst (IsIn (t, n)) is i) in
+            let p = from_map (λ (u : Task). (u, number_for table u)) (in_task_order (λ u. u) order) (t, n) (subst (IsIn (t, n)) is i) in
             let task : t ≡ p.0 = ap (λ (r : Task × ℕ). r.0) p.2 in
-            let level : n ≡ level_in table p.0 = ap (λ (r : Task × ℕ). r.1) p.2 in
-            subst (IsLevel P ws t) (sym level) (subst (λ u. IsLevel P ws u (level_in table p.0)) (sym task) (found P ws order table h p.0 ((in_order p.0 order).0 p.1)));
+            let level : n ≡ number_for table p.0 = ap (λ (r : Task × ℕ). r.1) p.2 in
+            subst (IsLevel P ws t) (sym level) (subst (λ u. IsLevel P ws u (number_for table p.0)) (sym task) (found P ws order table h p.0 ((in_order p.0 order).0 p.1)));
       }

@@ -1,6 +1,7 @@
 -- The certificate of a job: a heaviest chain with the levels of all tasks, or a cycle, or neither where a task trapped.
 -- Source: this project's own choice.
-use Rattle.std.specs.Prelude.{◌≡◌, ◌≢◌, ℕ, List, [], map}
+use Rattle.std.specs.Prelude.{◌≡◌, ◌≢◌, ℕ, List, []}
+use Rattle.std.specs.Map.{keys_of}
 use Rattle.ptg_base.specs.Lists.{IsIn}
 use Rattle.ptg_base.specs.Task.{Task}
 use Rattle.ptg_base.specs.TaskOrder.{in_task_order}
@@ -20,7 +21,7 @@ tasks_in_order P = in_task_order (λ t. t) (all_tasks P)
 
 -- a list with each task of the job in task order
 abbrev pub HasTasksInOrder : Plan → List (Task × ℕ) → Type 0
-HasTasksInOrder P levels = map (λ (row : Task × ℕ). row.0) levels ≡ tasks_in_order P
+HasTasksInOrder P levels = keys_of levels ≡ tasks_in_order P
 
 -- the level of each task, in task order
 pub record AreLevels (P : Plan) (ws : List ℕ) (levels : List (Task × ℕ)) : Type 0 where

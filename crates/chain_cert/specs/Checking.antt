@@ -1,14 +1,10 @@
--- The tasks of rows, tasks in task order, and weights that may be added up.
-use Rattle.std.specs.Prelude.{◌≡◌, ◌≤◌, ℕ, true, List, [], ◌∷◌, map}
+-- Tasks in task order, and weights that may be added up.
+use Rattle.std.specs.Prelude.{◌≡◌, ◌≤◌, ℕ, true, List, [], ◌∷◌}
 use Rattle.std.specs.List.{AllByRecursion}
 use Rattle.ptg_base.specs.Limits.{most_weight}
 use Rattle.ptg_base.specs.Lists.{IsIn}
 use Rattle.ptg_base.specs.Task.{Task}
 use Rattle.ptg_base.specs.TaskOrder.{task_before}
-
--- the tasks of rows
-abbrev pub tasks_of : List (Task × ℕ) → List Task
-tasks_of rows = map (λ (row : Task × ℕ). row.0) rows
 
 -- each task is before all later ones in task order
 abbrev pub IsRising : List Task → Type 0

@@ -1,5 +1,5 @@
 -- How a certificate is found: levels by a table of tasks, and the least of some tasks.
-use Rattle.std.specs.Prelude.{◌≡◌, ◌≤◌, ◌<◌, ◌+◌, ◌*◌, ◌↔◌, ◌==◌, ℕ, max, Bool, true, false, not, List, [], ◌∷◌, length, map, Option, Some, None, is_some, unwrap_or, IsSomeAnd}
+use Rattle.std.specs.Prelude.{◌≡◌, ◌≤◌, ◌<◌, ◌+◌, ◌*◌, ◌↔◌, ◌==◌, ℕ, max, Bool, true, false, not, List, [], ◌∷◌, length, map, Option, Some, None, is_some, IsSomeAnd}
 use Rattle.std.specs.Map.{lookup}
 use Rattle.ptg_base.specs.Limits.{most_tasks, most_weight}
 use Rattle.ptg_base.specs.Lists.{IsIn}
@@ -17,6 +17,7 @@ use Rattle.chain_cert.specs.declared.certificate.Certificate.TheVariants.{Chain,
 use Rattle.chain_cert.specs.Chains.{IsCycle}
 use Rattle.chain_cert.specs.Checked.{ShowsHeaviest}
 use Rattle.chain_cert.specs.Levels.{IsLevel}
+use Rattle.flow_meaning.specs.Numbers.{number_for}
 
 -- what a table of levels has for a task: its level if it is one of these tasks, else nothing
 abbrev pub IsLevelAmong : Plan → List ℕ → List Task → Task → Option ℕ → Type 0
@@ -27,14 +28,10 @@ IsLevelAmong P ws ts t (Some n) = IsIn t ts × IsLevel P ws t n × (n ≤ most_w
 abbrev pub HasLevels : Plan → List ℕ → List Task → List (Task × ℕ) → Type 0
 HasLevels P ws ts table = (t : Task) → IsLevelAmong P ws ts t (lookup (same_task t) table)
 
--- the level that a table has for a task, 0 where it has none
-abbrev pub level_in : List (Task × ℕ) → Task → ℕ
-level_in table t = unwrap_or (lookup (same_task t) table) 0
-
 -- the greatest level that a table has for one of these tasks, 0 where it has none
 abbrev pub greatest_among : List (Task × ℕ) → List Task → ℕ
 greatest_among table [] = 0
-greatest_among table (t ∷ ts) = max (level_in table t) (greatest_among table ts)
+greatest_among table (t ∷ ts) = max (number_for table t) (greatest_among table ts)
 
 -- tasks that are few enough, and one that may follow them
 pub record IsNextTask (P : Plan) (ws : List ℕ) (before : List Task) (table : List (Task × ℕ)) (t : Task) : Type 0 where
@@ -48,7 +45,7 @@ HasAllLevels P ws table = (t : Task) → IsTask P t → IsSomeAnd (lookup (same_
 
 -- tasks with the levels that a table has for them
 abbrev pub rows_by : List (Task × ℕ) → List Task → List (Task × ℕ)
-rows_by table ts = map (λ (t : Task). (t, level_in table t)) ts
+rows_by table ts = map (λ (t : Task). (t, number_for table t)) ts
 
 -- the least in task order of those of these tasks that pass a test, if there is one
 abbrev pub IsLeastWhere : (Task → Bool) → List Task → Option Task → Type 0
@@ -65,7 +62,7 @@ IsHeaviestRow rows (Some best) =
 
 -- whether a heaviest chain with the level n comes to a task of the weight w by this source
 abbrev pub is_heaviest_source : List (Task × ℕ) → ℕ → ℕ → Task → Bool
-is_heaviest_source table w n s = level_in table s + w == n
+is_heaviest_source table w n s = number_for table s + w == n
 
 -- whether a table does not have a task
 abbrev pub is_left : List (Task × ℕ) → Task → Bool

@@ -1,6 +1,6 @@
 //! The weights of classes.
 
-ghost use Rattle.std.specs.Prelude.{◌≡◌, ◌++◌, IfOk, codes, map, take};
+ghost use Rattle.std.specs.Prelude.{◌≡◌, IfOk};
 ghost use Rattle.name_table.specs.Names.{value_named};
 ghost use Rattle.chain_cert.specs.Checking.{AreWeights};
 ghost use Rattle.chain_cert.specs.Weights as weighing;

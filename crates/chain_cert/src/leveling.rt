@@ -8,6 +8,7 @@ ghost use Rattle.flow_meaning.specs.Order.{IsLegalOrder};
 ghost use Rattle.chain_cert.specs.Checking.{AreWeights};
 ghost use Rattle.chain_cert.specs.Finding as finding;
 ghost use Rattle.chain_cert.specs.Finding.{HasLevels, IsNextTask};
+ghost use Rattle.flow_meaning.specs.Numbers.{number_for};
 
 use crate::tasks::weight_of;
 use dep_iter::{Matched, in_edges};
@@ -18,7 +19,7 @@ use std::alloc::Global;
 
 // The level that a table has for a task, 0 where it has none.
 pub(crate) fn level_in(table: &IndexMap<TaskId, u64>, t: &TaskId) -> u64
-    ensures { result ≡ finding.level_in table.now.entries t.now }
+    ensures { result ≡ number_for table.now.entries t.now }
 {
     match table.get(t) {
         Some(level) => *level,

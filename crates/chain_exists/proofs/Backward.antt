@@ -15,21 +15,22 @@ use Rattle.dep_iter.specs.Consistent.{IsConsistent}
 use Rattle.dep_iter.proofs.Listing.{listed}
 use Rattle.chain_cert.specs.Certificates.{AreLevels}
 use Rattle.chain_cert.specs.Chains.{HasNoCycle}
-use Rattle.chain_cert.specs.Finding.{HasAllLevels, IsHeaviestRow, LacksTasks, is_heaviest_source, is_left, level_in}
+use Rattle.chain_cert.specs.Finding.{HasAllLevels, IsHeaviestRow, LacksTasks, is_heaviest_source, is_left}
 use Rattle.chain_cert.specs.Printed.{IsChainBack, IsPrintedChain, IsPrintedCycle, IsWalkBack}
 use Rattle.chain_cert.specs.Weights.{weight}
 use Rattle.chain_cert.proofs.Tracing.{IsTracing, StepBack, last_is, no_row, step_by, step_ends, trace_end, trace_next, trace_room, trace_start}
 use Rattle.chain_cert.proofs.WalkingBack.{IsWalking, walk_left, walk_next, walk_start}
 use Rattle.chain_exists.proofs.Rows.{heaviest_of, least_of}
+use Rattle.flow_meaning.specs.Numbers.{number_for}
 
 module _ (P : Plan) (con : IsConsistent P) (ws : List ℕ) (none : HasNoCycle P) (rows : List (Task × ℕ)) (levels : AreLevels P ws rows) (all : HasAllLevels P ws rows) where
   step_back : (t : Task) (job : IsTask P t) → (o : Option Task) × StepBack P con ws rows all t job o
   step_back t job =
-      by_test (level_in rows t == weight ws t)
-      (λ k. (None, step_ends P con ws rows all t job (eqb-true (level_in rows t) (weight ws t) k)))
+      by_test (number_for rows t == weight ws t)
+      (λ k. (None, step_ends P con ws rows all t job (eqb-true (number_for rows t) (weight ws t) k)))
       (λ k.
-      let least = least_of (is_heaviest_source rows (weight ws t) (level_in rows t)) (sources P t) in
-      (least.0, step_by P con ws rows all t job (λ e. false≢true (sym k ∙ eq-eqb (level_in rows t) (weight ws t) e)) least.0 least.1))
+      let least = least_of (is_heaviest_source rows (weight ws t) (number_for rows t)) (sources P t) in
+      (least.0, step_by P con ws rows all t job (λ e. false≢true (sym k ∙ eq-eqb (number_for rows t) (weight ws t) e)) least.0 least.1))
 
   trace : (n : ℕ) (back : List Task) (o : Option Task) → IsTracing P ws back o → length (all_tasks P) ≤ length back + n → (c : List Task) × IsChainBack P ws c
   trace n back None w many = (back, trace_end P ws back w)

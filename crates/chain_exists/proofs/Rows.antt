@@ -1,7 +1,7 @@
 -- Rows of tasks with numbers: those of levels, the heaviest of them, and the least task that passes a test.
 use Rattle.std.proofs.Common.{◌≡◌, ℕ, ◌↔◌, cond, Bool, true, List, [], ◌∷◌, ◌++◌, refl, ap, sym, ◌∙◌, subst, append_assoc, inl, inr, Option, Some, None, IsSomeAnd, is_some, arith}
 use Rattle.std.specs.Prelude.{◌==◌, nat_lt}
-use Rattle.std.specs.Map.{lookup}
+use Rattle.std.specs.Map.{lookup, keys_of}
 use Rattle.std.proofs.lemmas.Bool.{false≢true, eqb-true, eq-eqb, ltb-true, ltb-false}
 use Rattle.std.proofs.lemmas.List.{append-nil}
 use Rattle.ptg_base.specs.Lists.{IsIn}
@@ -11,14 +11,13 @@ use Rattle.ptg_base.specs.TaskLaws.{same_task-decides}
 use Rattle.ptg_base.specs.TaskOrder.{task_before}
 use Rattle.plan_core.specs.declared.plan.Plan.{Plan}
 use Rattle.list_lemmas.proofs.Truth.{by_test}
-use Rattle.chain_cert.specs.Checking.{tasks_of}
 use Rattle.chain_cert.specs.Finding.{IsHeaviestRow, IsLeastWhere}
 use Rattle.chain_cert.specs.Levels.{IsLevel}
 use Rattle.chain_cert.proofs.Leasts.{heaviest_first, heaviest_new, heaviest_old, least_first, least_new, least_old, least_skips}
 
 -- rows with the levels of these tasks
 pub record HasLevelRows (P : Plan) (ws : List ℕ) (ts : List Task) (rows : List (Task × ℕ)) : Type 0 where
-  pub tasks : tasks_of rows ≡ ts
+  pub tasks : keys_of rows ≡ ts
   pub each : (t : Task) (n : ℕ) → IsIn (t, n) rows → IsLevel P ws t n
   pub found : (t : Task) → IsIn t ts → IsSomeAnd (lookup (same_task t) rows) (IsLevel P ws t)
 
@@ -49,7 +48,7 @@ level_rows P ws (u ∷ us) had =
     )
 
 -- rows have a task exactly where they are rows of it
-pub rows_have : (rows : List (Task × ℕ)) (t : Task) → IsIn t (tasks_of rows) ↔ (is_some (lookup (same_task t) rows) ≡ true)
+pub rows_have : (rows : List (Task × ℕ)) (t : Task) → IsIn t (keys_of rows) ↔ (is_some (lookup (same_task t) rows) ≡ true)
 rows_have [] t = (λ i. absurd i, λ e. absurd (false≢true e))
 rows_have (r ∷ rs) t =
     by_test (same_task t r.0)

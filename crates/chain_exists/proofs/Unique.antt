@@ -2,6 +2,7 @@
 use Rattle.std.proofs.Common.{◌≡◌, ℕ, List, [], ◌∷◌, ◌++◌, reverse, refl, ap, sym, ◌∙◌, subst, append_assoc, ◌⊎◌, inl, inr}
 use Rattle.std.proofs.lemmas.Bool.{false≢true}
 use Rattle.std.proofs.lemmas.List.{append-nil, same_from_push}
+use Rattle.std.specs.Map.{keys_of}
 use Rattle.ptg_base.specs.Lists.{HasNoRepeats, IsIn}
 use Rattle.ptg_base.specs.Task.{Task}
 use Rattle.plan_core.specs.declared.plan.Plan.{Plan}
@@ -15,7 +16,6 @@ use Rattle.flow_meaning.specs.Answer.{ran}
 use Rattle.chain_cert.specs.declared.certificate.Certificate.{Certificate}
 use Rattle.chain_cert.specs.declared.certificate.Certificate.TheVariants.{Chain, Cycle, Trapped}
 use Rattle.chain_cert.specs.Certificates.{AreLevels, IsCertificate}
-use Rattle.chain_cert.specs.Checking.{tasks_of}
 use Rattle.chain_cert.specs.Levels.{IsLevel}
 use Rattle.chain_cert.specs.Printed.{IsChainBack, IsHeaviestSource, HasGreatestLevel, IsLeast, IsPrintedChain, IsPrintedCycle, IsSourceLeft, IsTaskLeft, IsTracedBack, IsWalkBack, IsWalkedBack}
 use Rattle.chain_cert.proofs.TaskSorting.{Before, Same, After, ordered}
@@ -55,13 +55,13 @@ module _ (P : Plan) (ws : List ℕ) where
   pub chain_one : (c d : List Task) → IsPrintedChain P ws c → IsPrintedChain P ws d → c ≡ d
   chain_one c d a b = a.turned ∙ ap reverse (back_one a.back b.back a.is_back b.is_back) ∙ sym b.turned
 
-  rows_one : (xs ys : List (Task × ℕ)) → tasks_of xs ≡ tasks_of ys → ((t : Task) (n : ℕ) → IsIn (t, n) xs → IsLevel P ws t n) → ((t : Task) (n : ℕ) → IsIn (t, n) ys → IsLevel P ws t n) → xs ≡ ys
+  rows_one : (xs ys : List (Task × ℕ)) → keys_of xs ≡ keys_of ys → ((t : Task) (n : ℕ) → IsIn (t, n) xs → IsLevel P ws t n) → ((t : Task) (n : ℕ) → IsIn (t, n) ys → IsLevel P ws t n) → xs ≡ ys
   rows_one [] [] e a b = refl
   rows_one [] (y ∷ ys) e a b = absurd cc
   rows_one (x ∷ xs) [] e a b = absurd cc
   rows_one (x ∷ xs) (y ∷ ys) e a b =
       let task : x.0 ≡ y.0 = cc in
-      let tasks : tasks_of xs ≡ tasks_of ys = cc in
+      let tasks : keys_of xs ≡ keys_of ys = cc in
       let level : x.1 ≡ y.1 = level_one P ws x.0 x.1 y.1 (a x.0 x.1 (inl refl)) (subst (λ t. IsLevel P ws t y.1) (sym task) (b y.0 y.1 (inl refl))) in
       let row : x ≡ y = λ i. (task i, level i) in
       let rest : xs ≡ ys = rows_one xs ys tasks (λ t n i. a t n (inr i)) (λ t n i. b t n (inr i)) in

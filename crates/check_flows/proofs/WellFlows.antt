@@ -27,12 +27,13 @@ use Rattle.check_names.proofs.NoFaults.{parts_of, option_there}
 use Rattle.check_names.proofs.Parts.{each_length}
 use Rattle.check_flows.specs.Datatypes.{written_faults, first_written, type_of_flow, flow_type}
 use Rattle.check_flows.specs.Targets.{target_of}
-use Rattle.check_flows.specs.Dependences.{target_faults, second_faults, type_faults, dependence_faults, dependence_of, is_of_direction, dependences_of, dependences_faults, directions_of, flow_faults, flow_from, flow_plan}
+use Rattle.check_flows.specs.Dependences.{target_faults, type_faults, dependence_faults, dependence_of, is_of_direction, dependences_of, dependences_faults, directions_of, flow_faults, flow_from, flow_plan}
 use Rattle.check_flows.specs.PartsOfJob.{HaveParts}
 use Rattle.check_flows.proofs.TypeRules.{datatype_allowed}
 use Rattle.check_flows.proofs.Ways.{dep_from}
 use Rattle.check_flows.proofs.WellTargets.{allowed, IsWellTarget, target_well}
 use Rattle.std.proofs.lemmas.Option.{same_Some}
+use Rattle.std.specs.Option.{option_map_or}
 use Rattle.list_lemmas.proofs.Joins.{first_nil, rest_nil}
 
 -- ---- lists
@@ -85,7 +86,7 @@ module _ (job : Job) (classes : List ClassPlan) (spaces : List ClassSpace) (coll
 
   -- a second target has a guard, and passes
   second_passes : (direction : Direction) (guard : Option Expression) (g : Option Term) (no : Option TargetTree) (o : Option Target) → (IsSome no → IsSome guard) → option_term job seen guard ≡ Some g
-      → second_faults (target_faults job seen flow direction) no ≡ [] → each_option (target_of job seen) no ≡ Some o → IsTrue (is_second (ends classes spaces colls (length seen) p direction) g o)
+      → option_map_or (target_faults job seen flow direction) no [] ≡ [] → each_option (target_of job seen) no ≡ Some o → IsTrue (is_second (ends classes spaces colls (length seen) p direction) g o)
   second_passes direction guard g None o guarded eg h e = subst (λ z. IsTrue (is_second (ends classes spaces colls (length seen) p direction) g z)) (same_Some None o e) refl
   second_passes direction None g (Some t) o guarded eg h e = absurd (false≢true (guarded refl))
   second_passes direction (Some c) g (Some t) o guarded eg h e =
@@ -100,11 +101,11 @@ module _ (job : Job) (classes : List ClassPlan) (spaces : List ClassSpace) (coll
       let q = parts_of dep_from (option_term job seen dep.guard) (both (λ x y. (x, y)) (target_of job seen dep.yes) (each_option (target_of job seen) dep.no)) d e in
       let two = pair_parts (target_of job seen dep.yes) (each_option (target_of job seen) dep.no) q.1 q.3 in
       let first = target_faults job seen flow dep.direction dep.yes in
-      let second = second_faults (target_faults job seen flow dep.direction) dep.no in
+      let second = option_map_or (target_faults job seen flow dep.direction) dep.no [] in
       let targets : first ++ second ≡ [] = rest_nil (option_faults job seen dep.guard) (first ++ second) (first_nil (option_faults job seen dep.guard ++ (first ++ second)) (type_faults job.given flow dep) h) in
       let same = of_direction direction dep here in
       let yes : target_faults job seen flow direction dep.yes ≡ [] = ap (λ b. target_faults job seen flow b dep.yes) (sym same) ∙ first_nil first second targets in
-      let no : second_faults (target_faults job seen flow direction) dep.no ≡ [] = ap (λ b. second_faults (target_faults job seen flow b) dep.no) (sym same) ∙ rest_nil first second targets in
+      let no : option_map_or (target_faults job seen flow direction) dep.no [] ≡ [] = ap (λ b. option_map_or (target_faults job seen flow b) dep.no []) (sym same) ∙ rest_nil first second targets in
       let passes = ends classes spaces colls (length seen) p direction in
       subst (λ z. IsTrue (is_dependence (length seen) passes z)) q.4
       (and_from (is_closed_option (length seen) q.0 && passes q.1.0) (is_second passes q.0 q.1.1)

@@ -2,6 +2,7 @@
 -- datatype is this project's own choice.
 use Rattle.std.specs.Prelude.{ℕ, Bool, not, ◌&&◌, List, [], ◌++◌, filter, flat_map, Option, Some, None}
 use Rattle.std.specs.Str.{bytes_eq}
+use Rattle.std.specs.Option.{option_map_or}
 use Rattle.term_core.specs.declared.direction.Direction.{Direction}
 use Rattle.term_core.specs.declared.direction.Direction.TheVariants.{In, Out}
 use Rattle.term_core.specs.Directions.{is_same}
@@ -24,11 +25,6 @@ use Rattle.check_flows.specs.Rules.{rule_faults}
 abbrev pub target_faults : Job → List DefTree → FlowTree → Direction → TargetTree → List JdfFault
 target_faults job seen flow direction t = named_faults job seen t ++ rule_faults job flow direction t
 
--- the faults of a second target, if there is one
-abbrev pub second_faults : (TargetTree → List JdfFault) → Option TargetTree → List JdfFault
-second_faults faults None = []
-second_faults faults (Some t) = faults t
-
 -- the place of the datatype of a dependence: its name, or where none is written the first target
 abbrev pub type_spot : TargetTree → Option Word → Spot
 type_spot first None = first_spot first
@@ -46,7 +42,7 @@ abbrev pub dependence_faults : Job → List DefTree → FlowTree → DepTree →
 dependence_faults job seen flow dep =
     (option_faults job seen dep.guard
     ++ (target_faults job seen flow dep.direction dep.yes
-    ++ second_faults (target_faults job seen flow dep.direction) dep.no))
+    ++ option_map_or (target_faults job seen flow dep.direction) dep.no []))
     ++ type_faults job.given flow dep
 
 -- the dependence with its names resolved

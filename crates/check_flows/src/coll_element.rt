@@ -1,6 +1,6 @@
 //! Elements of collections.
 
-ghost use Rattle.std.specs.Prelude.{◌≡◌, Some, is_some, if◌then◌else◌, length};
+ghost use Rattle.std.specs.Prelude.{◌≡◌, Some, is_some, if◌then◌else◌};
 ghost use Rattle.check_names.specs.Contexts.{IsContext, job_of};
 ghost use Rattle.jdf_lex.specs.declared.fault.JdfCode.TheVariants.{UnknownName, WrongKind};
 ghost use Rattle.check_names.specs.Names.{coll_named, int_named};

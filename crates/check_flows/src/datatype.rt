@@ -9,7 +9,7 @@ ghost use Rattle.check_flows.specs.Datatypes.{type_is, type_number, allowed_type
 
 use coll_data::{DEFAULT_TYPE, Given};
 use jdf_lex::{JdfCode, JdfRefusal, fault_at};
-use jdf_tree::{DepTree, FlowTree, Word};
+use jdf_tree::{FlowTree, Word};
 use ptg_base::Text;
 use term_core::FlowKind;
 

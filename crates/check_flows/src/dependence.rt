@@ -1,12 +1,13 @@
 //! Dependences and flows.
 
-ghost use Rattle.std.specs.Prelude.{◌≡◌, ◌≤◌, IfOk, List, Some, length};
+ghost use Rattle.std.specs.Prelude.{◌≡◌, ◌≤◌, [], IfOk, List, Some, length};
+ghost use Rattle.std.specs.Option.{option_map_or};
 ghost use Rattle.ptg_base.specs.Limits.{most_named_types};
 ghost use Rattle.plan_core.specs.declared.flow.DepPlan.{DepPlan};
 ghost use Rattle.check_names.specs.Contexts.{IsContext, job_of};
 ghost use Rattle.check_names.specs.Returns.{ReturnsChecked, each_option};
 ghost use Rattle.check_flows.specs.Targets.{target_of};
-ghost use Rattle.check_flows.specs.Dependences.{target_faults, second_faults, type_spot, type_faults, dependence_faults, dependence_of, is_of_direction, dependences_of, dependences_faults, directions_of, directions_faults, flow_faults, flow_from, flow_plan};
+ghost use Rattle.check_flows.specs.Dependences.{target_faults, type_spot, type_faults, dependence_faults, dependence_of, is_of_direction, dependences_of, dependences_faults, directions_of, directions_faults, flow_faults, flow_from, flow_plan};
 
 use crate::datatype::{flow_type, type_of_flow, type_of_written, written_type};
 use crate::rule::target_rules;
@@ -45,7 +46,7 @@ fn second(
 ) -> Result<Option<Target>, JdfRefusal>
     requires { IsContext context.now }
     ensures { ReturnsChecked result (each_option (target_of (job_of context.now) context.now.seen.now) no.now)
-        (second_faults (target_faults (job_of context.now) context.now.seen.now flow.now direction) no.now) }
+        (option_map_or (target_faults (job_of context.now) context.now.seen.now flow.now direction) no.now []) }
 {
     match no {
         None => Ok(None),

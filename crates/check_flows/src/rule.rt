@@ -4,7 +4,7 @@ ghost use Rattle.std.specs.Prelude.{◌≡◌, ◌≤◌, Some, length, option_c
 ghost use Rattle.ptg_base.specs.Limits.{most_named_types};
 ghost use Rattle.check_names.specs.Contexts.{IsContext, job_of};
 ghost use Rattle.check_names.specs.Returns.{ReturnsChecked};
-ghost use Rattle.check_flows.specs.Rules.{flow_of_target, mixes_flows, is_mixed, is_no_start, is_new, task_ranges, in_faults, out_faults, has_other_type, is_other_flow, type_differs, rule_faults};
+ghost use Rattle.check_flows.specs.Rules.{flow_of_target, is_mixed, is_no_start, is_new, task_ranges, in_faults, out_faults, has_other_type, type_differs, rule_faults};
 ghost use Rattle.check_names.specs.Names.{class_of};
 
 use crate::datatype::{type_number, type_of_flow};
@@ -13,7 +13,7 @@ use crate::target::{first_spot, flow_named};
 use check_names::{Context, and_rules, class_named, coll_named, fault_if, no_ranges};
 use coll_data::Given;
 use jdf_lex::{JdfCode, JdfRefusal};
-use jdf_tree::{ClassTree, FlowTree, TargetTree, Word};
+use jdf_tree::{ClassTree, FlowTree, TargetTree};
 use ptg_base::Text;
 use term_core::{Direction, FlowKind};
 

@@ -1,7 +1,7 @@
 -- What breaks no rule is resolved: elements, targets, dependences and flows.
 use Rattle.std.proofs.Common.{◌≡◌, ℕ, suc, Bool, true, false, not, ◌&&◌, ◌==◌, cond, List, [], ◌++◌, length, filter, Option, Some, None, option_map, is_none, slice_get, refl, sym, subst}
 use Rattle.std.specs.Prelude.{option_and_then}
-use Rattle.std.specs.Option.{IsSome}
+use Rattle.std.specs.Option.{IsSome, option_map_or}
 use Rattle.std.specs.List.{position}
 use Rattle.term_core.specs.declared.direction.Direction.{Direction}
 use Rattle.term_core.specs.declared.direction.Direction.TheVariants.{In, Out}
@@ -27,7 +27,7 @@ use Rattle.coll_data.specs.Types.{default_type}
 use Rattle.check_flows.specs.Datatypes.{type_is, allowed_type, type_of_written, written_faults, first_written, flow_type}
 use Rattle.check_flows.specs.Targets.{task_faults, task_of, named_faults, target_of}
 use Rattle.check_flows.specs.Rules.{rule_faults}
-use Rattle.check_flows.specs.Dependences.{target_faults, second_faults, type_faults, dependence_faults, dependence_of, is_of_direction, dependences_of, dependences_faults, directions_of, directions_faults, flow_faults, flow_from, flow_plan}
+use Rattle.check_flows.specs.Dependences.{target_faults, type_faults, dependence_faults, dependence_of, is_of_direction, dependences_of, dependences_faults, directions_of, directions_faults, flow_faults, flow_from, flow_plan}
 use Rattle.check_flows.proofs.Tasks.{task_from}
 use Rattle.check_flows.proofs.Ways.{dep_from}
 
@@ -76,10 +76,10 @@ dependence_there : (job : Job) (seen : List DefTree) (flow : FlowTree) (dep : De
 dependence_there job seen flow dep h =
     let faults = target_faults job seen flow dep.direction in
     let guard = option_faults job seen dep.guard in
-    let targets = faults dep.yes ++ second_faults faults dep.no in
+    let targets = faults dep.yes ++ option_map_or faults dep.no [] in
     both_there dep_from (option_term job seen dep.guard) (both (λ x y. (x, y)) (target_of job seen dep.yes) (each_option (target_of job seen) dep.no)) guard targets (option_there job seen dep.guard)
-    (both_there (λ x y. (x, y)) (target_of job seen dep.yes) (each_option (target_of job seen) dep.no) (faults dep.yes) (second_faults faults dep.no)
-    (allowed_there job seen flow dep.direction dep.yes) (maybe_there (target_of job seen) (second_faults faults) (allowed_there job seen flow dep.direction) dep.no))
+    (both_there (λ x y. (x, y)) (target_of job seen dep.yes) (each_option (target_of job seen) dep.no) (faults dep.yes) (option_map_or faults dep.no [])
+    (allowed_there job seen flow dep.direction dep.yes) (maybe_there (target_of job seen) (λ t. option_map_or faults t []) (allowed_there job seen flow dep.direction) dep.no))
     (first_nil (guard ++ targets) (type_faults job.given flow dep) h)
 
 dependences_there : (job : Job) (seen : List DefTree) (flow : FlowTree) (direction : Direction) (deps : List DepTree) → dependences_faults job seen flow direction deps ≡ [] → IsSome (dependences_of job seen direction deps)

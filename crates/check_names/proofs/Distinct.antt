@@ -4,7 +4,7 @@ use Rattle.std.specs.List.{list_any}
 use Rattle.std.specs.Str.{bytes_eq}
 use Rattle.std.specs.Cmp.Lexicographic.{pointwise, bytes_decides}
 use Rattle.std.proofs.lemmas.Bool.{false≢true, and_from, or_left, or_right}
-use Rattle.plan_core.specs.Names.{are_distinct}
+use Rattle.ptg_base.specs.Lists.{are_distinct}
 use Rattle.check_names.specs.Alphabet.{JdfCode, Word}
 use Rattle.check_names.specs.Repeats.{is_taken, repeats_after, repeats}
 use Rattle.list_lemmas.proofs.Joins.{first_nil, rest_nil}
@@ -28,14 +28,14 @@ name_among : {A : Type 0} (word : A → Word) (xs : List A) (name : List ℕ) �
 name_among word [] name = refl
 name_among word (x ∷ xs) name = let first = bytes_eq-sym name (word x).text in let rest = name_among word xs name in λ i. first i || rest i
 
-distinct_after : {A : Type 0} (word : A → Word) (code : JdfCode) (before xs : List A) → repeats_after word code before xs ≡ [] → IsTrue (are_distinct (map (λ x. (word x).text) xs))
+distinct_after : {A : Type 0} (word : A → Word) (code : JdfCode) (before xs : List A) → repeats_after word code before xs ≡ [] → IsTrue (are_distinct bytes_eq (map (λ x. (word x).text) xs))
 distinct_after word code before [] h = refl
 distinct_after word code before (x ∷ xs) h =
     let name = (word x).text in
     let later = rest_nil _ _ h in
     let taken : is_taken word (before ++ x ∷ []) name ≡ true = taken_more word before x name ∙ or_right (is_taken word before name) (bytes_eq name name) (bytes_eq-self name) in
     let none = names_after word code (before ++ x ∷ []) xs later name taken in
-    and_from (not (list_any (pointwise nat_eq name) (map (λ y. (word y).text) xs))) (are_distinct (map (λ y. (word y).text) xs)) (ap not (name_among word xs name ∙ none)) (distinct_after word code (before ++ x ∷ []) xs later)
+    and_from (not (list_any (pointwise nat_eq name) (map (λ y. (word y).text) xs))) (are_distinct bytes_eq (map (λ y. (word y).text) xs)) (ap not (name_among word xs name ∙ none)) (distinct_after word code (before ++ x ∷ []) xs later)
 
-pub distinct_names : {A : Type 0} (word : A → Word) (code : JdfCode) (xs : List A) → repeats word code xs ≡ [] → IsTrue (are_distinct (map (λ x. (word x).text) xs))
+pub distinct_names : {A : Type 0} (word : A → Word) (code : JdfCode) (xs : List A) → repeats word code xs ≡ [] → IsTrue (are_distinct bytes_eq (map (λ x. (word x).text) xs))
 distinct_names word code xs h = distinct_after word code [] xs h

@@ -5,7 +5,7 @@ use Rattle.std.specs.Str.{bytes_eq}
 use Rattle.std.specs.Cmp.Lexicographic.{bytes_decides}
 use Rattle.std.proofs.lemmas.Bool.{lt-ltb, false≢true, eq-eqb, ne_eqb, and_from, or_left, or_right, or_parts}
 use Rattle.std.proofs.lemmas.Iterator.Adapters.{position_from-zero}
-use Rattle.term_core.specs.WellSpace.{are_closed, is_closed_def, is_among, spans_are_params, are_different, IsWellSpace}
+use Rattle.term_core.specs.WellSpace.{are_closed, is_closed_def, is_among, spans_are_params, IsWellSpace}
 use Rattle.term_core.specs.Term.{Term}
 use Rattle.term_core.specs.declared.space.Range.{Range}
 use Rattle.term_core.specs.declared.space.Def.{Def}
@@ -23,6 +23,7 @@ use Rattle.check_names.proofs.Closed.{closed_definition}
 use Rattle.std.proofs.lemmas.Option.{same_Some}
 use Rattle.list_lemmas.proofs.Places.{position_within}
 use Rattle.std.proofs.lemmas.List.{append_assoc}
+use Rattle.ptg_base.specs.Lists.{are_distinct}
 use Rattle.list_lemmas.proofs.Joins.{first_nil, rest_nil}
 use Rattle.list_lemmas.proofs.Texts.{bytes_eq-self}
 use Rattle.check_names.proofs.Spaces.{space_from}
@@ -105,14 +106,14 @@ among_none defs name k (w ∷ params) ps at h e =
     let other : p.0 ≢ k = λ s. false≢true (sym n.0 ∙ (bytes_decides w.text name).1 (same_name defs w.text name k (p.2 ∙ ap (λ m. Some m) s) at)) in
     ap (is_among k) (sym p.4) ∙ (ap (λ b. b || is_among k p.1) (ne_eqb p.0 k other) ∙ among_none defs name k params p.1 at n.1 p.3)
 
-params_different : (defs : List DefTree) (before params : List Word) (ps : List ℕ) → repeats_after (λ (w : Word). w) NameTwice before params ≡ [] → each (parameter_of defs) params ≡ Some ps → IsTrue (are_different ps)
-params_different defs before [] ps h e = subst (λ l. IsTrue (are_different l)) (same_Some [] ps e) refl
+params_different : (defs : List DefTree) (before params : List Word) (ps : List ℕ) → repeats_after (λ (w : Word). w) NameTwice before params ≡ [] → each (parameter_of defs) params ≡ Some ps → IsTrue (are_distinct (λ p q. q == p) ps)
+params_different defs before [] ps h e = subst (λ l. IsTrue (are_distinct (λ p q. q == p) l)) (same_Some [] ps e) refl
 params_different defs before (w ∷ params) ps h e =
     let p = parts_of (λ x xs. x ∷ xs) (parameter_of defs w) (each (parameter_of defs) params) ps e in
     let later = rest_nil _ _ h in
     let taken : is_taken (λ (w : Word). w) (before ++ w ∷ []) w.text ≡ true = taken_more (λ (w : Word). w) before w w.text ∙ or_right (is_taken (λ (w : Word). w) before w.text) (bytes_eq w.text w.text) (bytes_eq-self w.text) in
     let none = among_none defs w.text p.0 params p.1 p.2 (names_after (λ (w : Word). w) NameTwice (before ++ w ∷ []) params later w.text taken) p.3 in
-    subst (λ l. IsTrue (are_different l)) p.4 (and_from (not (is_among p.0 p.1)) (are_different p.1) (ap not none) (params_different defs (before ++ w ∷ []) params p.1 later p.3))
+    subst (λ l. IsTrue (are_distinct (λ p q. q == p) l)) p.4 (and_from (not (is_among p.0 p.1)) (are_distinct (λ p q. q == p) p.1) (ap not none) (params_different defs (before ++ w ∷ []) params p.1 later p.3))
 
 among_some : (defs : List DefTree) (name : List ℕ) (k : ℕ) (params : List Word) (ps : List ℕ) → local_named defs name ≡ Some k → list_any (word_is name) params ≡ true → each (parameter_of defs) params ≡ Some ps → is_among k ps ≡ true
 among_some defs name k [] ps at h e = absurd (false≢true h)

@@ -2,6 +2,7 @@
 -- JDF documentation.
 use Rattle.std.specs.Prelude.{List, [], ◌∷◌, ◌++◌, Option, Some, None, option_map}
 use Rattle.std.specs.Result.{result_ok}
+use Rattle.std.specs.Option.{option_map_or}
 use Rattle.term_core.specs.Term.{Term}
 use Rattle.term_core.specs.Term as term
 use Rattle.jdf_tree.specs.Expression.{Expression, Num, Name, Elem, Unary, Binary, Choose}
@@ -44,8 +45,7 @@ symbols_of job seen =
 
 -- the faults of an expression that may be left out
 abbrev pub option_faults : Job → List DefTree → Option Expression → List JdfFault
-option_faults job seen None = []
-option_faults job seen (Some e) = expression_faults job seen e
+option_faults job seen e = option_map_or (expression_faults job seen) e []
 
 -- the term of an expression that may be left out
 abbrev pub option_term : Job → List DefTree → Option Expression → Option (Option Term)

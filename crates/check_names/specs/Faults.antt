@@ -1,6 +1,7 @@
 -- Faults in the order of the text, and the first of several. That a text is refused with the first of all its faults,
 -- and which code comes first at one place, are this project's own choice.
-use Rattle.std.specs.Prelude.{ℕ, Bool, true, false, ◌&&◌, ◌||◌, nat_eq, nat_lt, List, [], ◌∷◌, Option, Some, None, Ok, Err, if◌then◌else◌}
+use Rattle.std.specs.Prelude.{ℕ, Bool, true, false, ◌&&◌, ◌||◌, nat_eq, nat_lt, List, [], ◌∷◌, Option, Some, None, if◌then◌else◌, option_to_list}
+use Rattle.std.specs.Result.{result_err}
 use Rattle.expr_names.specs.Symbols.{Resolved}
 use Rattle.check_names.specs.Alphabet.{Spot, JdfCode, JdfFault}
 use denote.Enum.Declared.{tag_of}
@@ -43,5 +44,4 @@ fault_if false spot code = []
 
 -- the fault of what is resolved, if it has one
 abbrev pub resolved_faults : {A : Type 0} → Resolved A → List JdfFault
-resolved_faults (Ok x) = []
-resolved_faults (Err f) = f ∷ []
+resolved_faults r = option_to_list (result_err r)

@@ -1,6 +1,7 @@
 -- What follows from the definition of names given twice.
 use Rattle.std.specs.Prelude.{◌≡◌, List, [], map, IsTrue}
-use Rattle.plan_core.specs.Names.{are_distinct}
+use Rattle.std.specs.Str.{bytes_eq}
+use Rattle.ptg_base.specs.Lists.{are_distinct}
 use Rattle.check_names.specs.Alphabet.{JdfCode, Word}
 use Rattle.check_names.specs.Repeats.{repeats}
 
@@ -8,4 +9,4 @@ use Rattle.check_names.specs.Repeats.{repeats}
 abbrev pub NamesAreDistinct : Type 0
 NamesAreDistinct =
     (code : JdfCode) (words : List Word) → repeats (λ (w : Word). w) code words ≡ []
-    → IsTrue (are_distinct (map (λ (w : Word). w.text) words))
+    → IsTrue (are_distinct bytes_eq (map (λ (w : Word). w.text) words))

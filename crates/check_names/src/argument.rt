@@ -1,6 +1,6 @@
 //! Arguments: expressions and ranges.
 
-ghost use Rattle.std.specs.Prelude.{◌≡◌, ◌++◌, [], Some};
+ghost use Rattle.std.specs.Prelude.{◌++◌, Some};
 ghost use Rattle.check_names.specs.Contexts.{IsContext, job_of};
 ghost use Rattle.check_names.specs.Returns.{ReturnsChecked};
 ghost use Rattle.check_names.specs.Expressions.{expression_faults, option_faults};

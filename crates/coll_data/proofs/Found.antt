@@ -40,7 +40,7 @@ module _ (d : Data) (well : IsWellMade d) (p : Place) (c : Coll) (there : Some c
 
   pub tile_there : IsSome r ↔ HasPlace d.colls p
   tile_there =
-      let exists = tile_exists c.shape.0 c.shape.1 p.i p.j c.tiles well_coll.all_tiles in
+      let exists = tile_exists c.shape.0 c.shape.1 p.i p.j c.tiles well_coll.whole.all_tiles in
       let copied = copied_some r in (
         λ h. place_of.1 (exists.0 (subst IsSome found (copied.0 h))),
         λ h. copied.1 (subst IsSome (sym found) (exists.1 (place_of.0 h))),

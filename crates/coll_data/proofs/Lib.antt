@@ -1,4 +1,5 @@
 pub mod TileIndex
+pub mod OneIndex
 pub mod Found
 pub mod Replaced
 pub mod ElementSums

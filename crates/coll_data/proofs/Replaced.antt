@@ -28,9 +28,8 @@ well_with : (elements : List ℕ) (c : Coll) (o : Option ℕ) (tile : List ℤ) 
 well_with elements c None tile w fits = w
 well_with elements c (Some k) tile w fits = record {
   datatype = w.datatype;
-  has_tiles = w.has_tiles;
+  whole = record { has_tiles = w.whole.has_tiles; all_tiles = length-set c.tiles k tile ∙ w.whole.all_tiles };
   tiles_at_most = w.tiles_at_most;
-  all_tiles = length-set c.tiles k tile ∙ w.all_tiles;
   tile_lengths = each_set (λ (t : List ℤ). length t ≡ slice_index elements c.datatype) c.tiles k tile w.tile_lengths fits;
 }
 

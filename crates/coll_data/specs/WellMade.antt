@@ -11,13 +11,17 @@ use Rattle.coll_data.specs.Tiles.{tile_count}
 abbrev pub elements_by_type : Data → List ℕ
 elements_by_type d = d.elems ∷ map (λ (type : List ℕ × ℕ). type.1) d.types
 
--- a collection of one of these types with 1 to 65,536 places, a tile for each, and as many numbers in each tile as its
--- type has elements
+-- a collection has a tile for each of its places, of which there is one at least
+pub record IsWhole (c : Coll) : Type 0 where
+  pub has_tiles : 1 ≤ tile_count c.shape.0 c.shape.1
+  pub all_tiles : length c.tiles ≡ tile_count c.shape.0 c.shape.1
+
+-- a whole collection of one of these types, with at most 65,536 places, and as many numbers in each tile as its type
+-- has elements
 pub record IsWellColl (elements : List ℕ) (c : Coll) : Type 0 where
   pub datatype : c.datatype < length elements
-  pub has_tiles : 1 ≤ tile_count c.shape.0 c.shape.1
+  pub whole : IsWhole c
   pub tiles_at_most : tile_count c.shape.0 c.shape.1 ≤ most_tiles
-  pub all_tiles : length c.tiles ≡ tile_count c.shape.0 c.shape.1
   pub tile_lengths : AllByRecursion (λ (tile : List ℤ). length tile ≡ slice_index elements c.datatype) c.tiles
 
 -- how many elements the tiles of all collections have

@@ -2,28 +2,29 @@
 use Rattle.std.specs.Prelude.{◌==◌, ◌&&◌, ◌||◌, ◌-◌, ◌*◌, nat_le, nat_lt, is_none, find}
 use Rattle.std.proofs.Common.{◌≡◌, ℕ, ◌+◌, Bool, true, false, not, List, length, drop, codes, Option, Some, None, Result, Ok, Err, refl, sym, ◌∙◌, ap}
 use Rattle.std.specs.Option.{option_and_then, option_map, option_map_or}
+use Rattle.std.specs.Result.{result_err}
 use Rattle.ptg_base.specs.Limits.{most_elements}
 use Rattle.coll_data.specs.Types.{default_type}
 use Rattle.coll_data.specs.Tiles.{tile_count}
 use Rattle.coll_data.specs.declared.fault.DataCode.{DataCode}
 use Rattle.coll_data.specs.declared.fault.DataCode.TheVariants.{BadName, NameTwice, UnknownType, BadNumber, TooManyTiles, TooManyElements}
-use Rattle.data_read.specs.Fields.{field, is_name, whole}
+use Rattle.data_read.specs.Fields.{field, is_name, whole, begins}
 use Rattle.data_read.specs.Draft.{Draft, coll_named, is_new, slot_at, type_named}
 use Rattle.data_read.specs.Records.{coll_of, coll_record, collof_record, column, columns, element_count, first_record, first_value, int_record, later_record, numbers, shape_of, tile_record, type_record}
-use Rattle.data_laws.specs.WholeRecords.{Record, begins}
-use Rattle.data_laws.specs.Codes.{all_codes, both_pass, code_of, first_code, first_code_at_start}
+use Rattle.data_laws.specs.WholeRecords.{Record}
+use Rattle.data_laws.specs.Codes.{all_codes, both_pass, first_code, first_code_at_start}
 use Rattle.data_read.proofs.Choices.{by_option}
 use Rattle.list_lemmas.proofs.Truth.{by_test}
 use Rattle.list_lemmas.proofs.Options.{by_result}
 use Rattle.list_lemmas.proofs.Texts.{bytes_eq-apart}
 
-has_code : {A : Type 0} (r : Result A DataCode) (code : DataCode) → code_of r ≡ Some code → r ≡ Err code
+has_code : {A : Type 0} (r : Result A DataCode) (code : DataCode) → result_err r ≡ Some code → r ≡ Err code
 has_code (Ok a) code e = absurd cc
 has_code (Err c) code e = let same : c ≡ code = cc in ap (λ x. Err x) same
 
 -- ---- types
 
-type_code : (d : Draft) (fields : Record) → begins (codes "elems") fields ≡ true → code_of (type_record d fields) ≡ first_code d fields
+type_code : (d : Draft) (fields : Record) → begins (codes "elems") fields ≡ true → result_err (type_record d fields) ≡ first_code d fields
 type_code d fields w =
     let i = bytes_eq-apart (field fields 0) (codes "elems") (codes "int") w refl in
     let c = bytes_eq-apart (field fields 0) (codes "elems") (codes "coll") w refl in
@@ -50,7 +51,7 @@ type_code d fields w =
 
 -- ---- integers
 
-int_code : (d : Draft) (fields : Record) → begins (codes "int") fields ≡ true → code_of (int_record d fields) ≡ first_code d fields
+int_code : (d : Draft) (fields : Record) → begins (codes "int") fields ≡ true → result_err (int_record d fields) ≡ first_code d fields
 int_code d fields w =
     let e = bytes_eq-apart (field fields 0) (codes "int") (codes "elems") w refl in
     let c = bytes_eq-apart (field fields 0) (codes "int") (codes "coll") w refl in
@@ -89,7 +90,7 @@ coll_fits d fields type at TooManyElements =
     false
 coll_fits d fields type at code = false
 
-coll_of_code : (d : Draft) (fields : Record) (type : List ℕ) (at : ℕ) → code_of (coll_of d type fields at) ≡ find (coll_fits d fields type at) all_codes
+coll_of_code : (d : Draft) (fields : Record) (type : List ℕ) (at : ℕ) → result_err (coll_of d type fields at) ≡ find (coll_fits d fields type at) all_codes
 coll_of_code d fields type at =
     by_test (is_name type && is_name (field fields at))
     (λ named.
@@ -113,7 +114,7 @@ coll_of_code d fields type at =
     (λ taken. rw (named, taken) refl))
     (λ unnamed. rw unnamed refl)
 
-coll_code : (d : Draft) (fields : Record) → begins (codes "coll") fields ≡ true → code_of (coll_record d fields) ≡ first_code d fields
+coll_code : (d : Draft) (fields : Record) → begins (codes "coll") fields ≡ true → result_err (coll_record d fields) ≡ first_code d fields
 coll_code d fields w =
     let e = bytes_eq-apart (field fields 0) (codes "coll") (codes "elems") w refl in
     let i = bytes_eq-apart (field fields 0) (codes "coll") (codes "int") w refl in
@@ -123,7 +124,7 @@ coll_code d fields w =
     (λ count. rw (e, i, w, o, t, count) (coll_of_code d fields default_type 1))
     (λ count. rw (e, i, w, o, t, count) refl)
 
-collof_code : (d : Draft) (fields : Record) → begins (codes "collof") fields ≡ true → code_of (collof_record d fields) ≡ first_code d fields
+collof_code : (d : Draft) (fields : Record) → begins (codes "collof") fields ≡ true → result_err (collof_record d fields) ≡ first_code d fields
 collof_code d fields w =
     let e = bytes_eq-apart (field fields 0) (codes "collof") (codes "elems") w refl in
     let i = bytes_eq-apart (field fields 0) (codes "collof") (codes "int") w refl in
@@ -135,7 +136,7 @@ collof_code d fields w =
 
 -- ---- tiles
 
-tile_code : (d : Draft) (fields : Record) → begins (codes "tile") fields ≡ true → code_of (tile_record d fields) ≡ first_code d fields
+tile_code : (d : Draft) (fields : Record) → begins (codes "tile") fields ≡ true → result_err (tile_record d fields) ≡ first_code d fields
 tile_code d fields w =
     let e = bytes_eq-apart (field fields 0) (codes "tile") (codes "elems") w refl in
     let i = bytes_eq-apart (field fields 0) (codes "tile") (codes "int") w refl in
@@ -173,7 +174,7 @@ tile_code d fields w =
 
 -- ---- any record
 
-pub first_code_is : (d : Draft) (fields : Record) → code_of (later_record d fields) ≡ first_code d fields
+pub first_code_is : (d : Draft) (fields : Record) → result_err (later_record d fields) ≡ first_code d fields
 first_code_is d fields =
     by_test (begins (codes "elems") fields)
     (λ h. is_kind (type_record d fields) (later_record d fields) (rw h refl) (type_code d fields h))
@@ -191,10 +192,10 @@ first_code_is d fields =
     (λ h. is_kind (tile_record d fields) (later_record d fields) (rw (e, i, c, o, h) refl) (tile_code d fields h))
     (λ t. rw (e, i, c, o, t) refl)))))
   where
-    is_kind : (kind all : Result Draft DataCode) → all ≡ kind → code_of kind ≡ first_code d fields → code_of all ≡ first_code d fields
-    is_kind kind all same is = ap code_of same ∙ is
+    is_kind : (kind all : Result Draft DataCode) → all ≡ kind → result_err kind ≡ first_code d fields → result_err all ≡ first_code d fields
+    is_kind kind all same is = ap result_err same ∙ is
 
-pub first_code_at_start_is : (fields : Record) → code_of (first_record fields) ≡ first_code_at_start fields
+pub first_code_at_start_is : (fields : Record) → result_err (first_record fields) ≡ first_code_at_start fields
 first_code_at_start_is fields =
     by_test (begins (codes "elems") fields)
     (λ w.
@@ -209,22 +210,22 @@ first_code_at_start_is fields =
 -- ---- faults and codes
 
 pub no_fault : (d next : Draft) (fields : Record) → later_record d fields ≡ Ok next → first_code d fields ≡ None
-no_fault d next fields is = sym (first_code_is d fields) ∙ ap code_of is
+no_fault d next fields is = sym (first_code_is d fields) ∙ ap result_err is
 
 pub no_code : (d : Draft) (fields : Record) → first_code d fields ≡ None → (next : Draft) × (later_record d fields ≡ Ok next)
 no_code d fields none =
     by_result (later_record d fields)
     (λ next h. (next, h))
-    (λ code h. absurd (let never : Some code ≡ None = sym (ap code_of h) ∙ first_code_is d fields ∙ none in cc))
+    (λ code h. absurd (let never : Some code ≡ None = sym (ap result_err h) ∙ first_code_is d fields ∙ none in cc))
 
 pub fault_has_code : (d : Draft) (fields : Record) (code : DataCode) → later_record d fields ≡ Err code → first_code d fields ≡ Some code
-fault_has_code d fields code is = sym (first_code_is d fields) ∙ ap code_of is
+fault_has_code d fields code is = sym (first_code_is d fields) ∙ ap result_err is
 
 pub code_is_fault : (d : Draft) (fields : Record) (code : DataCode) → first_code d fields ≡ Some code → later_record d fields ≡ Err code
 code_is_fault d fields code some = has_code (later_record d fields) code (first_code_is d fields ∙ some)
 
 pub fault_at_start_has_code : (fields : Record) (code : DataCode) → first_record fields ≡ Err code → first_code_at_start fields ≡ Some code
-fault_at_start_has_code fields code is = sym (first_code_at_start_is fields) ∙ ap code_of is
+fault_at_start_has_code fields code is = sym (first_code_at_start_is fields) ∙ ap result_err is
 
 pub code_is_fault_at_start : (fields : Record) (code : DataCode) → first_code_at_start fields ≡ Some code → first_record fields ≡ Err code
 code_is_fault_at_start fields code some = has_code (first_record fields) code (first_code_at_start_is fields ∙ some)

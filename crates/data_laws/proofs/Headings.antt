@@ -5,8 +5,8 @@ use Rattle.std.specs.Cmp.Lexicographic.{bytes_decides}
 use Rattle.std.proofs.lemmas.Bool.{false≢true, false_from_ne_true, or_from, or_parts}
 use Rattle.coll_data.specs.Tiles.{tile_count}
 use Rattle.data_read.specs.Draft.{GrowingColl, coll_index, type_among}
-use Rattle.data_read.specs.Fields.{field}
-use Rattle.data_laws.specs.WholeRecords.{Heading, Record, begins, declares, given_tile, heading_at, heading_in, name_at, tile_in, type_name_in, with_tiles}
+use Rattle.data_read.specs.Fields.{field, begins}
+use Rattle.data_laws.specs.WholeRecords.{Heading, Record, declares, given_tile, heading_at, heading_in, name_at, tile_in, type_name_in, with_tiles}
 use Rattle.data_read.proofs.Choices.{by_option}
 use Rattle.data_read.proofs.Meanings.{any_push}
 use Rattle.data_laws.proofs.WholeLists.{all_of, left_out, map_same, none_kept, range_constant, range_same}

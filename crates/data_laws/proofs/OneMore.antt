@@ -8,10 +8,10 @@ use Rattle.std.proofs.lemmas.List.Sums.{sum_by_push}
 use Rattle.std.proofs.lemmas.Option.{option_and_then_some}
 use Rattle.coll_data.specs.Types.{default_type}
 use Rattle.coll_data.specs.Tiles.{tile_index}
-use Rattle.data_read.specs.Fields.{field, is_name, whole}
+use Rattle.data_read.specs.Fields.{field, is_name, whole, begins}
 use Rattle.data_read.specs.Draft.{GrowingColl, Draft, coll_index, coll_named, is_new, opened, type_among, type_named, with_coll, with_int, with_tile, with_type}
 use Rattle.data_read.specs.Records.{AskedColl, asked_coll, coll_of, coll_record, collof_record, element_count, free_index, int_record, later_record, new_tile, tile_record, type_record}
-use Rattle.data_laws.specs.WholeRecords.{Heading, Record, all_types, begins, data_of_records, declares, elements_of, heading_at, heading_in, headings_of, tile_index_in, int_in, ints_of, name_at, shape_in, type_in, type_name_in, types_of, with_tiles}
+use Rattle.data_laws.specs.WholeRecords.{Heading, Record, all_types, data_of_records, declares, elements_of, heading_at, heading_in, headings_of, tile_index_in, int_in, ints_of, name_at, shape_in, type_in, type_name_in, types_of, with_tiles}
 use Rattle.data_read.proofs.Choices.{by_option, no_value}
 use Rattle.data_read.proofs.Accepted.{IsAsked, IsNewTile, accepted_tile, asked}
 use Rattle.list_lemmas.proofs.Truth.{by_test}

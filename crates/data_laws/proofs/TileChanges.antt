@@ -6,9 +6,9 @@ use Rattle.std.proofs.lemmas.List.FromFn.{get_or-map-range_with_len, length-map-
 use Rattle.std.proofs.lemmas.Option.{get_or_from_slice_get, slice_get_within}
 use Rattle.coll_data.specs.Tiles.{tile_count}
 use Rattle.data_read.specs.Draft.{GrowingColl, coll_index, opened}
-use Rattle.data_read.specs.Fields.{field}
+use Rattle.data_read.specs.Fields.{field, begins}
 use Rattle.data_read.specs.Records.{first_value, numbers}
-use Rattle.data_laws.specs.WholeRecords.{Heading, Record, begins, given_tile, tile_index_in, tile_in, with_tiles}
+use Rattle.data_laws.specs.WholeRecords.{Heading, Record, given_tile, tile_index_in, tile_in, with_tiles}
 use Rattle.list_lemmas.proofs.Truth.{chosen}
 use Rattle.list_lemmas.proofs.Places.{each_weaker}
 use Rattle.list_lemmas.proofs.Texts.{bytes_eq-apart}

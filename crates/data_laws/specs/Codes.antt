@@ -1,16 +1,17 @@
 -- When each code of a fault fits a record, whatever the other codes do, and the order of the codes. Source: this
 -- project's own choice.
-use Rattle.std.specs.Prelude.{◌≡◌, ℕ, ◌+◌, ◌-◌, ◌*◌, Bool, false, not, ◌&&◌, ◌||◌, ◌==◌, nat_le, nat_lt, List, [], ◌∷◌, length, drop, codes, find, Option, Some, None, is_some, is_none, Result, Ok, Err, if◌then◌else◌}
+use Rattle.std.specs.Prelude.{◌≡◌, ℕ, ◌+◌, ◌-◌, ◌*◌, Bool, false, not, ◌&&◌, ◌||◌, ◌==◌, nat_le, nat_lt, List, [], ◌∷◌, length, drop, codes, find, Option, is_some, is_none, if◌then◌else◌}
 use Rattle.std.specs.Option.{option_and_then, option_map, option_map_or}
+use Rattle.std.specs.Result.{result_err}
 use Rattle.ptg_base.specs.Limits.{most_elements, most_named_types}
 use Rattle.coll_data.specs.Types.{default_type}
 use Rattle.coll_data.specs.Tiles.{tile_count}
 use Rattle.coll_data.specs.declared.fault.DataCode.{DataCode}
 use Rattle.coll_data.specs.declared.fault.DataCode.TheVariants.{TooLong, NoElems, ElemsTwice, UnknownRow, FieldCount, BadElems, BadName, NameTwice, TypeTwice, TooManyTypes, UnknownType, UnknownColl, TileCount, BadNumber, TooManyTiles, TooManyElements, BadIndex, TileTwice, MissingName}
-use Rattle.data_read.specs.Fields.{field, is_name, whole}
+use Rattle.data_read.specs.Fields.{field, is_name, whole, begins}
 use Rattle.data_read.specs.Draft.{GrowingColl, Draft, type_named, coll_named, is_new, slot_at}
 use Rattle.data_read.specs.Records.{column, columns, element_count, first_record, first_value, later_record, numbers, shape_of}
-use Rattle.data_laws.specs.WholeRecords.{Record, begins}
+use Rattle.data_laws.specs.WholeRecords.{Record, shape_in}
 
 -- ---- records by their words
 
@@ -103,16 +104,12 @@ has_wrong_tile_count fields =
     both_pass (λ rows cols. is_none (shape_of rows cols)) (whole (field fields (at + 1))) (columns fields (at + 2)))
     fields
 
--- the shape of the collection that a record asks for, whose own name is the field of this number
-abbrev pub asked_shape : Record → ℕ → Option (ℕ × Option ℕ)
-asked_shape fields at =
-    option_and_then (λ rows. option_and_then (shape_of rows) (columns fields (at + 2))) (whole (field fields (at + 1)))
-
--- how many elements its tiles have, of the type of this name
+-- how many elements the collection of a record has in all, if its type has this name; the collection's own name is the
+-- field of this number
 abbrev pub asked_elements : Draft → Record → List ℕ → ℕ → Option ℕ
 asked_elements d fields type at =
     option_and_then
-    (λ (known : ℕ × ℕ). option_map (λ (s : ℕ × Option ℕ). tile_count s.0 s.1 * known.1) (asked_shape fields at))
+    (λ (known : ℕ × ℕ). option_map (λ (s : ℕ × Option ℕ). tile_count s.0 s.1 * known.1) (shape_in fields (at + 1)))
     (type_named d type)
 
 -- with the collection that a record asks for the tiles of all collections have too many elements
@@ -187,11 +184,6 @@ all_codes =
     ∷ TileTwice
     ∷ []
 
--- the fault, if there is one
-abbrev pub code_of : {A : Type 0} → Result A DataCode → Option DataCode
-code_of (Ok a) = None
-code_of (Err code) = Some code
-
 -- the first code that fits a record after the first one, which comes after these data
 abbrev pub first_code : Draft → Record → Option DataCode
 first_code d fields = find (fits d fields) all_codes
@@ -202,8 +194,8 @@ first_code_at_start fields = find (fits_first fields) all_codes
 
 -- the fault of a record is the first code that fits it, and a record that none fits has no fault
 abbrev pub FaultIsFirstCode : Type 0
-FaultIsFirstCode = (d : Draft) (fields : Record) → code_of (later_record d fields) ≡ first_code d fields
+FaultIsFirstCode = (d : Draft) (fields : Record) → result_err (later_record d fields) ≡ first_code d fields
 
 -- the fault of the first record is the first code that fits it, and one that none fits has no fault
 abbrev pub FaultAtStartIsFirstCode : Type 0
-FaultAtStartIsFirstCode = (fields : Record) → code_of (first_record fields) ≡ first_code_at_start fields
+FaultAtStartIsFirstCode = (fields : Record) → result_err (first_record fields) ≡ first_code_at_start fields

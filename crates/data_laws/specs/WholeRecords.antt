@@ -1,21 +1,18 @@
 -- The data of a list of records, from the whole list at once: the types, the integers and the collections in the order
 -- of their records, and for each place of a collection the tile that a record of that place gives. Source: this
 -- project's own choice.
-use Rattle.std.specs.Prelude.{ℕ, ◌+◌, ◌*◌, ℤ, Bool, false, ◌&&◌, ◌||◌, ◌==◌, List, ◌∷◌, map, drop, codes, bytes_eq, slice_get, sum_by, Option, Some, None, option_map, option_and_then, if◌then◌else◌}
+use Rattle.std.specs.Prelude.{ℕ, ◌+◌, ◌*◌, ℤ, Bool, ◌&&◌, ◌||◌, List, ◌∷◌, map, drop, codes, bytes_eq, slice_get, sum_by, Option, None, option_map, option_and_then, if◌then◌else◌, Some, nat_eq}
 use Rattle.std.specs.List.{filter_map, range_with_len}
+use Rattle.std.specs.Option.{option_eq}
 use Rattle.coll_data.specs.Types.{default_type}
 use Rattle.coll_data.specs.Tiles.{tile_count, tile_index}
 use Rattle.data_read.specs.Draft.{GrowingColl, Draft, opened, type_among}
-use Rattle.data_read.specs.Fields.{field, whole}
+use Rattle.data_read.specs.Fields.{field, whole, begins}
 use Rattle.data_read.specs.Records.{column, columns, element_count, first_value, numbers, shape_of}
 
 -- a record is its fields
 abbrev pub Record : Type 0
 Record = List (List ℕ)
-
--- the first field of the record is this word
-abbrev pub begins : List ℕ → Record → Bool
-begins word fields = bytes_eq (field fields 0) word
 
 -- ---- types and integers
 
@@ -98,15 +95,11 @@ tile_index_in shape fields =
     option_and_then (λ i. option_and_then (λ j. tile_index shape.0 shape.1 i j) (column shape.1 fields))
     (whole (field fields 2))
 
--- the number is there, and is this one
-abbrev pub is_index : ℕ → Option ℕ → Bool
-is_index index None = false
-is_index index (Some n) = n == index
-
 -- the record is that of the tile of this index of a collection
 abbrev pub is_of_tile : Heading → ℕ → Record → Bool
 is_of_tile h index fields =
-    begins (codes "tile") fields && bytes_eq (field fields 1) h.name && is_index index (tile_index_in h.shape fields)
+    begins (codes "tile") fields && bytes_eq (field fields 1) h.name
+    && option_eq nat_eq (tile_index_in h.shape fields) (Some index)
 
 -- the tile that a record of this place gives: its values, and zeros after them
 abbrev pub tile_in : Heading → ℕ → Record → Option (List ℤ)

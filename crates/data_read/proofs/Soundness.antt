@@ -67,9 +67,8 @@ well_coll counts c sound =
     let zeros = λ (tile : Option (List ℤ)). unwrap_or tile (replicate c.elements (pos 0)) in
     record {
       datatype = sound.datatype;
-      has_tiles = sound.has_tiles;
+      whole = record { has_tiles = sound.has_tiles; all_tiles = length-map c.tiles zeros ∙ sound.all_tiles };
       tiles_at_most = sound.tiles_at_most;
-      all_tiles = length-map c.tiles zeros ∙ sound.all_tiles;
       tile_lengths = all_map zeros (HasLength c.elements) (λ (tile : List ℤ). length tile ≡ get_or counts c.datatype 0) c.tiles (λ tile h. h ∙ sym sound.elements) sound.lengths;
     }
 

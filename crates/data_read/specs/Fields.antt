@@ -1,6 +1,7 @@
 -- The fields of a record of a data file: blanks around them, names, and whole numbers. Names are spelled as in the JDF
 -- documentation; the rest is this project's own choice.
-use Rattle.std.specs.Prelude.{ℕ, ◌+◌, Bool, ◌&&◌, ◌||◌, ◌==◌, ℤ, pos, neg_ℤ, List, [], ◌∷◌, take, get_or, Option, Some, None, if◌then◌else◌}
+use Rattle.std.specs.Prelude.{ℕ, ◌+◌, Bool, ◌&&◌, ◌||◌, ◌==◌, ℤ, pos, neg_ℤ, List, [], ◌∷◌, take, get_or, Option, Some, None, if◌then◌else◌, bytes_eq}
+use Rattle.ptg_base.specs.Limits.{most_number}
 use Rattle.ptg_base.specs.Decimal.{is_decimal, decimal}
 pub use Rattle.ptg_base.specs.Names.{is_name}
 
@@ -26,13 +27,17 @@ without_blanks bytes = take (content_length (after_blanks bytes)) (after_blanks 
 abbrev pub field : List (List ℕ) → ℕ → List ℕ
 field fields at = without_blanks (get_or fields at [])
 
+-- the first field of the record is this word
+abbrev pub begins : List ℕ → List (List ℕ) → Bool
+begins word fields = bytes_eq (field fields 0) word
+
 -- the number that digits without a sign or after `+` spell, if it fits 64 bits
 abbrev pub positive : List ℕ → Option ℤ
-positive digits = if is_decimal 9223372036854775807 digits then Some (pos (decimal digits)) else None
+positive digits = if is_decimal most_number digits then Some (pos (decimal digits)) else None
 
 -- the number that digits after `-` spell, if it fits 64 bits
 abbrev pub negative : List ℕ → Option ℤ
-negative digits = if is_decimal 9223372036854775808 digits then Some (neg_ℤ (pos (decimal digits))) else None
+negative digits = if is_decimal (most_number + 1) digits then Some (neg_ℤ (pos (decimal digits))) else None
 
 -- a whole number is a `-`, a `+` or no sign, and digits
 abbrev pub whole : List ℕ → Option ℤ

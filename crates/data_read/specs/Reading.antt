@@ -2,6 +2,7 @@
 -- before it.
 -- Source: this project's own choice; the records are those of RFC 4180 and of the csv crate.
 use Rattle.std.specs.Prelude.{ℕ, ◌+◌, List, [], ◌∷◌, length, Result, Ok, Err}
+use Rattle.ptg_base.specs.Returns.{and_then}
 use Rattle.csv.specs.Reading.{default_config, records, strip_bom}
 use Rattle.coll_data.specs.Data.{Data}
 use Rattle.coll_data.specs.declared.fault.DataCode.{DataCode}
@@ -31,8 +32,7 @@ all_records (fields ∷ more) = then_at 1 (first_record fields) (λ elements. la
 
 -- the data of this many records
 abbrev pub as_data : ℕ → Result Draft DataFault → Result Data DataFault
-as_data count (Ok d) = Ok (data_after count d)
-as_data count (Err fault) = Err fault
+as_data count given = and_then given (λ d. Ok (data_after count d))
 
 -- the data that a text spells, or its first fault
 abbrev pub data_of : List ℕ → Result Data DataFault

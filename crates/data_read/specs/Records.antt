@@ -1,6 +1,6 @@
 -- What one record adds to the data, or the first code of its faults. Each record is judged test by test, in the order
 -- of the codes, and the first test that fails names its fault. Source: this project's own choice.
-use Rattle.std.specs.Prelude.{ℕ, ◌+◌, ◌-◌, ◌*◌, ℤ, pos, negsuc, Bool, not, ◌&&◌, ◌||◌, ◌==◌, nat_le, nat_lt, List, [], ◌∷◌, length, drop, codes, Option, Some, None, is_some, Result, Ok, Err, bytes_eq, option_map, option_and_then, if◌then◌else◌}
+use Rattle.std.specs.Prelude.{ℕ, ◌+◌, ◌-◌, ◌*◌, ℤ, pos, negsuc, Bool, not, ◌&&◌, ◌||◌, ◌==◌, nat_le, nat_lt, List, [], ◌∷◌, length, drop, codes, Option, Some, None, is_some, Result, Ok, Err, option_map, option_and_then, if◌then◌else◌, ok_or}
 use Rattle.ptg_base.specs.Limits.{most_elements, most_named_types, most_tiles}
 use Rattle.ptg_base.specs.Returns.{and_then}
 use Rattle.coll_data.specs.Types.{default_type}
@@ -10,7 +10,7 @@ use Rattle.coll_data.specs.declared.fault.DataCode.{DataCode}
 use Rattle.coll_data.specs.declared.fault.DataCode.TheVariants.{NoElems, ElemsTwice, UnknownRow, FieldCount, BadElems, BadName, NameTwice, TypeTwice, TooManyTypes, UnknownType, UnknownColl, TileCount, BadNumber, TooManyTiles, TooManyElements, BadIndex, TileTwice}
 use Rattle.data_read.specs.declared.growing.GrowingColl.{GrowingColl}
 use Rattle.data_read.specs.declared.growing.AskedColl.{AskedColl as AskedStruct}
-use Rattle.data_read.specs.Fields.{field, is_name, whole, without_blanks}
+use Rattle.data_read.specs.Fields.{field, is_name, whole, without_blanks, begins}
 use Rattle.data_read.specs.Draft.{Draft, type_named, coll_named, is_new, slot_at, opened, with_type, with_int, with_coll, with_tile}
 
 -- the struct of what a collection is asked to be; laws of other crates name it by this
@@ -23,8 +23,7 @@ require passed code next = if passed then next else Err code
 
 -- a value that has to be there
 abbrev pub demand : {A B : Type 0} → Option A → DataCode → (A → Result B DataCode) → Result B DataCode
-demand None code next = Err code
-demand (Some a) code next = next a
+demand a code next = and_then (ok_or a code) next
 
 -- a number from 1 to 4,096
 abbrev pub as_element_count : ℤ → Option ℕ
@@ -38,7 +37,7 @@ element_count bytes = option_and_then as_element_count (whole bytes)
 -- the first record is `elems,E`: the number of elements of DEFAULT
 abbrev pub first_record : List (List ℕ) → Result ℕ DataCode
 first_record fields =
-    require (bytes_eq (field fields 0) (codes "elems")) NoElems
+    require (begins (codes "elems") fields) NoElems
     (require (length fields == 2) FieldCount
     (demand (element_count (field fields 1)) BadElems (λ elements. Ok elements)))
 
@@ -156,9 +155,9 @@ tile_record d fields =
 -- a record after the first one, by its first field
 abbrev pub later_record : Draft → List (List ℕ) → Result Draft DataCode
 later_record d fields =
-    if bytes_eq (field fields 0) (codes "elems") then type_record d fields
-    else if bytes_eq (field fields 0) (codes "int") then int_record d fields
-    else if bytes_eq (field fields 0) (codes "coll") then coll_record d fields
-    else if bytes_eq (field fields 0) (codes "collof") then collof_record d fields
-    else if bytes_eq (field fields 0) (codes "tile") then tile_record d fields
+    if begins (codes "elems") fields then type_record d fields
+    else if begins (codes "int") fields then int_record d fields
+    else if begins (codes "coll") fields then coll_record d fields
+    else if begins (codes "collof") fields then collof_record d fields
+    else if begins (codes "tile") fields then tile_record d fields
     else Err UnknownRow

@@ -1,6 +1,6 @@
 //! Records of collections.
 
-ghost use Rattle.std.specs.Prelude.{◌≡◌, ◌≤◌, ◌+◌, ◌*◌, codes, replicate, None, Some, IfOk, IfSome, OnOk, IsTrue, IfNone, length};
+ghost use Rattle.std.specs.Prelude.{◌≡◌, ◌≤◌, ◌+◌, ◌*◌, replicate, None, Some, IfOk, IfSome, OnOk, IsTrue};
 ghost use Rattle.ptg_base.specs.Limits.{most_elements, most_tiles};
 ghost use Rattle.csv.specs.Records.{fields_of};
 ghost use Rattle.coll_data.specs.Tiles.{tile_count};

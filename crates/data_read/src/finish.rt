@@ -1,6 +1,6 @@
 //! The data of all records.
 
-ghost use Rattle.std.specs.Prelude.{◌≡◌, map, pos, replicate, unwrap_or, IfOk, ℕ, ℤ, Option, List};
+ghost use Rattle.std.specs.Prelude.{◌≡◌, map, pos, replicate, unwrap_or, IfOk, ℤ, Option, List};
 ghost use Rattle.coll_data.specs.WellMade.{IsWellMade};
 ghost use Rattle.data_read.specs.Draft.{finished, data_after};
 ghost use Rattle.data_read.specs.Growing.{draft_of};

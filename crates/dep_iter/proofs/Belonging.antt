@@ -8,7 +8,7 @@ use Rattle.ptg_base.specs.Task.{Task}
 use Rattle.ptg_base.specs.declared.edge.Edge.{Edge}
 use Rattle.term_core.specs.declared.direction.Direction.{Direction}
 use Rattle.term_core.specs.declared.direction.Direction.TheVariants.{In, Out}
-use Rattle.term_core.specs.Kinds.{first_alone}
+use Rattle.term_core.specs.Kinds.{first_only, is_data}
 use Rattle.plan_core.specs.declared.flow.FlowPlan.{FlowPlan}
 use Rattle.plan_core.specs.declared.plan.Plan.{Plan}
 use Rattle.plan_core.specs.declared.target.Target.{Target}
@@ -19,7 +19,7 @@ use Rattle.dep_iter.specs.declared.link.Link.{Link}
 use Rattle.dep_iter.specs.Tasks.{flows_of, locals_of}
 use Rattle.plan_core.specs.declared.flow.DepPlan.{DepPlan}
 use Rattle.plan_core.specs.Flows.{dependences}
-use Rattle.dep_iter.specs.Active.{by_flow, held_target, held_targets, held_then, takes_first}
+use Rattle.dep_iter.specs.Active.{by_flow, held_target, held_targets, held_then}
 use Rattle.dep_iter.specs.Arguments.{combinations, product}
 use Rattle.dep_iter.specs.Directions.{IsNearFlow, edges_before, edges_of, far_flow, far_task}
 use Rattle.dep_iter.specs.Directions.{near_flow, near_task}
@@ -188,7 +188,7 @@ link_of d e = record { near = near_flow d e; far = far_task d e; far_flow = far_
 
 -- the links that these dependences of a flow give
 abbrev pub links_of : Direction → Plan → Task → ℕ → FlowPlan → List DepPlan → List Link
-links_of d P t n f ds = flat_map (links_to (locals_of P t) n) (held_targets (first_alone d f.kind) ds (locals_of P t))
+links_of d P t n f ds = flat_map (links_to (locals_of P t) n) (held_targets (first_only d f.kind) ds (locals_of P t))
 
 -- the edge of a flow that these dependences give
 abbrev pub IsGiven : Direction → Plan → Task → Edge → FlowPlan → List DepPlan → Type 0
@@ -226,7 +226,7 @@ module _ (P : Plan) (t : Task) (e : Edge) (f : FlowPlan) (k : ℕ) where
   unfolding in_edges_before
   in_before-is here =
       let env = locals_of P t in
-      let xs = held_targets (takes_first f.kind) (take k f.ins) env in
+      let xs = held_targets (is_data f.kind) (take k f.ins) env in
       rw (here, edges_into-among t env e.in_flow xs) (
         λ h. from_edges_in t (flat_map (links_to env e.in_flow) xs) e h,
         λ h. to_edges_in t (flat_map (links_to env e.in_flow) xs) e h.0 h.1,

@@ -3,14 +3,14 @@ use Rattle.std.proofs.Common.{◌≡◌, refl, ℤ, List, IsTrue, ◌&&◌}
 use Rattle.std.proofs.lemmas.Bool.{and_parts}
 use Rattle.term_core.specs.declared.direction.Direction.{Direction}
 use Rattle.term_core.specs.declared.direction.Direction.TheVariants.{In, Out}
-use Rattle.term_core.specs.Kinds.{first_alone}
+use Rattle.term_core.specs.Kinds.{first_only}
 use Rattle.plan_core.specs.declared.flow.FlowPlan.{FlowPlan}
 use Rattle.plan_core.specs.declared.plan.Plan.{Plan}
 use Rattle.plan_core.specs.Flows.{dependences}
 use Rattle.dep_iter.specs.Active.{held_targets}
 use Rattle.dep_iter.specs.Links.{dependences_fit, flow_targets}
 
-pub held_of : (way : Direction) (env : List ℤ) (f : FlowPlan) → held_targets (first_alone way f.kind) (dependences way f) env ≡ flow_targets way env f
+pub held_of : (way : Direction) (env : List ℤ) (f : FlowPlan) → held_targets (first_only way f.kind) (dependences way f) env ≡ flow_targets way env f
 held_of In env f = refl
 held_of Out env f = refl
 

@@ -1,10 +1,10 @@
 -- No combination occurs twice.
 use Rattle.std.proofs.Common.{ℕ, ℤ, List, [], ◌∷◌, map, ap, sym, ◌∙◌}
 use Rattle.std.specs.List.{filter_map}
+use Rattle.std.specs.Result.{result_unwrap_or}
 use Rattle.ptg_base.specs.Lists.{HasNoRepeats}
 use Rattle.ptg_base.specs.Task.{Task}
 use Rattle.range_space.specs.Fault.{bounds, number}
-use Rattle.range_space.specs.Tasks.{or_empty}
 use Rattle.range_space.proofs.Distinct.{distinct_number, distinct_range}
 use Rattle.list_lemmas.proofs.Members.{from_map}
 use Rattle.list_lemmas.proofs.Distinct.{HasNoRepeats-flat_map, HasNoRepeats-map}
@@ -20,7 +20,7 @@ use Rattle.dep_iter.specs.Links.{edge_in, edge_out, link, links_to}
 use Rattle.dep_iter.proofs.Belonging.{link_in, link_out}
 use Rattle.dep_iter.proofs.Joining.{edges_into-links, items_to-links}
 
-distinct_arg : (a : Arg) (env : List ℤ) → HasNoRepeats (or_empty (arg_values a env))
+distinct_arg : (a : Arg) (env : List ℤ) → HasNoRepeats (result_unwrap_or (arg_values a env) [])
 distinct_arg (One e) env = distinct_number (number e env)
 distinct_arg (Span r) env = distinct_range (bounds r env)
 
@@ -29,7 +29,7 @@ distinct_combinations : (args : List Arg) (env : List ℤ) → HasNoRepeats (com
 distinct_combinations [] env = (λ w. w, tt)
 distinct_combinations (a ∷ args) env =
     let cs = combinations args env in
-    HasNoRepeats-flat_map (λ v. map (λ ws. v ∷ ws) cs) (or_empty (arg_values a env)) (distinct_arg a env)
+    HasNoRepeats-flat_map (λ v. map (λ ws. v ∷ ws) cs) (result_unwrap_or (arg_values a env) []) (distinct_arg a env)
     (λ v among. HasNoRepeats-map (λ ws. v ∷ ws) cs (distinct_combinations args env) (λ x y e. cc))
     (λ v w x h k.
     let p = from_map (λ ws. v ∷ ws) cs x h in

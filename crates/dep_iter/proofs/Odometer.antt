@@ -1,7 +1,7 @@
 -- How the combinations of values of progressions follow one another.
 use Rattle.std.proofs.Common.{◌≡◌, suc, length, ℤ, pos, ◌+ℤ◌, Bool, true, false, List, [], ◌∷◌, ◌++◌, map, refl, ap, sym, ◌∙◌, Option, Some, None, Result, Ok, Err, IsErr, is_ok, MatchOption}
 use Rattle.std.proofs.lemmas.Bool.{false≢true}
-use Rattle.std.specs.List.{flat_map}
+use Rattle.std.specs.List.{AllByRecursion, flat_map}
 use Rattle.range_space.specs.declared.fault.SpanFault.{SpanFault}
 use Rattle.range_space.specs.declared.steps.Steps.{Steps}
 use Rattle.range_space.specs.Values.{is_within, values}
@@ -9,7 +9,7 @@ use Rattle.range_space.proofs.Stepping.{values_in, values_past}
 use Rattle.range_space.proofs.Nesting.{values-one}
 use Rattle.ptg_base.specs.Returns.{and_then}
 use Rattle.dep_iter.specs.Arguments.{product}
-use Rattle.dep_iter.specs.Combining.{steps_values, HasFirst, HaveFirst, HasOneEach, first_values, product_after, combinations_left, AddsSteps}
+use Rattle.dep_iter.specs.Combining.{steps_values, HasFirst, HasOneEach, first_values, product_after, combinations_left, AddsSteps}
 use Rattle.list_lemmas.proofs.Joins.{map-map}
 use Rattle.std.proofs.lemmas.List.{append_assoc, map-append}
 use Rattle.std.proofs.lemmas.List.Concat.{flat_map-append}
@@ -25,7 +25,7 @@ over : List Steps → List ℤ → List (List ℤ)
 over ss vs = flat_map (λ w. map (λ ws. w ∷ ws) (product (map steps_values ss))) vs
 
 -- the combinations begin with the first values
-pub product-first : (ss : List Steps) → HaveFirst ss → product (map steps_values ss) ≡ first_values ss ∷ product_after ss (first_values ss)
+pub product-first : (ss : List Steps) → AllByRecursion HasFirst ss → product (map steps_values ss) ≡ first_values ss ∷ product_after ss (first_values ss)
 unfolding over
 product-first [] h = refl
 product-first (s ∷ ss) h =
@@ -45,7 +45,7 @@ one_value r (Some s) h =
     rw (h.0, h.1, h.2) (ap Ok (sym (values-one s.lo)))
 
 -- where progressions were added to none, these are all
-pub all_added : (lists : List (List ℤ)) (new : List Steps) → AddsSteps lists [] new → (map steps_values new ≡ lists) × HaveFirst new
+pub all_added : (lists : List (List ℤ)) (new : List Steps) → AddsSteps lists [] new → (map steps_values new ≡ lists) × AllByRecursion HasFirst new
 all_added lists new w = (ap (map steps_values) w.extends ∙ w.same_values, rw w.extends w.have_first)
 
 pub HasOneEach-end : (ss : List Steps) (vs : List ℤ) (s : Steps) (v : ℤ) → HasOneEach (ss ++ s ∷ []) (vs ++ v ∷ []) → HasOneEach ss vs
@@ -72,9 +72,9 @@ HasOneEach-push [] (u ∷ vs) s v w = absurd w
 HasOneEach-push (x ∷ ss) [] s v w = absurd w
 HasOneEach-push (x ∷ ss) (u ∷ vs) s v w = HasOneEach-push ss vs s v w
 
-pub HaveFirst-end : (ss : List Steps) (s : Steps) → HaveFirst (ss ++ s ∷ []) → HaveFirst ss × HasFirst s
-HaveFirst-end [] s h = (tt, h.0)
-HaveFirst-end (x ∷ ss) s h = let k = HaveFirst-end ss s h.1 in ((h.0, k.0), k.1)
+pub HasFirst-end : (ss : List Steps) (s : Steps) → AllByRecursion HasFirst (ss ++ s ∷ []) → AllByRecursion HasFirst ss × HasFirst s
+HasFirst-end [] s h = (tt, h.0)
+HasFirst-end (x ∷ ss) s h = let k = HasFirst-end ss s h.1 in ((h.0, k.0), k.1)
 
 -- ---- combinations by their last value
 

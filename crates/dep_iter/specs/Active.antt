@@ -9,7 +9,7 @@ use Rattle.term_core.specs.Arith.{holds}
 use Rattle.ptg_base.specs.Returns.{and_then}
 use Rattle.term_core.specs.Value.{value}
 use Rattle.term_core.specs.declared.fault.ExprFault.{ExprFault}
-pub use Rattle.term_core.specs.Kinds.{takes_first}
+use Rattle.term_core.specs.Kinds.{is_data}
 use Rattle.plan_core.specs.declared.flow.DepPlan.{DepPlan}
 use Rattle.plan_core.specs.declared.flow.FlowPlan.{FlowPlan}
 use Rattle.plan_core.specs.declared.plan.Plan.{Plan}
@@ -32,8 +32,7 @@ abbrev pub active_target : DepPlan → List ℤ → Result (Option Target) ExprF
 active_target d env = and_then (guard_value d.guard env) (λ b. Ok (target_by d b))
 
 -- the target of a dependence under these locals, None where it does not hold or its guard has a fault. The guards that
--- a
--- well task needs have none
+-- a well task needs have none
 abbrev pub held_target : DepPlan → List ℤ → Option Target
 held_target d env = result_unwrap_or (active_target d env) None
 
@@ -50,7 +49,7 @@ held_targets first_only (d ∷ ds) env = held_then first_only (held_target d env
 
 -- the targets of the active in dependences of a flow
 abbrev pub flow_ins : List ℤ → FlowPlan → List Target
-flow_ins env f = held_targets (takes_first f.kind) f.ins env
+flow_ins env f = held_targets (is_data f.kind) f.ins env
 
 -- the targets of the active out dependences of a flow
 abbrev pub flow_outs : List ℤ → FlowPlan → List Target

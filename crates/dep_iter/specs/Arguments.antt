@@ -1,5 +1,5 @@
 -- What the arguments of a target name: tasks, or a place. Source: the JDF documentation.
-use Rattle.std.specs.Prelude.{ℕ, ℤ, pos, List, [], ◌∷◌, map, flat_map, Result, Ok}
+use Rattle.std.specs.Prelude.{ℕ, ℤ, pos, List, [], ◌∷◌, map, flat_map, slice_index_or, Result, Ok}
 use Rattle.std.specs.Result.{result_unwrap_or}
 use Rattle.ptg_base.specs.declared.place.Place.{Place}
 use Rattle.term_core.specs.Term.{Term}
@@ -7,7 +7,6 @@ use Rattle.ptg_base.specs.Returns.{and_then}
 use Rattle.term_core.specs.Value.{value}
 use Rattle.range_space.specs.declared.fault.SpanFault.{SpanFault}
 use Rattle.range_space.specs.Fault.{number, range_values}
-use Rattle.range_space.specs.Tasks.{or_empty}
 use Rattle.plan_core.specs.declared.target.Arg.{Arg}
 use Rattle.plan_core.specs.declared.target.Arg.TheVariants.{One, Span}
 
@@ -24,7 +23,7 @@ product (vs ∷ vss) = flat_map (λ v. map (λ ws. v ∷ ws) (product vss)) vs
 -- the combinations of values of arguments, the first argument outermost. An argument with a fault counts as one without
 -- values; a well task has none
 abbrev pub combinations : List Arg → List ℤ → List (List ℤ)
-combinations args env = product (map (λ a. or_empty (arg_values a env)) args)
+combinations args env = product (map (λ a. result_unwrap_or (arg_values a env) []) args)
 
 -- the value of an expression. One with a fault counts as 0; a well task needs none
 abbrev pub value_or_zero : List ℤ → Term → ℤ
@@ -35,15 +34,10 @@ abbrev pub single_value : List ℤ → Arg → ℤ
 single_value env (One e) = value_or_zero env e
 single_value env (Span r) = pos 0
 
--- the first of these numbers, 0 where there is none
-abbrev pub first_or_zero : List ℤ → ℤ
-first_or_zero [] = pos 0
-first_or_zero (z ∷ zs) = z
-
 -- the place at these indices: the row and, in a collection of two dimensions, the column, else 0
 abbrev pub place_at : ℕ → List ℤ → Place
 place_at coll [] = record { coll = coll; i = pos 0; j = pos 0 }
-place_at coll (i ∷ js) = record { coll = coll; i = i; j = first_or_zero js }
+place_at coll (i ∷ js) = record { coll = coll; i = i; j = slice_index_or js 0 (pos 0) }
 
 -- the place that indices name under these locals
 abbrev pub place_of : ℕ → List Term → List ℤ → Place

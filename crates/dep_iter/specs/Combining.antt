@@ -1,5 +1,6 @@
 -- From one combination of values of ranges to the next, the last range first.
 use Rattle.std.specs.Prelude.{◌≡◌, ℤ, ◌+ℤ◌, List, [], ◌∷◌, ◌++◌, map, flat_map, Bool, true, false}
+use Rattle.std.specs.List.{AllByRecursion}
 use Rattle.range_space.specs.declared.steps.Steps.{Steps}
 use Rattle.range_space.specs.Values.{is_within, values}
 use Rattle.dep_iter.specs.Arguments.{product}
@@ -12,11 +13,6 @@ steps_values s = values s.lo s.hi s.step
 abbrev pub HasFirst : Steps → Type 0
 HasFirst s = is_within s.hi s.step s.lo ≡ true
 
--- each progression has a first value
-abbrev pub HaveFirst : List Steps → Type 0
-HaveFirst [] = Unit {0}
-HaveFirst (s ∷ ss) = HasFirst s × HaveFirst ss
-
 -- there is one value for each progression
 abbrev pub HasOneEach : List Steps → List ℤ → Type 0
 HasOneEach [] [] = Unit {0}
@@ -24,10 +20,9 @@ HasOneEach [] (v ∷ vs) = ⊥
 HasOneEach (s ∷ ss) [] = ⊥
 HasOneEach (s ∷ ss) (v ∷ vs) = HasOneEach ss vs
 
--- the first values of all
+-- the first value of each progression
 abbrev pub first_values : List Steps → List ℤ
-first_values [] = []
-first_values (s ∷ ss) = s.lo ∷ first_values ss
+first_values ss = map (λ (s : Steps). s.lo) ss
 
 -- the combinations that come after this one
 abbrev pub product_after : List Steps → List ℤ → List (List ℤ)
@@ -47,4 +42,4 @@ pub record AddsSteps (lists : List (List ℤ)) (old new : List Steps) : Type 0 w
   pub added : List Steps
   pub extends : new ≡ old ++ added
   pub same_values : map steps_values added ≡ lists
-  pub have_first : HaveFirst added
+  pub have_first : AllByRecursion HasFirst added

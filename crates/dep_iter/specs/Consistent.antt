@@ -81,9 +81,13 @@ pub record IsConsistent (P : Plan) : Type 0 where
   pub no_out_edge_twice : HasNoRepeats (all_out P)
   pub same_edges : (e : Edge) → IsIn e (all_in P) ↔ IsIn e (all_out P)
 
--- the tasks without an edge into them, in walk order
+-- the tasks of a list that no edge goes into
+abbrev pub roots_among : Plan → List Task → List Task
+roots_among P ts = filter (λ t. goal P t == 0) ts
+
+-- the tasks of a job without an edge into them, in walk order
 abbrev pub roots : Plan → List Task
-roots P = filter (λ t. goal P t == 0) (all_tasks P)
+roots P = roots_among P (all_tasks P)
 
 -- the counts of a job: its tasks, those without an edge into them, its edges, those that carry a tile, and its
 -- write-backs

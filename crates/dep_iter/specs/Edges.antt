@@ -10,7 +10,8 @@ use Rattle.plan_core.specs.declared.target.Target.TheVariants as target
 use Rattle.dep_iter.specs.declared.source.Source.{Source}
 use Rattle.dep_iter.specs.declared.source.Source.TheVariants as source
 use Rattle.dep_iter.specs.Tasks.{task, locals_of, flows_of}
-use Rattle.dep_iter.specs.Active.{active_ins, flow_ins, held_targets, takes_first}
+use Rattle.term_core.specs.Kinds.{is_data}
+use Rattle.dep_iter.specs.Active.{active_ins, flow_ins, held_targets}
 use Rattle.dep_iter.specs.Arguments.{combinations, single_value, place_of}
 
 -- the edge from a flow of one task to a flow of another
@@ -61,5 +62,5 @@ unfoldable pub in_edges_before : Plan → Task → ℕ → ℕ → List Edge
 in_edges_before P t n k =
     option_map_or
     (λ (f : FlowPlan). flat_map (edges_into t (locals_of P t) n)
-    (held_targets (takes_first f.kind) (take k f.ins) (locals_of P t)))
+    (held_targets (is_data f.kind) (take k f.ins) (locals_of P t)))
     (slice_get (flows_of P t) n) []

@@ -1,6 +1,7 @@
 -- Where a task would best run, and how urgent it is. Source: PaRSEC (2013) and the JDF documentation; both are hints.
-use Rattle.std.specs.Prelude.{ℕ, ◌+◌, ◌*◌, ℤ, pos, List, Option, Some, None, slice_get, unsigned_abs}
+use Rattle.std.specs.Prelude.{ℕ, ℤ, pos, List, Option, Some, None, slice_get, unsigned_abs}
 use Rattle.std.specs.Option.{option_map_or}
+use Rattle.ptg_base.specs.Places.{number_in}
 use Rattle.ptg_base.specs.Task.{Task}
 use Rattle.ptg_base.specs.declared.place.Place.{Place}
 use Rattle.term_core.specs.Term.{Term}
@@ -17,14 +18,8 @@ affinity P t =
     (slice_get P.classes t.class)
     (record { coll = 0; i = pos 0; j = pos 0 })
 
--- the number of a row and a column among the places of a collection with this many columns, row by row; it is the row's
--- in one dimension
-abbrev pub number_in : Option ℕ → ℕ → ℕ → ℕ
-number_in None row column = row
-number_in (Some columns) row column = row * columns + column
-
--- the number of a place among those of its collection, none of whose rows and columns is negative; 0 where there is no
--- such collection
+-- the number of a place in its collection, row by row; 0 where there is no such collection. A negative row or column
+-- counts by its absolute value; of a place that exists it is the index of its tile
 abbrev pub place_number : Plan → Place → ℕ
 place_number P p =
     option_map_or (λ (s : Shape). number_in s.cols (unsigned_abs p.i) (unsigned_abs p.j)) (slice_get P.colls p.coll) 0

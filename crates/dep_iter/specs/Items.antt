@@ -3,6 +3,7 @@
 use Rattle.std.specs.Prelude.{ℕ, ℤ, List, [], ◌∷◌, map, flat_map, filter_map, take, false, Option, Some, None, slice_get}
 use Rattle.std.specs.Option.{option_map_or}
 use Rattle.ptg_base.specs.Task.{Task}
+use Rattle.ptg_base.specs.declared.place.Place.{Place}
 use Rattle.ptg_base.specs.declared.edge.Edge.{Edge}
 use Rattle.ptg_base.specs.declared.edge.WriteBack.{WriteBack}
 use Rattle.ptg_base.specs.declared.edge.Item.{Item}
@@ -16,13 +17,17 @@ use Rattle.dep_iter.specs.Active.{active_outs, held_targets}
 use Rattle.dep_iter.specs.Arguments.{combinations, place_of}
 use Rattle.dep_iter.specs.Edges.{edge}
 
+-- the write-back from a flow of a task to a place
+abbrev pub write_back : Task → ℕ → Place → WriteBack
+write_back t n p = record { from = t; flow = n; place = p }
+
 -- what flow n of the task t sends to a target: an edge for each combination of values of its arguments, or a write-back
 -- to a place
 abbrev pub items_to : Task → List ℤ → ℕ → Target → List Item
 items_to t env n (target.Task class flow args) =
     map (λ params. item.Edge (edge t n (task class params) flow)) (combinations args env)
 items_to t env n (target.Element coll indices) =
-    item.Write (record { from = t; flow = n; place = place_of coll indices env }) ∷ []
+    item.Write (write_back t n (place_of coll indices env)) ∷ []
 items_to t env n target.New = []
 items_to t env n target.Null = []
 

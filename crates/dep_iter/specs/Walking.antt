@@ -9,6 +9,7 @@ use Rattle.ptg_base.specs.Task.{Task}
 use Rattle.ptg_base.specs.declared.edge.WriteBack.{WriteBack}
 use Rattle.dep_iter.specs.Arguments.{place_of}
 use Rattle.dep_iter.specs.Active.{by_flow, held_targets}
+use Rattle.dep_iter.specs.Items.{write_back}
 use Rattle.dep_iter.specs.Links.{dependences_fit, flow_targets, flows_fit}
 
 -- the targets left: those of the dependences left of the flow at hand, and those of the flows after it
@@ -24,7 +25,7 @@ position_fits P p = dependences_fit P p.deps.now && flows_fit P p.flows.now
 -- the write-backs of flow n of a task that a target stands for
 abbrev pub writes_to : Task → List ℤ → ℕ → Target → List WriteBack
 writes_to t env n (target.Task class flow args) = []
-writes_to t env n (target.Element coll indices) = record { from = t; flow = n; place = place_of coll indices env } ∷ []
+writes_to t env n (target.Element coll indices) = write_back t n (place_of coll indices env) ∷ []
 writes_to t env n target.New = []
 writes_to t env n target.Null = []
 

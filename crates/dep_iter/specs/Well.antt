@@ -2,6 +2,7 @@
 -- documentation; the order in which a fault is looked for is this project's own choice.
 use Rattle.std.specs.Prelude.{◌≡◌, ℕ, suc, ℤ, List, [], ◌∷◌, Bool, true, false, ◌&&◌, Option, Some, None, Result, Ok, Err, is_ok, slice_get, if◌then◌else◌, option_map, option_and_then}
 use Rattle.std.specs.List.{list_all}
+use Rattle.std.specs.Option.{option_map_or}
 use Rattle.ptg_base.specs.Task.{Task}
 use Rattle.term_core.specs.Term.{Term}
 use Rattle.term_core.specs.Value.{value}
@@ -14,7 +15,8 @@ use Rattle.plan_core.specs.declared.target.Arg.{Arg}
 use Rattle.plan_core.specs.declared.target.Target.{Target}
 use Rattle.plan_core.specs.declared.target.Target.TheVariants as target
 use Rattle.dep_iter.specs.Tasks.{locals_of}
-use Rattle.dep_iter.specs.Active.{active_target, takes_first}
+use Rattle.term_core.specs.Kinds.{is_data}
+use Rattle.dep_iter.specs.Active.{active_target}
 use Rattle.dep_iter.specs.Arguments.{arg_values}
 
 -- whether an expression has a value
@@ -23,8 +25,7 @@ has_value env e = is_ok (value e env)
 
 -- whether a priority has a value, if one is written
 abbrev pub has_priority : List ℤ → Option Term → Bool
-has_priority env None = true
-has_priority env (Some e) = has_value env e
+has_priority env e = option_map_or (has_value env) e true
 
 -- whether an argument has its values
 abbrev pub has_arg : List ℤ → Arg → Bool
@@ -54,7 +55,7 @@ are_well first_only env (d ∷ ds) = is_well_then first_only env (active_target 
 -- whether what a flow needs has its values: its in dependences, up to the first that holds if it is a data flow, and
 -- its out dependences
 abbrev pub is_well_flow : List ℤ → FlowPlan → Bool
-is_well_flow env f = are_well (takes_first f.kind) env f.ins && are_well false env f.outs
+is_well_flow env f = are_well (is_data f.kind) env f.ins && are_well false env f.outs
 
 -- the number of the first of these flows that is not so, if there is one; they are numbered from n on
 abbrev pub first_ill_flow : List ℤ → ℕ → List FlowPlan → Option ℕ

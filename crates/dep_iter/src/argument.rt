@@ -1,9 +1,9 @@
 //! The values of arguments.
 
 ghost use Rattle.std.specs.Prelude.{◌≡◌, ◌↔◌, IsTrue, pos, [], Ok, IsErr, MatchOption, false, is_ok};
+ghost use Rattle.std.specs.Result.{result_unwrap_or};
 ghost use Rattle.ptg_base.specs.Lists.{IsIn};
 ghost use Rattle.range_space.specs.Fault.{number};
-ghost use Rattle.range_space.specs.Tasks.{or_empty};
 ghost use Rattle.range_space.specs.Values.{values};
 ghost use Rattle.dep_iter.specs.Arguments as arguments;
 ghost use Rattle.dep_iter.specs.Combining.{steps_values, HasFirst};
@@ -27,8 +27,8 @@ fn single_steps(e: &Expr, env: &[i64]) -> Option<Steps>
     }
 }
 
-/// The progression of the values of an argument under these locals, or None where it has a fault.
-pub fn arg_steps(arg: &Arg, env: &[i64]) -> Option<Steps>
+// The progression of the values of an argument under these locals, or None where it has a fault.
+pub(crate) fn arg_steps(arg: &Arg, env: &[i64]) -> Option<Steps>
     ensures { MatchOption result (is_ok (arguments.arg_values arg.now env.now) ≡ false) (λ s.
         arguments.arg_values arg.now env.now ≡ Ok (values s.lo s.hi s.step)) }
 {
@@ -43,8 +43,8 @@ pub fn arg_steps(arg: &Arg, env: &[i64]) -> Option<Steps>
 
 // The progression of an argument, or None where it has no value.
 pub(crate) fn nonempty(arg: &Arg, env: &[i64]) -> Option<Steps>
-    ensures { MatchOption result (or_empty (arguments.arg_values arg.now env.now) ≡ []) (λ s.
-        (or_empty (arguments.arg_values arg.now env.now) ≡ steps_values s) × HasFirst s) }
+    ensures { MatchOption result (result_unwrap_or (arguments.arg_values arg.now env.now) [] ≡ []) (λ s.
+        (result_unwrap_or (arguments.arg_values arg.now env.now) [] ≡ steps_values s) × HasFirst s) }
 {
     let steps = arg_steps(arg, env)?;
     if steps.is_empty() {
@@ -55,7 +55,7 @@ pub(crate) fn nonempty(arg: &Arg, env: &[i64]) -> Option<Steps>
 
 // Whether a number is one of the values of an argument.
 pub(crate) fn takes_value(arg: &Arg, env: &[i64], v: i64) -> bool
-    ensures { IsTrue result ↔ IsIn v (or_empty (arguments.arg_values arg.now env.now)) }
+    ensures { IsTrue result ↔ IsIn v (result_unwrap_or (arguments.arg_values arg.now env.now) []) }
 {
     match arg_steps(arg, env) {
         Some(steps) => steps.has(v),

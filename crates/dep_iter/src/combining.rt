@@ -3,11 +3,12 @@
 ghost use Rattle.std.specs.Prelude.{◌≡◌, ◌+◌, ◌≤◌, [], ◌++◌, drop, length, map, IfSome, slice_get};
 ghost use Rattle.std.specs.Bool.{OnTrue, OnFalse};
 ghost use Rattle.std.specs.Iterator.{YieldsFirst};
+ghost use Rattle.std.specs.List.{AllByRecursion};
 ghost use Rattle.std.specs.Option.{option_copied};
+ghost use Rattle.std.specs.Result.{result_unwrap_or};
 ghost use Rattle.ptg_base.specs.Limits.{most_params};
-ghost use Rattle.range_space.specs.Tasks.{or_empty};
 ghost use Rattle.dep_iter.specs.Arguments.{arg_values, combinations};
-ghost use Rattle.dep_iter.specs.Combining.{combinations_left, first_values, product_after, HasOneEach, HaveFirst, AddsSteps};
+ghost use Rattle.dep_iter.specs.Combining.{combinations_left, first_values, product_after, HasFirst, HasOneEach, AddsSteps};
 
 use crate::argument::nonempty;
 use arrayvec::ArrayVec;
@@ -27,15 +28,17 @@ pub struct Combinations {
 
 impl Model for Combinations {
     ghost use Rattle.std.specs.Prelude.{◌≡◌, ◌≤◌, true, List, ℤ, length};
+    ghost use Rattle.std.specs.List.{AllByRecursion};
     ghost use Rattle.ptg_base.specs.Limits.{most_params};
-    ghost use Rattle.dep_iter.specs.Combining.{combinations_left, HasOneEach, HaveFirst};
+    ghost use Rattle.dep_iter.specs.Combining.{combinations_left, HasFirst, HasOneEach};
 
     ghost Value = { List (List ℤ) };
 
     ghost view = { λ c. combinations_left c.live c.spans.items c.at };
 
     ghost invariant = { λ c.
-        c.live ≡ true → (length c.at ≤ most_params) × HasOneEach c.spans.items c.at × HaveFirst c.spans.items };
+        c.live ≡ true
+        → (length c.at ≤ most_params) × HasOneEach c.spans.items c.at × AllByRecursion HasFirst c.spans.items };
 }
 
 // Adds the first value of each progression.
@@ -64,7 +67,7 @@ fn clear(values: &mut Numbers<MOST_PARAMS>)
 fn advance(spans: &[Steps], at: &mut Numbers<MOST_PARAMS>) -> bool
     requires at_most { length at.old ≤ most_params }
     requires each { HasOneEach spans.now at.old }
-    requires first { HaveFirst spans.now }
+    requires first { AllByRecursion HasFirst spans.now }
     ensures left { combinations_left result spans.now at.new ≡ product_after spans.now at.old }
     ensures each { HasOneEach spans.now at.new }
 {
@@ -87,7 +90,7 @@ fn advance(spans: &[Steps], at: &mut Numbers<MOST_PARAMS>) -> bool
 fn push_spans(args: &[Arg], env: &[i64], spans: &mut ArrayVec<Steps, MOST_PARAMS>) -> bool
     requires { length spans.old.items + length args.now ≤ most_params }
     ensures found { OnTrue result
-        (AddsSteps (map (λ a. or_empty (arg_values a env.now)) args.now) spans.old.items spans.new.items) }
+        (AddsSteps (map (λ a. result_unwrap_or (arg_values a env.now) []) args.now) spans.old.items spans.new.items) }
     ensures none { OnFalse result (combinations args.now env.now ≡ []) }
 {
     let Some((arg, others)) = args.split_first() else {

@@ -7,8 +7,8 @@ ghost use Rattle.dep_iter.specs.Active as active;
 use plan_core::{DepPlan, Target};
 use term_core::{Expr, ExprFault, eval};
 
-// Whether a guard holds under these locals, or its fault.
-pub(crate) fn guard_value(guard: &Option<Expr>, env: &[i64]) -> Result<bool, ExprFault>
+/// Whether a guard holds under these locals, or its fault.
+pub fn guard_value(guard: &Option<Expr>, env: &[i64]) -> Result<bool, ExprFault>
     ensures { result ≡ active.guard_value guard.now env.now }
 {
     match guard {
@@ -20,8 +20,8 @@ pub(crate) fn guard_value(guard: &Option<Expr>, env: &[i64]) -> Result<bool, Exp
     }
 }
 
-// Where a dependence leads whose guard holds, or does not.
-pub(crate) fn target_by<'a>(d: &'a DepPlan, holds: bool) -> Option<&'a Target>
+/// Where a dependence leads whose guard holds, or does not.
+pub fn target_by<'a>(d: &'a DepPlan, holds: bool) -> Option<&'a Target>
     ensures { option_copied result ≡ active.target_by d.now holds }
 {
     if holds { Some(&d.yes) } else { d.no.as_ref() }

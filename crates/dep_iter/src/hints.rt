@@ -1,6 +1,7 @@
 //! Where a task would best run, and how urgent it is.
 
 ghost use Rattle.std.specs.Prelude.{◌≡◌, ◌<◌, ◌^◌, pos};
+ghost use Rattle.ptg_base.specs.Places.{number_in};
 ghost use Rattle.plan_core.specs.Place.{HasPlace, IsColumn};
 ghost use Rattle.dep_iter.specs.Tasks as tasks;
 ghost use Rattle.dep_iter.specs.Tasks.{IsTask};
@@ -36,7 +37,7 @@ pub fn affinity_under(plan: &Plan, t: &TaskId, env: &[i64]) -> Place
 fn number_in(columns: Option<u32>, row: u64, column: u64) -> u64
     requires row { row < 2 ^ 32 }
     requires column { IsColumn columns (pos column) }
-    ensures { result ≡ hints.number_in columns row column }
+    ensures { result ≡ number_in columns row column }
 {
     match columns {
         None => row,

@@ -24,12 +24,11 @@ mod tile_source;
 mod well;
 mod writes;
 
-pub use argument::arg_steps;
 pub use combining::Combinations;
 pub use counts::Counts;
 pub use edges::{InEdges, OutEdges, in_edges, in_edges_under, out_edges, out_edges_under};
 pub use ends::has_other_end;
-pub use guard::held_target;
+pub use guard::{guard_value, held_target, target_by};
 pub use hints::{affinity, affinity_under, place_number, priority, priority_under};
 pub use laws::{
     a_task_has_no_more_edges_than_the_job, all_tasks_are_listed, edges_are_links,
@@ -46,5 +45,5 @@ pub use source::Source;
 pub use task::{flows_of, is_task, locals_of, task_locals};
 pub use task_walk::{Tasks, all_tasks};
 pub use tile_source::{data_source, data_source_under};
-pub use well::{IllTask, well_task, well_task_under};
+pub use well::{IllTask, has_arguments, well_task, well_task_under};
 pub use writes::{WriteBacks, write_backs, write_backs_under};

@@ -7,7 +7,6 @@ ghost use Rattle.dep_iter.specs.Links.{all_links, fits, links_to, task_links};
 ghost use Rattle.dep_iter.specs.Given.{given_locals};
 ghost use Rattle.dep_iter.specs.Tasks.{IsTask, locals_of};
 ghost use Rattle.dep_iter.specs.declared.link.Link.{Link as LinkValue};
-ghost use Rattle.dep_iter.specs.Arguments.{combinations};
 ghost use Rattle.dep_iter.specs.Walking.{position_fits, targets_left};
 ghost use Rattle.plan_core.specs.declared.target.Target.TheVariants.{Task};
 

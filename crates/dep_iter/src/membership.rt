@@ -103,7 +103,7 @@ pub fn has_edge_under(plan: &Plan, way: Direction, t: &TaskId, env: &[i64], edge
         return false;
     };
     any_leads_to(
-        flow.kind.first_alone(way),
+        flow.kind.first_only(way),
         flow.dependences(way),
         env,
         edge.far_task(way),
@@ -131,7 +131,7 @@ pub fn has_edge_before(
         → IsTrue result ↔ IsIn edge.now (edges_before way P t (near_flow way edge.now) k) }
 {
     any_leads_to(
-        flow.kind.first_alone(way),
+        flow.kind.first_only(way),
         first_dependences(flow.dependences(way), k),
         env,
         edge.far_task(way),

@@ -1,6 +1,6 @@
 //! Values of expressions, and places.
 
-ghost use Rattle.std.specs.Prelude.{◌≡◌, map};
+ghost use Rattle.std.specs.Prelude.{◌≡◌, map, pos, slice_index_or};
 ghost use Rattle.dep_iter.specs.Arguments as arguments;
 
 use ptg_base::Place;
@@ -15,7 +15,7 @@ pub(crate) fn value_or_zero(env: &[i64], e: &Expr) -> i64
 
 // The value of the first of these expressions, or 0 where there is none.
 fn first_or_zero(es: &[Expr], env: &[i64]) -> i64
-    ensures { result ≡ arguments.first_or_zero (map (arguments.value_or_zero env.now) es.now) }
+    ensures { result ≡ slice_index_or (map (arguments.value_or_zero env.now) es.now) 0 (pos 0) }
 {
     match es.split_first() {
         Some((e, _)) => value_or_zero(env, e),

@@ -75,7 +75,7 @@ fn enter<'a>(way: Direction, flow: &'a FlowPlan, number: u8, others: &'a [FlowPl
 {
     Position {
         flow: number,
-        first_only: flow.kind.first_alone(way),
+        first_only: flow.kind.first_only(way),
         deps: flow.dependences(way),
         next_flow: number + 1,
         flows: others,

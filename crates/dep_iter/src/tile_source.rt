@@ -44,7 +44,7 @@ fn push_single(args: &[Arg], env: &[i64], values: &mut Numbers<MOST_PARAMS>)
 // The task that these arguments name, none of which is a range.
 fn single_task(class: u32, args: &[Arg], env: &[i64]) -> TaskId
     requires { length args.now ≤ most_params }
-    ensures { result ≡ record { class = class; params = map (arguments.single_value env.now) args.now } }
+    ensures { result ≡ tasks.task class (map (arguments.single_value env.now) args.now) }
 {
     let mut values = Numbers::new();
     push_single(args, env, &mut values);
@@ -77,7 +77,7 @@ fn flow_source(plan: &Plan, t: &TaskId, env: &[i64], number: u8, flow: &FlowPlan
     requires { IsTrue (dependences_fit plan.now flow.now.ins) }
     ensures { result ≡ edges.source_among t.now env.now number (flow_ins env.now flow.now) }
 {
-    match next_held(flow.kind.takes_first(), flow.ins.as_slice(), env) {
+    match next_held(flow.kind.is_data(), flow.ins.as_slice(), env) {
         Some((target, _)) => source_at(plan, t, env, number, target),
         None => Source::Nothing,
     }

@@ -58,8 +58,8 @@ fn args_have_values(env: &[i64], args: &[Arg]) -> bool
     }
 }
 
-// Whether the arguments or the indices of a target have their values.
-fn has_arguments(env: &[i64], target: &Target) -> bool
+/// Whether the arguments or the indices of a target have their values.
+pub fn has_arguments(env: &[i64], target: &Target) -> bool
     ensures { result ≡ well.has_arguments env.now target.now }
 {
     match target {
@@ -91,7 +91,7 @@ fn are_well(first_only: bool, env: &[i64], deps: &[DepPlan]) -> bool
 fn is_well_flow(env: &[i64], flow: &FlowPlan) -> bool
     ensures { result ≡ well.is_well_flow env.now flow.now }
 {
-    are_well(flow.kind.takes_first(), env, flow.ins.as_slice())
+    are_well(flow.kind.is_data(), env, flow.ins.as_slice())
         && are_well(false, env, flow.outs.as_slice())
 }
 

@@ -10,7 +10,7 @@ use Rattle.ptg_base.specs.Task.{Task}
 use Rattle.ptg_base.specs.TaskComparing.{same_task}
 use Rattle.list_lemmas.proofs.Places.{slice_get_there}
 use Rattle.dep_shard.specs.Content.{Entries, Content, entry_in, IsReady, IsWaiting, HasNoReady, IsEntryAt, ArrivesAt, Updates, with_arrival}
-use Rattle.dep_shard.specs.Queue.{Candidate, order, is_candidate, is_ready_at, HasEveryReady, HaveAtMostGoal, one_if_waiting, count_waiting, IsQueueOf}
+use Rattle.dep_shard.specs.Queue.{Candidate, order, is_candidate, is_ready_at, HasEveryReady, HaveAtMostGoal, is_waiting, count_waiting, IsQueueOf}
 use Rattle.dep_shard.proofs.Candidates.{same_means, candidate_self}
 use Rattle.dep_shard.proofs.Waiting.{count_waiting-push, count_waiting-set_at, count_waiting-swap_remove_at, all_wait, count_all}
 use Rattle.std.proofs.lemmas.Bool.Decides.{nat_tests}
@@ -25,11 +25,12 @@ use Rattle.indexmap.specs.Layout.{hash_map}
 use Rattle.indexmap.proofs.CallerLemmas.{updates-with_value_at}
 use Rattle.indexmap.proofs.MapLemmas.{Found-position, index-first}
 use Rattle.indexmap.proofs.RemoveLemmas.{own_first}
+use Rattle.list_lemmas.specs.Counting.{as_number}
 
-one_waits : (e : Entry) → IsWaiting e → one_if_waiting e ≡ 1
+one_waits : (e : Entry) → IsWaiting e → as_number (is_waiting e) ≡ 1
 one_waits e less = grind (arith, nat_tests)
 
-none_waits : (e : Entry) → IsReady e → one_if_waiting e ≡ 0
+none_waits : (e : Entry) → IsReady e → as_number (is_waiting e) ≡ 0
 none_waits e ready = grind (arith, nat_tests)
 
 -- A queue that has every ready entry has it after a push.

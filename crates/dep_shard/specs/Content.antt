@@ -136,12 +136,20 @@ abbrev pub ArrivesAt : Entries → Entries → ℕ → ℕ → Option (List ℤ)
 ArrivesAt old new index flow tile =
     (t : Task) (e : Entry) → slice_get old index ≡ Some (t, e) → Updates old new t (Some (with_arrival e flow tile))
 
--- Old has a ready entry of t with these tiles, and new has none: the task runs.
-pub record Takes (old new : Content) (t : Task) (tiles : List FlowTile) : Type 0 where
+-- the shard has a ready entry of the task with these tiles
+pub record HasReady (y : Content) (t : Task) (tiles : List FlowTile) : Type 0 where
   pub entry : Entry
-  pub is : entry_of old t ≡ Some entry
+  pub is : entry_of y t ≡ Some entry
   pub ready : IsReady entry
   pub handed : tiles ≡ entry.tiles
+
+-- the shard has no ready entry of the task
+abbrev pub HasNoReadyOf : Content → Task → Type 0
+HasNoReadyOf y t = (e : Entry) → entry_of y t ≡ Some e → IsReady e → ⊥
+
+-- Old has a ready entry of t with these tiles, and new has none: the task runs.
+pub record Takes (old new : Content) (t : Task) (tiles : List FlowTile) : Type 0 where
+  pub had : HasReady old t tiles
   pub entries : Updates old.entries new.entries t None
   pub running : new.running ≡ old.running + 1
   pub ended : new.ended ≡ old.ended

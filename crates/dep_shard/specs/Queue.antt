@@ -1,5 +1,5 @@
 -- How a shard's queue of candidates serves its entries. Source: this project's own choice.
-use Rattle.std.specs.Prelude.{◌≡◌, ℕ, ◌+◌, ◌≤◌, ℤ, Bool, true, false, ◌&&◌, cond, nat_lt, nat_eq, List, [], ◌∷◌, Option, Some}
+use Rattle.std.specs.Prelude.{◌≡◌, ℕ, ◌+◌, ◌≤◌, ℤ, Bool, true, false, ◌&&◌, nat_lt, nat_eq, List, ◌∷◌, Option, Some}
 use Rattle.std.specs.BinaryHeap.{IsHeap}
 use Rattle.std.specs.List.{list_any}
 use Rattle.std.specs.Option.{option_map_or}
@@ -10,6 +10,7 @@ use Rattle.ptg_base.specs.Entry.{Entry}
 use Rattle.ptg_base.specs.Task.{Task}
 use Rattle.ptg_base.specs.TaskComparing.{same_task, task_cmp}
 use Rattle.dep_shard.specs.Content.{Entries, entry_in}
+use Rattle.list_lemmas.specs.Counting.{count}
 
 -- a candidate: a priority and a task
 abbrev pub Candidate : Type 0
@@ -39,14 +40,13 @@ HasEveryReady entries cs = (t : Task) → (p : ℤ) → is_live entries p t ≡ 
 abbrev pub HasLiveFront : Entries → List Candidate → Type 0
 HasLiveFront entries cs = (c : Candidate) (rest : List Candidate) → cs ≡ c ∷ rest → is_live entries c.0 c.1.0 ≡ true
 
--- 1 for an entry that waits, else 0
-abbrev pub one_if_waiting : Entry → ℕ
-one_if_waiting e = cond (nat_lt e.arrived e.goal) 1 0
+-- whether an entry waits
+abbrev pub is_waiting : Entry → Bool
+is_waiting e = nat_lt e.arrived e.goal
 
 -- how many entries wait
 abbrev pub count_waiting : Entries → ℕ
-count_waiting [] = 0
-count_waiting (e ∷ es) = one_if_waiting e.1 + count_waiting es
+count_waiting entries = count (λ (e : Task × Entry). is_waiting e.1) entries
 
 -- to no entry more edges have come than it waits for
 abbrev pub HaveAtMostGoal : Entries → Type 0

@@ -9,7 +9,7 @@ ghost use Rattle.ptg_base.specs.Limits.{most_flows, most_tasks};
 ghost use Rattle.ptg_base.specs.Task.{Task};
 ghost use Rattle.ptg_base.specs.TaskComparing.{same_task};
 ghost use Rattle.dep_shard.specs.declared.shard.Arrived.TheVariants.{Fired};
-ghost use Rattle.dep_shard.specs.Content.{HasSpares, Uses, HasNoReady, IsBest, IsReady, IsWaiting, IsNew, IsTileOf, IsUnchanged, KeepsAllButEntries, KeepsAllButWritten, KeepsEntriesAndWritten, Updates, Takes, Ends, IsEntryAt, HasWaitingAt, HasReadyAt, ArrivesAt, entry_of, entry_before, fresh, with_arrival};
+ghost use Rattle.dep_shard.specs.Content.{HasSpares, Uses, HasNoReady, IsBest, IsReady, IsWaiting, IsNew, IsTileOf, IsUnchanged, KeepsAllButEntries, KeepsAllButWritten, KeepsEntriesAndWritten, Updates, Takes, Ends, IsEntryAt, HasWaitingAt, HasReadyAt, ArrivesAt, entry_of, entry_before, fresh, with_arrival, HasNoReadyOf};
 
 use crate::arrivals::Arrivals;
 use crate::entry::Entry;
@@ -340,7 +340,7 @@ impl Shard {
     /// if it has no ready entry, and then the shard is as it was.
     pub fn take_ready(&mut self, t: &TaskId) -> Option<Arrivals>
         requires { self.old.running < most_tasks }
-        ensures none { IfNone result ((e : EntryContent) → entry_of self.old t.now ≡ Some e → IsReady e → ⊥) }
+        ensures none { IfNone result (HasNoReadyOf self.old t.now) }
         ensures same { IfNone result (self.new ≡ self.old) }
         ensures some { IfSome result (λ tiles. Takes self.old self.new t.now tiles) }
         ensures spare { Uses self.old.spare self.new.spare 0 None 0 0 }

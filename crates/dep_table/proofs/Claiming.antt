@@ -4,10 +4,10 @@ use Rattle.list_lemmas.proofs.Members.{IsIn-append_left, IsIn-append_right, from
 use Rattle.ptg_base.specs.Entry.{Entry, FlowTile}
 use Rattle.ptg_base.specs.Task.{Task}
 use Rattle.ptg_base.specs.TaskComparing.{same_task}
-use Rattle.dep_shard.specs.Content.{Content, Takes, entry_in, entry_of}
+use Rattle.dep_shard.specs.Content.{Content, Takes, entry_in, entry_of, HasNoReadyOf}
 use Rattle.list_lemmas.specs.Counting.{as_number}
 use Rattle.shard_meaning.proofs.Holding.{numbers_with_entry, ready_may}
-use Rattle.work_board.specs.Claims.{FoundGone, HasClaimed, HasNoReadyOf, MayStart}
+use Rattle.work_board.specs.Claims.{FoundGone, HasClaimed, MayStart}
 use Rattle.work_board.specs.Records.{IsClean}
 use Rattle.work_board.specs.declared.record.PassRecord.{PassRecord}
 use Rattle.table_rule.specs.Changes.{turn_left, with_own_claim, with_stamp, with_turn}
@@ -45,8 +45,8 @@ pub unstamped : (t : Turn) (v : PassRecord) (y z : Content) → IsTurnOf t v y z
 unstamped t v y z h d w is u tiles takes =
     let j = job_of t.table.now in
     let r = joined_parts j h.seen.table h.seen.rule in
-    let there : entry_of y u ≡ Some takes.entry = ap (λ l. entry_in l u) (sym h.same.entries ∙ ap (λ (c : Content). c.entries) (sym is)) ∙ takes.is in
-    let may = ready_may j.matched j.given (shard_of j.matched j.shards) t.shard (joined h.seen.table.views) y (seen_share j t.shard v y h.seen) u takes.entry there takes.ready in
+    let there : entry_of y u ≡ Some takes.had.entry = ap (λ l. entry_in l u) (sym h.same.entries ∙ ap (λ (c : Content). c.entries) (sym is)) ∙ takes.had.is in
+    let may = ready_may j.matched j.given (shard_of j.matched j.shards) t.shard (joined h.seen.table.views) y (seen_share j t.shard v y h.seen) u takes.had.entry there takes.had.ready in
     omega (arith, may.unclaimed, r.records.claims (λ x. as_number (same_task u x)), term_le (λ (p : PassRecord). own_claims p u) h.seen.table.views h.seen.id v h.seen.mine, (r.live.each h.seen.id v h.seen.mine).stamps u)
 
 module _ (t : Turn) (v : PassRecord) (y z : Content) (h : IsTurnOf t v y z) (i q : PassView) (is : i ≡ t.pass.now) where
@@ -101,8 +101,8 @@ module _ (t : Turn) (v : PassRecord) (y z : Content) (h : IsTurnOf t v y z) (i q
     claim_done d w tiles same takes starts = subst (λ (p : PassRecord). HasClaimed (job_of t.table.now).matched (job_of t.table.now).given t.shard u tiles v p) (sym is_final) (record {
       shard = y;
       took = record { look = refl; looks = refl; last = refl };
-      ready = record { entry = takes.entry; is = ap (λ l. entry_in l u) (sym h.same.entries ∙ ap (λ (c : Content). c.entries) (sym same)) ∙ takes.is; ready = takes.ready; handed = takes.handed };
-      may_start = let m = subst (MayStart (job_of t.table.now).matched (job_of t.table.now).given u tiles) me0 starts in record { task = m.task; runs = m.runs; inputs = m.inputs; unsent = m.unsent };
+      ready = record { entry = takes.had.entry; is = ap (λ l. entry_in l u) (sym h.same.entries ∙ ap (λ (c : Content). c.entries) (sym same)) ∙ takes.had.is; ready = takes.had.ready; handed = takes.had.handed };
+      may_start = let m = subst (MayStart (job_of t.table.now).matched (job_of t.table.now).given u tiles) me0 starts in record { task = m.task; run = m.run; unsent = m.unsent };
       added = record { stamp = s; claims = refl; stamps = refl; running = runs_it; sends = refl; kept = record { names = refl; turns = refl; quiet = refl; halts = refl; credit = refl } };
     })
 

@@ -13,7 +13,7 @@ use Rattle.work_board.specs.Records.{IsClean}
 use Rattle.work_board.specs.Sends.{HasEnded, MayEnd, MayTrap}
 use Rattle.work_board.specs.declared.record.PassRecord.{PassRecord}
 use Rattle.table_rule.specs.Changes.{turn_left, with_own_end, with_turn, without_credit}
-use Rattle.table_rule.specs.Live.{Stamp, own_stamps}
+use Rattle.table_rule.specs.Live.{own_stamps}
 use Rattle.shard_meaning.specs.Placing.{shard_of}
 use Rattle.table_rule.specs.Plays.{HasName, Seated}
 use Rattle.table_rule.specs.Records.{joined}
@@ -28,6 +28,7 @@ use Rattle.dep_table.specs.Passes.{IsPassOf}
 use Rattle.dep_table.specs.Tables.{id_of, job_of}
 use Rattle.dep_table.specs.Turns.{EndsTask, IsTurnOf}
 use Rattle.dep_table.specs.Views.{PassView, shown}
+use Rattle.work_board.specs.Stamps.{StampedTask}
 
 module _ (t : Turn) (v : PassRecord) (y z : Content) (h : IsTurnOf t v y z) (u : Task) (runs : v.running ≡ u ∷ []) where
   -- the shard of a task that runs counts it
@@ -43,7 +44,7 @@ module _ (t : Turn) (v : PassRecord) (y z : Content) (h : IsTurnOf t v y z) (u :
       omega (arith, end_running at d is, ap (λ (c : Content). c.running) is, ap (λ (c : Content). c.ended) is, h.same.running, h.same.ended, numbers_at_most j.matched j.given (shard_of j.matched j.shards) t.shard (joined h.seen.table.views) y (seen_share j t.shard v y h.seen) r.consistent r.sound)
 
   stamped : 0 < own_stamps v u
-  stamped = let s = h.stamp u runs in omega (arith, ap (λ l. weigh (λ (x : Stamp). as_number (same_task u x.0)) l) s.is_last, weigh-push (λ (x : Stamp). as_number (same_task u x.0)) s.earlier (u, t.pass.now.stamp), ap as_number ((same_task-decides u u).1 refl))
+  stamped = let s = h.stamp u runs in omega (arith, ap (λ l. weigh (λ (x : StampedTask). as_number (same_task u x.0)) l) s.is_last, weigh-push (λ (x : StampedTask). as_number (same_task u x.0)) s.earlier (u, t.pass.now.stamp), ap as_number ((same_task-decides u u).1 refl))
 
   module _ (i : PassView) (is : i ≡ t.pass.now) where
     me0 : i.me.0 ≡ with_turn v t.shard y
@@ -123,9 +124,11 @@ module _ (t : Turn) (v : PassRecord) (y z : Content) (h : IsTurnOf t v y z) (u :
       has_ended = subst (λ (p : PassRecord). HasEnded t.shard v p) (sym is_final) (record {
         shard = y;
         took = record { look = refl; looks = refl; last = refl };
-        running = refl;
-        done = record { claims = refl; stamps = refl; sends = refl };
-        kept = record { names = refl; turns = refl; quiet = refl; halts = refl; credit = same_credit };
+        end = record {
+          running = refl;
+          done = record { claims = refl; stamps = refl; sends = refl };
+          kept = record { names = refl; turns = refl; quiet = refl; halts = refl; credit = same_credit };
+        };
       })
 
       pub end_last : (shown q).last ≡ (t.shard, y) ∷ []

@@ -16,11 +16,11 @@ use Rattle.list_lemmas.proofs.Members.{IsIn-filter}
 use Rattle.list_lemmas.proofs.Joins.{flat_map_push}
 use Rattle.flow_meaning.proofs.Members.{in_edge_to}
 use Rattle.flow_meaning.proofs.Rest.{write_from}
-use Rattle.shard_meaning.specs.Opening.{is_edge_to, is_to_enter, is_write_from}
+use Rattle.shard_meaning.specs.Opening.{has_edges, is_edge_to, is_to_enter, is_write_from}
 use Rattle.shard_meaning.specs.Reserve.{is_edge_of_type, is_write_of_type}
 use Rattle.shard_meaning.specs.Share.{Placement, is_of}
 use Rattle.dep_table.specs.declared.needs.Needs.{Needs}
-use Rattle.dep_table.specs.Needs.{AddsTask, IsNeedOf, data_into, edge_tiles, has_edges, write_tiles, writes_of}
+use Rattle.dep_table.specs.Needs.{AddsTask, IsNeedOf, data_into, edge_tiles, write_tiles, writes_of}
 
 -- a count over what a filter leaves
 pub count-filter_append : {A : Type 0} (test keep : A → Bool) (xs ys : List A) → count test (filter keep (xs ++ ys)) ≡ count test (filter keep xs) + count test (filter keep ys)

@@ -15,9 +15,10 @@ use Rattle.list_lemmas.proofs.Counts.{count-at_most, one_at_most, weigh-append}
 use Rattle.list_lemmas.proofs.Places.{slice_get_there}
 use Rattle.list_lemmas.proofs.Joins.{length-filter_le}
 use Rattle.std.proofs.lemmas.List.Concat.{flat_map-append}
+use Rattle.shard_meaning.specs.Opening.{has_edges}
 use Rattle.shard_meaning.specs.Reserve.{is_edge_of_type, is_write_of_type}
 use Rattle.dep_table.specs.declared.needs.Needs.{Needs}
-use Rattle.dep_table.specs.Needs.{AddsTask, AddsTaskAt, AreNoNeeds, HasRoomFor, HaveRoomFor, IsNoNeed, edge_tiles, has_edges, write_tiles, writes_of}
+use Rattle.dep_table.specs.Needs.{AddsTask, AddsTaskAt, AreNoNeeds, HasRoomFor, HaveRoomFor, IsNoNeed, edge_tiles, write_tiles, writes_of}
 use Rattle.dep_table.proofs.NeedsCounts.{count-filter_append}
 
 writes-fewer : (is : List Item) → length (filter_map write_of is) ≤ length is

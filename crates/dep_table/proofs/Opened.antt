@@ -15,8 +15,8 @@ use Rattle.flow_meaning.specs.Machine.{opening_state}
 use Rattle.flow_meaning.specs.Table.{is_ready, ready_tasks}
 use Rattle.shard_calls.specs.Opened.{AreOpeningShards}
 use Rattle.table_rule.specs.declared.table_job.TableJob.{TableJob}
-use Rattle.table_rule.specs.Opening.{IsOpening}
-use Rattle.dep_table.specs.Opened.{AreOpeningWords, HaveOpeningReserve}
+use Rattle.table_rule.specs.Opening.{AreOpeningWords, IsOpening}
+use Rattle.dep_table.specs.Opened.{HaveOpeningReserve}
 use Rattle.shard_meaning.proofs.Openings.{none_arrived}
 
 -- a look-up that finds something, in both forms
@@ -43,9 +43,7 @@ opened j words ys consistent least few w shards spares = record {
   some_shards = least;
   shards_at_most = few;
   shard_count = shards.count;
-  long = w.long;
-  zero = w.zero;
-  live = w.live ∙ sym (ready_at_opening j.matched);
+  opening_words = record { long = w.long; live = w.live ∙ sym (ready_at_opening j.matched); zero = w.zero };
   each = λ k y at. shards.each k y (found_both ys k y at);
   spares = λ pre k y at. spares pre k y (found_both ys k y at);
 }

@@ -31,7 +31,7 @@ use Rattle.work_board.specs.declared.answers.Sent.TheVariants as answer
 use Rattle.work_board.specs.declared.record.PassRecord.{PassRecord}
 use Rattle.table_rule.specs.declared.table_job.TableJob.{TableJob}
 use Rattle.table_rule.specs.Changes.{turn_left, with_own_send, with_turn}
-use Rattle.table_rule.specs.Live.{Stamp, own_stamps}
+use Rattle.table_rule.specs.Live.{own_stamps}
 use Rattle.shard_meaning.specs.Placing.{shard_of}
 use Rattle.table_rule.specs.Plays.{HasName, Seated, fires}
 use Rattle.table_rule.specs.Records.{joined}
@@ -45,6 +45,7 @@ use Rattle.dep_table.specs.Tables.{id_of, job_of}
 use Rattle.dep_table.specs.Turns.{IsTurnOf, Leaves}
 use Rattle.dep_table.specs.Views.{PassView, shown}
 use Rattle.dep_table.proofs.Turns.{has_turn}
+use Rattle.work_board.specs.Stamps.{StampedTask}
 
 -- what an edge finds in a list of entries
 abbrev found_in : Plan → Edge → Entries → Entry
@@ -216,8 +217,8 @@ module _ (t : Turn) (v : PassRecord) (y z : Content) (h : IsTurnOf t v y z) wher
     stamped : 0 < own_stamps v (sender i)
     stamped = let s = h.stamp (sender i) next_at_first.runs in omega (
       arith,
-      ap (λ l. weigh (λ (x : Stamp). as_number (same_task (sender i) x.0)) l) s.is_last,
-      weigh-push (λ (x : Stamp). as_number (same_task (sender i) x.0)) s.earlier (sender i, t.pass.now.stamp),
+      ap (λ l. weigh (λ (x : StampedTask). as_number (same_task (sender i) x.0)) l) s.is_last,
+      weigh-push (λ (x : StampedTask). as_number (same_task (sender i) x.0)) s.earlier (sender i, t.pass.now.stamp),
       ap as_number ((same_task-decides (sender i) (sender i)).1 refl),
     )
 

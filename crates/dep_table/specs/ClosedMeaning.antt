@@ -28,4 +28,4 @@ all_sent P G = flat_map (sent_by P G) (all_tasks P)
 pub record HasTheMeaning (P : Plan) (G : Data) (S : MachineState) : Type 0 where
   pub claims : HasSameMembers S.claims (ran P G)
   pub sends : HasSameMembers S.sends (all_sent P G)
-  pub inputs : (t : Task) → IsIn t S.claims → delivered_tiles P (sent_tile S) t ≡ inputs P G t
+  pub inputs : (t : Task) → IsIn t S.claims → delivered_tiles P (sent_tile S.sends) t ≡ inputs P G t

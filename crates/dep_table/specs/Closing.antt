@@ -12,12 +12,12 @@ use Rattle.shard_meaning.specs.Calm.{AreFinished, HasNoWork}
 use Rattle.shard_meaning.specs.Moment.{Moment}
 use Rattle.shard_meaning.specs.Share.{IsShardOf}
 use Rattle.table_rule.specs.declared.table_job.TableJob.{TableJob}
-use Rattle.table_rule.specs.Live.{Stamp}
 use Rattle.table_rule.specs.Names.{AreAll}
 use Rattle.shard_meaning.specs.Placing.{shard_of}
 use Rattle.table_rule.specs.Records.{moment_of}
 use Rattle.dep_table.specs.Passes.{IsPassOf}
 use Rattle.dep_table.specs.Views.{PassView, shown}
+use Rattle.work_board.specs.Stamps.{StampedTask}
 
 -- The shards hold their parts of this moment. It is sound, and each of its claimed tasks still runs, has trapped, or
 -- has sent all its items.
@@ -48,7 +48,7 @@ pub record AreAllPasses (table : TableId) (ps : List PassView) : Type 0 where
 
 -- A pass to which all others were joined: it holds no turn, what it did is this, and it has these stamps, among them
 -- one for each of its claims.
-pub record IsLastPass (table : TableId) (p : PassView) (R : Moment) (stamps : List Stamp) : Type 0 where
+pub record IsLastPass (table : TableId) (p : PassView) (R : Moment) (stamps : List StampedTask) : Type 0 where
   pub of : p.table ≡ table
   pub no_shard : p.me.1 ≡ []
   pub no_turn : (shown p).turns ≡ []

@@ -1,6 +1,6 @@
 -- What the shards of a preloaded table need for all that will come to them, counted task by task. Source: this
 -- project's own choice.
-use Rattle.std.specs.Prelude.{◌≡◌, ◌<◌, ℕ, ◌+◌, ◌^◌, ℤ, Bool, true, false, ◌==◌, ◌&&◌, List, [], ◌∷◌, ◌++◌, length, filter, flat_map, slice_get, slice_index, Some, if◌then◌else◌}
+use Rattle.std.specs.Prelude.{◌≡◌, ◌<◌, ℕ, ◌+◌, ◌^◌, ℤ, Bool, true, false, ◌==◌, ◌&&◌, List, [], ◌∷◌, ◌++◌, length, filter, flat_map, slice_get, slice_index, Some}
 use Rattle.ptg_base.specs.Task.{Task}
 use Rattle.ptg_base.specs.declared.edge.Edge.{Edge}
 use Rattle.ptg_base.specs.declared.edge.WriteBack.{WriteBack}
@@ -11,12 +11,12 @@ use Rattle.plan_core.specs.declared.target.Target.TheVariants as target
 use Rattle.plan_core.specs.Kinds.{is_data}
 use Rattle.dep_iter.specs.Active.{flow_ins}
 use Rattle.dep_iter.specs.Consistent.{is_data_edge}
-use Rattle.dep_iter.specs.Edges.{goal, in_edges}
+use Rattle.dep_iter.specs.Edges.{in_edges}
 use Rattle.dep_iter.specs.Items.{write_backs}
 use Rattle.dep_shard.specs.Content.{Content, HasSpares, IsUnchanged}
 use Rattle.list_lemmas.specs.Changes.{ChangesAt}
 use Rattle.list_lemmas.specs.Counting.{as_number, count, weigh}
-use Rattle.shard_meaning.specs.Opening.{is_edge_to, is_to_enter, is_write_from}
+use Rattle.shard_meaning.specs.Opening.{has_edges, is_edge_to, is_to_enter, is_write_from}
 use Rattle.shard_meaning.specs.Reserve.{is_edge_of_type, is_write_of_type}
 use Rattle.shard_meaning.specs.Share.{Placement, is_of}
 use Rattle.dep_table.specs.declared.needs.Needs.{Needs}
@@ -105,10 +105,6 @@ flow_tiles env f datatype =
 -- how many tiles of a type come by edges into these flows
 abbrev pub flows_tiles : List ℤ → List FlowPlan → ℕ → ℕ
 flows_tiles env fs datatype = weigh (λ f. flow_tiles env f datatype) fs
-
--- whether edges go into a task, so that its entry is still to come
-abbrev pub has_edges : Plan → Task → Bool
-has_edges P t = if goal P t == 0 then false else true
 
 -- what the shard of a task needs for it is added
 pub record AddsTask (P : Plan) (t : Task) (old new : Needs) : Type 0 where

@@ -1,41 +1,32 @@
 -- The claims of the passes of a table, put in the order of their stamps. Source: the usual topological order; the
 -- stamps are this project's own choice.
-use Rattle.std.specs.Prelude.{◌≡◌, ℕ, List, map}
+use Rattle.std.specs.Prelude.{◌≡◌, ℕ, List}
 use Rattle.std.specs.List.{flat_map}
 use Rattle.std.specs.List.Sorted.{IsNonDecreasingBy}
+use Rattle.std.specs.Map.{keys_of}
 use Rattle.ptg_base.specs.Task.{Task}
 use Rattle.plan_core.specs.declared.plan.Plan.{Plan}
-use Rattle.coll_data.specs.Data.{Data}
-use Rattle.flow_meaning.specs.Answer.{ran}
 use Rattle.list_lemmas.specs.Counting.{HasSameMembers}
 use Rattle.flow_meaning.specs.Machine.{MachineState}
 use Rattle.flow_meaning.specs.Order.{IsOrderOf}
 use Rattle.work_board.specs.declared.record.PassRecord.{PassRecord}
-use Rattle.table_rule.specs.Live.{Stamp}
+use Rattle.work_board.specs.Stamps.{StampedTask}
 
 -- the stamps that these passes drew, one pass after the other
-abbrev pub joined_stamps : List PassRecord → List Stamp
+abbrev pub joined_stamps : List PassRecord → List StampedTask
 joined_stamps vs = flat_map (λ (v : PassRecord). v.stamps) vs
 
--- the task of a stamp
-abbrev pub task_of : Stamp → Task
-task_of x = x.0
-
--- the number of a stamp
-abbrev pub number_of : Stamp → ℕ
+-- the stamp of a task
+abbrev pub number_of : StampedTask → ℕ
 number_of x = x.1
 
 -- The tasks of these stamps, in the order of the stamps.
-pub record AreInStampOrder (stamps : List Stamp) (ts : List Task) : Type 0 where
-  pub ordered : List Stamp
+pub record AreInStampOrder (stamps : List StampedTask) (ts : List Task) : Type 0 where
+  pub ordered : List StampedTask
   pub same : HasSameMembers ordered stamps
   pub rise : IsNonDecreasingBy number_of ordered
-  pub tasks : ts ≡ map task_of ordered
+  pub tasks : ts ≡ keys_of ordered
 
 -- A legal order of the tasks that were claimed.
 abbrev pub IsClaimOrder : Plan → MachineState → List Task → Type 0
 IsClaimOrder P S ts = IsOrderOf P S.claims ts
-
--- A legal order of the tasks that run.
-abbrev pub IsRanOrder : Plan → Data → List Task → Type 0
-IsRanOrder P G ts = IsOrderOf P (ran P G) ts

@@ -1,11 +1,9 @@
-//! What a table tells, and the calls of a pass that need no turn.
+//! The calls of a pass that need no turn.
 
-ghost use Rattle.std.specs.Prelude.{◌≡◌, ◌<◌, ◌≤◌, true, false, IsTrue, ◌∷◌, []};
+ghost use Rattle.std.specs.Prelude.{◌≡◌, true, false, IsTrue, ◌∷◌, []};
 ghost use Rattle.ptg_base.specs.Task.{Task};
-ghost use Rattle.dep_iter.specs.Tasks.{IsTask};
 ghost use Rattle.work_board.specs.Looks.{HaltedIf, HasHalted, HasStamp, QuietIf};
 ghost use Rattle.table_rule.specs.Changes.{after_split, split_off};
-ghost use Rattle.shard_meaning.specs.Placing as placing;
 ghost use Rattle.table_rule.specs.Plays.{WasPass};
 ghost use Rattle.dep_table.specs.Passes.{IsPassOf};
 ghost use Rattle.dep_table.specs.Tables.{id_of, job_of};
@@ -13,50 +11,9 @@ ghost use Rattle.dep_table.specs.Views.{shown};
 
 use crate::pass::Pass;
 use crate::table::DepTable;
-use coll_data::Given;
-use dep_iter::Matched;
-use ptg_base::TaskId;
-use shard_calls::shard_at;
 use table_rule::SplitOff;
 
 impl DepTable {
-    /// The plan of the job.
-    pub fn matched(&self) -> &Matched
-        ensures { result.now ≡ (job_of self.now).matched }
-    {
-        &self.job.matched
-    }
-
-    /// The data of the job.
-    pub fn given(&self) -> &Given
-        ensures { result.now ≡ (job_of self.now).given }
-    {
-        &self.job.given
-    }
-
-    /// The number of shards.
-    pub fn shards(&self) -> u32
-        ensures { result ≡ (job_of self.now).shards }
-    {
-        self.job.shards
-    }
-
-    /// Whether all memory was taken before the first step.
-    pub fn is_preloaded(&self) -> bool
-        ensures { result ≡ (job_of self.now).preloaded }
-    {
-        self.job.preloaded
-    }
-
-    /// The number of the shard of a task.
-    pub fn shard_of(&self, t: &TaskId) -> u32
-        requires { IsTask (job_of self.now).matched t.now }
-        ensures number { result ≡ placing.shard_of (job_of self.now).matched (job_of self.now).shards t.now }
-        ensures within { result < (job_of self.now).shards }
-    {
-        shard_at(&self.job.matched, self.job.shards as usize, t) as u32
-    }
-
     /// Splits a pass off another: a new name, and nothing done.
     pub fn split(&self, pass: &mut Pass) -> Pass
         requires { IsPassOf (id_of self.now) pass.old }

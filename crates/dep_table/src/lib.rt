@@ -6,6 +6,7 @@ mod calls;
 mod closed;
 mod closing_room;
 mod delivery;
+mod job;
 mod needs;
 mod opening;
 mod outcome;

@@ -1,18 +1,19 @@
 //! The opening of a table.
 
-ghost use Rattle.std.specs.Prelude.{◌≡◌, ◌<◌, ◌≤◌, false, true, IfOk};
+ghost use Rattle.std.specs.Prelude.{◌≡◌, ◌<◌, ◌≤◌, true, false, IfOk};
 ghost use Rattle.ptg_base.specs.Limits.{most_shards};
 ghost use Rattle.plan_data.specs.Fit.{DataFit};
 ghost use Rattle.shard_calls.specs.Opened.{AreOpeningShards};
 ghost use Rattle.table_rule.specs.Changes.{first_pass};
-ghost use Rattle.table_rule.specs.Opening.{IsOpening};
+ghost use Rattle.table_rule.specs.Opening.{AreOpeningWords, IsOpening};
 ghost use Rattle.dep_table.specs.ClosingRooms.{IsRoomFor};
-ghost use Rattle.dep_table.specs.Opened.{AreOpeningWords, HaveOpeningReserve};
+ghost use Rattle.dep_table.specs.Opened.{HaveOpeningReserve};
 ghost use Rattle.dep_table.specs.Passes.{IsPassOf};
 ghost use Rattle.dep_table.specs.Tables.{id_of, job_of};
 
 use crate::closing_room::{ClosingRoom, closing_room};
 use crate::pass::{Pass, Seat};
+use crate::preloaded::preloaded_shards;
 use crate::table::DepTable;
 use crate::words::{STRIDE, live_index};
 use atomic_table::{Refused, Table};
@@ -79,8 +80,26 @@ fn lay(
     }
 }
 
+// The shards of a new table, with spares for all that will come to them where it is preloaded.
+fn shards_for(
+    alloc: Global,
+    m: &Matched,
+    shards: u32,
+    preload: bool,
+) -> Result<Vec<Shard>, OutOfMemory>
+    requires { (0 < shards) × (shards ≤ most_shards) }
+    ensures shards { IfOk result (λ v. AreOpeningShards m.now shards v.items) }
+    ensures spares { preload ≡ true → IfOk result (λ v. HaveOpeningReserve m.now shards v.items) }
+{
+    if preload {
+        preloaded_shards(alloc, m, shards)
+    } else {
+        opened_shards(alloc, m, shards)
+    }
+}
+
 // A table for this job of these shards, and its first pass.
-pub(crate) fn open_table(
+fn open_table(
     alloc: Global,
     shards: Vec<Shard>,
     job: TableJob,
@@ -113,12 +132,48 @@ impl DepTable {
         ensures job { IfOk result (λ r.
             job_of r.0 ≡ record { matched = matched; given = given; shards = shards; preloaded = false }) }
     {
-        let opened = opened_shards(alloc, &matched, shards)?;
+        DepTable::open(alloc, matched, given, shards, false)
+    }
+
+    /// As `new`, with spares in each shard for all that will come to it, and with room for the close, so that none of
+    /// the table's calls wants memory.
+    pub fn new_preloaded(
+        alloc: Global,
+        matched: Matched,
+        given: Given,
+        shards: u32,
+    ) -> Result<(DepTable, Pass), OutOfMemory>
+        requires fit { DataFit matched.colls matched.elems given }
+        requires some_shards { 0 < shards }
+        requires shards_at_most { shards ≤ most_shards }
+        ensures pass { IfOk result (λ r. IsPassOf (id_of r.0) r.1 × (r.1.me.0 ≡ first_pass)) }
+        ensures job { IfOk result (λ r.
+            job_of r.0 ≡ record { matched = matched; given = given; shards = shards; preloaded = true }) }
+    {
+        DepTable::open(alloc, matched, given, shards, true)
+    }
+
+    /// As `new_preloaded` where a preload is asked for, and else as `new`.
+    pub fn open(
+        alloc: Global,
+        matched: Matched,
+        given: Given,
+        shards: u32,
+        preload: bool,
+    ) -> Result<(DepTable, Pass), OutOfMemory>
+        requires fit { DataFit matched.colls matched.elems given }
+        requires some_shards { 0 < shards }
+        requires shards_at_most { shards ≤ most_shards }
+        ensures pass { IfOk result (λ r. IsPassOf (id_of r.0) r.1 × (r.1.me.0 ≡ first_pass)) }
+        ensures job { IfOk result (λ r.
+            job_of r.0 ≡ record { matched = matched; given = given; shards = shards; preloaded = preload }) }
+    {
+        let opened = shards_for(alloc, &matched, shards, preload)?;
         let job = TableJob {
             matched,
             given,
             shards,
-            preloaded: false,
+            preloaded: preload,
         };
         open_table(alloc, opened, job)
     }

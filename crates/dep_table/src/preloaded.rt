@@ -1,30 +1,21 @@
-//! The opening of a table that takes all memory before the first step.
+//! The shards of a table that takes all memory before the first step.
 
-ghost use Rattle.std.specs.Prelude.{◌≡◌, ◌<◌, ◌≤◌, ◌∷◌, [], Some, IfOk, OnOk, length, slice_get, true};
+ghost use Rattle.std.specs.Prelude.{◌≡◌, ◌<◌, ◌≤◌, ◌∷◌, [], Some, IfOk, OnOk, length, slice_get};
 ghost use Rattle.ptg_base.specs.Limits.{most_shards};
 ghost use Rattle.dep_iter.specs.Tasks as tasks;
 ghost use Rattle.dep_iter.specs.Tasks.{IsTask, all_tasks};
-ghost use Rattle.plan_data.specs.Fit.{DataFit};
 ghost use Rattle.dep_shard.specs.Content.{Content};
-ghost use Rattle.table_rule.specs.Changes.{first_pass};
 ghost use Rattle.shard_meaning.specs.Placing as placing;
 ghost use Rattle.dep_table.specs.Needs.{AddsNeeds, AddsTaskAt, AreNeedsOf, AreNoNeeds, AreReserved, FitShards, HaveRoomFor, HaveTypes, IsReservedFor, ReservesAt};
 ghost use Rattle.shard_calls.specs.Opened.{AreOpeningShards};
 ghost use Rattle.dep_table.specs.Opened.{HaveOpeningReserve};
-ghost use Rattle.dep_table.specs.Passes.{IsPassOf};
-ghost use Rattle.dep_table.specs.Tables.{id_of, job_of};
 
 use crate::needs::Needs;
-use crate::opening::open_table;
-use crate::pass::Pass;
-use crate::table::DepTable;
-use coll_data::Given;
 use dep_iter::{Matched, all_tasks, locals_of};
 use dep_shard::Shard;
 use ptg_base::{OutOfMemory, TaskId};
 use shard_calls::{opened_shards, shard_under};
 use std::alloc::Global;
-use table_rule::TableJob;
 
 // Needs of nothing, for this many shards.
 fn no_needs(alloc: Global, m: &Matched, shards: u32) -> Result<Vec<Needs>, OutOfMemory>
@@ -113,7 +104,11 @@ fn reserve_all(shards: &mut Vec<Shard>, needs: &[Needs]) -> Result<(), OutOfMemo
 }
 
 // The shards of a new table, each with spares for all that will come to it.
-fn preloaded_shards(alloc: Global, m: &Matched, shards: u32) -> Result<Vec<Shard>, OutOfMemory>
+pub(crate) fn preloaded_shards(
+    alloc: Global,
+    m: &Matched,
+    shards: u32,
+) -> Result<Vec<Shard>, OutOfMemory>
     requires { (0 < shards) × (shards ≤ most_shards) }
     ensures shards { IfOk result (λ v. AreOpeningShards m.now shards v.items) }
     ensures spares { IfOk result (λ v. HaveOpeningReserve m.now shards v.items) }
@@ -122,31 +117,4 @@ fn preloaded_shards(alloc: Global, m: &Matched, shards: u32) -> Result<Vec<Shard
     let needs = needs_of(alloc, m, shards)?;
     reserve_all(&mut opened, needs.as_slice())?;
     Ok(opened)
-}
-
-impl DepTable {
-    /// A table for a job, with from 1 to 256 shards, and its first pass. Each shard has spares for all that will come
-    /// to it, and the table has room for its close, so none of its calls wants memory.
-    pub fn new_preloaded(
-        alloc: Global,
-        matched: Matched,
-        given: Given,
-        shards: u32,
-    ) -> Result<(DepTable, Pass), OutOfMemory>
-        requires fit { DataFit matched.colls matched.elems given }
-        requires some_shards { 0 < shards }
-        requires shards_at_most { shards ≤ most_shards }
-        ensures pass { IfOk result (λ r. IsPassOf (id_of r.0) r.1 × (r.1.me.0 ≡ first_pass)) }
-        ensures job { IfOk result (λ r.
-            job_of r.0 ≡ record { matched = matched; given = given; shards = shards; preloaded = true }) }
-    {
-        let opened = preloaded_shards(alloc, &matched, shards)?;
-        let job = TableJob {
-            matched,
-            given,
-            shards,
-            preloaded: true,
-        };
-        open_table(alloc, opened, job)
-    }
 }

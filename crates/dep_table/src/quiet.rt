@@ -10,7 +10,8 @@ ghost use Rattle.table_rule.specs.declared.table_job.TableJob.{TableJob};
 ghost use Rattle.dep_table.specs.ClosedMeaning.{HasTheMeaning};
 ghost use Rattle.dep_table.specs.ClosedTables.{shards_of};
 ghost use Rattle.dep_table.specs.Closing.{HaveNoWork, IsClosedAt};
-ghost use Rattle.dep_table.specs.StampOrders.{IsClaimOrder, IsRanOrder};
+ghost use Rattle.flow_meaning.specs.Order.{IsWholeOrder};
+ghost use Rattle.dep_table.specs.StampOrders.{IsClaimOrder};
 
 use crate::closed::Closed;
 use shard_calls::have_no_work;
@@ -45,5 +46,5 @@ pub fn a_quiet_close_has_the_meaning()
 /// run.
 pub fn a_quiet_close_has_an_order_of_what_ran()
     ensures { (j : TableJob) (R : Moment) (ys : List Content) (ts : List Task) → IsClosedAt j R ys → HaveNoWork ys
-        → IsClaimOrder j.matched R.state ts → IsRanOrder j.matched j.given ts }
+        → IsClaimOrder j.matched R.state ts → IsWholeOrder j.matched j.given ts }
 {}

@@ -1,8 +1,8 @@
 //! The steps of a pass on the words of its table, one function a step.
 
-ghost use Rattle.std.specs.Prelude.{◌≡◌, ◌≢◌, ◌<◌, Some, true, false, length};
+ghost use Rattle.std.specs.Prelude.{◌≡◌, ◌≢◌, ◌<◌, Some, true, false};
 ghost use Rattle.table_rule.specs.Changes.{with_halt, with_look, with_quiet};
-ghost use Rattle.table_rule.specs.Plays.{HasName, WasPass};
+ghost use Rattle.table_rule.specs.Plays.{WasPass};
 ghost use Rattle.work_board.specs.Word.{Halt, Live};
 
 use crate::pass::Seat;

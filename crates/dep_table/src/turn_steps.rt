@@ -4,11 +4,11 @@ ghost use Rattle.std.specs.Prelude.{[], IfNone, IfSome, None, ◌≡◌, ◌≢�
 ghost use Rattle.ptg_base.specs.Entry.{Entry};
 ghost use Rattle.ptg_base.specs.Limits.{most_tasks};
 ghost use Rattle.atomic_table.specs.Table.{rest};
-ghost use Rattle.dep_shard.specs.Content.{Content, Ends, KeepsEntriesAndWritten, Takes, Uses, entry_of};
+ghost use Rattle.dep_shard.specs.Content.{Content, Ends, KeepsEntriesAndWritten, Takes, Uses, entry_of, HasNoReadyOf};
 ghost use Rattle.table_rule.specs.Changes.{turn_left, with_look, with_own_claim, with_own_end, with_stamp, with_turn, without_credit};
 ghost use Rattle.table_rule.specs.Live.{own_stamps};
 ghost use Rattle.table_rule.specs.Plays.{HasName, WasSeen};
-ghost use Rattle.work_board.specs.Claims.{HasNoReadyOf, MayStart};
+ghost use Rattle.work_board.specs.Claims.{MayStart};
 ghost use Rattle.work_board.specs.Word as word;
 ghost use Rattle.dep_table.specs.Turns.{Claims, EndsTask, Leaves};
 

@@ -11,7 +11,7 @@ use Rattle.ptg_base.specs.declared.edge.WriteBack.{WriteBack}
 use Rattle.plan_core.specs.declared.shape.Shape.{Shape}
 use Rattle.list_lemmas.proofs.Members.{from_append}
 use Rattle.dep_iter.specs.Items.{edge_of, write_of}
-use Rattle.edge_accept.specs.declared.tally.Outs.{Outs}
+use Rattle.edge_accept.specs.declared.outs.Outs.{Outs}
 use Rattle.edge_accept.specs.Tallies.{AreSent, IsOnceIn, places_of}
 use Rattle.edge_accept.proofs.TaskFlows.{length-items}
 

@@ -21,7 +21,8 @@ use Rattle.list_lemmas.proofs.Distinct.{HasNoRepeats-append}
 use Rattle.list_lemmas.proofs.Places.{drop_from}
 use Rattle.dep_iter.proofs.Belonging.{held-more}
 use Rattle.dep_iter.specs.Tasks.{flows_of}
-use Rattle.dep_iter.specs.Active.{held_target, held_targets, held_then, takes_first}
+use Rattle.term_core.specs.Kinds.{is_data}
+use Rattle.dep_iter.specs.Active.{held_target, held_targets, held_then}
 use Rattle.dep_iter.specs.Consistent.{is_data_edge, takes_tile}
 use Rattle.dep_iter.specs.Edges.{edges_into, in_edges_before}
 use Rattle.edge_accept.specs.declared.at.FlowAt.{FlowAt}
@@ -110,7 +111,7 @@ held-next_some (c ∷ ds) (suc k) d env x e holds =
 -- the edges that the first dependences of a flow give
 module _ (at : FlowAt) where
   abbrev given : List DepPlan → List Edge
-  given ds = flat_map (edges_into at.task.now at.env.now at.number) (held_targets (takes_first at.flow.now.kind) ds at.env.now)
+  given ds = flat_map (edges_into at.task.now at.env.now at.number) (held_targets (is_data at.flow.now.kind) ds at.env.now)
 
   before-is : (k : ℕ) → in_edges_before at.plan.now at.task.now at.number k ≡ given (take k at.flow.now.ins)
   unfolding in_edges_before
@@ -132,24 +133,24 @@ module _ (at : FlowAt) where
 
     pub takes_none : (s u : Ins) → held_target d at.env.now ≡ None → TakesFrom at (suc k) s u → TakesFrom at k s u
     takes_none s u none h =
-        let first_only = takes_first at.flow.now.kind in
+        let first_only = is_data at.flow.now.kind in
         let same = before-is (suc k) ∙ ap (flat_map E) (held-next_none first_only at.flow.now.ins k d at.env.now this none) ∙ sym (before-is k) in
         rw (drop_from at.flow.now.ins k d this, none)
         (record { source = h.source; taken = subst (λ es. AreTakenOnce at.plan.now es s u (flat_map E (later first_only))) same h.taken })
 
     module _ (x : Target) (holds : held_target d at.env.now ≡ Some x) where
       -- the first that holds counts alone
-      pub takes_alone : (s u : Ins) → takes_first at.flow.now.kind ≡ true → Takes at k s u (x ∷ []) → TakesFrom at k s u
+      pub takes_alone : (s u : Ins) → is_data at.flow.now.kind ≡ true → Takes at k s u (x ∷ []) → TakesFrom at k s u
       takes_alone s u alone first = rw (drop_from at.flow.now.ins k d this, alone, holds) first
 
       -- all that hold count
-      pub takes_more : (s u v : Ins) → takes_first at.flow.now.kind ≡ false → Takes at k s u (x ∷ []) → TakesFrom at (suc k) u v → TakesFrom at k s v
+      pub takes_more : (s u v : Ins) → is_data at.flow.now.kind ≡ false → Takes at k s u (x ∷ []) → TakesFrom at (suc k) u v → TakesFrom at k s v
       takes_more s u v all first rest =
           let before = in_edges_before at.plan.now at.task.now at.number k in
           let ins = at.flow.now.ins in
           let targets = λ (b : Bool). held_targets b (take (suc k) ins) at.env.now ≡ held_targets b (take k ins) at.env.now ++ x ∷ [] in
           let longer = subst targets (sym all) (held-next_some ins k d at.env.now x this holds) in
-          let earlier = held_targets (takes_first at.flow.now.kind) (take k ins) at.env.now in
+          let earlier = held_targets (is_data at.flow.now.kind) (take k ins) at.env.now in
           let same : in_edges_before at.plan.now at.task.now at.number (suc k) ≡ before ++ E x =
           before-is (suc k) ∙ ap (flat_map E) longer ∙ flat_map-append E earlier (x ∷ [])
           ∙ ap (λ l. l ++ flat_map E (x ∷ [])) (sym (before-is k)) ∙ ap (λ l. before ++ l) (append-nil (E x)) in

@@ -1,8 +1,10 @@
 -- The edges into a task and what it sends, flow by flow.
 use Rattle.std.proofs.Common.{◌≡◌, ◌≢◌, ℕ, zero, suc, ◌+◌, ℤ, List, [], ◌∷◌, ◌++◌, length, map, refl, ap, sym, ◌∙◌}
-use Rattle.std.proofs.Common.{subst, append_assoc, add-zero, Option, Some, None, slice_get, inl, inr}
+use Rattle.std.proofs.Common.{subst, add-zero, Option, Some, None, slice_get, inl, inr}
 use Rattle.std.proofs.Common.{arith}
 use Rattle.std.specs.List.{filter_map, flat_map}
+use Rattle.std.proofs.lemmas.List.Concat.{flat_map-append}
+use Rattle.std.proofs.lemmas.List.Folds.{flat_map-map}
 use Rattle.std.specs.Option.{option_map_or}
 use Rattle.ptg_base.specs.Lists.{HasNoRepeats, IsIn}
 use Rattle.ptg_base.specs.Task.{Task}
@@ -27,15 +29,15 @@ use Rattle.dep_iter.proofs.Belonging.{from_edges_in, link_in, near_among}
 use Rattle.dep_iter.proofs.Joining.{edges_into-among}
 use Rattle.edge_accept.specs.Flows.{by_number, edges_into_flow, items_of_flow}
 
-numbered : {X : Type 0} (g : ℕ → Target → List X) (n : ℕ) (xs : List Target) (rest : List (ℕ × Target)) → flat_map (λ (a : ℕ × Target). g a.0 a.1) (map (λ x. (n, x)) xs ++ rest) ≡ flat_map (g n) xs ++ flat_map (λ (a : ℕ × Target). g a.0 a.1) rest
-numbered g n [] rest = refl
-numbered g n (x ∷ xs) rest = ap (λ l. g n x ++ l) (numbered g n xs rest) ∙ sym (append_assoc (g n x) (flat_map (g n) xs) (flat_map (λ (a : ℕ × Target). g a.0 a.1) rest))
-
 by_flow-is : {X : Type 0} (g : ℕ → Target → List X) (targets : FlowPlan → List Target) (n : ℕ) (fs : List FlowPlan)
     → flat_map (λ (a : ℕ × Target). g a.0 a.1) (by_flow targets n fs) ≡ by_number (λ m f. flat_map (g m) (targets f)) n fs
 by_flow-is g targets n [] = refl
 by_flow-is g targets n (f ∷ fs) =
-    numbered g n (targets f) (by_flow targets (suc n) fs) ∙ ap (λ l. flat_map (g n) (targets f) ++ l) (by_flow-is g targets (suc n) fs)
+    let each = λ (a : ℕ × Target). g a.0 a.1 in
+    let later = by_flow targets (suc n) fs in
+    flat_map-append each (map (λ x. (n, x)) (targets f)) later
+    ∙ (ap (λ l. l ++ flat_map each later) (flat_map-map each (λ x. (n, x)) (targets f))
+    ∙ ap (λ l. flat_map (g n) (targets f) ++ l) (by_flow-is g targets (suc n) fs))
 
 pub in_edges-flows : (P : Plan) (t : Task) → in_edges P t ≡ by_number (edges_into_flow t (locals_of P t)) 0 (flows_of P t)
 unfolding in_edges

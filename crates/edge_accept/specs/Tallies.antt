@@ -10,14 +10,15 @@ use Rattle.plan_core.specs.declared.plan.Plan.{Plan}
 use Rattle.plan_core.specs.declared.shape.Shape.{Shape}
 use Rattle.plan_core.specs.declared.target.Target.{Target}
 use Rattle.plan_core.specs.Place.{HasPlace}
-use Rattle.dep_iter.specs.Active.{held_targets, takes_first}
+use Rattle.term_core.specs.Kinds.{is_data}
+use Rattle.dep_iter.specs.Active.{held_targets}
 use Rattle.dep_iter.specs.Edges.{edges_into, in_edges, in_edges_before, source_among}
 use Rattle.dep_iter.specs.Items.{edge_of, items, write_of}
 use Rattle.place_set.specs.declared.PlaceSet.{PlaceSet}
 use Rattle.place_set.specs.Sets.{IsSetOf}
 use Rattle.edge_accept.specs.declared.at.FlowAt.{FlowAt}
 use Rattle.edge_accept.specs.declared.ins.Ins.{Ins}
-use Rattle.edge_accept.specs.declared.tally.Outs.{Outs}
+use Rattle.edge_accept.specs.declared.outs.Outs.{Outs}
 use Rattle.edge_accept.specs.declared.tally.Tally.{Tally}
 use Rattle.edge_accept.specs.Flows.{AreTaken, AreTakenOnce, IsSoundFlow, IsSoundSource, IsSoundTask, by_number}
 use Rattle.edge_accept.specs.Flows.{edges_into_flow, items_of_flow}
@@ -31,11 +32,10 @@ pub record Takes (at : FlowAt) (k : ℕ) (old new : Ins) (xs : List Target) : Ty
       (flat_map (edges_into at.task.now at.env.now at.number) xs)
 
 -- the flow may start from the first of all targets that count of the in dependences from number k on, and the edges
--- that
--- they stand for were counted
+-- that they stand for were counted
 abbrev pub TakesFrom : FlowAt → ℕ → Ins → Ins → Type 0
 TakesFrom at k old new =
-    Takes at k old new (held_targets (takes_first at.flow.now.kind) (drop k at.flow.now.ins) at.env.now)
+    Takes at k old new (held_targets (is_data at.flow.now.kind) (drop k at.flow.now.ins) at.env.now)
 
 -- the set has these places of the collections, and none of them was added twice
 pub record IsOnceIn (colls : List Shape) (w : PlaceSet) (ps : List Place) : Type 0 where

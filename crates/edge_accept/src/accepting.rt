@@ -8,7 +8,8 @@ ghost use Rattle.dep_iter.specs.Consistent.{HasCounts, IsConsistent};
 ghost use Rattle.dep_iter.specs.Tasks.{all_tasks};
 
 use crate::ins::Ins;
-use crate::tally::{Outs, Tally};
+use crate::outs::Outs;
+use crate::tally::Tally;
 use crate::tasks::accept_all;
 use dep_iter::Counts;
 use place_set::PlaceSet;

@@ -3,6 +3,7 @@
 
 mod accepting;
 mod at;
+mod counting;
 mod flows;
 mod ins;
 mod outs;

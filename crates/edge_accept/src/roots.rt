@@ -3,7 +3,7 @@
 ghost use Rattle.std.specs.Prelude.{◌≡◌, ◌==◌, length};
 ghost use Rattle.dep_iter.specs.Consistent.{roots};
 ghost use Rattle.dep_iter.specs.Edges.{goal};
-ghost use Rattle.dep_iter.specs.Tasks.{IsTask, all_tasks as tasks_of};
+ghost use Rattle.dep_iter.specs.Tasks.{IsTask, all_tasks};
 
 use dep_iter::{all_tasks, all_tasks_are_listed, in_edges};
 use plan_core::Plan;
@@ -20,7 +20,7 @@ fn is_root(plan: &Plan, t: &TaskId) -> bool
 /// How many of a plan's `tasks` tasks have no edge into them. Where there is no task it looks at no
 /// value of a range.
 pub fn root_count(plan: &Plan, tasks: u64) -> u64
-    requires { tasks ≡ length (tasks_of plan.now) }
+    requires { tasks ≡ length (all_tasks plan.now) }
     ensures { result ≡ length (roots plan.now) }
 {
     if tasks == 0 {

@@ -8,7 +8,7 @@ ghost use Rattle.dep_iter.specs.Items.{items_to};
 ghost use Rattle.dep_iter.specs.Well.{are_well, has_arguments};
 ghost use Rattle.edge_accept.specs.Tallies.{AreSent};
 
-use crate::tally::Outs;
+use crate::outs::Outs;
 use dep_iter::{held_target, place_of};
 use goal_count::combination_count;
 use plan_core::{DepPlan, Plan, Target};

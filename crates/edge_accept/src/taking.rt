@@ -79,7 +79,7 @@ pub(crate) fn take_from(at: &FlowAt, k: usize, ins: &mut Ins) -> bool
     if !take_target(at, k, target, ins) {
         return false;
     }
-    if at.flow.kind.takes_first() {
+    if at.flow.kind.is_data() {
         return true;
     }
     take_from(at, k + 1, ins)

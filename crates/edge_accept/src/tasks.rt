@@ -7,7 +7,7 @@ ghost use Rattle.dep_iter.specs.Consistent.{roots};
 ghost use Rattle.dep_iter.specs.Edges.{goal};
 ghost use Rattle.dep_iter.specs.Hints as hints;
 ghost use Rattle.dep_iter.specs.Tasks as of_plan;
-ghost use Rattle.dep_iter.specs.Tasks.{IsTask, all_tasks as tasks_of};
+ghost use Rattle.dep_iter.specs.Tasks.{IsTask, all_tasks};
 ghost use Rattle.dep_iter.specs.Well.{IsWellTask};
 ghost use Rattle.edge_accept.specs.Tallies.{WentOver};
 
@@ -68,8 +68,8 @@ fn accept_next(plan: &Plan, t: &TaskId, tally: &mut Tally) -> Option<bool>
 // Goes over all tasks, in walk order, given their number, and counts those without an edge into them. Where there
 // is no task it looks at no value of a range.
 pub(crate) fn accept_all(plan: &Plan, tasks: u64, tally: &mut Tally) -> Option<u64>
-    requires { tasks ≡ length (tasks_of plan.now) }
-    ensures walk { IfSome result (λ _. WentOver plan.now tally.old tally.new (tasks_of plan.now)) }
+    requires { tasks ≡ length (all_tasks plan.now) }
+    ensures walk { IfSome result (λ _. WentOver plan.now tally.old tally.new (all_tasks plan.now)) }
     ensures count { IfSome result (λ n. n ≡ length (roots plan.now)) }
 {
     if tasks == 0 {

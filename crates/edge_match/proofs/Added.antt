@@ -1,5 +1,5 @@
 -- What the marks of the first phase count: all edges into tasks, all items and all places that are written.
-use Rattle.std.proofs.Common.{◌≡◌, ℕ, List, [], ◌∷◌, ◌++◌, map, refl, ap, sym, ◌∙◌, subst}
+use Rattle.std.proofs.Common.{◌≡◌, ℕ, suc, List, [], ◌∷◌, ◌++◌, map, refl, ap, sym, ◌∙◌, subst}
 use Rattle.std.proofs.Common.{append_assoc}
 use Rattle.std.proofs.lemmas.List.{append-nil, map-append}
 use Rattle.std.specs.List.{filter_map, flat_map}
@@ -14,6 +14,8 @@ use Rattle.plan_core.specs.declared.flow.FlowPlan.{FlowPlan}
 use Rattle.plan_core.specs.declared.plan.Plan.{Plan}
 use Rattle.dep_iter.specs.declared.source.Source.{Source}
 use Rattle.dep_iter.specs.Tasks.{all_tasks, flows_of}
+use Rattle.edge_accept.specs.Flows.{by_number}
+use Rattle.edge_accept.specs.Tallies.{places_of}
 use Rattle.edge_accept.proofs.TaskFlows.{items-flows}
 use Rattle.dep_iter.specs.Consistent.{all_in, all_items, all_writes}
 use Rattle.dep_iter.specs.Edges.{data_source, in_edges}
@@ -22,12 +24,9 @@ use Rattle.std.proofs.lemmas.List.Elements.{filter_map-append}
 use Rattle.list_lemmas.proofs.Joins.{filter_map-flat_map}
 use Rattle.edge_match.specs.declared.phase.Phase.TheVariants.{Connecting}
 use Rattle.edge_match.specs.Marks.{Before, Mark, add_all, flow_items, flow_marks, flow_start, item_marks, nothing, phase_marks}
-use Rattle.edge_match.specs.Marks.{numbered, task_marks, task_start}
-use Rattle.edge_match.proofs.Directed.{edges-numbered, flow_edges, in_flow_items, numbered-is}
+use Rattle.edge_match.specs.Marks.{task_marks, task_start}
+use Rattle.edge_match.proofs.Directed.{edges-numbered, flow_edges, in_flow_items}
 use Rattle.edge_match.proofs.Parts.{add_all-append}
-
-abbrev places_of : List Item → List Place
-places_of is = map (λ (w : WriteBack). w.place) (filter_map write_of is)
 
 -- these marks count these edges and items, and the places that the items write
 record Adds (ms : List Mark) (es : List Edge) (is : List Item) : Type 0 where
@@ -75,20 +74,27 @@ items-add s t n earlier (item.Write w ∷ is) = record {
 adds_nothing : (ms : List Mark) → ((b : Before) → add_all b ms ≡ b) → Adds ms [] []
 adds_nothing ms h = record { after = λ b. h b ∙ adds_none.after b }
 
-flow_adds : (P : Plan) (t : Task) (a : ℕ × FlowPlan) → Adds (flow_marks Connecting P t a) (flow_edges In P t a.0 a.1) (flow_items Out P t a.0 a.1)
-flow_adds P t a =
-    let s = data_source P t a.0 in
-    let es = flow_edges In P t a.0 a.1 in
-    let is = flow_items Out P t a.0 a.1 in
-    let start = adds_nothing (flow_start Connecting P t a.0 a.1) (λ b. refl) in
-    let ins = subst (λ l. Adds (item_marks In [] l Connecting s t a.0) es []) (sym (in_flow_items P t a.0 a.1)) (ins-add s t a.0 [] es) in
-    rw (append-nil es) at (adds_both _ _ es [] [] is (adds_both _ _ [] es [] [] start ins) (items-add s t a.0 [] is))
+-- what each of these flows adds, which are numbered from n on
+adds_by_number : (f : ℕ → FlowPlan → List Mark) (g : ℕ → FlowPlan → List Edge) (h : ℕ → FlowPlan → List Item)
+    → ((n : ℕ) (x : FlowPlan) → Adds (f n x) (g n x) (h n x)) → (n : ℕ) (xs : List FlowPlan) → Adds (by_number f n xs) (by_number g n xs) (by_number h n xs)
+adds_by_number f g h each n [] = adds_none
+adds_by_number f g h each n (x ∷ xs) =
+    adds_both (f n x) (by_number f (suc n) xs) (g n x) (by_number g (suc n) xs) (h n x) (by_number h (suc n) xs) (each n x) (adds_by_number f g h each (suc n) xs)
+
+flow_adds : (P : Plan) (t : Task) (n : ℕ) (f : FlowPlan) → Adds (flow_marks Connecting P t n f) (flow_edges In P t n f) (flow_items Out P t n f)
+flow_adds P t n f =
+    let s = data_source P t n in
+    let es = flow_edges In P t n f in
+    let is = flow_items Out P t n f in
+    let start = adds_nothing (flow_start Connecting P t n f) (λ b. refl) in
+    let ins = subst (λ l. Adds (item_marks In [] l Connecting s t n) es []) (sym (in_flow_items P t n f)) (ins-add s t n [] es) in
+    rw (append-nil es) at (adds_both _ _ es [] [] is (adds_both _ _ [] es [] [] start ins) (items-add s t n [] is))
 
 task_adds : (P : Plan) (t : Task) → Adds (task_marks Connecting P t) (in_edges P t) (items P t)
 task_adds P t =
     let fs = flows_of P t in
-    let each = adds_each (flow_marks Connecting P t) (λ a. flow_edges In P t a.0 a.1) (λ a. flow_items Out P t a.0 a.1) (flow_adds P t) (numbered 0 fs) in
-    let flows = rw (numbered-is (flow_edges In P t) 0 fs, numbered-is (flow_items Out P t) 0 fs, ← edges-numbered P t In, ← items-flows P t) at each in
+    let each = adds_by_number (flow_marks Connecting P t) (flow_edges In P t) (flow_items Out P t) (flow_adds P t) 0 fs in
+    let flows = rw (← edges-numbered P t In, ← items-flows P t) at each in
     adds_both _ _ [] (in_edges P t) [] (items P t) (adds_nothing (task_start Connecting P t) (λ b. refl)) flows
 
 -- what the first phase counts

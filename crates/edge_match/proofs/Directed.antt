@@ -13,7 +13,7 @@ use Rattle.ptg_base.specs.declared.edge.Item.TheVariants as item
 use Rattle.ptg_base.specs.declared.edge.WriteBack.{WriteBack}
 use Rattle.term_core.specs.declared.direction.Direction.{Direction}
 use Rattle.term_core.specs.declared.direction.Direction.TheVariants.{In, Out}
-use Rattle.term_core.specs.Kinds.{first_alone}
+use Rattle.term_core.specs.Kinds.{first_only, is_data}
 use Rattle.plan_core.specs.declared.flow.DepPlan.{DepPlan}
 use Rattle.plan_core.specs.declared.flow.FlowPlan.{FlowPlan}
 use Rattle.plan_core.specs.declared.plan.Plan.{Plan}
@@ -28,7 +28,7 @@ use Rattle.std.proofs.lemmas.List.Elements.{filter_map-append}
 use Rattle.list_lemmas.proofs.Joins.{map-flat_map, map-map, flat_map_push}
 use Rattle.dep_iter.specs.declared.source.Source.{Source}
 use Rattle.dep_iter.specs.Tasks.{flows_of, locals_of, task}
-use Rattle.dep_iter.specs.Active.{flow_ins, held_target, held_targets, takes_first}
+use Rattle.dep_iter.specs.Active.{flow_ins, held_target, held_targets}
 use Rattle.dep_iter.specs.Directions.{edge_at, edges_of, near_flow}
 use Rattle.dep_iter.specs.Edges.{data_source, edges_into, in_edges_before}
 use Rattle.dep_iter.specs.Items.{edge_of, out_edges_before, write_of}
@@ -44,7 +44,7 @@ use Rattle.edge_match.specs.declared.fault.MatchFault.{MatchFault}
 use Rattle.edge_match.specs.declared.phase.Phase.{Phase}
 use Rattle.edge_match.specs.declared.task_at.FlowAt.{FlowAt}
 use Rattle.edge_match.specs.FlowParts.{CheckedAt, FlowMarks, before_at, marks_from}
-use Rattle.edge_match.specs.Marks.{Mark, edge_marks, flow_items, held_items, item_marks, items_at, numbered, write_marks}
+use Rattle.edge_match.specs.Marks.{Mark, edge_marks, flow_items, held_items, item_marks, items_at, write_marks}
 use Rattle.edge_match.proofs.Parts.{stop, followed, unchecked}
 
 in_items : (t : Task) (env : List ℤ) (n : ℕ) (xs : List Target)
@@ -144,13 +144,13 @@ first_edges : (at : FlowAt) (d : Direction) (k : ℕ) → before_at d at k ≡ f
 unfolding in_edges_before out_edges_before
 first_edges at In k =
     let env = locals_of at.plan.now at.task.now in
-    let held = held_targets (takes_first at.flow.now.kind) (take k at.flow.now.ins) env in
+    let held = held_targets (is_data at.flow.now.kind) (take k at.flow.now.ins) env in
     rw at.here (sym (ap (filter_map edge_of) (in_items at.task.now env at.number held) ∙ edges_only _))
 first_edges at Out k = rw at.here refl
 
 module _ (at : FlowAt) (d : Direction) where
   abbrev pub alone : Bool
-  alone = first_alone d at.flow.now.kind
+  alone = first_only d at.flow.now.kind
 
   abbrev pub held : List DepPlan → List Target
   held ds = held_targets alone ds at.env.now
@@ -226,12 +226,6 @@ module _ (at : FlowAt) (class flow : ℕ) where
   pub differ : (args : List Arg) (d : Direction) → HasNoRepeats (edges_named d (combinations args at.env.now))
   differ args In = distinct_in at.task.now at.env.now at.number (target.Task class flow args)
   differ args Out = rw (named_items args Out, edges_only _) at (distinct_out at.task.now at.env.now at.number (target.Task class flow args))
-
--- what each flow gives, which is numbered
-pub numbered-is : {X : Type 0} (g : ℕ → FlowPlan → List X) (n : ℕ) (fs : List FlowPlan)
-    → flat_map (λ (a : ℕ × FlowPlan). g a.0 a.1) (numbered n fs) ≡ by_number g n fs
-numbered-is g n [] = refl
-numbered-is g n (f ∷ fs) = ap (λ l. g n f ++ l) (numbered-is g (suc n) fs)
 
 by_number-same : {X : Type 0} (g h : ℕ → FlowPlan → List X) → ((n : ℕ) (f : FlowPlan) → g n f ≡ h n f) → (n : ℕ) (fs : List FlowPlan)
     → by_number g n fs ≡ by_number h n fs

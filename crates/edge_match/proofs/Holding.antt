@@ -25,7 +25,8 @@ use Rattle.edge_match.specs.declared.phase.Phase.{Phase}
 use Rattle.edge_match.specs.declared.phase.Phase.TheVariants.{Connecting, Matching}
 use Rattle.edge_match.specs.Marks.{AllPass, Before, Check, CountsIn, CountsItem, Holds, Is, IsNewPlace, Mark, Passes, add, add_all}
 use Rattle.edge_match.specs.Marks.{edge_marks, flow_marks, flow_start, item_marks, phase_marks, task_marks, task_start}
-use Rattle.edge_match.specs.Marks.{numbered, way_marks, write_marks}
+use Rattle.edge_match.specs.Marks.{way_marks, write_marks}
+use Rattle.edge_accept.specs.Flows.{by_number}
 use Rattle.edge_accept.proofs.TaskFlows.{each_more}
 
 -- ---- lists
@@ -62,18 +63,18 @@ module _ (Q : Mark → Type 0) where
       pub start : All (flow_start phase P t n f)
       pub directed : (d : Direction) → All (way_marks d phase P t n f)
 
-    at_each_flow : (t : Task) (a : ℕ × FlowPlan) → All (flow_marks phase P t a) ↔ AtFlow t a.0 a.1
-    at_each_flow t a =
-        let start = flow_start phase P t a.0 a.1 in
-        let ins = way_marks In phase P t a.0 a.1 in
-        let outs = way_marks Out phase P t a.0 a.1 in (
+    at_each_flow : (t : Task) (n : ℕ) (f : FlowPlan) → All (flow_marks phase P t n f) ↔ AtFlow t n f
+    at_each_flow t n f =
+        let start = flow_start phase P t n f in
+        let ins = way_marks In phase P t n f in
+        let outs = way_marks Out phase P t n f in (
           λ h. let p = parts (start ++ ins) outs h in
               let q = parts start ins p.0 in
               record { start = q.0; directed = λ d. in_direction d q.1 p.1 },
           λ w. join (start ++ ins) outs (join start ins w.start (w.directed In)) (w.directed Out),
         )
       where
-        in_direction : (d : Direction) → All (way_marks In phase P t a.0 a.1) → All (way_marks Out phase P t a.0 a.1) → All (way_marks d phase P t a.0 a.1)
+        in_direction : (d : Direction) → All (way_marks In phase P t n f) → All (way_marks Out phase P t n f) → All (way_marks d phase P t n f)
         in_direction In h k = h
         in_direction Out h k = k
 
@@ -82,21 +83,21 @@ module _ (Q : Mark → Type 0) where
       pub start : All (task_start phase P t)
       pub flows : (n : ℕ) (f : FlowPlan) → slice_get (flows_of P t) n ≡ Some f → AtFlow t n f
 
-    each_flow : (t : Task) (n : ℕ) (fs : List FlowPlan) → All (flat_map (flow_marks phase P t) (numbered n fs))
+    each_flow : (t : Task) (n : ℕ) (fs : List FlowPlan) → All (by_number (flow_marks phase P t) n fs)
         ↔ ((i : ℕ) (f : FlowPlan) → slice_get fs i ≡ Some f → AtFlow t (n + i) f)
     each_flow t n [] = (λ h i f here. cc, λ h. tt)
     each_flow t n (e ∷ fs) =
-        let one = at_each_flow t (n, e) in
+        let one = at_each_flow t n e in
         let others = each_flow t (suc n) fs in
-        let later = flat_map (flow_marks phase P t) (numbered (suc n) fs) in (
-          λ h. let p = parts (flow_marks phase P t (n, e)) later h in each_more (AtFlow t) n e fs (one.0 p.0) (others.0 p.1),
-          λ h. join (flow_marks phase P t (n, e)) later (one.1 (rw add-zero at (h 0 e refl)))
+        let later = by_number (flow_marks phase P t) (suc n) fs in (
+          λ h. let p = parts (flow_marks phase P t n e) later h in each_more (AtFlow t) n e fs (one.0 p.0) (others.0 p.1),
+          λ h. join (flow_marks phase P t n e) later (one.1 (rw add-zero at (h 0 e refl)))
               (others.1 (λ i f here. let q : n + suc i ≡ suc n + i = omega arith in subst (λ m. AtFlow t m f) q (h (suc i) f here))),
         )
 
     pub of_phase : All (phase_marks phase P) ↔ ((t : Task) → IsTask P t → AtTask t)
     of_phase =
-        let flows = λ (t : Task). flat_map (flow_marks phase P t) (numbered 0 (flows_of P t)) in (
+        let flows = λ (t : Task). by_number (flow_marks phase P t) 0 (flows_of P t) in (
           λ h t of_job.
               let p = parts (task_start phase P t) (flows t) ((each (task_marks phase P) (all_tasks P)).0 h t ((listed P t).0 of_job)) in
               record { start = p.0; flows = λ n f here. subst (λ m. AtFlow t m f) (zero-add n) ((each_flow t 0 (flows_of P t)).0 p.1 n f here) },

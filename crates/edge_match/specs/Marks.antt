@@ -1,7 +1,7 @@
 -- What is checked of a plan whose tasks are known, as one list of marks in their order: first that all tasks and their
 -- edges exist, then that the edges match.
 -- Source: PaRSEC (2013), in which each edge is written at both ends; the order is this project's own choice.
-use Rattle.std.specs.Prelude.{◌≡◌, ◌≢◌, ◌<◌, ℕ, suc, ℤ, List, [], ◌∷◌, ◌++◌, map, flat_map, length, IsTrue}
+use Rattle.std.specs.Prelude.{◌≡◌, ◌≢◌, ◌<◌, ℕ, ℤ, List, [], ◌∷◌, ◌++◌, map, flat_map, length, IsTrue}
 use Rattle.std.specs.Prelude.{Option, Some, None, unwrap_or}
 use Rattle.ptg_base.specs.Limits.{most_edges}
 use Rattle.ptg_base.specs.Lists.{IsIn}
@@ -14,7 +14,7 @@ use Rattle.ptg_base.specs.declared.edge.Item.TheVariants as item
 use Rattle.term_core.specs.declared.flow.FlowKind.{FlowKind}
 use Rattle.term_core.specs.declared.direction.Direction.{Direction}
 use Rattle.term_core.specs.declared.direction.Direction.TheVariants.{In, Out}
-use Rattle.term_core.specs.Kinds.{first_alone}
+use Rattle.term_core.specs.Kinds.{first_only}
 use Rattle.plan_core.specs.declared.flow.DepPlan.{DepPlan}
 use Rattle.plan_core.specs.declared.flow.FlowPlan.{FlowPlan}
 use Rattle.plan_core.specs.declared.plan.Plan.{Plan}
@@ -31,6 +31,7 @@ use Rattle.dep_iter.specs.Directions.{HasOtherEnd, far_task}
 use Rattle.dep_iter.specs.Hints.{affinity}
 use Rattle.dep_iter.specs.Well.{IsWellTask, ill_part}
 use Rattle.dep_iter.specs.Consistent.{takes_tile}
+use Rattle.edge_accept.specs.Flows.{by_number}
 use Rattle.edge_match.specs.declared.phase.Phase.{Phase}
 use Rattle.edge_match.specs.declared.phase.Phase.TheVariants.{Connecting, Matching}
 
@@ -81,7 +82,7 @@ items_at Out t env n = items_to t env n
 
 -- the items that those of these dependences of a flow of this kind that hold stand for
 abbrev pub held_items : Direction → Task → List ℤ → ℕ → FlowKind → List DepPlan → List Item
-held_items d t env n kind ds = flat_map (items_at d t env n) (held_targets (first_alone d kind) ds env)
+held_items d t env n kind ds = flat_map (items_at d t env n) (held_targets (first_only d kind) ds env)
 
 -- the items of flow n of the task t in one direction
 abbrev pub flow_items : Direction → Plan → Task → ℕ → FlowPlan → List Item
@@ -129,15 +130,9 @@ flow_start Matching P t n f = []
 abbrev pub way_marks : Direction → Phase → Plan → Task → ℕ → FlowPlan → List Mark
 way_marks d phase P t n f = item_marks d [] (flow_items d P t n f) phase (data_source P t n) t n
 
--- the marks of a flow with its number: the flow itself, then the edges into it, then what it sends
-abbrev pub flow_marks : Phase → Plan → Task → ℕ × FlowPlan → List Mark
-flow_marks phase P t a =
-    flow_start phase P t a.0 a.1 ++ way_marks In phase P t a.0 a.1 ++ way_marks Out phase P t a.0 a.1
-
--- flows with their numbers, from n on
-abbrev pub numbered : ℕ → List FlowPlan → List (ℕ × FlowPlan)
-numbered n [] = []
-numbered n (f ∷ fs) = (n, f) ∷ numbered (suc n) fs
+-- the marks of a flow: the flow itself, then the edges into it, then what it sends
+abbrev pub flow_marks : Phase → Plan → Task → ℕ → FlowPlan → List Mark
+flow_marks phase P t n f = flow_start phase P t n f ++ way_marks In phase P t n f ++ way_marks Out phase P t n f
 
 -- the flow of an ill task that is ill, if it is one
 abbrev pub ill_flow : Plan → Task → Option ℕ
@@ -151,7 +146,7 @@ task_start Matching P t = []
 
 -- the marks of a task: the task itself, then its flows in the text's order
 abbrev pub task_marks : Phase → Plan → Task → List Mark
-task_marks phase P t = task_start phase P t ++ flat_map (flow_marks phase P t) (numbered 0 (flows_of P t))
+task_marks phase P t = task_start phase P t ++ by_number (flow_marks phase P t) 0 (flows_of P t)
 
 -- all marks of a phase, in walk order
 abbrev pub phase_marks : Phase → Plan → List Mark

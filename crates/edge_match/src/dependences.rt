@@ -67,7 +67,7 @@ pub(crate) fn check_dependences(
         return check_dependences(at, way, k + 1, counted);
     };
     check_target(at, way, k, target, counted)?;
-    if at.flow.kind.first_alone(way) {
+    if at.flow.kind.first_only(way) {
         return Ok(());
     }
     check_dependences(at, way, k + 1, counted)

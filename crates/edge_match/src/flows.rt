@@ -1,14 +1,15 @@
 //! Checks of the flows of a task.
 
-ghost use Rattle.std.specs.Prelude.{◌≡◌, ◌≢◌, ◌↔◌, IsTrue, drop, flat_map};
+ghost use Rattle.std.specs.Prelude.{◌≡◌, ◌≢◌, ◌↔◌, IsTrue, drop};
 ghost use Rattle.ptg_base.specs.declared.place.Place.{Place as PlaceValue};
 ghost use Rattle.plan_core.specs.Place.{HasPlace};
 ghost use Rattle.dep_iter.specs.declared.source.Source.TheVariants as source_variant;
 ghost use Rattle.dep_iter.specs.Consistent as consistent;
-ghost use Rattle.dep_iter.specs.Edges.{data_source as data_source_of};
+ghost use Rattle.dep_iter.specs.Edges.{data_source};
 ghost use Rattle.dep_iter.specs.Tasks.{IsTask};
+ghost use Rattle.edge_accept.specs.Flows.{by_number};
 ghost use Rattle.edge_match.specs.Counted.{Checked};
-ghost use Rattle.edge_match.specs.Marks.{flow_marks, flow_start, numbered, way_marks};
+ghost use Rattle.edge_match.specs.Marks.{flow_marks, flow_start, way_marks};
 ghost use Rattle.edge_match.specs.declared.counted.Counted.{Counted as CountedValue};
 
 use crate::counted::Counted;
@@ -49,7 +50,7 @@ fn has_place(plan: &Plan, source: &Source) -> bool
 
 // Whether the flow has a source, if it must, and the place of its source exists. It is checked in the first phase.
 fn start_flow(at: &FlowAt, source: &Source) -> Result<(), MatchFault>
-    requires { source.now ≡ data_source_of at.now.plan.now at.now.task.now at.now.number }
+    requires { source.now ≡ data_source at.now.plan.now at.now.task.now at.now.number }
     ensures { (s : CountedValue) → Checked at.now.plan.now s s result
         (flow_start at.now.phase at.now.plan.now at.now.task.now at.now.number at.now.flow.now) }
 {
@@ -72,9 +73,9 @@ fn check_way(at: &FlowAt, way: Direction, counted: &mut Counted) -> Result<(), M
 
 // Checks the flow, the edges into it and what it sends.
 fn check_flow(at: &FlowAt, source: &Source, counted: &mut Counted) -> Result<(), MatchFault>
-    requires { source.now ≡ data_source_of at.now.plan.now at.now.task.now at.now.number }
+    requires { source.now ≡ data_source at.now.plan.now at.now.task.now at.now.number }
     ensures { Checked at.now.plan.now counted.old counted.new result
-        (flow_marks at.now.phase at.now.plan.now at.now.task.now (at.now.number, at.now.flow.now)) }
+        (flow_marks at.now.phase at.now.plan.now at.now.task.now at.now.number at.now.flow.now) }
 {
     start_flow(at, source)?;
     check_way(at, Direction::In, counted)?;
@@ -89,8 +90,8 @@ pub(crate) fn check_flows(
 ) -> Result<(), MatchFault>
     requires { IsTask task.now.plan.now task.now.task.now }
     ensures { Checked task.now.plan.now counted.old counted.new result
-        (flat_map (flow_marks task.now.phase task.now.plan.now task.now.task.now)
-        (numbered number (drop number task.now.flows.now))) }
+        (by_number (flow_marks task.now.phase task.now.plan.now task.now.task.now) number
+        (drop number task.now.flows.now)) }
 {
     let Some(flow) = task.flows.get(number as usize) else {
         return Ok(());

@@ -10,7 +10,8 @@ use Rattle.plan_core.specs.declared.plan.Plan.{Plan}
 use Rattle.plan_core.specs.declared.target.Target.{Target}
 use Rattle.plan_core.specs.declared.target.Target.TheVariants as target
 use Rattle.ptg_base.specs.declared.edge.Item.TheVariants as item
-use Rattle.dep_iter.specs.Active.{by_flow, held_target, held_targets, held_then, takes_first}
+use Rattle.term_core.specs.Kinds.{is_data}
+use Rattle.dep_iter.specs.Active.{by_flow, held_target, held_targets, held_then}
 use Rattle.dep_iter.specs.Arguments.{combinations}
 use Rattle.dep_iter.specs.Edges.{edge, edges_into, in_edges}
 use Rattle.dep_iter.specs.Items.{items, items_to}
@@ -63,7 +64,7 @@ seconds first_only k (d ∷ ds) env =
     ∙ ap (held_then first_only (held_target d env)) (seconds first_only (suc k) ds env)
 
 seconds_flow : (way : Direction) (env : List ℤ) (f : FlowPlan) → map second (numbered_flow way env f) ≡ flow_targets way env f
-seconds_flow In env f = seconds (takes_first f.kind) 0 f.ins env
+seconds_flow In env f = seconds (is_data f.kind) 0 f.ins env
 seconds_flow Out env f = seconds false 0 f.outs env
 
 -- ---- what is chosen of each target is chosen of all

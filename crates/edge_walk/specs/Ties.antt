@@ -6,7 +6,7 @@ use Rattle.ptg_base.specs.declared.edge.Edge.{Edge}
 use Rattle.ptg_base.specs.declared.edge.Item.{Item}
 use Rattle.ptg_base.specs.declared.edge.Item.TheVariants as item
 use Rattle.term_core.specs.declared.direction.Direction.{Direction}
-use Rattle.term_core.specs.Kinds.{first_alone}
+use Rattle.term_core.specs.Kinds.{first_only}
 use Rattle.plan_core.specs.declared.flow.DepPlan.{DepPlan}
 use Rattle.plan_core.specs.declared.flow.FlowPlan.{FlowPlan}
 use Rattle.plan_core.specs.declared.plan.Plan.{Plan}
@@ -16,6 +16,7 @@ use Rattle.plan_core.specs.Flows.{dependences}
 use Rattle.dep_iter.specs.Active.{held_target}
 use Rattle.dep_iter.specs.Arguments.{combinations, place_of}
 use Rattle.dep_iter.specs.Edges.{edge}
+use Rattle.dep_iter.specs.Items.{write_back}
 use Rattle.dep_iter.specs.Tasks.{flows_of, locals_of, task}
 use Rattle.edge_walk.specs.declared.tie.Far.{Far}
 use Rattle.edge_walk.specs.declared.tie.Far.TheVariants as far
@@ -43,7 +44,7 @@ numbered_targets first_only k (d ∷ ds) env =
 
 -- the targets of a flow's active dependences in one direction
 abbrev pub numbered_flow : Direction → List ℤ → FlowPlan → List (ℕ × Target)
-numbered_flow way env f = numbered_targets (first_alone way f.kind) 0 (dependences way f) env
+numbered_flow way env f = numbered_targets (first_only way f.kind) 0 (dependences way f) env
 
 -- a target with the numbers of its flow and of its dependence
 abbrev pub numbered : ℕ → ℕ × Target → Numbered
@@ -64,11 +65,6 @@ single env target.Null = Some far.Null
 -- the tie of a dependence with what it names
 abbrev pub tie : ℕ → ℕ → Far → Tie
 tie n k x = record { flow = n; dependence = k; far = x }
-
--- the tie of a dependence with this one thing, if there is one
-abbrev pub single_ties : ℕ → ℕ → Option Far → List Tie
-single_ties n k None = []
-single_ties n k (Some x) = tie n k x ∷ []
 
 -- the tie with a flow of the task of a class with these parameters
 abbrev pub task_tie : ℕ → ℕ → ℕ → ℕ → List ℤ → Tie
@@ -100,7 +96,7 @@ edge_from t n far.Null = None
 -- what flow n of the task t sends to what a dependence of the flow names, if anything
 abbrev pub item_to : Task → ℕ → Far → Option Item
 item_to t n (far.Flow s flow) = Some (item.Edge (edge t n s flow))
-item_to t n (far.Place p) = Some (item.Write (record { from = t; flow = n; place = p }))
+item_to t n (far.Place p) = Some (item.Write (write_back t n p))
 item_to t n far.New = None
 item_to t n far.Null = None
 

@@ -113,7 +113,7 @@ fn enter<'a>(way: Direction, flow: &'a FlowPlan, number: u8, others: &'a [FlowPl
     count_fits(deps);
     Position {
         flow: number,
-        first_only: flow.kind.first_alone(way),
+        first_only: flow.kind.first_only(way),
         dependence: 0,
         deps,
         next_flow: number + 1,

@@ -25,13 +25,13 @@ pub(crate) struct TargetTies {
 }
 
 impl Model for TargetTies {
-    ghost use Rattle.std.specs.Prelude.{List, ◌++◌, map};
+    ghost use Rattle.std.specs.Prelude.{List, ◌++◌, map, option_to_list};
     ghost use Rattle.edge_walk.specs.declared.tie.Tie.{Tie};
-    ghost use Rattle.edge_walk.specs.Ties.{single_ties, task_tie};
+    ghost use Rattle.edge_walk.specs.Ties.{task_tie, tie};
 
     ghost Value = { List Tie };
 
-    ghost view = { λ t. single_ties t.flow t.dependence t.single
+    ghost view = { λ t. map (tie t.flow t.dependence) (option_to_list t.single)
         ++ map (task_tie t.flow t.dependence t.class t.far_flow) t.params };
 }
 

@@ -1,6 +1,7 @@
 -- What a name in an expression means, and the number that it stands for. Source: the JDF documentation; the language of
 -- bodies is this project's own choice.
-use Rattle.std.specs.Prelude.{ℕ, ℤ, Bool, Option, Some, None, Ok, if◌then◌else◌}
+use Rattle.std.specs.Prelude.{ℕ, ℤ, Bool, Option, Ok, if◌then◌else◌}
+use Rattle.std.specs.Option.{option_map_or}
 use Rattle.jdf_lex.specs.declared.fault.JdfCode.TheVariants.{UnknownName, WrongKind}
 use Rattle.term_core.specs.Term.{Term}
 use Rattle.term_core.specs.Term as term
@@ -9,23 +10,14 @@ use Rattle.expr_names.specs.declared.meaning.Meaning.{Meaning}
 use Rattle.expr_names.specs.declared.meaning.Meaning.TheVariants as meaning
 use Rattle.expr_names.specs.Symbols.{Resolved, fault_at}
 
--- a definition of the class, or else the other meaning
-abbrev pub local_or : Option ℕ → Meaning → Meaning
-local_or None other = other
-local_or (Some n) other = meaning.Local n
-
--- an integer, or else the other meaning
-abbrev pub integer_or : Option ℤ → Meaning → Meaning
-integer_or None other = other
-integer_or (Some z) other = meaning.Integer z
-
 -- a collection, or nothing
 abbrev pub collection_or_nothing : Bool → Meaning
 collection_or_nothing b = if b then meaning.Collection else meaning.Nothing
 
 -- A name that is no variable is a local of the class, else a global.
 abbrev pub outer_meaning : Option ℕ → Option ℤ → Bool → Meaning
-outer_meaning local integer is_collection = local_or local (integer_or integer (collection_or_nothing is_collection))
+outer_meaning local integer is_collection =
+    option_map_or meaning.Local local (option_map_or meaning.Integer integer (collection_or_nothing is_collection))
 
 -- the term of a name that means a number
 abbrev pub value_of : Word → Meaning → Resolved Term

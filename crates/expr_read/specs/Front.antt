@@ -1,6 +1,7 @@
 -- The longest expression at the start of some tokens, and its first fault: for a reader who does not know where it
 -- ends. Source: this project's own choice.
-use Rattle.std.specs.Prelude.{◌≡◌, ℕ, ◌+◌, ◌-◌, ◌<◌, ◌≤◌, List, length, take, drop, Bool, true, false, Option, Some, None, slice_get}
+use Rattle.std.specs.Prelude.{◌≡◌, ℕ, ◌+◌, ◌-◌, ◌<◌, ◌≤◌, List, length, take, drop, Bool, true, false, None, slice_get}
+use Rattle.std.specs.Option.{option_map_or}
 use Rattle.grammar_core.specs.declared.token.Spot.{Spot}
 use Rattle.grammar_core.specs.declared.token.Token.{Token}
 use Rattle.jdf_lex.specs.declared.fault.JdfFault.{JdfFault}
@@ -38,14 +39,10 @@ abbrev pub IsFirstFaultOf : Part → List Token → ℕ → Code → Type 0
 IsFirstFaultOf part s p Syntax = IsEnd part s p × IsSyntaxFault productions (outer part) (take p s) p
 IsFirstFaultOf part s p c = IsLimitFault productions (outer part) s p c
 
--- the spot of a token, or `finish` if there is none
-abbrev pub spot_or : Option Token → Spot → Spot
-spot_or (Some x) finish = x.spot
-spot_or None finish = finish
-
--- the fault with this code at the token of this index
+-- the fault with this code at the token of this index, or at `finish` if there is none
 abbrev pub fault_at : List Token → Spot → ℕ → Code → JdfFault
-fault_at s finish p c = record { spot = spot_or (slice_get s p) finish; code = code_at_token c }
+fault_at s finish p c =
+    record { spot = option_map_or (λ (x : Token). x.spot) (slice_get s p) finish; code = code_at_token c }
 
 -- An expression begins at the token of index `from`: its tree, and the index of the token after it.
 pub record IsExpressionFrom (part : Part) (tokens : List Token) (from : ℕ) (x : Expression × ℕ) : Type 0 where

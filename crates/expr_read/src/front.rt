@@ -1,8 +1,8 @@
 //! Reads an expression whose end is not known.
 
-ghost use Rattle.std.specs.Prelude.{◌≡◌, ◌≤◌, length, slice_get};
+ghost use Rattle.std.specs.Prelude.{◌≡◌, ◌≤◌, length};
 ghost use Rattle.ptg_base.specs.Returns.{FindsOrRefuses};
-ghost use Rattle.expr_read.specs.Front.{part_of, spot_or, fault_at, IsExpressionFrom, IsFaultFrom};
+ghost use Rattle.expr_read.specs.Front.{part_of, fault_at, IsExpressionFrom, IsFaultFrom};
 
 use crate::window::outer;
 use grammar_core::{Code, ReadRefusal};

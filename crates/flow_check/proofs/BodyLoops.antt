@@ -3,6 +3,8 @@ use Rattle.std.proofs.Common.{◌≡◌, ◌≢◌, ℕ, ℤ, ◌+◌, ◌<◌, 
 use Rattle.std.specs.List.{AllByRecursion}
 use Rattle.std.specs.Str.{bytes_eq}
 use Rattle.std.proofs.lemmas.Bool.{false≢true, ne_eqb, and_from}
+use Rattle.std.specs.Option.{option_map_or}
+use Rattle.name_table.specs.Names.{index_named}
 use Rattle.term_core.specs.declared.body.Stmt.{Stmt}
 use Rattle.term_core.specs.declared.body.Stmt.TheVariants as stmt
 use Rattle.term_core.specs.BlockStatementList.{then}
@@ -15,7 +17,7 @@ use Rattle.expr_names.specs.declared.meaning.Meaning.{Meaning}
 use Rattle.expr_names.specs.declared.meaning.Meaning.TheVariants as meaning
 use Rattle.body_names.specs.Environment.{Environment}
 use Rattle.body_names.specs.declared.variable.Variable.{Variable}
-use Rattle.body_names.specs.Meanings.{last_named, variable_or, local_named, local_or, integer_or, collection_or_nothing, meaning_of}
+use Rattle.body_names.specs.Meanings.{last_named, variable_or, collection_or_nothing, meaning_of, outer_meaning}
 use Rattle.expr_names.specs.Symbols.{Resolved}
 use Rattle.body_names.specs.Expressions.{slot_of, written_flow, term_of}
 use Rattle.body_names.specs.Bindings.{Bindings, block_opened, next_slot, with_variable, require_room, require_fresh, numbered}
@@ -40,11 +42,11 @@ module _ (scope : Environment) where
     nothing_set w true = tt
     nothing_set w false = tt
 
-    integer_set : (w : Word) (o : Option ℤ) (b : Bool) → IfValue (λ n. n ≢ v) (slot_of w (integer_or o (collection_or_nothing b)))
+    integer_set : (w : Word) (o : Option ℤ) (b : Bool) → IfValue (λ n. n ≢ v) (slot_of w (option_map_or meaning.Integer o (collection_or_nothing b)))
     integer_set w None b = nothing_set w b
     integer_set w (Some z) b = tt
 
-    local_set : (w : Word) (o : Option ℕ) (m : Meaning) → IfValue (λ n. n ≢ v) (slot_of w m) → IfValue (λ n. n ≢ v) (slot_of w (local_or o m))
+    local_set : (w : Word) (o : Option ℕ) (m : Meaning) → IfValue (λ n. n ≢ v) (slot_of w m) → IfValue (λ n. n ≢ v) (slot_of w (option_map_or meaning.Local o m))
     local_set w None m h = h
     local_set w (Some n) m h = tt
 
@@ -58,9 +60,9 @@ module _ (scope : Environment) where
 
     slot_good : (w : Word) (seen : List Variable) → AllByRecursion IsOther seen → IfValue (λ n. n ≢ v) (slot_of w (meaning_of scope seen w.text))
     slot_good w seen h =
-        variable_set w (last_named seen w.text) (local_or (local_named scope w.text) (integer_or (scope.integer w.text) (collection_or_nothing (scope.is_collection w.text))))
+        variable_set w (last_named seen w.text) (outer_meaning (index_named scope.locals w.text) (scope.integer w.text) (scope.is_collection w.text))
         (λ u e. all_last IsOther (λ (x : Variable). bytes_eq x.name w.text) seen u h e)
-        (local_set w (local_named scope w.text) (integer_or (scope.integer w.text) (collection_or_nothing (scope.is_collection w.text))) (integer_set w (scope.integer w.text) (scope.is_collection w.text)))
+        (local_set w (index_named scope.locals w.text) (option_map_or meaning.Integer (scope.integer w.text) (collection_or_nothing (scope.is_collection w.text))) (integer_set w (scope.integer w.text) (scope.is_collection w.text)))
 
     abbrev never : Stmt → Bool
     never (stmt.Set n e) = not (n == v)

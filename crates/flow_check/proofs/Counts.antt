@@ -18,7 +18,7 @@ added elements start colls = fold (λ n (c : Coll). n + length c.tiles * slice_i
 total : (elements : List ℕ) (start : ℕ) (colls : List Coll) → IsTrue (list_all is_element_count elements) → AllByRecursion (IsWellColl elements) colls → start + length colls ≤ added elements start colls
 total elements start [] h k = omega arith
 total elements start (c ∷ colls) h k =
-    let tiles : 1 ≤ length c.tiles = omega (arith, k.0.has_tiles, k.0.all_tiles) in
+    let tiles : 1 ≤ length c.tiles = omega (arith, k.0.whole.has_tiles, k.0.whole.all_tiles) in
     let first = mul-pos tiles (counted elements c.datatype h k.0.datatype) in
     let rest : (start + length c.tiles * slice_index elements c.datatype) + length colls ≤ added elements start (c ∷ colls) = total elements (start + length c.tiles * slice_index elements c.datatype) colls h k.1 in
     omega (arith, first, rest)

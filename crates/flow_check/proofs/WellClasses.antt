@@ -12,7 +12,6 @@ use Rattle.body_names.specs.declared.scope.FlowName.{FlowName}
 use Rattle.plan_core.specs.declared.class.ClassPlan.{ClassPlan}
 use Rattle.plan_core.specs.declared.flow.FlowPlan.{FlowPlan}
 use Rattle.plan_core.specs.declared.shape.Shape.{Shape}
-use Rattle.plan_core.specs.Names.{are_distinct}
 use Rattle.plan_core.specs.Closed.{is_closed_option}
 use Rattle.plan_core.specs.Targets.{is_element}
 use Rattle.plan_core.specs.Flows.{is_flow}
@@ -43,6 +42,8 @@ use Rattle.flow_check.proofs.BodyKinds.{kinds_of}
 use Rattle.flow_check.proofs.WellBodies.{fit_body, fit_words}
 use Rattle.std.proofs.lemmas.Bool.{and_from}
 use Rattle.std.proofs.lemmas.Option.{same_Some}
+use Rattle.std.specs.Str.{bytes_eq}
+use Rattle.ptg_base.specs.Lists.{are_distinct}
 use Rattle.list_lemmas.proofs.Joins.{first_nil, rest_nil}
 
 -- ---- the parts of a class
@@ -137,7 +138,7 @@ module _ (job : Job) (classes : List ClassPlan) (spaces : List ClassSpace) (coll
             subst (λ n. IsTrue (list_all (is_flow classes spaces colls types n) c.flows)) count
             (parts_sound (flow_plan job class.defs) (flow_faults job class.defs) (is_flow classes spaces colls types (length class.defs)) IsFlowWithinLimits
             (λ f p w n e. well_flow job classes spaces colls parts class.defs f p w n e) class.flows c.flows within.flows (first_nil flows named rest) is.flows);
-        flow_names = subst (λ l. IsTrue (are_distinct l)) (sym flow_texts) (distinct_names (λ (f : FlowTree). f.name) NameTwice class.flows (rest_nil flows named rest));
+        flow_names = subst (λ l. IsTrue (are_distinct bytes_eq l)) (sym flow_texts) (distinct_names (λ (f : FlowTree). f.name) NameTwice class.flows (rest_nil flows named rest));
         priority = subst (λ n. IsTrue (is_closed_option n c.priority)) count (closed_option job class.defs class.priority c.priority is.priority);
         body = subst (λ n. IsWellBody n (length c.flows) c.body) (scope_locals r) (subst (λ n. IsWellBody (length r.scope.locals) n c.body) (scope_flows r) fit.well);
         kinds = subst (λ l. IsTrue (respects_kinds l c.body.statements)) (scope_kinds r) fit.kinds;

@@ -5,13 +5,14 @@ use Rattle.std.specs.Option.{option_map_or}
 use Rattle.std.proofs.lemmas.Bool.{lt-ltb, le-leb, eq-eqb, and_from}
 use Rattle.std.proofs.lemmas.List.{length-map}
 use Rattle.std.proofs.lemmas.Option.{slice_get-map, same_Some, slice_get_within}
+use Rattle.std.specs.Str.{bytes_eq}
+use Rattle.ptg_base.specs.Lists.{are_distinct}
 use Rattle.term_core.specs.declared.space.ClassSpace.{ClassSpace}
 use Rattle.jdf_tree.specs.TreeLimits.{IsClassWithinLimits, IsWithinLimits}
 use Rattle.coll_data.specs.declared.coll.Coll.{Coll}
 use Rattle.coll_data.specs.WellMade.{elements_by_type, IsWellColl}
 use Rattle.coll_data.specs.WellMade as well_data
 use Rattle.plan_core.specs.declared.class.ClassPlan.{ClassPlan}
-use Rattle.plan_core.specs.Names.{are_distinct}
 use Rattle.plan_core.specs.WellMade.{IsWellClass, tile_count, is_shape, IsWellMade}
 use Rattle.plan_data.specs.Fit.{shape_of}
 use Rattle.check_names.specs.Alphabet.{ClassTree, Word, NameTwice}
@@ -86,7 +87,7 @@ shapes_well : (elements : List ℕ) (cs : List Coll) → AllByRecursion (IsWellC
 shapes_well elements [] h = refl
 shapes_well elements (c ∷ cs) h =
     let count = tile_count c.shape.0 c.shape.1 in
-    let low : 1 ≤ count = h.0.has_tiles in
+    let low : 1 ≤ count = h.0.whole.has_tiles in
     let high : count ≤ 65536 = h.0.tiles_at_most in
     and_from (is_shape (length elements) (shape_of c)) (list_all (is_shape (length elements)) (map shape_of cs))
     (and_from (nat_le 1 count && nat_le count 65536) (nat_lt c.datatype (length elements)) (and_from (nat_le 1 count) (nat_le count 65536) (le-leb 1 count low) (le-leb count 65536 high)) (lt-ltb c.datatype (length elements) h.0.datatype))
@@ -143,7 +144,7 @@ module _ (job : Job) (classes : List ClassPlan) (spaces : List ClassSpace) (reso
         classes_at_most = omega (arith, same, few);
         one_space_each = other ∙ sym same;
         class_names =
-            subst (λ l. IsTrue (are_distinct l)) (sym (plans_names job job.jdf.classes resolved.bodies (classes, spaces) resolved.read resolved.plans))
+            subst (λ l. IsTrue (are_distinct bytes_eq l)) (sym (plans_names job job.jdf.classes resolved.bodies (classes, spaces) resolved.read resolved.plans))
             (distinct_names (λ (c : ClassTree). c.name) NameTwice job.jdf.classes (rest_nil globals names (rest_nil (classes_faults job job.jdf.classes resolved.bodies) (names_faults job) resolved.no_fault)));
         fit = λ n c s e f. subst (λ k. IsWellClass classes spaces (map shape_of job.given.colls) (suc k) s c) (sym types) (fits within.classes n c s e f);
         shapes = shapes_well (elements_by_type job.given) job.given.colls data_well.colls;

@@ -1,6 +1,7 @@
 -- The classes of a JDF with its data, and the first fault. Source: PaRSEC 2013 and the JDF documentation; that the
 -- first fault of the whole text is named is this project's own choice.
 use Rattle.std.specs.Prelude.{◌≡◌, List, [], ◌∷◌, ◌++◌, Option, Some, None, Result, Ok, Err}
+use Rattle.std.specs.List.{AllZip}
 use Rattle.term_core.specs.declared.space.ClassSpace.{ClassSpace}
 use Rattle.plan_core.specs.declared.class.ClassPlan.{ClassPlan}
 use Rattle.ptg_base.specs.declared.refusal.Refusal.{Refusal}
@@ -15,10 +16,7 @@ use Rattle.flow_check.specs.Classes.{class_plan, class_faults}
 
 -- Reading the bodies of these classes gives these results, in order.
 abbrev pub ReadBodies : Job → List ClassTree → List BodyResult → Type 0
-ReadBodies job [] [] = Unit {0}
-ReadBodies job [] (b ∷ bodies) = ⊥
-ReadBodies job (c ∷ classes) [] = ⊥
-ReadBodies job (c ∷ classes) (b ∷ bodies) = ReadsBody job c b × ReadBodies job classes bodies
+ReadBodies job classes bodies = AllZip (ReadsBody job) classes bodies
 
 -- all faults of some classes, whose bodies were read so
 abbrev pub classes_faults : Job → List ClassTree → List BodyResult → List JdfFault

@@ -22,15 +22,15 @@ use Rattle.list_lemmas.proofs.Members.{length-part}
 use Rattle.list_lemmas.proofs.Counts.{count-at_most, weigh-push}
 use Rattle.dep_iter.specs.Tasks.{IsTask, all_tasks}
 use Rattle.dep_iter.specs.Edges.{goal, in_edges}
-use Rattle.dep_iter.specs.Items.{item_flow, items, out_edges, write_backs}
+use Rattle.dep_iter.specs.Items.{items, out_edges, write_backs}
 use Rattle.dep_iter.specs.Consistent.{IsConsistent}
 use Rattle.dep_iter.proofs.Listing.{listed}
 use Rattle.dep_iter.proofs.Items.{edge_item, item_edge, item_write, write_item}
 use Rattle.list_lemmas.specs.Counting.{as_number, count}
-use Rattle.flow_meaning.specs.Ending.{Ended, has_outputs, output_tile}
+use Rattle.flow_meaning.specs.Ending.{Ended, has_outputs}
 use Rattle.flow_meaning.specs.Backward.{ended}
 use Rattle.flow_meaning.specs.Comparing.{same_item}
-use Rattle.flow_meaning.specs.Machine.{Claim, MachineState, MayClaim, Send, SentItem, arrived, end_in, is_sent, send_count, sender, state_after}
+use Rattle.flow_meaning.specs.Machine.{Claim, MachineState, MayClaim, Send, SentItem, arrived, end_in, is_sent, send_count, sender, state_after, item_from}
 use Rattle.flow_meaning.specs.Sound.{IsSoundState}
 use Rattle.flow_meaning.proofs.Events.{ends_so, event_sound}
 use Rattle.flow_meaning.proofs.Arriving.{arrives}
@@ -39,11 +39,12 @@ use Rattle.flow_meaning.proofs.Sizes.{with_tiles as ended_with}
 use Rattle.flow_core.specs.RunState.{HasLetGo, IsRunning, KeepsTiles, RunState, Tiles, end_of, machine, mark_of, send_of, with_claim, with_end, with_send, with_tiles}
 use Rattle.flow_core.specs.Fits.{Fits, HasSentAll, MaySendNow}
 use Rattle.flow_core.specs.SentItems.{IsUnsent}
-use Rattle.flow_core.specs.Arrivals.{CountsArrivals, edges_to, is_edge_to, number_at}
-use Rattle.flow_core.specs.Possible.{GoesToWaiting, IsDue, KeepsTilesFor, goes_to_claimed}
+use Rattle.flow_core.specs.Arrivals.{CountsArrivals, edges_to, is_edge_to}
+use Rattle.flow_core.specs.Possible.{GoesToWaiting, IsOutputItem, KeepsTilesFor, goes_to_claimed}
 use Rattle.flow_core.specs.Kept.{is_read}
 use Rattle.flow_core.proofs.Lookups.{end_push, found_in, found_key, key_count, key_found, keys_set, none_before}
 use Rattle.flow_core.proofs.Arriving.{arrived_are}
+use Rattle.flow_meaning.specs.Numbers.{number_for}
 
 pub claim_event : (P : Plan) (G : Data) (r : RunState) (t : Task) → machine (with_claim t r) ≡ state_after P G (machine r) (Claim t)
 claim_event P G r t = λ i. record { claims = map-append (λ (c : Task × Option Ended). c.0) r.claims ((t, None) ∷ []) i; sends = r.sends }
@@ -170,19 +171,19 @@ module _ (P : Plan) (G : Data) (con : IsConsistent P) (r : RunState) (fits : Fit
           let is : end_of r (sender i) ≡ Some e = ap (λ m. unwrap_or m None) h in
           ap has_outputs is ∙ sym (ap has_outputs (end_known (sender i) e is)) ∙ now.may.outputs
 
-  -- an item that may be sent is due, and one that is due may be sent if it was not
-  pub due_before : (i : Item) → MaySendNow P G r i → IsDue P r i
-  due_before i now = record { outputs = ((sendable i).1 now).0; is_item = now.may.is_item }
+  -- an item that may be sent is an output, and an output may be sent if it was not
+  pub output_before : (i : Item) → MaySendNow P G r i → IsOutputItem P r i
+  output_before i now = record { outputs = ((sendable i).1 now).0; is_item = now.may.is_item }
 
-  pub due_now : (i : Item) → IsDue P r i → IsUnsent r.sends i → MaySendNow P G r i
-  due_now i due unsent = (sendable i).0 (due.outputs, unsent, due.is_item)
+  pub output_now : (i : Item) → IsOutputItem P r i → IsUnsent r.sends i → MaySendNow P G r i
+  output_now i output unsent = (sendable i).0 (output.outputs, unsent, output.is_item)
 
   -- it is sent with the tile that its task left
   pub send_event : (i : Item) → MaySendNow P G r i → machine (with_send i r) ≡ state_after P G (machine r) (Send i)
   send_event i now =
       let known = with_outputs (end_of r (sender i)) ((sendable i).1 now).0 in
       let same : end_of r (sender i) ≡ end_in P G (machine r) (sender i) = known.1 ∙ sym (end_known (sender i) known.0 known.1) in
-      λ j. record { claims = keys_of r.claims; sends = r.sends ++ record { item = i; tile = output_tile (same j) (item_flow i) } ∷ [] }
+      λ j. record { claims = keys_of r.claims; sends = r.sends ++ item_from (same j) i ∷ [] }
 
   pub send_fits : (i : Item) → MaySendNow P G r i → Fits P G (with_send i r)
   send_fits i now = record {
@@ -192,12 +193,12 @@ module _ (P : Plan) (G : Data) (con : IsConsistent P) (r : RunState) (fits : Fit
   }
 
   -- the tiles of a task are kept while an item of it is unsent
-  pub kept_for : (i : Item) → IsDue P r i → IsUnsent r.sends i → KeepsTilesFor r i
-  kept_for i due unsent =
-      let o = ended_with (end_of r (sender i)) due.outputs in
+  pub kept_for : (i : Item) → IsOutputItem P r i → IsUnsent r.sends i → KeepsTilesFor r i
+  kept_for i output unsent =
+      let o = ended_with (end_of r (sender i)) output.outputs in
       elim (fits.kept (sender i) o.0 o.1) [
         | inl still ↦ record { tiles = o.0; end = o.1; kept = still }
-        | inr all ↦ let was = ltb-true 0 (send_count (machine r) i) (all i due.is_item) in absurd (omega (arith, was, unsent))
+        | inr all ↦ let was = ltb-true 0 (send_count (machine r) i) (all i output.is_item) in absurd (omega (arith, was, unsent))
       ]
 
   -- the tiles of a task may go once each item of it was sent
@@ -258,12 +259,12 @@ goes_to_waiting P G con r fits (item.Edge e) now u h =
     subst (λ t. (mark_of r t ≡ None) × (edges_to t r.sends ≤ 4000000)) (sym same) (target_unclaimed P G con r fits e now, few)
 goes_to_waiting P G con r fits (item.Write w) now u h = absurd (false≢true h)
 
--- an item that is due and goes to a claimed task was sent
-pub claimed_sent : (P : Plan) (G : Data) → IsConsistent P → (r : RunState) → Fits P G r → (i : Item) → IsDue P r i → goes_to_claimed r i ≡ true → IsUnsent r.sends i → ⊥
-claimed_sent P G con r fits (item.Edge e) due there un =
-    let none = target_unclaimed P G con r fits e (due_now P G con r fits (item.Edge e) due un) in
+-- an output that goes to a claimed task was sent
+pub claimed_sent : (P : Plan) (G : Data) → IsConsistent P → (r : RunState) → Fits P G r → (i : Item) → IsOutputItem P r i → goes_to_claimed r i ≡ true → IsUnsent r.sends i → ⊥
+claimed_sent P G con r fits (item.Edge e) output there un =
+    let none = target_unclaimed P G con r fits e (output_now P G con r fits (item.Edge e) output un) in
     false≢true (sym (ap is_some none) ∙ there)
-claimed_sent P G con r fits (item.Write w) due there un = false≢true there
+claimed_sent P G con r fits (item.Write w) output there un = false≢true there
 
 -- an item that goes to no claimed task was not read
 pub unclaimed_unread : (r : RunState) (i : Item) → goes_to_claimed r i ≡ false → is_read r.claims i ≡ false
@@ -286,7 +287,7 @@ write_by P i w left b is all h =
 
 -- the counts of a table after one more item is sent
 pub counts_push : (old new : List (Task × ℕ)) (claims : List (Task × Option Ended)) (sends : List SentItem) (x : SentItem) → CountsArrivals old claims sends
-    → ((u : Task) → number_at new u ≡ number_at old u + as_number (is_edge_to u x.item)) → CountsArrivals new claims (sends ++ x ∷ [])
+    → ((u : Task) → number_for new u ≡ number_for old u + as_number (is_edge_to u x.item)) → CountsArrivals new claims (sends ++ x ∷ [])
 counts_push old new claims sends x counts more u none =
     omega (arith, more u, counts u none, weigh-push (λ (y : SentItem). as_number (is_edge_to u y.item)) sends x)
 

@@ -17,7 +17,7 @@ use Rattle.flow_meaning.specs.Comparing.{same_item}
 use Rattle.flow_meaning.specs.Ending.{Ended}
 use Rattle.flow_meaning.proofs.Comparing.{same_item-decides}
 use Rattle.flow_core.specs.SentItems.{all_sent}
-use Rattle.flow_core.specs.Arrivals.{number_at}
+use Rattle.flow_meaning.specs.Numbers.{number_for}
 
 -- tests that hold of the same are the same
 same_tests : {P : Type 0} (a b : Bool) → IsTrue a ↔ P → IsTrue b ↔ P → a ≡ b
@@ -131,18 +131,18 @@ end_push u t (e ∷ es) =
     (λ k. ap (λ b. unwrap_or (cond b (Some e.1) (lookup (same_task u) (es ++ (t, None) ∷ []))) None) k ∙ end_push u t es ∙ sym (ap (λ b. unwrap_or (cond b (Some e.1) (lookup (same_task u) es)) None) k))
 
 -- the numbers of a table after one is added to that of a task
-pub added : (old new : List (Task × ℕ)) (t key u : Task) (n : ℕ) → key ≡ t → n ≡ number_at old t → lookup (same_task u) new ≡ cond (same_task key u) (Some (n + 1)) (lookup (same_task u) old)
-    → number_at new u ≡ number_at old u + as_number (same_task u t)
+pub added : (old new : List (Task × ℕ)) (t key u : Task) (n : ℕ) → key ≡ t → n ≡ number_for old t → lookup (same_task u) new ≡ cond (same_task key u) (Some (n + 1)) (lookup (same_task u) old)
+    → number_for new u ≡ number_for old u + as_number (same_task u t)
 added old new t key u n same is up =
     by_test (same_task u t)
     (λ q.
     let one : u ≡ t = (same_task-decides u t).0 q in
     let hit : same_task key u ≡ true = (same_task-decides key u).1 (same ∙ sym one) in
-    let value : number_at new u ≡ n + 1 = ap (λ o. unwrap_or o 0) (up ∙ ap (λ b. cond b (Some (n + 1)) (lookup (same_task u) old)) hit) in
-    omega (arith, value, is, ap (number_at old) one, ap as_number q))
+    let value : number_for new u ≡ n + 1 = ap (λ o. unwrap_or o 0) (up ∙ ap (λ b. cond b (Some (n + 1)) (lookup (same_task u) old)) hit) in
+    omega (arith, value, is, ap (number_for old) one, ap as_number q))
     (λ q.
     let miss : same_task key u ≡ false = false_from_ne_true (same_task key u) (λ h. false≢true (sym q ∙ (same_task-decides u t).1 (sym ((same_task-decides key u).0 h) ∙ same))) in
-    let value : number_at new u ≡ number_at old u = ap (λ o. unwrap_or o 0) (up ∙ ap (λ b. cond b (Some (n + 1)) (lookup (same_task u) old)) miss) in
+    let value : number_for new u ≡ number_for old u = ap (λ o. unwrap_or o 0) (up ∙ ap (λ b. cond b (Some (n + 1)) (lookup (same_task u) old)) miss) in
     omega (arith, value, ap as_number q))
 
 -- a write-back at the head of a list, and one behind it

@@ -4,6 +4,7 @@ use Rattle.std.proofs.lemmas.Bool.{false≢true}
 use Rattle.std.proofs.lemmas.List.{append-nil, map-append}
 use Rattle.std.specs.Prelude.{unwrap_or}
 use Rattle.std.specs.Map.{keys_of, lookup}
+use Rattle.std.specs.Result.{result_err}
 use Rattle.ptg_base.specs.Lists.{IsIn}
 use Rattle.ptg_base.specs.Task.{Task}
 use Rattle.ptg_base.specs.TaskComparing.{same_task}
@@ -36,8 +37,8 @@ use Rattle.flow_meaning.proofs.Rest.{item_sender, rests}
 use Rattle.flow_meaning.proofs.Once.{claims_at_most}
 use Rattle.flow_meaning.proofs.Sizes.{with_tiles}
 use Rattle.flow_core.specs.RunState.{HasLetGo, IsRunning, RunState, Tiles, end_of, machine, opening_run, with_claim, with_end, with_send}
-use Rattle.flow_core.specs.Fits.{Fits, HasFinished, MaySendNow, trap_of}
-use Rattle.flow_core.specs.Possible.{IsDue}
+use Rattle.flow_core.specs.Fits.{Fits, HasFinished, MaySendNow}
+use Rattle.flow_core.specs.Possible.{IsOutputItem}
 use Rattle.flow_core.specs.OneThread.{HasDone, IsBetweenTasks, MayClaimOnly, OwesOnly, ended_count, running_among, running_tasks}
 use Rattle.flow_core.proofs.Lookups.{end_push, found_key, key_found}
 use Rattle.flow_core.proofs.Fitting.{end_event, let_go_fits, send_counts, send_event, sendable, sender_task, sends_stay}
@@ -207,7 +208,7 @@ pub record HasEnded (P : Plan) (G : Data) (t : Task) (tasks : List Task) (old ne
   pub ended : ended_count new ≡ ended_count old + 1
 
 -- a task that has not trapped has outputs
-left_outputs : (end : Ended) (trap : Option Trap) → trap ≡ trap_of end → is_some trap ≡ false → has_outputs (Some end) ≡ true
+left_outputs : (end : Ended) (trap : Option Trap) → trap ≡ result_err end → is_some trap ≡ false → has_outputs (Some end) ≡ true
 left_outputs (Ok tiles) trap is none = refl
 left_outputs (Err cause) trap is none = absurd (false≢true (sym none ∙ ap is_some is))
 
@@ -229,12 +230,12 @@ module _ (P : Plan) (G : Data) (r : RunState) (fits : Fits P G r) (t : Task) (ru
         let other : end_of (with_end t end r) u ≡ end_of r u = ap (λ m. unwrap_or m None) (set_other (same_task t) (same_task u) (apart t u k) r.claims (Some end)) in
         elim (nothing_owed u tiles (sym other ∙ e) i mine) [ inl s ↦ inl s | inr x ↦ absurd x ])
 
-    pub ended_so : (trap : Option Trap) → trap ≡ trap_of end → HasEnded P G t running r (with_end t end r) trap
+    pub ended_so : (trap : Option Trap) → trap ≡ result_err end → HasEnded P G t running r (with_end t end r) trap
     ended_so trap is = record {
       running = sym (running_set r.claims t end running fits.sound.claimed_once (sym last));
       none_ready = λ u m. none_ready u (subst (λ S. MayClaim P S u) (end_event r t end) m);
       owes = λ u tiles e i mine. elim (owes_its u tiles e i mine) [ inl s ↦ inl s | inr p ↦ inr (subst (λ v. IsIn i (items P v)) p.0 mine) ];
-      trapped = λ some u tiles e i mine. elim (owes_its u tiles e i mine) [ inl s ↦ inl s | inr p ↦ absurd (some (is ∙ ap trap_of p.1)) ];
+      trapped = λ some u tiles e i mine. elim (owes_its u tiles e i mine) [ inl s ↦ inl s | inr p ↦ absurd (some (is ∙ ap result_err p.1)) ];
       outputs = λ none. ap has_outputs (ap (λ m. unwrap_or m None) (set_same (same_task t) r.claims None (Some end) last_runs)) ∙ left_outputs end trap is none;
       ended = ended_set r.claims t end last_runs;
     }
@@ -343,32 +344,32 @@ between_sent P G t running old new trap e fits last now d is = record {
 pub idle : (r : RunState) → [] ≡ running_tasks r → (t : Task) → IsRunning r t → ⊥
 idle r none t h = subst (IsIn t) (sym none) (marked_running r.claims t h)
 
--- what is left of the edges of a task is due, and what is left of its write-backs
+-- the edges of a task that are left are outputs, and so are its write-backs that are left
 module _ (P : Plan) (t : Task) (a b : RunState) (outputs : has_outputs (end_of a t) ≡ true) where
-  pub due : (i : Item) → IsIn i (items P t) → ((u : Task) → end_of b u ≡ end_of a u) → IsDue P b i
-  due i mine ends =
+  pub output : (i : Item) → IsIn i (items P t) → ((u : Task) → end_of b u ≡ end_of a u) → IsOutputItem P b i
+  output i mine ends =
       let from : sender i ≡ t = item_sender P t i mine in
       record { outputs = ap (λ u. has_outputs (end_of b u)) from ∙ ap has_outputs (ends t) ∙ outputs; is_item = subst (λ u. IsIn i (items P u)) (sym from) mine }
 
-  pub edge_due : (all left : List Edge) (e : Edge) → all ≡ out_edges P t → IsSoFar P [] [] (map (λ (x : Edge). item.Edge x) all) (map (λ (x : Edge). item.Edge x) (e ∷ left)) a b → IsDue P b (item.Edge e)
-  edge_due all left e is w =
+  pub edge_output : (all left : List Edge) (e : Edge) → all ≡ out_edges P t → IsSoFar P [] [] (map (λ (x : Edge). item.Edge x) all) (map (λ (x : Edge). item.Edge x) (e ∷ left)) a b → IsOutputItem P b (item.Edge e)
+  edge_output all left e is w =
       let among : IsIn (item.Edge e) (map (λ (x : Edge). item.Edge x) all) = subst (IsIn (item.Edge e)) (sym w.split_items) (IsIn-append_right (item.Edge e) w.sent (map (λ (x : Edge). item.Edge x) (e ∷ left)) (inl refl)) in
       let there = from_map (λ (x : Edge). item.Edge x) all (item.Edge e) among in
       let mine = edge_item (items P t) there.0 (subst (IsIn there.0) is there.1) in
-      due (item.Edge e) (subst (λ i. IsIn i (items P t)) (sym there.2) mine) w.done.ends
+      output (item.Edge e) (subst (λ i. IsIn i (items P t)) (sym there.2) mine) w.done.ends
 
-  pub write_due : (all left : List WriteBack) (e : WriteBack) → all ≡ write_backs P t → IsSoFar P [] [] (map (λ (x : WriteBack). item.Write x) all) (map (λ (x : WriteBack). item.Write x) (e ∷ left)) a b → IsDue P b (item.Write e)
-  write_due all left e is w =
+  pub write_output : (all left : List WriteBack) (e : WriteBack) → all ≡ write_backs P t → IsSoFar P [] [] (map (λ (x : WriteBack). item.Write x) all) (map (λ (x : WriteBack). item.Write x) (e ∷ left)) a b → IsOutputItem P b (item.Write e)
+  write_output all left e is w =
       let among : IsIn (item.Write e) (map (λ (x : WriteBack). item.Write x) all) = subst (IsIn (item.Write e)) (sym w.split_items) (IsIn-append_right (item.Write e) w.sent (map (λ (x : WriteBack). item.Write x) (e ∷ left)) (inl refl)) in
       let there = from_map (λ (x : WriteBack). item.Write x) all (item.Write e) among in
       let mine = write_item (items P t) there.0 (subst (IsIn there.0) is there.1) in
-      due (item.Write e) (subst (λ i. IsIn i (items P t)) (sym there.2) mine) w.done.ends
+      output (item.Write e) (subst (λ i. IsIn i (items P t)) (sym there.2) mine) w.done.ends
 
 -- the next task of a walk over all tasks is one of the job
 pub next_task : (P : Plan) (t : Task) (left : List Task) (a b : RunState) → IsSoFar P (all_tasks P) (t ∷ left) [] [] a b → IsTask P t
 next_task P t left a b w = (listed P t).1 (subst (IsIn t) (sym w.split) (IsIn-append_right t w.tasks (t ∷ left) (inl refl)))
 
--- an edge that is due goes to a task of the job
-pub due_target : (P : Plan) (G : Data) → IsConsistent P → (r : RunState) → Fits P G r → (e : Edge) → IsDue P r (item.Edge e) → IsTask P e.to
-due_target P G con r fits e d =
+-- an edge that is an output goes to a task of the job
+pub output_target : (P : Plan) (G : Data) → IsConsistent P → (r : RunState) → Fits P G r → (e : Edge) → IsOutputItem P r (item.Edge e) → IsTask P e.to
+output_target P G con r fits e d =
     (con.connected e.from (sender_task P G con r fits (item.Edge e) d.outputs)).to_tasks e (item_edge (items P e.from) e d.is_item)

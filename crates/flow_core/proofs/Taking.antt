@@ -19,8 +19,8 @@ use Rattle.dep_iter.specs.declared.source.Source.TheVariants as source
 use Rattle.dep_iter.specs.Tasks.{flows_of, locals_of}
 use Rattle.dep_iter.specs.Active.{flow_ins}
 use Rattle.dep_iter.specs.Edges.{data_source, source_among, source_at}
-use Rattle.flow_meaning.specs.Starting.{Delivery, starting_tile, tile_from, tiles_from}
-use Rattle.flow_core.specs.Inputs.{edge_into, edge_of_source, edges_from, nothing_delivered, source_of}
+use Rattle.flow_meaning.specs.Starting.{Delivery, starting_tile, tile_from, tiles_from, nothing_delivered}
+use Rattle.flow_core.specs.Inputs.{edge_into, edge_of_source, edges_from, source_of}
 
 -- the edge that is the source of a flow goes to that flow of the task
 pub record GoesTo (t : Task) (n : ℕ) (e : Edge) : Type 0 where

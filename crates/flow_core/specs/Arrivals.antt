@@ -1,6 +1,6 @@
 -- How many edges have come to each task, as a table that a run keeps. Source: DAGuE (Parallel Computing, 2012), where
 -- an entry counts the dependences that have come.
-use Rattle.std.specs.Prelude.{◌≡◌, ℕ, List, Bool, false, Option, None, unwrap_or}
+use Rattle.std.specs.Prelude.{◌≡◌, ℕ, List, Bool, false, Option, None}
 use Rattle.std.specs.Map.{lookup}
 use Rattle.ptg_base.specs.Task.{Task}
 use Rattle.ptg_base.specs.TaskComparing.{same_task}
@@ -9,6 +9,7 @@ use Rattle.ptg_base.specs.declared.edge.Item.TheVariants as item
 use Rattle.list_lemmas.specs.Counting.{count}
 use Rattle.flow_meaning.specs.Ending.{Ended}
 use Rattle.flow_meaning.specs.Machine.{SentItem}
+use Rattle.flow_meaning.specs.Numbers.{number_for}
 
 -- whether an item is an edge into the task
 abbrev pub is_edge_to : Task → Item → Bool
@@ -19,11 +20,7 @@ is_edge_to t (item.Write w) = false
 abbrev pub edges_to : Task → List SentItem → ℕ
 edges_to t sends = count (λ (x : SentItem). is_edge_to t x.item) sends
 
--- the number that a table has for a task: 0 if it has none
-abbrev pub number_at : List (Task × ℕ) → Task → ℕ
-number_at table t = unwrap_or (lookup (same_task t) table) 0
-
 -- the table has the number of edges that were sent to each task that is not claimed
 abbrev pub CountsArrivals : List (Task × ℕ) → List (Task × Option Ended) → List SentItem → Type 0
 CountsArrivals table claims sends =
-    (t : Task) → lookup (same_task t) claims ≡ None → number_at table t ≡ edges_to t sends
+    (t : Task) → lookup (same_task t) claims ≡ None → number_for table t ≡ edges_to t sends

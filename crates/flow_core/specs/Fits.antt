@@ -1,5 +1,6 @@
 -- When a run is one of a job and its data, and what it may do next. Source: this project's own choice.
-use Rattle.std.specs.Prelude.{◌≡◌, ◌⊎◌, IsTrue, Option, Some, None, Ok, Err}
+use Rattle.std.specs.Prelude.{◌≡◌, ◌⊎◌, IsTrue, Option, Some, Ok}
+use Rattle.std.specs.Result.{result_err}
 use Rattle.ptg_base.specs.Lists.{IsIn}
 use Rattle.ptg_base.specs.Task.{Task}
 use Rattle.ptg_base.specs.declared.edge.Item.{Item}
@@ -29,14 +30,9 @@ pub record MaySendNow (P : Plan) (G : Data) (r : RunState) (i : Item) : Type 0 w
   pub may : MaySend P G (machine r) i
   pub done : IsRunning r (sender i) → ⊥
 
--- why a task trapped, if it did
-abbrev pub trap_of : Ended → Option Trap
-trap_of (Ok tiles) = None
-trap_of (Err cause) = Some cause
-
 -- a task has ended as the backward meaning says, with this trap if it trapped; nothing else has changed
 pub record HasFinished (P : Plan) (G : Data) (t : Task) (old new : RunState) (trap : Option Trap) : Type 0 where
   pub end : Ended
   pub end_is : ended P G t ≡ Some end
   pub marked : new ≡ with_end t end old
-  pub trapped : trap ≡ trap_of end
+  pub trapped : trap ≡ result_err end

@@ -12,16 +12,6 @@ use Rattle.plan_core.specs.Kinds.{is_data}
 use Rattle.dep_iter.specs.declared.source.Source.{Source}
 use Rattle.dep_iter.specs.declared.source.Source.TheVariants as source
 use Rattle.dep_iter.specs.Edges.{data_source}
-use Rattle.flow_meaning.specs.Starting.{Delivery}
-use Rattle.flow_meaning.specs.Machine.{SentItem, first_tile}
-
--- what each edge delivers: the tile that was sent with it
-abbrev pub delivered_by : List SentItem → Delivery
-delivered_by sends e = first_tile (item.Edge e) sends
-
--- no edge delivers a tile
-abbrev pub nothing_delivered : Delivery
-nothing_delivered e = None
 
 -- the edge that a source is
 abbrev pub edge_of_source : Source → Option Edge

@@ -27,7 +27,7 @@ abbrev pub goes_to_claimed : RunState → Item → Bool
 goes_to_claimed r (item.Edge e) = is_some (mark_of r e.to)
 goes_to_claimed r (item.Write w) = false
 
--- an item is due: it is one of a task that has ended without a trap
-pub record IsDue (P : Plan) (r : RunState) (i : Item) : Type 0 where
+-- an item is an output: it is one of a task that has ended without a trap
+pub record IsOutputItem (P : Plan) (r : RunState) (i : Item) : Type 0 where
   pub outputs : IsTrue (has_outputs (end_of r (sender i)))
   pub is_item : IsIn i (items P (sender i))

@@ -1,6 +1,6 @@
 -- The parts of the answer as a run has them: its trapped tasks, its waiting tasks, and what was written back. Source:
 -- this project's own choice.
-use Rattle.std.specs.Prelude.{ℤ, List, map, filter, flat_map, filter_map, Option, Some, None}
+use Rattle.std.specs.Prelude.{ℤ, List, map, filter, flat_map, filter_map, Option, None, option_map}
 use Rattle.ptg_base.specs.Task.{Task}
 use Rattle.ptg_base.specs.declared.edge.WriteBack.{WriteBack}
 use Rattle.ptg_base.specs.declared.edge.Item.{Item}
@@ -29,8 +29,7 @@ waits_among P S ts = map (wait_row P S) (filter (is_waiting P S) ts)
 -- the write-back that was sent, with its tile
 abbrev pub write_with : Item → Option (List ℤ) → Option (WriteBack × List ℤ)
 write_with (item.Edge e) tile = None
-write_with (item.Write w) None = None
-write_with (item.Write w) (Some tile) = Some (w, tile)
+write_with (item.Write w) tile = option_map (λ (numbers : List ℤ). (w, numbers)) tile
 
 -- the write-backs that were sent, each with its tile, in the order of the sends
 abbrev pub writes_among : List SentItem → List (WriteBack × List ℤ)

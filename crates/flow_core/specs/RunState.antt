@@ -7,9 +7,8 @@ use Rattle.indexmap.specs.IndexMap.{insert_entry}
 use Rattle.ptg_base.specs.Task.{Task}
 use Rattle.ptg_base.specs.TaskComparing.{same_task}
 use Rattle.ptg_base.specs.declared.edge.Item.{Item}
-use Rattle.dep_iter.specs.Items.{item_flow}
-use Rattle.flow_meaning.specs.Ending.{Ended, output_tile}
-use Rattle.flow_meaning.specs.Machine.{MachineState, SentItem, sender}
+use Rattle.flow_meaning.specs.Ending.{Ended}
+use Rattle.flow_meaning.specs.Machine.{MachineState, SentItem, sender, item_from}
 
 -- the tiles that a task left, one place for each of its flows
 abbrev pub Tiles : Type 0
@@ -64,7 +63,7 @@ with_end t end r =
 
 -- what is sent with an item: the tile that its task left in the flow of the item
 abbrev pub send_of : RunState → Item → SentItem
-send_of r i = record { item = i; tile = output_tile (end_of r (sender i)) (item_flow i) }
+send_of r i = item_from (end_of r (sender i)) i
 
 -- the run after an item is sent
 abbrev pub with_send : Item → RunState → RunState

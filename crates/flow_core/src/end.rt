@@ -2,9 +2,9 @@
 
 ghost use Rattle.std.specs.Prelude.{◌≡◌};
 ghost use Rattle.std.specs.Borrow.{ftrue};
+ghost use Rattle.std.specs.Result.{result_err};
 ghost use Rattle.flow_meaning.specs.Ending as ending;
 ghost use Rattle.flow_meaning.specs.Ending.{Ended};
-ghost use Rattle.flow_core.specs.Fits as fits;
 
 use crate::body::Ran;
 use std::marker::Model;
@@ -39,18 +39,18 @@ pub struct End {
 impl Model for End {
     ghost use Rattle.std.specs.Prelude.{◌≡◌};
     ghost use Rattle.flow_meaning.specs.Ending.{Ended};
-    ghost use Rattle.flow_core.specs.Fits.{trap_of};
+    ghost use Rattle.std.specs.Result.{result_err};
 
     ghost Value = { Ended };
 
     ghost view = { λ e. e.seen.end };
 
-    ghost invariant = { λ e. e.trap ≡ trap_of e.seen.end };
+    ghost invariant = { λ e. e.trap ≡ result_err e.seen.end };
 }
 
 // Why a body trapped, if it did.
 fn trap_of(ran: &Ran) -> Option<Trap>
-    ensures { result ≡ fits.trap_of ran.now.end }
+    ensures { result ≡ result_err ran.now.end }
 {
     match &ran.end {
         Ok(_) => None,
@@ -71,7 +71,7 @@ impl End {
 
     // Why the task trapped, if it did.
     pub(crate) fn trap(&self) -> Option<Trap>
-        ensures { result ≡ fits.trap_of self.now }
+        ensures { result ≡ result_err self.now }
     {
         self.trap
     }

@@ -6,7 +6,7 @@ ghost use Rattle.ptg_base.specs.Limits.{most_flows};
 ghost use Rattle.dep_iter.specs.Tasks.{IsTask};
 ghost use Rattle.flow_meaning.specs.Starting as starting;
 ghost use Rattle.flow_core.specs.Inputs as inputs;
-ghost use Rattle.flow_core.specs.Inputs.{delivered_by, edge_into, edge_of_source, edges_from, has_datatype, have_datatypes, nothing_delivered};
+ghost use Rattle.flow_core.specs.Inputs.{edge_into, edge_of_source, edges_from, has_datatype, have_datatypes};
 ghost use Rattle.ptg_base.specs.Task.{Task};
 ghost use Rattle.ptg_base.specs.declared.edge.Item.TheVariants as item;
 ghost use Rattle.plan_core.specs.declared.plan.Plan.{Plan as PlanValue};
@@ -15,6 +15,8 @@ ghost use Rattle.coll_data.specs.Data.{Data};
 ghost use Rattle.ptg_base.specs.declared.edge.Edge.{Edge as EdgeValue};
 ghost use Rattle.plan_core.specs.declared.flow.FlowPlan.{FlowPlan as FlowValue};
 ghost use Rattle.dep_iter.specs.Tasks as tasks;
+ghost use Rattle.flow_meaning.specs.Starting.{nothing_delivered};
+ghost use Rattle.flow_meaning.specs.Machine.{sent_tile};
 
 use crate::sent_items::SentItems;
 use coll_data::Given;
@@ -183,11 +185,11 @@ fn take_tile(edge: &Option<Item>, number: u8, sent: &mut SentItems, tiles: &mut 
         → edge.now ≡ option_map (λ e. item.Edge e) (edge_into P t number f) → length before ≡ number
         → tiles.old.items ≡ before ++ starting.tiles_from P G nothing_delivered t number (f ∷ rest)
         → tiles.new.items
-        ≡ (before ++ starting.starting_tile P G (delivered_by sent.old.edges) t number f ∷ [])
+        ≡ (before ++ starting.starting_tile P G (sent_tile sent.old.edges) t number f ∷ [])
         ++ starting.tiles_from P G nothing_delivered t (number + 1) rest }
     ensures others { (P : PlanValue) (t : Task) (f : FlowValue)
         → edge.now ≡ option_map (λ e. item.Edge e) (edge_into P t number f) → (e : EdgeValue) → e.in_flow ≢ number
-        → delivered_by sent.new.edges e ≡ delivered_by sent.old.edges e }
+        → sent_tile sent.new.edges e ≡ sent_tile sent.old.edges e }
     ensures kept { (P : PlanValue) (t : Task) (f : FlowValue)
         → edge.now ≡ option_map (λ e. item.Edge e) (edge_into P t number f)
         → TakesOnlyTo t sent.old.edges sent.new.edges }
@@ -214,7 +216,7 @@ pub(crate) fn take_tiles(
     ensures tiles { (P : PlanValue) (G : Data) (t : Task) (before : List (Option (List ℤ))) (fs : List FlowValue)
         → edges.now ≡ edges_from P t number fs → length before ≡ number
         → tiles.old.items ≡ before ++ starting.tiles_from P G nothing_delivered t number fs
-        → tiles.new.items ≡ before ++ starting.tiles_from P G (delivered_by sent.old.edges) t number fs }
+        → tiles.new.items ≡ before ++ starting.tiles_from P G (sent_tile sent.old.edges) t number fs }
     ensures kept { (P : PlanValue) (t : Task) (fs : List FlowValue) → edges.now ≡ edges_from P t number fs
         → TakesOnlyTo t sent.old.edges sent.new.edges }
     ensures sends { sent.new.sends ≡ sent.old.sends }

@@ -15,8 +15,8 @@ ghost use Rattle.dep_iter.specs.Tasks.{flows_of};
 ghost use Rattle.dep_iter.specs.Consistent.{IsConsistent};
 ghost use Rattle.flow_meaning.specs.Ending.{Ended};
 ghost use Rattle.flow_meaning.specs.Machine.{Claim, Send, SentItem, sender, state_after};
-ghost use Rattle.flow_core.specs.RunState.{RunState, IsRunning, machine, opening_run, with_claim, with_end, with_send};
-ghost use Rattle.flow_core.specs.Fits.{Fits, HasFinished, MaySendNow};
+ghost use Rattle.flow_core.specs.RunState.{RunState, machine, with_claim, with_end, with_send};
+ghost use Rattle.flow_core.specs.Fits.{Fits, MaySendNow};
 
 /// A law: a claim and a send are the events of the machine; the end of a task is none.
 pub fn calls_are_events()

@@ -11,7 +11,7 @@ ghost use Rattle.dep_iter.specs.Tasks.{IsTask};
 ghost use Rattle.flow_meaning.specs.Ending.{has_outputs};
 ghost use Rattle.flow_core.specs.RunState.{end_of};
 ghost use Rattle.flow_core.specs.Fits.{Fits};
-ghost use Rattle.flow_core.specs.Possible.{IsDue};
+ghost use Rattle.flow_core.specs.Possible.{IsOutputItem};
 ghost use Rattle.flow_core.specs.Goals.{AreGoals};
 ghost use Rattle.flow_core.specs.OneThread.{HasDone, running_tasks};
 
@@ -22,7 +22,7 @@ use ptg_base::{Edge, Item, OutOfMemory, TaskId, WriteBack};
 
 // Sends an edge of a task that has ended without a trap, and claims the task that it goes to if it may be claimed then.
 fn send_edge(runner: &mut Runner, m: &Matched, edge: Edge) -> Result<(), OutOfMemory>
-    requires due { IsDue m.now runner.old.run (item.Edge edge) }
+    requires output { IsOutputItem m.now runner.old.run (item.Edge edge) }
     requires fits { (G : Data) × Fits m.now G runner.old.run }
     requires running { runner.old.running.items ≡ running_tasks runner.old.run }
     requires goals { AreGoals m.now runner.old.goals.entries }
@@ -32,7 +32,7 @@ fn send_edge(runner: &mut Runner, m: &Matched, edge: Edge) -> Result<(), OutOfMe
 {
     m.plan_is_consistent();
     let to = edge.to.copy();
-    let _sent = runner.run.send_due(m, &Item::Edge(edge))?;
+    let _sent = runner.run.send_output(m, &Item::Edge(edge))?;
     claim_if_come(runner, m, &to)
 }
 
@@ -58,7 +58,7 @@ fn send_edges(runner: &mut Runner, m: &Matched, t: &TaskId, env: &[i64]) -> Resu
 
 // Sends a write-back of a task that has ended without a trap.
 fn send_write(runner: &mut Runner, m: &Matched, write: WriteBack) -> Result<(), OutOfMemory>
-    requires due { IsDue m.now runner.old.run (item.Write write) }
+    requires output { IsOutputItem m.now runner.old.run (item.Write write) }
     requires fits { (G : Data) × Fits m.now G runner.old.run }
     requires running { runner.old.running.items ≡ running_tasks runner.old.run }
     requires goals { AreGoals m.now runner.old.goals.entries }
@@ -67,7 +67,7 @@ fn send_write(runner: &mut Runner, m: &Matched, write: WriteBack) -> Result<(), 
     ensures goals { OnOk result (AreGoals m.now runner.new.goals.entries) }
 {
     m.plan_is_consistent();
-    let _sent = runner.run.send_due(m, &Item::Write(write))?;
+    let _sent = runner.run.send_output(m, &Item::Write(write))?;
     Ok(())
 }
 

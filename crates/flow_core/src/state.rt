@@ -16,7 +16,7 @@ ghost use Rattle.dep_iter.specs.Tasks.{IsTask};
 ghost use Rattle.flow_core.specs.RunState.{HasLetGo, IsRunning, end_of, machine, mark_of, opening_run, with_claim, with_send};
 ghost use Rattle.flow_core.specs.Fits.{Fits, HasFinished, MaySendNow};
 ghost use Rattle.flow_core.specs.Possible as possible;
-ghost use Rattle.flow_core.specs.Possible.{GoesToWaiting, IsDue, KeepsTilesFor};
+ghost use Rattle.flow_core.specs.Possible.{GoesToWaiting, IsOutputItem, KeepsTilesFor};
 ghost use Rattle.flow_core.specs.SentItems.{IsUnsent};
 
 mod answer;
@@ -250,16 +250,16 @@ impl State {
         ensures err { OnErr result (self.new ≡ self.old) }
         ensures fits { (G : Data) → Fits m.now G self.old → Fits m.now G self.new }
     {
-        if !self.is_due(m, item) {
+        if !self.is_output(m, item) {
             return Ok(false);
         }
-        self.send_due(m, item)
+        self.send_output(m, item)
     }
 
-    // Whether an item is due.
-    fn is_due(&self, m: &Matched, item: &Item) -> bool
+    // Whether an item is an output.
+    fn is_output(&self, m: &Matched, item: &Item) -> bool
         requires fits { (G : Data) × Fits m.now G self.now }
-        ensures due { IsTrue result ↔ IsDue m.now self.now item.now }
+        ensures output { IsTrue result ↔ IsOutputItem m.now self.now item.now }
         ensures consistent { IsConsistent m.now }
     {
         let plan = m.plan();
@@ -269,10 +269,10 @@ impl State {
         is_item(plan, item)
     }
 
-    // Sends an item that is due, with the tile that its task left, unless it was sent.
-    pub(crate) fn send_due(&mut self, m: &Matched, item: &Item) -> Result<bool, OutOfMemory>
+    // Sends an item that is an output, with the tile that its task left, unless it was sent.
+    pub(crate) fn send_output(&mut self, m: &Matched, item: &Item) -> Result<bool, OutOfMemory>
         requires fits { (G : Data) × Fits m.now G self.old }
-        requires due { IsDue m.now self.old item.now }
+        requires output { IsOutputItem m.now self.old item.now }
         ensures exact { IfOk result (λ sent.
             (G : Data) → Fits m.now G self.old → IsTrue sent ↔ MaySendNow m.now G self.old item.now) }
         ensures state { IfOk result (λ sent. self.new ≡ (if sent then with_send item.now self.old else self.old)) }
@@ -297,10 +297,10 @@ impl State {
         }
     }
 
-    // Whether an item that is due was not sent. All edges into a claimed task were sent.
+    // Whether an output was not sent. All edges into a claimed task were sent.
     fn is_unsent(&self, m: &Matched, item: &Item) -> bool
         requires fits { (G : Data) × Fits m.now G self.now }
-        requires due { IsDue m.now self.now item.now }
+        requires output { IsOutputItem m.now self.now item.now }
         ensures { IsTrue result ↔ IsUnsent self.now.sends item.now }
     {
         m.plan_is_consistent();

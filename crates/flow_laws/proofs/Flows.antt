@@ -31,7 +31,7 @@ use Rattle.check_flows.specs.Kinds.{is_control}
 use Rattle.coll_data.specs.Types.{default_type}
 use Rattle.check_flows.specs.Datatypes.{allowed_type, first_written, flow_type, type_of_flow, type_of_written, written_faults}
 use Rattle.check_flows.specs.Targets.{target_of}
-use Rattle.check_flows.specs.Dependences.{dependence_faults, dependence_of, dependences_faults, dependences_of, directions_faults, directions_of, flow_faults, flow_from, flow_plan, is_of_direction, second_faults, target_faults, type_faults, type_spot}
+use Rattle.check_flows.specs.Dependences.{dependence_faults, dependence_of, dependences_faults, dependences_of, directions_faults, directions_of, flow_faults, flow_from, flow_plan, is_of_direction, target_faults, type_faults, type_spot}
 use Rattle.check_flows.specs.PartsOfJob.{HaveParts}
 use Rattle.check_flows.proofs.Ways.{dep_from}
 use Rattle.check_flows.proofs.WellTargets.{IsWellTarget, allowed}
@@ -43,6 +43,7 @@ use Rattle.flow_laws.proofs.Types.{control_name}
 use Rattle.list_lemmas.proofs.Joins.{first_nil, rest_nil}
 use Rattle.list_lemmas.proofs.Truth.{and-false}
 use Rattle.std.specs.Cmp.{first_so, second_so}
+use Rattle.std.specs.Option.{option_map_or}
 
 -- ---- lists
 
@@ -122,7 +123,7 @@ module _ (job : Job) (classes : List ClassPlan) (spaces : List ClassSpace) (coll
   target_none : (direction : Direction) (t : TargetTree) (q : Target) → target_of job seen t ≡ Some q → IsTrue (passes direction q) → target_faults job seen flow direction t ≡ []
   target_none direction t q e h = target_fits job classes spaces colls parts seen flow n typed direction t q e (well_of direction q h)
 
-  second_none : (direction : Direction) (g : Option Term) (no : Option TargetTree) (o : Option Target) → each_option (target_of job seen) no ≡ Some o → IsTrue (is_second (passes direction) g o) → second_faults (target_faults job seen flow direction) no ≡ []
+  second_none : (direction : Direction) (g : Option Term) (no : Option TargetTree) (o : Option Target) → each_option (target_of job seen) no ≡ Some o → IsTrue (is_second (passes direction) g o) → option_map_or (target_faults job seen flow direction) no [] ≡ []
   second_none direction g None o e h = refl
   second_none direction g (Some t) o e h =
       let q = option_there (target_of job seen) t o e in
@@ -137,13 +138,13 @@ module _ (job : Job) (classes : List ClassPlan) (spaces : List ClassSpace) (coll
       let all : ((is_closed_option (length seen) q.0 && passes direction q.1.0) && is_second (passes direction) q.0 q.1.1) ≡ true = ap (is_dependence (length seen) (passes direction)) q.4 ∙ h in
       let first = first_so (is_closed_option (length seen) q.0 && passes direction q.1.0) (is_second (passes direction) q.0 q.1.1) all in
       let yes : target_faults job seen flow direction dep.yes ≡ [] = target_none direction dep.yes q.1.0 two.0 (second_so (is_closed_option (length seen) q.0) (passes direction q.1.0) first) in
-      let no : second_faults (target_faults job seen flow direction) dep.no ≡ [] = second_none direction q.0 dep.no q.1.1 two.1 (second_so (is_closed_option (length seen) q.0 && passes direction q.1.0) (is_second (passes direction) q.0 q.1.1) all) in
+      let no : option_map_or (target_faults job seen flow direction) dep.no [] ≡ [] = second_none direction q.0 dep.no q.1.1 two.1 (second_so (is_closed_option (length seen) q.0 && passes direction q.1.0) (is_second (passes direction) q.0 q.1.1) all) in
       let turned = of_direction direction dep here in
-      none_joined (option_faults job seen dep.guard ++ (target_faults job seen flow dep.direction dep.yes ++ second_faults (target_faults job seen flow dep.direction) dep.no)) (type_faults job.given flow dep)
-      (none_joined (option_faults job seen dep.guard) (target_faults job seen flow dep.direction dep.yes ++ second_faults (target_faults job seen flow dep.direction) dep.no)
+      none_joined (option_faults job seen dep.guard ++ (target_faults job seen flow dep.direction dep.yes ++ option_map_or (target_faults job seen flow dep.direction) dep.no [])) (type_faults job.given flow dep)
+      (none_joined (option_faults job seen dep.guard) (target_faults job seen flow dep.direction dep.yes ++ option_map_or (target_faults job seen flow dep.direction) dep.no [])
       (option_no_fault job seen dep.guard q.0 q.2)
-      (none_joined (target_faults job seen flow dep.direction dep.yes) (second_faults (target_faults job seen flow dep.direction) dep.no)
-      (ap (λ b. target_faults job seen flow b dep.yes) turned ∙ yes) (ap (λ b. second_faults (target_faults job seen flow b) dep.no) turned ∙ no)))
+      (none_joined (target_faults job seen flow dep.direction dep.yes) (option_map_or (target_faults job seen flow dep.direction) dep.no [])
+      (ap (λ b. target_faults job seen flow b dep.yes) turned ∙ yes) (ap (λ b. option_map_or (target_faults job seen flow b) dep.no []) turned ∙ no)))
       (type_none job.given flow n dep typed same)
 
   dependences_none : (direction : Direction) (ds : List DepPlan) → HasOneDatatype flow → dependences_of job seen direction flow.deps ≡ Some ds → IsTrue (list_all (is_dependence (length seen) (passes direction)) ds) → dependences_faults job seen flow direction flow.deps ≡ []
@@ -212,4 +213,4 @@ one_datatype job seen flow h dep among = one_of job.given flow dep first (types 
   of_its_direction Out e = none_of (dependence_faults job seen flow) (is_of_direction Out) flow.deps dep (rest_nil (dependences_faults job seen flow In flow.deps) (dependences_faults job seen flow Out flow.deps) both_directions) (ap (λ d. is_same d Out) e) among
 
   types : dependence_faults job seen flow dep ≡ [] → type_faults job.given flow dep ≡ []
-  types e = rest_nil (option_faults job seen dep.guard ++ (target_faults job seen flow dep.direction dep.yes ++ second_faults (target_faults job seen flow dep.direction) dep.no)) (type_faults job.given flow dep) e
+  types e = rest_nil (option_faults job seen dep.guard ++ (target_faults job seen flow dep.direction dep.yes ++ option_map_or (target_faults job seen flow dep.direction) dep.no [])) (type_faults job.given flow dep) e

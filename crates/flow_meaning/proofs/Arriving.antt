@@ -107,9 +107,9 @@ first_other i [] x h = ap (λ b. cond b x.tile None) h
 first_other i (y ∷ ys) x h = ap (λ o. cond (same_item i y.item) y.tile o) (first_other i ys x h)
 
 module _ (P : Plan) (G : Data) (S : MachineState) where
-  pub delivers_now : (e : Edge) → MaySend P G S (item.Edge e) → sent_tile (state_after P G S (Send (item.Edge e))) e ≡ output_tile (end_in P G S e.from) e.out_flow
+  pub delivers_now : (e : Edge) → MaySend P G S (item.Edge e) → sent_tile (state_after P G S (Send (item.Edge e))).sends e ≡ output_tile (end_in P G S e.from) e.out_flow
   delivers_now e may = first_here (item.Edge e) S.sends (sent_with P G S (item.Edge e)) may.unsent ((same_item-decides (item.Edge e) (item.Edge e)).1 refl)
 
-  pub delivers_as_before : (i : Item) (d : Edge) → i ≢ item.Edge d → sent_tile (state_after P G S (Send i)) d ≡ sent_tile S d
+  pub delivers_as_before : (i : Item) (d : Edge) → i ≢ item.Edge d → sent_tile (state_after P G S (Send i)).sends d ≡ sent_tile S.sends d
   delivers_as_before i d other =
       first_other (item.Edge d) S.sends (sent_with P G S i) (false_from_ne_true (same_item (item.Edge d) i) (λ k. other (sym ((same_item-decides (item.Edge d) i).0 k))))

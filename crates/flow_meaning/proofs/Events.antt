@@ -74,7 +74,7 @@ module _ (P : Plan) (G : Data) (con : IsConsistent P) (S : MachineState) (sound 
   pub record Delivers (e : Edge) : Type 0 where
     pub claimed : IsIn e.from S.claims
     pub outputs : has_outputs (ended P G e.from) ≡ true
-    pub tile : sent_tile S e ≡ source_tile (ended P G) e
+    pub tile : sent_tile S.sends e ≡ source_tile (ended P G) e
 
   output_of : (i : Item) (x : SentItem) → x.item ≡ i → IsIn x S.sends → IsIn (sender i) S.claims × (has_outputs (ended P G (sender i)) ≡ true) × (x.tile ≡ output_tile (ended P G (sender i)) (item_flow i))
   output_of i x e here =
@@ -88,7 +88,7 @@ module _ (P : Plan) (G : Data) (con : IsConsistent P) (S : MachineState) (sound 
       record { claimed = o.0; outputs = o.1; tile = p.3 ∙ o.2 }
 
   module _ (t : Task) (fed : HasAllArrived P S t) where
-    same_delivery : (e : Edge) → IsIn e (in_edges P t) → sent_tile S e ≡ source_tile (ended P G) e
+    same_delivery : (e : Edge) → IsIn e (in_edges P t) → sent_tile S.sends e ≡ source_tile (ended P G) e
     same_delivery e i = (delivers e (each_arrived P S t fed.all_arrived e i)).tile
 
     -- a task all of whose in edges were sent ends as the backward meaning says
@@ -97,18 +97,18 @@ module _ (P : Plan) (G : Data) (con : IsConsistent P) (S : MachineState) (sound 
         let all : has_all_sources P (ended P G) t ≡ true = list_all-from_members (λ (e : Edge). has_outputs (ended P G e.from)) (in_edges P t) (λ e i. (delivers e (each_arrived P S t fed.all_arrived e i)).outputs) in
         fixed P G con t fed.task
         ∙ ap (λ b. cond b (ended_on P G (source_tile (ended P G)) t) None) all
-        ∙ sym (ended_on-same P G con t fed.task (sent_tile S) (source_tile (ended P G)) same_delivery)
+        ∙ sym (ended_on-same P G con t fed.task (sent_tile S.sends) (source_tile (ended P G)) same_delivery)
 
     -- so it ends
     pub it_ends : is_some (ended P G t) ≡ true
     unfolding ended_on
     it_ends =
         let h = class_of P t fed.task in
-        ap is_some (ends_so ∙ ap (λ o. option_map (λ (c : ClassPlan). body_meaning c.body (locals_of P t) (starting_tiles P G (sent_tile S) t)) o) h.class_is)
+        ap is_some (ends_so ∙ ap (λ o. option_map (λ (c : ClassPlan). body_meaning c.body (locals_of P t) (starting_tiles P G (sent_tile S.sends) t)) o) h.class_is)
 
     -- and what was sent to it are its inputs
-    pub has_inputs : delivered_tiles P (sent_tile S) t ≡ inputs P G t
-    has_inputs = delivered_tiles-same P G con t fed.task (sent_tile S) (source_tile (ended P G)) same_delivery
+    pub has_inputs : delivered_tiles P (sent_tile S.sends) t ≡ inputs P G t
+    has_inputs = delivered_tiles-same P G con t fed.task (sent_tile S.sends) (source_tile (ended P G)) same_delivery
 
   pub claim_sound : (t : Task) → MayClaim P S t → IsSoundState P G (state_after P G S (Claim t))
   claim_sound t may = record {

@@ -1,55 +1,22 @@
--- An index of a tile is that of one place.
-use Rattle.std.proofs.Common.{◌≡◌, ℕ, ◌+◌, ◌*◌, ◌<◌, ℤ, pos, negsuc, Bool, true, false, cond, nat_lt, refl, ap, sym, ◌∙◌, subst, Option, Some, None, eqb, arith}
-use Rattle.std.specs.Prelude.{option_map}
-use Rattle.std.proofs.lemmas.Bool.{false≢true, and_parts, eqb-true, ltb-true}
-use Rattle.std.proofs.lemmas.Nat.{same_from_place}
+-- A tile is that of one place.
+use Rattle.std.proofs.Common.{◌≡◌, ℕ, true, ap, sym, ◌∙◌, Option, Some, None, eqb}
+use Rattle.std.proofs.lemmas.Bool.{false≢true, and_parts, eqb-true}
+use Rattle.std.specs.Option.{option_eq}
 use Rattle.ptg_base.specs.declared.place.Place.{Place}
 use Rattle.coll_data.specs.declared.coll.Coll.{Coll}
-use Rattle.ptg_base.specs.Index.{index_in}
 use Rattle.coll_data.specs.Tiles.{tile_index}
-use Rattle.flow_meaning.specs.Final.{is_index, is_place_of}
-use Rattle.list_lemmas.proofs.Options.{from_option_and_then, from_option_map}
+use Rattle.flow_meaning.specs.Final.{is_place_of}
+use Rattle.coll_data.proofs.OneIndex.{one_index}
 
--- what an index comes from
-pub record IsBelow (limit n : ℕ) (z : ℤ) : Type 0 where
-  pub is : z ≡ pos n
-  pub within : n < limit
-
-index_in_is : (limit : ℕ) (z : ℤ) (n : ℕ) → index_in limit z ≡ Some n → IsBelow limit n z
-index_in_is limit (pos m) n e = by (nat_lt m limit) refl e
-  where
-    by : (b : Bool) → nat_lt m limit ≡ b → cond b (Some m) None ≡ Some n → IsBelow limit n (pos m)
-    by true h e = let same : m ≡ n = cc in record { is = ap pos same; within = subst (λ k. k < limit) same (ltb-true m limit h) }
-    by false h e = absurd cc
-index_in_is limit (negsuc m) n e = absurd cc
-
-index_is : (o : Option ℕ) (k : ℕ) → is_index o k ≡ true → o ≡ Some k
+index_is : (o : Option ℕ) (k : ℕ) → option_eq eqb o (Some k) ≡ true → o ≡ Some k
 index_is None k h = absurd (false≢true h)
 index_is (Some i) k h = ap (λ n. Some n) (eqb-true i k h)
-
-one_index : (rows : ℕ) (cols : Option ℕ) (i j u v : ℤ) (k : ℕ) → tile_index rows cols i j ≡ Some k → tile_index rows cols u v ≡ Some k → (i ≡ u) × (j ≡ v)
-one_index rows None i j u v k e f =
-    let p = from_option_and_then (λ (column : ℕ). index_in rows i) (index_in 1 j) k e in
-    let q = from_option_and_then (λ (column : ℕ). index_in rows u) (index_in 1 v) k f in
-    let a = index_in_is 1 j p.0 p.1 in
-    let b = index_in_is 1 v q.0 q.1 in
-    let same : p.0 ≡ q.0 = omega (arith, a.within, b.within) in
-    ((index_in_is rows i k p.2).is ∙ sym (index_in_is rows u k q.2).is, a.is ∙ ap pos same ∙ sym b.is)
-one_index rows (Some cols) i j u v k e f =
-    let p = from_option_and_then (λ column. option_map (λ row. row * cols + column) (index_in rows i)) (index_in cols j) k e in
-    let q = from_option_and_then (λ column. option_map (λ row. row * cols + column) (index_in rows u)) (index_in cols v) k f in
-    let r = from_option_map (λ row. row * cols + p.0) (index_in rows i) k p.2 in
-    let s = from_option_map (λ row. row * cols + q.0) (index_in rows u) k q.2 in
-    let a = index_in_is cols j p.0 p.1 in
-    let b = index_in_is cols v q.0 q.1 in
-    let same = same_from_place r.0 p.0 s.0 q.0 cols a.within b.within (r.2 ∙ sym s.2) in
-    ((index_in_is rows i r.0 r.1).is ∙ ap pos same.0 ∙ sym (index_in_is rows u s.0 s.1).is, a.is ∙ ap pos same.1 ∙ sym b.is)
 
 -- two places of one tile are one
 pub one_place : (c : ℕ) (x : Coll) (k : ℕ) (p q : Place) → is_place_of c x k p ≡ true → is_place_of c x k q ≡ true → p ≡ q
 one_place c x k p q h g =
-    let a = and_parts (eqb p.coll c) (is_index (tile_index x.shape.0 x.shape.1 p.i p.j) k) h in
-    let b = and_parts (eqb q.coll c) (is_index (tile_index x.shape.0 x.shape.1 q.i q.j) k) g in
+    let a = and_parts (eqb p.coll c) (option_eq eqb (tile_index x.shape.0 x.shape.1 p.i p.j) (Some k)) h in
+    let b = and_parts (eqb q.coll c) (option_eq eqb (tile_index x.shape.0 x.shape.1 q.i q.j) (Some k)) g in
     let coll : p.coll ≡ q.coll = eqb-true p.coll c a.0 ∙ sym (eqb-true q.coll c b.0) in
     let at = one_index x.shape.0 x.shape.1 p.i p.j q.i q.j k (index_is (tile_index x.shape.0 x.shape.1 p.i p.j) k a.1) (index_is (tile_index x.shape.0 x.shape.1 q.i q.j) k b.1) in
     λ m. record { coll = coll m; i = at.0 m; j = at.1 m }

@@ -111,10 +111,10 @@ module _ (P : Plan) (G : Data) (con : IsConsistent P) (S T : MachineState) (soun
   possible_there e may = possible_back T S (back S T r) P G con (reordered_sound S T r P G sound) e may
 
   -- the same tile was sent with each edge
-  sent_tile-same : sent_tile S ≡ sent_tile T
+  sent_tile-same : sent_tile S.sends ≡ sent_tile T.sends
   sent_tile-same = λ k e. at e k
     where
-      at : (e : Edge) → sent_tile S e ≡ sent_tile T e
+      at : (e : Edge) → sent_tile S.sends e ≡ sent_tile T.sends e
       at e =
           by_test (is_sent S (item.Edge e))
           (λ h.

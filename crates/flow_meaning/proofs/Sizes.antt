@@ -160,7 +160,7 @@ place_size P G fit well p datatype exists type =
     let same : c.0.datatype ≡ datatype = eqb-true c.0.datatype datatype (subst (λ o. option_map_or (λ (s : Shape). eqb s.datatype datatype) (option_map shape_of o) false ≡ true) c.1 its_type) in
     let w : IsWellColl (elements_by_type G) c.0 = each_at (IsWellColl (elements_by_type G)) G.colls p.coll c.0 well.colls c.1 in
     let index = tile_index c.0.shape.0 c.0.shape.1 p.i p.j in
-    let tile = some_value (option_and_then (slice_get c.0.tiles) index) ((tile_exists c.0.shape.0 c.0.shape.1 p.i p.j c.0.tiles w.all_tiles).1 c.2) in
+    let tile = some_value (option_and_then (slice_get c.0.tiles) index) ((tile_exists c.0.shape.0 c.0.shape.1 p.i p.j c.0.tiles w.whole.all_tiles).1 c.2) in
     let long : length tile.0 ≡ slice_index P.elems datatype =
     tile_size (elements_by_type G) c.0 w index tile.0 tile.1 ∙ ap (λ k. slice_index (elements_by_type G) k) same ∙ ap (λ es. slice_index es datatype) fit.elements in
     ap (λ o. option_map length (option_and_then (λ (b : Coll). option_and_then (slice_get b.tiles) (tile_index b.shape.0 b.shape.1 p.i p.j)) o)) c.1

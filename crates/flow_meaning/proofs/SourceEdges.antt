@@ -2,9 +2,9 @@
 use Rattle.std.proofs.Common.{◌≡◌, ℕ, zero, suc, ◌+◌, ℤ, pos, Bool, true, false, not, cond, is_some, ◌&&◌, ◌||◌, List, [], ◌∷◌, ◌++◌, length, map, refl, ap, sym, ◌∙◌, subst, add-zero, Option, Some, None, slice_get, IsSomeAnd, Result, Ok, Err, is_ok, ◌⊎◌, inl, inr, arith}
 use Rattle.std.proofs.lemmas.Bool.{false≢true, and_parts}
 use Rattle.std.specs.Prelude.{option_map}
-use Rattle.std.specs.Result.{result_unwrap_or}
 use Rattle.std.specs.List.{flat_map, list_all, list_any}
 use Rattle.std.specs.Option.{option_map_or}
+use Rattle.std.specs.Result.{result_unwrap_or}
 use Rattle.ptg_base.specs.Lists.{IsIn}
 use Rattle.ptg_base.specs.Task.{Task}
 use Rattle.ptg_base.specs.declared.edge.Edge.{Edge}
@@ -17,7 +17,6 @@ use Rattle.term_core.specs.declared.space.ClassSpace.{ClassSpace}
 use Rattle.term_core.specs.declared.direction.Direction.TheVariants.{In}
 use Rattle.range_space.specs.declared.fault.SpanFault.{SpanFault}
 use Rattle.range_space.specs.declared.fault.SpanFault.TheVariants.{Expr}
-use Rattle.range_space.specs.Tasks.{or_empty}
 use Rattle.list_lemmas.proofs.Members.{IsIn-append_left, IsIn-append_right, IsIn-flat_map, IsIn-map, from_append, member_passes}
 use Rattle.list_lemmas.proofs.Places.{slice_get_there, slice_get_below, IsIn-slice_get}
 use Rattle.list_lemmas.proofs.Options.{none_from_option_map}
@@ -35,7 +34,7 @@ use Rattle.plan_core.specs.Kinds.{is_data}
 use Rattle.dep_iter.specs.declared.source.Source.{Source}
 use Rattle.dep_iter.specs.declared.source.Source.TheVariants as source
 use Rattle.dep_iter.specs.Tasks.{IsTask, flows_of, locals_of, task}
-use Rattle.dep_iter.specs.Active.{active_ins, active_target, by_flow, flow_ins, guard_value, held_targets, held_then, takes_first, target_by, held_target}
+use Rattle.dep_iter.specs.Active.{active_ins, active_target, by_flow, flow_ins, guard_value, held_targets, held_then, target_by, held_target}
 use Rattle.dep_iter.specs.Arguments.{arg_values, combinations, single_value}
 use Rattle.dep_iter.specs.Edges.{data_source, edge, edges_into, in_edges, source_among, source_at}
 use Rattle.dep_iter.specs.Well.{IsWellTask, are_well, first_ill_flow, has_arg, has_arguments, has_hints, ill_part, ill_part_of, is_well_flow, is_well_then}
@@ -46,11 +45,11 @@ use Rattle.dep_iter.proofs.Belonging.{in_edge_is, link_in}
 abbrev listed_number : Result ℤ ExprFault → Result (List ℤ) SpanFault
 listed_number r = and_then (map_fault Expr r) (λ z. Ok (z ∷ []))
 
-one_value : (r : Result ℤ ExprFault) → is_ok (listed_number r) ≡ true → or_empty (listed_number r) ≡ result_unwrap_or r (pos 0) ∷ []
+one_value : (r : Result ℤ ExprFault) → is_ok (listed_number r) ≡ true → result_unwrap_or (listed_number r) [] ≡ result_unwrap_or r (pos 0) ∷ []
 one_value (Ok z) h = refl
 one_value (Err e) h = absurd (false≢true h)
 
-single : (env : List ℤ) (a : Arg) → has_arg env a ≡ true → is_span a ≡ false → or_empty (arg_values a env) ≡ single_value env a ∷ []
+single : (env : List ℤ) (a : Arg) → has_arg env a ≡ true → is_span a ≡ false → result_unwrap_or (arg_values a env) [] ≡ single_value env a ∷ []
 single env (One e) h s = one_value (value e env) h
 single env (Span r) h s = absurd (false≢true (sym s))
 
@@ -118,12 +117,6 @@ plain_args P Read class flow args d h = (and_parts _ _ h).1
 plain_args P Write class flow args d h = absurd (false≢true h)
 plain_args P Rw class flow args d h = (and_parts _ _ h).1
 plain_args P Ctl class flow args d h = absurd (false≢true d)
-
-takes_first-data : (k : FlowKind) → is_data (Some k) ≡ true → takes_first k ≡ true
-takes_first-data Read h = refl
-takes_first-data Write h = refl
-takes_first-data Rw h = refl
-takes_first-data Ctl h = absurd (false≢true h)
 
 -- a target of a flow is one of the active ones
 in_by_flow : (targets : FlowPlan → List Target) (n : ℕ) (fs : List FlowPlan) (i : ℕ) (f : FlowPlan) (x : Target) → slice_get fs i ≡ Some f → IsIn x (targets f) → IsIn {A = ℕ × Target} (n + i, x) (by_flow targets n fs)
@@ -195,11 +188,11 @@ module _ (P : Plan) (t : Task) (task_of_job : IsTask P t) (well : IsWellTask P t
 
   ins_well : are_well true (locals_of P t) f.ins ≡ true
   ins_well =
-      let w = (and_parts (are_well (takes_first f.kind) (locals_of P t) f.ins) (are_well false (locals_of P t) f.outs) is_well).0 in
-      subst (λ b. are_well b (locals_of P t) f.ins ≡ true) (takes_first-data f.kind carries) w
+      let w = (and_parts (are_well (is_data (Some f.kind)) (locals_of P t) f.ins) (are_well false (locals_of P t) f.outs) is_well).0 in
+      subst (λ b. are_well b (locals_of P t) f.ins ≡ true) carries w
 
   ins_first : (xs : List Target) → flow_ins (locals_of P t) f ≡ xs → held_targets true f.ins (locals_of P t) ≡ xs
-  ins_first xs is = subst (λ b. held_targets b f.ins (locals_of P t) ≡ xs) (takes_first-data f.kind carries) is
+  ins_first xs is = subst (λ b. held_targets b f.ins (locals_of P t) ≡ xs) carries is
 
   from_targets : (xs : List Target) (e : Edge) → flow_ins (locals_of P t) f ≡ xs → source_among t (locals_of P t) n xs ≡ source.Task e → IsIn e (in_edges P t)
   unfolding in_edges
@@ -263,7 +256,7 @@ module _ (P : Plan) (t : Task) (task_of_job : IsTask P t) (well : IsWellTask P t
   ]
     where
       back : (xs : List Target) → held_targets true f.ins (locals_of P t) ≡ xs → flow_ins (locals_of P t) f ≡ xs
-      back xs e = subst (λ b. held_targets b f.ins (locals_of P t) ≡ xs) (sym (takes_first-data f.kind carries)) e
+      back xs e = subst (λ b. held_targets b f.ins (locals_of P t) ≡ xs) (sym carries) e
 
   -- an edge into the flow is its source
   pub only_source : (e : Edge) → e.in_flow ≡ n → IsIn e (in_edges P t) → data_source P t n ≡ source.Task e

@@ -45,12 +45,14 @@ wait_rows P G t None =
 unfoldable pub waiting : Plan → Data → List WaitRow
 waiting P G = in_task_order (λ (r : WaitRow). r.task) (flat_map (λ t. wait_rows P G t (ended P G t)) (all_tasks P))
 
+-- the answer, from the tasks that trap, how many of `all` tasks run, those that wait, and the data after the run
+abbrev pub answer_from : List TrapRow → ℕ → ℕ → List WaitRow → Data → Outcome
+answer_from (r ∷ rows) n all waits final = Trapped (r ∷ rows)
+answer_from [] n all waits final = if n == all then Complete all final else Stalled n all waits
+
 -- the answer, where these tasks trap
 abbrev pub answer_by : Plan → Data → List TrapRow → Outcome
-answer_by P G (r ∷ rows) = Trapped (r ∷ rows)
-answer_by P G [] =
-    if length (ran P G) == length (all_tasks P) then Complete (length (all_tasks P)) (final_data P G)
-    else Stalled (length (ran P G)) (length (all_tasks P)) (waiting P G)
+answer_by P G rows = answer_from rows (length (ran P G)) (length (all_tasks P)) (waiting P G) (final_data P G)
 
 -- the answer of a job
 unfoldable pub answer : Plan → Data → Outcome

@@ -1,6 +1,6 @@
 -- What a task computes, backward from the edges into it: no state, no order, no counter. Source: DAGuE (Parallel
 -- Computing, 2012): a task runs on what its sources gave.
-use Rattle.std.specs.Prelude.{ℕ, zero, suc, List, length, Bool, Option, None, if◌then◌else◌}
+use Rattle.std.specs.Prelude.{ℕ, zero, suc, List, length, Bool, Option, None, if◌then◌else◌, ◌≡◌, IsSome}
 use Rattle.std.specs.List.{list_all}
 use Rattle.ptg_base.specs.Entry.{FlowTile}
 use Rattle.ptg_base.specs.Task.{Task}
@@ -36,3 +36,8 @@ ended P G t = ended_within P G (length (all_tasks P)) t
 -- the inputs of a task: the tiles that come to it by edges, each after the number of its flow, in order of flow number
 abbrev pub inputs : Plan → Data → Task → List FlowTile
 inputs P G t = delivered_tiles P (source_tile (ended P G)) t
+
+-- a task that runs, and the tiles that come to it by edges
+pub record MayRun (P : Plan) (G : Data) (t : Task) (arrived : List FlowTile) : Type 0 where
+  pub runs : IsSome (ended P G t)
+  pub inputs : arrived ≡ inputs P G t

@@ -1,7 +1,8 @@
 -- The data after a run of all tasks: each place that a task writes back to has the tile that the task leaves in the
 -- flow of the write-back, each other place its opening tile. Source: the JDF documentation; that a write-back changes
 -- nothing that a task reads is this project's own choice.
-use Rattle.std.specs.Prelude.{ℕ, suc, ℤ, Bool, false, ◌==◌, ◌&&◌, List, [], ◌∷◌, Option, Some, None, unwrap_or, if◌then◌else◌}
+use Rattle.std.specs.Prelude.{ℕ, suc, ℤ, Bool, ◌==◌, ◌&&◌, List, [], ◌∷◌, Option, None, unwrap_or, if◌then◌else◌, Some, nat_eq}
+use Rattle.std.specs.Option.{option_eq}
 use Rattle.ptg_base.specs.declared.place.Place.{Place}
 use Rattle.ptg_base.specs.declared.edge.WriteBack.{WriteBack}
 use Rattle.plan_core.specs.declared.plan.Plan.{Plan}
@@ -12,14 +13,9 @@ use Rattle.dep_iter.specs.Consistent.{all_writes}
 use Rattle.flow_meaning.specs.Ending.{output_tile}
 use Rattle.flow_meaning.specs.Backward.{ended}
 
--- whether an index is this one
-abbrev pub is_index : Option ℕ → ℕ → Bool
-is_index None k = false
-is_index (Some i) k = i == k
-
 -- whether p is the place of tile k of the collection x, whose number is c
 abbrev pub is_place_of : ℕ → Coll → ℕ → Place → Bool
-is_place_of c x k p = p.coll == c && is_index (tile_index x.shape.0 x.shape.1 p.i p.j) k
+is_place_of c x k p = p.coll == c && option_eq nat_eq (tile_index x.shape.0 x.shape.1 p.i p.j) (Some k)
 
 -- the tile that a write-back brings: the one that its task leaves in its flow
 abbrev pub written_tile : Plan → Data → WriteBack → Option (List ℤ)

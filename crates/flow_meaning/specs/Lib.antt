@@ -5,6 +5,7 @@ pub mod Backward
 pub mod Answer
 pub mod Final
 pub mod Machine
+pub mod Numbers
 pub mod Sound
 pub mod Table
 pub mod Order

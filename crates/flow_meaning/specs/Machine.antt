@@ -1,7 +1,8 @@
 -- The event machine of a job: tasks are claimed and items are sent, in any order in which each event is possible.
 -- Source: DAGuE (Parallel Computing, 2012): a task may run once all its dependences have come, and then satisfies those
 -- of its successors.
-use Rattle.std.specs.Prelude.{◌≡◌, ℕ, ℤ, nat_lt, List, [], ◌∷◌, ◌++◌, Bool, IsTrue, Option, None, if◌then◌else◌, Some, true, false, ◌&&◌}
+use Rattle.std.specs.Prelude.{◌≡◌, ℕ, ℤ, nat_lt, List, [], ◌∷◌, ◌++◌, Bool, IsTrue, Option, None, if◌then◌else◌, ◌&&◌}
+use Rattle.std.specs.Option.{option_eq}
 use Rattle.std.specs.Ordering.{int_eq}
 use Rattle.std.specs.Cmp.Lexicographic.{pointwise}
 use Rattle.ptg_base.specs.Lists.{IsIn}
@@ -24,12 +25,13 @@ pub record SentItem : Type 0 where
   pub item : Item
   pub tile : Option (List ℤ)
 
+-- an item with the tile that a task which ends so leaves in the flow of the item
+abbrev pub item_from : Option Ended → Item → SentItem
+item_from end i = record { item = i; tile = output_tile end (item_flow i) }
+
 -- whether two tiles are the same, or both absent
 abbrev pub same_tile : Option (List ℤ) → Option (List ℤ) → Bool
-same_tile None None = true
-same_tile None (Some y) = false
-same_tile (Some x) None = false
-same_tile (Some x) (Some y) = pointwise int_eq x y
+same_tile = option_eq (pointwise int_eq)
 
 -- whether the same item was sent with the same tile
 abbrev pub same_sent_item : SentItem → SentItem → Bool
@@ -71,13 +73,14 @@ abbrev pub first_tile : Item → List SentItem → Option (List ℤ)
 first_tile i [] = None
 first_tile i (x ∷ xs) = if same_item i x.item then x.tile else first_tile i xs
 
--- the tile that was sent with an edge; in a sound state it was sent once at most
-abbrev pub sent_tile : MachineState → Delivery
-sent_tile S e = first_tile (item.Edge e) S.sends
+-- what each edge delivers where these items were sent: the tile that was sent first with it (in a sound state it is sent
+-- at most once)
+abbrev pub sent_tile : List SentItem → Delivery
+sent_tile sends e = first_tile (item.Edge e) sends
 
 -- how a task ends on the tiles that were sent to it
 abbrev pub end_in : Plan → Data → MachineState → Task → Option Ended
-end_in P G S t = ended_on P G (sent_tile S) t
+end_in P G S t = ended_on P G (sent_tile S.sends) t
 
 -- a task is claimed, or an item is sent
 pub data Event : Type 0 where
@@ -105,7 +108,7 @@ IsPossible P G S (Send i) = MaySend P G S i
 
 -- what is sent with an item: the tile that its task leaves in the flow of the item
 abbrev pub sent_with : Plan → Data → MachineState → Item → SentItem
-sent_with P G S i = record { item = i; tile = output_tile (end_in P G S (sender i)) (item_flow i) }
+sent_with P G S i = item_from (end_in P G S (sender i)) i
 
 -- the state after an event
 abbrev pub state_after : Plan → Data → MachineState → Event → MachineState

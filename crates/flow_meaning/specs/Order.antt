@@ -6,8 +6,10 @@ use Rattle.ptg_base.specs.Task.{Task}
 use Rattle.ptg_base.specs.declared.edge.Edge.{Edge}
 use Rattle.list_lemmas.specs.Counting.{HasSameMembers}
 use Rattle.plan_core.specs.declared.plan.Plan.{Plan}
+use Rattle.coll_data.specs.Data.{Data}
 use Rattle.dep_iter.specs.Tasks.{IsTask}
 use Rattle.dep_iter.specs.Edges.{in_edges}
+use Rattle.flow_meaning.specs.Answer.{ran}
 
 -- a task of the job that may come after these tasks: it is none of them, and the source of each edge into it is
 pub record MayFollow (P : Plan) (before : List Task) (t : Task) : Type 0 where
@@ -28,3 +30,7 @@ IsLegalOrder P ts = IsLegalAfter P [] ts
 pub record IsOrderOf (P : Plan) (members ts : List Task) : Type 0 where
   pub legal : IsLegalOrder P ts
   pub all : HasSameMembers ts members
+
+-- a whole order: a legal order of the tasks that run
+abbrev pub IsWholeOrder : Plan → Data → List Task → Type 0
+IsWholeOrder P G ts = IsOrderOf P (ran P G) ts

@@ -12,7 +12,7 @@ use Rattle.dep_iter.specs.Items.{items, item_flow}
 use Rattle.list_lemmas.specs.Counting.{HasSameMembers}
 use Rattle.flow_meaning.specs.Ending.{has_outputs, output_tile}
 use Rattle.flow_meaning.specs.Backward.{ended}
-use Rattle.flow_meaning.specs.Machine.{Event, Happen, MachineState, MayClaim, SentItem, arrived, claim_count, is_sent, opening_state, send_count, sender}
+use Rattle.flow_meaning.specs.Machine.{Event, Happen, MachineState, MayClaim, SentItem, arrived, claim_count, is_sent, opening_state, send_count, sender, item_from}
 
 -- a task of the job all of whose in edges were sent
 pub record HasAllArrived (P : Plan) (S : MachineState) (t : Task) : Type 0 where
@@ -21,7 +21,7 @@ pub record HasAllArrived (P : Plan) (S : MachineState) (t : Task) : Type 0 where
 
 -- an item with the tile that its task leaves in the flow of the item
 abbrev pub with_its_tile : Plan → Data → Item → SentItem
-with_its_tile P G i = record { item = i; tile = output_tile (ended P G (sender i)) (item_flow i) }
+with_its_tile P G i = item_from (ended P G (sender i)) i
 
 -- an item of a claimed task that has outputs by the backward meaning, sent with the tile that the task leaves in the
 -- flow of the item

@@ -21,6 +21,10 @@ use Rattle.dep_iter.specs.Edges.{data_source}
 abbrev pub Delivery : Type 0
 Delivery = Edge → Option (List ℤ)
 
+-- no edge delivers a tile
+abbrev pub nothing_delivered : Delivery
+nothing_delivered e = None
+
 -- a new tile for a flow: as many zeros as the type of the flow has elements
 abbrev pub new_tile : Plan → FlowPlan → List ℤ
 new_tile P f = replicate (slice_index P.elems f.datatype) (pos 0)

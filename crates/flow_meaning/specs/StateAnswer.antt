@@ -1,6 +1,6 @@
 -- The answer of a job as a quiescent state of the event machine has it: by how the claimed tasks end, what was written
 -- back and which tasks wait. Source: this project's own choice.
-use Rattle.std.specs.Prelude.{ℤ, ◌==◌, List, [], ◌∷◌, length, flat_map, Bool, Option, None, if◌then◌else◌}
+use Rattle.std.specs.Prelude.{ℤ, List, [], ◌∷◌, length, flat_map, Bool, Option, None, if◌then◌else◌}
 use Rattle.ptg_base.specs.TaskOrder.{in_task_order}
 use Rattle.ptg_base.specs.declared.place.Place.{Place}
 use Rattle.ptg_base.specs.declared.edge.WriteBack.{WriteBack}
@@ -9,8 +9,7 @@ use Rattle.coll_data.specs.Data.{Data}
 use Rattle.dep_iter.specs.Tasks.{all_tasks}
 use Rattle.flow_meaning.specs.declared.outcome.TrapRow.{TrapRow}
 use Rattle.flow_meaning.specs.declared.outcome.Outcome.{Outcome}
-use Rattle.flow_meaning.specs.declared.outcome.Outcome.TheVariants.{Complete, Trapped, Stalled}
-use Rattle.flow_meaning.specs.Answer.{trap_rows}
+use Rattle.flow_meaning.specs.Answer.{answer_from, trap_rows}
 use Rattle.flow_meaning.specs.Final.{replaced_data}
 use Rattle.flow_meaning.specs.Machine.{MachineState, end_in}
 use Rattle.flow_meaning.specs.Table.{waiting_rows, written}
@@ -30,10 +29,8 @@ state_data G S = replaced_data (λ here. first_written here (written S)) G
 
 -- the answer, where these tasks trap
 abbrev pub state_answer_by : Plan → Data → MachineState → List TrapRow → Outcome
-state_answer_by P G S (r ∷ rows) = Trapped (r ∷ rows)
-state_answer_by P G S [] =
-    if length S.claims == length (all_tasks P) then Complete (length (all_tasks P)) (state_data G S)
-    else Stalled (length S.claims) (length (all_tasks P)) (waiting_rows P S)
+state_answer_by P G S rows =
+    answer_from rows (length S.claims) (length (all_tasks P)) (waiting_rows P S) (state_data G S)
 
 -- the answer of a job, as a quiescent state has it
 unfoldable pub state_answer : Plan → Data → MachineState → Outcome

@@ -24,7 +24,7 @@ entry_of P S t =
       goal = goal P t;
       arrived = arrived P S t;
       priority = priority P t;
-      tiles = delivered_tiles P (sent_tile S) t;
+      tiles = delivered_tiles P (sent_tile S.sends) t;
     }
 
 -- whether a task is not claimed

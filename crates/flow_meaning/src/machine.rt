@@ -37,7 +37,7 @@ pub fn events_keep_states_sound()
 /// for every claimed task. On these the task ends as the backward meaning says.
 pub fn tasks_have_their_inputs()
     ensures inputs { (P : Plan) (G : Data) (S : MachineState) (t : Task) → IsConsistent P → IsSoundState P G S
-        → HasAllArrived P S t → delivered_tiles P (sent_tile S) t ≡ inputs P G t }
+        → HasAllArrived P S t → delivered_tiles P (sent_tile S.sends) t ≡ inputs P G t }
     ensures end { (P : Plan) (G : Data) (S : MachineState) (t : Task) → IsConsistent P → IsSoundState P G S
         → HasAllArrived P S t → ended P G t ≡ end_in P G S t }
     ensures runs { (P : Plan) (G : Data) (S : MachineState) (t : Task) → IsConsistent P → IsSoundState P G S
@@ -57,9 +57,9 @@ pub fn an_edge_arrives_at_its_target()
         → IsSoundState P G S → MaySend P G S (item.Write w)
         → arrived P (state_after P G S (Send (item.Write w))) t ≡ arrived P S t }
     ensures tile { (P : Plan) (G : Data) (S : MachineState) (e : Edge) → MaySend P G S (item.Edge e)
-        → sent_tile (state_after P G S (Send (item.Edge e))) e ≡ output_tile (end_in P G S e.from) e.out_flow }
+        → sent_tile (state_after P G S (Send (item.Edge e))).sends e ≡ output_tile (end_in P G S e.from) e.out_flow }
     ensures tiles { (P : Plan) (G : Data) (S : MachineState) (i : Item) (d : Edge) → i ≢ item.Edge d
-        → sent_tile (state_after P G S (Send i)) d ≡ sent_tile S d }
+        → sent_tile (state_after P G S (Send i)).sends d ≡ sent_tile S.sends d }
 {}
 
 /// A law: a sound state is quiescent exactly where no task may be claimed and each claimed task does no more.

@@ -21,69 +21,7 @@ pub const PAIR_ANSWER: &[u8] = b"complete,2
 tile,D,0,0
 ";
 
-/// The shape of a tiled Cholesky factorization, with what a reader skips.
-pub const CHOLESKY: &[u8] = b"extern \"C\" %{
-#include <stdio.h>
-%}
-%option no_taskpool_instance = true
-/* tiled Cholesky */ // lower
-D [type = \"parsec_data_collection_t*\"]
-NT [type = int]
-
-potrf(k) [high_priority = on]
-k = 0 .. NT-1
-: D(k, k)
-RW T <- (k == 0) ? D(k, k) : T herk(k-1, k)
-     -> T trsm(k, k+1 .. NT-1)
-     -> D(k, k)
-; NT - k
-BODY
-T[0] = T[0] + 1; T[1] = T[1] + k; T[2] = 1;
-END
-
-trsm(k, m)
-k = 0 .. NT-2
-m = k+1 .. NT-1
-: D(m, k)
-READ T <- T potrf(k)
-RW C <- (k == 0) ? D(m, k) : C gemm(k-1, m, k)
-     -> A herk(k, m)
-     -> A gemm(k, m, k+1 .. m-1)
-     -> B gemm(k, m+1 .. NT-1, m)
-     -> D(m, k)
-BODY
-if (T[2] != 1) { trap order; }
-C[0] = C[0] + 1; C[1] = C[1] + k; C[2] = 1;
-END
-
-herk(k, m)
-k = 0 .. NT-2
-m = k+1 .. NT-1
-: D(m, m)
-READ A <- C trsm(k, m)
-RW T <- (k == 0) ? D(m, m) : T herk(k-1, m)
-     -> (m == k+1) ? T potrf(m) : T herk(k+1, m)
-BODY
-if (A[2] != 1) { trap order; }
-T[0] = T[0] + 1; T[1] = T[1] + k;
-END
-
-gemm(k, m, n)
-k = 0 .. NT-3
-m = k+2 .. NT-1
-n = k+1 .. m-1
-: D(m, n)
-READ A <- C trsm(k, m)
-READ B <- C trsm(k, n)
-RW C <- (k == 0) ? D(m, n) : C gemm(k-1, m, n)
-     -> (n == k+1) ? C trsm(n, m) : C gemm(k+1, m, n) [type = DEFAULT]
-BODY
-if (A[2] + B[2] != 2) { trap order; }
-C[0] = C[0] + 1; C[1] = C[1] + k;
-END
-";
-
-/// The data of four rows of tiles.
+/// The data of the made job of four rows of tiles.
 pub const CHOLESKY_DATA: &[u8] = b"elems,3
 int,NT,4
 coll,D,4,4

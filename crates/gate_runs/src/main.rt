@@ -14,10 +14,11 @@ mod runs;
 
 use crate::command::carried_out;
 use crate::counting::Counting;
-use crate::jobs::{CHOLESKY, CHOLESKY_ANSWER, CHOLESKY_DATA, PAIR, PAIR_ANSWER, PAIR_DATA};
+use crate::jobs::{CHOLESKY_ANSWER, CHOLESKY_DATA, PAIR, PAIR_ANSWER, PAIR_DATA};
 use crate::meeting::Meeting;
 use crate::noting::Noting;
 use crate::runs::{Job, ran, traced};
+use job_gen::JDF;
 use ptg_base::OutOfMemory;
 use ptg_os::words;
 use ptg_top::Status;
@@ -45,7 +46,7 @@ fn meet<R: Threads + Wait + Print + Sync>(rt: &R, alloc: Global) -> io::Result<(
 // Each body of the Cholesky job with four rows of tiles is counted.
 fn count<R: Threads + Wait + Print + Sync>(rt: &R, alloc: Global, options: &str) -> io::Result<()> {
     let job = Job {
-        jdf: CHOLESKY,
+        jdf: JDF,
         data: CHOLESKY_DATA,
         answer: CHOLESKY_ANSWER,
     };
@@ -62,7 +63,7 @@ fn count<R: Threads + Wait + Print + Sync>(rt: &R, alloc: Global, options: &str)
 // The tasks of the Cholesky job are noted in the order in which one worker runs them, and its trace must be that order.
 fn note<R: Threads + Wait + Print + Sync>(rt: &R, alloc: Global, options: &str) -> io::Result<()> {
     let job = Job {
-        jdf: CHOLESKY,
+        jdf: JDF,
         data: CHOLESKY_DATA,
         answer: b"",
     };

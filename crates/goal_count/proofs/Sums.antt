@@ -11,7 +11,8 @@ use Rattle.plan_core.specs.declared.plan.Plan.{Plan}
 use Rattle.plan_core.specs.declared.target.Target.{Target}
 use Rattle.plan_core.specs.declared.target.Target.TheVariants as target
 use Rattle.dep_iter.specs.Tasks.{flows_of, locals_of}
-use Rattle.dep_iter.specs.Active.{by_flow, flow_ins, takes_first}
+use Rattle.term_core.specs.Kinds.{is_data}
+use Rattle.dep_iter.specs.Active.{by_flow, flow_ins}
 use Rattle.dep_iter.specs.Edges.{in_edges}
 use Rattle.dep_iter.specs.Arguments.{combinations, product}
 use Rattle.dep_iter.specs.Links.{all_links, edge_in, flow_targets, link, links_to, task_links}
@@ -54,7 +55,7 @@ length-by_flow env n [] = refl
 length-by_flow env n (f ∷ fs) =
     let e = length-numbered env n (flow_ins env f) (by_flow (flow_targets In env) (suc n) fs) in
     let g = length-by_flow env (suc n) fs in
-    let h = sum_by-cons (λ (f : FlowPlan). held_count (takes_first f.kind) f.ins env) f fs in
+    let h = sum_by-cons (λ (f : FlowPlan). held_count (is_data f.kind) f.ins env) f fs in
     omega arith
 
 -- the number of links of the in dependences of a task

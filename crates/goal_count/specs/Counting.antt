@@ -6,7 +6,8 @@ use Rattle.plan_core.specs.declared.flow.DepPlan.{DepPlan}
 use Rattle.plan_core.specs.declared.flow.FlowPlan.{FlowPlan}
 use Rattle.plan_core.specs.declared.target.Target.{Target}
 use Rattle.plan_core.specs.declared.target.Target.TheVariants as target
-use Rattle.dep_iter.specs.Active.{held_targets, takes_first}
+use Rattle.term_core.specs.Kinds.{is_data}
+use Rattle.dep_iter.specs.Active.{held_targets}
 use Rattle.dep_iter.specs.Arguments.{combinations}
 
 -- k is the number n, or both are over 4,000,000, the most edges that a job may have
@@ -26,4 +27,4 @@ held_count first_only ds env = sum_by (target_count env) (held_targets first_onl
 
 -- how many go into these flows
 abbrev pub flows_count : List ℤ → List FlowPlan → ℕ
-flows_count env fs = sum_by (λ (f : FlowPlan). held_count (takes_first f.kind) f.ins env) fs
+flows_count env fs = sum_by (λ (f : FlowPlan). held_count (is_data f.kind) f.ins env) fs

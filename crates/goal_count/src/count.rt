@@ -1,10 +1,10 @@
 //! The number of edges into a task: 1 for each plain edge, and for a gather the product of the counts of its ranges.
 //! Counts stop at the greatest number of their type.
 
-ghost use Rattle.std.specs.Prelude.{◌≡◌, IsTrue, length};
+ghost use Rattle.std.specs.Prelude.{◌≡◌, [], IsTrue, length};
 ghost use Rattle.std.specs.List.{list_all};
+ghost use Rattle.std.specs.Result.{result_unwrap_or};
 ghost use Rattle.range_space.specs.Fault.{range_values};
-ghost use Rattle.range_space.specs.Tasks.{or_empty};
 ghost use Rattle.dep_iter.specs.Arguments.{arg_values, combinations};
 ghost use Rattle.dep_iter.specs.Edges as edges;
 ghost use Rattle.dep_iter.specs.Tasks as tasks;
@@ -24,7 +24,7 @@ use term_core::Range;
 
 // How many values a range has.
 fn value_count(range: &Range, env: &[i64]) -> u64
-    ensures { IsCount result (length (or_empty (range_values range.now env.now))) }
+    ensures { IsCount result (length (result_unwrap_or (range_values range.now env.now) [])) }
 {
     match steps_of(range, env) {
         Ok(steps) => steps.count().min(u128::from(u64::MAX)) as u64,
@@ -35,7 +35,7 @@ fn value_count(range: &Range, env: &[i64]) -> u64
 // How many values an argument has that has its values. What is no range has one, which is not evaluated.
 fn arg_count(arg: &Arg, env: &[i64]) -> u64
     requires { IsTrue (has_arg env.now arg.now) }
-    ensures { IsCount result (length (or_empty (arg_values arg.now env.now))) }
+    ensures { IsCount result (length (result_unwrap_or (arg_values arg.now env.now) [])) }
 {
     match arg {
         Arg::One(_) => 1,
@@ -95,7 +95,7 @@ fn flows_count(flows: &[FlowPlan], env: &[i64]) -> u64
     let Some((flow, others)) = flows.split_first() else {
         return 0;
     };
-    let here = held_count(flow.kind.takes_first(), flow.ins.as_slice(), env);
+    let here = held_count(flow.kind.is_data(), flow.ins.as_slice(), env);
     here.saturating_add(flows_count(others, env))
 }
 

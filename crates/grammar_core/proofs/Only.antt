@@ -2,11 +2,12 @@
 use Rattle.std.proofs.Common.{◌≡◌, ℕ, suc, ◌≤◌, arith, Bool, true, false, cond, List, [], ◌∷◌, length, Ok, Err, refl, inl, inr, ap, ◌∙◌}
 use Rattle.std.specs.Prelude.{Option, Some, None, ◌-◌, nat_lt, ◌&&◌, ◌||◌, not}
 use Rattle.std.proofs.lemmas.Bool.{and_parts, and_from, not-true, both_ways, cases_Bool, cond-true, cond-false, ltb-true}
+use Rattle.std.specs.Option.{option_or}
 use Rattle.grammar_core.specs.Terminals.{Terminal}
 use Rattle.grammar_core.specs.declared.token.Token.{Token}
 use Rattle.grammar_core.specs.declared.code.Code.{Code}
 use Rattle.grammar_core.specs.Terminals.{terminal_of, are_disjoint, is_within}
-use Rattle.grammar_core.specs.Production.{Production, one_of, checked, seq, map, alt, opt, star, pick, after_token, limited, Language, Fault, then_fault, or_fault, at_start, bad_unless, cut_at, taken, IsOne, Many, Derives}
+use Rattle.grammar_core.specs.Production.{Production, one_of, checked, seq, map, alt, opt, star, pick, after_token, limited, Language, Fault, then_fault, at_start, bad_unless, cut_at, taken, IsOne, Many, Derives}
 use Rattle.grammar_core.specs.Reading.{◌>>=◌, Read, refuse, check, judge, may_be_empty, first, starts, picks, token_at, many_at, run, fault_from_end}
 use Rattle.grammar_core.specs.Predictive.{Claims, continuing, alone, second, both_first, is_fine}
 use Rattle.grammar_core.proofs.Sets.{starts_disjoint, starts_into}
@@ -54,7 +55,7 @@ fits_then s m r None None a b = (omega (arith, a.0, b.0), tt)
 fits_then s m r None (Some f) a b = (omega (arith, a.0, b.0), omega (arith, a.0, b.0, b.1))
 fits_then s m r (Some f) y a b = (omega (arith, a.0, b.0), omega (arith, a.0, b.0, a.1))
 
-fits_start : (d : Option Code) (s m : List Token) (x : Fault) → Fits s x m → Fits s (or_fault (at_start d) x) m
+fits_start : (d : Option Code) (s m : List Token) (x : Fault) → Fits s x m → Fits s (option_or (at_start d) x) m
 fits_start None s m x a = a
 fits_start (Some c) s m x a = (a.0, omega arith)
 
@@ -73,7 +74,7 @@ fits_cut l c s r (Some f) a = (a.0, go (nat_lt l f.0) refl)
 many_fits : {A : Type 0} (full : ℕ → Option Code) (G : Language A) → ((s : List Token) (t : A) (o : Fault) (r : List Token) → G s t o r → Fits s o r) → (i : ℕ) (ts : List A) (s : List Token) (o : Fault) (r : List Token) → Many full G i s ts o r → Fits s o r
 many_fits full G f i [] s o r h = rw (h.0, h.1) (omega arith, tt)
 many_fits full G f i (t ∷ ts) s o r h =
-    rw h.5 (fits_then s h.0 r (or_fault (at_start (full i)) h.1) h.2 (fits_start (full i) s h.0 h.1 (f s t h.1 h.0 h.3)) (many_fits full G f (suc i) ts h.0 h.2 r h.4))
+    rw h.5 (fits_then s h.0 r (option_or (at_start (full i)) h.1) h.2 (fits_start (full i) s h.0 h.1 (f s t h.1 h.0 h.3)) (many_fits full G f (suc i) ts h.0 h.2 r h.4))
 
 pub fits : {N : Type 0} {Tree : N → Type 0} (R : (n : N) → Language (Tree n)) → ((n : N) (s : List Token) (t : Tree n) (o : Fault) (r : List Token) → R n s t o r → Fits s o r) → {A : Type 0} (g : Production N Tree A) (s : List Token) (t : A) (o : Fault) (r : List Token) → Derives R g s t o r → Fits s o r
 fits R hR (one_of q) s t o r h = rw (h.0.0, h.1) (omega arith, tt)
@@ -106,7 +107,7 @@ map_outcome : {A B : Type 0} (f : A → B) (s : List Token) (a : A) (o : Fault) 
 map_outcome f s a None r = refl
 map_outcome f s a (Some d) r = refl
 
-refuse_outcome : {A : Type 0} (d : Option Code) (s : List Token) (t : A) (read : Read A) (x : Fault) (m : List Token) (y : Fault) (r : List Token) → read ≡ outcome s t (then_fault x (taken s m) y) r → refuse d s read ≡ outcome s t (then_fault (or_fault (at_start d) x) (taken s m) y) r
+refuse_outcome : {A : Type 0} (d : Option Code) (s : List Token) (t : A) (read : Read A) (x : Fault) (m : List Token) (y : Fault) (r : List Token) → read ≡ outcome s t (then_fault x (taken s m) y) r → refuse d s read ≡ outcome s t (then_fault (option_or (at_start d) x) (taken s m) y) r
 refuse_outcome None s t read x m y r e = e
 refuse_outcome (Some c) s t read x m y r e = ap (λ (n : ℕ). Err (fault_from_end n c)) (omega arith)
 

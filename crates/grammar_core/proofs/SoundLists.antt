@@ -1,12 +1,13 @@
 -- A list is read soundly.
 use Rattle.std.proofs.Common.{◌≡◌, ℕ, zero, suc, ◌<◌, ◌≤◌, Bool, true, false, List, [], ◌∷◌, ◌++◌, length, Ok, Err, refl, inl, inr, sym, ap, ◌∙◌, append_assoc, length-append, arith, subst}
 use Rattle.std.specs.Prelude.{Option, Some, None}
+use Rattle.std.specs.Option.{option_or}
 use Rattle.grammar_core.specs.declared.fault.ReadFault.{ReadFault}
 use Rattle.grammar_core.specs.Terminals.{Terminal}
 use Rattle.grammar_core.specs.declared.token.Token.{Token}
 use Rattle.grammar_core.specs.declared.code.Code.{Code}
 use Rattle.grammar_core.specs.declared.code.Code.TheVariants.{Syntax}
-use Rattle.grammar_core.specs.Production.{Language, Fault, then_fault, or_fault, at_start, taken, Many}
+use Rattle.grammar_core.specs.Production.{Language, Fault, then_fault, at_start, taken, Many}
 use Rattle.grammar_core.specs.Reading.{◌>>=◌, Read, refuse, starts, many_at, fault_from_end}
 use Rattle.grammar_core.proofs.ReadCases.{bind_ok, bind_err, refuse_ok, refuse_err}
 use Rattle.grammar_core.proofs.Fuel.{Consumes, many_is}
@@ -69,7 +70,7 @@ module _ {A : Type 0} (full : ℕ → Option Code) (G : Language A) (p : List To
   -- one more element, where it is not too many
   many_derive : (i : ℕ) (w m z : List Token) (n : ℕ) (a : A) (b : List A) (x y : Fault) → full i ≡ None → length w ≡ n → G (w ++ m) a x m → Many full G (suc i) m b y z → Many full G i (w ++ m) (a ∷ b) (then_fault x n y) z
   many_derive i w m z n a b x y none e g h =
-      (m, x, y, g, h, ap (λ (k : ℕ). then_fault x k y) (sym (taken_is w m ∙ e)) ∙ ap (λ (d : Option Code). then_fault (or_fault (at_start d) x) (taken (w ++ m) m) y) (sym none))
+      (m, x, y, g, h, ap (λ (k : ℕ). then_fault x k y) (sym (taken_is w m ∙ e)) ∙ ap (λ (d : Option Code). then_fault (option_or (at_start d) x) (taken (w ++ m) m) y) (sym none))
 
   many_accepted : (i : ℕ) (s : List Token) (a : A × List Token) (b : List A × List Token) → starts f s ≡ true → full i ≡ None → Accepted G p s a → Accepted (Many full G (suc i)) (many (suc i)) a.1 b → Accepted (Many full G i) (many i) s (a.0 ∷ b.0, b.1)
   many_accepted i s a b t none g h =
@@ -138,7 +139,7 @@ module _ {A : Type 0} (full : ℕ → Option Code) (G : Language A) (p : List To
         fault = λ z. Some (0, c);
         late = λ z. subst (λ (d : Code). Late d 0 (Some (0, c))) (sym code) (late_here c 0);
         extends = λ d. record { head = x; rest_tail = m; more_tail = l.more; rest_is = refl; more_is = refl };
-        derives = λ z. (z, l.fault z, None, l.derives z, (refl, refl), ap (λ (d : Option Code). then_fault (or_fault (at_start d) (l.fault z)) (taken (x ∷ (l.more ++ z)) z) None) (sym is));
+        derives = λ z. (z, l.fault z, None, l.derives z, (refl, refl), ap (λ (d : Option Code). then_fault (option_or (at_start d) (l.fault z)) (taken (x ∷ (l.more ++ z)) z) None) (sym is));
         same = λ r same.
             let go : starts f r ≡ true = sym (starts_same f (x ∷ m) r same) ∙ t in
             many_is full f p consumes i r ∙ rw (go, is) (ap (λ (d : Code). Err (fault_from_end (length r) d)) (sym code));

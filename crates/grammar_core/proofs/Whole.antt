@@ -3,12 +3,13 @@ use Rattle.std.proofs.Common.{◌≡◌, ◌≢◌, ℕ, zero, suc, ◌+◌, ◌
 use Rattle.std.specs.Prelude.{Option, Some, None, nat_lt, ◌==◌, not}
 use Rattle.std.proofs.lemmas.Bool.{and_parts, not-true, both_ways, eqb-true, eqb-false, cases_lt, cases_order}
 use Rattle.std.proofs.lemmas.List.{take_at, drop_at, length-append, nil_from_length, take-append-drop, take-take, take-append-le, length-take-le}
+use Rattle.std.specs.Option.{option_or}
 use Rattle.grammar_core.specs.declared.fault.ReadFault.{ReadFault}
 use Rattle.grammar_core.specs.declared.token.Token.{Token}
 use Rattle.grammar_core.specs.Terminals.{is_within}
 use Rattle.grammar_core.specs.declared.code.Code.{Code}
 use Rattle.grammar_core.specs.declared.code.Code.TheVariants.{Syntax}
-use Rattle.grammar_core.specs.Production.{Production, one_of, checked, seq, map, alt, opt, star, pick, after_token, limited, Language, Fault, then_fault, or_fault, at_start, bad_unless, cut_at, taken, Many, IsFrom, Derives, DerivedWithin, Derived, IsText, Begins, IsSyntaxFault, IsLimitFault, IsFirstFault}
+use Rattle.grammar_core.specs.Production.{Production, one_of, checked, seq, map, alt, opt, star, pick, after_token, limited, Language, Fault, then_fault, at_start, bad_unless, cut_at, taken, Many, IsFrom, Derives, DerivedWithin, Derived, IsText, Begins, IsSyntaxFault, IsLimitFault, IsFirstFault}
 use Rattle.grammar_core.specs.Reading.{may_be_empty, first, starts, nonterminal_within, nonterminal_at, reading, whole, fault_from_end}
 use Rattle.grammar_core.specs.Predictive.{Claims, continuing, is_limit, are_limits, is_fine, has_plain, are_names}
 pub use Rattle.grammar_core.specs.Predictive.{LimitsOnly}
@@ -52,7 +53,7 @@ not_then None None n a b = tt
 not_then None (Some f) n a b = b
 not_then (Some f) y n a b = a
 
-not_start : (o : Option Code) (x : Fault) → are_limits o ≡ true → NotSyntax x → NotSyntax (or_fault (at_start o) x)
+not_start : (o : Option Code) (x : Fault) → are_limits o ≡ true → NotSyntax x → NotSyntax (option_or (at_start o) x)
 not_start None x h a = a
 not_start (Some d) x h a = limit_is d h
 
@@ -74,7 +75,7 @@ not_bad false c h = limit_is c h
 
 many_limits : {A : Type 0} (full : ℕ → Option Code) (G : Language A) → ((i : ℕ) → are_limits (full i) ≡ true) → ((s : List Token) (t : A) (o : Fault) (r : List Token) → G s t o r → NotSyntax o) → (i : ℕ) (ts : List A) (s : List Token) (o : Fault) (r : List Token) → Many full G i s ts o r → NotSyntax o
 many_limits full G l f i [] s o r h = rw h.1 tt
-many_limits full G l f i (t ∷ ts) s o r h = rw h.5 (not_then (or_fault (at_start (full i)) h.1) h.2 (taken s h.0) (not_start (full i) h.1 (l i) (f s t h.1 h.0 h.3)) (many_limits full G l f (suc i) ts h.0 h.2 r h.4))
+many_limits full G l f i (t ∷ ts) s o r h = rw h.5 (not_then (option_or (at_start (full i)) h.1) h.2 (taken s h.0) (not_start (full i) h.1 (l i) (f s t h.1 h.0 h.3)) (many_limits full G l f (suc i) ts h.0 h.2 r h.4))
 
 limits : {N : Type 0} {Tree : N → Type 0} (R : (n : N) → Language (Tree n)) → ((n : N) (s : List Token) (t : Tree n) (o : Fault) (r : List Token) → R n s t o r → NotSyntax o) → {A : Type 0} (g : Production N Tree A) → LimitsOnly g → (s : List Token) (t : A) (o : Fault) (r : List Token) → Derives R g s t o r → NotSyntax o
 limits R hR (one_of q) l s t o r h = rw h.1 tt

@@ -1,5 +1,5 @@
 -- The test for predictive grammars: those that one token of lookahead reads. Source: the field's LL(1) grammars.
-use Rattle.std.specs.Prelude.{◌≡◌, ℕ, Option, Some, None, Bool, true, false, ◌&&◌, ◌||◌, not}
+use Rattle.std.specs.Prelude.{◌≡◌, ℕ, Option, Some, None, Bool, true, false, ◌&&◌, ◌||◌, not, is_none}
 use Rattle.grammar_core.specs.Terminals.{Terminal}
 use Rattle.grammar_core.specs.declared.code.Code.{Code}
 use Rattle.grammar_core.specs.declared.code.Code.TheVariants.{Syntax}
@@ -58,11 +58,6 @@ second c a (limited l d g) k = second c a g k
 abbrev pub both_first : {N : Type 0} {Tree : N → Type 0} {A : Type 0} → Production N Tree A → Production N Tree A
     → Terminal → Bool
 both_first g h k = first g k && first h k
-
--- Whether there is no value.
-abbrev pub is_none : {A : Type 0} → Option A → Bool
-is_none None = true
-is_none (Some x) = false
 
 -- Whether the code is one of a limit, and not Syntax.
 abbrev pub is_limit : Code → Bool

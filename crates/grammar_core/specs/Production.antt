@@ -3,6 +3,7 @@
 -- Source: the field's context-free grammars with synthesized attributes. That the first fault counts, and limits, are
 -- this project's own choice.
 use Rattle.std.specs.Prelude.{◌≡◌, ℕ, zero, suc, Bool, true, false, List, [], ◌∷◌, Option, Some, None, ◌⊎◌, ◌++◌, ◌≤◌, ◌<◌, ◌+◌, ◌-◌, length, take, nat_lt, if◌then◌else◌}
+use Rattle.std.specs.Option.{option_or}
 use Rattle.grammar_core.specs.declared.token.Token.{Token}
 use Rattle.grammar_core.specs.Terminals.{Terminal}
 use Rattle.grammar_core.specs.Terminals.{terminal_of}
@@ -52,11 +53,6 @@ then_fault (Some f) n o = Some f
 then_fault None n None = None
 then_fault None n (Some f) = Some (n + f.0, f.1)
 
--- the first fault if there is one, or else the second
-abbrev pub or_fault : Fault → Fault → Fault
-or_fault None o = o
-or_fault (Some f) o = Some f
-
 -- a fault at the first token, if there is a code
 abbrev pub at_start : Option Code → Fault
 at_start None = None
@@ -96,7 +92,7 @@ abbrev pub Many : {A : Type 0} → (ℕ → Option Code) → Language A → ℕ 
 Many full G i s [] o r = (s ≡ r) × (o ≡ None)
 Many full G i s (a ∷ more) o r =
     (m : List Token) × (x y : Fault) × G s a x m × Many full G (suc i) m more y r
-    × (o ≡ then_fault (or_fault (at_start (full i)) x) (taken s m) y)
+    × (o ≡ then_fault (option_or (at_start (full i)) x) (taken s m) y)
 
 -- The production derives the tokens of s before the rest r, with the tree t and the first fault o, where R are the
 -- languages of the nonterminals.

@@ -1,5 +1,6 @@
 -- Reading tokens from left to right with one token of lookahead: recursive descent, computed from the grammar.
 use Rattle.std.specs.Prelude.{ℕ, zero, suc, Bool, true, false, List, [], ◌∷◌, Option, Some, None, ◌-◌, length, nat_lt, Result, Ok, Err, if◌then◌else◌, ◌&&◌, ◌||◌, ◌==◌}
+use Rattle.ptg_base.specs.Returns.{and_then}
 use Rattle.grammar_core.specs.declared.token.Token.{Token}
 use Rattle.grammar_core.specs.Terminals.{Terminal}
 use Rattle.grammar_core.specs.Terminals.{terminal_of}
@@ -16,11 +17,10 @@ fault_from_end left code = record { left = left; code = code }
 abbrev pub Read : Type 0 → Type 0
 Read A = Result (A × List Token) ReadFault
 
--- `r >>= next` is what `next` gives for the value of r, or the fault of r.
+-- `r >>= next` is what `next` gives for the value of r, or the fault of r: `and_then`, between the two.
 infixl 10 ◌>>=◌
 abbrev pub ◌>>=◌ : {A B : Type 0} → Result A ReadFault → (A → Result B ReadFault) → Result B ReadFault
-(Ok x) >>= f = f x
-(Err e) >>= f = Err e
+r >>= next = and_then r next
 
 -- Whether a text of this production may be empty.
 abbrev pub may_be_empty : {N : Type 0} {Tree : N → Type 0} {A : Type 0} → Production N Tree A → Bool

@@ -1,5 +1,5 @@
 -- The codes that the grammar of JDF states, and their numbers. Source: this project's own choice.
-use Rattle.std.specs.Prelude.{ℕ, List, [], ◌∷◌, slice_get, Option, Some, None}
+use Rattle.std.specs.Prelude.{ℕ, List, [], ◌∷◌, slice_get, unwrap_or}
 use Rattle.grammar_core.specs.declared.code.Code.{Code}
 use Rattle.grammar_core.specs.declared.code.Code.TheVariants.{Stated}
 use Rattle.jdf_alphabet.specs.declared.code.GrammarCode.{GrammarCode}
@@ -23,14 +23,9 @@ all_codes =
     grammar.BadNumber ∷ grammar.ExprTooLong ∷ grammar.TooManyClasses ∷ grammar.TooManyParams ∷ grammar.TooManyLocals
     ∷ grammar.TooManyFlows ∷ grammar.TooManyDeps ∷ grammar.TooDeep ∷ grammar.TooManyVars ∷ []
 
--- a code, or BadNumber where there is none (a grammar states no other number)
-abbrev pub or_bad_number : Option GrammarCode → GrammarCode
-or_bad_number None = grammar.BadNumber
-or_bad_number (Some c) = c
-
--- The code with this number; BadNumber where there is none.
+-- The code with this number; BadNumber where there is none (a grammar states no other number).
 unfoldable pub code_at : ℕ → GrammarCode
-code_at n = or_bad_number (slice_get all_codes n)
+code_at n = unwrap_or (slice_get all_codes n) grammar.BadNumber
 
 -- a code as the grammar states it; the definitions below are the codes by name
 abbrev pub stated : GrammarCode → Code

@@ -1,6 +1,6 @@
 -- The terminals of JDF: how they are spelled (source: the JDF documentation), and their numbers (this project's own
 -- choice).
-use Rattle.std.specs.Prelude.{ℕ, Bool, List, [], ◌∷◌, ◌==◌, if◌then◌else◌, codes, slice_get, Option, Some, None}
+use Rattle.std.specs.Prelude.{ℕ, Bool, List, [], ◌∷◌, ◌==◌, if◌then◌else◌, codes, slice_get, unwrap_or}
 use Rattle.std.specs.Str.{bytes_eq}
 use Rattle.grammar_core.specs.declared.token.Token.{Token}
 use Rattle.grammar_core.specs.Terminals as numbered
@@ -108,14 +108,9 @@ all_terminals =
 abbrev pub is : Terminal → Terminal → Bool
 is a b = number_of a == number_of b
 
--- a terminal, or Other where there is none
-abbrev pub or_other : Option Terminal → Terminal
-or_other None = Other
-or_other (Some k) = k
-
 -- The terminal with this number; Other where there is none.
 unfoldable pub terminal_at : ℕ → Terminal
-terminal_at n = or_other (slice_get all_terminals n)
+terminal_at n = unwrap_or (slice_get all_terminals n) Other
 
 -- The terminal of a token, by its number.
 abbrev pub terminal_of : Token → Terminal

@@ -1,7 +1,7 @@
 //! The terminals of the grammar.
 
-ghost use Rattle.std.specs.Prelude.{◌≡◌, map, slice_get};
-ghost use Rattle.jdf_alphabet.specs.Terminals.{number_of, or_other, spelled, terminal_by, terminal_of};
+ghost use Rattle.std.specs.Prelude.{◌≡◌, map, slice_get, unwrap_or};
+ghost use Rattle.jdf_alphabet.specs.Terminals.{number_of, spelled, terminal_by, terminal_of};
 
 use crate::kind::TokenKind;
 use grammar_core::Token;
@@ -238,7 +238,7 @@ fn spelled(table: &[(&[u8], Terminal)], text: &[u8], other: Terminal) -> Termina
 
 // The terminal at this index; `Other` where there is none.
 fn entry(table: &[Terminal], index: usize) -> Terminal
-    ensures { result ≡ or_other (slice_get table.now index) }
+    ensures { result ≡ unwrap_or (slice_get table.now index) Terminal.Other }
 {
     match table.get(index) {
         Some(terminal) => *terminal,

@@ -1,9 +1,10 @@
 -- A unit with a closing mark ends at the first byte that ends it.
 use Rattle.std.proofs.Common.{◌≡◌, ℕ, suc, ◌+◌, ◌<◌, ◌≤◌, Bool, true, List, [], ◌∷◌, ◌++◌, length, take, Option, Some, None, refl, sym, ◌∙◌, subst, inl, inr, arith}
 use Rattle.std.proofs.lemmas.Bool.{cases_Bool, false≢true, cond-true, cond-false}
+use Rattle.std.specs.Option.{option_map}
 use Rattle.jdf_lex.specs.declared.lexical_unit.LexicalUnit.{LexicalUnit}
 use Rattle.jdf_lex.specs.Spelling.{ends_unit, affects_next, is_empty, is_closed}
-use Rattle.jdf_lex.specs.Reading.{closed_len, add_length}
+use Rattle.jdf_lex.specs.Reading.{closed_len}
 use Rattle.list_lemmas.proofs.Truth.{chosen}
 
 abbrev Length : Type 0
@@ -18,11 +19,11 @@ no_length = None
 pub one_more : (n : ℕ) → suc n ≡ 1 + n
 one_more n = omega arith
 
-pub add_length_found : (n : ℕ) (o : Length) (m : ℕ) → add_length n o ≡ some_length m → (k : ℕ) × (o ≡ some_length k) × (m ≡ n + k)
+pub add_length_found : (n : ℕ) (o : Length) (m : ℕ) → option_map (λ len. n + len) o ≡ some_length m → (k : ℕ) × (o ≡ some_length k) × (m ≡ n + k)
 add_length_found n None m e = absurd (cc)
 add_length_found n (Some k) m e = (k, refl, cc)
 
-pub add_length_none : (n : ℕ) (o : Length) → add_length n o ≡ no_length → o ≡ no_length
+pub add_length_none : (n : ℕ) (o : Length) → option_map (λ len. n + len) o ≡ no_length → o ≡ no_length
 add_length_none n None e = refl
 add_length_none n (Some k) e = absurd (cc)
 
@@ -35,7 +36,7 @@ pub closed_found : (p : LexicalUnit) (h : Bool) (xs : List ℕ) (m : ℕ) → cl
 closed_found p h [] m e = absurd (cc)
 closed_found p h (b ∷ bs) m e =
     let affected = affects_next p h b in
-    elim (chosen (ends_unit p h b) (some_length 1) (add_length 1 (closed_len p affected bs)) (some_length m) e) [
+    elim (chosen (ends_unit p h b) (some_length 1) (option_map (λ len. 1 + len) (closed_len p affected bs)) (some_length m) e) [
       | inl ends ↦
           let one : 1 ≡ m = (let same : some_length 1 ≡ some_length m = ends.1 in cc) in
           subst (λ n. IsClosedIn p h (b ∷ bs) n) one
@@ -82,7 +83,7 @@ closed_none p h (x ∷ xs) e (b ∷ w) after is closed =
     let t = ends_unit p h x in
     let affected = affects_next p h x in
     let here : is_closed p h (x ∷ w) ≡ true = subst (λ z. is_closed p h (z ∷ w) ≡ true) (sym heads) closed in
-    elim (chosen t (some_length 1) (add_length 1 (closed_len p affected xs)) no_length e) [
+    elim (chosen t (some_length 1) (option_map (λ len. 1 + len) (closed_len p affected xs)) no_length e) [
       | inl ends ↦ (let never : some_length 1 ≡ no_length = ends.1 in cc)
       | inr goes ↦ closed_none p affected xs (add_length_none 1 (closed_len p affected xs) goes.1) w after tails (sym (cond-false t (is_empty w) (is_closed p affected w) goes.0) ∙ here)
     ]

@@ -6,11 +6,12 @@ use Rattle.std.specs.List.{starts_with}
 use Rattle.std.proofs.lemmas.Bool.{cases_Bool, both_ways, false≢true, or_cases, cond-true, cond-false}
 use Rattle.std.proofs.lemmas.List.Sums.{prefix_len-le-length}
 use Rattle.std.proofs.lemmas.Option.{none-some}
+use Rattle.std.specs.Option.{option_map}
 use Rattle.jdf_lex.specs.declared.lexical_unit.LexicalUnit.{LexicalUnit}
 use Rattle.jdf_lex.specs.declared.lexical_unit.LexicalUnit.TheVariants.{Blank, LineComment, BlockComment, TokenOf}
 use Rattle.jdf_alphabet.specs.declared.kind.TokenKind.TheVariants.{Name, Number, Quoted, Raw, OptionLine, Mark, Other}
 use Rattle.jdf_lex.specs.Spelling.{is_blank, is_letter, is_digit, is_mark, begins_mark, begins_option, plain_unit, first_unit, unit_at, continues, is_closed, is_spelling}
-use Rattle.jdf_lex.specs.Reading.{mark_len, closed_len, unit_len, with_length, front_unit}
+use Rattle.jdf_lex.specs.Reading.{mark_len, closed_len, unit_len, front_unit}
 use Rattle.jdf_lex.proofs.Closing.{one_more, add_length_found, add_length_none, closed_found, closed_once, closed_none}
 use Rattle.jdf_lex.proofs.Runs.{prefix_passes, run_longest}
 use Rattle.list_lemmas.proofs.Truth.{chosen}
@@ -246,13 +247,13 @@ same_found p q m n e =
     let pair : ◌≡◌ {A = LexicalUnit × ℕ} (p, m) (q, n) = cc in
     (ap (λ (r : LexicalUnit × ℕ). r.0) pair, ap (λ (r : LexicalUnit × ℕ). r.1) pair)
 
-with_length_found : (q : LexicalUnit) (o : Option ℕ) (p : LexicalUnit) (n : ℕ) → with_length q o ≡ found_unit p n → (q ≡ p) × (o ≡ Some n)
+with_length_found : (q : LexicalUnit) (o : Option ℕ) (p : LexicalUnit) (n : ℕ) → option_map (λ len. (q, len)) o ≡ found_unit p n → (q ≡ p) × (o ≡ Some n)
 with_length_found q None p n e = absurd (let never : nothing ≡ found_unit p n = e in cc)
 with_length_found q (Some m) p n e =
     let parts = same_found q p m n e in
     (parts.0, ap (λ (k : ℕ). Some k) parts.1)
 
-with_length_none : (q : LexicalUnit) (o : Option ℕ) → with_length q o ≡ nothing → o ≡ None
+with_length_none : (q : LexicalUnit) (o : Option ℕ) → option_map (λ len. (q, len)) o ≡ nothing → o ≡ None
 with_length_none q None e = refl
 with_length_none q (Some m) e = absurd (let never : found_unit q m ≡ nothing = e in cc)
 

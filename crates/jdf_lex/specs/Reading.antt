@@ -1,6 +1,6 @@
 -- How the lexer finds lexical units, as functions of the rest of the text: the results of this crate's private calls.
 -- Lemmas in proofs/ tie them to the lexical units of a text.
-use Rattle.std.specs.Prelude.{◌≡◌, ℕ, ◌+◌, ◌≤◌, Bool, false, List, [], ◌∷◌, length, take, drop, if◌then◌else◌, Option, Some, None}
+use Rattle.std.specs.Prelude.{◌≡◌, ℕ, ◌+◌, ◌≤◌, Bool, false, List, [], ◌∷◌, length, take, drop, if◌then◌else◌, Option, Some, None, option_map, option_and_then}
 use Rattle.std.specs.List.{prefix_len, slice_range}
 use Rattle.ptg_base.specs.Limits.{most_tokens}
 use Rattle.jdf_lex.specs.declared.lexical_unit.LexicalUnit.{LexicalUnit}
@@ -19,41 +19,27 @@ mark_len [] = 0
 mark_len (a ∷ []) = if is_mark (a ∷ []) then 1 else 0
 mark_len (a ∷ b ∷ rest) = if is_mark (a ∷ b ∷ []) then 2 else (if is_mark (a ∷ []) then 1 else 0)
 
--- A length with `n` added.
-abbrev pub add_length : ℕ → Option ℕ → Option ℕ
-add_length n None = None
-add_length n (Some m) = Some (n + m)
-
 -- The number of bytes up to and including the first that ends the unit.
 abbrev pub closed_len : LexicalUnit → Bool → List ℕ → Option ℕ
 closed_len unit affected [] = None
 closed_len unit affected (b ∷ bs) =
-    if ends_unit unit affected b then Some 1 else add_length 1 (closed_len unit (affects_next unit affected b) bs)
+    if ends_unit unit affected b then Some 1
+    else option_map (λ len. 1 + len) (closed_len unit (affects_next unit affected b) bs)
 
 -- The length of the unit at the front, if the text ends it.
 abbrev pub unit_len : LexicalUnit → List ℕ → Option ℕ
 unit_len unit [] = None
-unit_len BlockComment (b ∷ bs) = add_length 2 (closed_len BlockComment false (drop 1 bs))
-unit_len (TokenOf Raw) (b ∷ bs) = add_length 2 (closed_len (TokenOf Raw) false (drop 1 bs))
-unit_len (TokenOf Quoted) (b ∷ bs) = add_length 1 (closed_len (TokenOf Quoted) false bs)
+unit_len BlockComment (b ∷ bs) = option_map (λ len. 2 + len) (closed_len BlockComment false (drop 1 bs))
+unit_len (TokenOf Raw) (b ∷ bs) = option_map (λ len. 2 + len) (closed_len (TokenOf Raw) false (drop 1 bs))
+unit_len (TokenOf Quoted) (b ∷ bs) = option_map (λ len. 1 + len) (closed_len (TokenOf Quoted) false bs)
 unit_len (TokenOf Mark) (b ∷ bs) = Some (mark_len (b ∷ bs))
 unit_len LineComment (b ∷ bs) = Some (1 + prefix_len (continues LineComment) bs)
 unit_len Blank (b ∷ bs) = Some (1 + prefix_len (continues Blank) bs)
 unit_len (TokenOf kind) (b ∷ bs) = Some (1 + prefix_len (continues (TokenOf kind)) bs)
 
--- A unit with its length, if it has one.
-abbrev pub with_length : LexicalUnit → Option ℕ → Option (LexicalUnit × ℕ)
-with_length unit None = None
-with_length unit (Some n) = Some (unit, n)
-
--- The unit that begins the rest, if one does, with its length.
-abbrev pub measured : Option LexicalUnit → List ℕ → Option (LexicalUnit × ℕ)
-measured None rest = None
-measured (Some unit) rest = with_length unit (unit_len unit rest)
-
 -- The lexical unit at the front, with its length, if the text ends it.
 abbrev pub front_unit : List ℕ → Option (LexicalUnit × ℕ)
-front_unit rest = measured (unit_at rest) rest
+front_unit rest = option_and_then (λ unit. option_map (λ len. (unit, len)) (unit_len unit rest)) (unit_at rest)
 
 -- The token of this kind and length at the cursor.
 abbrev pub token_here : List ℕ → Cursor → TokenKind → ℕ → Token

@@ -1,9 +1,9 @@
 //! Length of the lexical unit at a position.
 
-ghost use Rattle.std.specs.Prelude.{◌≡◌, ◌≤◌, ◌+◌, ℕ, false, length, Some};
+ghost use Rattle.std.specs.Prelude.{◌≡◌, ◌≤◌, ◌+◌, ℕ, false, length, Some, option_map};
 ghost use Rattle.std.specs.List.{prefix_len};
 ghost use Rattle.jdf_lex.specs.Spelling.{continues, ends_unit, affects_next};
-ghost use Rattle.jdf_lex.specs.Reading.{closed_len, add_length, unit_len, front_unit};
+ghost use Rattle.jdf_lex.specs.Reading.{closed_len, unit_len, front_unit};
 
 use crate::bytes::{continues_character, is_not_lf, mark_len};
 use crate::lexical_unit::LexicalUnit;
@@ -79,7 +79,7 @@ fn closed_len(unit: LexicalUnit, rest: &[u8]) -> Option<usize>
 // The length of a unit from the length of its opening and the bytes after the opening.
 fn opened_len(unit: LexicalUnit, opening: usize, rest: &[u8]) -> Option<usize>
     requires { opening ≤ 2 }
-    ensures { result ≡ add_length opening (closed_len unit false rest.now) }
+    ensures { result ≡ option_map (λ len. opening + len) (closed_len unit false rest.now) }
 {
     let n = closed_len(unit, rest)?;
     Some(opening + n)

@@ -1,6 +1,6 @@
 //! The tokens of a text, or its first token fault.
 
-ghost use Rattle.std.specs.Prelude.{◌≡◌, ◌⊎◌, ◌+◌, ◌++◌, ◌<◌, ◌≤◌, List, [], ◌∷◌, length, drop, slice_range, Ok, Err, Some, IfOk};
+ghost use Rattle.std.specs.Prelude.{◌≡◌, ◌+◌, ◌++◌, ◌<◌, ◌≤◌, [], ◌∷◌, length, Ok, Err, Some, IfOk};
 ghost use Rattle.ptg_base.specs.Limits.{most_bytes, most_tokens};
 ghost use Rattle.jdf_lex.specs.declared.fault.JdfCode.TheVariants.{Unclosed, TooManyTokens};
 ghost use Rattle.jdf_lex.specs.declared.fault.JdfFault.{JdfFault};
@@ -10,7 +10,7 @@ ghost use Rattle.jdf_lex.specs.declared.lexical_unit.LexicalUnit.TheVariants.{To
 ghost use Rattle.grammar_core.specs.declared.token.Spot.{Spot};
 ghost use Rattle.grammar_core.specs.declared.token.Token.{Token};
 ghost use Rattle.jdf_lex.specs.Tokens.{IsTokenFault, IsTokensOf};
-ghost use Rattle.jdf_lex.specs.Reading.{front_unit, token_here, IsCursorIn, IsScanned};
+ghost use Rattle.jdf_lex.specs.Reading.{front_unit, token_here, IsScanned};
 
 use crate::cursor::{Cursor, advance};
 use crate::fault::{JdfCode, JdfRefusal, fault_at};

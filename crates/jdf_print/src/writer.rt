@@ -1,7 +1,7 @@
 //! Bytes and words at the end of the output.
 
 ghost use Rattle.std.specs.Prelude.{◌≡◌, ◌++◌, OnOk};
-ghost use Rattle.jdf_print.specs.Fragments.{token, text};
+ghost use Rattle.jdf_print.specs.Fragments.{text};
 
 use jdf_tree::Word;
 use ptg_base::{OutOfMemory, Seq};

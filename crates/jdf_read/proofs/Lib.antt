@@ -5,7 +5,7 @@ pub mod File
 pub mod Limits
 pub mod Listed
 pub mod Once
-pub mod Openings
+pub mod BeforeClasses
 pub mod Parts
 pub mod Runs
 pub mod Skips

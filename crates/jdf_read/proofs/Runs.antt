@@ -13,9 +13,10 @@ use Rattle.jdf_alphabet.specs.Sets.{one_of, starts}
 use Rattle.grammar_core.specs.Reading.{◌>>=◌, Read, reading, fault_from_end}
 use Rattle.grammar_core.proofs.Loops.{pair_with, applied, IsListed, many_from, many_step}
 use Rattle.jdf_tree.specs.Nonterminal.{Grammar}
-use Rattle.jdf_tree.specs.GrammarParts.{any, maybe, or_none}
+use Rattle.jdf_tree.specs.GrammarParts.{any, maybe}
 use Rattle.jdf_tree.specs.Grammar.{productions}
 use Rattle.std.specs.Cmp.{first_so}
+use Rattle.std.specs.Option.{unwrap_or}
 
 -- a token of this set
 abbrev one : (Terminal → Bool) → Grammar Token
@@ -74,5 +75,5 @@ body_is (x ∷ s) front back h f b =
     rw (front_is, back_is) read
   where
     go : (c : Bool) (r : List Token → Read (List Token)) → c ≡ true → r s ≡ Ok (take (run_len is_in_body s) s, drop (run_len is_in_body s) s)
-        → (cond c (((token_if c x s >>= λ a. r a.1 >>= pair_with a.0) >>= applied first_and) >>= applied Some) (Ok (None, x ∷ s)) >>= applied or_none) ≡ Ok (x ∷ take (run_len is_in_body s) s, drop (run_len is_in_body s) s)
+        → (cond c (((token_if c x s >>= λ a. r a.1 >>= pair_with a.0) >>= applied first_and) >>= applied Some) (Ok (None, x ∷ s)) >>= applied (λ o. unwrap_or o [])) ≡ Ok (x ∷ take (run_len is_in_body s) s, drop (run_len is_in_body s) s)
     go c r e h = rw (e, h) refl

@@ -6,9 +6,9 @@ mod body;
 mod class;
 mod dependence;
 mod flow;
+mod globals;
 mod head;
 mod laws;
-mod opening;
 mod target;
 mod text;
 

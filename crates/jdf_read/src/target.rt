@@ -1,6 +1,5 @@
 //! Reads the targets of dependences.
 
-ghost use Rattle.std.specs.Prelude.{◌≡◌};
 ghost use Rattle.ptg_base.specs.Returns.{Returns};
 ghost use Rattle.grammar_core.specs.Reading.{reading};
 ghost use Rattle.jdf_tree.specs.ClassGrammar.{called, target};

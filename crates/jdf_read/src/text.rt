@@ -1,6 +1,6 @@
 //! Reads a whole text from its bytes.
 
-ghost use Rattle.std.specs.Prelude.{◌≡◌, ◌⊎◌, ◌-◌, ◌≤◌, ◌==◌, not, count_by, Ok, Err, Some, None, IfOk, length, slice_get};
+ghost use Rattle.std.specs.Prelude.{◌≡◌, ◌-◌, ◌≤◌, ◌==◌, not, count_by, Ok, Err, Some, None, IfOk, length, slice_get};
 ghost use Rattle.std.specs.List.{suffix_len};
 ghost use Rattle.ptg_base.specs.Limits.{most_bytes};
 ghost use Rattle.jdf_lex.specs.declared.fault.JdfCode.TheVariants.{Truncated};
@@ -15,7 +15,7 @@ ghost use Rattle.jdf_tree.specs.Grammar.{productions, file};
 ghost use Rattle.jdf_tree.specs.Jdf.{IsJdf};
 ghost use Rattle.jdf_tree.specs.Fault.{IsJdfFault, code_at_token};
 
-use crate::opening::opening;
+use crate::globals::file;
 use grammar_core::{Code, ReadRefusal, refusal_at};
 use jdf_lex::{JdfCode, JdfFault, JdfRefusal, Lexed, Spot, Token, tokens};
 use jdf_tree::{Jdf, code_at_token};
@@ -26,7 +26,7 @@ use std::alloc::Global;
 fn whole(alloc: Global, tokens: &[Token]) -> Result<Jdf, ReadRefusal>
     ensures { Returns (λ jdf. jdf) result (whole productions file tokens.now) }
 {
-    let (jdf, rest) = opening(alloc, tokens)?;
+    let (jdf, rest) = file(alloc, tokens)?;
     if !rest.is_empty() {
         return Err(refusal_at(rest, Code::Syntax));
     }

@@ -6,11 +6,11 @@ use Rattle.grammar_core.specs.Predictive.{is_limit, are_limits}
 use Rattle.grammar_core.proofs.Whole.{LimitsOnly}
 use Rattle.jdf_tree.specs.declared.part.Part.{Part}
 use Rattle.jdf_tree.specs.declared.part.Part.TheVariants.{Class, Body}
-use Rattle.jdf_tree.specs.Nonterminal.{Nonterminal, an_expr, a_unary, an_opening, a_block}
+use Rattle.jdf_tree.specs.Nonterminal.{Nonterminal, an_expr, a_unary, a_file, a_block}
 use Rattle.jdf_tree.specs.ExpressionGrammar.{number, parens, index, reference, signed, unary, product, sum, relation, equality, conjunction, disjunction, branches, expr, outer, guard}
 use Rattle.jdf_tree.specs.ClassGrammar.{full_at, argument, arguments, call, called, target, unguarded, guarded, arrow, datatype, dependence, dependences, kind_of_flow, flow, flows, parameters, parameter_list, definition, definitions, affinity, priority, properties, body_tokens, body, head, rest, class}
 use Rattle.jdf_tree.specs.BodyGrammar.{block, value, declaration, element, assignment, condition, otherwise, choice, for_loop, trap_statement, statement, statements, block_rest, text, body as body_text}
-use Rattle.jdf_tree.specs.Grammar.{skip, class_and_skips, classes, opening_after_extern, opening_after_option, opening_after_properties, opening_after_global, opening, productions}
+use Rattle.jdf_tree.specs.Grammar.{skip, class_and_skips, classes, file_after_extern, file_after_option, file_after_properties, file_after_global, file, productions}
 
 -- ---- expressions
 
@@ -182,9 +182,9 @@ classes_limits : LimitsOnly classes
 unfolding classes
 classes_limits = (class_and_skips_limits, (class_and_skips_limits, from_number 63 _ refl))
 
-pub opening_limits : LimitsOnly opening
-unfolding opening opening_after_extern opening_after_option opening_after_properties opening_after_global
-opening_limits = ((tt, (tt, tt)), (tt, (classes_limits, ((tt, (tt, ((tt, λ i. refl), tt))), tt))))
+pub file_limits : LimitsOnly file
+unfolding file file_after_extern file_after_option file_after_properties file_after_global
+file_limits = ((tt, (tt, tt)), (tt, (classes_limits, ((tt, (tt, ((tt, λ i. refl), tt))), tt))))
 
 -- ---- bodies
 
@@ -252,5 +252,5 @@ pub productions_limits : (n : Nonterminal) → LimitsOnly (productions n)
 unfolding productions
 productions_limits (an_expr part) = expr_limits part
 productions_limits (a_unary part) = unary_limits part
-productions_limits an_opening = opening_limits
+productions_limits a_file = file_limits
 productions_limits a_block = block_rest_limits

@@ -3,9 +3,10 @@ use Rattle.std.proofs.Common.{◌≡◌, ℕ, zero, suc, ◌+◌, ◌*◌, ◌�
 use Rattle.std.specs.Prelude.{Option, Some, None, nat_le, nat_lt, IsSome}
 use Rattle.std.specs.List.{AllByRecursion}
 use Rattle.std.proofs.lemmas.Bool.Decides.{nat_tests}
+use Rattle.std.specs.Option.{option_or, unwrap_or}
 use Rattle.grammar_core.specs.declared.token.Token.{Token}
 use Rattle.grammar_core.specs.declared.code.Code.{Code}
-use Rattle.grammar_core.specs.Production.{seq, opt, star, Language, Fault, then_fault, or_fault, at_start, cut_at, taken, Many, Derives, DerivedWithin, Derived}
+use Rattle.grammar_core.specs.Production.{seq, opt, star, Language, Fault, then_fault, at_start, cut_at, taken, Many, Derives, DerivedWithin, Derived}
 use Rattle.jdf_alphabet.specs.declared.terminal.Terminal.{Terminal}
 use Rattle.jdf_alphabet.specs.declared.terminal.Terminal.TheVariants as terminal
 use Rattle.jdf_alphabet.specs.Codes.{TooManyParams, TooManyLocals, TooManyFlows, TooManyDeps, TooManyClasses}
@@ -15,13 +16,13 @@ use Rattle.jdf_tree.specs.declared.tree.DepTree.{DepTree}
 use Rattle.jdf_tree.specs.declared.tree.FlowTree.{FlowTree}
 use Rattle.jdf_tree.specs.declared.tree.ClassTree.{ClassTree}
 use Rattle.jdf_tree.specs.declared.tree.Jdf.{Jdf}
-use Rattle.jdf_tree.specs.Nonterminal.{Nonterminal, an_opening, TreeOf, Grammar}
+use Rattle.jdf_tree.specs.Nonterminal.{Nonterminal, a_file, TreeOf, Grammar}
 use Rattle.jdf_alphabet.specs.Terminals.{is}
 use Rattle.jdf_alphabet.specs.Counted.{is_name}
 use Rattle.jdf_alphabet.specs.Sets.{one_of, pick, after_token}
-use Rattle.jdf_tree.specs.GrammarParts.{word, prefixed_by, suffixed_by, any, or_none, maybe, name, word_of}
+use Rattle.jdf_tree.specs.GrammarParts.{word, prefixed_by, suffixed_by, any, maybe, name, word_of}
 use Rattle.jdf_tree.specs.ClassGrammar.{full_at, Choice, unguarded, guarded, arrow, datatype, may_follow_target_name, dependence, dependences, kind_of_flow, flow, flows, parameters, parameter_list, definition, definitions, affinity, priority, is_no_right_bracket, properties, body, head, rest, class}
-use Rattle.jdf_tree.specs.Grammar.{skip, class_and_skips, classes, without_globals, with_global, opening_after_extern, opening_after_option, opening_after_properties, opening_after_global, opening, productions}
+use Rattle.jdf_tree.specs.Grammar.{skip, class_and_skips, classes, without_globals, with_global, file_after_extern, file_after_option, file_after_properties, file_after_global, file, productions}
 use Rattle.jdf_tree.specs.Jdf.{IsJdf}
 use Rattle.jdf_tree.specs.TreeLimits.{HasGuardForSecond, IsFlowWithinLimits, IsClassWithinLimits, IsWithinLimits}
 
@@ -32,7 +33,7 @@ both_none None n None e = (refl, refl)
 both_none None n (Some f) e = absurd (cc)
 both_none (Some f) n y e = absurd (cc)
 
-either_none : (x y : Fault) → or_fault x y ≡ None → (x ≡ None) × (y ≡ None)
+either_none : (x y : Fault) → option_or x y ≡ None → (x ≡ None) × (y ≡ None)
 either_none None y e = (refl, e)
 either_none (Some f) y e = absurd (cc)
 
@@ -72,7 +73,7 @@ module _ {A : Type 0} (n : ℕ) (c : Code) (G : Language A) (P : A → Type 0) (
   many_within : (i : ℕ) (s : List Token) (ts : List A) (r : List Token) → Many (full_at n c) G i s ts None r → i ≤ n → (i + length ts ≤ n) × AllByRecursion P ts
   many_within i s [] r h le = (omega (arith, le), tt)
   many_within i s (a ∷ more) r h le =
-      let faults = both_none (or_fault (at_start (full_at n c i)) h.1) (taken s h.0) h.2 h.5 in
+      let faults = both_none (option_or (at_start (full_at n c i)) h.1) (taken s h.0) h.2 h.5 in
       let none = either_none (at_start (full_at n c i)) h.1 faults.0 in
       let lt = full_none n c i (start_none (full_at n c i) none.0) in
       let later = many_within (suc i) h.0 more r (subst (λ (o : Fault). Many (full_at n c) G (suc i) h.0 more o r) faults.1 h.4) lt in
@@ -166,7 +167,7 @@ module _ (R : (n : Nonterminal) → Language (TreeOf n)) where
       let list = suffixed_none terminal.RightParen (maybe parameters) inside.0 t r inside.1 in
       subst (λ (ws : List Word). length ws ≤ 8) list.1.2 (go inside.0 list.0 list.1.0 list.1.1)
     where
-      go : (s' r' : List Token) (o : Option (List Word)) → Derives R (opt parameters) s' o None r' → length (or_none o) ≤ 8
+      go : (s' r' : List Token) (o : Option (List Word)) → Derives R (opt parameters) s' o None r' → length (unwrap_or o []) ≤ 8
       go s' r' None d' = omega arith
       go s' r' (Some ws) d' = parameters_within s' ws r' d'
 
@@ -204,49 +205,49 @@ module _ (R : (n : Nonterminal) → Language (TreeOf n)) where
   abbrev with_global_within : {jdf : Jdf} (name : Word) → IsWithinLimits jdf → IsWithinLimits (with_global name jdf)
   with_global_within name w = record { count = w.count; classes = w.classes }
 
-  module _ (known : (s : List Token) (t : Jdf) (r : List Token) → R an_opening s t None r → IsWithinLimits t) where
-    after_none : (q : Terminal → Bool) (s : List Token) (t : Token × Jdf) (r : List Token) → Derives R (after_token q an_opening) s t None r → IsWithinLimits t.1
-    after_none q s t r d = known d.0 t.1 r (subst (λ (o : Fault). R an_opening d.0 t.1 o r) (both_none None 1 d.1 d.4).1 d.3)
+  module _ (known : (s : List Token) (t : Jdf) (r : List Token) → R a_file s t None r → IsWithinLimits t) where
+    after_none : (q : Terminal → Bool) (s : List Token) (t : Token × Jdf) (r : List Token) → Derives R (after_token q a_file) s t None r → IsWithinLimits t.1
+    after_none q s t r d = known d.0 t.1 r (subst (λ (o : Fault). R a_file d.0 t.1 o r) (both_none None 1 d.1 d.4).1 d.3)
 
-    after_extern : (s : List Token) (t : Jdf) (r : List Token) → Derives R opening_after_extern s t None r → IsWithinLimits t
-    unfolding opening_after_extern
+    after_extern : (s : List Token) (t : Jdf) (r : List Token) → Derives R file_after_extern s t None r → IsWithinLimits t
+    unfolding file_after_extern
     after_extern s t r d =
-        let quoted = seq_none (word terminal.Extern) (seq (word terminal.Quoted) (after_token (is terminal.Raw) an_opening)) s d.0 r d.1 in
-        let raw = seq_none (word terminal.Quoted) (after_token (is terminal.Raw) an_opening) quoted.0 d.0.1 r quoted.2 in
+        let quoted = seq_none (word terminal.Extern) (seq (word terminal.Quoted) (after_token (is terminal.Raw) a_file)) s d.0 r d.1 in
+        let raw = seq_none (word terminal.Quoted) (after_token (is terminal.Raw) a_file) quoted.0 d.0.1 r quoted.2 in
         subst IsWithinLimits d.2 (after_none (is terminal.Raw) raw.0 d.0.1.1 r raw.2)
 
-    after_option : (s : List Token) (t : Jdf) (r : List Token) → Derives R opening_after_option s t None r → IsWithinLimits t
-    unfolding opening_after_option
+    after_option : (s : List Token) (t : Jdf) (r : List Token) → Derives R file_after_option s t None r → IsWithinLimits t
+    unfolding file_after_option
     after_option s t r d = subst IsWithinLimits d.2 (after_none (is terminal.OptionLine) s d.0 r d.1)
 
-    after_properties : (s : List Token) (t : Jdf) (r : List Token) → Derives R opening_after_properties s t None r → IsWithinLimits t
-    unfolding opening_after_properties
+    after_properties : (s : List Token) (t : Jdf) (r : List Token) → Derives R file_after_properties s t None r → IsWithinLimits t
+    unfolding file_after_properties
     after_properties s t r d =
-        let inside = seq (star any (one_of is_no_right_bracket)) (after_token (is terminal.RightBracket) an_opening) in
+        let inside = seq (star any (one_of is_no_right_bracket)) (after_token (is terminal.RightBracket) a_file) in
         let named = seq_none (name Class) (seq (word terminal.LeftBracket) inside) s d.0 r d.1 in
         let bracketed = seq_none (word terminal.LeftBracket) inside named.0 d.0.1 r named.2 in
-        let skipped = seq_none (star any (one_of is_no_right_bracket)) (after_token (is terminal.RightBracket) an_opening) bracketed.0 d.0.1.1 r bracketed.2 in
+        let skipped = seq_none (star any (one_of is_no_right_bracket)) (after_token (is terminal.RightBracket) a_file) bracketed.0 d.0.1.1 r bracketed.2 in
         subst IsWithinLimits d.2 (with_global_within d.0.0 (after_none (is terminal.RightBracket) skipped.0 d.0.1.1.1 r skipped.2))
 
-    after_global : (s : List Token) (t : Jdf) (r : List Token) → Derives R opening_after_global s t None r → IsWithinLimits t
-    unfolding opening_after_global
+    after_global : (s : List Token) (t : Jdf) (r : List Token) → Derives R file_after_global s t None r → IsWithinLimits t
+    unfolding file_after_global
     after_global s t r d = subst IsWithinLimits d.2 (with_global_within (word_of d.0.0) (after_none is_name s d.0 r d.1))
 
-    opening_within : (s : List Token) (t : Jdf) (r : List Token) → Derives R opening s t None r → IsWithinLimits t
-    unfolding opening
-    opening_within s t r (inl d) = after_extern s t r d
-    opening_within s t r (inr (inl d)) = after_option s t r d
-    opening_within s t r (inr (inr (inl d))) = subst IsWithinLimits d.2 (classes_within s d.0 r d.1)
-    opening_within s t r (inr (inr (inr (inl d)))) = after_properties s t r d
-    opening_within s t r (inr (inr (inr (inr d)))) = after_global s t r d
+    file_within : (s : List Token) (t : Jdf) (r : List Token) → Derives R file s t None r → IsWithinLimits t
+    unfolding file
+    file_within s t r (inl d) = after_extern s t r d
+    file_within s t r (inr (inl d)) = after_option s t r d
+    file_within s t r (inr (inr (inl d))) = subst IsWithinLimits d.2 (classes_within s d.0 r d.1)
+    file_within s t r (inr (inr (inr (inl d)))) = after_properties s t r d
+    file_within s t r (inr (inr (inr (inr d)))) = after_global s t r d
 
-deep_within : (depth : ℕ) (s : List Token) (t : Jdf) (r : List Token) → DerivedWithin productions depth an_opening s t None r → IsWithinLimits t
+deep_within : (depth : ℕ) (s : List Token) (t : Jdf) (r : List Token) → DerivedWithin productions depth a_file s t None r → IsWithinLimits t
 unfolding productions
 deep_within zero s t r d = absurd d
-deep_within (suc depth) s t r d = opening_within (DerivedWithin productions depth) (deep_within depth) s t r d
+deep_within (suc depth) s t r d = file_within (DerivedWithin productions depth) (deep_within depth) s t r d
 
-derived_within : (s : List Token) (t : Jdf) (r : List Token) → Derived productions an_opening s t None r → IsWithinLimits t
+derived_within : (s : List Token) (t : Jdf) (r : List Token) → Derived productions a_file s t None r → IsWithinLimits t
 derived_within s t r d = deep_within d.depth s t r d.derives
 
 pub texts_within : (bytes : List ℕ) (jdf : Jdf) → IsJdf bytes jdf → IsWithinLimits jdf
-texts_within bytes jdf h = opening_within (Derived productions) derived_within h.tokens jdf [] h.text
+texts_within bytes jdf h = file_within (Derived productions) derived_within h.tokens jdf [] h.text

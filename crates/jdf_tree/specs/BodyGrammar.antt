@@ -1,5 +1,5 @@
 -- The grammar of the body of a class. The language of bodies is this project's own choice.
-use Rattle.std.specs.Prelude.{Bool, Option, Some, None, ◌||◌}
+use Rattle.std.specs.Prelude.{Bool, Option, Some, None, ◌||◌, unwrap_or}
 use Rattle.jdf_alphabet.specs.declared.terminal.Terminal.{Terminal}
 use Rattle.jdf_alphabet.specs.declared.terminal.Terminal.TheVariants as terminal
 use Rattle.jdf_alphabet.specs.Codes.{TooDeep, TooManyVars}
@@ -47,14 +47,9 @@ assign_of (w, (Some at, e)) = Put w at.tree e.tree
 unfoldable pub assignment : Grammar StmtTree
 assignment = map assign_of (seq (name Body) (seq (opt element) value))
 
--- an else part that is left out is an empty block
-abbrev pub or_done : Option Statements → Statements
-or_done None = Done
-or_done (Some block) = block
-
--- the choice with this condition, this block and this else part, if there is one
+-- the choice with this condition, this block and this else part; one that is left out is an empty block
 abbrev pub if_of : ExprWithSpot × (Statements × Option Statements) → StmtTree
-if_of x = If x.0.tree x.1.0 (or_done x.1.1)
+if_of x = If x.0.tree x.1.0 (unwrap_or x.1.1 Done)
 
 -- condition = "(" expr ")"
 unfoldable pub condition : Grammar ExprWithSpot

@@ -1,5 +1,5 @@
 -- How deep the blocks of a body may nest, and how many variables it may declare. Source: this project's own choice.
-use Rattle.std.specs.Prelude.{◌≡◌, ℕ, ◌-◌, Bool, true, false, nat_le, ◌&&◌, ◌||◌, List, [], if◌then◌else◌, count_by, refl}
+use Rattle.std.specs.Prelude.{◌≡◌, ℕ, ◌-◌, Bool, true, false, nat_le, ◌&&◌, ◌||◌, List, [], if◌then◌else◌, count_by, refl, ◌+◌}
 use Rattle.ptg_base.specs.Limits.{most_variables}
 use Rattle.grammar_core.specs.declared.token.Token.{Token}
 use Rattle.jdf_alphabet.specs.declared.terminal.Terminal.{Terminal}
@@ -17,10 +17,13 @@ how_many q s = count_by (λ x. q (terminal_of x)) s
 abbrev pub open_blocks : List Token → ℕ
 open_blocks s = how_many (is terminal.LeftBrace) s - how_many (is terminal.RightBrace) s
 
--- How many blocks may be open before a brace that opens another one: 32, and the braces around a whole body do not
--- count.
+-- how many blocks may be inside one another
+abbrev pub most_nested : ℕ
+most_nested = 32
+
+-- How many blocks may be open before a brace that opens another one; the braces around a whole body do not count.
 abbrev pub most_blocks : List Token → ℕ
-most_blocks s = if starts (is terminal.LeftBrace) s then 33 else 32
+most_blocks s = if starts (is terminal.LeftBrace) s then most_nested + 1 else most_nested
 
 -- A brace is too deep if as many blocks are open before it as may be.
 unfoldable pub is_too_deep : List Token → Token → Bool

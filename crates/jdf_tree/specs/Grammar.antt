@@ -1,5 +1,6 @@
 -- The grammar of a JDF text. Source: the JDF documentation. Extern blocks, options and properties are skipped unread.
-use Rattle.std.specs.Prelude.{Bool, false, List, [], ◌∷◌, ◌||◌}
+use Rattle.std.specs.Prelude.{Bool, false, List, [], ◌∷◌, ◌||◌, ◌-◌}
+use Rattle.ptg_base.specs.Limits.{most_classes}
 use Rattle.grammar_core.specs.declared.token.Token.{Token}
 use Rattle.jdf_alphabet.specs.declared.terminal.Terminal.{Terminal}
 use Rattle.jdf_alphabet.specs.declared.terminal.Terminal.TheVariants as terminal
@@ -14,7 +15,7 @@ use Rattle.jdf_tree.specs.declared.part.Part.{Part}
 use Rattle.jdf_tree.specs.declared.part.Part.TheVariants.{Class, Body}
 use Rattle.jdf_tree.specs.declared.tree.ClassTree.{ClassTree}
 use Rattle.jdf_tree.specs.declared.tree.Jdf.{Jdf}
-use Rattle.jdf_tree.specs.Nonterminal.{Nonterminal, an_expr, a_unary, an_opening, a_block, TreeOf, Grammar}
+use Rattle.jdf_tree.specs.Nonterminal.{Nonterminal, an_expr, a_unary, a_file, a_block, TreeOf, Grammar}
 use Rattle.jdf_tree.specs.GrammarParts.{word, any, names, name, word_of}
 use Rattle.jdf_tree.specs.ExpressionGrammar.{unary, expr, is_product, is_sum, is_relation, is_equality, is_conjunction, is_disjunction}
 use Rattle.jdf_tree.specs.ClassGrammar.{full_at, is_no_right_bracket, class}
@@ -30,9 +31,10 @@ skip =
 unfoldable pub class_and_skips : Grammar ClassTree
 class_and_skips = map (λ x. x.0) (seq class (star any skip))
 
--- classes = class skip* (class skip*)*, at most 64: the first one is not in the list that is counted
+-- classes = class skip* (class skip*)*, at most 64; the first one is not in the list that is counted
 unfoldable pub classes : Grammar (List ClassTree)
-classes = map (λ x. x.0 ∷ x.1) (seq class_and_skips (star (full_at 63 TooManyClasses) class_and_skips))
+classes =
+    map (λ x. x.0 ∷ x.1) (seq class_and_skips (star (full_at (most_classes - 1) TooManyClasses) class_and_skips))
 
 -- a text without globals
 abbrev pub without_globals : List ClassTree → Jdf
@@ -42,44 +44,41 @@ without_globals classes = record { globals = []; classes = classes }
 abbrev pub with_global : Word → Jdf → Jdf
 with_global name jdf = record { globals = name ∷ jdf.globals; classes = jdf.classes }
 
--- extern Quoted Raw opening
-unfoldable pub opening_after_extern : Grammar Jdf
-opening_after_extern =
+-- extern Quoted Raw file
+unfoldable pub file_after_extern : Grammar Jdf
+file_after_extern =
     map (λ x. x.1.1.1)
-    (seq (word terminal.Extern) (seq (word terminal.Quoted) (after_token (is terminal.Raw) an_opening)))
+    (seq (word terminal.Extern) (seq (word terminal.Quoted) (after_token (is terminal.Raw) a_file)))
 
--- OptionLine opening
-unfoldable pub opening_after_option : Grammar Jdf
-opening_after_option = map (λ x. x.1) (after_token (is terminal.OptionLine) an_opening)
+-- OptionLine file
+unfoldable pub file_after_option : Grammar Jdf
+file_after_option = map (λ x. x.1) (after_token (is terminal.OptionLine) a_file)
 
--- name "[" tokens "]" opening
-unfoldable pub opening_after_properties : Grammar Jdf
-opening_after_properties =
+-- name "[" tokens "]" file
+unfoldable pub file_after_properties : Grammar Jdf
+file_after_properties =
     map (λ x. with_global x.0 x.1.1.1.1)
     (seq (name Class) (seq (word terminal.LeftBracket)
-    (seq (star any (one_of is_no_right_bracket)) (after_token (is terminal.RightBracket) an_opening))))
+    (seq (star any (one_of is_no_right_bracket)) (after_token (is terminal.RightBracket) a_file))))
 
--- name opening
-unfoldable pub opening_after_global : Grammar Jdf
-opening_after_global = map (λ x. with_global (word_of x.0) x.1) (after_token is_name an_opening)
+-- name file
+unfoldable pub file_after_global : Grammar Jdf
+file_after_global = map (λ x. with_global (word_of x.0) x.1) (after_token is_name a_file)
 
--- opening = skip opening | classes | name properties? opening, where a name before "(" begins a class
-unfoldable pub opening : Grammar Jdf
-opening =
-    alt opening_after_extern
-    (alt opening_after_option
+-- file = skip file | classes | name properties? file, where a name before "(" begins a class: so it is
+-- (skip | name properties?)* class (skip | class)*
+unfoldable pub file : Grammar Jdf
+file =
+    alt file_after_extern
+    (alt file_after_option
     (pick (is terminal.LeftParen) (map without_globals classes)
-    (pick (is terminal.LeftBracket) opening_after_properties opening_after_global)))
-
--- file = (skip | name properties?)* class (skip | class)*
-abbrev pub file : Grammar Jdf
-file = opening
+    (pick (is terminal.LeftBracket) file_after_properties file_after_global)))
 
 -- the production of each nonterminal
 unfoldable pub productions : (n : Nonterminal) → Grammar (TreeOf n)
 productions (an_expr part) = expr part
 productions (a_unary part) = unary part
-productions an_opening = opening
+productions a_file = file
 productions a_block = block_rest
 
 -- the first set of an operand
@@ -88,8 +87,8 @@ begins_operand part k =
     is terminal.Minus k || is terminal.Not k || is terminal.Number k || names part k || is terminal.LeftParen k
 
 -- the first set of the rest of a text, before its first class
-abbrev pub begins_opening : Terminal → Bool
-begins_opening k = is terminal.Extern k || is terminal.OptionLine k || is_name k
+abbrev pub begins_file : Terminal → Bool
+begins_file k = is terminal.Extern k || is terminal.OptionLine k || is_name k
 
 -- the marks of all infix operators, and "?"
 abbrev pub is_operator : Terminal → Bool
@@ -106,14 +105,14 @@ continues_name Body k = is terminal.LeftBracket k
 abbrev pub begins : Nonterminal → Terminal → Bool
 begins (an_expr part) k = begins_operand part k
 begins (a_unary part) k = begins_operand part k
-begins an_opening k = begins_opening k
+begins a_file k = begins_file k
 begins a_block k = begins_statement k || is terminal.RightBrace k
 
 -- the terminals that the test claims as those that continue a text of each nonterminal
 abbrev pub continues : Nonterminal → Terminal → Bool
 continues (an_expr part) k = is_operator k || continues_name part k
 continues (a_unary part) k = continues_name part k
-continues an_opening k = begins_opening k
+continues a_file k = begins_file k
 continues a_block k = false
 
 -- the claims of the test for predictive grammars: both sets of each nonterminal

@@ -1,5 +1,5 @@
 -- Small productions that the grammar is built from.
-use Rattle.std.specs.Prelude.{ℕ, Bool, List, [], ◌∷◌, Option, Some, None, ◌||◌}
+use Rattle.std.specs.Prelude.{ℕ, Bool, List, [], ◌∷◌, Option, None, ◌||◌, unwrap_or}
 use Rattle.grammar_core.specs.declared.token.Token.{Token}
 use Rattle.jdf_alphabet.specs.declared.terminal.Terminal.{Terminal}
 use Rattle.jdf_alphabet.specs.declared.terminal.Terminal.TheVariants as terminal
@@ -33,14 +33,9 @@ any i = None
 abbrev pub listed : {A : Type 0} → Grammar A → Grammar (List A)
 listed g = map (λ x. x.0 ∷ x.1) (seq g (star any (prefixed_by terminal.Comma g)))
 
--- an optional list, which is empty where it is missing
-abbrev pub or_none : {A : Type 0} → Option (List A) → List A
-or_none None = []
-or_none (Some xs) = xs
-
 -- a list that may be left out, and is empty then
 abbrev pub maybe : {A : Type 0} → Grammar (List A) → Grammar (List A)
-maybe g = map or_none (opt g)
+maybe g = map (λ o. unwrap_or o []) (opt g)
 
 -- The terminals that are names: no reserved word, and in a body not int, if, else, for and trap.
 abbrev pub names : Part → Terminal → Bool

@@ -12,7 +12,7 @@ pub data Nonterminal : Type 0 where
   -- the operand of a prefix operator
   a_unary : Part → Nonterminal
   -- the rest of a text from a global, a skipped part or the first class on
-  an_opening : Nonterminal
+  a_file : Nonterminal
   -- the rest of a block of a body, after its opening brace
   a_block : Nonterminal
 
@@ -20,7 +20,7 @@ pub data Nonterminal : Type 0 where
 abbrev pub TreeOf : Nonterminal → Type 0
 TreeOf (an_expr part) = ExprWithSpot
 TreeOf (a_unary part) = ExprWithSpot
-TreeOf an_opening = Jdf
+TreeOf a_file = Jdf
 TreeOf a_block = Statements
 
 -- a production of this grammar

@@ -6,28 +6,27 @@ use plan_core::Plan;
 use ptg_base::{Place, TaskId, Text};
 use std::io::Write;
 
-/// A name, or `-` for one that is no text.
+// A name as text, or `-` for none and for one that is no text.
+fn shown(name: &[u8]) -> &str {
+    if name.is_empty() {
+        return "-";
+    }
+    str::from_utf8(name).unwrap_or("-")
+}
+
+/// A name, or `-` for an empty one and for one that is no text.
 pub fn name_of(name: &Text) -> &str {
-    str::from_utf8(name.bytes()).unwrap_or("-")
+    shown(name.bytes())
 }
 
 /// The name of a class, or `-` where there is none.
 pub fn class_name(plan: &Plan, class: u32) -> &str {
-    match plan.classes.as_slice().get(class as usize) {
-        Some(class) => name_of(&class.name),
-        None => "-",
-    }
+    shown(plan_core::class_name(plan, class))
 }
 
 /// The name of a flow of a class, or `-` where there is none.
 pub fn flow_name(plan: &Plan, class: u32, flow: u8) -> &str {
-    let Some(class) = plan.classes.as_slice().get(class as usize) else {
-        return "-";
-    };
-    match class.flows.as_slice().get(flow as usize) {
-        Some(flow) => name_of(&flow.name),
-        None => "-",
-    }
+    shown(plan_core::flow_name(plan, class, Some(flow)))
 }
 
 /// Adds the class and the parameters of a task.

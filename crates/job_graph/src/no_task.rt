@@ -7,7 +7,7 @@ use crate::names::{add_task, name_of};
 use jdf_tree::{DefTree, Jdf};
 use plan_core::Plan;
 use ptg_base::{MOST_LOCALS, TaskId};
-use range_space::{Numbers, steps_of};
+use range_space::{Numbers, param_value, steps_of};
 use std::io::Write;
 use term_core::{ClassSpace, Def, Range, eval};
 
@@ -48,7 +48,7 @@ fn value_of<W: Write + Drop>(
     named: &DefTree,
     (task, locals): (&TaskId, &[i64]),
 ) -> Result<Option<i64>, Failure> {
-    let given = given_value(space, task, locals.len());
+    let given = param_value(space.params.as_slice(), task.params(), locals.len());
     match definition {
         Def::Span(range) => ranged_value(lines, range, named, given, locals),
         Def::Value(e) => match eval(e, locals) {
@@ -62,16 +62,6 @@ fn value_of<W: Write + Drop>(
             Err(_) => without_value(lines, named),
         },
     }
-}
-
-// The value of the parameter that this definition defines, if it is one.
-fn given_value(space: &ClassSpace, task: &TaskId, definition: usize) -> Option<i64> {
-    for (number, value) in space.params.as_slice().iter().zip(task.params()) {
-        if usize::from(*number) == definition {
-            return Some(*value);
-        }
-    }
-    None
 }
 
 // The value of a local that has a range: the given one, if the range has it.

@@ -4,14 +4,14 @@ use Rattle.std.specs.Prelude.{slice_get}
 use Rattle.std.specs.Cmp.{second_so}
 use Rattle.std.specs.List.{position_from}
 use Rattle.std.specs.Map.{keys_of, lookup}
-use Rattle.std.specs.Option.{option_map}
+use Rattle.std.specs.Option.{option_map, option_or}
 use Rattle.std.specs.Str.{bytes_eq}
 use Rattle.std.proofs.lemmas.Iterator.Adapters.{position_from-zero}
 use Rattle.std.proofs.lemmas.Option.{slice_get_within, slice_get_read, same_Some}
 use Rattle.std.proofs.lemmas.Map.Entries.{length-keys_of}
 use Rattle.name_table.specs.declared.bucket.Slot.{Slot}
 use Rattle.name_table.specs.declared.index.Index.{Index}
-use Rattle.name_table.specs.Index.{has_number, in_bucket, has_room, bucket_at, mark_of, or_else, among_others, found, IsIndexOf}
+use Rattle.name_table.specs.Index.{has_number, in_bucket, has_room, bucket_at, mark_of, among_others, found, IsIndexOf}
 use Rattle.name_table.specs.Names.{index_named, value_named, IsEachOnce}
 use Rattle.name_table.proofs.Items.{same_bytes, bytes_same, number_has}
 
@@ -33,7 +33,7 @@ found_sound names x name i is h =
     rest true e = absurd cc
     rest false e = is.others name i e
 
-    go : (r : Option ℕ) → ((j : ℕ) → r ≡ Some j → slice_get names j ≡ Some name) → or_else r (cond (has_room (bucket_at x.buckets.items name)) None (among_others x name)) ≡ Some i → slice_get names i ≡ Some name
+    go : (r : Option ℕ) → ((j : ℕ) → r ≡ Some j → slice_get names j ≡ Some name) → option_or r (cond (has_room (bucket_at x.buckets.items name)) None (among_others x name)) ≡ Some i → slice_get names i ≡ Some name
     go (Some j) s e = s i e
     go None s e = rest (has_room (bucket_at x.buckets.items name)) e
 

@@ -3,8 +3,9 @@ use Rattle.std.proofs.Common.{◌≡◌, ℕ, zero, suc, true, false, List, [], 
 use Rattle.std.specs.Prelude.{slice_get}
 use Rattle.std.specs.Str.{bytes_eq}
 use Rattle.std.proofs.lemmas.Slice.Eq.{bytes_eq-Decides}
-use Rattle.name_table.specs.Index.{bytes_named, has_number}
+use Rattle.name_table.specs.Index.{has_number}
 use Rattle.std.proofs.lemmas.Option.{same_Some}
+use Rattle.std.specs.Option.{option_map_or}
 
 pub same_bytes : (a b : List ℕ) → bytes_eq a b ≡ true → a ≡ b
 same_bytes a b e = (bytes_eq-Decides a b).0 e
@@ -16,12 +17,12 @@ bytes_same a b e = (bytes_eq-Decides a b).1 e
 pub number_has : (names : List (List ℕ)) (name : List ℕ) (i : ℕ) → has_number names name i ≡ true → slice_get names i ≡ Some name
 number_has names name i h = go (slice_get names i) h
   where
-    go : (r : Option (List ℕ)) → bytes_named name r ≡ true → r ≡ Some name
+    go : (r : Option (List ℕ)) → option_map_or (λ (n : List ℕ). bytes_eq n name) r false ≡ true → r ≡ Some name
     go (Some n) e = ap Some (same_bytes n name e)
     go None e = absurd cc
 
 pub has_number_of : (names : List (List ℕ)) (name : List ℕ) (i : ℕ) → slice_get names i ≡ Some name → has_number names name i ≡ true
-has_number_of names name i h = ap (bytes_named name) h ∙ bytes_same name name refl
+has_number_of names name i h = ap (λ (r : Option (List ℕ)). option_map_or (λ (n : List ℕ). bytes_eq n name) r false) h ∙ bytes_same name name refl
 
 module _ {X : Type 0} where
   pub kept_at : (xs : List X) (y x : X) (i : ℕ) → slice_get xs i ≡ Some x → slice_get (xs ++ y ∷ []) i ≡ Some x

@@ -11,9 +11,10 @@ use Rattle.std.proofs.lemmas.Map.Text.{is_eq-slice_cmp}
 use Rattle.std.proofs.lemmas.Option.{get_or_from_slice_get, slice_get_read, same_Some}
 use Rattle.std.proofs.lemmas.List.{get_or-set_same, get_or-set_other}
 use Rattle.std.proofs.Math.ListN.{length-set}
+use Rattle.std.specs.Option.{option_or}
 use Rattle.name_table.specs.declared.bucket.Slot.{Slot}
 use Rattle.name_table.specs.declared.index.Index.{Index}
-use Rattle.name_table.specs.Index.{has_number, in_bucket, has_room, bucket_at, bucket_of, mark_of, mixed, or_else, among_others, found, IsIndexOf}
+use Rattle.name_table.specs.Index.{has_number, in_bucket, has_room, bucket_at, bucket_of, mark_of, mixed, among_others, found, IsIndexOf}
 use Rattle.name_table.proofs.Items.{same_bytes, bytes_same, number_has, has_number_of, kept_at, last_at, old_or_last, number_kept}
 use Rattle.name_table.proofs.Found.{slot_sound}
 
@@ -81,14 +82,14 @@ module _ (names : List (List ℕ)) (x : Index) (new : List ℕ) (is : IsIndexOf 
     after = names ++ new ∷ []
 
     in_its_bucket : (name : List ℕ) (i : ℕ) → in_bucket after name (mark_of name) (bucket_at y.buckets.items name) ≡ Some i → found after y name ≡ Some i
-    in_its_bucket name i e = ap (λ r. or_else r (cond (has_room (bucket_at y.buckets.items name)) None (among_others y name))) e
+    in_its_bucket name i e = ap (λ r. option_or r (cond (has_room (bucket_at y.buckets.items name)) None (among_others y name))) e
 
     -- a name in whose bucket and among the others nothing changes
     finds_unchanged : (name : List ℕ) (i : ℕ) → slice_get names i ≡ Some name → bucket_at y.buckets.items name ≡ bucket_at x.buckets.items name → among_others y name ≡ among_others x name → found after y name ≡ Some i
     finds_unchanged name i e b o =
-        ap (λ l. or_else (in_bucket after name (mark_of name) l) (cond (has_room l) None (among_others y name))) b
-        ∙ (ap (λ r. or_else r (cond (has_room (bucket_at x.buckets.items name)) None (among_others y name))) (same_names names new name (mark_of name) (bucket_at x.buckets.items name) (apart name i e))
-        ∙ (ap (λ r. or_else (in_bucket names name (mark_of name) (bucket_at x.buckets.items name)) (cond (has_room (bucket_at x.buckets.items name)) None r)) o
+        ap (λ l. option_or (in_bucket after name (mark_of name) l) (cond (has_room l) None (among_others y name))) b
+        ∙ (ap (λ r. option_or r (cond (has_room (bucket_at x.buckets.items name)) None (among_others y name))) (same_names names new name (mark_of name) (bucket_at x.buckets.items name) (apart name i e))
+        ∙ (ap (λ r. option_or (in_bucket names name (mark_of name) (bucket_at x.buckets.items name)) (cond (has_room (bucket_at x.buckets.items name)) None r)) o
         ∙ is.finds name i e))
 
     finds_all : found after y new ≡ Some (length names) → ((name : List ℕ) (i : ℕ) → slice_get names i ≡ Some name → found after y name ≡ Some i) → (name : List ℕ) (i : ℕ) → slice_get after i ≡ Some name → found after y name ≡ Some i
@@ -111,7 +112,7 @@ module _ (names : List (List ℕ)) (x : Index) (new : List ℕ) (is : IsIndexOf 
       slot_finds_old : (name : List ℕ) (i : ℕ) → slice_get names i ≡ Some name → found after y name ≡ Some i
       slot_finds_old name i e = go (nat_eq (bucket_of (length x.buckets.items) name) (bucket_of (length x.buckets.items) new)) refl
         where
-          with_room : (r : Option ℕ) (b : Bool) → b ≡ true → or_else r (cond b None (among_others x name)) ≡ Some i → r ≡ Some i
+          with_room : (r : Option ℕ) (b : Bool) → b ≡ true → option_or r (cond b None (among_others x name)) ≡ Some i → r ≡ Some i
           with_room (Some j) b t f = f
           with_room None true t f = absurd cc
           with_room None false t f = absurd cc
@@ -149,7 +150,7 @@ module _ (names : List (List ℕ)) (x : Index) (new : List ℕ) (is : IsIndexOf 
           last true t = absurd cc
           last false t = put new ∙ ap (λ b. cond b (Some (length names)) (among_others x new)) (bytes_same new new refl)
 
-          go : (r : Option ℕ) → ((j : ℕ) → r ≡ Some j → slice_get after j ≡ Some new) → or_else r (cond (has_room (bucket_at y.buckets.items new)) None (among_others y new)) ≡ Some (length names)
+          go : (r : Option ℕ) → ((j : ℕ) → r ≡ Some j → slice_get after j ≡ Some new) → option_or r (cond (has_room (bucket_at y.buckets.items new)) None (among_others y new)) ≡ Some (length names)
           go (Some j) s = ap Some (last_alone j (has_number_of after new j (s j refl)))
           go None s = last (has_room (bucket_at y.buckets.items new)) (ap has_room (bucket_same new) ∙ full)
 

@@ -1,10 +1,12 @@
 -- An index of names: which bucket has the number of a name, and which names are in a map of their own. Source: this
 -- project's own choice.
-use Rattle.std.specs.Prelude.{◌≡◌, ℕ, ◌+◌, ◌*◌, ◌^◌, ◌%◌, Bool, false, ◌&&◌, cond, List, [], ◌∷◌, length, Option, Some, None, nat_eq, nat_lt, nat_le, ◌-◌, slice_get, slice_index_or}
+use Rattle.std.specs.Prelude.{◌≡◌, ℕ, ◌+◌, ◌*◌, ◌^◌, ◌%◌, Bool, false, ◌&&◌, cond, List, [], ◌∷◌, length, Option, Some, None, nat_eq, nat_lt, ◌-◌, slice_get, slice_index_or}
 use Rattle.std.specs.BTreeMap.{get}
 use Rattle.std.specs.Cmp.Lexicographic.{slice_cmp}
 use Rattle.std.specs.Ordering.{nat_cmp}
 use Rattle.std.specs.Str.{bytes_eq}
+use Rattle.std.specs.Option.{option_or, option_map_or}
+use Rattle.ptg_base.specs.Decimal.{is_digit}
 use Rattle.name_table.specs.declared.index.Index.{Index}
 use Rattle.name_table.specs.declared.bucket.Slot.{Slot}
 
@@ -12,7 +14,7 @@ use Rattle.name_table.specs.declared.bucket.Slot.{Slot}
 -- after another
 unfoldable pub with_byte : ℕ → ℕ → ℕ
 with_byte m b =
-    cond (nat_le 48 b && nat_le b 57) (((m * 10) % 2 ^ 64 + (b - 48)) % 2 ^ 64)
+    cond (is_digit b) (((m * 10) % 2 ^ 64 + (b - 48)) % 2 ^ 64)
     (((m + b) % 2 ^ 64 * 11400714819323198485) % 2 ^ 64)
 
 -- what further bytes make of it
@@ -32,14 +34,9 @@ mark_of name = mixed name % 2 ^ 32
 abbrev pub bucket_of : ℕ → List ℕ → ℕ
 bucket_of count name = mixed name % count
 
--- whether there is a name, and it is this one
-abbrev pub bytes_named : List ℕ → Option (List ℕ) → Bool
-bytes_named name (Some n) = bytes_eq n name
-bytes_named name None = false
-
 -- whether the name has this number
 abbrev pub has_number : List (List ℕ) → List ℕ → ℕ → Bool
-has_number names name number = bytes_named name (slice_get names number)
+has_number names name number = option_map_or (λ (n : List ℕ). bytes_eq n name) (slice_get names number) false
 
 -- the number of the name among the slots of a bucket
 abbrev pub in_bucket : List (List ℕ) → List ℕ → ℕ → List Slot → Option ℕ
@@ -59,11 +56,6 @@ has_room bucket = nat_lt (length bucket) most_slots
 abbrev pub bucket_at : List (List Slot) → List ℕ → List Slot
 bucket_at buckets name = slice_index_or buckets (bucket_of (length buckets) name) []
 
--- the first number, or the other where there is none
-abbrev pub or_else : Option ℕ → Option ℕ → Option ℕ
-or_else (Some n) other = Some n
-or_else None other = other
-
 -- the number of the name in the map of the names for which no bucket had room
 abbrev pub among_others : Index → List ℕ → Option ℕ
 among_others index name = get (slice_cmp nat_cmp) index.others name
@@ -71,7 +63,7 @@ among_others index name = get (slice_cmp nat_cmp) index.others name
 -- what looking the name up gives
 abbrev pub found : List (List ℕ) → Index → List ℕ → Option ℕ
 found names index name =
-    or_else (in_bucket names name (mark_of name) (bucket_at index.buckets.items name))
+    option_or (in_bucket names name (mark_of name) (bucket_at index.buckets.items name))
     (cond (has_room (bucket_at index.buckets.items name)) None (among_others index name))
 
 -- each name is found under its number

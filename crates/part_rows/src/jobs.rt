@@ -8,7 +8,7 @@ use coll_data::Given;
 use dep_iter::Matched;
 use job_stages::{job_of_texts, judge_texts};
 use ptg_base::Text;
-use row_files::{Order, Printed, Why};
+use row_files::{Printed, RowCall, Why};
 use std::alloc::Global;
 
 /// What is called with a job.
@@ -35,26 +35,33 @@ impl JobPart {
     }
 
     /// What a call of it prints, with the files that these words name.
-    pub fn printed(self, alloc: Global, order: &Order, words: &[Text]) -> Result<Printed, Why> {
+    pub fn printed(
+        self,
+        alloc: Global,
+        row_call: &RowCall,
+        words: &[Text],
+    ) -> Result<Printed, Why> {
         match (self, words) {
-            (JobPart::Edges, [jdf, table]) => { edges(alloc, order.file(jdf)?, order.file(table)?) }
+            (JobPart::Edges, [jdf, table]) => {
+                edges(alloc, row_call.file(jdf)?, row_call.file(table)?)
+            }
             (JobPart::Accepts, [jdf, table]) => {
-                accepts(alloc, order.file(jdf)?, order.file(table)?)
+                accepts(alloc, row_call.file(jdf)?, row_call.file(table)?)
             }
             (JobPart::Certificate, [jdf, table]) => {
-                certificate(alloc, order.file(jdf)?, order.file(table)?)
+                certificate(alloc, row_call.file(jdf)?, row_call.file(table)?)
             }
             (JobPart::Replay, [jdf, table, trace]) => replay(
                 alloc,
-                order.file(jdf)?,
-                order.file(table)?,
-                order.file(trace)?,
+                row_call.file(jdf)?,
+                row_call.file(table)?,
+                row_call.file(trace)?,
             ),
             (JobPart::List, [jdf, table, trace]) => list(
                 alloc,
-                order.file(jdf)?,
-                order.file(table)?,
-                order.file(trace)?,
+                row_call.file(jdf)?,
+                row_call.file(table)?,
+                row_call.file(trace)?,
             ),
             _ => Err(Why("words that call nothing")),
         }

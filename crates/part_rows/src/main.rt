@@ -20,7 +20,7 @@ mod tokens;
 use crate::jobs::JobPart;
 use crate::texts::TextPart;
 use ptg_base::Text;
-use row_files::{Call, Order, Printed, Why, all_as_wanted};
+use row_files::{Call, Printed, RowCall, Why, all_as_wanted};
 use std::alloc::Global;
 use std::process::ExitCode;
 use std::sync::Wait;
@@ -41,25 +41,25 @@ impl Call for Parts {
         &self,
         _rt: &R,
         alloc: Global,
-        order: Order,
+        row_call: RowCall,
     ) -> Result<Printed, Why> {
-        part_printed(alloc, &order)
+        part_printed(alloc, &row_call)
     }
 }
 
 // What the part prints that a row's words call.
-fn part_printed(alloc: Global, order: &Order) -> Result<Printed, Why> {
-    let [word, words @ ..] = order.words.as_slice() else {
+fn part_printed(alloc: Global, row_call: &RowCall) -> Result<Printed, Why> {
+    let [word, words @ ..] = row_call.words.as_slice() else {
         return Err(Why("no word that says what is called"));
     };
     let word = text_of(word)?;
     if let Some(part) = JobPart::of(word) {
-        return part.printed(alloc, order, words);
+        return part.printed(alloc, row_call, words);
     }
     let Some(part) = TextPart::of(word) else {
         return Err(Why("a word that calls nothing"));
     };
-    part.printed(alloc, order.files.as_slice(), words)
+    part.printed(alloc, row_call.files.as_slice(), words)
 }
 
 // The word as text.

@@ -24,8 +24,8 @@ pub fn shown(alloc: Global, matched: &Matched) -> Result<Printed, Why> {
         }
         add_head(&mut text, matched, &task)?;
         add_sources(&mut text, plan, &task)?;
-        add_ins(&mut text, plan, &task)?;
-        add_outs(&mut text, plan, &task)?;
+        add_edges(&mut text, plan, &task, Direction::In)?;
+        add_edges(&mut text, plan, &task, Direction::Out)?;
         add_writes(&mut text, plan, &task)?;
     }
     Ok(Printed {
@@ -84,36 +84,22 @@ fn add_source(text: &mut String, plan: &Plan, task: &TaskId, number: u8) -> Resu
     Ok(())
 }
 
-// A line for each edge into the task.
-fn add_ins(text: &mut String, plan: &Plan, task: &TaskId) -> Result<(), Why>
+// A line for each edge into the task, or for each edge out of it.
+fn add_edges(text: &mut String, plan: &Plan, task: &TaskId, direction: Direction) -> Result<(), Why>
     requires { IsTask plan.now task.now }
 {
-    for tie in ties_of(plan, task, Direction::In) {
-        if let Far::Flow(from, out_flow) = &tie.far {
+    let arrow = match direction {
+        Direction::In => " <- ",
+        Direction::Out => " -> ",
+    };
+    for tie in ties_of(plan, task, direction) {
+        if let Far::Flow(other, flow) = &tie.far {
             text.push_str("  ")?;
             add_flow(text, plan, task.class(), tie.flow)?;
-            text.push_str(" <- ")?;
-            add_flow(text, plan, from.class(), *out_flow)?;
+            text.push_str(arrow)?;
+            add_flow(text, plan, other.class(), *flow)?;
             text.push(' ')?;
-            add_task(text, plan, from)?;
-            text.push('\n')?;
-        }
-    }
-    Ok(())
-}
-
-// A line for each edge out of the task.
-fn add_outs(text: &mut String, plan: &Plan, task: &TaskId) -> Result<(), Why>
-    requires { IsTask plan.now task.now }
-{
-    for tie in ties_of(plan, task, Direction::Out) {
-        if let Far::Flow(to, in_flow) = &tie.far {
-            text.push_str("  ")?;
-            add_flow(text, plan, task.class(), tie.flow)?;
-            text.push_str(" -> ")?;
-            add_flow(text, plan, to.class(), *in_flow)?;
-            text.push(' ')?;
-            add_task(text, plan, to)?;
+            add_task(text, plan, other)?;
             text.push('\n')?;
         }
     }

@@ -1,12 +1,13 @@
 -- The index of a place, as the number from which its row and its column are found.
-use Rattle.std.proofs.Common.{◌≡◌, ℕ, zero, suc, ◌+◌, ◌*◌, ◌/◌, ◌%◌, ◌<◌, ℤ, pos, negsuc, Bool, true, false, List, [], ◌∷◌, nat_lt, Option, Some, None, refl, sym, ap, ◌∙◌, subst, arith}
-use Rattle.std.specs.Prelude.{if◌then◌else◌, option_and_then, option_map, IsSomeAnd}
+use Rattle.std.proofs.Common.{◌≡◌, ℕ, zero, suc, ◌+◌, ◌*◌, ◌/◌, ◌%◌, ◌<◌, ℤ, pos, negsuc, true, List, [], ◌∷◌, nat_lt, Option, Some, None, refl, sym, ap, ◌∙◌, subst, arith}
+use Rattle.std.specs.Prelude.{option_and_then, option_map, IsSomeAnd}
 use Rattle.std.proofs.lemmas.Bool.Decides.{nat_tests}
 use Rattle.std.proofs.lemmas.Int.{ints}
 use Rattle.std.proofs.lemmas.Nat.{div-mul-add, mod-mul-add, div-add-mod'}
 use Rattle.std.proofs.Math.Nat.{div-lt_iff_lt-mul, mod-lt}
 use Rattle.ptg_base.specs.Index.{index_in}
 use Rattle.coll_data.specs.Tiles.{tile_count, IsRow, IsColumn, tile_index}
+use Rattle.coll_data.proofs.OneIndex.{index_in_is}
 use Rattle.coll_data.proofs.TileIndex.{row_and_column}
 use Rattle.report_text.specs.Places.{place_after}
 use Rattle.place_laws.specs.Listed.{listed_index}
@@ -14,19 +15,6 @@ use Rattle.place_laws.specs.Listed.{listed_index}
 -- a number below a limit
 pub index_in-pos : (limit n : ℕ) → n < limit → index_in limit (pos n) ≡ Some n
 index_in-pos limit n h = let e : nat_lt n limit ≡ true = grind (arith, nat_tests) in rw e refl
-
-some_if : (b : Bool) (n k : ℕ) → (if b then Some n else None) ≡ Some k → (b ≡ true) × (n ≡ k)
-some_if true n k e = (refl, cc)
-some_if false n k e = absurd cc
-
-pub index_in-some : (limit : ℕ) (i : ℤ) (k : ℕ) → index_in limit i ≡ Some k → (i ≡ pos k) × (k < limit)
-index_in-some limit (pos n) k e =
-    let p = some_if (nat_lt n limit) n k e in
-    let t = p.0 in
-    let same = p.1 in
-    let lt : n < limit = grind (arith, nat_tests) in
-    (ap pos same, subst (λ m. m < limit) same lt)
-index_in-some limit (negsuc n) k e = absurd cc
 
 -- the row and the column of the place with this index
 abbrev pub row_of : Option ℕ → ℕ → ℤ
@@ -48,15 +36,15 @@ pub record IsFoundFrom (rows : ℕ) (cols : Option ℕ) (i j : ℤ) (n : ℕ) : 
 in_one_column : (rows : ℕ) (i j : ℤ) (n : ℕ) (c : Option ℕ) → index_in 1 j ≡ c → option_and_then (λ column. index_in rows i) c ≡ Some n → IsFoundFrom rows None i j n
 in_one_column rows i j n None at e = absurd cc
 in_one_column rows i j n (Some c) at e =
-    let col = index_in-some 1 j c at in
-    let row = index_in-some rows i n e in
-    let zeroth : c ≡ 0 = omega (arith, col.1) in
-    let is_column : j ≡ pos 0 = col.0 ∙ ap pos zeroth in
-    let w : n < rows = row.1 in
+    let col = index_in_is 1 j c at in
+    let row = index_in_is rows i n e in
+    let zeroth : c ≡ 0 = omega (arith, col.within) in
+    let is_column : j ≡ pos 0 = col.is ∙ ap pos zeroth in
+    let w : n < rows = row.within in
     record {
-      row = row.0;
+      row = row.is;
       column = is_column;
-      is_row = subst (IsRow rows) (sym row.0) (omega (arith, ints), omega (arith, ints, w));
+      is_row = subst (IsRow rows) (sym row.is) (omega (arith, ints), omega (arith, ints, w));
       is_column = is_column;
       within = w;
     }
@@ -64,22 +52,22 @@ in_one_column rows i j n (Some c) at e =
 in_row : (rows cols : ℕ) (i j : ℤ) (n c : ℕ) (r : Option ℕ) → c < cols → j ≡ pos c → index_in rows i ≡ r → option_map (λ row. row * cols + c) r ≡ Some n → IsFoundFrom rows (Some cols) i j n
 in_row rows cols i j n c None within column at e = absurd cc
 in_row rows cols i j n c (Some r) within column at e =
-    let row = index_in-some rows i r at in
+    let row = index_in_is rows i r at in
     let sum : r * cols + c ≡ n = cc in
     let quotient : r ≡ n / cols = sym (div-mul-add r cols c within) ∙ ap (λ m. m / cols) sum in
     let rest : c ≡ n % cols = sym (mod-mul-add r cols c within) ∙ ap (λ m. m % cols) sum in
-    let w : r < rows = row.1 in
+    let w : r < rows = row.within in
     record {
-      row = row.0 ∙ ap pos quotient;
+      row = row.is ∙ ap pos quotient;
       column = column ∙ ap pos rest;
-      is_row = subst (IsRow rows) (sym row.0) (omega (arith, ints), omega (arith, ints, w));
+      is_row = subst (IsRow rows) (sym row.is) (omega (arith, ints), omega (arith, ints, w));
       is_column = subst (IsRow cols) (sym column) (omega (arith, ints), omega (arith, ints, within));
       within = subst (λ m. m < rows * cols) sum (row_and_column r c rows cols w within);
     }
 
 in_columns : (rows cols : ℕ) (i j : ℤ) (n : ℕ) (c : Option ℕ) → index_in cols j ≡ c → option_and_then (λ column. option_map (λ row. row * cols + column) (index_in rows i)) c ≡ Some n → IsFoundFrom rows (Some cols) i j n
 in_columns rows cols i j n None at e = absurd cc
-in_columns rows cols i j n (Some c) at e = let col = index_in-some cols j c at in in_row rows cols i j n c (index_in rows i) col.1 col.0 refl e
+in_columns rows cols i j n (Some c) at e = let col = index_in_is cols j c at in in_row rows cols i j n c (index_in rows i) col.within col.is refl e
 
 pub found_from : (rows : ℕ) (cols : Option ℕ) (i j : ℤ) (n : ℕ) → tile_index rows cols i j ≡ Some n → IsFoundFrom rows cols i j n
 found_from rows None i j n e = in_one_column rows i j n (index_in 1 j) refl e
@@ -108,12 +96,6 @@ has_index rows (Some cols) i j row column =
     let c = in_range cols j column in
     some_index rows (Some cols) i j (r.0 * cols + c.0)
     (ap (λ x. tile_index rows (Some cols) x j) r.1 ∙ ap (λ y. tile_index rows (Some cols) (pos r.0) y) c.1 ∙ index_of_pair rows cols r.0 c.0 r.2 c.2)
-
-pub one_place : (rows : ℕ) (cols : Option ℕ) (i j k l : ℤ) (n : ℕ) → tile_index rows cols i j ≡ Some n → tile_index rows cols k l ≡ Some n → (i ≡ k) × (j ≡ l)
-one_place rows cols i j k l n e f =
-    let a = found_from rows cols i j n e in
-    let b = found_from rows cols k l n f in
-    (a.row ∙ sym b.row, a.column ∙ sym b.column)
 
 -- the place that has n places before it has the index n, and no other place has it
 pub index_after : (rows : ℕ) (cols : Option ℕ) (n : ℕ) → n < tile_count rows cols → listed_index rows cols (place_after cols n) ≡ Some n

@@ -4,16 +4,16 @@ use Rattle.std.proofs.Common.{subst, inl, inr, slice_get, slice_set, IsSomeAnd, 
 use Rattle.std.proofs.lemmas.Bool.{false≢true}
 use Rattle.std.proofs.lemmas.Int.{ints}
 use Rattle.std.specs.List.{AllByRecursion}
-use Rattle.std.specs.Option.{option_map_or}
+use Rattle.std.specs.Option.{option_map_or, unwrap_or}
 use Rattle.ptg_base.specs.Lists.{IsIn}
 use Rattle.ptg_base.specs.declared.place.Place.{Place}
 use Rattle.plan_core.specs.declared.shape.Shape.{Shape}
 use Rattle.plan_core.specs.Place.{HasPlace, IsColumn, IsRow}
 use Rattle.place_set.specs.declared.PlaceSet.{PlaceSet}
 use Rattle.place_set.specs.declared.rows.Rows.{Rows}
-use Rattle.place_set.specs.Sets.{IsSetOf, IsWithin, columns, has, has_at, size, size_of}
+use Rattle.place_set.specs.Sets.{IsSetOf, IsWithin, has, has_at, size, size_of}
 
-in_columns : (o : Option ℕ) (j : ℤ) → IsColumn o j → IsRow (columns o) j
+in_columns : (o : Option ℕ) (j : ℤ) → IsColumn o j → IsRow (unwrap_or o 1) j
 in_columns None j h = rw h (omega (arith, ints), omega (arith, ints))
 in_columns (Some c) j h = h
 
@@ -26,7 +26,7 @@ set_of (c ∷ cs) [] n i j e h = absurd cc
 set_of (c ∷ cs) (s ∷ ss) zero i j e h =
     let sizes : size_of s ≡ size c = cc in
     let rows : s.rows ≡ c.rows = ap (λ (p : ℕ × ℕ). p.0) sizes in
-    let cols : s.cols ≡ columns c.cols = ap (λ (p : ℕ × ℕ). p.1) sizes in
+    let cols : s.cols ≡ unwrap_or c.cols 1 = ap (λ (p : ℕ × ℕ). p.1) sizes in
     (s, refl, (rw rows h.0, rw cols (in_columns c.cols j h.1)))
 set_of (c ∷ cs) (s ∷ ss) (suc n) i j e h = set_of cs ss n i j (cc) h
 

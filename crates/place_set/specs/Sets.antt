@@ -1,8 +1,9 @@
 -- Which places a set has, by one truth value for each place of a collection, row by row.
 -- Source: this project's own choice.
-use Rattle.std.specs.Prelude.{◌≡◌, ◌↔◌, ℕ, ℤ, ◌+◌, ◌*◌, List, Bool, false, map, Option, Some, None, unsigned_abs}
-use Rattle.std.specs.Prelude.{slice_get, slice_index_or, IsTrue}
+use Rattle.std.specs.Prelude.{◌≡◌, ◌↔◌, ℕ, ℤ, List, Bool, false, map, Some, unsigned_abs}
+use Rattle.std.specs.Prelude.{slice_get, slice_index_or, unwrap_or, IsTrue}
 use Rattle.std.specs.Option.{option_map_or}
+use Rattle.ptg_base.specs.Places.{number_in}
 use Rattle.ptg_base.specs.Lists.{IsIn}
 use Rattle.ptg_base.specs.declared.place.Place.{Place}
 use Rattle.plan_core.specs.declared.shape.Shape.{Shape}
@@ -10,14 +11,9 @@ use Rattle.plan_core.specs.Place.{HasPlace, IsRow}
 use Rattle.place_set.specs.declared.rows.Rows.{Rows}
 use Rattle.place_set.specs.declared.PlaceSet.{PlaceSet}
 
--- how many columns a collection has; one in one dimension
-abbrev pub columns : Option ℕ → ℕ
-columns None = 1
-columns (Some cols) = cols
-
--- how many rows and columns a collection has
+-- how many rows and columns a collection has; one column in one dimension
 abbrev pub size : Shape → ℕ × ℕ
-size shape = (shape.rows, columns shape.cols)
+size shape = (shape.rows, unwrap_or shape.cols 1)
 
 -- how many rows and columns a set of places has
 abbrev pub size_of : Rows → ℕ × ℕ
@@ -29,7 +25,7 @@ IsWithin s i j = IsRow s.rows i × IsRow s.cols j
 
 -- the truth value of a row and a column
 abbrev pub has_at : Rows → ℤ → ℤ → Bool
-has_at s i j = slice_index_or s.has.items (unsigned_abs i * s.cols + unsigned_abs j) false
+has_at s i j = slice_index_or s.has.items (number_in (Some s.cols) (unsigned_abs i) (unsigned_abs j)) false
 
 -- as many rows and columns as the shape, and no place
 abbrev pub IsEmpty : Shape → Rows → Type 0

@@ -3,9 +3,10 @@
 
 mod rows;
 
-ghost use Rattle.std.specs.Prelude.{◌≡◌, ◌↔◌, ◌+◌, ◌*◌, ◌<◌, ◌++◌, ◌∷◌, ◌⊎◌, [], List, ℤ, IfOk, IsTrue, MatchOption};
+ghost use Rattle.std.specs.Prelude.{◌≡◌, ◌↔◌, ◌<◌, ◌++◌, ◌∷◌, ◌⊎◌, [], List, ℤ, IfOk, IsTrue, MatchOption, Some};
 ghost use Rattle.std.specs.Prelude.{length, unsigned_abs};
 ghost use Rattle.ptg_base.specs.Lists.{IsIn};
+ghost use Rattle.ptg_base.specs.Places.{number_in};
 ghost use Rattle.ptg_base.specs.declared.place.Place.{Place as PlaceValue};
 ghost use Rattle.plan_core.specs.declared.shape.Shape.{Shape as ShapeValue};
 ghost use Rattle.plan_core.specs.Place.{HasPlace};
@@ -33,7 +34,8 @@ impl Rows {
     // The number of a place by its row and column, if it has them.
     fn index(&self, i: i64, j: i64) -> Option<usize>
         ensures { MatchOption result (IsWithin self.now i j → ⊥)
-            (λ k. (k ≡ unsigned_abs i * self.now.cols + unsigned_abs j) × (k < length self.now.has.items)) }
+            (λ k. (k ≡ number_in (Some self.now.cols) (unsigned_abs i) (unsigned_abs j))
+            × (k < length self.now.has.items)) }
     {
         if i < 0 || j < 0 {
             return None;

@@ -1,8 +1,7 @@
 pub mod Place
 pub mod Closed
 pub mod Kinds
-pub mod Names
-pub mod ClassName
+pub mod NamesByNumber
 pub mod Targets
 pub mod Flows
 pub mod Bodies

@@ -2,6 +2,8 @@
 -- project's own choice.
 use Rattle.std.specs.Prelude.{◌≡◌, ℕ, List, Some, Bool, ◌&&◌, ◌≤◌, nat_le, nat_lt, length, map, IsTrue, slice_get}
 use Rattle.std.specs.List.{list_all}
+use Rattle.std.specs.Str.{bytes_eq}
+use Rattle.ptg_base.specs.Lists.{are_distinct}
 use Rattle.ptg_base.specs.Limits.{most_classes, most_types, most_tiles}
 pub use Rattle.ptg_base.specs.Places.{is_element_count, tile_count}
 use Rattle.term_core.specs.WellSpace.{IsWellSpace}
@@ -11,7 +13,6 @@ use Rattle.plan_core.specs.declared.class.ClassPlan.{ClassPlan}
 use Rattle.plan_core.specs.declared.flow.FlowPlan.{FlowPlan}
 use Rattle.plan_core.specs.declared.shape.Shape.{Shape}
 use Rattle.plan_core.specs.Closed.{is_closed_option}
-use Rattle.plan_core.specs.Names.{are_distinct}
 use Rattle.plan_core.specs.Targets.{is_element}
 use Rattle.plan_core.specs.Flows.{is_flow}
 use Rattle.plan_core.specs.Bodies.{respects_kinds, has_words, keeps_loop_variables}
@@ -23,7 +24,7 @@ pub record IsWellClass (classes : List ClassPlan) (spaces : List ClassSpace) (co
   pub space : IsWellSpace s
   pub affinity : IsTrue (is_element colls (length s.defs) c.affinity.coll c.affinity.indices)
   pub flows : IsTrue (list_all (is_flow classes spaces colls types (length s.defs)) c.flows)
-  pub flow_names : IsTrue (are_distinct (map (λ (f : FlowPlan). f.name) c.flows))
+  pub flow_names : IsTrue (are_distinct bytes_eq (map (λ (f : FlowPlan). f.name) c.flows))
   pub priority : IsTrue (is_closed_option (length s.defs) c.priority)
   pub body : IsWellBody (length s.defs) (length c.flows) c.body
   pub kinds : IsTrue (respects_kinds (map (λ (f : FlowPlan). f.kind) c.flows) c.body.statements)
@@ -41,7 +42,7 @@ pub record IsWellMade (classes : List ClassPlan) (spaces : List ClassSpace) (col
     (elems : List ℕ) : Type 0 where
   pub classes_at_most : length classes ≤ most_classes
   pub one_space_each : length spaces ≡ length classes
-  pub class_names : IsTrue (are_distinct (map (λ (c : ClassPlan). c.name) classes))
+  pub class_names : IsTrue (are_distinct bytes_eq (map (λ (c : ClassPlan). c.name) classes))
   pub fit : (n : ℕ) (c : ClassPlan) (s : ClassSpace) → slice_get classes n ≡ Some c → slice_get spaces n ≡ Some s
       → IsWellClass classes spaces colls (length elems) s c
   pub shapes : IsTrue (list_all (is_shape (length elems)) colls)

@@ -3,12 +3,14 @@
 
 mod class;
 mod flow;
+mod names;
 mod plan;
 mod shape;
 mod target;
 
 pub use class::{AffinityPlan, ClassPlan};
 pub use flow::{DepPlan, FlowPlan};
+pub use names::{class_name, flow_name};
 pub use plan::Plan;
 pub use shape::Shape;
 pub use target::{Arg, Target};

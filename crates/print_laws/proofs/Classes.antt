@@ -23,7 +23,7 @@ use Rattle.jdf_tree.specs.declared.tree.FlowTree.{FlowTree}
 use Rattle.jdf_tree.specs.declared.tree.ClassTree.{ClassTree}
 use Rattle.jdf_tree.specs.declared.tree.Jdf.{Jdf}
 use Rattle.jdf_tree.specs.Expression.{Expression}
-use Rattle.jdf_tree.specs.Nonterminal.{an_opening}
+use Rattle.jdf_tree.specs.Nonterminal.{a_file}
 use Rattle.jdf_tree.specs.GrammarParts.{word, suffixed_by, any, maybe, name, word_of}
 use Rattle.jdf_tree.specs.ExpressionGrammar.{outer}
 use Rattle.jdf_tree.specs.ClassGrammar as grammar
@@ -359,25 +359,25 @@ classes_tell c cs m ms few s r h =
 abbrev globals_pieces : List Word → List Fragment
 globals_pieces ws = flat_map (λ w. line (token w.text ∷ [])) ws
 
-opening_name : (s : List Token) (t : Jdf) (r : List Token) → DerivesTree whole.opening s t r → Derived productions an_opening s t None r
+file_name : (s : List Token) (t : Jdf) (r : List Token) → DerivesTree whole.file s t r → Derived productions a_file s t None r
 unfolding productions
-opening_name s t r h = named productions an_opening s t None r h
+file_name s t r h = named productions a_file s t None r h
 
-opening_reads_back : (ws : List Word) (c : ClassTree) (cs : List ClassTree) → Every IsParameter ws → IsClass c → Every IsClass cs → length cs ≤ 63 → (s r : List Token)
-    → Reads (globals_pieces ws ++ flat_map print.class (c ∷ cs)) s r → ReadsBackAs whole.opening same.plain (same.plain (record { globals = ws; classes = c ∷ cs })) s r
-unfolding whole.opening whole.opening_after_global
-opening_reads_back [] c cs wm m ms few s r h =
+file_reads_back : (ws : List Word) (c : ClassTree) (cs : List ClassTree) → Every IsParameter ws → IsClass c → Every IsClass cs → length cs ≤ 63 → (s r : List Token)
+    → Reads (globals_pieces ws ++ flat_map print.class (c ∷ cs)) s r → ReadsBackAs whole.file same.plain (same.plain (record { globals = ws; classes = c ∷ cs })) s r
+unfolding whole.file whole.file_after_global
+file_reads_back [] c cs wm m ms few s r h =
     let k = classes_tell c cs m ms few s r h in
     record { tree = whole.without_globals k.tree; derives = inr (inr (inl (k.tree, k.derives, refl))); like = ap (λ (l : List ClassTree). job [] l) k.like }
-opening_reads_back (w ∷ ws) c cs wm m ms few s r h =
+file_reads_back (w ∷ ws) c cs wm m ms few s r h =
     let R : List Fragment → Type 0 = λ ps. Reads ps s r in
     let split = reads_both (line (token w.text ∷ [])) (globals_pieces ws ++ flat_map print.class (c ∷ cs)) s r (subst R (append_assoc (line (token w.text ∷ [])) (globals_pieces ws) (flat_map print.class (c ∷ cs))) h) in
     let l = reads_line (token w.text ∷ []) s split.0 split.1 in
-    let k = opening_reads_back ws c cs wm.1 m ms few split.0 r split.2 in
+    let k = file_reads_back ws c cs wm.1 m ms few split.0 r split.2 in
     let begin : s ≡ l.0 ∷ split.0 = l.2 ∙ ap (λ (v : List Token). l.0 ∷ v) l.4 in
     record {
       tree = whole.with_global (word_of l.0) k.tree;
-      derives = inr (inr (inr (inr ((l.0, k.tree), (split.0, None, is_one is_name w.text wm.0.1 l.0 s split.0 begin l.3, opening_name split.0 k.tree r k.derives, refl), refl))));
+      derives = inr (inr (inr (inr ((l.0, k.tree), (split.0, None, is_one is_name w.text wm.0.1 l.0 s split.0 begin l.3, file_name split.0 k.tree r k.derives, refl), refl))));
       like = ap (λ (v : Word). job (v ∷ map same.word k.tree.globals) (map same.class k.tree.classes)) (same_word l.0 w l.3) ∙ ap (λ (j : Jdf). job (same.word w ∷ j.globals) j.classes) k.like;
     }
 
@@ -392,4 +392,4 @@ job_reads_back jdf formed s r h = go jdf.classes refl
         let R : List ClassTree → Type 0 = λ l. Reads (globals_pieces jdf.globals ++ flat_map print.class l) s r in
         let G : List ClassTree → Type 0 = λ l. ReadsBackAs whole.file same.plain (same.plain (record { globals = jdf.globals; classes = l })) s r in
         let all = subst E e formed.classes in
-        subst G (sym e) (opening_reads_back jdf.globals c cs formed.globals all.0 all.1 (omega (arith, formed.few, ap (λ (l : List ClassTree). length l) e)) s r (subst R e h))
+        subst G (sym e) (file_reads_back jdf.globals c cs formed.globals all.0 all.1 (omega (arith, formed.few, ap (λ (l : List ClassTree). length l) e)) s r (subst R e h))

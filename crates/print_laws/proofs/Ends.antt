@@ -1,9 +1,10 @@
 -- The rest after a derivation is the end of the tokens; a derivation without a fault has parts without one.
 use Rattle.std.proofs.Common.{◌≡◌, ℕ, suc, List, [], ◌∷◌, ◌++◌, refl, sym, ap, ◌∙◌, inl, inr, append_assoc}
 use Rattle.std.specs.Prelude.{Option, Some, None}
+use Rattle.std.specs.Option.{option_or}
 use Rattle.grammar_core.specs.declared.token.Token.{Token}
 use Rattle.grammar_core.specs.declared.code.Code.{Code}
-use Rattle.grammar_core.specs.Production.{Production, seq, map, alt, opt, star, limited, Fault, Language, Many, Derives, or_fault, at_start, one_of, checked, pick, after_token}
+use Rattle.grammar_core.specs.Production.{Production, seq, map, alt, opt, star, limited, Fault, Language, Many, Derives, at_start, one_of, checked, pick, after_token}
 
 -- The second list is the end of the first.
 abbrev pub HasEnd : List Token → List Token → Type 0
@@ -37,7 +38,7 @@ derives_has_end R f (limited l c g) s t o r h = derives_has_end R f g s t h.0 r 
 
 -- ---- no fault
 
-pub none_or : (c : Option Code) (x : Fault) → or_fault (at_start c) x ≡ None → (c ≡ None) × (x ≡ None)
+pub none_or : (c : Option Code) (x : Fault) → option_or (at_start c) x ≡ None → (c ≡ None) × (x ≡ None)
 none_or None x e = (refl, e)
 none_or (Some c) x e = absurd (cc)
 

@@ -3,6 +3,7 @@ use Rattle.std.proofs.Common.{◌≡◌, ℕ, suc, ◌+◌, ◌≤◌, ◌<◌, 
 use Rattle.std.specs.Prelude.{Option, Some, None, nat_le, codes}
 use Rattle.std.specs.List.{flat_map}
 use Rattle.std.proofs.lemmas.Bool.{cond-false, lt-leb}
+use Rattle.std.specs.Option.{option_or}
 use Rattle.grammar_core.specs.declared.token.Token.{Token}
 use Rattle.jdf_alphabet.specs.declared.terminal.Terminal.{Terminal}
 use Rattle.jdf_alphabet.specs.declared.terminal.Terminal.TheVariants as terminal
@@ -10,7 +11,7 @@ use Rattle.grammar_core.specs.declared.code.Code.{Code}
 use Rattle.jdf_alphabet.specs.Terminals.{words, marks, is}
 use Rattle.jdf_alphabet.specs.Counted.{is_counted}
 use Rattle.jdf_alphabet.specs.Sets.{limit_at}
-use Rattle.grammar_core.specs.Production.{Fault, then_fault, or_fault, at_start, star, Derives, Many, Derived, taken}
+use Rattle.grammar_core.specs.Production.{Fault, then_fault, at_start, star, Derives, Many, Derived, taken}
 use Rattle.jdf_alphabet.specs.Codes.{ExprTooLong}
 use Rattle.jdf_tree.specs.declared.expression.Word.{Word}
 use Rattle.jdf_tree.specs.declared.part.Part.TheVariants.{Class}
@@ -134,8 +135,8 @@ not_full n i c h = cond-false (nat_le n i) (Some c) None (lt-leb n i h)
 abbrev none : Fault
 none = None
 
-no_fault : (full : ℕ → Option Code) (i : ℕ) → full i ≡ None → (n : ℕ) → then_fault (or_fault (at_start (full i)) None) n None ≡ none
-no_fault full i e n = ap (λ (c : Option Code). then_fault (or_fault (at_start c) None) n None) e
+no_fault : (full : ℕ → Option Code) (i : ℕ) → full i ≡ None → (n : ℕ) → then_fault (option_or (at_start (full i)) None) n None ≡ none
+no_fault full i e n = ap (λ (c : Option Code). then_fault (option_or (at_start c) None) n None) e
 
 -- Derivations one after the other.
 record StarReadsBack {A B : Type 0} (full : ℕ → Option Code) (i : ℕ) (g : Grammar A) (erase : A → B) (bs : List B) (s r : List Token) : Type 0 where

@@ -2,16 +2,17 @@
 use Rattle.std.proofs.Common.{◌≡◌, ℕ, suc, ◌+◌, ◌≤◌, Bool, true, false, cond, List, [], ◌∷◌, length, refl, sym, subst, ◌∙◌, inl, inr, arith}
 use Rattle.std.specs.Prelude.{Option, Some, None, nat_le}
 use Rattle.std.proofs.lemmas.Bool.{leb-false}
+use Rattle.std.specs.Option.{option_or, unwrap_or}
 use Rattle.grammar_core.specs.declared.token.Token.{Token}
 use Rattle.jdf_alphabet.specs.declared.terminal.Terminal.{Terminal}
 use Rattle.jdf_alphabet.specs.declared.terminal.Terminal.TheVariants as terminal
 use Rattle.grammar_core.specs.declared.code.Code.{Code}
-use Rattle.grammar_core.specs.Production.{map, seq, alt, opt, star, Fault, Language, Many, Derives, taken, at_start, or_fault}
+use Rattle.grammar_core.specs.Production.{map, seq, alt, opt, star, Fault, Language, Many, Derives, taken, at_start}
 use Rattle.jdf_alphabet.specs.Sets.{pick}
 use Rattle.jdf_tree.specs.declared.expression.Word.{Word}
 use Rattle.jdf_tree.specs.declared.part.Part.TheVariants.{Class}
 use Rattle.jdf_tree.specs.Nonterminal.{Nonterminal, TreeOf, Grammar}
-use Rattle.jdf_tree.specs.GrammarParts.{word, prefixed_by, suffixed_by, any, listed, maybe, or_none, name}
+use Rattle.jdf_tree.specs.GrammarParts.{word, prefixed_by, suffixed_by, any, listed, maybe, name}
 use Rattle.jdf_tree.specs.ClassGrammar.{full_at}
 use Rattle.print_laws.proofs.Expressions.{IsName}
 use Rattle.print_laws.proofs.Forms.{Every}
@@ -60,7 +61,7 @@ module _ (R : (n : Nonterminal) → Language (TreeOf n)) (B : (n : Nonterminal) 
   many_hold : {A : Type 0} (full : ℕ → Option Code) (g : Grammar A) (P : A → Type 0) → Holds g P → (i : ℕ) (ts : List A) (s : List Token) (o : Fault) (r : List Token) → Many full (Derives R g) i s ts o r → o ≡ None → Every IsKnown s → Every P ts
   many_hold full g P f i [] s o r h e known = tt
   many_hold full g P f i (t ∷ ts) s o r h e known =
-      let parts = both_none (or_fault (at_start (full i)) h.1) (taken s h.0) h.2 (sym e ∙ h.5) in
+      let parts = both_none (option_or (at_start (full i)) h.1) (taken s h.0) h.2 (sym e ∙ h.5) in
       let start = none_or (full i) h.1 parts.0 in
       (f s t h.1 h.0 h.3 start.1 known, many_hold full g P f (suc i) ts h.0 h.2 r h.4 parts.1 (rest g s t h.1 h.0 h.3 known))
 
@@ -77,7 +78,7 @@ module _ (R : (n : Nonterminal) → Language (TreeOf n)) (B : (n : Nonterminal) 
   many_at_most : {A : Type 0} (n : ℕ) (c : Code) (g : Grammar A) (i : ℕ) (ts : List A) (s : List Token) (o : Fault) (r : List Token) → i ≤ n → Many (full_at n c) (Derives R g) i s ts o r → o ≡ None → i + length ts ≤ n
   many_at_most n c g i [] s o r le h e = omega arith
   many_at_most n c g i (t ∷ ts) s o r le h e =
-      let parts = both_none (or_fault (at_start (full_at n c i)) h.1) (taken s h.0) h.2 (sym e ∙ h.5) in
+      let parts = both_none (option_or (at_start (full_at n c i)) h.1) (taken s h.0) h.2 (sym e ∙ h.5) in
       let start = none_or (full_at n c i) h.1 parts.0 in
       let more = many_at_most n c g (suc i) ts h.0 h.2 r (not_yet n i c start.0) h.4 parts.1 in
       omega (arith, more)
@@ -97,9 +98,9 @@ module _ (R : (n : Nonterminal) → Language (TreeOf n)) (B : (n : Nonterminal) 
       (both g (star any (prefixed_by terminal.Comma g)) P (Every P) f (all any (prefixed_by terminal.Comma g) P (after_word terminal.Comma g P f))) (λ a h. h)
 
   pub or_nothing : {A : Type 0} (g : Grammar (List A)) (P : List A → Type 0) → P [] → Holds g P → Holds (maybe g) P
-  or_nothing {A = A} g P nil f = mapped or_none (opt g) (IfPresent P) P (if_present g P f) go
+  or_nothing {A = A} g P nil f = mapped (λ o. unwrap_or o []) (opt g) (IfPresent P) P (if_present g P f) go
     where
-      go : (a : Option (List A)) → IfPresent P a → P (or_none a)
+      go : (a : Option (List A)) → IfPresent P a → P (unwrap_or a [])
       go None h = nil
       go (Some a) h = h
 

@@ -20,7 +20,7 @@ use Rattle.jdf_tree.specs.declared.tree.TargetTree.TheVariants.{New, Null}
 use Rattle.jdf_tree.specs.declared.tree.ClassTree.{ClassTree}
 use Rattle.jdf_tree.specs.declared.tree.Jdf.{Jdf}
 use Rattle.jdf_tree.specs.Expression.{Expression}
-use Rattle.jdf_tree.specs.Nonterminal.{Nonterminal, an_expr, a_unary, an_opening, TreeOf, Grammar}
+use Rattle.jdf_tree.specs.Nonterminal.{Nonterminal, an_expr, a_unary, a_file, TreeOf, Grammar}
 use Rattle.jdf_tree.specs.GrammarParts.{word, prefixed_by, suffixed_by, any, maybe, name, word_of}
 use Rattle.jdf_tree.specs.ExpressionGrammar.{outer, guard}
 use Rattle.jdf_tree.specs.ClassGrammar as grammar
@@ -316,9 +316,9 @@ module _ (R : (n : Nonterminal) → Language (TreeOf n)) (B : (n : Nonterminal) 
       (holding.few R B 63 TooManyClasses whole.class_and_skips IsClass and_skips_well_formed))
       (λ x h. let few = h.1.0 in (omega arith, omega arith, (h.0, h.1.1)))
 
-  module _ (O : JobsOf (R an_opening)) where
+  module _ (O : JobsOf (R a_file)) where
     -- A token and the rest of the text after it.
-    behind_well_formed : (q : Terminal → Bool) → Holds (after_token q an_opening) (λ x. IsJob x.1)
+    behind_well_formed : (q : Terminal → Bool) → Holds (after_token q a_file) (λ x. IsJob x.1)
     behind_well_formed q s x o r h e known =
         let parts = both_none None 1 h.1 (sym e ∙ h.4) in
         O h.0 x.1 h.1 r h.3 parts.1 (known_rest s h.0 (x.0 ∷ [], h.2.0) known)
@@ -326,30 +326,30 @@ module _ (R : (n : Nonterminal) → Language (TreeOf n)) (B : (n : Nonterminal) 
     with_one : (w : Word) (j : Jdf) → IsName w.text → IsJob j → IsJob (whole.with_global w j)
     with_one w j a b = record { globals = (a, b.globals); few = b.few; some = b.some; classes = b.classes }
 
-    extern_well_formed : Holds whole.opening_after_extern IsJob
-    unfolding whole.opening_after_extern
+    extern_well_formed : Holds whole.file_after_extern IsJob
+    unfolding whole.file_after_extern
     extern_well_formed =
-        holding.mapped R B (λ x. x.1.1.1) (seq (word terminal.Extern) (seq (word terminal.Quoted) (after_token (is terminal.Raw) an_opening))) (λ x. Unit {0} × (Unit {0} × IsJob x.1.1.1)) IsJob
-        (holding.both R B (word terminal.Extern) (seq (word terminal.Quoted) (after_token (is terminal.Raw) an_opening)) (λ x. Unit {0}) (λ x. Unit {0} × IsJob x.1.1) (holding.free R B (word terminal.Extern))
-        (holding.both R B (word terminal.Quoted) (after_token (is terminal.Raw) an_opening) (λ x. Unit {0}) (λ x. IsJob x.1) (holding.free R B (word terminal.Quoted)) (behind_well_formed (is terminal.Raw))))
+        holding.mapped R B (λ x. x.1.1.1) (seq (word terminal.Extern) (seq (word terminal.Quoted) (after_token (is terminal.Raw) a_file))) (λ x. Unit {0} × (Unit {0} × IsJob x.1.1.1)) IsJob
+        (holding.both R B (word terminal.Extern) (seq (word terminal.Quoted) (after_token (is terminal.Raw) a_file)) (λ x. Unit {0}) (λ x. Unit {0} × IsJob x.1.1) (holding.free R B (word terminal.Extern))
+        (holding.both R B (word terminal.Quoted) (after_token (is terminal.Raw) a_file) (λ x. Unit {0}) (λ x. IsJob x.1) (holding.free R B (word terminal.Quoted)) (behind_well_formed (is terminal.Raw))))
         (λ x h. h.1.1)
 
-    option_well_formed : Holds whole.opening_after_option IsJob
-    unfolding whole.opening_after_option
-    option_well_formed = holding.mapped R B (λ x. x.1) (after_token (is terminal.OptionLine) an_opening) (λ x. IsJob x.1) IsJob (behind_well_formed (is terminal.OptionLine)) (λ x h. h)
+    option_well_formed : Holds whole.file_after_option IsJob
+    unfolding whole.file_after_option
+    option_well_formed = holding.mapped R B (λ x. x.1) (after_token (is terminal.OptionLine) a_file) (λ x. IsJob x.1) IsJob (behind_well_formed (is terminal.OptionLine)) (λ x h. h)
 
-    properties_well_formed : Holds whole.opening_after_properties IsJob
-    unfolding whole.opening_after_properties
+    properties_well_formed : Holds whole.file_after_properties IsJob
+    unfolding whole.file_after_properties
     properties_well_formed =
-        holding.mapped R B (λ x. whole.with_global x.0 x.1.1.1.1) (seq (name Class) (seq (word terminal.LeftBracket) (seq (star any (one_of grammar.is_no_right_bracket)) (after_token (is terminal.RightBracket) an_opening))))
+        holding.mapped R B (λ x. whole.with_global x.0 x.1.1.1.1) (seq (name Class) (seq (word terminal.LeftBracket) (seq (star any (one_of grammar.is_no_right_bracket)) (after_token (is terminal.RightBracket) a_file))))
         (λ x. IsName x.0.text × (Unit {0} × (Unit {0} × IsJob x.1.1.1.1))) IsJob
-        (holding.both R B (name Class) (seq (word terminal.LeftBracket) (seq (star any (one_of grammar.is_no_right_bracket)) (after_token (is terminal.RightBracket) an_opening))) (λ w. IsName w.text) (λ x. Unit {0} × (Unit {0} × IsJob x.1.1.1)) (holding.name_well_formed R B)
-        (holding.both R B (word terminal.LeftBracket) (seq (star any (one_of grammar.is_no_right_bracket)) (after_token (is terminal.RightBracket) an_opening)) (λ x. Unit {0}) (λ x. Unit {0} × IsJob x.1.1) (holding.free R B (word terminal.LeftBracket))
-        (holding.both R B (star any (one_of grammar.is_no_right_bracket)) (after_token (is terminal.RightBracket) an_opening) (λ x. Unit {0}) (λ x. IsJob x.1) (holding.free R B (star any (one_of grammar.is_no_right_bracket))) (behind_well_formed (is terminal.RightBracket)))))
+        (holding.both R B (name Class) (seq (word terminal.LeftBracket) (seq (star any (one_of grammar.is_no_right_bracket)) (after_token (is terminal.RightBracket) a_file))) (λ w. IsName w.text) (λ x. Unit {0} × (Unit {0} × IsJob x.1.1.1)) (holding.name_well_formed R B)
+        (holding.both R B (word terminal.LeftBracket) (seq (star any (one_of grammar.is_no_right_bracket)) (after_token (is terminal.RightBracket) a_file)) (λ x. Unit {0}) (λ x. Unit {0} × IsJob x.1.1) (holding.free R B (word terminal.LeftBracket))
+        (holding.both R B (star any (one_of grammar.is_no_right_bracket)) (after_token (is terminal.RightBracket) a_file) (λ x. Unit {0}) (λ x. IsJob x.1) (holding.free R B (star any (one_of grammar.is_no_right_bracket))) (behind_well_formed (is terminal.RightBracket)))))
         (λ x h. with_one x.0 x.1.1.1.1 h.0 h.1.1.1)
 
-    global_well_formed : Holds whole.opening_after_global IsJob
-    unfolding whole.opening_after_global
+    global_well_formed : Holds whole.file_after_global IsJob
+    unfolding whole.file_after_global
     global_well_formed s t o r h e known =
         let x = h.0 in
         let q = h.1 in
@@ -360,13 +360,13 @@ module _ (R : (n : Nonterminal) → Language (TreeOf n)) (B : (n : Nonterminal) 
     jobs_well_formed : Holds (map whole.without_globals whole.classes) IsJob
     jobs_well_formed = holding.mapped R B whole.without_globals whole.classes AreClasses IsJob classes_well_formed (λ cs h. record { globals = tt; few = h.0; some = h.1; classes = h.2 })
 
-    pub opening_well_formed : Holds whole.opening IsJob
-    unfolding whole.opening
-    opening_well_formed =
-        holding.one_or R B whole.opening_after_extern (alt whole.opening_after_option (pick (is terminal.LeftParen) (map whole.without_globals whole.classes) (pick (is terminal.LeftBracket) whole.opening_after_properties whole.opening_after_global))) IsJob extern_well_formed
-        (holding.one_or R B whole.opening_after_option (pick (is terminal.LeftParen) (map whole.without_globals whole.classes) (pick (is terminal.LeftBracket) whole.opening_after_properties whole.opening_after_global)) IsJob option_well_formed
-        (holding.picked R B (is terminal.LeftParen) (map whole.without_globals whole.classes) (pick (is terminal.LeftBracket) whole.opening_after_properties whole.opening_after_global) IsJob jobs_well_formed
-        (holding.picked R B (is terminal.LeftBracket) whole.opening_after_properties whole.opening_after_global IsJob properties_well_formed global_well_formed)))
+    pub file_well_formed : Holds whole.file IsJob
+    unfolding whole.file
+    file_well_formed =
+        holding.one_or R B whole.file_after_extern (alt whole.file_after_option (pick (is terminal.LeftParen) (map whole.without_globals whole.classes) (pick (is terminal.LeftBracket) whole.file_after_properties whole.file_after_global))) IsJob extern_well_formed
+        (holding.one_or R B whole.file_after_option (pick (is terminal.LeftParen) (map whole.without_globals whole.classes) (pick (is terminal.LeftBracket) whole.file_after_properties whole.file_after_global)) IsJob option_well_formed
+        (holding.picked R B (is terminal.LeftParen) (map whole.without_globals whole.classes) (pick (is terminal.LeftBracket) whole.file_after_properties whole.file_after_global) IsJob jobs_well_formed
+        (holding.picked R B (is terminal.LeftBracket) whole.file_after_properties whole.file_after_global IsJob properties_well_formed global_well_formed)))
 
 -- ---- names of any depth
 
@@ -375,7 +375,7 @@ record AreMade (R : (n : Nonterminal) → Language (TreeOf n)) : Type 0 where
   shortens : (n : Nonterminal) → Shortens (R n)
   exprs : FactsOf (R (an_expr Class))
   unaries : FactsOf (R (a_unary Class))
-  jobs : JobsOf (R an_opening)
+  jobs : JobsOf (R a_file)
 
 abbrev At : ℕ → (n : Nonterminal) → Language (TreeOf n)
 At k = DerivedWithin productions k
@@ -387,7 +387,7 @@ step k m =
       shortens = λ n s t o r h. derives_has_end (At k) m.shortens (productions n) s t o r h;
       exprs = expression.expr_facts (At k) m.shortens m.exprs m.unaries;
       unaries = expression.unary_facts (At k) m.shortens m.exprs m.unaries;
-      jobs = opening_well_formed (At k) m.shortens m.exprs m.unaries m.jobs;
+      jobs = file_well_formed (At k) m.shortens m.exprs m.unaries m.jobs;
     }
 
 made_at : (k : ℕ) → AreMade (At k)
@@ -399,4 +399,4 @@ pub job_well_formed : (s : List Token) (t : Jdf) → IsText productions whole.fi
 job_well_formed s t h known =
     let a = at_depth productions whole.file s t None [] h in
     let m = made_at a.0 in
-    opening_well_formed (At a.0) m.shortens m.exprs m.unaries m.jobs s t None [] a.1 refl known
+    file_well_formed (At a.0) m.shortens m.exprs m.unaries m.jobs s t None [] a.1 refl known

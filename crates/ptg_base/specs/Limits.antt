@@ -1,5 +1,5 @@
 -- The limits that several crates speak of. Source: this project's own choice.
-use Rattle.std.specs.Prelude.{ℕ}
+use Rattle.std.specs.Prelude.{ℕ, ◌≤◌}
 
 -- how many bytes the text of a JDF, of data or of a trace may have: 16 MiB
 abbrev pub most_bytes : ℕ
@@ -77,6 +77,10 @@ most_workers = 64
 abbrev pub most_shards : ℕ
 most_shards = 256
 
+-- a run may have so many workers, and its table so many shards
+abbrev pub AreCounts : ℕ → ℕ → Type 0
+AreCounts workers shards = (1 ≤ workers) × (workers ≤ most_workers) × (1 ≤ shards) × (shards ≤ most_shards)
+
 -- how many ranks a world may have
 abbrev pub most_ranks : ℕ
 most_ranks = 64
@@ -96,3 +100,7 @@ most_preload_bytes = 1073741824
 -- how many rows of tiles a made job may have
 abbrev pub most_rows : ℕ
 most_rows = 96
+
+-- the greatest number that a JDF and its data may have: 2^63 - 1
+abbrev pub most_number : ℕ
+most_number = 9223372036854775807

@@ -1,5 +1,6 @@
--- Membership, no repeats, and the like, on lists of tasks, edges and places. These are the usual words of lists.
-use Rattle.std.specs.Prelude.{◌≡◌, ◌⊎◌, List, [], ◌∷◌}
+-- Membership, no repeats, and the like, on lists of tasks, edges, places and names. These are the usual words of lists.
+use Rattle.std.specs.Prelude.{◌≡◌, ◌⊎◌, List, [], ◌∷◌, Bool, true, not, ◌&&◌}
+use Rattle.std.specs.List.{list_any}
 
 -- x is one of the list
 abbrev pub IsIn : {A : Type 0} → A → List A → Type 0
@@ -10,3 +11,8 @@ IsIn x (y ∷ ys) = (x ≡ y) ⊎ IsIn x ys
 abbrev pub HasNoRepeats : {A : Type 0} → List A → Type 0
 HasNoRepeats [] = Unit {0}
 HasNoRepeats (x ∷ xs) = (IsIn x xs → ⊥) × HasNoRepeats xs
+
+-- whether no element of the list is the same as one after it, by this test
+abbrev pub are_distinct : {A : Type 0} → (A → A → Bool) → List A → Bool
+are_distinct same [] = true
+are_distinct same (x ∷ xs) = not (list_any (same x) xs) && are_distinct same xs

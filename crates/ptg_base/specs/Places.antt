@@ -1,5 +1,5 @@
 -- The places of collections: rows and columns count from 0; and how large tiles are. Source: this project's own choice.
-use Rattle.std.specs.Prelude.{◌≡◌, ◌*◌, ◌&&◌, ℕ, nat_le, ℤ, pos, ◌≤ℤ◌, ◌<ℤ◌, Bool, List, slice_get, IsSomeAnd, Option, Some, None}
+use Rattle.std.specs.Prelude.{◌≡◌, ◌*◌, ◌&&◌, ℕ, nat_le, ℤ, pos, ◌≤ℤ◌, ◌<ℤ◌, Bool, List, slice_get, IsSomeAnd, Option, Some, None, ◌+◌}
 use Rattle.ptg_base.specs.Limits.{most_tile_elements}
 use Rattle.ptg_base.specs.declared.place.Place.{Place}
 
@@ -15,6 +15,13 @@ IsColumn (Some cols) j = (pos 0 ≤ℤ j) × (j <ℤ pos cols)
 -- the collection of the place is one of these, and has its row and column; each has this many rows and columns
 abbrev pub HasPlaceAmong : {A : Type 0} → (A → ℕ) → (A → Option ℕ) → List A → Place → Type 0
 HasPlaceAmong rows cols colls p = IsSomeAnd (slice_get colls p.coll) (λ c. IsRow (rows c) p.i × IsColumn (cols c) p.j)
+
+-- the number of a row and a column among the places of a collection with this many columns, row by row: all places of
+-- the rows before it come first, and those before it in its row. It is the row's in one dimension, and asks for no
+-- bounds
+abbrev pub number_in : Option ℕ → ℕ → ℕ → ℕ
+number_in None row column = row
+number_in (Some cols) row column = row * cols + column
 
 -- how many tiles a collection has, by its rows and columns
 abbrev pub tile_count : ℕ → Option ℕ → ℕ

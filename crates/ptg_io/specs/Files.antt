@@ -1,12 +1,12 @@
 -- The bytes of a file by its name, and reads of them piece by piece. Source: this project's own choice; a read is
 -- POSIX's pread.
-use Rattle.std.specs.Prelude.{◌≡◌, ℕ, ◌<◌, ◌≤◌, List, [], ◌∷◌, length, take, drop, Option, None, Some, if◌then◌else◌}
+use Rattle.std.specs.Prelude.{◌≡◌, ℕ, ◌<◌, ◌≤◌, List, length, take, drop, Option, Some}
 use Rattle.std.specs.Str.{bytes_eq}
+use Rattle.std.specs.Map.{lookup}
 
 -- The bytes of the first file with this name. A file is its name and its bytes.
 abbrev pub file_of : List (List ℕ × List ℕ) → List ℕ → Option (List ℕ)
-file_of [] name = None
-file_of (file ∷ files) name = if bytes_eq file.0 name then Some file.1 else file_of files name
+file_of files name = lookup (λ (n : List ℕ). bytes_eq n name) files
 
 -- A read of a file from an offset gave n bytes: the buffer begins with that many of the bytes from there on.
 -- It gave none only at or past the end.

@@ -1,6 +1,6 @@
 //! Files in memory, some of whose reads fail.
 
-ghost use Rattle.std.specs.Prelude.{◌≡◌, ◌≢◌, ◌<◌, ◌≤◌, ◌+◌, ◌-◌, ◌⊎◌, ◌↔◌, min, List, ℕ, Option, Some, None, length, Contains, IfOk, IfSome, OnOk, OnErr, IsErr};
+ghost use Rattle.std.specs.Prelude.{◌≡◌, ◌≢◌, ◌<◌, ◌≤◌, ◌-◌, ◌⊎◌, ◌↔◌, min, List, ℕ, Option, Some, None, length, Contains, IfOk, IfSome, OnOk, OnErr, IsErr};
 ghost use Rattle.ptg_io.specs.Faults.{Rose, one_more};
 ghost use Rattle.ptg_io.specs.Files.{file_of, IsPiece, ReadsPiece};
 ghost use Rattle.ptg_io.specs.Memory.{index_of, fault_count, failed_reads, CountsFailedRead, CountsFault, CountsRead};
@@ -75,7 +75,7 @@ impl Files for MemFiles {
         // The chosen reads fail, and those of a name that is missing.
         ensures refused { IsErr result ↔
             (Contains self.old.fails self.new.reads ⊎ (index_of self.old.files name.now ≡ None)) }
-        ensures counted { self.new.reads ≡ min (self.old.reads + 1) 18446744073709551615 }
+        ensures counted { self.new.reads ≡ one_more self.old.reads }
         ensures fails { self.new.fails ≡ self.old.fails }
 
         // It takes as much as fits, and counts its failure alone.

@@ -1,6 +1,6 @@
 //! A sink in memory, some of whose writes fail.
 
-ghost use Rattle.std.specs.Prelude.{◌≡◌, ◌<◌, ◌≤◌, ◌+◌, min, [], Some, length, take, Contains, IfOk, OnOk, OnErr, IsErr};
+ghost use Rattle.std.specs.Prelude.{◌≡◌, ◌<◌, ◌≤◌, [], Some, length, take, Contains, IfOk, OnOk, OnErr, IsErr};
 ghost use Rattle.ptg_io.specs.Faults.{Rose, one_more};
 ghost use Rattle.ptg_io.specs.Sink.{appended};
 
@@ -65,7 +65,7 @@ impl Sink for MemSink {
         // It takes the piece whole. The chosen writes fail; any other fails only for want of memory.
         ensures whole { IfOk result (λ n. n ≡ length piece.now) }
         ensures failing { Contains self.old.fails self.new.writes → IsErr result }
-        ensures counted { self.new.writes ≡ min (self.old.writes + 1) 18446744073709551615 }
+        ensures counted { self.new.writes ≡ one_more self.old.writes }
         ensures fails { self.new.fails ≡ self.old.fails }
 
         // It counts its failure alone.

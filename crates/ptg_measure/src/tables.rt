@@ -13,7 +13,7 @@ use dep_iter::Matched;
 use dep_table::{Busy, Closed, DepTable, Pass};
 use flow_meaning::Outcome;
 use ptg_base::OutOfMemory;
-use run_pool::{PrepareFault, Settings, prepare, run};
+use run_pool::{Settings, lay_out, run};
 use std::alloc::Global;
 use std::sync::Wait;
 use std::thread;
@@ -183,11 +183,8 @@ fn closed<R: Threads + Wait + Sync>(
         shards: SHARDS,
         preload: false,
     };
-    match prepare(alloc, matched, given, settings) {
-        Ok(prepared) => Ok(run(rt, prepared, &Always)?),
-        Err(PrepareFault::PreloadTooLarge(_bytes)) => Err(Failure::TooLarge),
-        Err(PrepareFault::OutOfMemory) => Err(Failure::OutOfMemory),
-    }
+    let prepared = lay_out(alloc, matched, given, settings)?;
+    Ok(run(rt, prepared, &Always)?)
 }
 
 /// The run of one task after which this many others wait, up to the close of the table.

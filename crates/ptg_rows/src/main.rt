@@ -9,7 +9,7 @@ use crate::settings::with_settings;
 use ptg_base::Seq;
 use ptg_io::{ByteFiles, ByteSink, MemFiles, MemSink};
 use ptg_top::ptg_main;
-use row_files::{Call, Order, Printed, Why, all_as_wanted};
+use row_files::{Call, Printed, RowCall, Why, all_as_wanted};
 use std::alloc::Global;
 use std::io;
 use std::process::ExitCode;
@@ -52,14 +52,14 @@ impl<'a> Call for Program<'a> {
         &self,
         rt: &R,
         alloc: Global,
-        order: Order,
+        row_call: RowCall,
     ) -> Result<Printed, Why> {
-        let Order {
+        let RowCall {
             files,
             words,
             failing_reads,
             failing_writes,
-        } = order;
+        } = row_call;
         let words = with_settings(alloc, words, self.settings)?;
         let mut files = MemFiles::new(alloc, Seq::of(files), Seq::of(failing_reads))?;
         let mut out = MemSink::new(alloc, Seq::of(failing_writes));
@@ -83,16 +83,16 @@ impl<'a> Call for ProgramByBytes<'a> {
         &self,
         rt: &R,
         alloc: Global,
-        order: Order,
+        row_call: RowCall,
     ) -> Result<Printed, Why> {
-        if !order.failing_reads.is_empty() || !order.failing_writes.is_empty() {
+        if !row_call.failing_reads.is_empty() || !row_call.failing_writes.is_empty() {
             let at_large = Program {
                 settings: self.settings,
             };
-            return at_large.printed(rt, alloc, order);
+            return at_large.printed(rt, alloc, row_call);
         }
-        let words = with_settings(alloc, order.words, self.settings)?;
-        let files = MemFiles::new(alloc, Seq::of(order.files), Seq::new(alloc))?;
+        let words = with_settings(alloc, row_call.words, self.settings)?;
+        let files = MemFiles::new(alloc, Seq::of(row_call.files), Seq::new(alloc))?;
         let mut files = ByteFiles { files };
         let sink = MemSink::new(alloc, Seq::new(alloc));
         let mut out = ByteSink { sink };

@@ -5,12 +5,12 @@ use Rattle.plan_core.specs.declared.plan.Plan.{Plan}
 use Rattle.dep_iter.specs.Tasks.{all_tasks}
 use Rattle.dep_iter.specs.Consistent.{all_in, all_writes}
 use Rattle.edge_match.specs.declared.fault.MatchFault.{MatchFault}
-use Rattle.report_text.specs.Rows.{class_name}
+use Rattle.plan_core.specs.NamesByNumber.{class_name, flow_name}
 use Rattle.report_text.specs.Printed.{consistent_text}
 use Rattle.report_text.specs.Refusal.{inconsistent_line}
 use Rattle.job_stages.specs.declared.verdict.JobVerdict.{JobVerdict}
 use Rattle.job_stages.specs.declared.verdict.JobVerdict.TheVariants as jobs
-use Rattle.ptg_top.specs.JobText.{flow_name, job_text}
+use Rattle.ptg_top.specs.JobText.{job_text}
 
 -- the line of an inconsistency, with these names
 pub inconsistent_is : (P : Plan) (f : MatchFault) (class flow : List ℕ) (job : JobVerdict) → job ≡ jobs.Inconsistent P f → class ≡ class_name P f.class → flow ≡ flow_name P f.class f.flow

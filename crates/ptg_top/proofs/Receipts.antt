@@ -13,6 +13,7 @@ use Rattle.ptg_words.specs.declared.order.Order.TheVariants as order
 use Rattle.ptg_words.specs.Words.{Orders}
 use Rattle.job_stages.specs.declared.verdict.JobVerdict.TheVariants as jobs
 use Rattle.run_pool.specs.declared.settings.Settings.{Settings}
+use Rattle.run_pool.specs.Runs.{is_too_large}
 use Rattle.ptg_top.specs.declared.status.Status.{Status}
 use Rattle.ptg_top.specs.declared.verdict.Finding.{Finding}
 use Rattle.ptg_top.specs.declared.verdict.Finding.TheVariants as findings
@@ -22,7 +23,6 @@ use Rattle.ptg_top.specs.declared.verdict.Verdict.TheVariants.{Usage, Unread, Jo
 use Rattle.ptg_top.specs.Answering.{IsAnswer, OnConsistent}
 use Rattle.ptg_top.specs.Denotation as verdicts
 use Rattle.ptg_top.specs.Denotation.{Denotation, denoted}
-use Rattle.ptg_top.specs.Preload.{is_too_large}
 use Rattle.job_gen.specs.Job.{data_text, jdf_text}
 use Rattle.ptg_top.specs.JobFiles.{Entries, ContentsDenote, FilesDenote, JobTextsDenote}
 use Rattle.ptg_top.specs.Meaning.{CommandDenotes, ContentShows, Denotes}

@@ -8,7 +8,7 @@ use Rattle.dep_iter.specs.Tasks.{IsTask}
 use Rattle.flow_meaning.specs.declared.outcome.Outcome.{Outcome}
 use Rattle.table_rule.specs.declared.table_job.TableJob.{TableJob}
 use Rattle.dep_table.specs.Receipts.{ReceiptView}
-use Rattle.dep_table.specs.StampOrders.{IsRanOrder}
+use Rattle.flow_meaning.specs.Order.{IsWholeOrder}
 use Rattle.run_pool.specs.Runs.{Run, run_of}
 use Rattle.run_pool.specs.declared.settings.Settings.{Settings}
 use Rattle.trace_core.specs.Text.{trace_text}
@@ -20,15 +20,15 @@ use Rattle.ptg_top.specs.Tables.{IsRunOf}
 use Rattle.ptg_top.specs.Trace.{IsTraced}
 
 -- the tasks of a run are tasks of its plan
-pub ran_tasks : (P Q : Plan) (G : Data) (ts us : List Task) → Q ≡ P → us ≡ ts → IsRanOrder P G ts → AllByRecursion (IsTask Q) us
+pub ran_tasks : (P Q : Plan) (G : Data) (ts us : List Task) → Q ≡ P → us ≡ ts → IsWholeOrder P G ts → AllByRecursion (IsTask Q) us
 ran_tasks P Q G ts us plan same order =
     subst (λ (R : Plan). AllByRecursion (IsTask R) us) (sym plan) (subst (AllByRecursion (IsTask P)) (sym same) (order_tasks P ts order.legal))
 
 -- the text of the tasks of a run, in the order in which they ran
 pub traced_by : (s : Settings) (P : Plan) (G : Data) (p : Run) (r : ReceiptView) (outcome : Outcome) (ts us : List Task) (text : List ℕ) (Q : Plan) → p ≡ run_of P G s → IsRunOf s P G (Table r) outcome
-    → IsRanOrder p.job.matched p.job.given ts → Q ≡ r.plan → us ≡ ts → text ≡ trace_text Q us → IsTraced P G (verdicts.Ran r.plan (Trace text))
+    → IsWholeOrder p.job.matched p.job.given ts → Q ≡ r.plan → us ≡ ts → text ≡ trace_text Q us → IsTraced P G (verdicts.Ran r.plan (Trace text))
 traced_by s P G p r outcome ts us text Q run of order plan same is =
-    let here : IsRanOrder P G ts = subst (λ (j : TableJob). IsRanOrder j.matched j.given ts) (ap (λ (q : Run). q.job) run) order in
+    let here : IsWholeOrder P G ts = subst (λ (j : TableJob). IsWholeOrder j.matched j.given ts) (ap (λ (q : Run). q.job) run) order in
     let printed : text ≡ trace_text P ts = is ∙ (ap (λ (R : Plan). trace_text R us) (plan ∙ of.plan) ∙ ap (trace_text P) same) in (
       ts,
       here,

@@ -5,8 +5,8 @@ use Rattle.plan_core.specs.declared.plan.Plan.{Plan}
 use Rattle.flow_meaning.specs.Answer.{answer}
 use Rattle.job_stages.specs.declared.verdict.JobVerdict.TheVariants as jobs
 use Rattle.run_pool.specs.declared.settings.Settings.{Settings}
+use Rattle.run_pool.specs.Runs.{is_too_large}
 use Rattle.ptg_top.specs.declared.verdict.Finding.TheVariants.{Answer}
-use Rattle.ptg_top.specs.Preload.{is_too_large}
 use Rattle.ptg_top.specs.Denotation as verdicts
 use Rattle.ptg_top.specs.Denotation.{Denotation}
 

@@ -1,7 +1,6 @@
 pub mod Denotation
 pub mod Tables
 pub mod Findings
-pub mod Preload
 pub mod Answering
 pub mod JobFiles
 pub mod Demo

@@ -4,7 +4,7 @@ use Rattle.std.specs.Prelude.{◌≡◌, List}
 use Rattle.ptg_base.specs.Task.{Task}
 use Rattle.coll_data.specs.Data.{Data}
 use Rattle.plan_core.specs.declared.plan.Plan.{Plan}
-use Rattle.trace_core.specs.Orders.{IsWholeOrder}
+use Rattle.flow_meaning.specs.Order.{IsWholeOrder}
 use Rattle.trace_core.specs.Text.{trace_text}
 use Rattle.ptg_top.specs.declared.verdict.Finding.TheVariants.{Trace}
 use Rattle.ptg_top.specs.Denotation as verdicts

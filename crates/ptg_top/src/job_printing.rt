@@ -4,9 +4,9 @@ ghost use Rattle.std.specs.Prelude.{◌≡◌};
 ghost use Rattle.report_text.specs.Puts.{PrintsText};
 ghost use Rattle.ptg_top.specs.JobText.{job_text, status_of_job};
 
-use crate::names::{class_name, flow_name};
 use crate::status::Status;
 use job_stages::JobVerdict;
+use plan_core::{class_name, flow_name};
 use ptg_io::{Failed, Sink};
 use report_text::{Line, consistent, refusal};
 

@@ -1,7 +1,9 @@
 //! The verdict on arguments and files.
 
 ghost use Rattle.std.specs.Prelude.{◌≡◌, ◌≤◌, ℕ, List, IfOk};
-ghost use Rattle.ptg_words.specs.Laws.{AreText, HasNumbersInRange, files_of};
+ghost use Rattle.std.specs.List.{AllByRecursion};
+ghost use Rattle.std.specs.Str.{IsUtf8};
+ghost use Rattle.ptg_words.specs.Laws.{HasNumbersInRange, files_of};
 ghost use Rattle.ptg_top.specs.Denotation.{denoted};
 ghost use Rattle.ptg_top.specs.JobFiles.{HasFittingJob};
 ghost use Rattle.ptg_top.specs.Reports.{IsVerdictOnCommand, IsVerdictOnWords};
@@ -53,7 +55,7 @@ fn carry_out<R: Threads + Wait + Sync, F: Files, G: Gate>(
     order: &Order,
     files: &mut F,
 ) -> Result<Verdict, OutOfMemory>
-    requires text { AreText (files_of order.now) }
+    requires text { AllByRecursion IsUtf8 (files_of order.now) }
     requires numbers { HasNumbersInRange order.now }
     ensures stays { F.contents files.new ≡ F.contents files.old }
     ensures grows { (other : List ℕ) → F.faults files.old other ≤ F.faults files.new other }

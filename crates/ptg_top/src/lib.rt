@@ -10,7 +10,6 @@ mod host;
 mod jdf_file;
 mod job_printing;
 mod judge;
-mod names;
 mod printing;
 mod program;
 mod ranking;

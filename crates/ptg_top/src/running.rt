@@ -2,8 +2,8 @@
 
 ghost use Rattle.std.specs.Prelude.{◌≡◌, ◌≤◌, ℕ, List, IfOk};
 ghost use Rattle.std.specs.Str.{IsUtf8};
+ghost use Rattle.ptg_base.specs.Limits.{AreCounts};
 ghost use Rattle.plan_data.specs.Fit.{DataFit};
-ghost use Rattle.ptg_words.specs.Laws.{AreCounts};
 ghost use Rattle.ptg_words.specs.declared.order.Order.TheVariants as commands;
 ghost use Rattle.ptg_top.specs.Denotation.{denoted};
 ghost use Rattle.ptg_top.specs.Answering.{IsAnswer};

@@ -14,7 +14,7 @@ use coll_data::Given;
 use dep_iter::Matched;
 use flow_meaning::Outcome;
 use ptg_base::{OutOfMemory, USUAL_SHARDS, USUAL_WORKERS};
-use run_pool::{PrepareFault, Prepared, Settings, prepare, run};
+use run_pool::{Prepared, Settings, lay_out, run};
 use std::sync::Wait;
 use std::thread::Threads;
 use worker_core::Gate;
@@ -52,9 +52,6 @@ pub fn run_as_usual<R: Threads + Wait + Sync, G: Gate>(
     requires { DataFit matched.colls matched.elems given }
     ensures { IfOk result (λ ran. IsRunOf usual_settings matched given ran.0 ran.1) }
 {
-    match prepare(host.alloc, matched, given, usual_settings()) {
-        Ok(prepared) => run_prepared(host, prepared),
-        Err(PrepareFault::PreloadTooLarge(_bytes)) => unreachable!(),
-        Err(PrepareFault::OutOfMemory) => Err(OutOfMemory),
-    }
+    let prepared = lay_out(host.alloc, matched, given, usual_settings())?;
+    run_prepared(host, prepared)
 }

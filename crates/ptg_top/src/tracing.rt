@@ -2,10 +2,10 @@
 
 ghost use Rattle.std.specs.Prelude.{◌≡◌, ◌≤◌, ℕ, List, false, IfOk};
 ghost use Rattle.std.specs.Str.{IsUtf8};
+ghost use Rattle.ptg_base.specs.Limits.{AreCounts};
 ghost use Rattle.coll_data.specs.Data.{Data};
 ghost use Rattle.plan_core.specs.declared.plan.Plan.{Plan};
 ghost use Rattle.plan_data.specs.Fit.{DataFit};
-ghost use Rattle.ptg_words.specs.Laws.{AreCounts};
 ghost use Rattle.run_pool.specs.Runs.{run_of};
 ghost use Rattle.run_pool.specs.declared.settings.Settings.{Settings as SettingsValue};
 ghost use Rattle.ptg_words.specs.declared.order.Order.TheVariants as commands;
@@ -23,7 +23,7 @@ use coll_data::Given;
 use dep_iter::Matched;
 use ptg_base::{OutOfMemory, Text};
 use ptg_io::Files;
-use run_pool::{PrepareFault, Prepared, Settings, prepare, run_traced};
+use run_pool::{Prepared, Settings, lay_out, run_traced};
 use std::sync::Wait;
 use std::thread::Threads;
 use trace_core::trace_text;
@@ -71,11 +71,8 @@ fn traced<R: Threads + Wait + Sync, G: Gate>(
     ensures fit { IfOk result (λ v. HasFittingJob (denoted v)) }
     ensures ran { IfOk result (λ v. IsOfRun settings v) }
 {
-    match prepare(host.alloc, matched, given, settings) {
-        Ok(prepared) => trace_of(host, prepared),
-        Err(PrepareFault::PreloadTooLarge(_bytes)) => unreachable!(),
-        Err(PrepareFault::OutOfMemory) => Err(OutOfMemory),
-    }
+    let prepared = lay_out(host.alloc, matched, given, settings)?;
+    trace_of(host, prepared)
 }
 
 // Runs a job that was made ready: its trace, with the receipt of its table.

@@ -1,7 +1,7 @@
 -- What clap makes of the words of a verb with these operands and options.
 use Rattle.std.proofs.Common.{◌≡◌, ◌≢◌, ℕ, ◌+◌, ◌≤◌, Bool, true, false, not, cond, ◌&&◌, ◌||◌, List, [], ◌∷◌, ◌++◌, map, length, Option, Some, None, is_some, refl, sym, ap, ◌∙◌, arith, codes}
 use Rattle.std.specs.Prelude.{slice_get, nat_le, ◌==◌, drop, find, option_map, option_and_then}
-use Rattle.std.specs.List.{list_any, list_all}
+use Rattle.std.specs.List.{list_any, list_all, AllByRecursion}
 use Rattle.std.specs.Str.{bytes_eq}
 use Rattle.std.proofs.lemmas.Bool.Decides.{nat_tests}
 use Rattle.list_lemmas.proofs.Texts.{bytes_eq-sym_false}
@@ -15,7 +15,7 @@ use Rattle.clap.proofs.WalkLemmas.{first_value-rows, one_text-rows}
 use Rattle.ptg_words.specs.declared.options.Options.{Options}
 use Rattle.ptg_words.specs.declared.options.Options.TheVariants.{NoOptions, Counts, CountsAndPreload}
 use Rattle.ptg_words.specs.Parts.{NumberOption, Part, name_of, workers, shards, operands, texts_of, is_preload, is_lacking, is_stray, has_twice, parts}
-use Rattle.ptg_words.specs.Readings.{AllProper, HasFirstValues, are_ids, is_free_id, is_read}
+use Rattle.ptg_words.specs.Readings.{HasFirstValues, are_ids, is_free_id, is_read}
 use Rattle.ptg_words.specs.Commands.{verb_command}
 use Rattle.ptg_words.proofs.ClapUses.{Use, use_row, fresh, none}
 use Rattle.ptg_words.proofs.ClapStates.{uses, shape}
@@ -26,6 +26,7 @@ use Rattle.ptg_words.proofs.ClapRules.{rules_from, filled_is, simple_new, simple
 use Rattle.ptg_words.proofs.ValuesRead.{none_is, some_is, counted}
 use Rattle.std.specs.Cmp.{first_so}
 use Rattle.std.proofs.lemmas.Bool.{not-true, and_parts}
+use Rattle.ptg_words.specs.Words.{IsProper}
 
 pub simple_first : (a : App) → is_simple_and_free a ≡ true → is_simple a ≡ true
 simple_first a h = first_so _ _ h
@@ -99,12 +100,12 @@ module _ (name : Text) (ids : List Text) (o : Options) (few : 1 + length ids ≤
       (nat_le (length ids) (length (operands ps))) (length (operands ps) == length ids)
       (λ h. fresh_once ids ps apart (good_is ids ps ∙ h)) (both_le (length (operands ps)) (length ids))
 
-  pub reads : (ws : List Text) → AllProper (drop 1 ws) → none (fault_of (verb_command name ids o) ws) ≡ is_read (length ids) (parts o (drop 1 ws))
+  pub reads : (ws : List Text) → AllByRecursion IsProper (drop 1 ws) → none (fault_of (verb_command name ids o) ws) ≡ is_read (length ids) (parts o (drop 1 ws))
   reads ws p = ap none (fault_is ws) ∙ level_passes name (rules_from 1 ids o) ids o fits (drop 1 ws) p ∙ passes_is (drop 1 ws)
 
   -- ---- what clap finds
 
-  found_rows : (ws : List Text) → AllProper (drop 1 ws) → none (fault_of (verb_command name ids o) ws) ≡ true
+  found_rows : (ws : List Text) → AllByRecursion IsProper (drop 1 ws) → none (fault_of (verb_command name ids o) ws) ≡ true
       → matches_of (verb_command name ids o) ws ≡ map use_row (uses ids (parts o (drop 1 ws))) ++ tail_of o (map use_row (uses ids (parts o (drop 1 ws))))
   unfolding fits
   found_rows ws p h =
@@ -163,7 +164,7 @@ pub record WordsFound (f : Found) (ids : List Text) (o : Options) (ps : List Par
   pub preload_text : one_text f (codes "preload") ≡ flag_text o (list_any is_preload ps)
 
 module _ (app : App) (name : Text) (ids : List Text) (o : Options) (ws : List Text) (is : app ≡ verb_command name ids o) (are : are_ids ids ≡ true) (few : length ids ≤ 4)
-    (proper : AllProper (drop 1 ws)) where
+    (proper : AllByRecursion IsProper (drop 1 ws)) where
   in_bound : 1 + length ids ≤ 100
   in_bound = omega (arith, few)
 

@@ -2,7 +2,7 @@
 use Rattle.std.proofs.Common.{◌≡◌, ℕ, Bool, true, false, not, cond, ◌&&◌, List, [], ◌∷◌, ◌++◌, map, Option, Some, None, is_some, refl, sym, ap, ◌∙◌, codes, append_assoc}
 use Rattle.std.specs.Prelude.{find, fold, option_map, option_and_then, slice_get}
 use Rattle.std.specs.Option.{option_map_or}
-use Rattle.std.specs.List.{list_any, list_all}
+use Rattle.std.specs.List.{list_any, list_all, AllByRecursion}
 use Rattle.std.specs.Str.{bytes_eq}
 use Rattle.std.proofs.lemmas.List.{append-nil}
 use Rattle.std.proofs.Math.Bool.{not-not}
@@ -17,7 +17,6 @@ use Rattle.ptg_words.proofs.ClapUses.{Use, use_row, added, fresh, none, none_els
 use Rattle.ptg_words.proofs.ClapStates.{quiet, good, uses, shape, total, final, here, View, Positions, Ends}
 use Rattle.ptg_words.proofs.ClapWalk.{Views, walks}
 use Rattle.ptg_words.specs.Words.{IsProper}
-use Rattle.ptg_words.specs.Readings.{AllProper}
 use Rattle.ptg_words.proofs.PartsOfUses.{Apart, value_in}
 
 -- ---- the rows of uses
@@ -110,7 +109,7 @@ each_given (i ∷ is) us t h a =
     ∙ ap (λ b. is_some (value_in i us) && b) (each_given is us t h a.4)
 
 module _ (name : Text) (c : List Rule) (ids : List Text) (opts : Options) (fits : Fits c ids opts) where
-  all_views : (ws : List Text) → AllProper ws → Views name c opts ws
+  all_views : (ws : List Text) → AllByRecursion IsProper ws → Views name c opts ws
   all_views [] p = tt
   all_views (w ∷ ws) p = (fits.views w p.0, all_views ws p.1)
 
@@ -148,16 +147,16 @@ module _ (name : Text) (c : List Rule) (ids : List Text) (opts : Options) (fits 
       ∙ sym (and_assoc (none W) (none S) (none C)) ∙ ap (λ b. b && none C) (sym (none_else W S))
       ∙ ap (λ b. none (or_else W S) && b) (check_is (rows_at_end ws))
 
-  pub ends : (ws : List Text) → AllProper ws → Ends (total name c opts (here [] (quiet None) 1) ws) (final name c opts (here [] (quiet None) 1) ws)
+  pub ends : (ws : List Text) → AllByRecursion IsProper ws → Ends (total name c opts (here [] (quiet None) 1) ws) (final name c opts (here [] (quiet None) 1) ws)
       (added [] (uses ids (parts opts ws))) (good ids (parts opts ws) && fresh [] (uses ids (parts opts ws)))
   ends ws p = walks name c opts ws (all_views ws p) [] (quiet None) 1 ids tt fits.positions
 
-  pub final_rows : (ws : List Text) → AllProper ws → (good ids (parts opts ws) && fresh [] (uses ids (parts opts ws))) ≡ true
+  pub final_rows : (ws : List Text) → AllByRecursion IsProper ws → (good ids (parts opts ws) && fresh [] (uses ids (parts opts ws))) ≡ true
       → rows_at_end ws ≡ map use_row (uses ids (parts opts ws)) ++ fits.tail (map use_row (uses ids (parts opts ws)))
   final_rows ws p h =
       ap (λ rows. fold with_default rows c) ((ends ws p).rows h ∙ added_is [] (uses ids (parts opts ws))) ∙ fits.finished_is (map use_row (uses ids (parts opts ws)))
 
-  pub level_passes : (ws : List Text) → AllProper ws → none (level_fault (shape name c opts) [] nothing_held ws false []) ≡ passes ws
+  pub level_passes : (ws : List Text) → AllByRecursion IsProper ws → none (level_fault (shape name c opts) [] nothing_held ws false []) ≡ passes ws
   level_passes ws p = level_is ws ∙ ap (λ b. b && list_all (λ i. is_given i (rows_at_end ws)) ids) (ends ws p).sound ∙ go (good ids (parts opts ws) && fresh [] (uses ids (parts opts ws))) refl
     where
       go : (b : Bool) → (good ids (parts opts ws) && fresh [] (uses ids (parts opts ws))) ≡ b

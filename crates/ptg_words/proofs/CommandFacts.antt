@@ -1,8 +1,8 @@
 -- What the files and the numbers of a command are.
 use Rattle.std.proofs.Common.{◌≡◌, ◌∙◌, ℕ, ◌≤◌, ◌<◌, ◌^◌, Bool, true, false, not, ◌&&◌, List, [], ◌∷◌, Option, Some, None, refl, sym, ap, subst, inl, inr, arith}
-use Rattle.ptg_base.specs.Limits.{most_rows}
+use Rattle.ptg_base.specs.Limits.{AreCounts, most_rows}
 use Rattle.std.specs.Prelude.{◌⊎◌, nat_le, length, option_map}
-use Rattle.std.specs.List.{All, Any}
+use Rattle.std.specs.List.{All, Any, AllByRecursion}
 use Rattle.std.proofs.lemmas.Bool.Decides.{nat_tests}
 use Rattle.ptg_base.specs.Decimal.{decimal, is_decimal}
 use Rattle.ptg_words.specs.declared.options.Options.{Options}
@@ -11,16 +11,17 @@ use Rattle.ptg_words.specs.Parts.{Part, NumberOption, Form, plain, named, flag, 
 use Rattle.ptg_words.specs.declared.verbs.Verb.TheVariants as verbs
 use Rattle.ptg_words.specs.declared.verbs.Verb.{Verb}
 use Rattle.ptg_words.specs.Words.{IsProper, bad_number, improper_word, formed, has_bad_count, has_bad_number, has_bad_operand, has_no_number, is_number, number_or, operands_of, options_of, read, shards_of, verb_of, workers_of}
-use Rattle.ptg_words.specs.Laws.{AreCounts, AreText, FilesAreText, HasNumbersInRange, NumbersInRange, files_of}
-use Rattle.ptg_words.specs.Readings.{AllProper}
+use Rattle.ptg_words.specs.Laws.{FilesAreText, HasNumbersInRange, NumbersInRange, files_of}
 use Rattle.ptg_words.proofs.Rules.{all_proper, number_at_most, to_rule}
 use Rattle.ptg_words.proofs.Proper.{all_or_any}
 use Rattle.std.proofs.lemmas.Bool.{or_parts, not-false}
+use Rattle.std.specs.Str.{IsUtf8}
+use Rattle.list_lemmas.proofs.Places.{each_weaker}
 
 -- ---- the operands of proper words are proper
 
-by_form : (due : Option NumberOption) (f : Form) (w : List ℕ) (rest : Option NumberOption → List Part) → IsProper w → ((d : Option NumberOption) → AllProper (operands (rest d)))
-    → AllProper (operands (after due f w rest))
+by_form : (due : Option NumberOption) (f : Form) (w : List ℕ) (rest : Option NumberOption → List Part) → IsProper w → ((d : Option NumberOption) → AllByRecursion IsProper (operands (rest d)))
+    → AllByRecursion IsProper (operands (after due f w rest))
 by_form None plain w rest p more = (p, more None)
 by_form None (named s None) w rest p more = more (Some s)
 by_form None (named s (Some t)) w rest p more = more None
@@ -32,17 +33,13 @@ by_form (Some s) (named t (Some x)) w rest p more = more None
 by_form (Some s) flag w rest p more = more None
 by_form (Some s) unknown w rest p more = more None
 
-operands_proper : (opts : Options) (due : Option NumberOption) (ws : List (List ℕ)) → AllProper ws → AllProper (operands (parts_from opts due ws))
+operands_proper : (opts : Options) (due : Option NumberOption) (ws : List (List ℕ)) → AllByRecursion IsProper ws → AllByRecursion IsProper (operands (parts_from opts due ws))
 unfolding parts_from
 operands_proper opts None [] h = tt
 operands_proper opts (Some s) [] h = tt
 operands_proper opts due (w ∷ ws) h = by_form due (form_of opts w) w (λ next. parts_from opts next ws) h.0 (λ d. operands_proper opts d ws h.1)
 
 -- ---- files
-
-are_text : (ops : List (List ℕ)) → AllProper ops → AreText ops
-are_text [] h = tt
-are_text (w ∷ ws) h = (h.0.0, are_text ws h.1)
 
 -- what a command has, where there is one
 OnOrder : (Order → Type 0) → Option Order → Type 0
@@ -53,7 +50,7 @@ of_order : (P : Order → Type 0) (x : Option Order) (o : Order) → x ≡ Some 
 unfolding OnOrder
 of_order P x o e h = subst (OnOrder P) e h
 
-named_texts : (v : Verb) (ops : List (List ℕ)) (ps : List Part) → AreText ops → OnOrder (λ o. AreText (files_of o)) (formed v ops ps)
+named_texts : (v : Verb) (ops : List (List ℕ)) (ps : List Part) → AllByRecursion IsUtf8 ops → OnOrder (λ o. AllByRecursion IsUtf8 (files_of o)) (formed v ops ps)
 unfolding OnOrder
 named_texts verbs.Run (jdf ∷ data_name ∷ []) ps t = t
 named_texts verbs.Show (jdf ∷ []) ps t = t
@@ -82,12 +79,12 @@ pub files_are_text : FilesAreText
 files_are_text [] o h = let reads = h.reads in absurd cc
 files_are_text (w ∷ ws) o h = go (all_or_any (w ∷ ws))
   where
-    go : All IsProper (w ∷ ws) ⊎ Any (λ x. IsProper x → ⊥) (w ∷ ws) → AreText (files_of o)
+    go : All IsProper (w ∷ ws) ⊎ Any (λ x. IsProper x → ⊥) (w ∷ ws) → AllByRecursion IsUtf8 (files_of o)
     go (inr any) = absurd (h.breaks_no_rule (improper_word any))
     go (inl all) =
         let proper = operands_proper (options_of h.verb) None ws (all_proper (w ∷ ws) all).1 in
-        let ops = subst (λ (ps : List Part). AllProper (operands ps)) (sym (parts_of w ws h.verb h.rest h.reads)) proper in
-        of_order (λ x. AreText (files_of x)) (formed h.verb (operands h.rest) h.rest) o h.asks (named_texts h.verb (operands h.rest) h.rest (are_text (operands h.rest) ops))
+        let ops = subst (λ (ps : List Part). AllByRecursion IsProper (operands ps)) (sym (parts_of w ws h.verb h.rest h.reads)) proper in
+        of_order (λ x. AllByRecursion IsUtf8 (files_of x)) (formed h.verb (operands h.rest) h.rest) o h.asks (named_texts h.verb (operands h.rest) h.rest (each_weaker IsProper IsUtf8 (operands h.rest) (λ w p. p.0) ops))
 
 -- ---- numbers
 

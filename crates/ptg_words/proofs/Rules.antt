@@ -1,7 +1,7 @@
 -- The rules hold or fail by what the parts of the words are.
 use Rattle.std.proofs.Common.{◌≡◌, ℕ, Bool, true, false, not, ◌&&◌, List, [], ◌∷◌, ◌++◌, ◌+◌, take, length, get_or, Some, Result, Ok, Err, IfOk, refl, sym, ap, ◌∙◌, subst, arith, ◌<◌, ◌≤◌}
 use Rattle.std.specs.Prelude.{◌==◌, drop, option_map, nat_le}
-use Rattle.std.specs.List.{All, list_any, list_all, slice_index_or}
+use Rattle.std.specs.List.{All, list_any, list_all, slice_index_or, AllByRecursion}
 use Rattle.std.specs.Option.{option_map_or}
 use Rattle.std.proofs.lemmas.List.Elements.{All-drop, All-push}
 use Rattle.std.proofs.lemmas.List.{take_more, map-append}
@@ -11,16 +11,16 @@ use Rattle.ptg_words.specs.Parts.{Part, parts, operands, is_lacking, is_stray, h
 use Rattle.ptg_words.specs.declared.options.Options.{Options}
 use Rattle.ptg_words.specs.declared.order.Order.{Order}
 use Rattle.ptg_words.specs.declared.verbs.Verb.{Verb}
-use Rattle.ptg_words.specs.Words.{Breaks, Orders, IsProper, IsUsage, no_verb, improper_word, stray_word, lacking_number, option_twice, operand_number, bad_number, formed, read, verb_of, options_of, operands_of, operand_count, has_bad_count, has_bad_operand, has_bad_number, has_wrong_count, is_number}
-use Rattle.ptg_words.specs.Readings.{AllProper, Forms, HasBadOperand, IsOf, IsReadOf, is_read, texts}
+use Rattle.ptg_words.specs.Words.{Breaks, Orders, IsProper, IsUsage, no_verb, improper_word, stray_word, lacking_number, option_twice, operands_differ, bad_number, formed, read, verb_of, options_of, operands_of, operand_count, has_bad_count, has_bad_operand, has_bad_number, has_wrong_count, is_number}
+use Rattle.ptg_words.specs.Readings.{Forms, HasBadOperand, IsOf, IsReadOf, is_read, texts}
 use Rattle.ptg_words.specs.declared.order.WordsRefusal.{WordsRefusal}
 use Rattle.ptg_words.specs.declared.verb.ReadVerb.{ReadVerb}
 
-pub all_proper : (ws : List (List ℕ)) → All IsProper ws → AllProper ws
+pub all_proper : (ws : List (List ℕ)) → All IsProper ws → AllByRecursion IsProper ws
 all_proper [] h = tt
 all_proper (w ∷ ws) h = (h 0 w (omega arith), all_proper ws (All-drop IsProper 1 (w ∷ ws) h))
 
-pub rest_proper : (ws : List (List ℕ)) → All IsProper ws → AllProper (drop 1 ws)
+pub rest_proper : (ws : List (List ℕ)) → All IsProper ws → AllByRecursion IsProper (drop 1 ws)
 rest_proper [] h = tt
 rest_proper (w ∷ ws) h = all_proper ws (All-drop IsProper 1 (w ∷ ws) h)
 
@@ -54,7 +54,7 @@ breaks_none ws v ps e proper good number (improper_word any) = any.4 (subst IsPr
 breaks_none ws v ps e proper good number (stray_word h) = clash _ (by_parts (λ v ps. list_any is_stray ps) ws v ps e h) (kept v ps good).0
 breaks_none ws v ps e proper good number (lacking_number h) = clash _ (by_parts (λ v ps. list_any is_lacking ps) ws v ps e h) (kept v ps good).1
 breaks_none ws v ps e proper good number (option_twice h) = clash _ (by_parts (λ v ps. has_twice ps) ws v ps e h) (kept v ps good).2
-breaks_none ws v ps e proper good number (operand_number h) =
+breaks_none ws v ps e proper good number (operands_differ h) =
     clash (length (operands ps) == operand_count v) (kept v ps good).3 (by_parts has_wrong_count ws v ps e h)
 breaks_none ws v ps e proper good number (bad_number h) = let bad = by_parts has_bad_number ws v ps e h in absurd cc
 

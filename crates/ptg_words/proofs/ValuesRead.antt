@@ -1,6 +1,6 @@
 -- From clap's clauses to what the parts of the words give.
-use Rattle.std.proofs.Common.{◌≡◌, ◌≢◌, ℕ, Bool, true, false, not, ◌&&◌, List, [], ◌∷◌, length, Option, Some, None, refl, sym, ap, ◌∙◌, arith}
-use Rattle.std.specs.Prelude.{option_map, slice_get, ◌==◌}
+use Rattle.std.proofs.Common.{◌≡◌, ◌≢◌, ℕ, Bool, true, false, not, ◌&&◌, List, [], ◌∷◌, length, Option, refl, sym, ap, ◌∙◌, arith}
+use Rattle.std.specs.Prelude.{option_map, option_to_list, slice_get, ◌==◌}
 use Rattle.std.specs.List.{list_any}
 use Rattle.std.specs.Borrow.{Bor}
 use Rattle.std.proofs.lemmas.Bool.Decides.{nat_tests}
@@ -51,11 +51,7 @@ no_texts workers (preload ∷ ps) e = no_texts workers ps e
 no_texts shards (preload ∷ ps) e = no_texts shards ps e
 no_texts s (stray ∷ ps) e = no_texts s ps e
 
-abbrev listed : Option Text → List Text
-listed None = []
-listed (Some t) = t ∷ []
-
-once : (s : NumberOption) (ps : List Part) → has_twice ps ≡ false → texts_of s ps ≡ listed (slice_get (texts_of s ps) 0)
+once : (s : NumberOption) (ps : List Part) → has_twice ps ≡ false → texts_of s ps ≡ option_to_list (slice_get (texts_of s ps) 0)
 once s [] e = refl
 once s (operand w ∷ ps) e = once s ps e
 once workers (given workers t ∷ ps) e = ap (λ xs. t ∷ xs) (no_texts workers ps (or_parts _ _ e).0)
@@ -68,8 +64,4 @@ once s (stray ∷ ps) e = once s ps e
 
 pub text_of_number_option : (s : NumberOption) (ps : List Part) (o : Option (Bor Text)) → has_twice ps ≡ false
     → option_map (λ (x : Bor Text). x.now) o ≡ slice_get (texts_of s ps) 0 → texts_of s ps ≡ texts_in o
-text_of_number_option s ps o e f = once s ps e ∙ ap listed (sym f) ∙ go o
-  where
-    go : (o : Option (Bor Text)) → listed (option_map (λ (x : Bor Text). x.now) o) ≡ texts_in o
-    go None = refl
-    go (Some x) = refl
+text_of_number_option s ps o e f = once s ps e ∙ ap (λ (x : Option Text). option_to_list x) (sym f)

@@ -1,7 +1,8 @@
 -- What follows from the rules of the command line.
 use Rattle.std.specs.Prelude.{ℕ, ◌<◌, ◌≤◌, ◌^◌, List, [], ◌∷◌}
 use Rattle.std.specs.Str.{IsUtf8}
-use Rattle.ptg_base.specs.Limits.{most_ranks, most_rows, most_shards, most_workers}
+use Rattle.ptg_base.specs.Limits.{AreCounts, most_ranks, most_rows}
+use Rattle.std.specs.List.{AllByRecursion}
 use Rattle.ptg_words.specs.declared.order.Order.{Order}
 use Rattle.ptg_words.specs.declared.order.Order.TheVariants.{Run, Show, Check, Demo, Trace, Replay, Certify, Ranks}
 use Rattle.ptg_words.specs.Words.{Orders}
@@ -17,18 +18,9 @@ files_of (Replay jdf data_name list) = jdf ∷ data_name ∷ list ∷ []
 files_of (Certify jdf data_name) = jdf ∷ data_name ∷ []
 files_of (Ranks jdf data_name r seed) = jdf ∷ data_name ∷ []
 
--- each of these names is text
-abbrev pub AreText : List (List ℕ) → Type 0
-AreText [] = Unit {0}
-AreText (name ∷ names) = IsUtf8 name × AreText names
-
 -- the names of files in a command are text
 abbrev pub FilesAreText : Type 0
-FilesAreText = (words : List (List ℕ)) (order : Order) → Orders words order → AreText (files_of order)
-
--- 1 to 64 workers, 1 to 256 shards
-abbrev pub AreCounts : ℕ → ℕ → Type 0
-AreCounts w s = (1 ≤ w) × (w ≤ most_workers) × (1 ≤ s) × (s ≤ most_shards)
+FilesAreText = (words : List (List ℕ)) (order : Order) → Orders words order → AllByRecursion IsUtf8 (files_of order)
 
 -- The numbers of a command are in their ranges: 1 to 64 workers or ranks, 1 to 256 shards, 1 to 96 rows of tiles, a
 -- seed below 2^64.

@@ -1,5 +1,5 @@
 -- The definitions that the contracts of the steps of parsing cite.
-use Rattle.std.specs.Prelude.{◌≡◌, ◌==◌, ◌&&◌, not, drop, ℕ, Bool, true, false, List, [], ◌∷◌, length, map, Option, Some, None, codes}
+use Rattle.std.specs.Prelude.{◌≡◌, ◌==◌, ◌&&◌, not, drop, ℕ, Bool, true, false, List, [], ◌∷◌, length, map, Option, Some, option_copied, option_to_list, codes}
 use Rattle.std.specs.Str.{bytes_eq}
 use Rattle.std.specs.List.{All, list_any}
 use Rattle.std.specs.Borrow.{Bor}
@@ -12,11 +12,6 @@ use Rattle.ptg_words.specs.declared.order.Order.{Order}
 use Rattle.ptg_words.specs.Parts.{Part, parts, workers, shards, operands, texts_of, is_preload, is_lacking, is_stray, has_twice}
 use Rattle.ptg_words.specs.Words.{IsProper, read, formed, operands_of, options_of, workers_of, shards_of, has_bad_count, has_bad_operand}
 
--- each of these words is text and neither empty, `-` nor `--`
-abbrev pub AllProper : List (List ℕ) → Type 0
-AllProper [] = Unit {0}
-AllProper (word ∷ words) = IsProper word × AllProper words
-
 -- the texts that references point to
 abbrev pub texts : List (Bor (List ℕ)) → List (List ℕ)
 texts = map (λ s. s.now)
@@ -28,8 +23,7 @@ is_read n ps =
 
 -- the text that there may be
 abbrev pub texts_in : Option (Bor (List ℕ)) → List (List ℕ)
-texts_in None = []
-texts_in (Some s) = s.now ∷ []
+texts_in text = option_to_list (option_copied text)
 
 -- the first values of these ids, in order
 abbrev pub HasFirstValues : Found → List (List ℕ) → List (List ℕ) → Type 0

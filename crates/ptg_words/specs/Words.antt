@@ -43,7 +43,7 @@ pub data Operand : Type 0 where
   number : ℕ → ℕ → Operand
 
 -- `run JDF DATA`, `show JDF`, `check JDF DATA`, `demo N`, `trace JDF DATA`, `replay JDF DATA TRACE`, `certify JDF
--- DATA`, `ranks JDF DATA R SEED`: a made job of 1 to 96 tiles a side, 1 to 64 ranks, and a seed below 2^64
+-- DATA`, `ranks JDF DATA R SEED`: a made job of 1 to 96 rows of tiles, 1 to 64 ranks, and a seed below 2^64
 abbrev pub operands_of : Verb → List Operand
 operands_of verbs.Run = file ∷ file ∷ []
 operands_of verbs.Show = file ∷ []
@@ -95,7 +95,7 @@ has_bad_number verb ps = has_bad_count ps || has_bad_operand (operands_of verb) 
 abbrev pub operand_count : Verb → ℕ
 operand_count verb = length (operands_of verb)
 
--- A stray word is no operand: it breaks a rule of its own.
+-- Whether there are more or fewer operands than the verb takes. A stray word is no operand: it breaks a rule of its own.
 abbrev pub has_wrong_count : Verb → List Part → Bool
 has_wrong_count verb ps = not (length (operands ps) == operand_count verb)
 
@@ -113,7 +113,7 @@ pub data IsUsage (words : List (List ℕ)) : Type 0 where
   stray_word : Breaks (λ verb ps. list_any is_stray ps) words → IsUsage words
   lacking_number : Breaks (λ verb ps. list_any is_lacking ps) words → IsUsage words
   option_twice : Breaks (λ verb ps. has_twice ps) words → IsUsage words
-  operand_number : Breaks has_wrong_count words → IsUsage words
+  operands_differ : Breaks has_wrong_count words → IsUsage words
   bad_number : Breaks has_bad_number words → IsUsage words
 
 -- the number of the first text, or the default where there is none

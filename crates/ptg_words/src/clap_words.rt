@@ -1,10 +1,12 @@
 //! What `clap` reads of the words of a verb, as text.
 
 ghost use Rattle.std.specs.Prelude.{◌≡◌, ◌≢◌, ◌≤◌, ℕ, List, [], true, false, IfOk, Err, drop, length};
+ghost use Rattle.std.specs.List.{AllByRecursion};
+ghost use Rattle.ptg_words.specs.Words.{IsProper};
 ghost use Rattle.clap.specs.Words.{app_of, found_of, rows_of, rule_of, fault_of, is_simple_and_free, matches_of};
 ghost use Rattle.ptg_words.specs.Commands as Commands;
 ghost use Rattle.ptg_words.specs.Parts.{parts};
-ghost use Rattle.ptg_words.specs.Readings.{AllProper, HasFirstValues, HasWords, are_ids, is_read, texts};
+ghost use Rattle.ptg_words.specs.Readings.{HasFirstValues, HasWords, are_ids, is_read, texts};
 
 use crate::options::Options;
 use crate::order::WordsRefusal;
@@ -139,7 +141,7 @@ pub(crate) fn verb_words<'a>(
     options: Options,
     words: &'a [&'a str],
 ) -> Result<VerbWords<'a>, WordsRefusal>
-    requires proper { AllProper (drop 1 (texts words.now)) }
+    requires proper { AllByRecursion IsProper (drop 1 (texts words.now)) }
     requires ids { are_ids (texts ids.now) ≡ true }
     requires at_most { length ids.now ≤ 4 }
     ensures found { IfOk result (λ r.

@@ -1,11 +1,12 @@
 //! The words of a verb, with the numbers of its options.
 
 ghost use Rattle.std.specs.Prelude.{◌≡◌, ◌⊎◌, ◌≤◌, IfOk, MatchOption, Err, true, false, drop, length};
+ghost use Rattle.std.specs.List.{AllByRecursion};
 ghost use Rattle.ptg_base.specs.Decimal.{decimal};
 ghost use Rattle.ptg_words.specs.Parts.{parts};
 ghost use Rattle.ptg_words.specs.Words as Words;
-ghost use Rattle.ptg_words.specs.Words.{has_bad_count, has_no_number, is_number};
-ghost use Rattle.ptg_words.specs.Readings.{AllProper, IsReadOf, are_ids, is_read, texts, texts_in};
+ghost use Rattle.ptg_words.specs.Words.{has_bad_count, has_no_number, is_number, IsProper};
+ghost use Rattle.ptg_words.specs.Readings.{IsReadOf, are_ids, is_read, texts, texts_in};
 
 use crate::clap_words::verb_words;
 use crate::options::Options;
@@ -37,7 +38,7 @@ pub(crate) fn read_verb<'a>(
     options: Options,
     words: &'a [&'a str],
 ) -> Result<ReadVerb<'a>, WordsRefusal>
-    requires proper { AllProper (drop 1 (texts words.now)) }
+    requires proper { AllByRecursion IsProper (drop 1 (texts words.now)) }
     requires ids { are_ids (texts ids.now) ≡ true }
     requires at_most { length ids.now ≤ 4 }
     ensures found { IfOk result (IsReadOf (length ids.entry.now) (parts options (drop 1 (texts words.entry.now)))) }

@@ -2,6 +2,7 @@
 use Rattle.std.proofs.Common.{◌≡◌, ℕ, suc, ◌+◌, ◌<◌, ◌≤◌, ◌⊎◌, inl, inr, ℤ, List, [], ◌∷◌, ◌++◌, length, refl, ap, sym, ◌∙◌, append_assoc, add-zero, Result, Ok, Err, length-append, arith}
 use Rattle.std.proofs.lemmas.List.{length-map}
 use Rattle.std.proofs.lemmas.Bool.{cases_lt}
+use Rattle.std.specs.Result.{result_unwrap_or}
 use Rattle.term_core.specs.declared.space.Def.{Def}
 use Rattle.term_core.specs.declared.space.ClassSpace.{ClassSpace}
 use Rattle.range_space.specs.declared.fault.SpanFault.{SpanFault}
@@ -9,7 +10,7 @@ use Rattle.range_space.specs.declared.fault.SpaceFault.{SpaceFault}
 use Rattle.range_space.specs.declared.fault.SpaceFault.TheVariants.{TooManyTasks}
 use Rattle.range_space.specs.Values.{values}
 use Rattle.range_space.specs.Fault.{Bounds}
-use Rattle.range_space.specs.Tasks.{full_lists, def_values, or_empty, params_of}
+use Rattle.range_space.specs.Tasks.{full_lists, def_values, params_of}
 use Rattle.range_space.specs.ListsAfter.{def_bounds, lists_over}
 use Rattle.range_space.specs.Walk.{Visit, Prefix, Task, NoValue, visits, walk, walk_among, walk_all, task_count, prefix_count, AllHaveValues, StopsAt, IsFirstFault, IsWalked, task_total}
 use Rattle.range_space.proofs.Nesting.{def_values-bounds, def_values-fault}
@@ -100,7 +101,7 @@ among_count class ds outer nested (v ∷ vs) =
     ∙ ap (λ n. length (full_lists ds (outer ++ v ∷ [])) + n) (among_count class ds outer nested vs)
     ∙ sym (length-append (full_lists ds (outer ++ v ∷ [])) (lists_over ds outer vs))
 
-under_count : (class : ℕ) (ds : List Def) (outer : List ℤ) → ((b : List ℤ) → task_count (walk class ds b) ≡ length (full_lists ds b)) → (r : Result (List ℤ) SpanFault) → task_count (visits (λ v. Prefix class ∷ walk class ds (outer ++ v ∷ [])) (NoValue class outer) r) ≡ length (lists_over ds outer (or_empty r))
+under_count : (class : ℕ) (ds : List Def) (outer : List ℤ) → ((b : List ℤ) → task_count (walk class ds b) ≡ length (full_lists ds b)) → (r : Result (List ℤ) SpanFault) → task_count (visits (λ v. Prefix class ∷ walk class ds (outer ++ v ∷ [])) (NoValue class outer) r) ≡ length (lists_over ds outer (result_unwrap_or r []))
 under_count class ds outer nested (Ok vs) = among_count class ds outer nested vs
 under_count class ds outer nested (Err e) = refl
 

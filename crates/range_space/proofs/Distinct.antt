@@ -10,7 +10,7 @@ use Rattle.term_core.specs.WellSpace.{IsWellSpace, is_among, spans_are_params}
 use Rattle.range_space.specs.declared.fault.SpanFault.{SpanFault}
 use Rattle.range_space.specs.Values.{is_within, while_within, values}
 use Rattle.range_space.specs.Fault.{Bounds, bounds, number}
-use Rattle.range_space.specs.Tasks.{full_lists, def_values, or_empty, params_of, tasks, all_locals}
+use Rattle.range_space.specs.Tasks.{full_lists, def_values, params_of, tasks, all_locals}
 use Rattle.range_space.specs.Locals.{IsLocalsOf}
 use Rattle.range_space.specs.Completion.{param_value, AgreesWith, AreLocals, AllAgree}
 use Rattle.range_space.proofs.Stepping.{while_in, while_past}
@@ -18,6 +18,7 @@ use Rattle.range_space.proofs.Members.{on_way}
 use Rattle.range_space.proofs.MemberLists.{locals_from_full, IsSome-param_value, all_agree, agreement_from_params, arity_of_task}
 use Rattle.list_lemmas.proofs.Truth.{by_test}
 use Rattle.std.specs.Cmp.{first_so, second_so}
+use Rattle.std.specs.Result.{result_unwrap_or}
 use Rattle.list_lemmas.proofs.Members.{IsIn-map}
 use Rattle.list_lemmas.proofs.Distinct.{HasNoRepeats-flat_map, HasNoRepeats-map_members}
 
@@ -42,15 +43,15 @@ distinct_values : (lo hi step : ℤ) → HasNoRepeats (values lo hi step)
 unfolding values
 distinct_values lo hi step = distinct_while hi step _ lo
 
-pub distinct_range : (r : Result Bounds SpanFault) → HasNoRepeats (or_empty (and_then r (λ b. Ok (values b.lo b.hi b.step))))
+pub distinct_range : (r : Result Bounds SpanFault) → HasNoRepeats (result_unwrap_or (and_then r (λ b. Ok (values b.lo b.hi b.step))) [])
 distinct_range (Ok b) = distinct_values b.lo b.hi b.step
 distinct_range (Err e) = tt
 
-pub distinct_number : (r : Result ℤ SpanFault) → HasNoRepeats (or_empty (and_then r (λ z. Ok (z ∷ []))))
+pub distinct_number : (r : Result ℤ SpanFault) → HasNoRepeats (result_unwrap_or (and_then r (λ z. Ok (z ∷ []))) [])
 distinct_number (Ok z) = (λ w. w, tt)
 distinct_number (Err e) = tt
 
-distinct_def : (d : Def) (env : List ℤ) → HasNoRepeats (or_empty (def_values d env))
+distinct_def : (d : Def) (env : List ℤ) → HasNoRepeats (result_unwrap_or (def_values d env) [])
 distinct_def (Span r) env = distinct_range (bounds r env)
 distinct_def (Value e) env = distinct_number (number e env)
 
@@ -62,7 +63,7 @@ same_next (x ∷ outer) v w k l e = same_next outer v w k l cc
 distinct_lists : (ds : List Def) (outer : List ℤ) → HasNoRepeats (full_lists ds outer)
 distinct_lists [] outer = (λ w. w, tt)
 distinct_lists (d ∷ ds) outer =
-    HasNoRepeats-flat_map (λ v. full_lists ds (outer ++ v ∷ [])) (or_empty (def_values d outer)) (distinct_def d outer)
+    HasNoRepeats-flat_map (λ v. full_lists ds (outer ++ v ∷ [])) (result_unwrap_or (def_values d outer) []) (distinct_def d outer)
     (λ v among. distinct_lists ds (outer ++ v ∷ []))
     (λ v w x h k.
     let p = locals_from_full ds (outer ++ v ∷ []) x h in
@@ -74,12 +75,12 @@ same_given : (given : Option ℤ) (v w : ℤ) → IsSome given → AgreesWith gi
 same_given None v w some a b = absurd cc
 same_given (Some z) v w some a b = a ∙ sym b
 
-same_number : (r : Result ℤ SpanFault) (v w : ℤ) → IsIn v (or_empty (and_then r (λ z. Ok (z ∷ [])))) → IsIn w (or_empty (and_then r (λ z. Ok (z ∷ [])))) → v ≡ w
+same_number : (r : Result ℤ SpanFault) (v w : ℤ) → IsIn v (result_unwrap_or (and_then r (λ z. Ok (z ∷ []))) []) → IsIn w (result_unwrap_or (and_then r (λ z. Ok (z ∷ []))) []) → v ≡ w
 same_number (Ok z) v w h k = elim h [ inl e ↦ elim k [ inl f ↦ e ∙ sym f | inr t ↦ absurd t ] | inr t ↦ absurd t ]
 same_number (Err e) v w h k = absurd h
 
 module _ (ps : List ℕ) (params : List ℤ) (arity : length ps ≡ length params) where
-  same_value : (d : Def) (ds : List Def) (n : ℕ) (outer : List ℤ) (v w : ℤ) → spans_are_params n (d ∷ ds) ps ≡ true → IsIn v (or_empty (def_values d outer)) → IsIn w (or_empty (def_values d outer)) → AgreesWith (param_value ps params n) v → AgreesWith (param_value ps params n) w → v ≡ w
+  same_value : (d : Def) (ds : List Def) (n : ℕ) (outer : List ℤ) (v w : ℤ) → spans_are_params n (d ∷ ds) ps ≡ true → IsIn v (result_unwrap_or (def_values d outer) []) → IsIn w (result_unwrap_or (def_values d outer) []) → AgreesWith (param_value ps params n) v → AgreesWith (param_value ps params n) w → v ≡ w
   same_value (Span r) ds n outer v w spans h k a b =
       same_given (param_value ps params n) v w (IsSome-param_value ps params n arity (first_so (is_among n ps) (spans_are_params (suc n) ds ps) spans)) a b
   same_value (Value e) ds n outer v w spans h k a b = same_number (number e outer) v w h k

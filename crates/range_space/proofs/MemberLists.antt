@@ -7,16 +7,17 @@ use Rattle.std.proofs.lemmas.Bool.{false≢true, not-true}
 use Rattle.std.proofs.lemmas.Bool.{eqb-true}
 use Rattle.std.proofs.lemmas.List.{append-nil}
 use Rattle.std.specs.List.{list_all}
-use Rattle.ptg_base.specs.Lists.{IsIn}
+use Rattle.ptg_base.specs.Lists.{IsIn, are_distinct}
 use Rattle.term_core.specs.declared.space.Def.{Def}
 use Rattle.term_core.specs.declared.space.Def.TheVariants.{Span, Value}
 use Rattle.term_core.specs.declared.space.ClassSpace.{ClassSpace}
-use Rattle.term_core.specs.WellSpace.{IsWellSpace, is_among, are_different, spans_are_params}
-use Rattle.range_space.specs.Tasks.{full_lists, def_values, or_empty, params_of, tasks, all_locals}
+use Rattle.term_core.specs.WellSpace.{IsWellSpace, is_among, spans_are_params}
+use Rattle.range_space.specs.Tasks.{full_lists, def_values, params_of, tasks, all_locals}
 use Rattle.range_space.specs.Completion.{param_value, AgreesWith, IsGivenIfRanged, AreLocals, AllAgree, IsCompletion, HasNoCompletion}
 use Rattle.list_lemmas.proofs.Truth.{by_test}
 use Rattle.list_lemmas.proofs.Members.{IsIn-flat_map, from_flat_map, IsIn-map, from_map}
 use Rattle.std.specs.Cmp.{first_so, second_so}
+use Rattle.std.specs.Result.{result_unwrap_or}
 
 -- the full lists are those of the locals that are values of their definitions
 pub full_from_locals : (ds : List Def) (outer locals : List ℤ) → AreLocals ds outer locals → IsIn (outer ++ locals) (full_lists ds outer)
@@ -24,13 +25,13 @@ full_from_locals [] outer [] w = inl (append-nil outer)
 full_from_locals [] outer (v ∷ locals) w = absurd w
 full_from_locals (d ∷ ds) outer [] w = absurd w
 full_from_locals (d ∷ ds) outer (v ∷ locals) w =
-    IsIn-flat_map (λ z. full_lists ds (outer ++ z ∷ [])) (or_empty (def_values d outer)) v (outer ++ v ∷ locals) w.0
+    IsIn-flat_map (λ z. full_lists ds (outer ++ z ∷ [])) (result_unwrap_or (def_values d outer) []) v (outer ++ v ∷ locals) w.0
     (subst (λ l. IsIn l (full_lists ds (outer ++ v ∷ []))) (append_assoc outer (v ∷ []) locals) (full_from_locals ds (outer ++ v ∷ []) locals w.1))
 
 pub locals_from_full : (ds : List Def) (outer l : List ℤ) → IsIn l (full_lists ds outer) → (locals : List ℤ) × (l ≡ outer ++ locals) × AreLocals ds outer locals
 locals_from_full [] outer l w = elim w [ inl e ↦ ([], e ∙ sym (append-nil outer), tt) | inr t ↦ absurd t ]
 locals_from_full (d ∷ ds) outer l w =
-    let p = from_flat_map (λ z. full_lists ds (outer ++ z ∷ [])) (or_empty (def_values d outer)) l w in
+    let p = from_flat_map (λ z. full_lists ds (outer ++ z ∷ [])) (result_unwrap_or (def_values d outer) []) l w in
     let q = locals_from_full ds (outer ++ p.0 ∷ []) l p.2 in
     (p.0 ∷ q.0, q.1 ∙ append_assoc outer (p.0 ∷ []) q.0, (p.1, q.2))
 
@@ -72,7 +73,7 @@ all_agree ps vs k (v ∷ l) f = (
 )
 
 -- locals that agree with the given values have them as parameters
-pub params_from_agreement : (ps : List ℕ) (vs l : List ℤ) → length ps ≡ length vs → are_different ps ≡ true → list_all (λ p. nat_lt p (length l)) ps ≡ true → ((i : ℕ) → i < length l → AgreesWith (param_value ps vs i) (slice_index_or l i (pos 0))) → params_of ps l ≡ vs
+pub params_from_agreement : (ps : List ℕ) (vs l : List ℤ) → length ps ≡ length vs → are_distinct (λ p q. q == p) ps ≡ true → list_all (λ p. nat_lt p (length l)) ps ≡ true → ((i : ℕ) → i < length l → AgreesWith (param_value ps vs i) (slice_index_or l i (pos 0))) → params_of ps l ≡ vs
 params_from_agreement [] [] l e d w f = refl
 params_from_agreement [] (v ∷ vs) l e d w f = absurd (omega arith)
 params_from_agreement (p ∷ ps) [] l e d w f = absurd (omega arith)
@@ -102,7 +103,7 @@ given_if_ranged (Span r) ds ps vs n e h = IsSome-param_value ps vs n e (first_so
 given_if_ranged (Value t) ds ps vs n e h = tt
 
 -- what extends locals by more extends them by the next one alone, if that one is known
-module _ (d : Def) (ds : List Def) (ps : List ℕ) (vs : List ℤ) (n : ℕ) (outer full : List ℤ) (v : ℤ) (only : (u : ℤ) → IsIn u (or_empty (def_values d outer)) → AgreesWith (param_value ps vs n) u → v ≡ u) where
+module _ (d : Def) (ds : List Def) (ps : List ℕ) (vs : List ℤ) (n : ℕ) (outer full : List ℤ) (v : ℤ) (only : (u : ℤ) → IsIn u (result_unwrap_or (def_values d outer) []) → AgreesWith (param_value ps vs n) u → v ≡ u) where
   next_of : (locals : List ℤ) → full ≡ outer ++ locals → AreLocals (d ∷ ds) outer locals → AllAgree ps vs n locals → IsCompletion ds ps vs (suc n) (outer ++ v ∷ []) full
   next_of [] e a g = absurd a
   next_of (u ∷ locals) e a g =

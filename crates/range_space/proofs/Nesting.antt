@@ -3,6 +3,7 @@ use Rattle.std.proofs.Common.{◌≡◌, ℕ, suc, ◌+◌, ◌<◌, ℤ, pos, �
 use Rattle.std.proofs.lemmas.List.{append-nil, take_more, same_from_push}
 use Rattle.std.proofs.lemmas.Int.{ints}
 use Rattle.std.proofs.Math.Seq.{drop-cons}
+use Rattle.std.specs.Result.{result_unwrap_or}
 use Rattle.ptg_base.specs.Returns.{and_then}
 use Rattle.term_core.specs.declared.space.Def.{Def}
 use Rattle.term_core.specs.declared.space.Def.TheVariants.{Span, Value}
@@ -11,7 +12,7 @@ use Rattle.range_space.specs.Values.{is_within, values}
 use Rattle.term_core.specs.declared.expr.Expr.{Expr}
 use Rattle.term_core.specs.declared.space.Range.{Range}
 use Rattle.range_space.specs.Fault.{Bounds, bounds, number}
-use Rattle.range_space.specs.Tasks.{full_lists, def_values, or_empty}
+use Rattle.range_space.specs.Tasks.{full_lists, def_values}
 use Rattle.range_space.specs.ListsAfter.{def_bounds, lists_over, lists_over_rest, lists_past, lists_after, IsFirstOf, IsFirstOver, IsFirstPast}
 use Rattle.range_space.proofs.Stepping.{values_in, values_past}
 use Rattle.list_lemmas.proofs.Truth.{by_test}
@@ -58,7 +59,7 @@ popped (Some w) xs ys v h = (same_from_push ys xs w v (sym h)).0
 
 module _ (r : Range) (ds : List Def) (outer now : List ℤ) (b : Bounds) (e : bounds r outer ≡ Ok b) where
   full-among : full_lists (Span r ∷ ds) outer ≡ lists_over ds outer (values b.lo b.hi b.step)
-  full-among = ap (λ x. lists_over ds outer (or_empty x)) (def_values-bounds (Span r) outer b e)
+  full-among = ap (λ (x : Result (List ℤ) SpanFault). lists_over ds outer (result_unwrap_or x [])) (def_values-bounds (Span r) outer b e)
 
   pub first_of_among : IsFirstOver (Ok b) ds outer now (lists_over ds outer (values b.lo b.hi b.step)) → IsFirstOf (Span r ∷ ds) outer now (full_lists (Span r ∷ ds) outer)
   first_of_among s = record {
@@ -74,7 +75,7 @@ module _ (r : Range) (ds : List Def) (outer now : List ℤ) (b : Bounds) (e : bo
 -- an expression has one value
 module _ (t : Expr) (ds : List Def) (outer now : List ℤ) (z : ℤ) (e : number t outer ≡ Ok z) where
   full-with : full_lists (Value t ∷ ds) outer ≡ full_lists ds (outer ++ z ∷ [])
-  full-with = ap (λ x. lists_over ds outer (or_empty (and_then x (λ y. Ok (y ∷ []))))) e ∙ append-nil (full_lists ds (outer ++ z ∷ []))
+  full-with = ap (λ (x : Result ℤ SpanFault). lists_over ds outer (result_unwrap_or (and_then x (λ y. Ok (y ∷ []))) [])) e ∙ append-nil (full_lists ds (outer ++ z ∷ []))
 
   pub first_of_value : IsFirstOf ds (outer ++ z ∷ []) now (full_lists ds (outer ++ z ∷ [])) → IsFirstOf (Value t ∷ ds) outer now (full_lists (Value t ∷ ds) outer)
   first_of_value s = record {

@@ -1,13 +1,14 @@
 -- What a walk that nothing stops says of the classes, and back.
-use Rattle.std.proofs.Common.{◌≡◌, ℕ, suc, ◌+◌, ◌≤◌, ℤ, List, [], ◌∷◌, ◌++◌, length, refl, Result, Ok, Err, length-append, flat_map, arith}
+use Rattle.std.proofs.Common.{◌≡◌, ℕ, suc, ◌+◌, ◌≤◌, ℤ, List, [], ◌∷◌, ◌++◌, length, refl, Result, Ok, Err, IsOkAnd, length-append, flat_map, arith}
 use Rattle.std.specs.List.{AllByRecursion}
+use Rattle.std.specs.Result.{result_unwrap_or}
 use Rattle.term_core.specs.declared.space.Def.{Def}
 use Rattle.term_core.specs.declared.space.ClassSpace.{ClassSpace}
 use Rattle.range_space.specs.declared.fault.SpanFault.{SpanFault}
 use Rattle.range_space.specs.declared.fault.SpaceFault.{SpaceFault}
-use Rattle.range_space.specs.Tasks.{def_values, or_empty}
+use Rattle.range_space.specs.Tasks.{def_values}
 use Rattle.range_space.specs.Walk.{Visit, Prefix, Task, NoValue, visits, walk, walk_among, walk_all, task_count, prefix_count, AllHaveValues, IsUnstopped, StopsAt, IsFirstFault, task_total}
-use Rattle.range_space.specs.Sound.{prefixes_from, prefix_total, HasValues, IsSoundFrom, IsSound}
+use Rattle.range_space.specs.Sound.{prefixes_from, prefix_total, IsSoundFrom, IsSound}
 use Rattle.range_space.proofs.Counting.{task_count-append, prefix_count-append, AllHaveValues-append, task_count-walk_all}
 
 none_split : (xs ys : List Visit) → AllHaveValues (xs ++ ys) → AllHaveValues xs × AllHaveValues ys
@@ -23,7 +24,7 @@ module _ (class : ℕ) (ds : List Def) (outer : List ℤ) where
       let p = none_split (walk class ds (outer ++ v ∷ [])) (walk_among class ds outer vs) h in
       (nested (outer ++ v ∷ []) p.0, sound_among nested vs p.1)
 
-  sound_under : ((b : List ℤ) → AllHaveValues (walk class ds b) → IsSoundFrom ds b) → (r : Result (List ℤ) SpanFault) → AllHaveValues (visits (λ v. Prefix class ∷ walk class ds (outer ++ v ∷ [])) (NoValue class outer) r) → HasValues (λ v. IsSoundFrom ds (outer ++ v ∷ [])) r
+  sound_under : ((b : List ℤ) → AllHaveValues (walk class ds b) → IsSoundFrom ds b) → (r : Result (List ℤ) SpanFault) → AllHaveValues (visits (λ v. Prefix class ∷ walk class ds (outer ++ v ∷ [])) (NoValue class outer) r) → IsOkAnd r (λ vs. AllByRecursion (λ v. IsSoundFrom ds (outer ++ v ∷ [])) vs)
   sound_under nested (Ok vs) h = sound_among nested vs h
   sound_under nested (Err e) h = h
 
@@ -31,7 +32,7 @@ module _ (class : ℕ) (ds : List Def) (outer : List ℤ) where
   none_among nested [] h = tt
   none_among nested (v ∷ vs) h = AllHaveValues-append (walk class ds (outer ++ v ∷ [])) (walk_among class ds outer vs) (nested (outer ++ v ∷ []) h.0) (none_among nested vs h.1)
 
-  none_under : ((b : List ℤ) → IsSoundFrom ds b → AllHaveValues (walk class ds b)) → (r : Result (List ℤ) SpanFault) → HasValues (λ v. IsSoundFrom ds (outer ++ v ∷ [])) r → AllHaveValues (visits (λ v. Prefix class ∷ walk class ds (outer ++ v ∷ [])) (NoValue class outer) r)
+  none_under : ((b : List ℤ) → IsSoundFrom ds b → AllHaveValues (walk class ds b)) → (r : Result (List ℤ) SpanFault) → IsOkAnd r (λ vs. AllByRecursion (λ v. IsSoundFrom ds (outer ++ v ∷ [])) vs) → AllHaveValues (visits (λ v. Prefix class ∷ walk class ds (outer ++ v ∷ [])) (NoValue class outer) r)
   none_under nested (Ok vs) h = none_among nested vs h
   none_under nested (Err e) h = h
 
@@ -44,7 +45,7 @@ module _ (class : ℕ) (ds : List Def) (outer : List ℤ) where
       let h = length-append (prefixes_from ds (outer ++ v ∷ [])) (flat_map (λ w. (outer ++ w ∷ []) ∷ prefixes_from ds (outer ++ w ∷ [])) vs) in
       omega arith
 
-  prefixes_under : ((b : List ℤ) → prefix_count (walk class ds b) ≡ length (prefixes_from ds b)) → (r : Result (List ℤ) SpanFault) → prefix_count (visits (λ v. Prefix class ∷ walk class ds (outer ++ v ∷ [])) (NoValue class outer) r) ≡ length (flat_map (λ v. (outer ++ v ∷ []) ∷ prefixes_from ds (outer ++ v ∷ [])) (or_empty r))
+  prefixes_under : ((b : List ℤ) → prefix_count (walk class ds b) ≡ length (prefixes_from ds b)) → (r : Result (List ℤ) SpanFault) → prefix_count (visits (λ v. Prefix class ∷ walk class ds (outer ++ v ∷ [])) (NoValue class outer) r) ≡ length (flat_map (λ v. (outer ++ v ∷ []) ∷ prefixes_from ds (outer ++ v ∷ [])) (result_unwrap_or r []))
   prefixes_under nested (Ok vs) = prefixes_among nested vs
   prefixes_under nested (Err e) = refl
 

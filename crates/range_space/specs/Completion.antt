@@ -1,9 +1,10 @@
 -- Full lists of locals in which the parameters have given values. Source: the JDF documentation.
-use Rattle.std.specs.Prelude.{◌≡◌, ℕ, suc, ℤ, List, [], ◌∷◌, ◌++◌, ◌==◌, Option, Some, None, IsSome, if◌then◌else◌}
+use Rattle.std.specs.Prelude.{◌≡◌, ℕ, suc, ℤ, List, [], ◌∷◌, ◌++◌, ◌==◌, Option, Some, None, IfSome, IsSome, if◌then◌else◌}
+use Rattle.std.specs.Result.{result_unwrap_or}
 use Rattle.ptg_base.specs.Lists.{IsIn}
 use Rattle.term_core.specs.declared.space.Def.{Def}
 use Rattle.term_core.specs.declared.space.Def.TheVariants.{Span, Value}
-use Rattle.range_space.specs.Tasks.{def_values, or_empty}
+use Rattle.range_space.specs.Tasks.{def_values}
 
 -- the value given to the definition with this number, if it is that of a parameter
 abbrev pub param_value : List ℕ → List ℤ → ℕ → Option ℤ
@@ -13,8 +14,7 @@ param_value (p ∷ ps) (v ∷ values) n = if p == n then Some v else param_value
 
 -- a value is the given one, if one is given
 abbrev pub AgreesWith : Option ℤ → ℤ → Type 0
-AgreesWith None v = Unit {0}
-AgreesWith (Some w) v = v ≡ w
+AgreesWith given v = IfSome given (λ w. v ≡ w)
 
 -- the only one of the values that agrees with what is given, or that none does
 abbrev pub IsOnlyAgreeing : List ℤ → Option ℤ → Option ℤ → Type 0
@@ -32,7 +32,8 @@ abbrev pub AreLocals : List Def → List ℤ → List ℤ → Type 0
 AreLocals [] outer [] = Unit {0}
 AreLocals [] outer (v ∷ locals) = ⊥
 AreLocals (d ∷ ds) outer [] = ⊥
-AreLocals (d ∷ ds) outer (v ∷ locals) = IsIn v (or_empty (def_values d outer)) × AreLocals ds (outer ++ v ∷ []) locals
+AreLocals (d ∷ ds) outer (v ∷ locals) =
+    IsIn v (result_unwrap_or (def_values d outer) []) × AreLocals ds (outer ++ v ∷ []) locals
 
 -- these locals, numbered from n on, agree with the values given to the parameters
 abbrev pub AllAgree : List ℕ → List ℤ → ℕ → List ℤ → Type 0

@@ -1,7 +1,8 @@
 -- The iteration space of a class, built by nesting one definition in the one before it. Source: DAGuE (Parallel
 -- Computing, 2012) and the JDF documentation.
-use Rattle.std.specs.Prelude.{ℕ, ℤ, pos, List, [], ◌∷◌, ◌++◌, map, Result, Ok, Err, slice_index_or}
+use Rattle.std.specs.Prelude.{ℕ, ℤ, pos, List, [], ◌∷◌, ◌++◌, map, Result, Ok, slice_index_or}
 use Rattle.std.specs.List.{flat_map}
+use Rattle.std.specs.Result.{result_unwrap_or}
 use Rattle.ptg_base.specs.Returns.{and_then}
 use Rattle.term_core.specs.declared.space.Def.{Def}
 use Rattle.term_core.specs.declared.space.Def.TheVariants.{Span, Value}
@@ -14,16 +15,11 @@ abbrev pub def_values : Def → List ℤ → Result (List ℤ) SpanFault
 def_values (Span r) env = range_values r env
 def_values (Value e) env = and_then (number e env) (λ z. Ok (z ∷ []))
 
--- no values where a definition has a fault, so that it gives no task
-abbrev pub or_empty : Result (List ℤ) SpanFault → List ℤ
-or_empty (Ok vs) = vs
-or_empty (Err e) = []
-
 -- the full lists of locals that extend these outer values: for each value of the next definition, all that is nested in
--- it
+-- it. A definition with a fault has no values here, so that it gives no task
 abbrev pub full_lists : List Def → List ℤ → List (List ℤ)
 full_lists [] outer = outer ∷ []
-full_lists (d ∷ ds) outer = flat_map (λ v. full_lists ds (outer ++ v ∷ [])) (or_empty (def_values d outer))
+full_lists (d ∷ ds) outer = flat_map (λ v. full_lists ds (outer ++ v ∷ [])) (result_unwrap_or (def_values d outer) [])
 
 -- the values of the parameters, in the order of their list
 abbrev pub params_of : List ℕ → List ℤ → List ℤ

@@ -2,10 +2,11 @@
 
 ghost use Rattle.std.specs.Prelude.{◌≡◌, ◌+◌, ◌≤◌, ◌↔◌, ℤ, List, [], ◌∷◌, Some, None, Ok, length, IsTrue, MatchOption};
 ghost use Rattle.std.specs.Bool.{OnTrue, OnFalse};
+ghost use Rattle.std.specs.Result.{result_unwrap_or};
 ghost use Rattle.ptg_base.specs.Limits.{most_locals};
 ghost use Rattle.ptg_base.specs.Lists.{IsIn};
 ghost use Rattle.term_core.specs.WellSpace.{IsWellSpace, spans_are_params};
-ghost use Rattle.range_space.specs.Tasks.{tasks, def_values, or_empty};
+ghost use Rattle.range_space.specs.Tasks.{tasks, def_values};
 ghost use Rattle.range_space.specs.Locals.{IsLocalsOf};
 ghost use Rattle.range_space.specs.Completion.{param_value, AgreesWith, IsOnlyAgreeing, IsGivenIfRanged, IsCompletion, HasNoCompletion};
 ghost use Rattle.range_space.specs.Fault.{number, range_values};
@@ -16,8 +17,8 @@ use crate::steps::{number, steps_of};
 use ptg_base::MOST_LOCALS;
 use term_core::{ClassSpace, Def, Expr, Range, eval};
 
-// The value given to the definition with this number, if it is that of a parameter.
-fn param_value(params: &[u8], values: &[i64], definition: usize) -> Option<i64>
+/// The value given to the definition with this number, if it is that of a parameter.
+pub fn param_value(params: &[u8], values: &[i64], definition: usize) -> Option<i64>
     ensures { result ≡ param_value params.now values.now definition }
 {
     let (first, others) = params.split_first()?;
@@ -31,7 +32,7 @@ fn param_value(params: &[u8], values: &[i64], definition: usize) -> Option<i64>
 
 // The given value, where the range has it.
 fn ranged(range: &Range, given: i64, env: &[i64]) -> Option<i64>
-    ensures { IsOnlyAgreeing (or_empty (range_values range.now env.now)) (Some given) result }
+    ensures { IsOnlyAgreeing (result_unwrap_or (range_values range.now env.now) []) (Some given) result }
 {
     let Ok(steps) = steps_of(range, env) else {
         return None;
@@ -41,7 +42,7 @@ fn ranged(range: &Range, given: i64, env: &[i64]) -> Option<i64>
 
 // The value of the expression, where it is the given one or none is given.
 fn derived(e: &Expr, given: Option<i64>, env: &[i64]) -> Option<i64>
-    ensures { IsOnlyAgreeing (or_empty (and_then (number e.now env.now) (λ z. Ok (z ∷ [])))) given result }
+    ensures { IsOnlyAgreeing (result_unwrap_or (and_then (number e.now env.now) (λ z. Ok (z ∷ []))) []) given result }
 {
     let Ok(z) = number(e, env) else {
         return None;
@@ -55,7 +56,7 @@ fn derived(e: &Expr, given: Option<i64>, env: &[i64]) -> Option<i64>
 // The only value of a definition that agrees with what is given, if there is one.
 fn local_of(def: &Def, given: Option<i64>, env: &[i64]) -> Option<i64>
     requires { IsGivenIfRanged def.now given }
-    ensures { IsOnlyAgreeing (or_empty (def_values def.now env.now)) given result }
+    ensures { IsOnlyAgreeing (result_unwrap_or (def_values def.now env.now) []) given result }
 {
     match def {
         Def::Span(range) => ranged(range, given?, env),
@@ -89,7 +90,7 @@ fn complete(defs: &[Def], params: &[u8], values: &[i64], locals: &mut Numbers<MO
 // The value of a definition for which none is given: that of its expression.
 fn derived_value(def: &Def, env: &[i64]) -> i64
     requires { IsGivenIfRanged def.now None }
-    ensures { (v : ℤ) → IsIn v (or_empty (def_values def.now env.now)) → result ≡ v }
+    ensures { (v : ℤ) → IsIn v (result_unwrap_or (def_values def.now env.now) []) → result ≡ v }
 {
     match def {
         Def::Span(_) => 0,
@@ -100,7 +101,7 @@ fn derived_value(def: &Def, env: &[i64]) -> i64
 // The local of a definition of a task: the given value, which is not tested again, else that of its expression.
 fn known_local(def: &Def, given: Option<i64>, env: &[i64]) -> i64
     requires { IsGivenIfRanged def.now given }
-    ensures { (v : ℤ) → IsIn v (or_empty (def_values def.now env.now)) → AgreesWith given v → result ≡ v }
+    ensures { (v : ℤ) → IsIn v (result_unwrap_or (def_values def.now env.now) []) → AgreesWith given v → result ≡ v }
 {
     match given {
         Some(v) => v,

@@ -1,6 +1,6 @@
 //! The number of tasks of all classes.
 
-ghost use Rattle.std.specs.Prelude.{◌≡◌, ◌+◌, ◌<◌, ◌≤◌, [], ◌∷◌, ◌++◌, length, All, OnOk, IfOk, IfErr, IsOk};
+ghost use Rattle.std.specs.Prelude.{◌≡◌, ◌+◌, ◌<◌, ◌≤◌, [], ◌∷◌, length, All, OnOk, IfOk, IfErr, IsOk};
 ghost use Rattle.std.specs.List.{AllByRecursion};
 ghost use Rattle.ptg_base.specs.Limits.{most_classes, most_locals, most_prefixes, most_tasks};
 ghost use Rattle.range_space.specs.Values.{values};

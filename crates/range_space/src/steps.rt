@@ -1,6 +1,6 @@
 //! Ranges as progressions, and their members by arithmetic.
 
-ghost use Rattle.std.specs.Prelude.{◌≡◌, ◌≢◌, ◌↔◌, ℤ, pos, ◌%◌, ◌+ℤ◌, length, not, true, false, IsTrue, IfOk, IfErr, MatchOption, Ok, Err, unsigned_abs, ◌-ℤ◌};
+ghost use Rattle.std.specs.Prelude.{◌≡◌, ◌≢◌, ◌↔◌, ℤ, pos, ◌%◌, ◌+ℤ◌, length, not, true, false, IsTrue, IfOk, IfErr, MatchOption, Ok, Err, unsigned_abs};
 ghost use Rattle.ptg_base.specs.Lists.{IsIn};
 ghost use Rattle.range_space.specs.Values.{is_within, values};
 ghost use Rattle.range_space.specs.Fault.{bounds, number, step_number};

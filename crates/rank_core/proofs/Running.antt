@@ -12,19 +12,19 @@ use Rattle.list_lemmas.proofs.Members.{IsIn-append_right, from_flat_map, from_ma
 use Rattle.list_lemmas.proofs.Truth.{by_test}
 use Rattle.list_lemmas.proofs.Counts.{weigh-push}
 use Rattle.dep_iter.specs.Consistent.{IsConsistent}
-use Rattle.dep_iter.specs.Items.{item_flow, items}
+use Rattle.dep_iter.specs.Items.{items}
 use Rattle.flow_meaning.specs.Backward.{ended}
 use Rattle.flow_meaning.specs.Comparing.{same_item}
 use Rattle.list_lemmas.specs.Counting.{as_number}
 use Rattle.flow_meaning.specs.Ending.{Ended, has_outputs, output_tile}
-use Rattle.flow_meaning.specs.Machine.{Claim, Event, Happen, MachineState, MayClaim, MaySend, Send, SentItem, claim_count, end_in, send_count, sender, sent_with, state_after}
+use Rattle.flow_meaning.specs.Machine.{Claim, Event, Happen, MachineState, MayClaim, MaySend, Send, SentItem, claim_count, end_in, send_count, sender, sent_with, state_after, item_from}
 use Rattle.flow_meaning.specs.Sound.{HasAllArrived, IsSoundState}
 use Rattle.flow_meaning.proofs.Comparing.{same_item-decides}
 use Rattle.flow_meaning.proofs.Events.{claim_sound, ends_so, send_sound, unsent}
 use Rattle.flow_meaning.proofs.Rest.{item_sender}
 use Rattle.flow_meaning.proofs.Members.{out_edge_from}
 use Rattle.rank_core.specs.declared.message.Message.{Message}
-use Rattle.rank_core.specs.World.{WorldState, after_run, edges_between, item_from, items_by, items_within, message_from, messages_by, is_delivered, with_message}
+use Rattle.rank_core.specs.World.{WorldState, after_run, edges_between, items_by, items_within, message_from, messages_by, is_delivered, with_message}
 use Rattle.rank_core.specs.Sound.{IsSoundWorld}
 use Rattle.rank_core.proofs.Items.{between_is_out, out_is_item, within_is_item, within_once}
 pub use Rattle.flow_meaning.proofs.Events.{unclaimed_unsent}
@@ -60,7 +60,7 @@ module _ (P : Plan) (G : Data) (con : IsConsistent P) where
         is_item = subst (λ u. IsIn i (items P u)) (sym from) (among i (inl refl));
         outputs = ap has_outputs end ∙ o;
       } in
-      let here : sent_with P G S i ≡ item_from (ended P G t) i = λ k. record { item = i; tile = output_tile (end k) (item_flow i) } in
+      let here : sent_with P G S i ≡ item_from (ended P G t) i = λ k. item_from (end k) i in
       let T : MachineState = state_after P G S (Send i) in
       let later : (j : Item) → IsIn j is → send_count (state_after P G S (Send i)) j ≡ 0 = λ j h.
       let sum = weigh-push (λ (x : SentItem). as_number (same_item j x.item)) S.sends (sent_with P G S i) in

@@ -19,10 +19,10 @@ use Rattle.flow_meaning.specs.Backward.{ended}
 use Rattle.flow_meaning.specs.Comparing.{same_item}
 use Rattle.list_lemmas.specs.Counting.{as_number}
 use Rattle.flow_meaning.specs.Ending.{has_outputs}
-use Rattle.flow_meaning.specs.Machine.{MachineState, MayClaim, SentItem, end_in, is_sent, send_count}
+use Rattle.flow_meaning.specs.Machine.{MachineState, MayClaim, SentItem, end_in, is_sent, send_count, item_from}
 use Rattle.flow_meaning.proofs.Events.{happen_sound, member_send, opening_sound}
 use Rattle.rank_core.specs.declared.message.Message.{Message}
-use Rattle.rank_core.specs.World.{Deliver, IsPossibleIn, Run, WorldEvent, WorldState, after_delivery, after_run, item_from, items_by, items_within, messages_by, opening_world, is_delivered, with_message, world_after}
+use Rattle.rank_core.specs.World.{Deliver, IsPossibleIn, Run, WorldEvent, WorldState, after_delivery, after_run, items_by, items_within, messages_by, opening_world, is_delivered, with_message, world_after}
 use Rattle.rank_core.specs.Sound.{IsSoundWorld}
 use Rattle.rank_core.proofs.Running.{delivered, items_with, run_ends, run_happens}
 

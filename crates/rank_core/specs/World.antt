@@ -11,9 +11,9 @@ use Rattle.ptg_base.specs.declared.edge.Item.{Item}
 use Rattle.ptg_base.specs.declared.edge.Item.TheVariants as item
 use Rattle.plan_core.specs.declared.plan.Plan.{Plan}
 use Rattle.coll_data.specs.Data.{Data}
-use Rattle.dep_iter.specs.Items.{item_flow, out_edges, write_backs}
+use Rattle.dep_iter.specs.Items.{out_edges, write_backs}
 use Rattle.flow_meaning.specs.Ending.{Ended, has_outputs, output_tile}
-use Rattle.flow_meaning.specs.Machine.{MachineState, MayClaim, SentItem, end_in, is_sent, opening_state}
+use Rattle.flow_meaning.specs.Machine.{MachineState, MayClaim, SentItem, end_in, is_sent, opening_state, item_from}
 use Rattle.shard_meaning.specs.Placing.{shard_of}
 use Rattle.shard_meaning.specs.Share.{Placement}
 use Rattle.rank_core.specs.declared.message.Message.{Message}
@@ -37,10 +37,6 @@ edges_between P r t = filter (is_between P r) (out_edges P t)
 -- the items of a task that need no message: its write-backs, and its edges to its own rank
 abbrev pub items_within : Plan → ℕ → Task → List Item
 items_within P r t = map item.Write (write_backs P t) ++ map item.Edge (edges_within P r t)
-
--- an item with the tile that its task leaves in the flow where the task ends so
-abbrev pub item_from : Option Ended → Item → SentItem
-item_from end i = record { item = i; tile = output_tile end (item_flow i) }
 
 -- the message of an edge, with the tile that its task leaves in the flow where the task ends so
 abbrev pub message_from : Option Ended → Edge → Message

@@ -23,9 +23,9 @@ ghost use Rattle.rank_core.specs.Sound.{IsSoundWorld, message_count};
 /// meaning says.
 pub fn a_task_runs_on_its_inputs()
     ensures now { (P : Plan) (G : Data) (r : ℕ) (w : WorldState) (t : Task) → IsConsistent P → IsSoundWorld P G r w
-        → MayClaim P w.machine t → delivered_tiles P (sent_tile w.machine) t ≡ inputs P G t }
+        → MayClaim P w.machine t → delivered_tiles P (sent_tile w.machine.sends) t ≡ inputs P G t }
     ensures then { (P : Plan) (G : Data) (r : ℕ) (w : WorldState) (t : Task) → IsConsistent P → IsSoundWorld P G r w
-        → IsIn t w.machine.claims → delivered_tiles P (sent_tile w.machine) t ≡ inputs P G t }
+        → IsIn t w.machine.claims → delivered_tiles P (sent_tile w.machine.sends) t ≡ inputs P G t }
     ensures end { (P : Plan) (G : Data) (r : ℕ) (w : WorldState) (t : Task) → IsConsistent P → IsSoundWorld P G r w
         → MayClaim P w.machine t → (ended P G t ≡ end_in P G w.machine t) × IsSome (ended P G t) }
 {}

@@ -14,13 +14,13 @@ use Rattle.list_lemmas.proofs.Members.{IsIn-append_left, IsIn-append_right, from
 use Rattle.list_lemmas.proofs.Distinct.{HasNoRepeats-left}
 use Rattle.plan_core.specs.declared.plan.Plan.{Plan}
 use Rattle.coll_data.specs.Data.{Data}
-use Rattle.dep_iter.specs.Items.{item_flow, items, out_edges, write_backs}
+use Rattle.dep_iter.specs.Items.{items, out_edges, write_backs}
 use Rattle.dep_iter.specs.Tasks.{IsTask}
 use Rattle.dep_shard.specs.Content.{Content, Ends, IsTileOf, KeepsEntriesAndWritten, Takes}
 use Rattle.flow_meaning.specs.Backward.{ended}
 use Rattle.list_lemmas.specs.Counting.{as_number}
 use Rattle.flow_meaning.specs.Ending.{has_outputs, output_tile}
-use Rattle.flow_meaning.specs.Machine.{Claim, Event, Happen, end_in, IsPossible, MachineState, MaySend, Send, SentItem, sender, sent_with, state_after}
+use Rattle.flow_meaning.specs.Machine.{Claim, Event, Happen, end_in, IsPossible, MachineState, MaySend, Send, SentItem, sender, sent_with, state_after, item_from}
 use Rattle.flow_meaning.specs.Sound.{IsSoundState}
 use Rattle.flow_meaning.proofs.Events.{claim_sound, happen_sound}
 use Rattle.flow_meaning.proofs.Rest.{item_sender}
@@ -32,7 +32,7 @@ use Rattle.shard_meaning.proofs.Holding.{numbers_at_most, some_runs}
 use Rattle.shard_meaning.proofs.Sends.{edge_away, edge_here, write_away, write_here}
 use Rattle.shard_meaning.proofs.SoundMoments.{sent_is}
 use Rattle.shard_meaning.proofs.Typing.{write_typed}
-use Rattle.rank_core.specs.World.{edges_within, is_between, item_from, items_by, items_within, rank_of}
+use Rattle.rank_core.specs.World.{edges_within, is_between, items_by, items_within, rank_of}
 use Rattle.rank_core.proofs.Items.{within_is_item, within_once}
 use Rattle.rank_core.proofs.Running.{items_with, items_without, part_happens, run_ends}
 use Rattle.rank_world.specs.declared.running_task.RunningTask.{RunningTask}
@@ -140,7 +140,7 @@ module _ (v : RunningTask) (h : IsRunningTask v) where
         let f : Item → SentItem = item_from (ended (plan_of v) (data_of v) v.task.now) in
         let here : sent_with (plan_of v) (data_of v) (part_way v is).state i ≡ item_from (ended (plan_of v) (data_of v) v.task.now) i =
         sent_is (plan_of v) (data_of v) h.consistent (part_way v is).state (part_sound is (i ∷ rest) split) i (next_may is i rest split)
-        ∙ (λ k. record { item = i; tile = output_tile (ended (plan_of v) (data_of v) (by_task is i rest split k)) (item_flow i) }) in
+        ∙ (λ k. item_from (ended (plan_of v) (data_of v) (by_task is i rest split k)) i) in
         let sends : ((before v).machine.sends ++ map (item_from (ended (plan_of v) (data_of v) v.task.now)) is) ++ sent_with (plan_of v) (data_of v) (part_way v is).state i ∷ [] ≡ (before v).machine.sends ++ map (item_from (ended (plan_of v) (data_of v) v.task.now)) (is ++ i ∷ []) =
         append_assoc (before v).machine.sends (map (item_from (ended (plan_of v) (data_of v) v.task.now)) is) (sent_with (plan_of v) (data_of v) (part_way v is).state i ∷ [])
         ∙ ap (λ x. (before v).machine.sends ++ (map (item_from (ended (plan_of v) (data_of v) v.task.now)) is ++ x ∷ [])) here

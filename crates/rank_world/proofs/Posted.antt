@@ -17,12 +17,12 @@ use Rattle.dep_iter.specs.Items.{out_edges, write_backs}
 use Rattle.flow_meaning.specs.Comparing.{same_item}
 use Rattle.list_lemmas.specs.Counting.{as_number, weigh}
 use Rattle.flow_meaning.specs.Ending.{Ended, has_outputs}
-use Rattle.flow_meaning.specs.Machine.{MachineState, SentItem, claim_count, end_in, send_count, sender}
+use Rattle.flow_meaning.specs.Machine.{MachineState, SentItem, claim_count, end_in, send_count, sender, item_from}
 use Rattle.flow_meaning.proofs.Comparing.{same_item-decides}
 use Rattle.flow_meaning.proofs.Events.{member_claim}
 use Rattle.flow_meaning.proofs.Rest.{item_sender}
 use Rattle.rank_core.specs.declared.message.Message.{Message}
-use Rattle.rank_core.specs.World.{edges_between, edges_within, is_between, item_from, items_by, items_within, message_from, is_delivered}
+use Rattle.rank_core.specs.World.{edges_between, edges_within, is_between, items_by, items_within, message_from, is_delivered}
 use Rattle.rank_core.proofs.Items.{out_from, within_is_item}
 use Rattle.rank_core.proofs.Running.{items_with, items_without, message_is, unclaimed_unsent}
 use Rattle.rank_world.specs.declared.running_task.RunningTask.{RunningTask}

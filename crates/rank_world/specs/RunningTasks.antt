@@ -17,12 +17,12 @@ use Rattle.dep_iter.specs.Items.{write_backs}
 use Rattle.dep_iter.specs.Tasks.{locals_of}
 use Rattle.dep_shard.specs.Content.{Content}
 use Rattle.flow_meaning.specs.Backward.{ended}
-use Rattle.flow_meaning.specs.Machine.{MayClaim}
+use Rattle.flow_meaning.specs.Machine.{MayClaim, item_from}
 use Rattle.shard_meaning.specs.Moment.{Moment}
 use Rattle.shard_meaning.specs.Share.{IsShardOf}
 use Rattle.rank_core.specs.declared.message.Message.{Message}
 use Rattle.rank_core.specs.Sound.{IsSoundWorld}
-use Rattle.rank_core.specs.World.{WorldState, after_run, is_between, item_from, rank_of}
+use Rattle.rank_core.specs.World.{WorldState, after_run, is_between, rank_of}
 use Rattle.rank_world.specs.declared.running_task.RunningTask.{RunningTask}
 
 -- the plan of a running task

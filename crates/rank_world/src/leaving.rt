@@ -1,7 +1,6 @@
 //! What a task leaves within its rank: its write-backs, and its edges to tasks of the rank.
 
 ghost use Rattle.std.specs.Prelude.{◌≡◌, ◌++◌, [], Ok, Some, ℕ, false, true, length, map};
-ghost use Rattle.ptg_base.specs.declared.edge.Edge.{Edge as EdgeValue};
 ghost use Rattle.ptg_base.specs.declared.edge.Item.TheVariants as item;
 ghost use Rattle.dep_iter.specs.Items as items;
 ghost use Rattle.dep_iter.specs.Tasks.{IsTask};

@@ -7,8 +7,8 @@ ghost use Rattle.ptg_base.specs.Limits.{most_edges};
 ghost use Rattle.indexmap.specs.IndexMap.{spare};
 ghost use Rattle.dep_iter.specs.Items as items;
 ghost use Rattle.flow_meaning.specs.Backward.{ended};
-ghost use Rattle.flow_meaning.specs.Ending.{has_outputs, output_tile};
-ghost use Rattle.rank_world.specs.Keeping.{IsMailOf, IsUnderWay};
+ghost use Rattle.flow_meaning.specs.Ending.{output_tile};
+ghost use Rattle.rank_world.specs.Keeping.{IsMailOf};
 ghost use Rattle.rank_world.specs.RunningTasks.{AreBlank, IsRunningTask, after, before, between_among, data_of, plan_of};
 
 use crate::mail::Mail;

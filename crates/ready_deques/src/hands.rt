@@ -1,5 +1,5 @@
 //! One worker's ends of the deques: where it pushes, pops and steals.
-ghost use Rattle.std.specs.Prelude.{◌≡◌, ◌≢◌, ◌+◌, ◌<◌, ◌≤◌, ℕ, [], ◌∷◌, length, ⊤, All, map, sum_by, slice_get, Some, IfErr, IfNone, MatchOption, MatchResult};
+ghost use Rattle.std.specs.Prelude.{◌≡◌, ◌≢◌, ◌+◌, ◌<◌, ◌≤◌, ℕ, [], length, ⊤, All, map, sum_by, slice_get, Some, IfErr, IfNone, MatchOption, MatchResult};
 ghost use Rattle.ptg_base.specs.Task.{Task};
 ghost use Rattle.ready_deques.specs.Ends.{IsNew, initial_capacity};
 ghost use Rattle.ready_deques.specs.Hands.{AreTheOthers, SameWorker, TakenAtMostAsPushed, fresh, taken_from, after_push, after_take};

@@ -1,5 +1,5 @@
 //! The deques of some workers, and the hands of each.
-ghost use Rattle.std.specs.Prelude.{◌≡◌, ◌+◌, ◌<◌, ◌≤◌, All, IfOk, length, map};
+ghost use Rattle.std.specs.Prelude.{◌≡◌, ◌<◌, ◌≤◌, All, IfOk, length, map};
 ghost use Rattle.ready_deques.specs.Ends.{DequeId, IsNew, less, new_thief};
 ghost use Rattle.ready_deques.specs.Hands.{AreFresh};
 ghost use Rattle.std.specs.Prelude.{List};

@@ -5,7 +5,8 @@ use Rattle.std.proofs.lemmas.Slice.Zip.{get_or-zip, length-zip}
 use Rattle.std.specs.List.{zip}
 use Rattle.coll_data.specs.declared.coll.Coll.{Coll}
 use Rattle.coll_data.specs.Tiles.{tile_count}
-use Rattle.report_text.specs.Places.{IsWhole, places, place_after}
+use Rattle.coll_data.specs.WellMade.{IsWhole}
+use Rattle.report_text.specs.Places.{places, place_after}
 use Rattle.list_lemmas.proofs.Grids.{length_rows, place_in}
 
 pub length_places : (rows : ℕ) (cols : Option ℕ) → length (places rows cols) ≡ tile_count rows cols

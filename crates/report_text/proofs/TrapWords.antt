@@ -3,10 +3,11 @@
 use Rattle.std.proofs.Common.{◌≡◌, ◌<◌, ℕ, ℤ, Bool, true, false, ◌&&◌, ◌==◌, ◌-◌, nat_lt, if◌then◌else◌, List, [], ◌∷◌, Option, Some, None, Result, Ok, Err}
 use Rattle.std.proofs.lemmas.Bool.{and_parts, ltb-true}
 use Rattle.std.specs.Prelude.{length}
+use Rattle.std.specs.Option.{option_map_or}
 use Rattle.term_core.specs.Term.{Term, Num, Local, Elem, Unary, Binary, Choose}
 use Rattle.term_core.specs.Arith.{holds, arithmetic, decided, unary_value}
 use Rattle.ptg_base.specs.Returns.{and_then}
-use Rattle.term_core.specs.Value.{decided_or, map_fault}
+use Rattle.term_core.specs.Value.{map_fault}
 use Rattle.term_core.specs.Trap.{trap_of}
 use Rattle.term_core.specs.StatementList.{StatementList, Done, SetThen, PutThen, IfThen, ForThen, TrapThen}
 use Rattle.term_core.specs.declared.body.Body.{Body}
@@ -44,7 +45,7 @@ module _ (n : ℕ) where
   allows-fault (Err fault.Overflow) = tt
   allows-fault (Err fault.Divide) = tt
 
-  allows-decided : (d : Option ℤ) (r : Result ℤ Trap) → Allows n r → Allows n (decided_or d r)
+  allows-decided : (d : Option ℤ) (r : Result ℤ Trap) → Allows n r → Allows n (option_map_or Ok d r)
   allows-decided (Some z) r h = tt
   allows-decided None r h = h
 
@@ -79,7 +80,7 @@ module _ (n : ℕ) where
   allows-value slots tiles (Unary o a) =
       allows-and_then (body_value slots tiles a) (λ x. map_fault trap_of (unary_value o x)) (allows-value slots tiles a) (λ x. allows-fault (unary_value o x))
   allows-value slots tiles (Binary o a b) =
-      allows-and_then (body_value slots tiles a) (λ x. decided_or (decided o x) (and_then (body_value slots tiles b) (λ y. map_fault trap_of (arithmetic o x y)))) (allows-value slots tiles a)
+      allows-and_then (body_value slots tiles a) (λ x. option_map_or Ok (decided o x) (and_then (body_value slots tiles b) (λ y. map_fault trap_of (arithmetic o x y)))) (allows-value slots tiles a)
       (λ x. allows-decided (decided o x) (and_then (body_value slots tiles b) (λ y. map_fault trap_of (arithmetic o x y)))
       (allows-and_then (body_value slots tiles b) (λ y. map_fault trap_of (arithmetic o x y)) (allows-value slots tiles b) (λ y. allows-fault (arithmetic o x y))))
   allows-value slots tiles (Choose c a b) =

@@ -5,7 +5,7 @@ use Rattle.ptg_base.specs.Task.{Task}
 use Rattle.term_core.specs.declared.trap.Trap.{Trap}
 use Rattle.term_core.specs.declared.trap.Trap.TheVariants.{Overflow, Divide, Index, Absent, Budget, Word}
 use Rattle.plan_core.specs.declared.class.ClassPlan.{ClassPlan}
-pub use Rattle.plan_core.specs.ClassName.{class_name}
+pub use Rattle.plan_core.specs.NamesByNumber.{class_name}
 use Rattle.plan_core.specs.declared.plan.Plan.{Plan}
 use Rattle.flow_meaning.specs.declared.outcome.TrapRow.{TrapRow}
 use Rattle.flow_meaning.specs.declared.outcome.WaitRow.{WaitRow}

@@ -1,6 +1,6 @@
 //! Lines, field by field.
 
-ghost use Rattle.std.specs.Prelude.{◌∷◌, flat_map, map};
+ghost use Rattle.std.specs.Prelude.{◌∷◌, flat_map};
 ghost use Rattle.std.specs.Fmt.{decimal, signed_decimal};
 ghost use Rattle.report_text.specs.Puts.{Puts};
 ghost use Rattle.report_text.specs.Field.{field_texts, line, with_commas};

@@ -1,8 +1,9 @@
 //! The lines of tiles.
 
 ghost use Rattle.std.specs.Prelude.{flat_map, All};
+ghost use Rattle.coll_data.specs.WellMade.{IsWhole};
 ghost use Rattle.report_text.specs.Puts.{Puts};
-ghost use Rattle.report_text.specs.Places.{IsWhole, place_after};
+ghost use Rattle.report_text.specs.Places.{place_after};
 ghost use Rattle.report_text.specs.Printed.{coll_lines, tile_line};
 
 use crate::fields::{Field, put_line};

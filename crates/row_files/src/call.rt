@@ -3,19 +3,19 @@
 ghost use Rattle.std.specs.Thread.{IsSync};
 
 use crate::why::Why;
-use crate::worked_row::{Order, Printed};
+use crate::worked_row::{Printed, RowCall};
 use std::alloc::Global;
 use std::sync::Wait;
 use std::thread::Threads;
 
 /// What a row calls with its words and files.
 pub trait Call {
-    /// What the call that a row orders prints, and its status. It may start threads, and wait.
+    /// What the call of a row prints, and its status. It may start threads, and wait.
     fn printed<R: Threads + Wait + Sync>(
         &self,
         rt: &R,
         alloc: Global,
-        order: Order,
+        row_call: RowCall,
     ) -> Result<Printed, Why>
         requires { IsSync R.row };
 }

@@ -16,4 +16,4 @@ mod worked_row;
 pub use call::Call;
 pub use session::all_as_wanted;
 pub use why::Why;
-pub use worked_row::{Order, Printed};
+pub use worked_row::{Printed, RowCall};

@@ -3,7 +3,7 @@
 use crate::files::{file_of, spelled};
 use crate::items::first_word;
 use crate::why::Why;
-use crate::worked_row::{Order, Printed};
+use crate::worked_row::{Printed, RowCall};
 use ptg_base::Text;
 use std::alloc::Global;
 
@@ -28,15 +28,15 @@ impl Prefixes {
     }
 
     /// Refuses these beginnings where they are none, one is longer than its file, or a call of the row is to fail.
-    pub fn belong_to(&self, order: &Order) -> Result<(), Why> {
+    pub fn belong_to(&self, row_call: &RowCall) -> Result<(), Why> {
         if self.from >= self.to {
             return Err(Why("prefixes of no length"));
         }
-        if !order.failing_reads.is_empty() || !order.failing_writes.is_empty() {
+        if !row_call.failing_reads.is_empty() || !row_call.failing_writes.is_empty() {
             return Err(Why("prefixes with failing calls"));
         }
         let longest = self.to - 1;
-        for file in &order.files {
+        for file in &row_call.files {
             if file.name() == self.name.as_slice() && longest <= file.bytes().len() {
                 return Ok(());
             }
@@ -45,7 +45,7 @@ impl Prefixes {
     }
 
     /// The same call with the beginning of this length in the place of the file.
-    pub fn order(&self, alloc: Global, whole: &Order, length: usize) -> Result<Order, Why> {
+    pub fn row_call(&self, alloc: Global, whole: &RowCall, length: usize) -> Result<RowCall, Why> {
         let mut files = Vec::new(alloc);
         for file in &whole.files {
             let mut bytes = file.bytes().to_vec(alloc)?;
@@ -58,7 +58,7 @@ impl Prefixes {
         for word in &whole.words {
             words.push(Text::of(alloc, word.bytes())?)?;
         }
-        Ok(Order {
+        Ok(RowCall {
             files,
             words,
             failing_reads: Vec::new(alloc),

@@ -6,7 +6,7 @@ use crate::prefixes::wanted_of;
 use crate::report::Report;
 use crate::tried::Tried;
 use crate::why::Why;
-use crate::worked_row::{Order, StatusOfEach, Wanted, WorkedRow};
+use crate::worked_row::{RowCall, StatusOfEach, Wanted, WorkedRow};
 use std::alloc::Global;
 use std::rt::{Env, Files};
 use std::sync::Wait;
@@ -156,10 +156,10 @@ pub fn tried<'a, R: Threads + Wait + Sync, C: Call>(
     row: WorkedRow<'a>,
     all: &WorkedRow<'a>,
 ) -> Result<Option<Tried>, Why> {
-    let (order, wanted) = row.order(alloc, all)?;
+    let (row_call, wanted) = row.row_call(alloc, all)?;
     match wanted {
         Wanted::Text(wanted) => {
-            let came = call.printed(rt, alloc, order)?;
+            let came = call.printed(rt, alloc, row_call)?;
             let tried = Tried {
                 wanted,
                 came,
@@ -167,7 +167,7 @@ pub fn tried<'a, R: Threads + Wait + Sync, C: Call>(
             };
             Ok(tried.if_other())
         }
-        Wanted::Status(each) => tried_with_each(rt, alloc, call, &order, &each),
+        Wanted::Status(each) => tried_with_each(rt, alloc, call, &row_call, &each),
     }
 }
 
@@ -176,12 +176,12 @@ fn tried_with_each<R: Threads + Wait + Sync, C: Call>(
     rt: &R,
     alloc: Global,
     call: &C,
-    whole: &Order,
+    whole: &RowCall,
     each: &StatusOfEach,
 ) -> Result<Option<Tried>, Why> {
     for length in each.prefixes.from..each.prefixes.to {
-        let order = each.prefixes.order(alloc, whole, length)?;
-        let came = call.printed(rt, alloc, order)?;
+        let row_call = each.prefixes.row_call(alloc, whole, length)?;
+        let came = call.printed(rt, alloc, row_call)?;
         let tried = Tried {
             wanted: wanted_of(alloc, each.status, &came)?,
             came,

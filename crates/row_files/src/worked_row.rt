@@ -30,7 +30,7 @@ pub struct WorkedRow<'a> {
 
 /// What a row calls: words, the files that there are, and which of the calls that read or write fail.
 #[derive(Drop)]
-pub struct Order {
+pub struct RowCall {
     pub files: Vec<File>,
     pub words: Vec<Text>,
     /// The numbers of the reads that fail, from 1.
@@ -39,7 +39,7 @@ pub struct Order {
     pub failing_writes: Vec<u64>,
 }
 
-impl Order {
+impl RowCall {
     /// The bytes of the file of this name.
     pub fn file(&self, name: &Text) -> Result<&[u8], Why> {
         for file in self.files.as_slice() {
@@ -141,7 +141,7 @@ impl<'a> WorkedRow<'a> {
     }
 
     /// What the row calls and what must come, where it is whole. Words and status may be those of all rows.
-    pub fn order(self, alloc: Global, all: &WorkedRow<'a>) -> Result<(Order, Wanted), Why> {
+    pub fn row_call(self, alloc: Global, all: &WorkedRow<'a>) -> Result<(RowCall, Wanted), Why> {
         let (Some(list), Some(status)) = (self.words.or(all.words), self.status.or(all.status))
         else {
             return Err(Why("a row without words or status"));
@@ -149,20 +149,20 @@ impl<'a> WorkedRow<'a> {
         if !self.shows && !all.shows {
             return Err(Why("a row without shows"));
         }
-        let order = Order {
+        let row_call = RowCall {
             files: self.files,
             words: words(alloc, list)?,
             failing_reads: self.failing_reads,
             failing_writes: self.failing_writes,
         };
-        let wanted = what_is_wanted(&order, status, self.prefixes, self.prints, self.cut)?;
-        Ok((order, wanted))
+        let wanted = what_is_wanted(&row_call, status, self.prefixes, self.prints, self.cut)?;
+        Ok((row_call, wanted))
     }
 }
 
 // What must come of a call: a status with each of some beginnings of a file, or a text, which may be cut, and a status.
 fn what_is_wanted(
-    order: &Order,
+    row_call: &RowCall,
     status: u8,
     prefixes: Option<Prefixes>,
     prints: Option<Vec<u8>>,
@@ -176,7 +176,7 @@ fn what_is_wanted(
             Ok(Wanted::Text(Printed { text, status }))
         }
         (Some(prefixes), None) if cut.is_none() => {
-            prefixes.belong_to(order)?;
+            prefixes.belong_to(row_call)?;
             Ok(Wanted::Status(StatusOfEach { status, prefixes }))
         }
         (None, None) => Err(Why("a row without prints")),

@@ -2,7 +2,7 @@
 //! or can't be read.
 #![tactic(auto)]
 
-use row_files::{Call, Order, Printed, Why, all_as_wanted};
+use row_files::{Call, Printed, RowCall, Why, all_as_wanted};
 use std::alloc::Global;
 use std::process::ExitCode;
 use std::sync::Wait;
@@ -23,9 +23,9 @@ impl Call for ByLength {
         &self,
         _rt: &R,
         alloc: Global,
-        order: Order,
+        row_call: RowCall,
     ) -> Result<Printed, Why> {
-        let length = order.files.first().map_or(0, |file| file.bytes().len());
+        let length = row_call.files.first().map_or(0, |file| file.bytes().len());
         let (text, status) = match length {
             0..=2 => (b"short\n".as_slice(), 2),
             3 => (b"long".as_slice(), 0),

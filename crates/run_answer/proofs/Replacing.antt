@@ -3,7 +3,7 @@ use Rattle.std.proofs.Common.{◌≡◌, ◌≢◌, ℕ, zero, suc, ◌+◌, ◌
 use Rattle.std.proofs.lemmas.Bool.{eqb-true, false_from_ne_true}
 use Rattle.std.proofs.lemmas.List.Elements.{All-pop, All-weaker}
 use Rattle.std.specs.List.{All}
-use Rattle.std.specs.Option.{option_map_or}
+use Rattle.std.specs.Option.{option_map_or, option_eq}
 use Rattle.ptg_base.specs.declared.place.Place.{Place}
 use Rattle.ptg_base.specs.declared.edge.WriteBack.{WriteBack}
 use Rattle.coll_data.specs.declared.coll.Coll.{Coll}
@@ -11,7 +11,7 @@ use Rattle.coll_data.specs.Data.{Data}
 use Rattle.coll_data.specs.Replacing.{coll_with, with_tile_at}
 use Rattle.coll_data.specs.Tiles.{IsRow, IsColumn, tile_index}
 use Rattle.coll_data.specs.WellMade.{elements_by_type}
-use Rattle.flow_meaning.specs.Final.{is_index, is_place_of, replaced_colls, replaced_data, replaced_tiles}
+use Rattle.flow_meaning.specs.Final.{is_place_of, replaced_colls, replaced_data, replaced_tiles}
 use Rattle.flow_meaning.specs.StateAnswer.{first_written}
 use Rattle.run_answer.specs.Written.{IsWritable, with_tiles}
 use Rattle.list_lemmas.proofs.Numbers.{eqb-self}
@@ -80,11 +80,11 @@ module _ (ws : List (WriteBack × List ℤ)) (w : WriteBack × List ℤ) where
   elsewhere : (c : ℕ) (x : Coll) → eqb place.coll c ≡ false → replaced_tiles after c x 0 x.tiles ≡ replaced_tiles before c x 0 x.tiles
   elsewhere c x other =
       tiles_after c x 0 x.tiles
-      ∙ ap (replaced_tiles before c x 0) (marked_none (is_here c x) w.1 0 x.tiles (λ n le. ap (λ b. b && is_index (tile_index x.shape.0 x.shape.1 place.i place.j) n) other))
+      ∙ ap (replaced_tiles before c x 0) (marked_none (is_here c x) w.1 0 x.tiles (λ n le. ap (λ b. b && option_eq eqb (tile_index x.shape.0 x.shape.1 place.i place.j) (Some n)) other))
 
-  marked_index : (o : Option ℕ) (tiles : List (List ℤ)) → marked (is_index o) w.1 0 tiles ≡ option_map_or (λ n. set tiles n w.1) o tiles
-  marked_index None tiles = marked_none (is_index None) w.1 0 tiles (λ n le. refl)
-  marked_index (Some i) tiles = marked_one (is_index (Some i)) w.1 i i 0 tiles (eqb-self i) (λ n ne. eqb_other i n ne) (omega arith)
+  marked_index : (o : Option ℕ) (tiles : List (List ℤ)) → marked (λ n. option_eq eqb o (Some n)) w.1 0 tiles ≡ option_map_or (λ n. set tiles n w.1) o tiles
+  marked_index None tiles = marked_none (λ n. false) w.1 0 tiles (λ n le. refl)
+  marked_index (Some i) tiles = marked_one (eqb i) w.1 i i 0 tiles (eqb-self i) (λ n ne. eqb_other i n ne) (omega arith)
 
   same_marks : (p q : ℕ → Bool) (t : List ℤ) (k : ℕ) (tiles : List (List ℤ)) → ((n : ℕ) → p n ≡ q n) → marked p t k tiles ≡ marked q t k tiles
   same_marks p q t k [] e = refl
@@ -95,7 +95,7 @@ module _ (ws : List (WriteBack × List ℤ)) (w : WriteBack × List ℤ) where
   here_in c x same =
       tiles_after c x 0 x.tiles
       ∙ ap (replaced_tiles before c x 0)
-      (same_marks (is_here c x) (is_index (tile_index x.shape.0 x.shape.1 place.i place.j)) w.1 0 x.tiles (λ n. ap (λ b. b && is_index (tile_index x.shape.0 x.shape.1 place.i place.j) n) same)
+      (same_marks (is_here c x) (λ n. option_eq eqb (tile_index x.shape.0 x.shape.1 place.i place.j) (Some n)) w.1 0 x.tiles (λ n. ap (λ b. b && option_eq eqb (tile_index x.shape.0 x.shape.1 place.i place.j) (Some n)) same)
       ∙ marked_index (tile_index x.shape.0 x.shape.1 place.i place.j) x.tiles)
 
   colls_past : (c : ℕ) (xs : List Coll) → place.coll < c → replaced_colls after c xs ≡ replaced_colls before c xs

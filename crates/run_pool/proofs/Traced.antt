@@ -17,45 +17,46 @@ use Rattle.shard_meaning.specs.Moment.{Moment}
 use Rattle.worker_core.specs.Working.{HasLogged, logged}
 use Rattle.work_board.specs.declared.record.PassRecord.{PassRecord}
 use Rattle.table_rule.specs.declared.table_job.TableJob.{TableJob}
-use Rattle.table_rule.specs.Live.{Stamp}
 use Rattle.table_rule.specs.Records.{joined}
 use Rattle.dep_table.specs.ClosedTables.{ClosedView}
 use Rattle.dep_table.specs.Closing.{HaveNoWork, IsClosedAt}
-use Rattle.dep_table.specs.StampOrders.{AreInStampOrder, IsClaimOrder, IsRanOrder, joined_stamps, number_of, task_of}
+use Rattle.flow_meaning.specs.Order.{IsWholeOrder}
+use Rattle.dep_table.specs.StampOrders.{AreInStampOrder, IsClaimOrder, joined_stamps, number_of}
 use Rattle.dep_table.specs.Views.{PassView, shown}
 use Rattle.run_pool.specs.Desks.{HaveLogged}
 use Rattle.run_pool.specs.Seated.{IsFresh, PaddedDesk, log_on, pass_on, record_on}
 use Rattle.run_pool.specs.Traces.{IsTraceOf}
 use Rattle.run_pool.proofs.Places.{has_both}
+use Rattle.work_board.specs.Stamps.{StampedTask}
 
 -- an entry of a log, and the stamp that it stands for
 abbrev pub Logged : Type 0
 Logged = ℕ × Task
 
-abbrev pub stamp_of : Logged → Stamp
+abbrev pub stamp_of : Logged → StampedTask
 stamp_of e = (e.1, e.0)
 
 length-stamps : (xs : List Logged) → length (map stamp_of xs) ≡ length xs
 length-stamps [] = refl
 length-stamps (x ∷ xs) = omega (arith, length-stamps xs)
 
-stamp_at : (xs : List Logged) (k : ℕ) (d : Stamp) → get_or (map stamp_of xs) k d ≡ stamp_of (get_or xs k (d.1, d.0))
+stamp_at : (xs : List Logged) (k : ℕ) (d : StampedTask) → get_or (map stamp_of xs) k d ≡ stamp_of (get_or xs k (d.1, d.0))
 stamp_at [] k d = refl
 stamp_at (x ∷ xs) zero d = refl
 stamp_at (x ∷ xs) (suc k) d = stamp_at xs k d
 
 -- a sorted log
-pub sorted_log : (stamps : List Stamp) (log sorted : List Logged) (ts : List Task) → log ≡ logged stamps → IsPermutation log sorted → IsNonDecreasingBy (λ (e : Logged). e.0) sorted → ts ≡ map (λ (e : Logged). e.1) sorted → AreInStampOrder stamps ts
+pub sorted_log : (stamps : List StampedTask) (log sorted : List Logged) (ts : List Task) → log ≡ logged stamps → IsPermutation log sorted → IsNonDecreasingBy (λ (e : Logged). e.0) sorted → ts ≡ map (λ (e : Logged). e.1) sorted → AreInStampOrder stamps ts
 sorted_log stamps log sorted ts is moves rise tasks = record {
   ordered = map stamp_of sorted;
   same = λ f. let g : Logged → ℕ = λ e. f (stamp_of e) in
       omega (arith, weigh-map f stamp_of sorted, weigh-sum g sorted, weigh-sum g log, sum_by-IsPermutation g log sorted moves, ap (weigh g) is, weigh-map g (λ (c : Task × ℕ). (c.1, c.0)) stamps);
   rise = λ i j d le lt. omega (arith, length-stamps sorted, rise i j (d.1, d.0) le (omega (arith, length-stamps sorted)), ap number_of (stamp_at sorted i d), ap number_of (stamp_at sorted j d));
-  tasks = tasks ∙ sym (map-map task_of stamp_of sorted);
+  tasks = tasks ∙ sym (map-map (λ (x : StampedTask). x.0) stamp_of sorted);
 }
 
 pub sorted_tasks : {A E : Type 0} (items : A → List Task) (r : Result A E) (log sorted : List Logged) → IsPermutation log sorted → IsNonDecreasingBy (λ (e : Logged). e.0) sorted → IfOk r (λ a. items a ≡ map (λ (e : Logged). e.1) sorted)
-    → IfOk r (λ a. (stamps : List Stamp) → log ≡ logged stamps → AreInStampOrder stamps (items a))
+    → IfOk r (λ a. (stamps : List StampedTask) → log ≡ logged stamps → AreInStampOrder stamps (items a))
 sorted_tasks items (Ok a) log sorted moves rise is = λ stamps same. sorted_log stamps log sorted (items a) same moves rise is
 sorted_tasks items (Err e) log sorted moves rise is = tt
 
@@ -95,6 +96,6 @@ trace_of j t ps es ts job passes at order sorted =
     }
 
 -- the same list is one of what ran
-pub ran_order : ((j : TableJob) (R : Moment) (ys : List Content) (ts : List Task) → IsClosedAt j R ys → HaveNoWork ys → IsClaimOrder j.matched R.state ts → IsRanOrder j.matched j.given ts)
-    → (j : TableJob) (t : ClosedView) (ts : List Task) → t.job ≡ j → IsTraceOf t ts → HaveNoWork t.shards → IsRanOrder j.matched j.given ts
-ran_order law j t ts job trace none = subst (λ (i : TableJob). IsRanOrder i.matched i.given ts) job (law t.job (joined trace.records) t.shards ts trace.at none trace.legal)
+pub ran_order : ((j : TableJob) (R : Moment) (ys : List Content) (ts : List Task) → IsClosedAt j R ys → HaveNoWork ys → IsClaimOrder j.matched R.state ts → IsWholeOrder j.matched j.given ts)
+    → (j : TableJob) (t : ClosedView) (ts : List Task) → t.job ≡ j → IsTraceOf t ts → HaveNoWork t.shards → IsWholeOrder j.matched j.given ts
+ran_order law j t ts job trace none = subst (λ (i : TableJob). IsWholeOrder i.matched i.given ts) job (law t.job (joined trace.records) t.shards ts trace.at none trace.legal)

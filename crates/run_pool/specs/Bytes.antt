@@ -2,7 +2,7 @@
 -- worker. Source: this project's own choice.
 use Rattle.std.specs.Prelude.{ℕ, ◌+◌, ◌*◌, sum, Option, slice_index}
 use Rattle.std.specs.Option.{option_map_or}
-use Rattle.ptg_base.specs.Limits.{most_flows}
+use Rattle.ptg_base.specs.Limits.{most_edges, most_flows, most_tile_elements}
 use Rattle.ptg_base.specs.declared.edge.Edge.{Edge}
 use Rattle.ptg_base.specs.declared.edge.WriteBack.{WriteBack}
 use Rattle.plan_core.specs.declared.flow.FlowPlan.{FlowPlan}
@@ -27,9 +27,9 @@ write_elements P w = elements_of P (flow_of P.classes w.from.class w.flow)
 unfoldable pub sent_elements : Plan → ℕ
 sent_elements P = weigh (edge_elements P) (all_data P) + weigh (write_elements P) (all_writes P)
 
--- how many there are at most: 4,096 for each of 4,000,000 edges and of 4,000,000 write-backs
+-- the most numbers that can be sent: a largest tile for each edge and for each write-back
 abbrev pub most_sent_elements : ℕ
-most_sent_elements = 32768000000
+most_sent_elements = most_tile_elements * (most_edges + most_edges)
 
 -- the bytes of a preload for this many workers, at eight for each number
 unfoldable pub preload_bytes : Plan → ℕ → ℕ

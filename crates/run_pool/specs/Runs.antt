@@ -1,6 +1,7 @@
 -- A run that is ready, as contracts see it, and when a preload is too large. Source: this project's own choice.
-use Rattle.std.specs.Prelude.{◌≡◌, ◌<◌, ◌≤◌, ℕ, true}
-use Rattle.ptg_base.specs.Limits.{most_preload_bytes, most_shards, most_workers}
+use Rattle.std.specs.Prelude.{ℕ, Bool, Option, None, is_some, nat_lt, if◌then◌else◌}
+use Rattle.std.specs.Bool.{then_some}
+use Rattle.ptg_base.specs.Limits.{most_preload_bytes}
 use Rattle.plan_core.specs.declared.plan.Plan.{Plan}
 use Rattle.coll_data.specs.Data.{Data}
 use Rattle.table_rule.specs.declared.table_job.TableJob.{TableJob}
@@ -17,15 +18,13 @@ abbrev pub run_of : Plan → Data → Settings → Run
 run_of P G s =
     record { job = record { matched = P; given = G; shards = s.shards; preloaded = s.preload }; workers = s.workers }
 
--- the settings are within their limits
-pub record AreSettings (s : Settings) : Type 0 where
-  pub some_workers : 1 ≤ s.workers
-  pub workers_at_most : s.workers ≤ most_workers
-  pub some_shards : 1 ≤ s.shards
-  pub shards_at_most : s.shards ≤ most_shards
+-- the bytes of a preload that is asked for, where they are over the limit
+abbrev pub too_large_preload : Settings → Plan → Option ℕ
+too_large_preload s P =
+    if s.preload
+    then then_some (nat_lt most_preload_bytes (preload_bytes P s.workers)) (preload_bytes P s.workers)
+    else None
 
--- a preload is asked for, and takes this many bytes, which are too many
-pub record IsTooLarge (P : Plan) (s : Settings) (bytes : ℕ) : Type 0 where
-  pub asked : s.preload ≡ true
-  pub are : bytes ≡ preload_bytes P s.workers
-  pub many : most_preload_bytes < bytes
+-- whether a preload is asked for that is too large
+abbrev pub is_too_large : Settings → Plan → Bool
+is_too_large s P = is_some (too_large_preload s P)

@@ -15,7 +15,7 @@ mod workers;
 pub use bytes::preload_bytes;
 pub use desk::Desk;
 pub use prepared::Prepared;
-pub use preparing::{PrepareFault, prepare};
+pub use preparing::{PrepareFault, lay_out, prepare};
 pub use running::run;
 pub use settings::Settings;
 pub use tracing::run_traced;

@@ -4,11 +4,12 @@ ghost use Rattle.std.specs.Prelude.{◌≡◌, ◌++◌, ℕ, List, false, map, 
 ghost use Rattle.std.specs.List.{flat_map};
 ghost use Rattle.ptg_base.specs.Task.{Task};
 ghost use Rattle.worker_core.specs.Working.{logged};
-ghost use Rattle.table_rule.specs.Live.{Stamp};
 ghost use Rattle.dep_table.specs.Closing.{HaveNoWork};
-ghost use Rattle.dep_table.specs.StampOrders.{AreInStampOrder, IsRanOrder};
+ghost use Rattle.flow_meaning.specs.Order.{IsWholeOrder};
+ghost use Rattle.dep_table.specs.StampOrders.{AreInStampOrder};
 ghost use Rattle.run_pool.specs.Seated.{log_on};
 ghost use Rattle.run_pool.specs.Traces.{IsTraceOf};
+ghost use Rattle.work_board.specs.Stamps.{StampedTask};
 
 use crate::prepared::Prepared;
 use crate::running::passes_of;
@@ -61,7 +62,8 @@ fn tasks_of(alloc: Global, log: Vec<(u64, TaskId)>) -> Result<Vec<TaskId>, OutOf
 
 // The tasks of a log, in the order of their stamps.
 fn in_stamp_order(alloc: Global, log: Vec<(u64, TaskId)>) -> Result<Vec<TaskId>, OutOfMemory>
-    ensures { IfOk result (λ r. (stamps : List Stamp) → log.items ≡ logged stamps → AreInStampOrder stamps r.items) }
+    ensures { IfOk result (λ r. (stamps : List StampedTask) → log.items ≡ logged stamps
+        → AreInStampOrder stamps r.items) }
 {
     let mut log = log;
     log.sort_unstable_by_key(|entry| entry.0);
@@ -69,8 +71,7 @@ fn in_stamp_order(alloc: Global, log: Vec<(u64, TaskId)>) -> Result<Vec<TaskId>,
 }
 
 /// Runs a job as `run` does, without a preload, and gives all claims of its passes in the order of their stamps: a
-/// legal
-/// order of the tasks that run. It may wait.
+/// legal order of the tasks that run. It may wait.
 pub fn run_traced<R: Threads + Wait + Sync, G: Gate>(
     alloc: Global,
     rt: &R,
@@ -82,7 +83,7 @@ pub fn run_traced<R: Threads + Wait + Sync, G: Gate>(
     ensures passes { IfOk result (λ r. r.1.passes ≡ prepared.workers) }
     ensures quiet { IfOk result (λ r. HaveNoWork r.1.shards) }
     ensures trace { IfOk result (λ r. IsTraceOf r.1 r.0.items) }
-    ensures order { IfOk result (λ r. IsRanOrder prepared.job.matched prepared.job.given r.0.items) }
+    ensures order { IfOk result (λ r. IsWholeOrder prepared.job.matched prepared.job.given r.0.items) }
 {
     all_passes_stay_all();
     an_idle_pass_is_a_workers_pass();

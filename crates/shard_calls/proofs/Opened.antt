@@ -13,9 +13,11 @@ use Rattle.shard_meaning.specs.Share.{Placement}
 use Rattle.list_lemmas.proofs.Members.{IsIn-filter}
 use Rattle.list_lemmas.proofs.Places.{slice_get_push}
 use Rattle.list_lemmas.proofs.Truth.{by_test}
-use Rattle.shard_calls.specs.Opened.{AreNew, AreOpened, AreOpeningShards, IsOpenedFor, Opens, roots_among}
+use Rattle.shard_calls.specs.Opened.{AreNew, AreOpened, AreOpeningShards, IsOpenedFor, Opens}
+use Rattle.dep_iter.specs.Consistent.{roots_among}
 use Rattle.shard_calls.proofs.OpeningSteps.{entry_now, more_kept}
 use Rattle.shard_calls.proofs.TaskWalks.{IsSoFar, one_more}
+use Rattle.dep_iter.specs.Consistent.{roots_among}
 
 -- one new shard more
 pub new_more : (n : ℕ) (lengths : List ℕ) (ys : List Content) (y : Content) (zs : List Content) → AreNew n lengths ys → IsNew y lengths → zs ≡ ys ++ y ∷ [] → AreNew (n + 1) lengths zs

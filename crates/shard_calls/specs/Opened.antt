@@ -1,20 +1,15 @@
 -- How shards are opened: they get a ready entry of each task that no edge goes into. Source: DAGuE (Parallel Computing,
 -- 2012): a task without dependences may run at once.
-use Rattle.std.specs.Prelude.{◌≡◌, ℕ, ◌==◌, ℤ, List, [], ◌∷◌, ◌++◌, length, filter, slice_get, Some, None}
+use Rattle.std.specs.Prelude.{◌≡◌, ℕ, ℤ, List, [], ◌∷◌, ◌++◌, length, slice_get, Some, None}
 use Rattle.ptg_base.specs.Entry.{Entry}
 use Rattle.ptg_base.specs.Lists.{IsIn}
 use Rattle.ptg_base.specs.Task.{Task}
 use Rattle.plan_core.specs.declared.plan.Plan.{Plan}
-use Rattle.dep_iter.specs.Edges.{goal}
 use Rattle.dep_shard.specs.Content.{Content, IsNew, KeepsAllButEntries, Updates, entry_of, fresh}
 use Rattle.list_lemmas.specs.Changes.{ChangesAt}
 use Rattle.shard_meaning.specs.Opening.{IsOpeningShard, opening_entry}
 use Rattle.shard_meaning.specs.Placing.{shard_of}
 use Rattle.shard_meaning.specs.Share.{Placement}
-
--- the tasks of a list that no edge goes into
-abbrev pub roots_among : Plan → List Task → List Task
-roots_among P ts = filter (λ t. goal P t == 0) ts
 
 -- The shard k has, of these tasks, the entries of its own that no edge goes into, and nothing else.
 pub record IsOpenedFor (P : Plan) (of : Placement) (k : ℕ) (ts : List Task) (y : Content) : Type 0 where

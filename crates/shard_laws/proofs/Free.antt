@@ -82,4 +82,4 @@ module _ (P : Plan) (G : Data) (con : IsConsistent P) (of : Placement) (k : ℕ)
       let job = target_is_task P G con of k R sound e may in
       let into = sent_edge_in P con e (sound.claimed_have_all e.from may.claimed).task may.is_item in
       ap (λ (v : Entry). tile_of v.tiles e.in_flow) (finds P G con R.state sound of k e may y at (entries_of h))
-      ∙ no_tile_of P e.to job (con.connected e.to job).well e into (sent_tile R.state) (nothing_yet P G con R.state sound of k e may)
+      ∙ no_tile_of P e.to job (con.connected e.to job).well e into (sent_tile R.state.sends) (nothing_yet P G con R.state sound of k e may)

@@ -101,7 +101,7 @@ module _ (P : Plan) (G : Data) (con : IsConsistent P) (S : MachineState) (sound 
   pub write_entries : (w : WriteBack) → MaySend P G S (item.Write w) → (y : Content) → HoldsEntries P of k S y → HoldsEntries P of k (state_after P G S (Send (item.Write w))) y
   write_entries w may y h = record {
     there = λ u task here. h.there u task here ∙ by_same P u (claim_count S u) (claim_count S u) _ _ _ _ refl (sym (writes_not P G con S sound w may u))
-        (sym (delivered_tiles-same P G con u task (sent_tile (state_after P G S (Send (item.Write w)))) (sent_tile S) (λ d i. delivers_as_before P G S (item.Write w) d (λ q. absurd cc))));
+        (sym (delivered_tiles-same P G con u task (sent_tile (state_after P G S (Send (item.Write w))).sends) (sent_tile S.sends) (λ d i. delivers_as_before P G S (item.Write w) d (λ q. absurd cc))));
     only = h.only;
   }
 
@@ -123,8 +123,8 @@ module _ (P : Plan) (G : Data) (con : IsConsistent P) (S : MachineState) (sound 
     pub target_unclaimed : claim_count S e.to ≡ 0
     target_unclaimed = dite (ℕ_discrete (claim_count S e.to) 0) (λ z. z) (λ nz. absurd (omega (arith, missing, (sound.claimed_have_all e.to (claim_member S e.to (omega arith))).all_arrived)))
 
-    tiles_elsewhere : (u : Task) → IsTask P u → (u ≡ e.to → ⊥) → delivered_tiles P (sent_tile (state_after P G S (Send (item.Edge e)))) u ≡ delivered_tiles P (sent_tile S) u
-    tiles_elsewhere u task other = delivered_tiles-same P G con u task (sent_tile (state_after P G S (Send (item.Edge e)))) (sent_tile S) (λ d i. delivers_as_before P G S (item.Edge e) d (λ q. other (sym (in_edge_to P u d i) ∙ sym (ap (λ (x : Edge). x.to) (Edge-injective e d q)))))
+    tiles_elsewhere : (u : Task) → IsTask P u → (u ≡ e.to → ⊥) → delivered_tiles P (sent_tile (state_after P G S (Send (item.Edge e))).sends) u ≡ delivered_tiles P (sent_tile S.sends) u
+    tiles_elsewhere u task other = delivered_tiles-same P G con u task (sent_tile (state_after P G S (Send (item.Edge e))).sends) (sent_tile S.sends) (λ d i. delivers_as_before P G S (item.Edge e) d (λ q. other (sym (in_edge_to P u d i) ∙ sym (ap (λ (x : Edge). x.to) (Edge-injective e d q)))))
 
     elsewhere : (u : Task) → IsTask P u → (u ≡ e.to → ⊥) → table_entry P S u ≡ table_entry P (state_after P G S (Send (item.Edge e))) u
     elsewhere u task other = by_same P u (claim_count S u) (claim_count S u) _ _ _ _ refl (sym (arrives_not P G con S sound e may u other)) (sym (tiles_elsewhere u task other))
@@ -132,35 +132,35 @@ module _ (P : Plan) (G : Data) (con : IsConsistent P) (S : MachineState) (sound 
     abbrev tile : Option (List ℤ)
     tile = edge_tile P G S e
 
-    now : sent_tile (state_after P G S (Send (item.Edge e))) e ≡ tile
+    now : sent_tile (state_after P G S (Send (item.Edge e))).sends e ≡ tile
     now = delivers_now P G S e may
 
-    pub nothing_yet : sent_tile S e ≡ None
+    pub nothing_yet : sent_tile S.sends e ≡ None
     nothing_yet = first_none (item.Edge e) S.sends may.unsent
 
-    others : (x : Edge) → (x ≡ e → ⊥) → sent_tile (state_after P G S (Send (item.Edge e))) x ≡ sent_tile S x
+    others : (x : Edge) → (x ≡ e → ⊥) → sent_tile (state_after P G S (Send (item.Edge e))).sends x ≡ sent_tile S.sends x
     others x ne = delivers_as_before P G S (item.Edge e) x (λ q. ne (sym (Edge-injective e x q)))
 
     -- the tile of the edge is one more of the tiles of its target, if it has one
-    tiles_there : Carries P G S e → delivered_tiles P (sent_tile (state_after P G S (Send (item.Edge e)))) e.to ≡ tiles_after (delivered_tiles P (sent_tile S) e.to) e.in_flow tile
+    tiles_there : Carries P G S e → delivered_tiles P (sent_tile (state_after P G S (Send (item.Edge e))).sends) e.to ≡ tiles_after (delivered_tiles P (sent_tile S.sends) e.to) e.in_flow tile
     tiles_there carries = elim carries [
-      | inl no_tile ↦ delivered_tiles-same P G con e.to target (sent_tile (state_after P G S (Send (item.Edge e)))) (sent_tile S) (λ d i. by_test (same_item (item.Edge d) (item.Edge e))
-          (λ q. let same : d ≡ e = Edge-injective d e ((same_item-decides (item.Edge d) (item.Edge e)).0 q) in ap (sent_tile (state_after P G S (Send (item.Edge e)))) same ∙ (now ∙ (no_tile ∙ (sym nothing_yet ∙ sym (ap (sent_tile S) same)))))
+      | inl no_tile ↦ delivered_tiles-same P G con e.to target (sent_tile (state_after P G S (Send (item.Edge e))).sends) (sent_tile S.sends) (λ d i. by_test (same_item (item.Edge d) (item.Edge e))
+          (λ q. let same : d ≡ e = Edge-injective d e ((same_item-decides (item.Edge d) (item.Edge e)).0 q) in ap (sent_tile (state_after P G S (Send (item.Edge e))).sends) same ∙ (now ∙ (no_tile ∙ (sym nothing_yet ∙ sym (ap (sent_tile S.sends) same)))))
           (λ q. others d (λ same. false≢true (sym q ∙ (same_item-decides (item.Edge d) (item.Edge e)).1 (ap (λ z. item.Edge z) same)))))
-          ∙ sym (ap (tiles_after (delivered_tiles P (sent_tile S) e.to) e.in_flow) no_tile)
-      | inr some ↦ in_order P e.to target (con.connected e.to target).well e some.0 (sent_tile S) (sent_tile (state_after P G S (Send (item.Edge e)))) nothing_yet (now ∙ some.2) others some.1 into some.3 some.4
-          ∙ sym (ap (tiles_after (delivered_tiles P (sent_tile S) e.to) e.in_flow) some.2)
+          ∙ sym (ap (tiles_after (delivered_tiles P (sent_tile S.sends) e.to) e.in_flow) no_tile)
+      | inr some ↦ in_order P e.to target (con.connected e.to target).well e some.0 (sent_tile S.sends) (sent_tile (state_after P G S (Send (item.Edge e))).sends) nothing_yet (now ∙ some.2) others some.1 into some.3 some.4
+          ∙ sym (ap (tiles_after (delivered_tiles P (sent_tile S.sends) e.to) e.in_flow) some.2)
     ]
 
     -- what the edge finds in the shard of its target: as the table has it
-    pub finds : (y : Content) → of e.to ≡ k → HoldsEntries P of k S y → entry_before y e.to (goal P e.to) (priority P e.to) ≡ record { goal = goal P e.to; arrived = arrived P S e.to; priority = priority P e.to; tiles = delivered_tiles P (sent_tile S) e.to }
+    pub finds : (y : Content) → of e.to ≡ k → HoldsEntries P of k S y → entry_before y e.to (goal P e.to) (priority P e.to) ≡ record { goal = goal P e.to; arrived = arrived P S e.to; priority = priority P e.to; tiles = delivered_tiles P (sent_tile S.sends) e.to }
     finds y here h = ap (λ o. unwrap_or o (fresh (goal P e.to) (priority P e.to))) (h.there e.to target here) ∙ dite (ℕ_discrete (arrived P S e.to) 0)
-        (λ z. ap (λ (o : Option Entry). unwrap_or o (fresh (goal P e.to) (priority P e.to))) (by_same P e.to (claim_count S e.to) 0 (arrived P S e.to) 0 _ _ target_unclaimed z refl ∙ none_came P e.to (delivered_tiles P (sent_tile S) e.to) (omega (arith, missing)))
+        (λ z. ap (λ (o : Option Entry). unwrap_or o (fresh (goal P e.to) (priority P e.to))) (by_same P e.to (claim_count S e.to) 0 (arrived P S e.to) 0 _ _ target_unclaimed z refl ∙ none_came P e.to (delivered_tiles P (sent_tile S.sends) e.to) (omega (arith, missing)))
         ∙ (λ i. record { goal = goal P e.to; arrived = sym z i; priority = priority P e.to; tiles = sym (none_yet z) i }))
-        (λ nz. ap (λ (o : Option Entry). unwrap_or o (fresh (goal P e.to) (priority P e.to))) (by_same P e.to (claim_count S e.to) 0 (arrived P S e.to) (arrived P S e.to) _ _ target_unclaimed refl refl ∙ some_entry P e.to (arrived P S e.to) (delivered_tiles P (sent_tile S) e.to) (omega arith) (omega (arith, missing))))
+        (λ nz. ap (λ (o : Option Entry). unwrap_or o (fresh (goal P e.to) (priority P e.to))) (by_same P e.to (claim_count S e.to) 0 (arrived P S e.to) (arrived P S e.to) _ _ target_unclaimed refl refl ∙ some_entry P e.to (arrived P S e.to) (delivered_tiles P (sent_tile S.sends) e.to) (omega arith) (omega (arith, missing))))
       where
-        none_yet : arrived P S e.to ≡ 0 → delivered_tiles P (sent_tile S) e.to ≡ []
-        none_yet z = delivered_tiles-same P G con e.to target (sent_tile S) (λ _. None) (λ d i. first_none (item.Edge d) S.sends (unsent S (item.Edge d) (false_from_ne_true (is_sent S (item.Edge d)) (λ q. absurd (omega (arith, z, count-some (λ x. is_sent S (item.Edge x)) (in_edges P e.to) d i q)))))) ∙ nothing_comes P e.to
+        none_yet : arrived P S e.to ≡ 0 → delivered_tiles P (sent_tile S.sends) e.to ≡ []
+        none_yet z = delivered_tiles-same P G con e.to target (sent_tile S.sends) (λ _. None) (λ d i. first_none (item.Edge d) S.sends (unsent S (item.Edge d) (false_from_ne_true (is_sent S (item.Edge d)) (λ q. absurd (omega (arith, z, count-some (λ x. is_sent S (item.Edge x)) (in_edges P e.to) d i q)))))) ∙ nothing_comes P e.to
 
     pub edge_entries : (y y' : Content) → of e.to ≡ k → Carries P G S e → HoldsEntries P of k S y
         → Updates y.entries y'.entries e.to (Some (with_arrival (entry_before y e.to (goal P e.to) (priority P e.to)) e.in_flow tile))
@@ -180,7 +180,7 @@ module _ (P : Plan) (G : Data) (con : IsConsistent P) (S : MachineState) (sound 
         entry_now : Some (with_arrival (entry_before y e.to (goal P e.to) (priority P e.to)) e.in_flow tile) ≡ table_entry P (state_after P G S (Send (item.Edge e))) e.to
         entry_now = ap (λ (x : Entry). Some (with_arrival x e.in_flow tile)) (finds y here h)
             ∙ ((λ i. Some (record { goal = goal P e.to; arrived = came i; priority = priority P e.to; tiles = sym (tiles_there carries) i }))
-            ∙ sym (by_same P e.to (claim_count S e.to) 0 _ _ _ _ target_unclaimed refl refl ∙ some_entry P e.to (arrived P (state_after P G S (Send (item.Edge e))) e.to) (delivered_tiles P (sent_tile (state_after P G S (Send (item.Edge e)))) e.to) (omega (arith, came)) (omega (arith, came, missing))))
+            ∙ sym (by_same P e.to (claim_count S e.to) 0 _ _ _ _ target_unclaimed refl refl ∙ some_entry P e.to (arrived P (state_after P G S (Send (item.Edge e))) e.to) (delivered_tiles P (sent_tile (state_after P G S (Send (item.Edge e))).sends) e.to) (omega (arith, came)) (omega (arith, came, missing))))
 
     pub edge_entries_elsewhere : (y : Content) → of e.to ≢ k → HoldsEntries P of k S y → HoldsEntries P of k (state_after P G S (Send (item.Edge e))) y
     edge_entries_elsewhere y away h = record {

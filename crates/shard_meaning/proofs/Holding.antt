@@ -60,15 +60,15 @@ module _ (P : Plan) (G : Data) (of : Placement) (k : ℕ) (R : Moment) (y : Cont
   -- and a task of the shard that may be claimed has one
   pub may_ready : (t : Task) → of t ≡ k → MayClaim P R.state t → (entry_of y t ≡ Some (whole_entry P R.state t)) × IsReady (whole_entry P R.state t)
   may_ready t at may = (
-    h.there t may.task at ∙ (by_same P t (claim_count R.state t) 0 (arrived P R.state t) (arrived P R.state t) _ _ may.unclaimed refl refl ∙ full_entry P t (arrived P R.state t) (delivered_tiles P (sent_tile R.state) t) may.all_arrived),
+    h.there t may.task at ∙ (by_same P t (claim_count R.state t) 0 (arrived P R.state t) (arrived P R.state t) _ _ may.unclaimed refl refl ∙ full_entry P t (arrived P R.state t) (delivered_tiles P (sent_tile R.state.sends) t) may.all_arrived),
     may.all_arrived,
   )
 
   -- a claim hands out the inputs of its task
   pub claim_inputs : IsConsistent P → IsSoundState P G R.state → (z : Content) (t : Task) (tiles : List FlowTile) → Takes y z t tiles → tiles ≡ inputs P G t
   claim_inputs con sound z t tiles takes =
-      let may = ready_may t takes.entry takes.is takes.ready in
-      takes.handed ∙ ap (λ (x : Entry). x.tiles) (entry_in_table t takes.entry takes.is).is
+      let may = ready_may t takes.had.entry takes.had.is takes.had.ready in
+      takes.had.handed ∙ ap (λ (x : Entry). x.tiles) (entry_in_table t takes.had.entry takes.had.is).is
       ∙ has_inputs P G con R.state sound t (record { task = may.task; all_arrived = may.all_arrived })
 
   -- as many tasks of the shard run or have ended as were claimed, so no more than a job may have

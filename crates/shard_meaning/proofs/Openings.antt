@@ -33,7 +33,7 @@ none_arrived P t = weigh-zero _ (in_edges P t) (λ e i. refl)
 -- the entry of a task before the first event is that of the table
 opening_is : (P : Plan) (t : Task) → opening_entry P t ≡ table_entry P opening_state t
 opening_is P t =
-    let table : table_entry P opening_state t ≡ entry_by P t 0 0 [] = by_same P t 0 0 (arrived P opening_state t) 0 (delivered_tiles P (sent_tile opening_state) t) [] refl (none_arrived P t) (nothing_comes P t) in
+    let table : table_entry P opening_state t ≡ entry_by P t 0 0 [] = by_same P t 0 0 (arrived P opening_state t) 0 (delivered_tiles P (sent_tile opening_state.sends) t) [] refl (none_arrived P t) (nothing_comes P t) in
     dite (ℕ_discrete (goal P t) 0)
     (λ z. ap (λ b. cond b (Some (fresh 0 (priority P t))) None) (eq-eqb (goal P t) 0 z)
     ∙ ((λ i. Some (record { goal = sym z i; arrived = 0; priority = priority P t; tiles = [] }))

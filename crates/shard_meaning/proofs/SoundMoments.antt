@@ -10,11 +10,9 @@ use Rattle.coll_data.specs.Data.{Data}
 use Rattle.dep_iter.specs.Consistent.{IsConsistent}
 use Rattle.dep_iter.specs.Tasks.{IsTask, all_tasks}
 use Rattle.dep_iter.proofs.Listing.{listed}
-use Rattle.flow_meaning.specs.Ending.{has_outputs, output_tile}
-use Rattle.flow_meaning.specs.Backward.{ended}
-use Rattle.dep_iter.specs.Items.{item_flow}
-use Rattle.flow_meaning.specs.Machine.{MachineState, MaySend, claim_count, sender, sent_with}
-use Rattle.flow_meaning.specs.Sound.{IsSoundState}
+use Rattle.flow_meaning.specs.Ending.{has_outputs}
+use Rattle.flow_meaning.specs.Machine.{MachineState, MaySend, claim_count, sender, sent_with, item_from}
+use Rattle.flow_meaning.specs.Sound.{IsSoundState, with_its_tile}
 use Rattle.flow_meaning.proofs.Events.{claim_member, ends_so, member_claim}
 use Rattle.shard_meaning.specs.Moment.{IsSoundMoment, MaySendNext, Moment, run_count}
 pub use Rattle.flow_meaning.proofs.Events.{unclaimed_unsent}
@@ -37,8 +35,8 @@ module _ (P : Plan) (G : Data) (con : IsConsistent P) (R : Moment) (sound : IsSo
       }
 
 -- what is sent with an item is what its task leaves
-pub sent_is : (P : Plan) (G : Data) → IsConsistent P → (S : MachineState) → IsSoundState P G S → (i : Item) → MaySend P G S i → sent_with P G S i ≡ record { item = i; tile = output_tile (ended P G (sender i)) (item_flow i) }
-sent_is P G con S sound i may = λ j. record { item = i; tile = output_tile (sym (ends_so P G con S sound (sender i) (sound.claimed_have_all (sender i) may.claimed)) j) (item_flow i) }
+pub sent_is : (P : Plan) (G : Data) → IsConsistent P → (S : MachineState) → IsSoundState P G S → (i : Item) → MaySend P G S i → sent_with P G S i ≡ with_its_tile P G i
+sent_is P G con S sound i may = λ j. item_from (sym (ends_so P G con S sound (sender i) (sound.claimed_have_all (sender i) may.claimed)) j) i
 
 -- fewer tasks are claimed than there are, where one is not
 pub claims_below : (P : Plan) (G : Data) (S : MachineState) → IsSoundState P G S → (t : Task) → IsTask P t → claim_count S t ≡ 0 → length S.claims < length (all_tasks P)

@@ -49,7 +49,7 @@ module _ (P : Plan) (G : Data) (con : IsConsistent P) (of : Placement) (k : ℕ)
   target_goal = omega (arith, missing P G con R.state sound of k e may)
 
   module _ (y : Content) (at : of e.to ≡ k) (h : IsShardOf P G of k R y) where
-    found : entry_before y e.to (goal P e.to) (priority P e.to) ≡ record { goal = goal P e.to; arrived = arrived P R.state e.to; priority = priority P e.to; tiles = delivered_tiles P (sent_tile R.state) e.to }
+    found : entry_before y e.to (goal P e.to) (priority P e.to) ≡ record { goal = goal P e.to; arrived = arrived P R.state e.to; priority = priority P e.to; tiles = delivered_tiles P (sent_tile R.state.sends) e.to }
     found = finds P G con R.state sound of k e may y at (entries_of h)
 
     -- the target waits

@@ -3,7 +3,6 @@
 use Rattle.std.specs.Prelude.{◌≡◌, ◌≤◌, ℕ, ◌+◌, Bool, true, false, ◌&&◌, ◌==◌, [], Option, Some, None, slice_index, if◌then◌else◌}
 use Rattle.ptg_base.specs.Entry.{Entry}
 use Rattle.ptg_base.specs.Task.{Task}
-use Rattle.ptg_base.specs.declared.edge.Edge.{Edge}
 use Rattle.ptg_base.specs.declared.edge.WriteBack.{WriteBack}
 use Rattle.plan_core.specs.declared.plan.Plan.{Plan}
 use Rattle.dep_iter.specs.Consistent.{all_data, all_writes}
@@ -13,7 +12,7 @@ use Rattle.dep_iter.specs.Tasks.{IsTask, all_tasks}
 use Rattle.dep_shard.specs.Content.{Content, entry_of, fresh}
 use Rattle.list_lemmas.specs.Counting.{count}
 use Rattle.shard_meaning.specs.Share.{Placement, is_of}
-use Rattle.shard_meaning.specs.Reserve.{is_edge_of_type, is_write_of_type}
+pub use Rattle.shard_meaning.specs.Reserve.{is_edge_to, is_write_from}
 
 -- the entry of a task before the first event, if it has one: no edge goes into it, so it is ready
 abbrev pub opening_entry : Plan → Task → Option Entry
@@ -29,17 +28,13 @@ pub record IsOpeningShard (P : Plan) (of : Placement) (k : ℕ) (y : Content) : 
   pub ended : y.ended ≡ 0
   pub elems : y.elems ≡ P.elems
 
--- whether a task of the shard k has edges into it, so that its entry is still to come
+-- whether edges go into a task; if so, it has no entry before the first event
+abbrev pub has_edges : Plan → Task → Bool
+has_edges P t = if goal P t == 0 then false else true
+
+-- whether a task of the shard k has edges into it
 abbrev pub is_to_enter : Plan → Placement → ℕ → Task → Bool
-is_to_enter P of k t = is_of of k t && (if goal P t == 0 then false else true)
-
--- whether an edge goes to a task of the shard k, with a tile of this type
-abbrev pub is_edge_to : Plan → Placement → ℕ → ℕ → Edge → Bool
-is_edge_to P of k datatype e = is_of of k e.to && is_edge_of_type P datatype e
-
--- whether a write-back is of a task of the shard k, with a tile of this type
-abbrev pub is_write_from : Plan → Placement → ℕ → ℕ → WriteBack → Bool
-is_write_from P of k datatype w = is_of of k w.from && is_write_of_type P datatype w
+is_to_enter P of k t = is_of of k t && has_edges P t
 
 -- the spares of the shard k before the first event: for all that will come to it
 pub record HasOpeningReserve (P : Plan) (of : Placement) (k : ℕ) (y : Content) : Type 0 where

@@ -30,22 +30,30 @@ is_edge_of_type P datatype e = has_type datatype (flow_of P.classes e.to.class e
 abbrev pub is_write_of_type : Plan → ℕ → WriteBack → Bool
 is_write_of_type P datatype w = has_type datatype (flow_of P.classes w.from.class w.flow)
 
+-- whether an edge goes to a task of the shard k, with a tile of this type
+abbrev pub is_edge_to : Plan → Placement → ℕ → ℕ → Edge → Bool
+is_edge_to P of k datatype e = is_of of k e.to && is_edge_of_type P datatype e
+
+-- whether a write-back is of a task of the shard k, with a tile of this type
+abbrev pub is_write_from : Plan → Placement → ℕ → ℕ → WriteBack → Bool
+is_write_from P of k datatype w = is_of of k w.from && is_write_of_type P datatype w
+
 -- whether a task of the shard k has no entry there and is not claimed
 abbrev pub is_due_entry : Placement → ℕ → MachineState → Content → Task → Bool
 is_due_entry of k S y t = is_of of k t && (is_unclaimed S t && is_none (entry_of y t))
 
--- whether an edge to a task of the shard k is not sent, and its tile is of this type
+-- whether an edge to a task of the shard k, with a tile of this type, is not sent
 abbrev pub is_due_edge : Plan → Placement → ℕ → ℕ → MachineState → Edge → Bool
-is_due_edge P of k datatype S e = (is_of of k e.to && is_edge_of_type P datatype e) && not (is_sent S (item.Edge e))
+is_due_edge P of k datatype S e = is_edge_to P of k datatype e && not (is_sent S (item.Edge e))
 
 -- whether a write-back of a task of the shard k is not sent
 abbrev pub is_due_write : Placement → ℕ → MachineState → WriteBack → Bool
 is_due_write of k S w = is_of of k w.from && not (is_sent S (item.Write w))
 
--- whether a write-back of a task of the shard k is not sent, and its tile is of this type
+-- whether a write-back of a task of the shard k, with a tile of this type, is not sent
 abbrev pub is_due_write_tile : Plan → Placement → ℕ → ℕ → MachineState → WriteBack → Bool
 is_due_write_tile P of k datatype S w =
-    (is_of of k w.from && is_write_of_type P datatype w) && not (is_sent S (item.Write w))
+    is_write_from P of k datatype w && not (is_sent S (item.Write w))
 
 -- whether a task of the shard k has not ended: it is not claimed, or runs
 abbrev pub is_due_end : Placement → ℕ → Moment → Task → Bool

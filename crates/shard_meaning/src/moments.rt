@@ -6,12 +6,9 @@ ghost use Rattle.ptg_base.specs.declared.edge.Item.{Item};
 ghost use Rattle.plan_core.specs.declared.plan.Plan.{Plan};
 ghost use Rattle.coll_data.specs.Data.{Data};
 ghost use Rattle.dep_iter.specs.Consistent.{IsConsistent};
-ghost use Rattle.dep_iter.specs.Items.{item_flow};
 ghost use Rattle.dep_shard.specs.Content.{Content};
-ghost use Rattle.flow_meaning.specs.Backward.{ended};
-ghost use Rattle.flow_meaning.specs.Ending.{output_tile};
-ghost use Rattle.flow_meaning.specs.Machine.{MaySend, sender, sent_with};
-ghost use Rattle.flow_meaning.specs.Sound.{IsFinished, IsSoundState};
+ghost use Rattle.flow_meaning.specs.Machine.{MaySend, sent_with};
+ghost use Rattle.flow_meaning.specs.Sound.{IsFinished, IsSoundState, with_its_tile};
 ghost use Rattle.shard_meaning.specs.Calm.{AreFinished, IsCalm};
 ghost use Rattle.shard_meaning.specs.Moment.{IsReorderedMoment, IsSoundMoment, MaySendNext, Moment, opening_moment, run_count, with_claim, with_end, with_send};
 ghost use Rattle.shard_meaning.specs.Reserve.{HasReserve};
@@ -24,7 +21,7 @@ pub fn running_tasks_may_send()
         → MaySendNext P G R i → MaySend P G R.state i }
     ensures tile { (P : Plan) (G : Data) (R : Moment) (i : Item) → IsConsistent P → IsSoundState P G R.state
         → MaySend P G R.state i
-        → sent_with P G R.state i ≡ record { item = i; tile = output_tile (ended P G (sender i)) (item_flow i) } }
+        → sent_with P G R.state i ≡ with_its_tile P G i }
 {}
 
 /// A law: claimed tasks that run no more stay finished, also after the end of a task that has trapped or all of whose

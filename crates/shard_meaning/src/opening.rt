@@ -10,8 +10,7 @@ ghost use Rattle.shard_meaning.specs.Reserve.{HasReserve};
 ghost use Rattle.shard_meaning.specs.Share.{IsShardOf, Placement};
 
 /// A law: a shard that has ready entries for its tasks without in edges, and nothing else, holds its part of the
-/// opening moment;
-/// with spares for all that will come to it, it has its reserve.
+/// opening moment; with spares for all that will come to it, it has its reserve.
 pub fn the_opening_shards_hold_the_opening()
     ensures share { (P : Plan) (G : Data) (of : Placement) (k : ℕ) (y : Content) → IsOpeningShard P of k y
         → IsShardOf P G of k opening_moment y }

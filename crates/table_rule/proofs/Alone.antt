@@ -9,7 +9,7 @@ use Rattle.list_lemmas.proofs.Counts.{weigh-one, same_in, HasSameMembers-sym}
 use Rattle.shard_meaning.specs.Moment.{IsReorderedMoment}
 use Rattle.work_board.specs.declared.record.PassRecord.{PassRecord}
 use Rattle.table_rule.specs.declared.table_job.TableJob.{TableJob}
-use Rattle.table_rule.specs.Live.{AreStamps, Stamp}
+use Rattle.table_rule.specs.Live.{AreStamps}
 use Rattle.table_rule.specs.Names.{AreAll}
 use Rattle.table_rule.specs.Owning.{IsEmpty}
 use Rattle.table_rule.specs.Records.{moment_of}
@@ -21,6 +21,7 @@ use Rattle.table_rule.proofs.Naming.{nameless}
 use Rattle.table_rule.proofs.SameMembers.{reordered_parts}
 use Rattle.table_rule.proofs.Turning.{turns_in}
 use Rattle.table_rule.proofs.Weighing.{weigh_alone}
+use Rattle.work_board.specs.Stamps.{StampedTask}
 
 module _ (j : TableJob) (s : Table) (id : ℕ) (v : PassRecord) (rule : Rule j s) (me : get_elem? s.views id ≡ some v) (all : AreAll (v ∷ [])) where
   others_empty : (i : ℕ) (u : PassRecord) → i ≢ id → get_elem? s.views i ≡ some u → IsEmpty u
@@ -47,13 +48,13 @@ module _ (j : TableJob) (s : Table) (id : ℕ) (v : PassRecord) (rule : Rule j s
   same_stamps : HasSameMembers alone_parts.live.stamps v.stamps
   same_stamps f = alone_parts.live.theirs f ∙ weigh_alone (λ (u : PassRecord). weigh f u.stamps) s.views id v me (λ i u ne e. ap (weigh f) (others_empty i u ne e).stamps)
 
-  among : (x : Stamp) → IsIn x v.stamps → IsIn x alone_parts.live.stamps
+  among : (x : StampedTask) → IsIn x v.stamps → IsIn x alone_parts.live.stamps
   among x i = same_in same_stamp same_stamp-decides v.stamps alone_parts.live.stamps (HasSameMembers-sym alone_parts.live.stamps v.stamps same_stamps) x i
 
   pub alone_stamps : AreStamps j.matched (moment_of v) v.stamps (get_or s.words (stamp_word j.shards) 0)
   alone_stamps = let d = alone_parts.live.drawn in let parts = alone_parts in record {
     drawn = omega (arith, d.drawn, same_stamps (λ _. 1), weigh-one v.stamps, weigh-one alone_parts.live.stamps);
-    differ = λ x. omega (arith, d.differ x, same_stamps (λ (y : Stamp). as_number (eqb y.1 x)));
+    differ = λ x. omega (arith, d.differ x, same_stamps (λ (y : StampedTask). as_number (eqb y.1 x)));
     below = λ t x i. d.below t x (among (t, x) i);
     above_sources = λ e a b edge i k. d.above_sources e a b edge (among (e.from, a) i) (among (e.to, b) k);
     senders = λ x i. let o = parts.live.drawn.senders x i in (o.0, same_in same_stamp same_stamp-decides alone_parts.live.stamps v.stamps same_stamps (sender x.item, o.0) o.1);

@@ -61,11 +61,13 @@ claim_lives v t k y₀ none_left turn o l = record {
 nothing_sent : (j : TableJob) (s : Table) (R : Moment) (id : ℕ) (v : PassRecord) (t : Task) (tiles : List FlowTile) (k : ℕ) (y₀ y : Content) → Parts j s R → get_elem? s.views id ≡ some v → Takes y₀ y t tiles
     → IsShardOf j.matched j.given (shard_of j.matched j.shards) k R y₀ → MayStart j.matched j.given t tiles v
 nothing_sent j s R id v t tiles k y₀ y r me takes share = let P : Plan = j.matched in let G : Data = j.given in let of : Placement = shard_of j.matched j.shards in
-    let may : MayClaim P R.state t = ready_may P G of k R y₀ share t takes.entry takes.is takes.ready in
+    let may : MayClaim P R.state t = ready_may P G of k R y₀ share t takes.had.entry takes.had.is takes.had.ready in
     record {
       task = may.task;
-      runs = claim_ends P G R r.consistent r.sound t may;
-      inputs = claim_inputs P G of k R y₀ share r.consistent r.sound y t tiles takes;
+      run = record {
+        runs = claim_ends P G R r.consistent r.sound t may;
+        inputs = claim_inputs P G of k R y₀ share r.consistent r.sound y t tiles takes;
+      };
       unsent = λ i among. let none_sent : send_count R.state i ≡ 0 = unclaimed_unsent P G R.state r.sound i (ap (claim_count R.state) (item_sender P t i among) ∙ may.unclaimed) in
           omega (arith, none_sent, r.records.sends (λ (x : SentItem). as_number (same_item i x.item)), term_le (λ (u : PassRecord). weigh (λ (x : SentItem). as_number (same_item i x.item)) u.sends) s.views id v me);
     }
@@ -77,8 +79,8 @@ claims j n id m k t y₀ y tiles h takes uses s rule wide me _ = let P : Plan = 
     let R : Moment = rule.0 in let r = rule.1 in let v : PassRecord = m.0 in let w : PassRecord = turn_left (with_own_claim v t) in
     let held = holds_turn m k y₀ y 0 h in
     let share = r.held id v me k y₀ held in
-    let may : MayClaim P R.state t = ready_may P G of k R y₀ share t takes.entry takes.is takes.ready in
-    let at : of t ≡ k = (share.only t takes.entry takes.is).1 in (
+    let may : MayClaim P R.state t = ready_may P G of k R y₀ share t takes.had.entry takes.had.is takes.had.ready in
+    let at : of t ≡ k = (share.only t takes.had.entry takes.had.is).1 in (
       w,
       gives,
       tt,

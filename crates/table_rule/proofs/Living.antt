@@ -24,45 +24,46 @@ use Rattle.flow_meaning.proofs.Events.{claim_member}
 use Rattle.shard_meaning.specs.Moment.{Moment}
 use Rattle.shard_meaning.proofs.ReadyCount.{ready_at_most}
 use Rattle.work_board.specs.declared.record.PassRecord.{PassRecord}
-use Rattle.table_rule.specs.Live.{AreLive, OwnsLives, Stamp, own_stamps}
+use Rattle.table_rule.specs.Live.{AreLive, OwnsLives, own_stamps}
 use Rattle.table_rule.specs.Records.{AreRecordsOf}
 use Rattle.table_rule.specs.Turns.{AreTurns, holds}
 use Rattle.table_rule.proofs.Passes.{each_kept, same_weight}
 use Rattle.table_rule.proofs.Weighing.{dominated, few_numbers, some_place, term_le, weigh-same, weigh-set, weigh_terms}
+use Rattle.work_board.specs.Stamps.{StampedTask}
 
 -- whether two stamps are the same
-abbrev pub same_stamp : Stamp → Stamp → Bool
+abbrev pub same_stamp : StampedTask → StampedTask → Bool
 same_stamp a b = same_task a.0 b.0 && eqb a.1 b.1
 
-same_stamp-one : (a b : Stamp) → same_stamp a b ≡ true → a ≡ b
+same_stamp-one : (a b : StampedTask) → same_stamp a b ≡ true → a ≡ b
 same_stamp-one a b h =
     let t : a.0 ≡ b.0 = (same_task-decides a.0 b.0).0 (first_so (same_task a.0 b.0) (eqb a.1 b.1) h) in
     let s : a.1 ≡ b.1 = eqb-true a.1 b.1 (second_so (same_task a.0 b.0) (eqb a.1 b.1) h) in
     λ i. (t i, s i)
 
-same_stamp-itself : (a : Stamp) → same_stamp a a ≡ true
+same_stamp-itself : (a : StampedTask) → same_stamp a a ≡ true
 same_stamp-itself a = ap (λ b. b && eqb a.1 a.1) ((same_task-decides a.0 a.0).1 refl) ∙ eq-eqb a.1 a.1 refl
 
-pub same_stamp-decides : (a b : Stamp) → IsTrue (same_stamp a b) ↔ (a ≡ b)
+pub same_stamp-decides : (a b : StampedTask) → IsTrue (same_stamp a b) ↔ (a ≡ b)
 same_stamp-decides a b = (same_stamp-one a b, λ e. subst (λ c. same_stamp a c ≡ true) e (same_stamp-itself a))
 
 -- the stamps of a pass are among those of all, and each of those is one of some pass
-module _ (stamps : List Stamp) (vs : List PassRecord) (theirs : (f : Stamp → ℕ) → weigh f stamps ≡ weigh (λ (v : PassRecord). weigh f v.stamps) vs) where
-  pub stamp_among : (id : ℕ) (v : PassRecord) → get_elem? vs id ≡ some v → (x : Stamp) → IsIn x v.stamps → IsIn x stamps
+module _ (stamps : List StampedTask) (vs : List PassRecord) (theirs : (f : StampedTask → ℕ) → weigh f stamps ≡ weigh (λ (v : PassRecord). weigh f v.stamps) vs) where
+  pub stamp_among : (id : ℕ) (v : PassRecord) → get_elem? vs id ≡ some v → (x : StampedTask) → IsIn x v.stamps → IsIn x stamps
   stamp_among id v me x i =
       let mine = count-some (same_stamp x) v.stamps x i (same_stamp-itself x) in
       let found = some_passes (same_stamp x) stamps (omega (arith, theirs (λ y. as_number (same_stamp x y)), term_le (λ (u : PassRecord). count (same_stamp x) u.stamps) vs id v me)) in
       subst (λ y. IsIn y stamps) (sym (same_stamp-one x found.0 found.2)) found.1
 
-  pub stamp_of : (x : Stamp) → IsIn x stamps → (id : ℕ) × (v : PassRecord) × (get_elem? vs id ≡ some v) × IsIn x v.stamps
+  pub stamp_of : (x : StampedTask) → IsIn x stamps → (id : ℕ) × (v : PassRecord) × (get_elem? vs id ≡ some v) × IsIn x v.stamps
   stamp_of x i =
       let place = some_place (λ (u : PassRecord). count (same_stamp x) u.stamps) vs (omega (arith, theirs (λ y. as_number (same_stamp x y)), count-some (same_stamp x) stamps x i (same_stamp-itself x))) in
       let v : PassRecord = place.1 in
       let found = some_passes (same_stamp x) v.stamps place.3 in
       (place.0, v, place.2, subst (λ y. IsIn y v.stamps) (sym (same_stamp-one x found.0 found.2)) found.1)
 
-pub stamp_counts : (v : PassRecord) (x : Stamp) → IsIn x v.stamps → 0 < own_stamps v x.0
-stamp_counts v x i = count-some (λ (y : Stamp). same_task x.0 y.0) v.stamps x i ((same_task-decides x.0 x.0).1 refl)
+pub stamp_counts : (v : PassRecord) (x : StampedTask) → IsIn x v.stamps → 0 < own_stamps v x.0
+stamp_counts v x i = count-some (λ (y : StampedTask). same_task x.0 y.0) v.stamps x i ((same_task-decides x.0 x.0).1 refl)
 
 module _ (P : Plan) (R R' : Moment) (live stamp : ℕ) (vs : List PassRecord) (id : ℕ) (v w : PassRecord) (me : get_elem? vs id ≡ some v) where
   -- the two words stay, and the ready tasks, the running ones and the credits add up to the same
@@ -174,9 +175,9 @@ module _ (P : Plan) (G : Data) (R : Moment) (live stamp : ℕ) (words : List ℕ
     weigh-one (all_tasks P),
   )
     where
-      weigh-map : (f : Task → ℕ) (l : List Stamp) → weigh f (map (λ (x : Stamp). x.0) l) ≡ weigh (λ (x : Stamp). f x.0) l
+      weigh-map : (f : Task → ℕ) (l : List StampedTask) → weigh f (map (λ (x : StampedTask). x.0) l) ≡ weigh (λ (x : StampedTask). f x.0) l
       weigh-map f [] = refl
       weigh-map f (x ∷ xs) = omega (arith, weigh-map f xs)
 
       own_few : (v : PassRecord) → OwnsLives v → weigh (λ _. 1) v.stamps ≤ weigh (λ _. 1) v.claims
-      own_few v o = omega (arith, weigh-map (λ _. 1) v.stamps, dominated same_task (λ a b h. (same_task-decides a b).0 h) (λ a. (same_task-decides a a).1 refl) (map (λ (x : Stamp). x.0) v.stamps) v.claims (λ t. omega (arith, weigh-map (λ u. as_number (same_task t u)) v.stamps, o.stamps t)) (λ _. 1))
+      own_few v o = omega (arith, weigh-map (λ _. 1) v.stamps, dominated same_task (λ a b h. (same_task-decides a b).0 h) (λ a. (same_task-decides a a).1 refl) (map (λ (x : StampedTask). x.0) v.stamps) v.claims (λ t. omega (arith, weigh-map (λ u. as_number (same_task t u)) v.stamps, o.stamps t)) (λ _. 1))

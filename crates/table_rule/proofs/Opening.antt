@@ -37,7 +37,7 @@ some_shard (y ∷ ys) (suc k) l = some_shard ys k (omega arith)
 pub opens : (j : TableJob) (words : List ℕ) (shards : List Content) → IsOpening j words shards → Rule j (opening words shards first_pass)
 opens j words shards o =
     let long : length (map some shards) ≡ j.shards = length-map shards some ∙ o.shard_count in
-    let free : (k : ℕ) → k < length (map some shards) → get_or words (turn_word k) 0 ≡ 0 = λ k l. o.zero (turn_word k) (λ e. omega (arith, long)) in
+    let free : (k : ℕ) → k < length (map some shards) → get_or words (turn_word k) 0 ≡ 0 = λ k l. o.opening_words.zero (turn_word k) (λ e. omega (arith, long)) in
     let near : (k : ℕ) → k < length (map some shards) → k < length shards = λ k l. omega (arith, length-map shards some) in (
       opening_moment,
       record {
@@ -45,7 +45,7 @@ opens j words shards o =
         some_shards = o.some_shards;
         shards_at_most = o.shards_at_most;
         slots = long;
-        words = o.long;
+        words = o.opening_words.long;
         records = record { claims = λ f. refl; sends = λ f. refl; running = λ f. refl };
         sound = opening_sound j.matched j.given;
         owned = record {
@@ -66,16 +66,16 @@ opens j words shards o =
         held = single (λ (u : PassRecord). (k : ℕ) (y : Content) → IsIn (k, y) u.turns → _) first_pass (λ k y h. absurd h);
         quieted = record {
           calm = single (λ (u : PassRecord). u.quiet ≡ true → _) first_pass (λ q. cc);
-          low = λ z. o.zero (halt_word j.shards) (λ e. omega arith);
+          low = λ z. o.opening_words.zero (halt_word j.shards) (λ e. omega arith);
           high = λ z. absurd (omega arith);
         };
         live = record {
-          live = omega (arith, o.live);
+          live = omega (arith, o.opening_words.live);
           each = single OwnsLives first_pass (new_lives (([], 0) ∷ []));
           stamps = [];
           theirs = λ f. refl;
           drawn = record {
-            drawn = sym (o.zero (stamp_word j.shards) (λ e. omega arith));
+            drawn = sym (o.opening_words.zero (stamp_word j.shards) (λ e. omega arith));
             differ = λ x. omega arith;
             below = λ t x i. absurd i;
             above_sources = λ e a b edge i k. absurd i;
@@ -83,7 +83,7 @@ opens j words shards o =
           };
         };
         reserved = λ pre. record {
-          halt = o.zero (halt_word j.shards) (λ e. omega arith);
+          halt = o.opening_words.zero (halt_word j.shards) (λ e. omega arith);
           at_rest = λ k l z. let y = some_shard shards k (near k l) in (y.0, y.2, opening_reserve j.matched (shard_of j.matched j.shards) k y.0 (o.each k y.0 y.1) (o.spares pre k y.0 y.1));
           held = single (λ (u : PassRecord). (k : ℕ) (y : Content) → IsIn (k, y) u.turns → _) first_pass (λ k y h. absurd h);
         };

@@ -48,7 +48,7 @@ use Rattle.work_board.specs.Sends.{IsNext}
 use Rattle.work_board.specs.declared.record.PassRecord.{PassRecord}
 use Rattle.table_rule.specs.declared.table_job.TableJob.{TableJob}
 use Rattle.table_rule.specs.Changes.{turn_left, with_own_send}
-use Rattle.table_rule.specs.Live.{OwnsLives, Stamp, own_claims, own_stamps}
+use Rattle.table_rule.specs.Live.{OwnsLives, own_claims, own_stamps}
 use Rattle.table_rule.specs.Owning.{OwnsWork}
 use Rattle.shard_meaning.specs.Placing.{shard_of}
 use Rattle.table_rule.specs.Plays.{HasName, HasTurn, Seated, fires, gave_send}
@@ -61,6 +61,7 @@ use Rattle.table_rule.proofs.Moving.{given_back}
 use Rattle.table_rule.proofs.Naming.{named_not_empty}
 use Rattle.table_rule.proofs.Passes.{send_records}
 use Rattle.table_rule.proofs.Weighing.{terms_le, weightless}
+use Rattle.work_board.specs.Stamps.{StampedTask}
 
 -- what a pass sent of an item
 abbrev own_sends : Item → PassRecord → ℕ
@@ -111,8 +112,8 @@ send_lives v x k y₀ turn o l = record { credit = omega (arith, o.running (λ _
 -- a task with a stamp has one in the list
 stamp_in : (v : PassRecord) (t : Task) → 0 < own_stamps v t → (s : ℕ) × IsIn (t, s) v.stamps
 stamp_in v t h =
-    let p = some_passes (λ (x : Stamp). same_task t x.0) v.stamps h in
-    let x : Stamp = p.0 in
+    let p = some_passes (λ (x : StampedTask). same_task t x.0) v.stamps h in
+    let x : StampedTask = p.0 in
     (x.1, subst (λ (u : Task). IsIn (u, x.1) v.stamps) (sym ((same_task-decides t x.0).0 p.2)) p.1)
 
 -- what a send makes of the shards, and of the number of ready tasks

@@ -19,7 +19,7 @@ use Rattle.shard_meaning.specs.Moment.{Moment}
 use Rattle.work_board.specs.declared.record.PassRecord.{PassRecord}
 use Rattle.table_rule.specs.declared.table_job.TableJob.{TableJob}
 use Rattle.table_rule.specs.Changes.{after_split, both, joined_away, new_pass, split_off}
-use Rattle.table_rule.specs.Live.{AreLive, OwnsLives, Stamp}
+use Rattle.table_rule.specs.Live.{AreLive, OwnsLives}
 use Rattle.table_rule.specs.Names.{Name, names_after_split, names_split_off}
 use Rattle.table_rule.specs.Owning.{OwnsWork}
 use Rattle.table_rule.specs.Plays.{HasName}
@@ -32,6 +32,7 @@ use Rattle.table_rule.proofs.Moving.{beside}
 use Rattle.table_rule.proofs.Naming.{exact_mine, named_not_empty, same_names, split_names}
 use Rattle.table_rule.proofs.Passes.{each_kept, each_snoc}
 use Rattle.table_rule.proofs.Weighing.{terms_le, weigh-set}
+use Rattle.work_board.specs.Stamps.{StampedTask}
 
 -- a pass that has done nothing owns nothing
 pub new_owns : (names : List Name) → OwnsWork (new_pass names)
@@ -46,7 +47,7 @@ module _ (R : Moment) (old new : List PassRecord) where
       → ((f : Task → ℕ) → weigh (λ (v : PassRecord). weigh f v.running) new ≡ weigh (λ (v : PassRecord). weigh f v.running) old) → AreRecordsOf R old → AreRecordsOf R new
   records_weigh claims sends running r = record { claims = λ f. r.claims f ∙ sym (claims f); sends = λ f. r.sends f ∙ sym (sends f); running = λ f. r.running f ∙ sym (running f) }
 
-live_weighs : (j : TableJob) (R : Moment) (live stamp : ℕ) (old new : List PassRecord) → weigh (λ (v : PassRecord). v.credit) new ≡ weigh (λ (v : PassRecord). v.credit) old → ((f : Stamp → ℕ) → weigh (λ (v : PassRecord). weigh f v.stamps) new ≡ weigh (λ (v : PassRecord). weigh f v.stamps) old) → Each OwnsLives new
+live_weighs : (j : TableJob) (R : Moment) (live stamp : ℕ) (old new : List PassRecord) → weigh (λ (v : PassRecord). v.credit) new ≡ weigh (λ (v : PassRecord). v.credit) old → ((f : StampedTask → ℕ) → weigh (λ (v : PassRecord). weigh f v.stamps) new ≡ weigh (λ (v : PassRecord). weigh f v.stamps) old) → Each OwnsLives new
     → AreLive j.matched R live stamp old → AreLive j.matched R live stamp new
 live_weighs j R live stamp old new credits stamps each r = record { live = omega (arith, r.live, credits); each = each; stamps = r.stamps; theirs = λ f. r.theirs f ∙ sym (stamps f); drawn = r.drawn }
 
@@ -141,8 +142,8 @@ joins j id v other u named s rule me apart them = let R : Moment = rule.0 in let
             live = live_weighs j R (get_or s.words (live_word j.shards) 0) (get_or s.words (stamp_word j.shards) 0) s.views vs' (same (λ (z : PassRecord). z.credit) refl refl) (λ f. same (λ (z : PassRecord). weigh f z.stamps) (weigh-append f v.stamps u.stamps) refl)
                 (twice OwnsLives (new_lives []) (record {
                   credit = omega (arith, a.credit, b.credit, length-append v.running u.running, length-append v.claims u.claims, length-append v.turns u.turns);
-                  stamps = λ t. omega (arith, a.stamps t, b.stamps t, weigh-append (λ (x : Stamp). as_number (same_task t x.0)) v.stamps u.stamps, weigh-append (λ x. as_number (same_task t x)) v.claims u.claims);
-                  stamped = λ t. omega (arith, a.stamped t, b.stamped t, weigh-append (λ (x : Stamp). as_number (same_task t x.0)) v.stamps u.stamps, weigh-append (λ x. as_number (same_task t x)) v.claims u.claims, weigh-append (λ x. as_number (same_task t x)) v.running u.running);
+                  stamps = λ t. omega (arith, a.stamps t, b.stamps t, weigh-append (λ (x : StampedTask). as_number (same_task t x.0)) v.stamps u.stamps, weigh-append (λ x. as_number (same_task t x)) v.claims u.claims);
+                  stamped = λ t. omega (arith, a.stamped t, b.stamped t, weigh-append (λ (x : StampedTask). as_number (same_task t x.0)) v.stamps u.stamps, weigh-append (λ x. as_number (same_task t x)) v.claims u.claims, weigh-append (λ x. as_number (same_task t x)) v.running u.running);
                 }) r.live.each) r.live;
             halt = λ pre. (r.reserved pre).halt;
           }),

@@ -26,7 +26,7 @@ use Rattle.shard_meaning.specs.Moment.{Moment}
 use Rattle.work_board.specs.declared.record.PassRecord.{PassRecord}
 use Rattle.table_rule.specs.declared.table_job.TableJob.{TableJob}
 use Rattle.table_rule.specs.Changes.{with_stamp}
-use Rattle.table_rule.specs.Live.{AreLive, AreStamps, OwnsLives, Stamp, own_claims, own_stamps}
+use Rattle.table_rule.specs.Live.{AreLive, AreStamps, OwnsLives, own_claims, own_stamps}
 use Rattle.table_rule.specs.Plays.{HasName, Seated, drew_stamp}
 use Rattle.table_rule.specs.Quiet.{IsQuieted}
 use Rattle.table_rule.specs.Records.{AreRecordsOf}
@@ -39,12 +39,13 @@ use Rattle.table_rule.proofs.Naming.{named_not_empty}
 use Rattle.table_rule.proofs.Passes.{each_kept, same_weight}
 use Rattle.table_rule.proofs.Weighing.{term_le, terms_le, weigh-set}
 use Rattle.table_rule.proofs.WordSteps.{mod_up}
+use Rattle.work_board.specs.Stamps.{StampedTask}
 
 -- a running task of a pass that has no stamp yet
 module _ (P : Plan) (G : Data) (R : Moment) (live stamp : ℕ) (vs : List PassRecord) (id : ℕ) (v : PassRecord) (t : Task)
     (sound : IsSoundState P G R.state) (records : AreRecordsOf R vs) (r : AreLive P R live stamp vs) (me : get_elem? vs id ≡ some v) (mine : 0 < own_claims v t) (none_yet : own_stamps v t ≡ 0) where
   -- a stamped task is claimed
-  stamped_claimed : (x : Stamp) → IsIn x r.stamps → 0 < claim_count R.state x.0
+  stamped_claimed : (x : StampedTask) → IsIn x r.stamps → 0 < claim_count R.state x.0
   stamped_claimed x i =
       let p = stamp_of r.stamps vs r.theirs x i in
       let u : PassRecord = p.1 in
@@ -68,7 +69,7 @@ module _ (P : Plan) (G : Data) (R : Moment) (live stamp : ℕ) (vs : List PassRe
       let own = r.drawn.senders x.0 x.1 in
       (own.0, subst (λ i. IsIn (sender i, own.0) r.stamps) x.2 own.1)
 
-  which : (x : Stamp) → IsIn x (r.stamps ++ (t, stamp) ∷ []) → IsIn x r.stamps ⊎ (x ≡ (t, stamp))
+  which : (x : StampedTask) → IsIn x (r.stamps ++ (t, stamp) ∷ []) → IsIn x r.stamps ⊎ (x ≡ (t, stamp))
   which x i = elim (from_append x r.stamps ((t, stamp) ∷ []) i) [
     | inl old ↦ inl old
     | inr new ↦ elim new [ inl e ↦ inr e | inr never ↦ absurd never ]
@@ -78,14 +79,14 @@ module _ (P : Plan) (G : Data) (R : Moment) (live stamp : ℕ) (vs : List PassRe
   drawn_now = let d = r.drawn in record {
     drawn = omega (arith, length-append r.stamps ((t, stamp) ∷ []), d.drawn);
     differ = λ s. dite (ℕ_discrete stamp s)
-        (λ e. omega (arith, weigh-push (λ (x : Stamp). as_number (eqb x.1 s)) r.stamps (t, stamp), ap as_number (eq-eqb stamp s e), none_is s e))
-        (λ ne. omega (arith, weigh-push (λ (x : Stamp). as_number (eqb x.1 s)) r.stamps (t, stamp), ap as_number (ne_eqb stamp s ne), d.differ s));
-    below = λ u s i. ⊎_elim (λ old. omega (arith, d.below u s old)) (λ (e : (u, s) ≡ (t, stamp)). omega (arith, ap (λ (x : Stamp). x.1) e)) (which (u, s) i);
+        (λ e. omega (arith, weigh-push (λ (x : StampedTask). as_number (eqb x.1 s)) r.stamps (t, stamp), ap as_number (eq-eqb stamp s e), none_is s e))
+        (λ ne. omega (arith, weigh-push (λ (x : StampedTask). as_number (eqb x.1 s)) r.stamps (t, stamp), ap as_number (ne_eqb stamp s ne), d.differ s));
+    below = λ u s i. ⊎_elim (λ old. omega (arith, d.below u s old)) (λ (e : (u, s) ≡ (t, stamp)). omega (arith, ap (λ (x : StampedTask). x.1) e)) (which (u, s) i);
     above_sources = λ e s q among a b. ⊎_elim
-        (λ old_a. ⊎_elim (λ old_b. d.above_sources e s q among old_a old_b) (λ (new_b : (e.to, q) ≡ (t, stamp)). omega (arith, d.below e.from s old_a, ap (λ (x : Stamp). x.1) new_b)) (which (e.to, q) b))
+        (λ old_a. ⊎_elim (λ old_b. d.above_sources e s q among old_a old_b) (λ (new_b : (e.to, q) ≡ (t, stamp)). omega (arith, d.below e.from s old_a, ap (λ (x : StampedTask). x.1) new_b)) (which (e.to, q) b))
         (λ (new_a : (e.from, s) ≡ (t, stamp)).
-        let from_t : e.from ≡ t = ap (λ (x : Stamp). x.0) new_a in
-        let claimed : 0 < claim_count R.state e.to = ⊎_elim (λ old_b. stamped_claimed (e.to, q) old_b) (λ (new_b : (e.to, q) ≡ (t, stamp)). subst (λ (u : Task). 0 < claim_count R.state u) (sym (ap (λ (x : Stamp). x.0) new_b)) claimed_t) (which (e.to, q) b) in
+        let from_t : e.from ≡ t = ap (λ (x : StampedTask). x.0) new_a in
+        let claimed : 0 < claim_count R.state e.to = ⊎_elim (λ old_b. stamped_claimed (e.to, q) old_b) (λ (new_b : (e.to, q) ≡ (t, stamp)). subst (λ (u : Task). 0 < claim_count R.state u) (sym (ap (λ (x : StampedTask). x.0) new_b)) claimed_t) (which (e.to, q) b) in
         let source = source_stamped e among claimed in
         absurd (unstamped source.0 (subst (λ (u : Task). IsIn (u, source.0) r.stamps) from_t source.1)))
         (which (e.from, s) a);
@@ -95,9 +96,9 @@ module _ (P : Plan) (G : Data) (R : Moment) (live stamp : ℕ) (vs : List PassRe
       claimed_t : 0 < claim_count R.state t
       claimed_t = omega (arith, mine, records.claims (λ z. as_number (same_task t z)), term_le (λ (w : PassRecord). own_claims w t) vs id v me)
 
-      none_is : (s : ℕ) → stamp ≡ s → count (λ (x : Stamp). eqb x.1 s) r.stamps ≡ 0
-      none_is s e = dite (ℕ_discrete (count (λ (x : Stamp). eqb x.1 s) r.stamps) 0) (λ z. z)
-          (λ nz. let p = some_passes (λ (x : Stamp). eqb x.1 s) r.stamps (omega arith) in let x : Stamp = p.0 in absurd (omega (arith, r.drawn.below x.0 x.1 p.1, eqb-true x.1 s p.2)))
+      none_is : (s : ℕ) → stamp ≡ s → count (λ (x : StampedTask). eqb x.1 s) r.stamps ≡ 0
+      none_is s e = dite (ℕ_discrete (count (λ (x : StampedTask). eqb x.1 s) r.stamps) 0) (λ z. z)
+          (λ nz. let p = some_passes (λ (x : StampedTask). eqb x.1 s) r.stamps (omega arith) in let x : StampedTask = p.0 in absurd (omega (arith, r.drawn.below x.0 x.1 p.1, eqb-true x.1 s p.2)))
 
   -- the stamps after the word was drawn
   pub live_stamped : AreLive P R live (stamp + 1) (set vs id (with_stamp v t stamp))
@@ -113,9 +114,9 @@ module _ (P : Plan) (G : Data) (R : Moment) (live stamp : ℕ) (vs : List PassRe
       own_lives = let l = r.each id v me in record {
         credit = l.credit;
         stamps = λ u. by_test (same_task u t)
-            (λ q. let same : u ≡ t = (same_task-decides u t).0 q in omega (arith, weigh-push (λ (x : Stamp). as_number (same_task u x.0)) v.stamps (t, stamp), ap as_number q, ap (own_stamps v) same, ap (own_claims v) same, none_yet, mine))
-            (λ q. omega (arith, weigh-push (λ (x : Stamp). as_number (same_task u x.0)) v.stamps (t, stamp), ap as_number q, l.stamps u));
-        stamped = λ u. omega (arith, weigh-push (λ (x : Stamp). as_number (same_task u x.0)) v.stamps (t, stamp), l.stamped u);
+            (λ q. let same : u ≡ t = (same_task-decides u t).0 q in omega (arith, weigh-push (λ (x : StampedTask). as_number (same_task u x.0)) v.stamps (t, stamp), ap as_number q, ap (own_stamps v) same, ap (own_claims v) same, none_yet, mine))
+            (λ q. omega (arith, weigh-push (λ (x : StampedTask). as_number (same_task u x.0)) v.stamps (t, stamp), ap as_number q, l.stamps u));
+        stamped = λ u. omega (arith, weigh-push (λ (x : StampedTask). as_number (same_task u x.0)) v.stamps (t, stamp), l.stamped u);
       }
 
 -- a stamp is drawn for the running task, which has none yet

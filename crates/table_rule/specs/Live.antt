@@ -7,19 +7,17 @@ use Rattle.ptg_base.specs.declared.edge.Edge.{Edge}
 use Rattle.plan_core.specs.declared.plan.Plan.{Plan}
 use Rattle.dep_iter.specs.Edges.{in_edges}
 use Rattle.list_lemmas.specs.Counting.{count, weigh}
-use Rattle.flow_meaning.specs.Machine.{SentItem, sender}
+use Rattle.flow_meaning.specs.Machine.{SentItem, sender, claim_count}
 use Rattle.flow_meaning.specs.Table.{ready_tasks}
 use Rattle.shard_meaning.specs.Moment.{Moment}
 use Rattle.work_board.specs.declared.record.PassRecord.{PassRecord}
 use Rattle.table_rule.specs.Records.{Each}
-
--- the stamp of a task
-abbrev pub Stamp : Type 0
-Stamp = Task × ℕ
+use Rattle.work_board.specs.Records.{done_by}
+use Rattle.work_board.specs.Stamps.{StampedTask}
 
 -- how often a pass has claimed a task
 abbrev pub own_claims : PassRecord → Task → ℕ
-own_claims v t = count (same_task t) v.claims
+own_claims v t = claim_count (done_by v) t
 
 -- how often a pass runs a task
 abbrev pub own_runs : PassRecord → Task → ℕ
@@ -27,7 +25,7 @@ own_runs v t = count (same_task t) v.running
 
 -- how often a pass drew a stamp for a task
 abbrev pub own_stamps : PassRecord → Task → ℕ
-own_stamps v t = count (λ (x : Stamp). same_task t x.0) v.stamps
+own_stamps v t = count (λ (x : StampedTask). same_task t x.0) v.stamps
 
 -- the credit and the stamps of a pass fit what it did and holds
 pub record OwnsLives (v : PassRecord) : Type 0 where
@@ -38,11 +36,11 @@ pub record OwnsLives (v : PassRecord) : Type 0 where
   pub stamped : (t : Task) → own_claims v t ≤ own_stamps v t + own_runs v t
 
 -- the stamps that were drawn, whoever drew them
-pub record AreStamps (P : Plan) (R : Moment) (stamps : List Stamp) (word : ℕ) : Type 0 where
+pub record AreStamps (P : Plan) (R : Moment) (stamps : List StampedTask) (word : ℕ) : Type 0 where
   -- the stamp word is their number
   pub drawn : length stamps ≡ word
   -- they differ, and are below the stamp word
-  pub differ : (s : ℕ) → count (λ (x : Stamp). x.1 == s) stamps ≤ 1
+  pub differ : (s : ℕ) → count (λ (x : StampedTask). x.1 == s) stamps ≤ 1
   pub below : (t : Task) (s : ℕ) → IsIn (t, s) stamps → s < word
   -- the stamp of a task is above those of its sources
   pub above_sources : (e : Edge) (s r : ℕ) → IsIn e (in_edges P e.to) → IsIn (e.from, s) stamps → IsIn (e.to, r) stamps
@@ -55,6 +53,6 @@ pub record AreLive (P : Plan) (R : Moment) (live_word stamp_word : ℕ) (vs : Li
   -- the live word counts the ready tasks, the running ones and the credits
   pub live : live_word ≡ length (ready_tasks P R.state) + length R.running + weigh (λ (v : PassRecord). v.credit) vs
   pub each : Each OwnsLives vs
-  pub stamps : List Stamp
-  pub theirs : (f : Stamp → ℕ) → weigh f stamps ≡ weigh (λ (v : PassRecord). weigh f v.stamps) vs
+  pub stamps : List StampedTask
+  pub theirs : (f : StampedTask → ℕ) → weigh f stamps ≡ weigh (λ (v : PassRecord). weigh f v.stamps) vs
   pub drawn : AreStamps P R stamps stamp_word

@@ -12,6 +12,12 @@ use Rattle.table_rule.specs.declared.table_job.TableJob.{TableJob}
 use Rattle.shard_meaning.specs.Placing.{shard_of}
 use Rattle.table_rule.specs.Words.{live_word, word_count}
 
+-- the words of a new table with n shards: the live word is this number, and each other word is 0
+pub record AreOpeningWords (n ready : ℕ) (words : List ℕ) : Type 0 where
+  pub long : length words ≡ word_count n
+  pub live : slice_index words (live_word n) ≡ ready
+  pub zero : (i : ℕ) → i ≢ live_word n → slice_index words i ≡ 0
+
 -- the words and the shards of a new table: the tasks that no edge goes into are entries of their shards, the live word
 -- counts them, and each other word is 0
 pub record IsOpening (j : TableJob) (words : List ℕ) (shards : List Content) : Type 0 where
@@ -19,9 +25,7 @@ pub record IsOpening (j : TableJob) (words : List ℕ) (shards : List Content) :
   pub some_shards : 0 < j.shards
   pub shards_at_most : j.shards ≤ most_shards
   pub shard_count : length shards ≡ j.shards
-  pub long : length words ≡ word_count j.shards
-  pub zero : (i : ℕ) → i ≢ live_word j.shards → slice_index words i ≡ 0
-  pub live : slice_index words (live_word j.shards) ≡ length (ready_tasks j.matched opening_state)
+  pub opening_words : AreOpeningWords j.shards (length (ready_tasks j.matched opening_state)) words
   pub each : (k : ℕ) (y : Content) → get_elem? shards k ≡ some y
       → IsOpeningShard j.matched (shard_of j.matched j.shards) k y
   pub spares : j.preloaded ≡ true → (k : ℕ) (y : Content) → get_elem? shards k ≡ some y

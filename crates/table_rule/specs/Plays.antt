@@ -1,5 +1,5 @@
 -- What each kind of step tells the pass that makes it. Source: this project's own choice.
-use Rattle.std.specs.Prelude.{◌≡◌, ◌≢◌, ℕ, ◌+◌, ◌<◌, ◌==◌, Bool, true, List, [], ◌∷◌, length, Option, Some, None}
+use Rattle.std.specs.Prelude.{◌≡◌, ◌≢◌, ℕ, ◌+◌, ◌<◌, ◌==◌, Bool, true, List, [], ◌∷◌, length, Option, IfSome}
 use mathlib.Core.Option.{some}
 use lib.ListN.{get_elem?}
 use Rattle.atomic_table.specs.Table.{Me, Step, rest}
@@ -55,17 +55,12 @@ fires P y e =
     ((entry_before y e.to (goal P e.to) (priority P e.to)).arrived + 1) ==
     (entry_before y e.to (goal P e.to) (priority P e.to)).goal
 
--- what holds of the job, where one is named
-abbrev pub OfJob : Option TableJob → (TableJob → Type 0) → Type 0
-OfJob None fact = Unit {0}
-OfJob (Some j) fact = fact j
-
 -- a turn is taken, or was found taken: the step is on the turn word of that shard, and what it found there is the
 -- pass's look
 abbrev pub took : Option TableJob → ℕ → Step Content → Seated → ℕ → Seated → Type 0
 took j k st m r n =
     (st.word ≡ turn_word k)
-    × (r ≡ 0 → (y : Content) × (n ≡ (with_turn m.0 k y, (k, y) ∷ m.1)) × OfJob j (λ (i : TableJob). WasSeen i k m.0 y))
+    × (r ≡ 0 → (y : Content) × (n ≡ (with_turn m.0 k y, (k, y) ∷ m.1)) × IfSome j (λ (i : TableJob). WasSeen i k m.0 y))
     × (r ≢ 0 → n ≡ (with_look m.0 (Turn k) r, m.1))
 
 -- a turn is given back with nothing else
@@ -76,7 +71,7 @@ left st m r n = n ≡ (turn_left m.0, rest m.1)
 abbrev pub gave_claim : Option TableJob → Task → List FlowTile → Step Content → Seated → ℕ → Seated → Type 0
 gave_claim j t tiles st m r n =
     (n ≡ (turn_left (with_own_claim m.0 t), rest m.1))
-    × OfJob j (λ (i : TableJob). MayStart i.matched i.given t tiles m.0)
+    × IfSome j (λ (i : TableJob). MayStart i.matched i.given t tiles m.0)
 
 -- a turn is given back with a send
 abbrev pub gave_send : SentItem → Step Content → Seated → ℕ → Seated → Type 0
@@ -94,7 +89,7 @@ raised_halt st m r n = (st.word ≡ halt_word st.slots) × (n ≡ (with_halt m.0
 abbrev pub read_halt : Option TableJob → Step Content → Seated → ℕ → Seated → Type 0
 read_halt j st m r n =
     (st.word ≡ halt_word st.slots) × (n ≡ (with_look m.0 Halt r, m.1))
-    × OfJob j (λ (i : TableJob). i.preloaded ≡ true → r ≡ 0)
+    × IfSome j (λ (i : TableJob). i.preloaded ≡ true → r ≡ 0)
 
 -- the live word is raised
 abbrev pub raised_live : Step Content → Seated → ℕ → Seated → Type 0
@@ -109,7 +104,7 @@ abbrev pub read_live : Option TableJob → Step Content → Seated → ℕ → S
 read_live j st m r n =
     (st.word ≡ live_word st.slots)
     × (r ≡ 0 → (n ≡ (with_quiet (with_look m.0 Live r), m.1))
-    × OfJob j (λ (i : TableJob). WasPass i (with_quiet (with_look m.0 Live r))))
+    × IfSome j (λ (i : TableJob). WasPass i (with_quiet (with_look m.0 Live r))))
     × (r ≢ 0 → n ≡ (with_look m.0 Live r, m.1))
 
 -- a stamp is drawn for a task

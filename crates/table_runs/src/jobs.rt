@@ -186,75 +186,21 @@ coll,D,1
 ",
 };
 
-// The shape of a tiled Cholesky factorization.
-const CHOLESKY_JDF: &[u8] = b"D [type = \"parsec_data_collection_t*\"]
-NT [type = int]
-
-potrf(k)
-k = 0 .. NT-1
-: D(k, k)
-RW T <- (k == 0) ? D(k, k) : T herk(k-1, k)
-     -> T trsm(k, k+1 .. NT-1)
-     -> D(k, k)
-; NT - k
-BODY
-T[0] = T[0] + 1;
-END
-
-trsm(k, m)
-k = 0 .. NT-2
-m = k+1 .. NT-1
-: D(m, k)
-READ T <- T potrf(k)
-RW C <- (k == 0) ? D(m, k) : C gemm(k-1, m, k)
-     -> A herk(k, m)
-     -> A gemm(k, m, k+1 .. m-1)
-     -> B gemm(k, m+1 .. NT-1, m)
-     -> D(m, k)
-BODY
-C[0] = C[0] + 1;
-END
-
-herk(k, m)
-k = 0 .. NT-2
-m = k+1 .. NT-1
-: D(m, m)
-READ A <- C trsm(k, m)
-RW T <- (k == 0) ? D(m, m) : T herk(k-1, m)
-     -> (m == k+1) ? T potrf(m) : T herk(k+1, m)
-BODY
-T[0] = T[0] + 1;
-END
-
-gemm(k, m, n)
-k = 0 .. NT-3
-m = k+2 .. NT-1
-n = k+1 .. m-1
-: D(m, n)
-READ A <- C trsm(k, m)
-READ B <- C trsm(k, n)
-RW C <- (k == 0) ? D(m, n) : C gemm(k-1, m, n)
-     -> (n == k+1) ? C trsm(n, m) : C gemm(k+1, m, n)
-BODY
-C[0] = C[0] + 1;
-END
-";
-
-/// That shape with four rows of tiles. Each task adds 1 to one element.
+/// The made job with four rows of tiles.
 pub const CHOLESKY_4: Texts = Texts {
     name: "cholesky 4",
-    jdf: CHOLESKY_JDF,
-    data: b"elems,1
+    jdf: job_gen::JDF,
+    data: b"elems,3
 int,NT,4
 coll,D,4,4
 ",
 };
 
-/// That shape with twenty rows of tiles.
+/// The made job with twenty rows of tiles.
 pub const CHOLESKY_20: Texts = Texts {
     name: "cholesky 20",
-    jdf: CHOLESKY_JDF,
-    data: b"elems,1
+    jdf: job_gen::JDF,
+    data: b"elems,3
 int,NT,20
 coll,D,20,20
 ",

@@ -1,16 +1,12 @@
 //! Tables of jobs.
 
-ghost use Rattle.std.specs.Prelude.{◌≡◌, ◌<◌, ◌≤◌, IfOk, IfSome};
-ghost use Rattle.ptg_base.specs.Limits.{most_shards};
-ghost use Rattle.plan_data.specs.Fit.{DataFit};
+ghost use Rattle.std.specs.Prelude.{◌≡◌, IfOk, IfSome};
 ghost use Rattle.table_rule.specs.Changes.{first_pass};
 ghost use Rattle.dep_table.specs.Passes.{IsPassOf};
 ghost use Rattle.dep_table.specs.Tables.{id_of, job_of as job_in};
 ghost use Rattle.dep_table.specs.Views.{shown};
 
 use crate::jobs::Texts;
-use coll_data::Given;
-use dep_iter::Matched;
 use dep_table::{DepTable, Pass};
 use job_stages::job_of_texts;
 use ptg_base::{MOST_SHARDS, OutOfMemory};
@@ -21,25 +17,6 @@ use std::alloc::Global;
 pub struct Make {
     pub shards: u32,
     pub preload: bool,
-}
-
-// A table of a job, with its first pass.
-fn open(
-    alloc: Global,
-    matched: Matched,
-    given: Given,
-    make: Make,
-) -> Result<(DepTable, Pass), OutOfMemory>
-    requires fit { DataFit matched.colls matched.elems given }
-    requires shards { (0 < make.shards) × (make.shards ≤ most_shards) }
-    ensures pass { IfOk result (λ r. IsPassOf (id_of r.0) r.1 × (shown r.1 ≡ first_pass)) }
-    ensures preloaded { IfOk result (λ r. (job_in r.0).preloaded ≡ make.preload) }
-{
-    if make.preload {
-        DepTable::new_preloaded(alloc, matched, given, make.shards)
-    } else {
-        DepTable::new(alloc, matched, given, make.shards)
-    }
 }
 
 /// A table of the job of two texts, with its first pass, if the job is consistent and the number of shards is right.
@@ -57,5 +34,6 @@ pub fn table_of(
     let Some((matched, given)) = job_of_texts(alloc, texts.jdf, texts.data)? else {
         return Ok(None);
     };
-    Ok(Some(open(alloc, matched, given, make)?))
+    let opened = DepTable::open(alloc, matched, given, make.shards, make.preload)?;
+    Ok(Some(opened))
 }

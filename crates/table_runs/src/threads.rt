@@ -1,14 +1,14 @@
 //! Jobs run by several workers, each in a thread of its own.
 
 ghost use Rattle.std.specs.Prelude.{IsTrue};
-ghost use Rattle.run_pool.specs.Runs.{AreSettings};
+ghost use Rattle.ptg_base.specs.Limits.{AreCounts};
 
 use crate::answer::{Answer, answer_of};
 use crate::jobs::Texts;
 use dep_table::Closed;
 use job_stages::job_of_texts;
 use ptg_base::{MOST_SHARDS, MOST_WORKERS, OutOfMemory, TaskId};
-use run_pool::{PrepareFault, Settings, prepare, run, run_traced};
+use run_pool::{PrepareFault, Settings, lay_out, prepare, run, run_traced};
 use std::alloc::Global;
 use std::sync::Wait;
 use std::thread::Threads;
@@ -16,7 +16,7 @@ use worker_core::Always;
 
 // Whether the settings are within their limits.
 fn are_settings(settings: Settings) -> bool
-    ensures { IsTrue result → AreSettings settings }
+    ensures { IsTrue result → AreCounts settings.workers settings.shards }
 {
     if settings.workers == 0 || settings.workers > MOST_WORKERS {
         return false;
@@ -94,12 +94,7 @@ pub fn traced<R: Threads + Wait + Sync>(
         shards: 16,
         preload: false,
     };
-    match prepare(alloc, matched, given, settings) {
-        Ok(prepared) => {
-            let (tasks, closed) = run_traced(alloc, rt, prepared, &Always)?;
-            Ok(Some(claims_of(tasks, closed)?))
-        }
-        Err(PrepareFault::PreloadTooLarge(_bytes)) => Ok(None),
-        Err(PrepareFault::OutOfMemory) => Err(OutOfMemory),
-    }
+    let prepared = lay_out(alloc, matched, given, settings)?;
+    let (tasks, closed) = run_traced(alloc, rt, prepared, &Always)?;
+    Ok(Some(claims_of(tasks, closed)?))
 }

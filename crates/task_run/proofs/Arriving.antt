@@ -13,8 +13,7 @@ use Rattle.dep_iter.specs.declared.source.Source.TheVariants as source
 use Rattle.dep_iter.specs.Edges.{data_source}
 use Rattle.dep_iter.specs.Tasks.{flows_of}
 use Rattle.dep_shard.specs.Arrivals.{tile_of, without_tile}
-use Rattle.flow_meaning.specs.Starting.{Delivery, delivered_from, delivered_tile, delivered_tiles, delivered_to, starting_tile, tile_from}
-use Rattle.task_run.specs.Start.{without_edges}
+use Rattle.flow_meaning.specs.Starting.{Delivery, delivered_from, delivered_tile, delivered_tiles, delivered_to, starting_tile, tile_from, nothing_delivered}
 use Rattle.list_lemmas.proofs.Numbers.{eqb-self}
 use Rattle.std.proofs.lemmas.Bool.{ne_eqb}
 
@@ -118,7 +117,7 @@ module _ (P : Plan) (d : Delivery) (t : Task) where
     arrived_source f source.Null x h = absurd cc
     arrived_source f source.Nothing x h = absurd cc
 
-    missing_source : (f : FlowPlan) (s : Source) → came_from s ≡ None → tile_from P G d f s ≡ tile_from P G without_edges f s
+    missing_source : (f : FlowPlan) (s : Source) → came_from s ≡ None → tile_from P G d f s ≡ tile_from P G nothing_delivered f s
     unfolding came_from
     missing_source f (source.Task e) h = h
     missing_source f (source.Place p) h = refl
@@ -136,10 +135,10 @@ module _ (P : Plan) (d : Delivery) (t : Task) where
         by false h = absurd cc
 
     -- another one starts on what its source gives without the edges
-    pub missing_tile : (n : ℕ) (f : FlowPlan) → slice_get (flows_of P t) n ≡ Some f → tile_of (delivered_tiles P d t) n ≡ None → starting_tile P G d t n f ≡ starting_tile P G without_edges t n f
+    pub missing_tile : (n : ℕ) (f : FlowPlan) → slice_get (flows_of P t) n ≡ Some f → tile_of (delivered_tiles P d t) n ≡ None → starting_tile P G d t n f ≡ starting_tile P G nothing_delivered t n f
     unfolding came
     missing_tile n f is here = by (is_data (Some f.kind)) (sym (came_is n f is) ∙ here)
       where
-        by : (b : Bool) → cond b (came_from (data_source P t n)) None ≡ None → cond b (tile_from P G d f (data_source P t n)) None ≡ cond b (tile_from P G without_edges f (data_source P t n)) None
+        by : (b : Bool) → cond b (came_from (data_source P t n)) None ≡ None → cond b (tile_from P G d f (data_source P t n)) None ≡ cond b (tile_from P G nothing_delivered f (data_source P t n)) None
         by true h = missing_source f (data_source P t n) h
         by false h = refl

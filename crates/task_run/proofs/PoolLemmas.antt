@@ -4,18 +4,19 @@ use Rattle.std.proofs.lemmas.Bool.Decides.{nat_tests}
 use Rattle.std.proofs.lemmas.List.Sums.{count_by-le-length, sum_by-append}
 use Rattle.std.proofs.Math.Seq.{take-suc}
 use Rattle.std.proofs.lemmas.List.{map-append, length-set}
+use Rattle.std.specs.Option.{option_eq}
 use Rattle.tile_pool.specs.Pool.{Pool, IsTakenFrom}
 use Rattle.task_run.specs.declared.pools.TypePool.{TypePool}
-use Rattle.task_run.specs.Pools.{AreBelow, IsPoolOf, is_of_type}
+use Rattle.task_run.specs.Pools.{AreBelow, IsPoolOf}
 use Rattle.task_run.specs.PoolList.{ArePools, IsGivenBack}
 use Rattle.list_lemmas.proofs.Places.{slice_get-set_other, slice_get-set_same}
 
 -- one tile of type k, or none
 abbrev pub one : ℕ → Option ℕ → ℕ
-one k type = cond (is_of_type k type) 1 0
+one k type = cond (option_eq nat_eq (Some k) type) 1 0
 
-pub count-one : (k : ℕ) (lent : List (Option ℕ)) (type : Option ℕ) → count_by (is_of_type k) (lent ++ type ∷ []) ≡ count_by (is_of_type k) lent + one k type
-count-one k lent type = sum_by-append (λ x. cond (is_of_type k x) 1 0) lent (type ∷ []) ∙ omega arith
+pub count-one : (k : ℕ) (lent : List (Option ℕ)) (type : Option ℕ) → count_by (option_eq nat_eq (Some k)) (lent ++ type ∷ []) ≡ count_by (option_eq nat_eq (Some k)) lent + one k type
+count-one k lent type = sum_by-append (λ x. cond (option_eq nat_eq (Some k) x) 1 0) lent (type ∷ []) ∙ omega arith
 
 same_type : (k : ℕ) → one k (Some k) ≡ 1
 same_type k =
@@ -36,7 +37,7 @@ map_set f (z ∷ zs) (suc k) x y h e = ap (λ l. f z ∷ l) (map_set f zs k x y 
 
 -- while fewer than eight flows have their tiles, a pool has a tile to lend
 pub has_spare : (lent : List (Option ℕ)) (k : ℕ) (pool : Pool) (zeros : List ℤ) → IsPoolOf lent k pool zeros → length lent < 8 → 0 < pool.spare
-has_spare lent k pool zeros is h = omega (arith, is.lent, is.enough, count_by-le-length (is_of_type k) lent)
+has_spare lent k pool zeros is h = omega (arith, is.lent, is.enough, count_by-le-length (option_eq nat_eq (Some k)) lent)
 
 -- a pool after it lent a tile, and after it got one back
 lent_one : (lent : List (Option ℕ)) (k : ℕ) (old new : Pool) (z y : List ℤ) → IsPoolOf lent k old z → IsTakenFrom old new → y ≡ z → IsPoolOf (lent ++ Some k ∷ []) k new y

@@ -1,5 +1,5 @@
 -- The pools of a bench, by type. Source: this project's own choice.
-use Rattle.std.specs.Prelude.{◌≡◌, ℕ, ◌<◌, ℤ, List, length, option_map, slice_get, slice_set, Option, Some, None}
+use Rattle.std.specs.Prelude.{◌≡◌, ℕ, ◌<◌, ℤ, List, length, option_map, slice_get, slice_set, Option, Some, IfSome, MatchOption}
 use Rattle.tile_pool.specs.Pool.{IsTakenFrom}
 use Rattle.task_run.specs.declared.pools.TypePool.{TypePool}
 use Rattle.task_run.specs.Pools.{IsPoolOf}
@@ -17,8 +17,7 @@ pub record HasRoom (pools : List TypePool) (k : ℕ) (tile : Option (List ℤ)) 
 
 -- a tile that was lent by the pool of a type, or by none, may come back
 abbrev pub CanGive : List TypePool → Option ℕ → Option (List ℤ) → Type 0
-CanGive pools None tile = Unit {0}
-CanGive pools (Some k) tile = HasRoom pools k tile
+CanGive pools lent tile = IfSome lent (λ k. HasRoom pools k tile)
 
 -- in the new pools a tile has come back to the pool of type k
 pub record HasMore (old new : List TypePool) (k : ℕ) : Type 0 where
@@ -31,5 +30,4 @@ pub record HasMore (old new : List TypePool) (k : ℕ) : Type 0 where
 
 -- in the new pools a tile has come back to the pool of the type that lent it, or nothing has changed if none did
 abbrev pub IsGivenBack : List TypePool → Option ℕ → List TypePool → Type 0
-IsGivenBack old None new = new ≡ old
-IsGivenBack old (Some k) new = HasMore old new k
+IsGivenBack old lent new = MatchOption lent (new ≡ old) (λ k. HasMore old new k)

@@ -1,6 +1,7 @@
 -- The tiles of a bench, in a pool for each type, of which some are lent to the flows of a task. Source: this project's
 -- own choice.
-use Rattle.std.specs.Prelude.{◌≡◌, ℕ, ◌+◌, ◌-◌, ◌<◌, ◌≤◌, ℤ, pos, Bool, false, nat_eq, List, [], ◌∷◌, ◌++◌, count_by, length, replicate, slice_get, slice_index, take, option_map, Option, Some, None}
+use Rattle.std.specs.Prelude.{◌≡◌, ℕ, ◌+◌, ◌-◌, ◌<◌, ◌≤◌, ℤ, pos, nat_eq, List, [], ◌∷◌, ◌++◌, count_by, length, replicate, slice_get, slice_index, take, option_map, Option, Some}
+use Rattle.std.specs.Option.{option_eq}
 use Rattle.ptg_base.specs.Limits.{most_flows}
 use Rattle.tile_pool.specs.Pool.{Pool}
 
@@ -10,15 +11,10 @@ pub record Lent : Type 0 where
   pub elems : List ℕ
   pub lent : List (Option ℕ)
 
--- whether a tile of this type was lent
-abbrev pub is_of_type : ℕ → Option ℕ → Bool
-is_of_type k None = false
-is_of_type k (Some n) = nat_eq k n
-
 -- a pool of tiles of type k, as many as a class may have flows, of which some are lent, and a tile of zeros
 pub record IsPoolOf (types : List (Option ℕ)) (k : ℕ) (pool : Pool) (zero : List ℤ) : Type 0 where
   pub zeros : zero ≡ replicate pool.elems (pos 0)
-  pub lent : pool.room ≡ count_by (is_of_type k) types
+  pub lent : pool.room ≡ count_by (option_eq nat_eq (Some k)) types
   pub enough : most_flows ≤ pool.spare + pool.room
 
 -- one flow more, to which a tile of this type was lent, or none

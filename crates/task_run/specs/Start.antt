@@ -1,5 +1,5 @@
 -- What a task starts on. Source: DAGuE (Parallel Computing, 2012): a task runs on what its sources gave.
-use Rattle.std.specs.Prelude.{◌≡◌, ℕ, ◌≤◌, ℤ, List, IsSome, None}
+use Rattle.std.specs.Prelude.{◌≡◌, ℕ, ◌≤◌, ℤ, List}
 use Rattle.ptg_base.specs.Entry.{FlowTile}
 use Rattle.ptg_base.specs.Task.{Task}
 use Rattle.plan_core.specs.declared.plan.Plan.{Plan}
@@ -18,18 +18,9 @@ pub record IsStart (P : Plan) (G : Data) (t : Task) (locals : List ℤ) : Type 0
   pub task : IsTask P t
   pub locals_are : locals ≡ locals_of P t
 
--- a task that runs, and the tiles that came to it by edges
-pub record MayRun (P : Plan) (G : Data) (t : Task) (arrived : List FlowTile) : Type 0 where
-  pub runs : IsSome (ended P G t)
-  pub inputs : arrived ≡ inputs P G t
-
 -- what the edges into a task deliver: the tiles that their sources leave
 abbrev pub delivered : Plan → Data → Delivery
 delivered P G = source_tile (ended P G)
-
--- no edge delivers a tile
-abbrev pub without_edges : Delivery
-without_edges e = None
 
 -- for flows from n on, the tiles that arrived are the inputs of the task
 abbrev pub HasInputsFrom : Plan → Data → Task → ℕ → List FlowTile → Type 0

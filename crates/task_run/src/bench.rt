@@ -1,14 +1,14 @@
 //! Where one worker runs tasks.
 
-ghost use Rattle.std.specs.Prelude.{◌≡◌, ◌+◌, ◌<◌, ◌≤◌, [], ◌∷◌, ◌++◌, Some, Ok, Err, length, slice_get, IfOk, OnOk, IfErr, IsSome};
+ghost use Rattle.std.specs.Prelude.{◌≡◌, ◌+◌, ◌<◌, [], ◌∷◌, ◌++◌, Some, Ok, Err, length, slice_get, IfOk, OnOk, IfErr, IsSome};
 ghost use Rattle.std.specs.Option.{option_copied};
 ghost use Rattle.ptg_base.specs.Limits.{most_flows};
 ghost use Rattle.body_eval.specs.Element.{tile_of};
 ghost use Rattle.dep_iter.specs.Tasks as tasks;
 ghost use Rattle.flow_meaning.specs.Starting as starting;
-ghost use Rattle.flow_meaning.specs.Backward.{ended, inputs};
+ghost use Rattle.flow_meaning.specs.Backward.{ended, inputs, MayRun};
 ghost use Rattle.task_run.specs.Bench.{IsBenchOf};
-ghost use Rattle.task_run.specs.Start.{HasInputsFrom, IsStart, MayRun, delivered};
+ghost use Rattle.task_run.specs.Start.{HasInputsFrom, IsStart, delivered};
 
 use crate::pools::Pools;
 use crate::start::{Start, next_tile};

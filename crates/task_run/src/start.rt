@@ -9,7 +9,8 @@ ghost use Rattle.dep_iter.specs.Edges as edges;
 ghost use Rattle.dep_iter.specs.Tasks as tasks;
 ghost use Rattle.flow_meaning.specs.Starting as starting;
 ghost use Rattle.task_run.specs.Pools.{LendsTo};
-ghost use Rattle.task_run.specs.Start.{HasInputsFrom, IsStart, delivered, without_edges};
+ghost use Rattle.task_run.specs.Start.{HasInputsFrom, IsStart, delivered};
+ghost use Rattle.flow_meaning.specs.Starting.{nothing_delivered};
 
 use crate::pools::Pools;
 use coll_data::Given;
@@ -73,7 +74,7 @@ fn lend_from(pools: &mut Pools, start: &Start, flow: &FlowPlan, source: &Source)
     requires kind { kinds.is_data (Some flow.now.kind) ≡ true }
     requires source { edges.data_source start.now.plan.now start.now.task.now (length pools.old.lent) ≡ source.now }
     ensures tile { result
-        ≡ starting.tile_from start.now.plan.now start.now.given.now without_edges flow.now source.now }
+        ≡ starting.tile_from start.now.plan.now start.now.given.now nothing_delivered flow.now source.now }
     ensures lent { LendsTo pools.old pools.new result }
 {
     match source {
@@ -95,7 +96,7 @@ fn lend_source(pools: &mut Pools, start: &Start, flow: &FlowPlan) -> Option<Tile
     requires flow { slice_get (tasks.flows_of start.now.plan.now start.now.task.now) (length pools.old.lent)
         ≡ Some flow.now }
     ensures tile { result
-        ≡ starting.starting_tile start.now.plan.now start.now.given.now without_edges start.now.task.now
+        ≡ starting.starting_tile start.now.plan.now start.now.given.now nothing_delivered start.now.task.now
         (length pools.old.lent) flow.now }
     ensures lent { LendsTo pools.old pools.new result }
 {

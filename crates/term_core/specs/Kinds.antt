@@ -41,14 +41,8 @@ takes_tile Write = false
 takes_tile Rw = true
 takes_tile Ctl = false
 
--- whether of its in dependences the first that holds counts alone: of a flow that carries a tile it does
-abbrev pub takes_first : FlowKind → Bool
-takes_first Read = true
-takes_first Write = true
-takes_first Rw = true
-takes_first Ctl = false
-
--- whether of its dependences in this direction the first that holds counts alone
-abbrev pub first_alone : Direction → FlowKind → Bool
-first_alone In kind = takes_first kind
-first_alone Out kind = false
+-- whether of its dependences in this direction the first that holds counts alone: of the in dependences of a flow that
+-- carries a tile it does
+abbrev pub first_only : Direction → FlowKind → Bool
+first_only In kind = is_data kind
+first_only Out kind = false

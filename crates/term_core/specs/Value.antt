@@ -1,6 +1,7 @@
 -- The value of an expression, by cases on its tree in the order of evaluation. Source: the JDF documentation, for
 -- expressions as in C.
-use Rattle.std.specs.Prelude.{ℕ, ℤ, pos, List, Bool, true, ◌&&◌, nat_lt, Result, Ok, Err, Option, Some, None, if◌then◌else◌, slice_index_or}
+use Rattle.std.specs.Prelude.{ℕ, ℤ, pos, List, Bool, true, ◌&&◌, nat_lt, Result, Ok, Err, if◌then◌else◌, slice_index_or}
+use Rattle.std.specs.Option.{option_map_or}
 use Rattle.ptg_base.specs.Returns.{and_then}
 use Rattle.term_core.specs.declared.fault.ExprFault.{ExprFault}
 use Rattle.term_core.specs.declared.operator.BinOp.{BinOp}
@@ -12,15 +13,10 @@ abbrev pub map_fault : {F : Type 0} → (ExprFault → F) → Result ℤ ExprFau
 map_fault fault (Ok x) = Ok x
 map_fault fault (Err e) = Err (fault e)
 
--- the deciding number if there is one, else the other result
-abbrev pub decided_or : {F : Type 0} → Option ℤ → Result ℤ F → Result ℤ F
-decided_or (Some z) other = Ok z
-decided_or None other = other
-
 -- an operation on two expressions: the right one counts only where the left one does not decide
 abbrev pub binary_with : {F : Type 0} → (ExprFault → F) → BinOp → Result ℤ F → Result ℤ F → Result ℤ F
 binary_with fault o left right =
-    and_then left (λ x. decided_or (decided o x) (and_then right (λ y. map_fault fault (arithmetic o x y))))
+    and_then left (λ x. option_map_or Ok (decided o x) (and_then right (λ y. map_fault fault (arithmetic o x y))))
 
 -- the value of an expression, or the first fault in the order of evaluation: `fault` makes of a fault of arithmetic one
 -- of F, `element` gives the value of an element by its flow and index, and the list has the values of the locals

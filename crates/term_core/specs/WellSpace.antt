@@ -1,7 +1,8 @@
 -- Well made spaces: a definition names only those before it, and each range is the definition of a parameter. Source:
 -- the JDF documentation; the limit is this project's own choice.
-use Rattle.std.specs.Prelude.{ℕ, suc, List, [], ◌∷◌, length, Option, Some, None, Bool, true, not, ◌&&◌, ◌==◌, ◌≤◌, nat_lt, IsTrue}
+use Rattle.std.specs.Prelude.{ℕ, suc, List, [], ◌∷◌, length, Option, Some, None, Bool, true, ◌&&◌, ◌==◌, ◌≤◌, nat_lt, IsTrue}
 use Rattle.std.specs.List.{list_all, list_any}
+use Rattle.ptg_base.specs.Lists.{are_distinct}
 use Rattle.ptg_base.specs.Limits.{most_locals}
 use Rattle.term_core.specs.Term.{Term}
 use Rattle.term_core.specs.Value.{is_closed}
@@ -35,16 +36,11 @@ spans_are_params before [] params = true
 spans_are_params before (Span r ∷ ds) params = is_among before params && spans_are_params (suc before) ds params
 spans_are_params before (Value e ∷ ds) params = spans_are_params (suc before) ds params
 
--- whether no number occurs twice
-abbrev pub are_different : List ℕ → Bool
-are_different [] = true
-are_different (p ∷ ps) = not (is_among p ps) && are_different ps
-
 -- at most 16 definitions that name only those before them; the parameters are different definitions, each range among
 -- them
 pub record IsWellSpace (s : ClassSpace) : Type 0 where
   pub definitions_at_most : length s.defs ≤ most_locals
   pub closed : IsTrue (are_closed 0 s.defs)
   pub within : IsTrue (list_all (λ p. nat_lt p (length s.defs)) s.params)
-  pub different : IsTrue (are_different s.params)
+  pub different : IsTrue (are_distinct (λ p q. q == p) s.params)
   pub spans : IsTrue (spans_are_params 0 s.defs s.params)

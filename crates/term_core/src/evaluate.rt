@@ -1,8 +1,9 @@
 //! The value of an expression: one evaluator, over a way to read elements.
 
 ghost use Rattle.std.specs.Prelude.{◌≡◌, ℕ, ℤ, pos, slice_index_or, Result, Ok};
-ghost use Rattle.term_core.specs.NodeTerm.{term_of, leaf_number};
-ghost use Rattle.term_core.specs.Value.{binary_with, map_fault, value, value_with};
+ghost use Rattle.term_core.specs.NodeTerm.{term_of, leaf_term};
+ghost use Rattle.term_core.specs.Term.{Binary};
+ghost use Rattle.term_core.specs.Value.{map_fault, value, value_with};
 ghost use Rattle.term_core.specs.declared.fault.ExprFault.{ExprFault};
 
 use crate::arithmetic::{arith, decide, unary};
@@ -47,15 +48,16 @@ pub fn eval_with<R: ReadElement>(e: &Expr, env: &[i64], elements: &R) -> Result<
     match &e.node {
         Node::Num(z) => Ok(*z),
         Node::Local(number) => Ok(local(env, *number)),
-        Node::Flat(op, a, b) => flat_value::<R>(*op, leaf_value(*a, env), leaf_value(*b, env)),
+        Node::Flat(op, a, b) => flat_value::<R>(*op, *a, *b, env),
         _ => node_value(&e.node, env, elements),
     }
 }
 
 // The value of a leaf.
 #[inline(always)]
-fn leaf_value(leaf: Leaf, env: &[i64]) -> i64
-    ensures { result ≡ leaf_number leaf env.now }
+fn leaf_value<R: ReadElement>(leaf: Leaf, env: &[i64]) -> i64
+    ensures { (element : ℕ → ℤ → Result ℤ R.Fault)
+        → value_with R.fault_of element env.now (leaf_term leaf) ≡ Ok result }
 {
     match leaf {
         Leaf::Num(z) => z,
@@ -63,15 +65,17 @@ fn leaf_value(leaf: Leaf, env: &[i64]) -> i64
     }
 }
 
-// The value of a binary operation on two numbers.
+// The value of a binary operation on two leaves.
 #[inline(always)]
-fn flat_value<R: ReadElement>(op: BinOp, x: i64, y: i64) -> Result<i64, R::Fault>
-    ensures { result ≡ binary_with R.fault_of op (Ok x) (Ok y) }
+fn flat_value<R: ReadElement>(op: BinOp, a: Leaf, b: Leaf, env: &[i64]) -> Result<i64, R::Fault>
+    ensures { (element : ℕ → ℤ → Result ℤ R.Fault)
+        → result ≡ value_with R.fault_of element env.now (Binary op (leaf_term a) (leaf_term b)) }
 {
+    let x = leaf_value::<R>(a, env);
     if let Some(z) = decide(op, x) {
         return Ok(z);
     }
-    with_fault::<R>(arith(op, x, y))
+    with_fault::<R>(arith(op, x, leaf_value::<R>(b, env)))
 }
 
 // The value of a tree of boxed nodes.
@@ -97,7 +101,7 @@ fn node_value<R: ReadElement>(node: &Node, env: &[i64], elements: &R) -> Result<
             let y = node_value(b, env, elements)?;
             with_fault::<R>(arith(*op, x, y))
         }
-        Node::Flat(op, a, b) => flat_value::<R>(*op, leaf_value(*a, env), leaf_value(*b, env)),
+        Node::Flat(op, a, b) => flat_value::<R>(*op, *a, *b, env),
         Node::Choose(c, a, b) => {
             let x = node_value(c, env, elements)?;
             if x == 0 {

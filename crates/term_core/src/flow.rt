@@ -67,19 +67,12 @@ impl FlowKind {
         }
     }
 
-    /// Whether of its in dependences the first that holds counts alone.
-    pub fn takes_first(self) -> bool
-        ensures { result ≡ kinds.takes_first self }
-    {
-        self.is_data()
-    }
-
     /// Whether of its dependences in this direction the first that holds counts alone.
-    pub fn first_alone(self, direction: Direction) -> bool
-        ensures { result ≡ kinds.first_alone direction self }
+    pub fn first_only(self, direction: Direction) -> bool
+        ensures { result ≡ kinds.first_only direction self }
     {
         match direction {
-            Direction::In => self.takes_first(),
+            Direction::In => self.is_data(),
             Direction::Out => false,
         }
     }

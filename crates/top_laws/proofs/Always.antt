@@ -36,7 +36,7 @@ use Rattle.ptg_top.specs.Ranks.{IsRanked}
 use Rattle.ptg_top.specs.Demo.{DemoDenotes, IsSummary, summed}
 use Rattle.ptg_top.specs.declared.verdict.Finding.TheVariants.{Answer, Trace as TraceText, Ranked}
 use Rattle.run_pool.specs.declared.settings.Settings.{Settings}
-use Rattle.ptg_top.specs.Preload.{is_too_large}
+use Rattle.run_pool.specs.Runs.{is_too_large}
 use Rattle.ptg_top.proofs.Answered.{some_on}
 use Rattle.ptg_top.proofs.Checked.{contents_consistent}
 use Rattle.ptg_top.proofs.JdfFiles.{fault_refuses}

@@ -5,12 +5,12 @@ use Rattle.plan_core.specs.declared.plan.Plan.{Plan}
 use Rattle.flow_meaning.specs.Answer.{answer}
 use Rattle.ptg_words.specs.Words.{Orders}
 use Rattle.run_pool.specs.declared.settings.Settings.{Settings}
+use Rattle.run_pool.specs.Runs.{is_too_large}
 use Rattle.ptg_words.specs.declared.order.Order.{Order}
 use Rattle.ptg_words.specs.declared.order.Order.TheVariants.{Ranks, Run}
 use Rattle.ptg_top.specs.declared.verdict.Finding.TheVariants.{Answer}
 use Rattle.ptg_top.specs.Denotation as verdicts
 use Rattle.ptg_top.specs.Denotation.{Denotation}
-use Rattle.ptg_top.specs.Preload.{is_too_large}
 use Rattle.ptg_top.specs.JobFiles.{Entries}
 use Rattle.ptg_top.specs.Meaning.{CommandDenotes, Denotes}
 use Rattle.top_laws.specs.Settings.{SeedsChangeNothing, ShardsChangeNothing, WorkersChangeNothing}

@@ -4,10 +4,9 @@ use Rattle.std.specs.Cmp.Lexicographic.{pointwise}
 use Rattle.std.specs.Option.{option_map_or}
 use Rattle.std.specs.List.{list_any}
 use Rattle.std.proofs.lemmas.Bool.{false≢true}
-use Rattle.ptg_base.specs.Lists.{IsIn}
+use Rattle.ptg_base.specs.Lists.{IsIn, are_distinct}
 use Rattle.ptg_base.specs.Task.{Task}
-use Rattle.plan_core.specs.ClassName.{class_name}
-use Rattle.plan_core.specs.Names.{are_distinct}
+use Rattle.plan_core.specs.NamesByNumber.{class_name}
 use Rattle.plan_core.specs.declared.class.ClassPlan.{ClassPlan}
 use Rattle.plan_core.specs.declared.plan.Plan.{Plan}
 use Rattle.term_core.specs.declared.space.ClassSpace.{ClassSpace}
@@ -19,6 +18,7 @@ use Rattle.trace_core.specs.Naming.{IsNamed, Names}
 use Rattle.trace_core.specs.Rows.{AreNumbers, IsRowOf}
 use Rattle.trace_core.specs.Text.{Entry}
 use Rattle.std.specs.Cmp.{first_so, second_so}
+use Rattle.std.specs.Str.{bytes_eq}
 use Rattle.list_lemmas.proofs.Texts.{equal_bytes}
 
 pub later_class : (classes later : List ClassPlan) (first : ClassPlan) (name : List ℕ) (n : ℕ) (r : Option ℕ) → classes ≡ first ∷ later → (first.name ≡ name → ⊥)
@@ -59,13 +59,13 @@ any_named name (c ∷ cs) (suc k) p = or_true (pointwise nat_eq name c.name) (li
     or_true true b h = refl
     or_true false b h = h
 
-first_apart : (c : ClassPlan) (cs : List ClassPlan) (name : List ℕ) (k : ℕ) → are_distinct (map (λ (d : ClassPlan). d.name) (c ∷ cs)) ≡ true → c.name ≡ name → IsNamed cs name k → ⊥
+first_apart : (c : ClassPlan) (cs : List ClassPlan) (name : List ℕ) (k : ℕ) → are_distinct bytes_eq (map (λ (d : ClassPlan). d.name) (c ∷ cs)) ≡ true → c.name ≡ name → IsNamed cs name k → ⊥
 first_apart c cs name k distinct here p =
     let there = any_named c.name cs k (p.0, p.1, p.2 ∙ sym here) in
-    let none = first_so (not (list_any (pointwise nat_eq c.name) (map (λ (d : ClassPlan). d.name) cs))) (are_distinct (map (λ (d : ClassPlan). d.name) cs)) distinct in
+    let none = first_so (not (list_any (pointwise nat_eq c.name) (map (λ (d : ClassPlan). d.name) cs))) (are_distinct bytes_eq (map (λ (d : ClassPlan). d.name) cs)) distinct in
     false≢true (sym (ap not there) ∙ none)
 
-one_name : (cs : List ClassPlan) (name : List ℕ) → are_distinct (map (λ (d : ClassPlan). d.name) cs) ≡ true → (j k : ℕ) → IsNamed cs name j → IsNamed cs name k → j ≡ k
+one_name : (cs : List ClassPlan) (name : List ℕ) → are_distinct bytes_eq (map (λ (d : ClassPlan). d.name) cs) ≡ true → (j k : ℕ) → IsNamed cs name j → IsNamed cs name k → j ≡ k
 one_name [] name distinct zero k p q = let e : None ≡ Some p.0 = p.1 in cc
 one_name [] name distinct (suc j) k p q = let e : None ≡ Some p.0 = p.1 in cc
 one_name (c ∷ cs) name distinct zero zero p q = refl
@@ -78,7 +78,7 @@ one_name (c ∷ cs) name distinct (suc j) zero p q = absurd (first_apart c cs na
     head_name : IsNamed (c ∷ cs) name zero → c.name ≡ name
     head_name p = let e : Some c ≡ Some p.0 = p.1 in let same : c ≡ p.0 = cc in ap (λ (d : ClassPlan). d.name) same ∙ p.2
 one_name (c ∷ cs) name distinct (suc j) (suc k) p q =
-    ap suc (one_name cs name (second_so (not (list_any (pointwise nat_eq c.name) (map (λ (d : ClassPlan). d.name) cs))) (are_distinct (map (λ (d : ClassPlan). d.name) cs)) distinct) j k p q)
+    ap suc (one_name cs name (second_so (not (list_any (pointwise nat_eq c.name) (map (λ (d : ClassPlan). d.name) cs))) (are_distinct bytes_eq (map (λ (d : ClassPlan). d.name) cs)) distinct) j k p q)
 
 pub class_name_at : (P : Plan) (n : ℕ) (c : ClassPlan) → slice_get P.classes n ≡ Some c → class_name P n ≡ c.name
 class_name_at P n c e = ap (λ o. option_map_or (λ (d : ClassPlan). d.name) o []) e

@@ -28,14 +28,14 @@ use Rattle.flow_meaning.specs.Answer.{ran}
 use Rattle.flow_meaning.specs.Backward.{ended, has_all_sources, source_tile}
 use Rattle.list_lemmas.specs.Counting.{HasSameMembers, as_number, count}
 use Rattle.flow_meaning.specs.Ending.{ended_on, has_outputs}
-use Rattle.flow_meaning.specs.Order.{IsLegalAfter}
+use Rattle.flow_meaning.specs.Order.{IsLegalAfter, IsWholeOrder}
 use Rattle.flow_meaning.specs.Starting.{starting_tiles}
 use Rattle.flow_meaning.proofs.Enough.{fixed}
 use Rattle.flow_meaning.proofs.Rounds.{has_sources}
 use Rattle.flow_meaning.proofs.SourceEdges.{class_of}
 use Rattle.task_order.proofs.Orders.{legal_once}
 use Rattle.trace_core.specs.Faults.{IsMissing}
-use Rattle.trace_core.specs.Orders.{IsWholeOrder, MayAllRunAfter, MayRunAfter}
+use Rattle.trace_core.specs.Orders.{MayAllRunAfter, MayRunAfter}
 
 -- one more task that may run
 pub may_push : (P : Plan) (G : Data) (acc ts : List Task) (t : Task) → MayAllRunAfter P G acc ts → MayRunAfter P G (acc ++ ts) t → MayAllRunAfter P G acc (ts ++ t ∷ [])

@@ -1,5 +1,5 @@
--- Orders in which the tasks of a job may run, and whole orders. Source: DAGuE (Parallel Computing, 2012): a task runs
--- after the sources of its edges.
+-- Orders in which the tasks of a job may run. Source: DAGuE (Parallel Computing, 2012): a task runs after the sources
+-- of its edges.
 use Rattle.std.specs.Prelude.{List, [], ◌∷◌, ◌++◌, IsTrue}
 use Rattle.ptg_base.specs.Lists.{IsIn}
 use Rattle.ptg_base.specs.Task.{Task}
@@ -7,10 +7,9 @@ use Rattle.ptg_base.specs.declared.edge.Edge.{Edge}
 use Rattle.plan_core.specs.declared.plan.Plan.{Plan}
 use Rattle.coll_data.specs.Data.{Data}
 use Rattle.dep_iter.specs.Edges.{in_edges}
-use Rattle.flow_meaning.specs.Answer.{ran}
 use Rattle.flow_meaning.specs.Backward.{ended}
 use Rattle.flow_meaning.specs.Ending.{has_outputs}
-use Rattle.flow_meaning.specs.Order.{IsOrderOf, MayFollow}
+use Rattle.flow_meaning.specs.Order.{MayFollow}
 
 -- a task may run after these: it may follow them in a legal order, and no source of an edge into it traps
 pub record MayRunAfter (P : Plan) (G : Data) (before : List Task) (t : Task) : Type 0 where
@@ -21,7 +20,3 @@ pub record MayRunAfter (P : Plan) (G : Data) (before : List Task) (t : Task) : T
 abbrev pub MayAllRunAfter : Plan → Data → List Task → List Task → Type 0
 MayAllRunAfter P G before [] = Unit {0}
 MayAllRunAfter P G before (t ∷ ts) = MayRunAfter P G before t × MayAllRunAfter P G (before ++ t ∷ []) ts
-
--- a legal order of the tasks that run
-abbrev pub IsWholeOrder : Plan → Data → List Task → Type 0
-IsWholeOrder P G ts = IsOrderOf P (ran P G) ts

@@ -1,5 +1,5 @@
 -- What is read of a text as a trace of a job. Source: this project's own choice.
-use Rattle.std.specs.Prelude.{◌≡◌, ◌⊎◌, ◌+◌, ◌<◌, ◌≤◌, ℕ, List, Option, Some, None, length}
+use Rattle.std.specs.Prelude.{◌≡◌, ◌⊎◌, ◌+◌, ◌<◌, ◌≤◌, ℕ, List, Option, Some, None, length, option_map}
 use Rattle.std.specs.List.{AllByRecursion}
 use Rattle.ptg_base.specs.Limits.{most_bytes}
 use Rattle.ptg_base.specs.Lists.{HasNoRepeats}
@@ -24,8 +24,7 @@ pub data IsSpellingFault (text : List ℕ) (f : TraceFault) : Type 0 where
 
 -- the fault with this code of the row after those of these tasks
 abbrev pub fault_after : List Task → Option TraceCode → Option TraceFault
-fault_after ts None = None
-fault_after ts (Some code) = Some (record { row = length ts + 2; code = code })
+fault_after ts code = option_map (λ c. record { row = length ts + 2; code = c }) code
 
 -- these tasks are those of all rows, or of the rows before one with this fault
 abbrev pub IsReadAs : Plan → List Entry → List Task → Option TraceFault → Type 0

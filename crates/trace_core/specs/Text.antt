@@ -4,7 +4,7 @@ use Rattle.std.specs.Prelude.{ℕ, ℤ, List, [], ◌∷◌, ◌++◌, codes, fl
 use Rattle.std.specs.Fmt.{decimal, signed_decimal}
 use Rattle.ptg_base.specs.Line.{line}
 use Rattle.ptg_base.specs.Task.{Task}
-use Rattle.plan_core.specs.ClassName.{class_name}
+use Rattle.plan_core.specs.NamesByNumber.{class_name}
 use Rattle.plan_core.specs.declared.plan.Plan.{Plan}
 
 -- what a row says: the name of a class, and numbers, whatever task they name

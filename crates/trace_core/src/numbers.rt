@@ -1,7 +1,6 @@
 //! Numbers as the fields of a row.
 
-ghost use Rattle.std.specs.Prelude.{◌≡◌, ◌≢◌, ◌≤◌, ◌<◌, ◌+◌, ◌++◌, ◌↔◌, List, ℤ, IsTrue, IsFalse, MatchOption, length};
-ghost use Rattle.std.specs.List.{list_all};
+ghost use Rattle.std.specs.Prelude.{◌≡◌, ◌≢◌, ◌<◌, ◌+◌, ◌++◌, ◌↔◌, List, ℤ, IsTrue, IsFalse, MatchOption, length};
 ghost use Rattle.ptg_base.specs.Limits.{most_params};
 ghost use Rattle.std.specs.Fmt.{signed_decimal};
 ghost use Rattle.trace_core.specs.Rows.{AreNumbers, BeginsWithNumber, HasNoNumber, IsOfNumbers};

@@ -1,6 +1,6 @@
 //! The rows of a text.
 
-ghost use Rattle.std.specs.Prelude.{◌≡◌, ◌≢◌, ◌≤◌, ◌++◌, List, ℕ, MatchOption};
+ghost use Rattle.std.specs.Prelude.{◌≡◌, ◌≢◌, ◌≤◌, ◌++◌, ℕ, MatchOption};
 ghost use Rattle.std.specs.Fmt.{decimal};
 ghost use Rattle.ptg_base.specs.Limits.{most_tasks};
 ghost use Rattle.trace_core.specs.Rows.{BeginsWithRow, IsRowOf, row_content};

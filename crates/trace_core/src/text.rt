@@ -1,11 +1,11 @@
 //! The text of a trace.
 
-ghost use Rattle.std.specs.Prelude.{◌≡◌, ◌++◌, ◌∷◌, List, ℕ, IfOk, OnOk, flat_map, map};
+ghost use Rattle.std.specs.Prelude.{◌≡◌, ◌++◌, ◌∷◌, IfOk, OnOk, flat_map};
 ghost use Rattle.std.specs.List.{AllByRecursion};
-ghost use Rattle.std.specs.Fmt.{decimal, signed_decimal};
+ghost use Rattle.std.specs.Fmt.{signed_decimal};
 ghost use Rattle.dep_iter.specs.Tasks.{IsTask};
 ghost use Rattle.trace_core.specs.Text as spelling;
-ghost use Rattle.trace_core.specs.Text.{entry_of, head_line, row_line, rows_text};
+ghost use Rattle.trace_core.specs.Text.{entry_of, head_line, row_line};
 
 use itoa::Buffer;
 use plan_core::Plan;

@@ -4,7 +4,7 @@ use Rattle.ptg_base.specs.Limits.{most_bytes}
 use Rattle.ptg_base.specs.Task.{Task}
 use Rattle.plan_core.specs.declared.plan.Plan.{Plan}
 use Rattle.coll_data.specs.Data.{Data}
-use Rattle.trace_core.specs.Orders.{IsWholeOrder}
+use Rattle.flow_meaning.specs.Order.{IsWholeOrder}
 use Rattle.trace_core.specs.Spelling.{IsWellSpelled}
 use Rattle.trace_core.specs.Text.{entry_of}
 

@@ -21,7 +21,8 @@ use Rattle.list_lemmas.proofs.Distinct.{no_longer}
 use Rattle.list_lemmas.proofs.Growing.{grown_to_the_end}
 use Rattle.list_lemmas.proofs.Tasks.{member_or_not}
 use Rattle.task_order.proofs.Orders.{legal_once, legal_tasks}
-use Rattle.trace_core.specs.Orders.{IsWholeOrder, MayAllRunAfter, MayRunAfter}
+use Rattle.flow_meaning.specs.Order.{IsWholeOrder}
+use Rattle.trace_core.specs.Orders.{MayAllRunAfter, MayRunAfter}
 use Rattle.trace_core.proofs.OneFault.{not_missing}
 use Rattle.trace_core.proofs.Wholes.{all_or_missing, may_legal, may_push, ran_ends, sources_end, whole}
 

@@ -14,7 +14,7 @@ use Rattle.list_lemmas.proofs.Distinct.{no_longer}
 use Rattle.dep_iter.specs.Consistent.{IsConsistent}
 use Rattle.dep_iter.proofs.Listing.{listed}
 use Rattle.task_order.proofs.Orders.{legal_once, legal_tasks}
-use Rattle.trace_core.specs.Orders.{IsWholeOrder}
+use Rattle.flow_meaning.specs.Order.{IsWholeOrder}
 
 pub spelled_text : (P : Plan) (ts : List Task) → AllByRecursion IsSpelled (map (entry_of P) ts) → length ts ≤ 1000000 → IsWellSpelled (trace_text P ts) (map (entry_of P) ts)
 unfolding trace_text

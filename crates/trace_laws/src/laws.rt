@@ -13,7 +13,7 @@ ghost use Rattle.flow_meaning.specs.Backward.{ended};
 ghost use Rattle.flow_meaning.specs.Ending.{has_outputs};
 ghost use Rattle.flow_meaning.specs.Machine.{MachineState, MayClaim};
 ghost use Rattle.flow_meaning.specs.Sound.{IsFinished, IsSoundState};
-ghost use Rattle.trace_core.specs.Orders.{IsWholeOrder};
+ghost use Rattle.flow_meaning.specs.Order.{IsWholeOrder};
 ghost use Rattle.std.specs.List.{AllByRecursion};
 ghost use Rattle.ptg_base.specs.Limits.{most_tasks, most_bytes};
 ghost use Rattle.trace_core.specs.Spelling.{IsSpelled};

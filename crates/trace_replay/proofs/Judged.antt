@@ -24,7 +24,8 @@ use Rattle.trace_core.specs.declared.fault.TraceCode.TheVariants.{TooLong, BadTr
 use Rattle.trace_core.specs.declared.fault.TraceFault.{TraceFault}
 use Rattle.trace_core.specs.Faults.{IsMissing, IsRowFault, IsTraceFault, of_spelling, of_tasks}
 use Rattle.trace_core.specs.Naming.{IsNamingFault}
-use Rattle.trace_core.specs.Orders.{IsWholeOrder, MayAllRunAfter}
+use Rattle.flow_meaning.specs.Order.{IsWholeOrder}
+use Rattle.trace_core.specs.Orders.{MayAllRunAfter}
 use Rattle.trace_core.specs.Reading.{IsListOf, IsReadAs, IsReading, IsSpellingFault}
 use Rattle.trace_core.specs.Spelling.{IsWellSpelled}
 use Rattle.trace_core.specs.Text.{Entry, entry_of}

@@ -11,7 +11,8 @@ use Rattle.rank_world.specs.Views.{WorldView}
 use Rattle.trace_core.specs.declared.fault.TraceFault.{TraceFault}
 use Rattle.trace_core.specs.Faults.{IsFaultOfRow, IsUnfinished}
 use Rattle.trace_core.specs.Naming.{AreRowsOf}
-use Rattle.trace_core.specs.Orders.{IsWholeOrder, MayAllRunAfter, MayRunAfter}
+use Rattle.flow_meaning.specs.Order.{IsWholeOrder}
+use Rattle.trace_core.specs.Orders.{MayAllRunAfter, MayRunAfter}
 use Rattle.trace_core.specs.Text.{Entry}
 
 -- a world of one rank that runs this job

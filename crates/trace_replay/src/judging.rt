@@ -10,7 +10,7 @@ ghost use Rattle.plan_data.specs.Fit.{DataFit};
 ghost use Rattle.dep_iter.specs.Tasks.{IsTask};
 ghost use Rattle.flow_meaning.specs.Answer as meaning;
 ghost use Rattle.trace_core.specs.Faults.{IsFaultOfRow, IsTraceFault, IsUnfinished};
-ghost use Rattle.trace_core.specs.Orders.{IsWholeOrder};
+ghost use Rattle.flow_meaning.specs.Order.{IsWholeOrder};
 ghost use Rattle.trace_core.specs.Reading.{IsListOf, IsReadAs};
 ghost use Rattle.trace_core.specs.Text.{Entry, entry_of};
 ghost use Rattle.trace_core.specs.declared.fault.TraceFault.{TraceFault as TraceFaultValue};

@@ -6,15 +6,13 @@ use Rattle.std.specs.Option.{option_map_or}
 use Rattle.ptg_base.specs.Lists.{IsIn}
 use Rattle.ptg_base.specs.Task.{Task}
 use Rattle.term_core.specs.Term.{Term}
-use Rattle.term_core.specs.declared.flow.FlowKind.{FlowKind}
-use Rattle.term_core.specs.declared.flow.FlowKind.TheVariants.{Read, Write, Rw, Ctl}
 use Rattle.plan_core.specs.declared.class.ClassPlan.{ClassPlan}
 use Rattle.plan_core.specs.declared.flow.DepPlan.{DepPlan}
 use Rattle.plan_core.specs.declared.flow.FlowPlan.{FlowPlan}
 use Rattle.plan_core.specs.declared.plan.Plan.{Plan}
 use Rattle.plan_core.specs.declared.target.Target.{Target}
 use Rattle.plan_core.specs.Kinds.{is_data}
-use Rattle.dep_iter.specs.Active.{flow_ins, flow_outs, held_target, takes_first}
+use Rattle.dep_iter.specs.Active.{flow_ins, flow_outs, held_target}
 use Rattle.dep_iter.specs.Tasks.{locals_of}
 use Rattle.dep_iter.specs.Well.{IsWellTask, are_well, first_ill_flow, has_hints, has_priority, has_value, ill_part, ill_part_of, is_well_flow}
 use Rattle.well_laws.specs.Values.{FlowHasValues, HasValue, IsReached, TaskHasValues}
@@ -23,23 +21,17 @@ use Rattle.std.proofs.lemmas.Bool.{and_from}
 use Rattle.std.specs.Cmp.{first_so, second_so}
 use Rattle.well_laws.proofs.Dependences.{IsReachedIn, active_reached, each_reached, have_well, reached_active, reached_among, well_have}
 
-first_is_data : (k : FlowKind) → takes_first k ≡ is_data (Some k)
-first_is_data Read = refl
-first_is_data Write = refl
-first_is_data Rw = refl
-first_is_data Ctl = refl
-
 module _ (env : List ℤ) (f : FlowPlan) where
-  to_reached : (d : DepPlan) → IsReachedIn (takes_first f.kind) env f.ins d → IsReached env f d
-  to_reached d r = record { before = r.before; after = r.after; listed = r.listed; none_before = λ «data». r.none_before (first_is_data f.kind ∙ «data») }
+  to_reached : (d : DepPlan) → IsReachedIn (is_data (Some f.kind)) env f.ins d → IsReached env f d
+  to_reached d r = record { before = r.before; after = r.after; listed = r.listed; none_before = r.none_before }
 
-  from_reached : (d : DepPlan) → IsReached env f d → IsReachedIn (takes_first f.kind) env f.ins d
-  from_reached d r = record { before = r.before; after = r.after; listed = r.listed; none_before = λ first. r.none_before (sym (first_is_data f.kind) ∙ first) }
+  from_reached : (d : DepPlan) → IsReached env f d → IsReachedIn (is_data (Some f.kind)) env f.ins d
+  from_reached d r = record { before = r.before; after = r.after; listed = r.listed; none_before = r.none_before }
 
   well_flow : is_well_flow env f ≡ true → FlowHasValues env f
   well_flow e =
-      let ins = well_have env (takes_first f.kind) f.ins (first_so (are_well (takes_first f.kind) env f.ins) (are_well false env f.outs) e) in
-      let outs = well_have env false f.outs (second_so (are_well (takes_first f.kind) env f.ins) (are_well false env f.outs) e) in
+      let ins = well_have env (is_data (Some f.kind)) f.ins (first_so (are_well (is_data (Some f.kind)) env f.ins) (are_well false env f.outs) e) in
+      let outs = well_have env false f.outs (second_so (are_well (is_data (Some f.kind)) env f.ins) (are_well false env f.outs) e) in
       record {
         in_guards = λ d c reached. ins.guards d (from_reached d reached) c;
         out_guards = λ d c among. outs.guards d (each_reached env f.outs d among) c;
@@ -49,14 +41,14 @@ module _ (env : List ℤ) (f : FlowPlan) where
 
   valued_flow : FlowHasValues env f → is_well_flow env f ≡ true
   valued_flow have =
-      and_from (are_well (takes_first f.kind) env f.ins) (are_well false env f.outs)
-      (have_well env (takes_first f.kind) f.ins (record { guards = λ d reached c. have.in_guards d c (to_reached d reached); arguments = have.in_arguments }))
+      and_from (are_well (is_data (Some f.kind)) env f.ins) (are_well false env f.outs)
+      (have_well env (is_data (Some f.kind)) f.ins (record { guards = λ d reached c. have.in_guards d c (to_reached d reached); arguments = have.in_arguments }))
       (have_well env false f.outs (record { guards = λ d reached c. have.out_guards d c (reached_among false env f.outs d reached); arguments = have.out_arguments }))
 
   pub ins_reached : (x : Target) → IsIn x (flow_ins env f) ↔ ((d : DepPlan) × IsReached env f d × (held_target d env ≡ Some x))
   ins_reached x = (
-    λ among. let p = active_reached env (takes_first f.kind) f.ins x among in (p.0, to_reached p.0 p.1, p.2),
-    λ p. reached_active env (takes_first f.kind) f.ins x p.0 (from_reached p.0 p.1) p.2,
+    λ among. let p = active_reached env (is_data (Some f.kind)) f.ins x among in (p.0, to_reached p.0 p.1, p.2),
+    λ p. reached_active env (is_data (Some f.kind)) f.ins x p.0 (from_reached p.0 p.1) p.2,
   )
 
   pub outs_reached : (x : Target) → IsIn x (flow_outs env f) ↔ ((d : DepPlan) × IsIn d f.outs × (held_target d env ≡ Some x))

@@ -7,7 +7,7 @@ use Rattle.ptg_words.specs.Parts.{Part, has_twice, is_lacking, is_stray, operand
 use Rattle.ptg_words.specs.Readings.{is_read}
 use Rattle.ptg_words.specs.declared.verbs.Verb.TheVariants as verbs
 use Rattle.ptg_words.specs.declared.verbs.Verb.{Verb}
-use Rattle.ptg_words.specs.Words.{IsProper, IsUsage, Orders, formed, has_bad_number, has_wrong_count, improper_word, lacking_number, no_verb, operand_count, operand_number, option_twice, options_of, read, stray_word, verb_of}
+use Rattle.ptg_words.specs.Words.{IsProper, IsUsage, Orders, formed, has_bad_number, has_wrong_count, improper_word, lacking_number, no_verb, operand_count, operands_differ, option_twice, options_of, read, stray_word, verb_of}
 use Rattle.ptg_words.proofs.Proper.{all_or_any}
 use Rattle.ptg_words.proofs.Rules.{breaks_none, breaks_number, to_rule}
 use Rattle.ptg_words.proofs.ValuesRead.{counted}
@@ -21,7 +21,7 @@ breaks_rule ws v ps e h = go (list_any is_stray ps) (list_any is_lacking ps) (ha
     go true b c d ea eb ec ed = stray_word (to_rule (λ v ps. list_any is_stray ps) ws v ps e ea)
     go false true c d ea eb ec ed = lacking_number (to_rule (λ v ps. list_any is_lacking ps) ws v ps e eb)
     go false false true d ea eb ec ed = option_twice (to_rule (λ v ps. has_twice ps) ws v ps e ec)
-    go false false false false ea eb ec ed = operand_number (to_rule has_wrong_count ws v ps e (ap not ed))
+    go false false false false ea eb ec ed = operands_differ (to_rule has_wrong_count ws v ps e (ap not ed))
     go false false false true ea eb ec ed = let bad : true ≡ false = sym (rw (ea, eb, ec, ed) refl) ∙ h in absurd cc
 
 -- ---- the command of parts that keep the rules

@@ -7,7 +7,7 @@ use Rattle.ptg_base.specs.Lists.{IsIn}
 use Rattle.list_lemmas.proofs.Members.{some_member_passes, list_any-from_member}
 use Rattle.ptg_words.specs.Parts.{Part, has_twice, is_lacking, is_stray, operands, parts, shards, texts_of, workers}
 use Rattle.ptg_words.specs.declared.verbs.Verb.{Verb}
-use Rattle.ptg_words.specs.Words.{Breaks, IsUsage, bad_number, has_bad_count, has_bad_number, has_bad_operand, has_no_number, has_wrong_count, improper_word, is_number, lacking_number, no_verb, operand_count, operand_number, operands_of, option_twice, options_of, read, stray_word, verb_of}
+use Rattle.ptg_words.specs.Words.{Breaks, IsUsage, bad_number, has_bad_count, has_bad_number, has_bad_operand, has_no_number, has_wrong_count, improper_word, is_number, lacking_number, no_verb, operand_count, operands_differ, operands_of, option_twice, options_of, read, stray_word, verb_of}
 use Rattle.word_laws.specs.Rules.{BreaksRule, bad_operand, bad_shards, bad_workers, improper, no_form, no_value, other_words, preload_twice, shards_twice, workers_twice, wrong_count}
 use Rattle.word_laws.proofs.Reading.{lacks_iff, stray_iff, which}
 use Rattle.word_laws.proofs.Texts.{texts_iff}
@@ -69,7 +69,7 @@ module _ (verb : Verb) (first : List ℕ) (words : List (List ℕ)) (verb_is : v
     | inl w ↦ workers_twice w
     | inr r ↦ elim r [ inl s ↦ shards_twice s | inr p ↦ preload_twice p ]
   ]
-  to_words (operand_number h) = wrong_count (count_differs (by_parts has_wrong_count h))
+  to_words (operands_differ h) = wrong_count (count_differs (by_parts has_wrong_count h))
   to_words (bad_number h) = from_number (by_parts has_bad_number h)
 
   from_words : BreaksRule verb first words → IsUsage (first ∷ words)
@@ -79,7 +79,7 @@ module _ (verb : Verb) (first : List ℕ) (words : List (List ℕ)) (verb_is : v
   from_words (workers_twice h) = option_twice (to_rule (λ v ps. has_twice ps) ((twice_iff verb words).1 (inl h)))
   from_words (shards_twice h) = option_twice (to_rule (λ v ps. has_twice ps) ((twice_iff verb words).1 (inr (inl h))))
   from_words (preload_twice h) = option_twice (to_rule (λ v ps. has_twice ps) ((twice_iff verb words).1 (inr (inr h))))
-  from_words (wrong_count ne) = operand_number (to_rule has_wrong_count (differs_count ne))
+  from_words (wrong_count ne) = operands_differ (to_rule has_wrong_count (differs_count ne))
   from_words (bad_workers text given e) =
       bad_number (to_rule has_bad_number (or_left (has_bad_count ps) (has_bad_operand (operands_of verb) (operands ps))
       (or_left (has_no_number 1 64 (texts_of workers ps)) (has_no_number 1 256 (texts_of shards ps)) (text_bad 1 64 (texts_of workers ps) text ((texts_iff verb workers words text).1 given) e))))

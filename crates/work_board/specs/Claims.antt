@@ -1,7 +1,7 @@
 -- What a claim answers, and how it changes the record of its pass. Source: DAGuE (Parallel Computing, 2012), where a
 -- worker takes a ready task from the table; the answers are this project's own choice.
-use Rattle.std.specs.Prelude.{◌≡◌, ℕ, List, [], ◌∷◌, ◌++◌, Some, IsSome}
-use Rattle.ptg_base.specs.Entry.{Entry, FlowTile}
+use Rattle.std.specs.Prelude.{◌≡◌, ℕ, List, [], ◌∷◌, ◌++◌}
+use Rattle.ptg_base.specs.Entry.{FlowTile}
 use Rattle.ptg_base.specs.Lists.{IsIn}
 use Rattle.ptg_base.specs.Task.{Task}
 use Rattle.ptg_base.specs.declared.edge.Item.{Item}
@@ -9,8 +9,8 @@ use Rattle.plan_core.specs.declared.plan.Plan.{Plan}
 use Rattle.coll_data.specs.Data.{Data}
 use Rattle.dep_iter.specs.Tasks.{IsTask}
 use Rattle.dep_iter.specs.Items.{items}
-use Rattle.dep_shard.specs.Content.{Content, HasNoReady, IsBest, IsReady, entry_of}
-use Rattle.flow_meaning.specs.Backward.{ended, inputs}
+use Rattle.dep_shard.specs.Content.{Content, HasNoReady, HasNoReadyOf, HasReady, IsBest}
+use Rattle.flow_meaning.specs.Backward.{MayRun}
 use Rattle.flow_meaning.specs.Machine.{send_count}
 use Rattle.work_board.specs.declared.record.PassRecord.{PassRecord}
 use Rattle.work_board.specs.declared.answers.Claim.{Claim}
@@ -20,23 +20,11 @@ use Rattle.work_board.specs.declared.answers.Scan.TheVariants as scan
 use Rattle.work_board.specs.Records.{FoundBusy, IsStill, KeepsNamesAndMarks, TookShard, done_by}
 use Rattle.work_board.specs.Word.{Turn}
 
--- the shard has a ready entry of the task with these tiles
-pub record HasReady (y : Content) (t : Task) (tiles : List FlowTile) : Type 0 where
-  pub entry : Entry
-  pub is : entry_of y t ≡ Some entry
-  pub ready : IsReady entry
-  pub handed : tiles ≡ entry.tiles
-
--- the shard has no ready entry of the task
-abbrev pub HasNoReadyOf : Content → Task → Type 0
-HasNoReadyOf y t = (e : Entry) → entry_of y t ≡ Some e → IsReady e → ⊥
-
 -- A task that may start, with the tiles that it starts on: it runs in this job, the tiles are its inputs, and the pass
 -- has sent none of its items.
 pub record MayStart (P : Plan) (G : Data) (t : Task) (tiles : List FlowTile) (v : PassRecord) : Type 0 where
   pub task : IsTask P t
-  pub runs : IsSome (ended P G t)
-  pub inputs : tiles ≡ inputs P G t
+  pub run : MayRun P G t tiles
   pub unsent : (i : Item) → IsIn i (items P t) → send_count (done_by v) i ≡ 0
 
 -- The claim is added to the record with its stamp, and its task runs. All else stays but the looks and the shard taken

@@ -1,4 +1,5 @@
 pub mod Word
+pub mod Stamps
 pub mod Records
 pub mod Claims
 pub mod Sends

@@ -4,6 +4,7 @@ use Rattle.ptg_base.specs.Task.{Task}
 use Rattle.work_board.specs.declared.record.PassRecord.{PassRecord}
 use Rattle.work_board.specs.Records.{FoundBusy, IsStill, KeepsDone}
 use Rattle.work_board.specs.Word.{Halt, Live, Word}
+use Rattle.work_board.specs.Stamps.{StampedTask}
 
 -- In its one look the pass found 0 in a word.
 pub record FoundZero (word : Word) (v w : PassRecord) : Type 0 where
@@ -57,5 +58,5 @@ KnowsHalted v = (v.halts ≡ true) ⊎ ((v.look.0 ≡ Halt) × (v.look.1 ≢ 0))
 
 -- the task that the pass runs has this stamp: it is the one that was drawn last
 pub record HasStamp (v : PassRecord) (t : Task) (stamp : ℕ) : Type 0 where
-  pub earlier : List (Task × ℕ)
+  pub earlier : List StampedTask
   pub is_last : v.stamps ≡ earlier ++ (t, stamp) ∷ []

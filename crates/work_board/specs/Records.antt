@@ -6,6 +6,7 @@ use Rattle.dep_shard.specs.Content.{Content}
 use Rattle.flow_meaning.specs.Machine.{IsLater, MachineState}
 use Rattle.work_board.specs.declared.record.PassRecord.{PassRecord}
 use Rattle.work_board.specs.Word.{Word, Turn}
+use Rattle.work_board.specs.Stamps.{StampedTask}
 
 -- what a pass alone did, as a state of the event machine: its claims and its sends
 abbrev pub done_by : PassRecord → MachineState
@@ -59,7 +60,7 @@ pub record OnlyTook (k : ℕ) (v w : PassRecord) : Type 0 where
 
 -- Nothing that the pass did is undone, and its names stay: it has what it had, and maybe more after it.
 pub record IsLaterRecord (v w : PassRecord) : Type 0 where
-  pub more_stamps : List (Task × ℕ)
+  pub more_stamps : List StampedTask
   pub names : w.names ≡ v.names
   pub done : IsLater (done_by v) (done_by w)
   pub stamps : w.stamps ≡ v.stamps ++ more_stamps

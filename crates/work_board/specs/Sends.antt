@@ -87,13 +87,17 @@ pub record MayTrap (P : Plan) (G : Data) (t : Task) (cause : Trap) (v : PassReco
   pub runs : v.running ≡ t ∷ []
   pub traps : ended P G t ≡ Some (Err cause)
 
--- The pass runs nothing any more, under the turn of shard k. All else stays but the looks and the shard taken last.
-pub record HasEnded (k : ℕ) (v w : PassRecord) : Type 0 where
-  pub shard : Content
-  pub took : TookShard k shard v w
+-- The pass runs nothing any more. All else stays but the looks and the shard taken last.
+pub record HasEndedOnly (v w : PassRecord) : Type 0 where
   pub running : w.running ≡ []
   pub done : KeepsDone v w
   pub kept : KeepsNamesAndMarks v w
+
+-- The pass runs nothing any more, and took the turn of shard k to end its task.
+pub record HasEnded (k : ℕ) (v w : PassRecord) : Type 0 where
+  pub shard : Content
+  pub took : TookShard k shard v w
+  pub end : HasEndedOnly v w
 
 -- what the answer of an end or of a trap says, where the task belongs to shard k: false is a turn that was taken
 abbrev pub EndedIf : Bool → ℕ → PassRecord → PassRecord → Type 0

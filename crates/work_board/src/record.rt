@@ -5,6 +5,7 @@ ghost use Rattle.ptg_base.specs.Task.{Task};
 ghost use Rattle.dep_shard.specs.Content.{Content};
 ghost use Rattle.flow_meaning.specs.Machine.{SentItem};
 ghost use Rattle.work_board.specs.Word.{Word};
+ghost use Rattle.work_board.specs.Stamps.{StampedTask};
 
 use std::marker::Model;
 
@@ -34,7 +35,7 @@ pub struct PassRecord {
     /// its place.
     pub ghost credit: { ℕ },
     /// The stamps of its claims, each with its task.
-    pub ghost stamps: { List (Task × ℕ) },
+    pub ghost stamps: { List StampedTask },
 }
 
 impl Model for PassRecord {

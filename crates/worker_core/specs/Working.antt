@@ -1,5 +1,6 @@
 -- What a worker has done. Source: this project's own choice.
 use Rattle.std.specs.Prelude.{◌≡◌, ℕ, List, [], ◌++◌, length, map, true, Bool, IsSome}
+use Rattle.std.specs.Map.{keys_of}
 use Rattle.ptg_base.specs.Lists.{IsIn}
 use Rattle.ptg_base.specs.Task.{Task}
 use Rattle.plan_core.specs.declared.plan.Plan.{Plan}
@@ -9,20 +10,13 @@ use Rattle.flow_meaning.specs.Machine.{SentItem}
 use Rattle.flow_meaning.specs.Sound.{IsFinished}
 use Rattle.work_board.specs.declared.record.PassRecord.{PassRecord}
 use Rattle.work_board.specs.Records.{done_by}
-
--- claims, each with its stamp
-abbrev pub Stamped : Type 0
-Stamped = List (Task × ℕ)
-
--- the tasks of claims
-abbrev pub tasks_of : Stamped → List Task
-tasks_of claims = map (λ (c : Task × ℕ). c.0) claims
+use Rattle.work_board.specs.Stamps.{StampedTask}
 
 -- The pass has these claims more, with their stamps, and maybe more sends; its names stay.
-pub record HasClaimedMore (more : Stamped) (v w : PassRecord) : Type 0 where
+pub record HasClaimedMore (more : List StampedTask) (v w : PassRecord) : Type 0 where
   pub more_sends : List SentItem
   pub names : w.names ≡ v.names
-  pub claims : w.claims ≡ v.claims ++ tasks_of more
+  pub claims : w.claims ≡ v.claims ++ keys_of more
   pub stamps : w.stamps ≡ v.stamps ++ more
   pub sends : w.sends ≡ v.sends ++ more_sends
 
@@ -34,10 +28,10 @@ pub record AreFollowed (P : Plan) (G : Data) (lets : Task → Type 0) (tasks : L
 
 -- The pass claimed this many tasks more, followed each, and runs nothing.
 pub record HasWorked (P : Plan) (G : Data) (lets : Task → Type 0) (ran : ℕ) (v w : PassRecord) : Type 0 where
-  pub more : Stamped
+  pub more : List StampedTask
   pub claimed : HasClaimedMore more v w
   pub counted : length more ≡ ran
-  pub followed : AreFollowed P G lets (tasks_of more) w
+  pub followed : AreFollowed P G lets (keys_of more) w
   pub idle : w.running ≡ []
 
 -- The pass ran the task that it had claimed last: it followed it and runs nothing.
@@ -46,17 +40,17 @@ pub record HasRun (P : Plan) (G : Data) (t : Task) (v w : PassRecord) : Type 0 w
   pub finished : IsFinished P G (done_by w) t
 
 -- entries of a log: the stamp before the task
-abbrev pub logged : Stamped → List (ℕ × Task)
-logged claims = map (λ (c : Task × ℕ). (c.1, c.0)) claims
+abbrev pub logged : List StampedTask → List (ℕ × Task)
+logged claims = map (λ (c : StampedTask). (c.1, c.0)) claims
 
 -- The log has gained exactly the new claims of the pass, each with its stamp.
 pub record HasLogged (v w : PassRecord) (old new : List (ℕ × Task)) : Type 0 where
-  pub more : Stamped
+  pub more : List StampedTask
   pub claimed : HasClaimedMore more v w
   pub gained : new ≡ old ++ logged more
 
 -- The pass has new claims, and where the log keeps what is noted, it has gained exactly these, each with its stamp.
 pub record HasGrown (keeps : Bool) (v w : PassRecord) (old new : List (ℕ × Task)) : Type 0 where
-  pub more : Stamped
+  pub more : List StampedTask
   pub claimed : HasClaimedMore more v w
   pub gained : keeps ≡ true → new ≡ old ++ logged more

@@ -1,9 +1,8 @@
 //! The end of a task, and its trap.
 
-ghost use Rattle.std.specs.Prelude.{◌≡◌, [], false, OnOk, OnErr};
-ghost use Rattle.work_board.specs.Records.{IsStill, KeepsDone};
-ghost use Rattle.work_board.specs.Sends.{MayEnd, MayTrap};
-ghost use Rattle.worker_core.specs.Ending.{HasEndedOnly};
+ghost use Rattle.std.specs.Prelude.{◌≡◌, false, OnOk, OnErr};
+ghost use Rattle.work_board.specs.Records.{IsStill};
+ghost use Rattle.work_board.specs.Sends.{MayEnd, MayTrap, HasEndedOnly};
 
 use crate::post::Post;
 use crossbeam_utils::Backoff;

@@ -1,6 +1,6 @@
 //! The next task of a worker.
 
-ghost use Rattle.std.specs.Prelude.{◌≡◌, [], true, false, OnErr, IfOk, MatchOption};
+ghost use Rattle.std.specs.Prelude.{◌≡◌, [], false, OnErr, IfOk, MatchOption};
 ghost use Rattle.ready_deques.specs.Hands.{SameWorker};
 ghost use Rattle.work_board.specs.Records.{IsStill};
 ghost use Rattle.worker_core.specs.Claiming.{HasGot, IsQuietAfter, Searched};

@@ -2,10 +2,9 @@
 
 ghost use Rattle.std.specs.Prelude.{◌≡◌, false, Ok, Err, Some, OnOk, OnErr, IfErr};
 ghost use Rattle.dep_iter.specs.Tasks.{IsTask, locals_of};
-ghost use Rattle.flow_meaning.specs.Backward.{ended};
+ghost use Rattle.flow_meaning.specs.Backward.{ended, MayRun};
 ghost use Rattle.ready_deques.specs.Hands.{SameWorker};
 ghost use Rattle.task_run.specs.Bench.{IsBenchOf};
-ghost use Rattle.task_run.specs.Start.{MayRun};
 ghost use Rattle.work_board.specs.Sends.{MayTrap};
 ghost use Rattle.worker_core.specs.Sending.{HasSentSome, RunsUnsent};
 ghost use Rattle.worker_core.specs.Starting.{HasStarted};

@@ -1,18 +1,18 @@
 use Rattle.std.proofs.Common.{ℕ, ◌≤◌, ◌↔◌, length, List, ◌∷◌, sym, ◌∙◌, subst, IsTrue, arith}
 use Rattle.std.proofs.lemmas.Bool.{false≢true}
 use Rattle.std.proofs.lemmas.List.{take_rest}
+use Rattle.std.specs.Map.{keys_of}
 use Rattle.ptg_base.specs.Task.{Task}
 use Rattle.plan_core.specs.declared.plan.Plan.{Plan}
 use Rattle.cert_check.specs.Checking.{AreInPlace, IsInPlace}
-use Rattle.chain_cert.specs.Checking.{tasks_of}
 use Rattle.cert_check.proofs.Walks.{walk_ends, walk_fails, walk_on}
 use Rattle.cert_check.proofs.levels.are_in_place.Goals as goal
 
 abbrev All : Plan → List (Task × ℕ) → Type 0
-All P rows = AreInPlace P (tasks_of rows)
+All P rows = AreInPlace P (keys_of rows)
 
 abbrev First : Plan → List (Task × ℕ) → Type 0
-First P rows = IsInPlace P (tasks_of rows)
+First P rows = IsInPlace P (keys_of rows)
 
 split : (P : Plan) (row : Task × ℕ) (rows : List (Task × ℕ)) → All P (row ∷ rows) → First P (row ∷ rows) × All P rows
 split P row rows h = (h.0, h.1)

@@ -1,6 +1,6 @@
 use Rattle.std.proofs.Common.{◌<◌, ◌∷◌, [], ap, sym, ◌∙◌, length, length-append, lit<, rules, FitsSigned, w64, arith}
 use Rattle.std.proofs.lemmas.Int.{to_z-of_z}
-use Rattle.dep_iter.proofs.Odometer.{HasOneEach-end, HasOneEach-push, HaveFirst-end, carried, length_each, none_each, stepped}
+use Rattle.dep_iter.proofs.Odometer.{HasOneEach-end, HasOneEach-push, HasFirst-end, carried, length_each, none_each, stepped}
 use Rattle.dep_iter.proofs.combining.+advance.Goals as goal
 
 pub returns-in_default-pop-clause-left : goal.returns-in_default-pop-clause-left
@@ -45,7 +45,7 @@ advance-more-requires t c =
     let l = ap length c.in-Some-pop.ensures ∙ length-append rest (v ∷ []) in
     let m = c.requires.at_most in (
       omega (arith, c.decreases),
-      (omega arith, (HasOneEach-end outer rest s v (rw (c.in-Some.ensures.cases.0, c.in-Some-pop.ensures) at c.requires.each), (HaveFirst-end outer s (rw c.in-Some.ensures.cases.0 at c.requires.first)).0)),
+      (omega arith, (HasOneEach-end outer rest s v (rw (c.in-Some.ensures.cases.0, c.in-Some-pop.ensures) at c.requires.each), (HasFirst-end outer s (rw c.in-Some.ensures.cases.0 at c.requires.first)).0)),
     )
 
 pub push-requires-2 : goal.push-requires-2
@@ -72,7 +72,7 @@ returns-clause-left t c =
     let past = simp to_z-of_z at c.in_default-next_value.ensures in
     let pushed = simp to_z-of_z at c.push-2.ensures in
     let each = HasOneEach-end outer rest s v (rw (c.in-Some.ensures.cases.0, c.in-Some-pop.ensures) at c.requires.each) in
-    let first = (HaveFirst-end outer s (rw c.in-Some.ensures.cases.0 at c.requires.first)).1 in
+    let first = (HasFirst-end outer s (rw c.in-Some.ensures.cases.0 at c.requires.first)).1 in
     rw (c.in-Some.ensures.cases.0, c.in-Some-pop.ensures, pushed)
     (carried s v outer rest c.advance-more.new.at c.advance-more.result each c.advance-more.ensures.each first past c.advance-more.ensures.left)
 

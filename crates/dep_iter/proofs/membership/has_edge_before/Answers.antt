@@ -10,5 +10,5 @@ returns c = λ P t locals near.
     let found = c.any_leads_to.ensures (near_flow d e) in
     let some = c.first_dependences.ensures in
     let all = c.dependences.ensures in
-    let w = rw (c.first_alone.ensures, some, all, c.far_task.ensures, c.far_flow.ensures, locals) at found in
+    let w = rw (c.first_only.ensures, some, all, c.far_task.ensures, c.far_flow.ensures, locals) at found in
     (λ q. is.1 (w.0 q), λ h. w.1 (is.0 h))

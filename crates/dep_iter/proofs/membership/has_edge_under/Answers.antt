@@ -16,5 +16,5 @@ returns c =
     let found = c.any_leads_to.ensures (near_flow d e) in
     let task = c.far_task.ensures in
     let flow = c.far_flow.ensures in
-    let w = rw (c.first_alone.ensures, c.dependences.ensures, task, flow, c.requires.locals) at found in
+    let w = rw (c.first_only.ensures, c.dependences.ensures, task, flow, c.requires.locals) at found in
     (λ q. is.1 (w.0 q), λ h. w.1 (is.0 h))

@@ -1,5 +1,5 @@
 use Rattle.std.proofs.Common.{subst}
-use Rattle.dep_table.specs.Opened.{AreOpeningWords}
+use Rattle.table_rule.specs.Opening.{AreOpeningWords}
 use Rattle.dep_table.proofs.Opened.{opened}
 use Rattle.dep_table.proofs.opening.open_table.Goals as goal
 

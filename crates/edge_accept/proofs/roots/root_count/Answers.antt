@@ -2,7 +2,7 @@ use Rattle.std.proofs.Common.{◌==◌, refl, ap, ◌∙◌, inl, inr, arith}
 use Rattle.list_lemmas.proofs.Joins.{length-filter_le}
 use Rattle.dep_iter.specs.Edges.{goal as goal_of}
 use Rattle.dep_iter.specs.Tasks.{all_tasks}
-use Rattle.edge_accept.proofs.RootCount.{first_root, roots_among}
+use Rattle.edge_accept.proofs.RootCount.{first_root, root_total}
 use Rattle.edge_accept.proofs.roots.root_count.Goals as goal
 
 pub is_root-requires : goal.is_root-requires
@@ -14,8 +14,8 @@ is_root-requires c =
 pub overflow_add-count : goal.overflow_add-count
 overflow_add-count c =
     let P = c.args.plan.now in
-    let all = ap (roots_among P) (c.into_iter-t-iterator.ensures.into_iter_gives ∙ c.all_tasks-t-items.ensures) in
-    let step = ap (roots_among P) c.in-Some.ensures.steps ∙ first_root P c.in-Some.t c.next.new.self c.is_root.result c.is_root.ensures in
+    let all = ap (root_total P) (c.into_iter-t-iterator.ensures.into_iter_gives ∙ c.all_tasks-t-items.ensures) in
+    let step = ap (root_total P) c.in-Some.ensures.steps ∙ first_root P c.in-Some.t c.next.new.self c.is_root.result c.is_root.ensures in
     let one = c.from-count.ensures in
     let so_far = c.loop-t.invariant.roots in
     let at_most = length-filter_le (λ t. goal_of P t == 0) (all_tasks P) in
@@ -25,7 +25,7 @@ overflow_add-count c =
 pub loop-t-preserved : goal.loop-t-preserved
 loop-t-preserved c =
     let P = c.args.plan.now in
-    let step = ap (roots_among P) c.in-Some.ensures.steps ∙ first_root P c.in-Some.t c.next.new.self c.is_root.result c.is_root.ensures in
+    let step = ap (root_total P) c.in-Some.ensures.steps ∙ first_root P c.in-Some.t c.next.new.self c.is_root.result c.is_root.ensures in
     let one = c.from-count.ensures in
     let so_far = c.loop-t.invariant.roots in
     record {

@@ -1,7 +1,7 @@
 use Rattle.std.proofs.Common.{◌≡◌, ◌+◌}
 use Rattle.ptg_base.specs.Lists.{IsIn}
 use Rattle.ptg_base.specs.Task.{Task}
-use Rattle.edge_accept.proofs.RootCount.{roots_among}
+use Rattle.edge_accept.proofs.RootCount.{root_total}
 use Rattle.edge_accept.proofs.roots.root_count.Given as goal
 
 abbrev pub invariant-loop-t : goal.invariant-loop-t
@@ -9,5 +9,5 @@ invariant-loop-t l = record {
   can_next : (goal.iterator-loop-t).can_next l.t-iterator;
   is_finite : (goal.iterator-loop-t).is_finite l.t-iterator;
   among : (x : Task) → IsIn x l.t-iterator → IsIn x l.initial.t-iterator;
-  roots : l.count + roots_among l.plan l.t-iterator ≡ roots_among l.plan l.initial.t-iterator;
+  roots : l.count + root_total l.plan l.t-iterator ≡ root_total l.plan l.initial.t-iterator;
 }

@@ -19,12 +19,12 @@ returns-in_default-held_target m c =
     (takes_none c.args.at.now c.args.k c.in-Some.d.now this c.args.ins.now c.take_from.new.ins (sym c.in_default-held_target.ensures))
     (rw add-one at c.take_from.ensures)
 
-pub returns-then-takes_first : goal.returns-then-takes_first
-returns-then-takes_first m c =
+pub returns-then-is_data : goal.returns-then-is_data
+returns-then-is_data m c =
     let l = rw c.as_slice.ensures at c.in-Some.ensures.lookup in
     let this = slice_get_at c.args.at.now.flow.now.ins c.args.k c.in-Some.d.now l.3.0 l.1 in
     takes_alone c.args.at.now c.args.k c.in-Some.d.now this c.in-Some-held_target.target.now (sym c.in-Some-held_target.ensures) c.args.ins.now
-    c.take_target.new.ins (sym c.takes_first.ensures ∙ c.if-takes_first.true) c.if-not-take_target.ensures
+    c.take_target.new.ins (sym c.is_data.ensures ∙ c.if-is_data.true) c.if-not-take_target.ensures
 
 pub returns : goal.returns
 returns m c =
@@ -32,5 +32,5 @@ returns m c =
     let this = slice_get_at c.args.at.now.flow.now.ins c.args.k c.in-Some.d.now l.3.0 l.1 in
     on_true_weaker c.take_from-2.result
     (takes_more c.args.at.now c.args.k c.in-Some.d.now this c.in-Some-held_target.target.now (sym c.in-Some-held_target.ensures) c.args.ins.now
-    c.take_target.new.ins c.take_from-2.new.ins (sym c.takes_first.ensures ∙ c.if-takes_first.false) c.if-not-take_target.ensures)
+    c.take_target.new.ins c.take_from-2.new.ins (sym c.is_data.ensures ∙ c.if-is_data.false) c.if-not-take_target.ensures)
     (rw add-one at c.take_from-2.ensures)

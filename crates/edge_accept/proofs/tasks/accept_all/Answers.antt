@@ -3,7 +3,7 @@ use Rattle.list_lemmas.proofs.Joins.{length-filter_le}
 use Rattle.dep_iter.specs.Edges.{goal as goal_of}
 use Rattle.dep_iter.specs.Tasks.{all_tasks}
 use Rattle.edge_accept.specs.Tallies.{WentOver}
-use Rattle.edge_accept.proofs.RootCount.{first_root, roots_among}
+use Rattle.edge_accept.proofs.RootCount.{first_root, root_total}
 use Rattle.edge_accept.proofs.Walking.{went_nil, went_then}
 use Rattle.edge_accept.proofs.tasks.accept_all.Goals as goal
 
@@ -16,8 +16,8 @@ accept_next-requires c =
 pub overflow_add-count : goal.overflow_add-count
 overflow_add-count c =
     let P = c.args.plan.now in
-    let all = ap (roots_among P) (c.into_iter-t-iterator.ensures.into_iter_gives ∙ c.all_tasks-t-items.ensures) in
-    let step = ap (roots_among P) c.in-Some.ensures.steps ∙ first_root P c.in-Some.t c.next.new.self c.in_ok-root.root c.in_ok-root.ensures.root in
+    let all = ap (root_total P) (c.into_iter-t-iterator.ensures.into_iter_gives ∙ c.all_tasks-t-items.ensures) in
+    let step = ap (root_total P) c.in-Some.ensures.steps ∙ first_root P c.in-Some.t c.next.new.self c.in_ok-root.root c.in_ok-root.ensures.root in
     let one = c.from-count.ensures in
     let so_far = c.loop-t.invariant.roots in
     let at_most = length-filter_le (λ t. goal_of P t == 0) (all_tasks P) in
@@ -28,7 +28,7 @@ pub loop-t-preserved : goal.loop-t-preserved
 loop-t-preserved c =
     let P = c.args.plan.now in
     let s = c.loop-t.tally in
-    let step = ap (roots_among P) c.in-Some.ensures.steps ∙ first_root P c.in-Some.t c.next.new.self c.in_ok-root.root c.in_ok-root.ensures.root in
+    let step = ap (root_total P) c.in-Some.ensures.steps ∙ first_root P c.in-Some.t c.next.new.self c.in_ok-root.root c.in_ok-root.ensures.root in
     let one = c.from-count.ensures in
     let so_far = c.loop-t.invariant.roots in
     record {

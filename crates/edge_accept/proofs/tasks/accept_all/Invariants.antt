@@ -3,7 +3,7 @@ use Rattle.ptg_base.specs.Lists.{IsIn}
 use Rattle.ptg_base.specs.Task.{Task}
 use Rattle.edge_accept.specs.declared.tally.Tally.{Tally}
 use Rattle.edge_accept.specs.Tallies.{WentOver}
-use Rattle.edge_accept.proofs.RootCount.{roots_among}
+use Rattle.edge_accept.proofs.RootCount.{root_total}
 use Rattle.edge_accept.proofs.tasks.accept_all.Given as goal
 
 abbrev pub invariant-loop-t : goal.invariant-loop-t
@@ -12,5 +12,5 @@ invariant-loop-t l = record {
   is_finite : (goal.iterator-loop-t).is_finite l.t-iterator;
   among : (x : Task) → IsIn x l.t-iterator → IsIn x l.initial.t-iterator;
   then : (u : Tally) → WentOver l.plan l.tally u l.t-iterator → WentOver l.plan l.initial.tally u l.initial.t-iterator;
-  roots : l.count + roots_among l.plan l.t-iterator ≡ roots_among l.plan l.initial.t-iterator;
+  roots : l.count + root_total l.plan l.t-iterator ≡ root_total l.plan l.initial.t-iterator;
 }

@@ -21,5 +21,5 @@ returns m c =
     let l = rw c.dependences.ensures at c.in-Some.ensures.lookup in
     let this = slice_get_at _ c.args.k c.in-Some.d.now l.3.0 l.1 in
     let holds = sym c.in-Some-held_target.ensures in
-    let any = sym c.first_alone.ensures ∙ c.if-first_alone.false in
+    let any = sym c.first_only.ensures ∙ c.if-first_only.false in
     pass_at c.args.at.now c.args.way c.args.k c.in-Some.d.now this _ holds any c.in_ok-check_target.ensures (rw add-one at c.check_dependences-2.ensures)

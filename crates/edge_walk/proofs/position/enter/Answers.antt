@@ -3,7 +3,7 @@ use Rattle.dep_iter.proofs.Directed.{fit_of}
 use Rattle.edge_walk.proofs.position.enter.Goals as goal
 
 pub returns-clause-targets : goal.returns-clause-targets
-returns-clause-targets c = λ env. rw (c.first_alone.ensures, c.dependences-deps.ensures) refl
+returns-clause-targets c = λ env. rw (c.first_only.ensures, c.dependences-deps.ensures) refl
 
 pub returns-clause-fits : goal.returns-clause-fits
 returns-clause-fits c = λ P h. rw c.dependences-deps.ensures (fit_of P c.args.way c.args.flow.now h)

@@ -3,8 +3,8 @@ use Rattle.std.specs.Prelude.{option_map}
 use Rattle.ptg_base.specs.declared.edge.Edge.{Edge}
 use Rattle.ptg_base.specs.declared.edge.Item.{Item}
 use Rattle.ptg_base.specs.declared.edge.Item.TheVariants as item
-use Rattle.flow_meaning.specs.Starting.{starting_tile, tile_from, tiles_from}
-use Rattle.flow_core.specs.Inputs.{edge_into, edge_of_source, edges_from, nothing_delivered}
+use Rattle.flow_meaning.specs.Starting.{starting_tile, tile_from, tiles_from, nothing_delivered}
+use Rattle.flow_core.specs.Inputs.{edge_into, edge_of_source, edges_from}
 use Rattle.std.proofs.lemmas.Result.{on_ok_weaker}
 use Rattle.flow_core.proofs.Taking.{edge_of_its_source, tile_of_source}
 use Rattle.flow_core.proofs.inputs.+push_inputs.Goals as goal

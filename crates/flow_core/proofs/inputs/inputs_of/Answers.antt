@@ -1,6 +1,6 @@
 use Rattle.std.proofs.Common.{◌≡◌, ◌≤◌, ◌++◌, length, sym, subst, ap, ◌∙◌, true, arith}
-use Rattle.flow_meaning.specs.Starting.{starting_tiles, tiles_from}
-use Rattle.flow_core.specs.Inputs.{edges_from, have_datatypes, nothing_delivered}
+use Rattle.flow_meaning.specs.Starting.{starting_tiles, tiles_from, nothing_delivered}
+use Rattle.flow_core.specs.Inputs.{edges_from, have_datatypes}
 use Rattle.flow_core.proofs.Starting.{datatypes_known}
 use Rattle.flow_core.proofs.Taking.{length-edges_from}
 use Rattle.flow_core.proofs.inputs.inputs_of.Goals as goal

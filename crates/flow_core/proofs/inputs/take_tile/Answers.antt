@@ -2,9 +2,9 @@ use Rattle.std.proofs.Common.{◌≡◌, suc, ap, sym, ◌∙◌, None, slice_se
 use Rattle.ptg_base.specs.declared.edge.Edge.{Edge}
 use Rattle.ptg_base.specs.declared.edge.Item.TheVariants as item
 use Rattle.dep_iter.proofs.Items.{Edge-injective}
-use Rattle.flow_meaning.specs.Machine.{first_tile}
-use Rattle.flow_meaning.specs.Starting.{starting_tile, tiles_from}
-use Rattle.flow_core.specs.Inputs.{delivered_by, edge_into, nothing_delivered}
+use Rattle.flow_meaning.specs.Machine.{first_tile, sent_tile}
+use Rattle.flow_meaning.specs.Starting.{starting_tile, tiles_from, nothing_delivered}
+use Rattle.flow_core.specs.Inputs.{edge_into}
 use Rattle.flow_core.proofs.Kept.{other_tile as other_item, takes_none, takes_one}
 use Rattle.flow_core.proofs.Taking.{an_item, edge_goes, edge_tile, no_item, one_done, other_tile, set_at}
 use Rattle.flow_core.proofs.inputs.take_tile.Goals as goal
@@ -13,8 +13,8 @@ pub returns-in-None-clause-tiles : goal.returns-in-None-clause-tiles
 returns-in-None-clause-tiles c = λ P G t before f rest is len old.
     let n = c.args.number in
     let none : edge_into P t n f ≡ None = no_item (edge_into P t n f) (sym is ∙ c.in-None.is) in
-    one_done P G (delivered_by c.args.sent.now.edges) t n f rest before c.args.tiles.now.items (starting_tile P G nothing_delivered t n f)
-    (other_tile P G nothing_delivered (delivered_by c.args.sent.now.edges) t n f none) old
+    one_done P G (sent_tile c.args.sent.now.edges) t n f rest before c.args.tiles.now.items (starting_tile P G nothing_delivered t n f)
+    (other_tile P G nothing_delivered (sent_tile c.args.sent.now.edges) t n f none) old
 
 pub returns-in-None-clause-kept : goal.returns-in-None-clause-kept
 returns-in-None-clause-kept c = λ P t f is. takes_none t c.args.sent.now.edges
@@ -23,7 +23,7 @@ pub returns-clause-tiles : goal.returns-clause-tiles
 returns-clause-tiles c = λ P G t before f rest is len old.
     let n = c.args.number in
     let found = an_item (edge_into P t n f) c.in-Some.edge (sym is ∙ c.in-Some.is) in
-    let d = delivered_by c.args.sent.now.edges in
+    let d = sent_tile c.args.sent.now.edges in
     one_done P G d t n f rest before c.set_tile.new.tiles.items c.take.result
     (c.take.ensures.tile ∙ ap (λ i. first_tile i c.args.sent.now.edges) (sym found.2) ∙ sym (edge_tile P G d t n f found.0 found.1))
     (c.set_tile.ensures ∙ ap (λ l. slice_set l n c.take.result) old ∙ set_at before (tiles_from P G nothing_delivered t (suc n) rest) (starting_tile P G nothing_delivered t n f) c.take.result n len)

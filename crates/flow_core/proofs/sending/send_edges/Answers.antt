@@ -4,7 +4,7 @@ use Rattle.ptg_base.specs.declared.edge.Item.TheVariants as item
 use Rattle.plan_core.specs.declared.plan.Plan.{Plan}
 use Rattle.dep_iter.specs.Items.{out_edges}
 use Rattle.flow_core.specs.OneThread.{HasDone}
-use Rattle.flow_core.proofs.OneThread.{IsSoFar, all_done, edge_due, nothing_yet, one_more}
+use Rattle.flow_core.proofs.OneThread.{IsSoFar, all_done, edge_output, nothing_yet, one_more}
 use Rattle.flow_core.proofs.sending.send_edges.Goals as goal
 
 pub loop-edge-init : goal.loop-edge-init
@@ -12,7 +12,7 @@ loop-edge-init c = record { can_next = tt; is_finite = tt; so_far = nothing_yet 
 
 pub send_edge-requires : goal.send_edge-requires
 send_edge-requires c = record {
-  due = edge_due c.args.m.now c.args.t.now c.args.runner.now.run c.loop-edge.runner.run c.requires.outputs c.into_iter-edge-iterator.result c.next.new.self c.in-Some.edge
+  output = edge_output c.args.m.now c.args.t.now c.args.runner.now.run c.loop-edge.runner.run c.requires.outputs c.into_iter-edge-iterator.result c.next.new.self c.in-Some.edge
       (c.into_iter-edge-iterator.ensures.into_iter_gives ∙ c.out_edges_under-edge-items.ensures ∙ ap (λ (p : Plan). out_edges p c.args.t.now) c.plan.ensures.same)
       (subst (λ l. IsSoFar c.args.m.now [] [] (map (λ (x : Edge). item.Edge x) c.into_iter-edge-iterator.result) (map (λ (x : Edge). item.Edge x) l) c.args.runner.now.run c.loop-edge.runner.run) c.in-Some.ensures.steps c.loop-edge.invariant.so_far);
   fits = (c.requires.fits.0, c.loop-edge.invariant.so_far.done.fits c.requires.fits.0 c.requires.fits.1);

@@ -4,7 +4,7 @@ use Rattle.ptg_base.specs.declared.edge.Item.TheVariants as item
 use Rattle.plan_core.specs.declared.plan.Plan.{Plan}
 use Rattle.dep_iter.specs.Items.{write_backs}
 use Rattle.flow_core.specs.OneThread.{HasDone}
-use Rattle.flow_core.proofs.OneThread.{IsSoFar, all_done, write_due, nothing_yet, one_more}
+use Rattle.flow_core.proofs.OneThread.{IsSoFar, all_done, write_output, nothing_yet, one_more}
 use Rattle.flow_core.proofs.sending.send_writes.Goals as goal
 
 pub loop-write-init : goal.loop-write-init
@@ -12,7 +12,7 @@ loop-write-init c = record { can_next = tt; is_finite = tt; so_far = nothing_yet
 
 pub send_write-requires : goal.send_write-requires
 send_write-requires c = record {
-  due = write_due c.args.m.now c.args.t.now c.args.runner.now.run c.loop-write.runner.run c.requires.outputs c.into_iter-write-iterator.result c.next.new.self c.in-Some.write
+  output = write_output c.args.m.now c.args.t.now c.args.runner.now.run c.loop-write.runner.run c.requires.outputs c.into_iter-write-iterator.result c.next.new.self c.in-Some.write
       (c.into_iter-write-iterator.ensures.into_iter_gives ∙ c.write_backs_under-write-items.ensures ∙ ap (λ (p : Plan). write_backs p c.args.t.now) c.plan.ensures.same)
       (subst (λ l. IsSoFar c.args.m.now [] [] (map (λ (x : WriteBack). item.Write x) c.into_iter-write-iterator.result) (map (λ (x : WriteBack). item.Write x) l) c.args.runner.now.run c.loop-write.runner.run) c.in-Some.ensures.steps c.loop-write.invariant.so_far);
   fits = (c.requires.fits.0, c.loop-write.invariant.so_far.done.fits c.requires.fits.0 c.requires.fits.1);

@@ -1,6 +1,7 @@
-use Rattle.std.proofs.Common.{◌≡◌, false, drop}
-use Rattle.jdf_lex.specs.Reading.{closed_len, add_length}
+use Rattle.std.proofs.Common.{◌≡◌, false, drop, ◌+◌}
+use Rattle.std.specs.Option.{option_map}
+use Rattle.jdf_lex.specs.Reading.{closed_len}
 use Rattle.jdf_lex.proofs.front.closed_len.Given as goal
 
 abbrev pub invariant-loop-i : goal.invariant-loop-i
-invariant-loop-i l = closed_len l.unit false l.rest ≡ add_length l.i (closed_len l.unit l.affected (drop l.i l.rest))
+invariant-loop-i l = closed_len l.unit false l.rest ≡ option_map (λ len. l.i + len) (closed_len l.unit l.affected (drop l.i l.rest))

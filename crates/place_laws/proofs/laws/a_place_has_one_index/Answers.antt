@@ -1,9 +1,10 @@
-use Rattle.place_laws.proofs.Indexes.{found_from, has_index, one_place}
+use Rattle.coll_data.proofs.OneIndex.{one_index}
+use Rattle.place_laws.proofs.Indexes.{found_from, has_index}
 use Rattle.place_laws.proofs.laws.a_place_has_one_index.Goals as goal
 
 pub returns : goal.returns
 returns c = record {
   index = has_index;
   place = λ rows cols i j n e. let f = found_from rows cols i j n e in (f.is_row, f.is_column);
-  one = one_place;
+  one = one_index;
 }

@@ -4,11 +4,11 @@ use Rattle.flow_meaning.proofs.Events.{it_ends}
 use Rattle.shard_meaning.proofs.Holding.{claim_inputs}
 use Rattle.rank_core.proofs.Running.{fed}
 use Rattle.rank_core.specs.World.{rank_of}
-use Rattle.task_run.specs.Start.{MayRun}
 use Rattle.rank_world.specs.Keeping.{at_rest}
 use Rattle.rank_world.specs.RunningTasks.{before, data_of, plan_of}
 use Rattle.rank_world.proofs.Parts.{claim_holds}
 use Rattle.rank_world.proofs.running.begin.Goals as goal
+use Rattle.flow_meaning.specs.Backward.{MayRun}
 
 pub run-requires-clause-inputs : goal.run-requires-clause-inputs
 run-requires-clause-inputs c =

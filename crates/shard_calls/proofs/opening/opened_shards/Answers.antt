@@ -1,10 +1,12 @@
 use Rattle.std.proofs.Common.{◌∙◌, List, ap, sym, subst, length, arith}
 use Rattle.ptg_base.specs.Task.{Task}
 use Rattle.shard_meaning.specs.Placing.{shard_of}
-use Rattle.shard_calls.specs.Opened.{AreOpened, roots_among}
+use Rattle.dep_iter.specs.Consistent.{roots_among}
+use Rattle.shard_calls.specs.Opened.{AreOpened}
 use Rattle.shard_calls.proofs.Opened.{no_root, one_root, opened_more, opening_shards}
 use Rattle.shard_calls.proofs.TaskWalks.{IsSoFar, next_task}
 use Rattle.shard_calls.proofs.opening.opened_shards.Goals as goal
+use Rattle.dep_iter.specs.Consistent.{roots_among}
 
 pub returns-then-left-eq0 : goal.returns-then-left-eq0
 returns-then-left-eq0 c =

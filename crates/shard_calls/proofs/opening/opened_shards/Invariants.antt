@@ -1,8 +1,10 @@
 use Rattle.std.proofs.Common.{◌≡◌, length}
 use Rattle.shard_meaning.specs.Placing.{shard_of}
-use Rattle.shard_calls.specs.Opened.{AreOpened, roots_among}
+use Rattle.dep_iter.specs.Consistent.{roots_among}
+use Rattle.shard_calls.specs.Opened.{AreOpened}
 use Rattle.shard_calls.proofs.TaskWalks.{IsSoFar}
 use Rattle.shard_calls.proofs.opening.opened_shards.Given as goal
+use Rattle.dep_iter.specs.Consistent.{roots_among}
 
 abbrev pub invariant-loop-t : goal.invariant-loop-t
 invariant-loop-t l = record {

@@ -1,15 +1,16 @@
-use Rattle.std.proofs.Common.{◌≡◌, length, map, ap, sym, ◌∙◌, true}
-use Rattle.range_space.specs.Tasks.{or_empty}
+use Rattle.std.proofs.Common.{[], ◌≡◌, length, map, ap, sym, ◌∙◌, true}
+use Rattle.std.specs.List.{AllByRecursion}
+use Rattle.std.specs.Result.{result_unwrap_or}
 use Rattle.dep_iter.specs.Arguments.{arg_values, product}
-use Rattle.dep_iter.specs.Combining.{steps_values, HaveFirst, combinations_left, first_values}
+use Rattle.dep_iter.specs.Combining.{steps_values, HasFirst, combinations_left, first_values}
 use Rattle.dep_iter.proofs.Odometer.{all_added, length_each, product-first, HasOneEach-first}
 use Rattle.dep_iter.proofs.combining.Combinations.restart.Goals as goal
 use Rattle.dep_iter.proofs.combining.Combinations.restart.Goals.{After-push_first}
 
-added : (c : After-push_first) → (map steps_values c.push_spans-self-inside.new.spans.items ≡ map (λ a. or_empty (arg_values a c.args.env.now)) c.args.args.now) × HaveFirst c.push_spans-self-inside.new.spans.items
+added : (c : After-push_first) → (map steps_values c.push_spans-self-inside.new.spans.items ≡ map (λ a. result_unwrap_or (arg_values a c.args.env.now) []) c.args.args.now) × AllByRecursion HasFirst c.push_spans-self-inside.new.spans.items
 added c =
     let found = rw (c.if-self.true, c.clear.ensures) at c.push_spans-self-inside.ensures.found in
-    all_added (map (λ a. or_empty (arg_values a c.args.env.now)) c.args.args.now) c.push_spans-self-inside.new.spans.items found
+    all_added (map (λ a. result_unwrap_or (arg_values a c.args.env.now) []) c.args.args.now) c.push_spans-self-inside.new.spans.items found
 
 values : (c : After-push_first) → c.push_first.new.values ≡ first_values c.push_spans-self-inside.new.spans.items
 values c = rw (c.clear-2.ensures, c.as_slice.ensures.value) at c.push_first.ensures

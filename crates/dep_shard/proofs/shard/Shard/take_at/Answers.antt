@@ -26,10 +26,12 @@ returns-clause-some c t k =
     let here = one_row es c.args.index _ _ _ _ at (view ∙ k.at) in
     let up : Updates es c.swap_remove_index.new.self.entries t None = subst (λ (u : Task). Updates es c.swap_remove_index.new.self.entries u None) here.0 c.in_ok-_task.ensures.updates in
     record {
-      entry = k.entry;
-      is = k.is;
-      ready = subst IsReady ((one_row es c.args.index _ _ _ _ (view ∙ c.requires.ready.at) (view ∙ k.at)).1) c.requires.ready.ready;
-      handed = c.arrivals_of.ensures.tiles ∙ ap (λ (e : Entry). e.tiles) here.1;
+      had = record {
+        entry = k.entry;
+        is = k.is;
+        ready = subst IsReady ((one_row es c.args.index _ _ _ _ (view ∙ c.requires.ready.at) (view ∙ k.at)).1) c.requires.ready.ready;
+        handed = c.arrivals_of.ensures.tiles ∙ ap (λ (e : Entry). e.tiles) here.1;
+      };
       entries = subst (λ (fs : Entries). Updates fs c.swap_remove_index.new.self.entries t None) same up;
       running = search rules;
       ended = search rules;

@@ -1,16 +1,16 @@
 use Rattle.std.proofs.Common.{◌≡◌, [], length, refl, ap, sym, subst, ◌∙◌, None, Some, arith}
 use Rattle.std.specs.Map.{lookup, set_value}
+use Rattle.std.specs.Result.{result_err}
 use Rattle.ptg_base.specs.TaskComparing.{same_task}
 use Rattle.ptg_base.specs.declared.edge.Edge.{Edge}
 use Rattle.ptg_base.specs.declared.edge.Item.TheVariants as item
 use Rattle.dep_iter.specs.Tasks.{IsTask, flows_of}
 use Rattle.flow_meaning.specs.Backward.{ended}
-use Rattle.flow_meaning.specs.Machine.{first_tile}
-use Rattle.flow_meaning.specs.Starting.{starting_tiles}
+use Rattle.flow_meaning.specs.Machine.{first_tile, sent_tile}
+use Rattle.flow_meaning.specs.Starting.{starting_tiles, nothing_delivered}
 use Rattle.flow_meaning.proofs.Starting.{length-starting_tiles}
 use Rattle.flow_core.specs.Arrivals.{edges_to}
-use Rattle.flow_core.specs.Fits.{Fits, trap_of}
-use Rattle.flow_core.specs.Inputs.{delivered_by, nothing_delivered}
+use Rattle.flow_core.specs.Fits.{Fits}
 use Rattle.flow_core.specs.Kept.{AreKept}
 use Rattle.flow_core.specs.RunState.{RunState, mark_of, with_tiles}
 use Rattle.flow_core.proofs.Fitting.{counts_end, end_fits, ended_run, running_end, running_task}
@@ -77,14 +77,14 @@ returns-clause-ok c =
     let con = c.plan-plan.ensures.consistent in
     let running : lookup (same_task t) claims ≡ Some None = ap (λ (s : RunState). mark_of s t) c.self.view_is ∙ c.requires.running in
     let edges = c.as_slice.ensures.value ∙ c.in_ok-found.ensures.edges in
-    let tiles : c.take_tiles.new.tiles.items ≡ starting_tiles P G (delivered_by sent.edges) t = c.take_tiles.ensures.tiles P G t [] (flows_of P t) edges refl c.in_ok-found.ensures.tiles in
+    let tiles : c.take_tiles.new.tiles.items ≡ starting_tiles P G (sent_tile sent.edges) t = c.take_tiles.ensures.tiles P G t [] (flows_of P t) edges refl c.in_ok-found.ensures.tiles in
     let same = λ (e : Edge) (to : e.to ≡ t). kept_tile claims sent c.self.invariant.tiles e (unread claims t e running to) ∙ ap (λ (s : RunState). first_tile (item.Edge e) s.sends) c.self.view_is in
-    let end = ran c.args.m.now P G r (delivered_by sent.edges) t c.take_tiles.new.tiles.items c.run_task-ran.result.end c.plan-plan.ensures.same same tiles c.run_task-ran.ensures in
+    let end = ran c.args.m.now P G r (sent_tile sent.edges) t c.take_tiles.new.tiles.items c.run_task-ran.result.end c.plan-plan.ensures.same same tiles c.run_task-ran.ensures in
     let meant : ended c.args.m.now G t ≡ Some c.run_task-ran.result.end = running_end c.args.m.now G con r c.requires.fits t c.requires.running ∙ end in
     let marks : c.mark.new.claims.entries ≡ set_value (same_task t) claims (Some c.run_task-ran.result.end) = c.mark.ensures ∙ ap (λ e. set_value (same_task t) claims (Some e)) c.of-end.ensures in
     let left : c.keep_tiles.new.table.entries ≡ with_tiles t c.run_task-ran.result.end c.self.inside.outputs.entries = c.keep_tiles.ensures ∙ ap (with_tiles t c.run_task-ran.result.end) c.in_ok-reserve.ensures.entries in
     let marked = ended_run claims c.mark.new.claims.entries sent.sends c.take_tiles.new.sent.sends c.self.inside.outputs.entries c.keep_tiles.new.table.entries r t c.run_task-ran.result.end c.self.view_is marks c.take_tiles.ensures.sends left in
-    record { end = c.run_task-ran.result.end; end_is = meant; marked = marked; trapped = c.trap-trap.ensures ∙ ap trap_of c.of-end.ensures }
+    record { end = c.run_task-ran.result.end; end_is = meant; marked = marked; trapped = c.trap-trap.ensures ∙ ap result_err c.of-end.ensures }
 
 pub returns-clause-fits : goal.returns-clause-fits
 unfolding starting_tiles
@@ -98,9 +98,9 @@ returns-clause-fits c =
     let con = c.plan-plan.ensures.consistent in
     let running : lookup (same_task t) claims ≡ Some None = ap (λ (s : RunState). mark_of s t) c.self.view_is ∙ c.requires.running in
     let edges = c.as_slice.ensures.value ∙ c.in_ok-found.ensures.edges in
-    let tiles : c.take_tiles.new.tiles.items ≡ starting_tiles P G (delivered_by sent.edges) t = c.take_tiles.ensures.tiles P G t [] (flows_of P t) edges refl c.in_ok-found.ensures.tiles in
+    let tiles : c.take_tiles.new.tiles.items ≡ starting_tiles P G (sent_tile sent.edges) t = c.take_tiles.ensures.tiles P G t [] (flows_of P t) edges refl c.in_ok-found.ensures.tiles in
     let same = λ (e : Edge) (to : e.to ≡ t). kept_tile claims sent c.self.invariant.tiles e (unread claims t e running to) ∙ ap (λ (s : RunState). first_tile (item.Edge e) s.sends) c.self.view_is in
-    let end = ran c.args.m.now P G r (delivered_by sent.edges) t c.take_tiles.new.tiles.items c.run_task-ran.result.end c.plan-plan.ensures.same same tiles c.run_task-ran.ensures in
+    let end = ran c.args.m.now P G r (sent_tile sent.edges) t c.take_tiles.new.tiles.items c.run_task-ran.result.end c.plan-plan.ensures.same same tiles c.run_task-ran.ensures in
     let meant : ended c.args.m.now G t ≡ Some c.run_task-ran.result.end = running_end c.args.m.now G con r c.requires.fits t c.requires.running ∙ end in
     let marks : c.mark.new.claims.entries ≡ set_value (same_task t) claims (Some c.run_task-ran.result.end) = c.mark.ensures ∙ ap (λ e. set_value (same_task t) claims (Some e)) c.of-end.ensures in
     let left : c.keep_tiles.new.table.entries ≡ with_tiles t c.run_task-ran.result.end c.self.inside.outputs.entries = c.keep_tiles.ensures ∙ ap (with_tiles t c.run_task-ran.result.end) c.in_ok-reserve.ensures.entries in

@@ -9,7 +9,7 @@ use Rattle.flow_core.proofs.state.State.is_unsent.Goals as goal
 
 pub returns-then-goes_to_claimed : goal.returns-then-goes_to_claimed
 returns-then-goes_to_claimed c =
-    (λ k. absurd (false≢true k), λ un. absurd (claimed_sent c.args.m.now c.requires.fits.0 c.plan_is_consistent.ensures c.args.self.now c.requires.fits.1 c.args.item.now c.requires.due (sym c.if-goes_to_claimed.ensures) un))
+    (λ k. absurd (false≢true k), λ un. absurd (claimed_sent c.args.m.now c.requires.fits.0 c.plan_is_consistent.ensures c.args.self.now c.requires.fits.1 c.args.item.now c.requires.output (sym c.if-goes_to_claimed.ensures) un))
 
 pub returns : goal.returns
 returns c =

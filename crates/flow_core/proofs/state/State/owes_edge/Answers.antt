@@ -8,7 +8,7 @@ use Rattle.dep_iter.specs.Items.{items, out_edges}
 use Rattle.flow_core.specs.Quiet.{HasOne}
 use Rattle.flow_core.specs.SentItems.{IsUnsent}
 use Rattle.dep_iter.proofs.Items.{edge_item}
-use Rattle.flow_core.proofs.OneThread.{due}
+use Rattle.flow_core.proofs.OneThread.{output}
 use Rattle.flow_core.proofs.Quiet.{IsSearched, search_begins, search_ends, search_finds, search_goes_on}
 use Rattle.flow_core.proofs.state.State.owes_edge.Goals as goal
 
@@ -32,7 +32,7 @@ is_unsent-requires c =
     let s = subst (IsSearched (λ (x : Edge). IsUnsent c.args.self.now.sends (item.Edge x)) c.into_iter-edge-iterator.result) c.in-Some.ensures.steps c.loop-edge.invariant.searched in
     let q = c.into_iter-edge-iterator.ensures.into_iter_gives ∙ c.out_edges-edge-items.ensures ∙ ap (λ (p : Plan). out_edges p t) c.plan.ensures.same in
     let mine = edge_item (items P t) c.in-Some.edge (subst (IsIn c.in-Some.edge) q (s.among c.in-Some.edge (inl refl))) in
-    record { fits = c.requires.fits; due = due P t c.args.self.now c.args.self.now c.requires.outputs (item.Edge c.in-Some.edge) mine (λ u. refl) }
+    record { fits = c.requires.fits; output = output P t c.args.self.now c.args.self.now c.requires.outputs (item.Edge c.in-Some.edge) mine (λ u. refl) }
 
 pub returns-then-is_unsent : goal.returns-then-is_unsent
 returns-then-is_unsent c =

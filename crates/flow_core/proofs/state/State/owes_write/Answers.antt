@@ -8,7 +8,7 @@ use Rattle.dep_iter.specs.Items.{items, write_backs}
 use Rattle.flow_core.specs.Quiet.{HasOne}
 use Rattle.flow_core.specs.SentItems.{IsUnsent}
 use Rattle.dep_iter.proofs.Items.{write_item}
-use Rattle.flow_core.proofs.OneThread.{due}
+use Rattle.flow_core.proofs.OneThread.{output}
 use Rattle.flow_core.proofs.Quiet.{IsSearched, search_begins, search_ends, search_finds, search_goes_on}
 use Rattle.flow_core.proofs.state.State.owes_write.Goals as goal
 
@@ -32,7 +32,7 @@ is_unsent-requires c =
     let s = subst (IsSearched (λ (x : WriteBack). IsUnsent c.args.self.now.sends (item.Write x)) c.into_iter-write-iterator.result) c.in-Some.ensures.steps c.loop-write.invariant.searched in
     let q = c.into_iter-write-iterator.ensures.into_iter_gives ∙ c.write_backs-write-items.ensures ∙ ap (λ (p : Plan). write_backs p t) c.plan.ensures.same in
     let mine = write_item (items P t) c.in-Some.write (subst (IsIn c.in-Some.write) q (s.among c.in-Some.write (inl refl))) in
-    record { fits = c.requires.fits; due = due P t c.args.self.now c.args.self.now c.requires.outputs (item.Write c.in-Some.write) mine (λ u. refl) }
+    record { fits = c.requires.fits; output = output P t c.args.self.now c.args.self.now c.requires.outputs (item.Write c.in-Some.write) mine (λ u. refl) }
 
 pub returns-then-is_unsent : goal.returns-then-is_unsent
 returns-then-is_unsent c =

@@ -1,6 +1,6 @@
 use Rattle.std.proofs.Common.{◌+◌, ap, refl, arith}
 use Rattle.edge_accept.proofs.SentItems.{sent_edges}
-use Rattle.edge_accept.proofs.tally.Outs.add_edges.Goals as goal
+use Rattle.edge_accept.proofs.outs.Outs.add_edges.Goals as goal
 
 pub returns : goal.returns
 returns c = λ colls es k.

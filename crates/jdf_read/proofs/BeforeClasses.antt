@@ -19,20 +19,20 @@ use Rattle.jdf_tree.specs.declared.expression.Word.{Word}
 use Rattle.jdf_tree.specs.declared.part.Part.TheVariants.{Class}
 use Rattle.jdf_tree.specs.declared.tree.ClassTree.{ClassTree}
 use Rattle.jdf_tree.specs.declared.tree.Jdf.{Jdf}
-use Rattle.jdf_tree.specs.Nonterminal.{an_opening}
+use Rattle.jdf_tree.specs.Nonterminal.{a_file}
 use Rattle.jdf_tree.specs.GrammarParts.{any, name, word_of}
 use Rattle.jdf_tree.specs.ClassGrammar.{properties, head, class, is_no_right_bracket}
-use Rattle.jdf_tree.specs.Grammar.{productions, skip, class_and_skips, classes, without_globals, with_global, opening_after_extern, opening_after_option, opening_after_properties, opening_after_global, opening}
+use Rattle.jdf_tree.specs.Grammar.{productions, skip, class_and_skips, classes, without_globals, with_global, file_after_extern, file_after_option, file_after_properties, file_after_global, file}
 use Rattle.jdf_read.specs.Next.{past, is_class, is_skip, leading}
 use Rattle.jdf_read.proofs.Parts.{with_rest}
 
--- what is read of an opening
+-- what is read of a file
 unfoldable pub opened : List Token → Read Jdf
-opened s = nonterminal_at productions an_opening s
+opened s = nonterminal_at productions a_file s
 
-pub opened_is : (s : List Token) → opened s ≡ reading productions opening s
+pub opened_is : (s : List Token) → opened s ≡ reading productions file s
 unfolding opened productions
-opened_is s = nonterminal_is productions an_opening s
+opened_is s = nonterminal_is productions a_file s
 
 -- a text with one more global before it, or none
 abbrev pub led : Option Word → Jdf → Jdf
@@ -120,7 +120,7 @@ properties_same w (Ok b) tokens right later = after_left (tokens b.1)
 
 -- ---- by the terminal of the first token
 
--- the three first terminals of an opening: `extern`, an option and a name
+-- the three first terminals of a file: `extern`, an option and a name
 pub record TerminalIs (k : Terminal) (extern option is_named : Bool) : Type 0 where
   pub extern_is : is terminal.Extern k ≡ extern
   pub option_is : is terminal.OptionLine k ≡ option
@@ -150,7 +150,7 @@ led_by r = r >>= λ a. opened a.1 >>= applied (led a.0)
 abbrev classes_alone : List Token → Read Jdf
 classes_alone s = reading productions classes s >>= applied without_globals
 
--- the choices of an opening, by the terminal of its first token and the terminals of the second
+-- the choices of a file, by the terminal of its first token and the terminals of the second
 abbrev chosen : Bool → Bool → Bool → Bool → Bool → Read Jdf → Read Jdf → Read Jdf → Read Jdf → Read Jdf → Read Jdf
 chosen extern option is_named paren bracket e o c p g = cond extern e (cond option o (cond (cond (is_named || is_named) (is_named && paren) is_named) c (cond (cond is_named (is_named && bracket) is_named) p g)))
 
@@ -160,31 +160,31 @@ paren_next s = starts (is terminal.LeftParen) s
 abbrev bracket_next : List Token → Bool
 bracket_next s = starts (is terminal.LeftBracket) s
 
-opening_shape : (x : Token) (s : List Token) → reading productions opening (x ∷ s)
+file_shape : (x : Token) (s : List Token) → reading productions file (x ∷ s)
     ≡ chosen (is terminal.Extern (terminal_of x)) (is terminal.OptionLine (terminal_of x)) (is_name (terminal_of x)) (paren_next s) (bracket_next s)
-    (reading productions opening_after_extern (x ∷ s)) (reading productions opening_after_option (x ∷ s)) (classes_alone (x ∷ s)) (reading productions opening_after_properties (x ∷ s)) (reading productions opening_after_global (x ∷ s))
-unfolding opening opening_after_extern opening_after_option opening_after_properties opening_after_global classes class_and_skips class head
-opening_shape x s = refl
+    (reading productions file_after_extern (x ∷ s)) (reading productions file_after_option (x ∷ s)) (classes_alone (x ∷ s)) (reading productions file_after_properties (x ∷ s)) (reading productions file_after_global (x ∷ s))
+unfolding file file_after_extern file_after_option file_after_properties file_after_global classes class_and_skips class head
+file_shape x s = refl
 
-extern_led : (x : Token) (s : List Token) → TerminalIs (terminal_of x) true false false → reading productions opening_after_extern (x ∷ s) ≡ led_by (reading productions leading (x ∷ s))
-unfolding opening_after_extern leading skip opened
-extern_led x s t = rw t.extern_is (extern_same x (token_at (is terminal.Quoted) s) (token_at (is terminal.Raw)) (nonterminal_at productions an_opening))
+extern_led : (x : Token) (s : List Token) → TerminalIs (terminal_of x) true false false → reading productions file_after_extern (x ∷ s) ≡ led_by (reading productions leading (x ∷ s))
+unfolding file_after_extern leading skip opened
+extern_led x s t = rw t.extern_is (extern_same x (token_at (is terminal.Quoted) s) (token_at (is terminal.Raw)) (nonterminal_at productions a_file))
 
-option_led : (x : Token) (s : List Token) → TerminalIs (terminal_of x) false true false → reading productions opening_after_option (x ∷ s) ≡ led_by (reading productions leading (x ∷ s))
-unfolding opening_after_option leading skip opened
-option_led x s t = rw (t.extern_is, t.option_is) (option_same x (nonterminal_at productions an_opening s))
+option_led : (x : Token) (s : List Token) → TerminalIs (terminal_of x) false true false → reading productions file_after_option (x ∷ s) ≡ led_by (reading productions leading (x ∷ s))
+unfolding file_after_option leading skip opened
+option_led x s t = rw (t.extern_is, t.option_is) (option_same x (nonterminal_at productions a_file s))
 
-other_led : (x : Token) (s : List Token) → TerminalIs (terminal_of x) false false false → reading productions opening_after_global (x ∷ s) ≡ led_by (reading productions leading (x ∷ s))
-unfolding opening_after_global leading skip
+other_led : (x : Token) (s : List Token) → TerminalIs (terminal_of x) false false false → reading productions file_after_global (x ∷ s) ≡ led_by (reading productions leading (x ∷ s))
+unfolding file_after_global leading skip
 other_led x s t = rw (t.extern_is, t.option_is, t.named_is) refl
 
-properties_led : (x : Token) (s : List Token) → TerminalIs (terminal_of x) false false true → bracket_next s ≡ true → reading productions opening_after_properties (x ∷ s) ≡ led_by (reading productions leading (x ∷ s))
-unfolding opening_after_properties leading skip properties opened
-properties_led x s t b = rw (t.extern_is, t.option_is, t.named_is, b) (properties_same (word_of x) (token_at (is terminal.LeftBracket) s) (reading productions (star any (one_of is_no_right_bracket))) (token_at (is terminal.RightBracket)) (nonterminal_at productions an_opening))
+properties_led : (x : Token) (s : List Token) → TerminalIs (terminal_of x) false false true → bracket_next s ≡ true → reading productions file_after_properties (x ∷ s) ≡ led_by (reading productions leading (x ∷ s))
+unfolding file_after_properties leading skip properties opened
+properties_led x s t b = rw (t.extern_is, t.option_is, t.named_is, b) (properties_same (word_of x) (token_at (is terminal.LeftBracket) s) (reading productions (star any (one_of is_no_right_bracket))) (token_at (is terminal.RightBracket)) (nonterminal_at productions a_file))
 
-global_led : (x : Token) (s : List Token) → TerminalIs (terminal_of x) false false true → bracket_next s ≡ false → reading productions opening_after_global (x ∷ s) ≡ led_by (reading productions leading (x ∷ s))
-unfolding opening_after_global leading skip properties opened
-global_led x s t b = rw (t.extern_is, t.option_is, t.named_is, b) (global_same x (nonterminal_at productions an_opening s))
+global_led : (x : Token) (s : List Token) → TerminalIs (terminal_of x) false false true → bracket_next s ≡ false → reading productions file_after_global (x ∷ s) ≡ led_by (reading productions leading (x ∷ s))
+unfolding file_after_global leading skip properties opened
+global_led x s t b = rw (t.extern_is, t.option_is, t.named_is, b) (global_same x (nonterminal_at productions a_file s))
 
 -- which of these it is
 abbrev either : Bool → Bool → Read Jdf → Read Jdf → Read Jdf
@@ -196,21 +196,21 @@ by_kind true false true e o c p g l n h k = h refl
 by_kind true false false e o c p g l n h k = k refl
 by_kind false paren bracket e o c p g l n h k = absurd cc
 
-opening_by : (x : Token) (s : List Token) → Kinds (terminal_of x) → reading productions opening (x ∷ s) ≡ either (is_name (terminal_of x)) (paren_next s) (classes_alone (x ∷ s)) (led_by (reading productions leading (x ∷ s)))
-opening_by x s (an_extern t) = opening_shape x s ∙ rw (t.extern_is, t.named_is) (extern_led x s t)
-opening_by x s (an_option t) = opening_shape x s ∙ rw (t.extern_is, t.option_is, t.named_is) (option_led x s t)
-opening_by x s (another t) = opening_shape x s ∙ rw (t.extern_is, t.option_is, t.named_is) (other_led x s t)
-opening_by x s (a_name t) =
-    opening_shape x s
-    ∙ rw (t.extern_is, t.option_is) (by_kind (is_name (terminal_of x)) (paren_next s) (bracket_next s) (reading productions opening_after_extern (x ∷ s)) (reading productions opening_after_option (x ∷ s)) (classes_alone (x ∷ s)) (reading productions opening_after_properties (x ∷ s)) (reading productions opening_after_global (x ∷ s)) (led_by (reading productions leading (x ∷ s))) t.named_is (properties_led x s t) (global_led x s t))
+file_by : (x : Token) (s : List Token) → Kinds (terminal_of x) → reading productions file (x ∷ s) ≡ either (is_name (terminal_of x)) (paren_next s) (classes_alone (x ∷ s)) (led_by (reading productions leading (x ∷ s)))
+file_by x s (an_extern t) = file_shape x s ∙ rw (t.extern_is, t.named_is) (extern_led x s t)
+file_by x s (an_option t) = file_shape x s ∙ rw (t.extern_is, t.option_is, t.named_is) (option_led x s t)
+file_by x s (another t) = file_shape x s ∙ rw (t.extern_is, t.option_is, t.named_is) (other_led x s t)
+file_by x s (a_name t) =
+    file_shape x s
+    ∙ rw (t.extern_is, t.option_is) (by_kind (is_name (terminal_of x)) (paren_next s) (bracket_next s) (reading productions file_after_extern (x ∷ s)) (reading productions file_after_option (x ∷ s)) (classes_alone (x ∷ s)) (reading productions file_after_properties (x ∷ s)) (reading productions file_after_global (x ∷ s)) (led_by (reading productions leading (x ∷ s))) t.named_is (properties_led x s t) (global_led x s t))
 
-opening_reads : (s : List Token) → reading productions opening s ≡ cond (is_class s) (classes_alone s) (led_by (reading productions leading s))
-unfolding opening opening_after_extern opening_after_option opening_after_properties opening_after_global leading skip
-opening_reads [] = refl
-opening_reads (x ∷ s) = opening_by x s (kinds_of (terminal_of x))
+file_reads : (s : List Token) → reading productions file s ≡ cond (is_class s) (classes_alone s) (led_by (reading productions leading s))
+unfolding file file_after_extern file_after_option file_after_properties file_after_global leading skip
+file_reads [] = refl
+file_reads (x ∷ s) = file_by x s (kinds_of (terminal_of x))
 
 opened_step : (s : List Token) → opened s ≡ cond (is_class s) (classes_alone s) (led_by (reading productions leading s))
-opened_step s = opened_is s ∙ opening_reads s
+opened_step s = opened_is s ∙ file_reads s
 
 -- ---- the loop
 
@@ -226,8 +226,8 @@ unfolding with_front
 with_nothing (Ok x) = refl
 with_nothing (Err e) = refl
 
-pub opening_begins : (s : List Token) → with_front [] (opened s) ≡ reading productions opening s
-opening_begins s = with_nothing (opened s) ∙ opened_is s
+pub file_begins : (s : List Token) → with_front [] (opened s) ≡ reading productions file s
+file_begins s = with_nothing (opened s) ∙ opened_is s
 
 -- the globals, with what was read before the rest
 abbrev longer_by : List Word → Option Word → List Word
@@ -241,33 +241,33 @@ one_more front None (Err e) = refl
 one_more front (Some name) (Ok x) = ap (λ (l : List Word). Ok (record { globals = l; classes = x.0.classes }, x.1)) (sym (append_assoc front (name ∷ []) x.0.globals))
 one_more front (Some name) (Err e) = refl
 
-pub opening_goes_on : (front : List Word) (s : List Token) (a : Option Word) (next : List Token) (total : Read Jdf) → is_class s ≡ false → reading productions leading s ≡ Ok (a, next)
+pub file_goes_on : (front : List Word) (s : List Token) (a : Option Word) (next : List Token) (total : Read Jdf) → is_class s ≡ false → reading productions leading s ≡ Ok (a, next)
     → with_front front (opened s) ≡ total → with_front (longer_by front a) (opened next) ≡ total
-opening_goes_on front s a next total c e before =
+file_goes_on front s a next total c e before =
     sym (ap (λ (r : Read Jdf). with_front front r) (opened_step s) ∙ rw (c, e) (one_more front a (opened next))) ∙ before
 
 -- the same for a skipped part and for a global
 pub skipped_goes_on : (front : List Word) (s next : List Token) (total : Read Jdf) → is_class s ≡ false → reading productions leading s ≡ Ok (None, next) → with_front front (opened s) ≡ total → with_front front (opened next) ≡ total
-skipped_goes_on front s next total c e before = opening_goes_on front s None next total c e before
+skipped_goes_on front s next total c e before = file_goes_on front s None next total c e before
 
 pub global_goes_on : (front : List Word) (s : List Token) (w : Word) (next : List Token) (total : Read Jdf) (new : List Word) → new ≡ front ++ w ∷ [] → is_class s ≡ false → reading productions leading s ≡ Ok (Some w, next)
     → with_front front (opened s) ≡ total → with_front new (opened next) ≡ total
-global_goes_on front s w next total new n c e before = rw n (opening_goes_on front s (Some w) next total c e before)
+global_goes_on front s w next total new n c e before = rw n (file_goes_on front s (Some w) next total c e before)
 
-pub opening_fails : (e : ReadRefusal) (front : List Word) (s : List Token) (total : Read Jdf) → is_class s ≡ false → ReturnsRefusal e (reading productions leading s) → with_front front (opened s) ≡ total → ReturnsRefusal e total
+pub file_fails : (e : ReadRefusal) (front : List Word) (s : List Token) (total : Read Jdf) → is_class s ≡ false → ReturnsRefusal e (reading productions leading s) → with_front front (opened s) ≡ total → ReturnsRefusal e total
 unfolding with_front
-opening_fails errors.OutOfMemory front s total c f before = tt
-opening_fails (errors.Fault x) front s total c f before = sym before ∙ (ap (λ (r : Read Jdf). with_front front r) (opened_step s) ∙ rw (c, f) refl)
+file_fails errors.OutOfMemory front s total c f before = tt
+file_fails (errors.Fault x) front s total c f before = sym before ∙ (ap (λ (r : Read Jdf). with_front front r) (opened_step s) ∙ rw (c, f) refl)
 
-pub opening_ends : (front : List Word) (s : List Token) (found : List ClassTree) (next : List Token) (total : Read Jdf) → is_class s ≡ true → reading productions classes s ≡ Ok (found, next) → with_front front (opened s) ≡ total → total ≡ Ok (record { globals = front; classes = found }, next)
+pub file_ends : (front : List Word) (s : List Token) (found : List ClassTree) (next : List Token) (total : Read Jdf) → is_class s ≡ true → reading productions classes s ≡ Ok (found, next) → with_front front (opened s) ≡ total → total ≡ Ok (record { globals = front; classes = found }, next)
 unfolding with_front
-opening_ends front s found next total c e before =
+file_ends front s found next total c e before =
     sym before ∙ (ap (λ (r : Read Jdf). with_front front r) (opened_step s) ∙ rw (c, e) (ap (λ (l : List Word). Ok (record { globals = l; classes = found }, next)) (append-nil front)))
 
-pub opening_stops : (e : ReadRefusal) (front : List Word) (s : List Token) (total : Read Jdf) → is_class s ≡ true → ReturnsRefusal e (reading productions classes s) → with_front front (opened s) ≡ total → ReturnsRefusal e total
+pub file_stops : (e : ReadRefusal) (front : List Word) (s : List Token) (total : Read Jdf) → is_class s ≡ true → ReturnsRefusal e (reading productions classes s) → with_front front (opened s) ≡ total → ReturnsRefusal e total
 unfolding with_front
-opening_stops errors.OutOfMemory front s total c f before = tt
-opening_stops (errors.Fault x) front s total c f before = sym before ∙ (ap (λ (r : Read Jdf). with_front front r) (opened_step s) ∙ rw (c, f) refl)
+file_stops errors.OutOfMemory front s total c f before = tt
+file_stops (errors.Fault x) front s total c f before = sym before ∙ (ap (λ (r : Read Jdf). with_front front r) (opened_step s) ∙ rw (c, f) refl)
 
 pub leading_moves : (s : List Token) (a : Option Word) (next : List Token) → reading productions leading s ≡ Ok (a, next) → length next < length s
 unfolding leading skip

@@ -3,7 +3,7 @@
 ghost use Rattle.std.specs.Prelude.{◌≡◌};
 ghost use Rattle.ptg_base.specs.Returns.{Returns};
 ghost use Rattle.grammar_core.specs.Reading.{reading};
-ghost use Rattle.jdf_tree.specs.Grammar.{productions, opening};
+ghost use Rattle.jdf_tree.specs.Grammar.{productions, file};
 ghost use Rattle.jdf_read.specs.Next.{is_class, leading};
 
 use crate::class::{classes, is_skip_next, past_skip};
@@ -40,8 +40,8 @@ fn leading(alloc: Global, tokens: &[Token]) -> Result<(Option<Word>, &[Token]), 
 }
 
 /// A text: globals and skipped parts, and the classes.
-pub(crate) fn opening(alloc: Global, tokens: &[Token]) -> Result<(Jdf, &[Token]), ReadRefusal>
-    ensures { Returns (λ x. (x.0, x.1.now)) result (reading productions opening tokens.now) }
+pub(crate) fn file(alloc: Global, tokens: &[Token]) -> Result<(Jdf, &[Token]), ReadRefusal>
+    ensures { Returns (λ x. (x.0, x.1.now)) result (reading productions file tokens.now) }
 {
     let mut globals = Seq::new(alloc);
     let mut rest = tokens;

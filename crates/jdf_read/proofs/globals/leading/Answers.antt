@@ -4,8 +4,8 @@ use Rattle.grammar_core.specs.Reading.{reading}
 use Rattle.grammar_core.proofs.Loops.{fails_before}
 use Rattle.jdf_tree.specs.Grammar.{productions}
 use Rattle.jdf_read.specs.Next.{leading}
-use Rattle.jdf_read.proofs.Openings.{leading_reads}
-use Rattle.jdf_read.proofs.opening.leading.Goals as goal
+use Rattle.jdf_read.proofs.BeforeClasses.{leading_reads}
+use Rattle.jdf_read.proofs.globals.leading.Goals as goal
 
 pub returns-then-is_skip_next : goal.returns-then-is_skip_next
 returns-then-is_skip_next c = leading_reads c.args.tokens.now ∙ rw (sym c.is_skip_next.ensures ∙ c.if-is_skip_next.true, c.in_ok-rest.ensures) refl

@@ -2,7 +2,7 @@ use Rattle.std.proofs.Common.{sym, subst, inl, inr, arith}
 use Rattle.std.proofs.lemmas.Bool.{OnTrue_from}
 use Rattle.plan_core.specs.Place.{HasPlace}
 use Rattle.list_lemmas.proofs.Distinct.{HasNoRepeats-push}
-use Rattle.edge_accept.proofs.tally.Outs.add_write.Goals as goal
+use Rattle.edge_accept.proofs.outs.Outs.add_write.Goals as goal
 
 pub returns : goal.returns
 returns c = λ w same.

@@ -1,12 +1,11 @@
-//! The names of the class and the flow of an inconsistency.
+//! The names of classes and flows by their numbers.
 
 ghost use Rattle.std.specs.Prelude.{◌≡◌};
-ghost use Rattle.report_text.specs.Rows.{class_name};
-ghost use Rattle.ptg_top.specs.JobText.{flow_name};
+ghost use Rattle.plan_core.specs.NamesByNumber.{class_name, flow_name};
 
-use plan_core::Plan;
+use crate::plan::Plan;
 
-/// The name of the class with this number.
+/// The name of the class with this number; none where there is no such class.
 pub fn class_name(plan: &Plan, class: u32) -> &[u8]
     ensures { result.now ≡ class_name plan.now class }
 {
@@ -16,7 +15,8 @@ pub fn class_name(plan: &Plan, class: u32) -> &[u8]
     }
 }
 
-/// The name of the flow with this number of the class with this number; none where there is no number.
+/// The name of the flow with this number of the class with this number; none where there is no number, or no such
+/// flow.
 pub fn flow_name(plan: &Plan, class: u32, flow: Option<u8>) -> &[u8]
     ensures { result.now ≡ flow_name plan.now class flow }
 {

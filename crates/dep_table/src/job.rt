@@ -1,0 +1,51 @@
+//! The job of a table, and the shards of its tasks.
+
+ghost use Rattle.std.specs.Prelude.{◌≡◌, ◌<◌};
+ghost use Rattle.dep_iter.specs.Tasks.{IsTask};
+ghost use Rattle.shard_meaning.specs.Placing as placing;
+ghost use Rattle.dep_table.specs.Tables.{job_of};
+
+use crate::table::DepTable;
+use coll_data::Given;
+use dep_iter::Matched;
+use ptg_base::TaskId;
+use shard_calls::shard_at;
+
+impl DepTable {
+    /// The plan of the job.
+    pub fn matched(&self) -> &Matched
+        ensures { result.now ≡ (job_of self.now).matched }
+    {
+        &self.job.matched
+    }
+
+    /// The data of the job.
+    pub fn given(&self) -> &Given
+        ensures { result.now ≡ (job_of self.now).given }
+    {
+        &self.job.given
+    }
+
+    /// The number of shards.
+    pub fn shards(&self) -> u32
+        ensures { result ≡ (job_of self.now).shards }
+    {
+        self.job.shards
+    }
+
+    /// Whether all memory was taken before the first step.
+    pub fn is_preloaded(&self) -> bool
+        ensures { result ≡ (job_of self.now).preloaded }
+    {
+        self.job.preloaded
+    }
+
+    /// The number of the shard of a task.
+    pub fn shard_of(&self, t: &TaskId) -> u32
+        requires { IsTask (job_of self.now).matched t.now }
+        ensures number { result ≡ placing.shard_of (job_of self.now).matched (job_of self.now).shards t.now }
+        ensures within { result < (job_of self.now).shards }
+    {
+        shard_at(&self.job.matched, self.job.shards as usize, t) as u32
+    }
+}
