@@ -13,7 +13,7 @@ use ptg_base::Tile;
 use term_core::{Block, Body, Stmt, Trap};
 
 // The units that a task may use.
-const BUDGET: u32 = 16777216;
+const TASK_BUDGET: u32 = 16777216;
 
 /// Runs a body on the tiles of its task. After a trap the tiles have no meaning.
 ///
@@ -30,7 +30,7 @@ pub fn run_body(
     ensures trap { IfErr result (λ cause. body_meaning body.now locals.now tiles.old ≡ Err cause) }
     ensures sizes { KeepsSizes tiles.old tiles.new }
 {
-    run_within(BUDGET, body, locals, tiles, scratch)
+    run_within(TASK_BUDGET, body, locals, tiles, scratch)
 }
 
 // Runs a body within this many units.

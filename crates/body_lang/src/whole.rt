@@ -38,9 +38,8 @@ fn broken(
 }
 
 /// Reads a body: the body and its trap words, in the order of their first use; or its first fault. The scope says what
-/// names mean.
-/// After a fault of the text (Syntax, BadNumber, ExprTooLong, TooDeep, TooManyVars) no name is judged. Where the tokens
-/// end too early that is Syntax at `finish`, the spot after them.
+/// names mean. After a fault of the text (Syntax, BadNumber, ExprTooLong, TooDeep, TooManyVars) no name is judged.
+/// Where the tokens end too early that is Syntax at `finish`, the spot after them.
 pub fn read_body(
     alloc: Global,
     tokens: &[Token],
@@ -51,7 +50,7 @@ pub fn read_body(
     ensures exact { FindsOrRefuses (IsBody (environment_of scope.now) tokens.now)
         (IsBodyFault (environment_of scope.now) tokens.now finish) result }
     // The body is well made for the locals and the flows of the scope.
-    ensures well { IfOk result (λ x. IsWellBody (length scope.now.locals) (length scope.now.flows) x.0) }
+    ensures well { IfOk result (λ (body, words). IsWellBody (length scope.now.locals) (length scope.now.flows) body) }
 {
     match tree(alloc, tokens) {
         Ok(tree) => resolve(alloc, scope, &tree),

@@ -6,14 +6,14 @@ use Rattle.std.proofs.lemmas.Bool.Decides.{nat_tests}
 use Rattle.std.proofs.lemmas.List.{append-nil}
 use Rattle.std.proofs.lemmas.List.Sums.{sum_by-cons, sum_by_push}
 use Rattle.grammar_core.specs.declared.token.Token.{Token}
-use Rattle.jdf_alphabet.specs.declared.terminal.Terminal.{Terminal}
-use Rattle.jdf_alphabet.specs.declared.terminal.Terminal.TheVariants as terminal
+use Rattle.jdf_lex.specs.declared.terminal.Terminal.{Terminal}
+use Rattle.jdf_lex.specs.declared.terminal.Terminal.TheVariants as terminal
 use Rattle.grammar_core.specs.declared.code.Code.{Code}
-use Rattle.jdf_alphabet.specs.Codes.{TooManyVars}
+use Rattle.jdf_lex.specs.Codes.{TooManyVars}
 use Rattle.grammar_core.specs.Production.{seq, map, alt, opt, star, limited, Fault, Language, Many, Derives, DerivedWithin, Derived, IsText, cut_at, taken, one_of, checked, pick, after_token}
 use Rattle.grammar_core.specs.LimitBy.{index_by}
-use Rattle.jdf_alphabet.specs.Terminals.{terminal_of, is, set}
-use Rattle.jdf_alphabet.specs.Sets as sets
+use Rattle.jdf_lex.specs.Terminals.{terminal_of, is, set}
+use Rattle.jdf_lex.specs.Sets as sets
 use Rattle.jdf_tree.specs.declared.body.StmtTree.{StmtTree}
 use Rattle.jdf_tree.specs.declared.body.StmtTree.TheVariants as stmt
 use Rattle.jdf_tree.specs.declared.expression.ExprWithSpot.{ExprWithSpot}

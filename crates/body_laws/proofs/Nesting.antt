@@ -4,10 +4,10 @@ use Rattle.std.specs.Prelude.{Option, Some, None, slice_get}
 use Rattle.std.proofs.lemmas.List.{append-nil, take_all}
 use Rattle.std.specs.Option.{unwrap_or}
 use Rattle.grammar_core.specs.declared.token.Token.{Token}
-use Rattle.jdf_alphabet.specs.declared.terminal.Terminal.{Terminal}
-use Rattle.jdf_alphabet.specs.declared.terminal.Terminal.TheVariants as terminal
+use Rattle.jdf_lex.specs.declared.terminal.Terminal.{Terminal}
+use Rattle.jdf_lex.specs.declared.terminal.Terminal.TheVariants as terminal
 use Rattle.grammar_core.specs.Production.{seq, opt, Fault, Language, Many, Derives, DerivedWithin, Derived, IsText}
-use Rattle.jdf_alphabet.specs.Terminals.{terminal_of, is}
+use Rattle.jdf_lex.specs.Terminals.{terminal_of, is}
 use Rattle.term_core.specs.declared.body.Stmt.{Stmt}
 use Rattle.term_core.specs.declared.body.Stmt.TheVariants as out
 use Rattle.term_core.specs.BlockStatementList as block_steps

@@ -4,10 +4,10 @@ use Rattle.std.proofs.Common.{◌≡◌, ℕ, Bool, true, false, List, ◌∷◌
 use Rattle.std.specs.Prelude.{Option, Some, None, ◌||◌, not}
 use Rattle.std.proofs.lemmas.Bool.Decides.{nat_tests}
 use Rattle.grammar_core.specs.declared.token.Token.{Token}
-use Rattle.jdf_alphabet.specs.declared.terminal.Terminal.{Terminal}
-use Rattle.jdf_alphabet.specs.declared.terminal.Terminal.TheVariants as terminal
-use Rattle.jdf_alphabet.specs.Sets.{starts}
-use Rattle.jdf_alphabet.specs.Terminals.{terminal_of, is, number_of}
+use Rattle.jdf_lex.specs.declared.terminal.Terminal.{Terminal}
+use Rattle.jdf_lex.specs.declared.terminal.Terminal.TheVariants as terminal
+use Rattle.jdf_lex.specs.Sets.{starts}
+use Rattle.jdf_lex.specs.Terminals.{terminal_of, is, number_of}
 use Rattle.ptg_base.specs.Returns.{and_then}
 use Rattle.jdf_tree.specs.declared.part.Part.TheVariants.{Body}
 use Rattle.jdf_tree.specs.GrammarParts.{names, word_of}

@@ -9,7 +9,7 @@ use Rattle.ptg_base.specs.declared.refusal.Refusal.{Refusal}
 use Rattle.grammar_core.specs.declared.code.Code.TheVariants.{Syntax}
 use Rattle.grammar_core.specs.Reading.{Read, ◌>>=◌, reading, fault_from_end}
 use Rattle.grammar_core.proofs.Loops.{applied}
-use Rattle.jdf_alphabet.specs.Terminals.{terminal_of}
+use Rattle.jdf_lex.specs.Terminals.{terminal_of}
 use Rattle.ptg_base.specs.Returns.{ReturnsRefusal, and_then}
 use Rattle.jdf_tree.specs.declared.expression.Word.{Word}
 use Rattle.jdf_tree.specs.declared.part.Part.TheVariants.{Body}

@@ -45,7 +45,7 @@ put scope w at e k =
 
 -- a block that opens so, and after which its variables are no longer seen
 abbrev pub in_block : (Bindings → Bindings) → Resolver → Resolver
-in_block opening block k = and_then (block (opening k)) (λ x. Ok (x.0, block_closed k x.1))
+in_block opening block k = and_then (block (opening k)) (λ (statements, after). Ok (statements, block_closed k after))
 
 -- `if (c) { .. } else { .. }`, by what its two blocks are
 abbrev pub if_else : Environment → Expression → Resolver → Resolver → Bindings → Resolved (Stmt × Bindings)
@@ -70,7 +70,7 @@ trap w k = let n = word_number w.text k in Ok (stmt.Trap n.0, n.1)
 
 -- a statement, and what follows it
 abbrev pub follow : Resolved (Stmt × Bindings) → Resolver → Resolved (StatementList × Bindings)
-follow first rest = and_then first (λ x. and_then (rest x.1) (λ y. Ok (then x.0 y.0, y.1)))
+follow first rest = and_then first (λ (one, after). and_then (rest after) (λ (more, end). Ok (then one more, end)))
 
 -- statements in order
 abbrev pub resolved : Environment → Statements → Resolver

@@ -3,8 +3,7 @@
 ghost use Rattle.std.specs.Prelude.{◌≡◌};
 ghost use Rattle.body_names.specs.TokenScan.{previous_is, begins_here, role_of};
 
-use jdf_alphabet::{Terminal, is_next};
-use jdf_lex::Token;
+use jdf_lex::{Terminal, Token, is_next};
 
 /// The role of a name in a body.
 #[derive(Clone, Copy, Debug, PartialEq, Eq)]
@@ -25,7 +24,7 @@ pub enum Role {
 }
 
 /// Whether this is the terminal of the token before.
-#[tactic(auto, using(jdf_alphabet::proofs::Same::same_is))]
+#[tactic(auto, using(jdf_lex::proofs::Same::same_is))]
 pub(crate) fn previous_is(terminal: Terminal, last: Option<Terminal>) -> bool
     ensures { result ≡ previous_is terminal last }
 {

@@ -7,8 +7,7 @@ ghost use Rattle.body_names.specs.Scanner.{scan_of};
 use crate::bindings::{BindingTable, close};
 use crate::role::previous_is;
 use crate::variable::Variable;
-use jdf_alphabet::Terminal;
-use jdf_lex::Token;
+use jdf_lex::{Terminal, Token};
 use ptg_base::{OutOfMemory, Text};
 use std::alloc::Global;
 

@@ -27,7 +27,7 @@ pub fn resolve(
     // The body, or the fault, is what the definition gives, unless memory runs out.
     ensures answer { Returns (λ x. x) result (body_of (environment_of scope.now) tree.now) }
     // The body is well made for the locals and the flows of the scope.
-    ensures well { IfOk result (λ x. IsWellBody (length scope.now.locals) (length scope.now.flows) x.0) }
+    ensures well { IfOk result (λ (body, words). IsWellBody (length scope.now.locals) (length scope.now.flows) body) }
 {
     let context = Context { alloc, scope };
     let mut bindings = BindingTable::new(alloc);

@@ -2,10 +2,10 @@
 use Rattle.std.proofs.Common.{◌≡◌, Bool, true, false, cond, List, Ok, Err, refl}
 use Rattle.std.specs.Prelude.{Option, Some, None}
 use Rattle.grammar_core.specs.declared.token.Token.{Token}
-use Rattle.jdf_alphabet.specs.declared.terminal.Terminal.TheVariants as terminal
+use Rattle.jdf_lex.specs.declared.terminal.Terminal.TheVariants as terminal
 use Rattle.grammar_core.specs.Reading.{Read, ◌>>=◌, reading}
-use Rattle.jdf_alphabet.specs.Sets.{starts, token_at}
-use Rattle.jdf_alphabet.specs.Terminals.{is}
+use Rattle.jdf_lex.specs.Sets.{starts, token_at}
+use Rattle.jdf_lex.specs.Terminals.{is}
 use Rattle.grammar_core.proofs.Loops.{pair_with, applied}
 use Rattle.jdf_tree.specs.declared.expression.ExprWithSpot.{ExprWithSpot}
 use Rattle.jdf_tree.specs.declared.body.StmtTree.TheVariants.{Set, Put, If}

@@ -2,13 +2,13 @@
 use Rattle.std.proofs.Common.{◌≡◌, true, false, cond, List, [], ◌∷◌, ◌++◌, Ok, refl, ap}
 use Rattle.ptg_base.specs.Returns.{ReturnsRefusal}
 use Rattle.grammar_core.specs.declared.token.Token.{Token}
-use Rattle.jdf_alphabet.specs.declared.terminal.Terminal.TheVariants as terminal
+use Rattle.jdf_lex.specs.declared.terminal.Terminal.TheVariants as terminal
 use Rattle.grammar_core.specs.Production.{star}
-use Rattle.jdf_alphabet.specs.Sets.{starts}
+use Rattle.jdf_lex.specs.Sets.{starts}
 use Rattle.grammar_core.specs.Refusing.{ReadRefusal}
 use Rattle.grammar_core.specs.Reading.{Read, ◌>>=◌, first, nonterminal_at, reading}
 use Rattle.grammar_core.specs.Reading as numbered
-use Rattle.jdf_alphabet.specs.Terminals.{is, set, terminal_at}
+use Rattle.jdf_lex.specs.Terminals.{is, set, terminal_at}
 use Rattle.grammar_core.proofs.Fuel.{nonterminal_is}
 use Rattle.grammar_core.proofs.Sets.{alike_at}
 use Rattle.grammar_core.proofs.Loops.{applied, so_far, fails_before, IsListed}

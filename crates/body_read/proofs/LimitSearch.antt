@@ -4,11 +4,11 @@ use Rattle.std.specs.Prelude.{nat_le, ◌&&◌}
 use Rattle.std.proofs.lemmas.List.{drop_all, length-drop}
 use Rattle.std.proofs.lemmas.List.Sums.{sum_by_push}
 use Rattle.grammar_core.specs.declared.token.Token.{Token}
-use Rattle.jdf_alphabet.specs.declared.terminal.Terminal.{Terminal}
-use Rattle.jdf_alphabet.specs.declared.terminal.Terminal.TheVariants as terminal
+use Rattle.jdf_lex.specs.declared.terminal.Terminal.{Terminal}
+use Rattle.jdf_lex.specs.declared.terminal.Terminal.TheVariants as terminal
 use Rattle.grammar_core.specs.LimitBy.{index_by}
-use Rattle.jdf_alphabet.specs.Sets.{starts}
-use Rattle.jdf_alphabet.specs.Terminals.{terminal_of, is}
+use Rattle.jdf_lex.specs.Sets.{starts}
+use Rattle.jdf_lex.specs.Terminals.{terminal_of, is}
 use Rattle.jdf_tree.specs.BodyLimits.{how_many, open_blocks, most_blocks, is_too_deep, declares, is_too_many, block_limit, variable_limit}
 
 -- so far i tokens have been passed

@@ -6,13 +6,13 @@ use Rattle.std.proofs.lemmas.Bool.Decides.{nat_tests}
 use Rattle.grammar_core.specs.declared.fault.ReadFault.{ReadFault}
 use Rattle.grammar_core.specs.declared.token.Token.{Token}
 use Rattle.grammar_core.specs.declared.code.Code.{Code}
-use Rattle.jdf_alphabet.specs.Codes.{TooDeep, TooManyVars}
+use Rattle.jdf_lex.specs.Codes.{TooDeep, TooManyVars}
 use Rattle.grammar_core.specs.Production.{Limit, Derives, Derived}
 use Rattle.grammar_core.specs.Predictive.{is_fine}
 use Rattle.grammar_core.specs.Reading.{Read, judge, reading, fault_from_end}
 use Rattle.grammar_core.proofs.Sound.{Sound}
 use Rattle.grammar_core.proofs.Whole.{sound}
-use Rattle.jdf_alphabet.specs.Terminals.{terminal_at}
+use Rattle.jdf_lex.specs.Terminals.{terminal_at}
 use Rattle.jdf_tree.specs.BodyLimits.{block_limit, variable_limit}
 use Rattle.jdf_tree.specs.ExpressionGrammar.{number, parens, index, reference, signed, unary, product, sum, relation, equality, conjunction, disjunction, branches, expr, outer}
 use Rattle.jdf_tree.specs.BodyGrammar.{block, value, declaration, element, assignment, condition, otherwise, choice, for_loop, trap_statement, statement, statements, text, body}

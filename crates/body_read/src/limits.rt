@@ -1,17 +1,16 @@
 //! Where a body passes its limits.
 
 ghost use Rattle.std.specs.Prelude.{◌≡◌, ◌-◌, ◌&&◌, if◌then◌else◌};
-ghost use Rattle.jdf_alphabet.specs.declared.terminal.Terminal.TheVariants.{LeftBrace};
-ghost use Rattle.jdf_alphabet.specs.Sets.{starts};
-ghost use Rattle.jdf_alphabet.specs.Terminals.{is};
+ghost use Rattle.jdf_lex.specs.declared.terminal.Terminal.TheVariants.{LeftBrace};
+ghost use Rattle.jdf_lex.specs.Sets.{starts};
+ghost use Rattle.jdf_lex.specs.Terminals.{is};
 ghost use Rattle.jdf_tree.specs.BodyLimits.{block_limit, variable_limit, declares, most_blocks};
 
-use jdf_alphabet::{Terminal, is_next};
-use jdf_lex::Token;
+use jdf_lex::{Terminal, Token, is_next};
 use ptg_base::MOST_VARIABLES;
 
-// How many blocks may be open before one more is opened. The braces around a whole body do not count.
-const MOST_BLOCKS: usize = 32;
+// How deep blocks may be nested. The braces around a whole body do not count.
+const MOST_NESTED: usize = 32;
 
 // 1 where it holds, to count.
 fn one_if(holds: bool) -> usize
@@ -25,9 +24,9 @@ fn most_blocks(tokens: &[Token]) -> usize
     ensures { result ≡ most_blocks tokens.now }
 {
     if is_next(tokens, Terminal::LeftBrace) {
-        MOST_BLOCKS + 1
+        MOST_NESTED + 1
     } else {
-        MOST_BLOCKS
+        MOST_NESTED
     }
 }
 

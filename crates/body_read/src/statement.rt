@@ -1,16 +1,13 @@
 //! Statements and blocks.
 
 ghost use Rattle.std.specs.Prelude.{◌≡◌};
-ghost use Rattle.ptg_base.specs.Returns.{Returns};
-ghost use Rattle.grammar_core.specs.Reading.{reading};
-ghost use Rattle.jdf_alphabet.specs.Sets.{starts};
+ghost use Rattle.jdf_lex.specs.Sets.{starts};
 ghost use Rattle.jdf_tree.specs.BodyGrammar.{value, declaration, element, assignment, condition, block, otherwise, choice, for_loop, trap_statement, statement, begins_statement, statements, block_rest};
-ghost use Rattle.jdf_tree.specs.Grammar.{productions};
+ghost use Rattle.jdf_tree.specs.Reads.{Reads};
 
 use expr_read::{is_name_next, name, outer};
 use grammar_core::ReadRefusal;
-use jdf_alphabet::{Terminal, expect, is_next};
-use jdf_lex::Token;
+use jdf_lex::{Terminal, Token, expect, is_next};
 use jdf_tree::{BlockTree, ExprWithSpot, Part, StmtTree};
 use ptg_base::Seq;
 use std::alloc::Global;
@@ -18,7 +15,7 @@ use std::alloc::Global;
 // `"=" expr ";"`
 #[tactic(auto, unfolding(jdf_tree::specs::BodyGrammar::value))]
 fn value(alloc: Global, tokens: &[Token]) -> Result<(ExprWithSpot, &[Token]), ReadRefusal>
-    ensures { Returns (λ x. (x.0, x.1.now)) result (reading productions value tokens.now) }
+    ensures { Reads value tokens.now result }
 {
     let (_, rest) = expect(tokens, Terminal::Assign)?;
     let (value, rest) = outer(alloc, Part::Body, rest)?;
@@ -29,7 +26,7 @@ fn value(alloc: Global, tokens: &[Token]) -> Result<(ExprWithSpot, &[Token]), Re
 // `int name value`
 #[tactic(auto, unfolding(jdf_tree::specs::BodyGrammar::declaration))]
 fn declaration(alloc: Global, tokens: &[Token]) -> Result<(StmtTree, &[Token]), ReadRefusal>
-    ensures { Returns (λ x. (x.0, x.1.now)) result (reading productions declaration tokens.now) }
+    ensures { Reads declaration tokens.now result }
 {
     let (_, rest) = expect(tokens, Terminal::Int)?;
     let (name, rest) = name(alloc, Part::Body, rest)?;
@@ -40,7 +37,7 @@ fn declaration(alloc: Global, tokens: &[Token]) -> Result<(StmtTree, &[Token]), 
 // `"[" expr "]"`
 #[tactic(auto, unfolding(jdf_tree::specs::BodyGrammar::element))]
 fn element(alloc: Global, tokens: &[Token]) -> Result<(ExprWithSpot, &[Token]), ReadRefusal>
-    ensures { Returns (λ x. (x.0, x.1.now)) result (reading productions element tokens.now) }
+    ensures { Reads element tokens.now result }
 {
     let (_, rest) = expect(tokens, Terminal::LeftBracket)?;
     let (at, rest) = outer(alloc, Part::Body, rest)?;
@@ -51,7 +48,7 @@ fn element(alloc: Global, tokens: &[Token]) -> Result<(ExprWithSpot, &[Token]), 
 // `name element? value`
 #[tactic(auto, using(crate::proofs::AfterLookahead::assignment_reads))]
 fn assignment(alloc: Global, tokens: &[Token]) -> Result<(StmtTree, &[Token]), ReadRefusal>
-    ensures { Returns (λ x. (x.0, x.1.now)) result (reading productions assignment tokens.now) }
+    ensures { Reads assignment tokens.now result }
 {
     let (name, rest) = name(alloc, Part::Body, tokens)?;
     if !is_next(rest, Terminal::LeftBracket) {
@@ -66,7 +63,7 @@ fn assignment(alloc: Global, tokens: &[Token]) -> Result<(StmtTree, &[Token]), R
 // `"(" expr ")"`
 #[tactic(auto, unfolding(jdf_tree::specs::BodyGrammar::condition))]
 fn condition(alloc: Global, tokens: &[Token]) -> Result<(ExprWithSpot, &[Token]), ReadRefusal>
-    ensures { Returns (λ x. (x.0, x.1.now)) result (reading productions condition tokens.now) }
+    ensures { Reads condition tokens.now result }
 {
     let (_, rest) = expect(tokens, Terminal::LeftParen)?;
     let (condition, rest) = outer(alloc, Part::Body, rest)?;
@@ -78,7 +75,7 @@ fn condition(alloc: Global, tokens: &[Token]) -> Result<(ExprWithSpot, &[Token])
 #[cycle(block)]
 #[tactic(auto, using(crate::proofs::Begins::block_is, expr_read::proofs::Loops::token_shrinks), unfolding(jdf_tree::specs::BodyGrammar::block))]
 pub(crate) fn block(alloc: Global, tokens: &[Token]) -> Result<(BlockTree, &[Token]), ReadRefusal>
-    ensures { Returns (λ x. (x.0, x.1.now)) result (reading productions block tokens.now) }
+    ensures { Reads block tokens.now result }
 {
     let (_, rest) = expect(tokens, Terminal::LeftBrace)?;
     let (block, rest) = block_rest(alloc, rest)?;
@@ -89,7 +86,7 @@ pub(crate) fn block(alloc: Global, tokens: &[Token]) -> Result<(BlockTree, &[Tok
 #[cycle(block)]
 #[tactic(auto, using(expr_read::proofs::Loops::token_shrinks), unfolding(jdf_tree::specs::BodyGrammar::otherwise))]
 fn otherwise(alloc: Global, tokens: &[Token]) -> Result<(BlockTree, &[Token]), ReadRefusal>
-    ensures { Returns (λ x. (x.0, x.1.now)) result (reading productions otherwise tokens.now) }
+    ensures { Reads otherwise tokens.now result }
 {
     let (_, rest) = expect(tokens, Terminal::Else)?;
     let (block, rest) = block(alloc, rest)?;
@@ -100,7 +97,7 @@ fn otherwise(alloc: Global, tokens: &[Token]) -> Result<(BlockTree, &[Token]), R
 #[cycle(block)]
 #[tactic(auto, using(crate::proofs::AfterLookahead::choice_reads, expr_read::proofs::Loops::token_shrinks, expr_read::proofs::Loops::reading_shrinks))]
 fn choice(alloc: Global, tokens: &[Token]) -> Result<(StmtTree, &[Token]), ReadRefusal>
-    ensures { Returns (λ x. (x.0, x.1.now)) result (reading productions choice tokens.now) }
+    ensures { Reads choice tokens.now result }
 {
     let (_, rest) = expect(tokens, Terminal::If)?;
     let (condition, rest) = condition(alloc, rest)?;
@@ -117,7 +114,7 @@ fn choice(alloc: Global, tokens: &[Token]) -> Result<(StmtTree, &[Token]), ReadR
 #[cycle(block)]
 #[tactic(auto, using(expr_read::proofs::Loops::token_shrinks, expr_read::proofs::Loops::reading_shrinks), unfolding(jdf_tree::specs::BodyGrammar::for_loop))]
 fn for_loop(alloc: Global, tokens: &[Token]) -> Result<(StmtTree, &[Token]), ReadRefusal>
-    ensures { Returns (λ x. (x.0, x.1.now)) result (reading productions for_loop tokens.now) }
+    ensures { Reads for_loop tokens.now result }
 {
     let (_, rest) = expect(tokens, Terminal::For)?;
     let (name, rest) = name(alloc, Part::Body, rest)?;
@@ -131,8 +128,8 @@ fn for_loop(alloc: Global, tokens: &[Token]) -> Result<(StmtTree, &[Token]), Rea
 
 // `trap name ";"`
 #[tactic(auto, unfolding(jdf_tree::specs::BodyGrammar::trap_statement))]
-fn stop(alloc: Global, tokens: &[Token]) -> Result<(StmtTree, &[Token]), ReadRefusal>
-    ensures { Returns (λ x. (x.0, x.1.now)) result (reading productions trap_statement tokens.now) }
+fn trap_statement(alloc: Global, tokens: &[Token]) -> Result<(StmtTree, &[Token]), ReadRefusal>
+    ensures { Reads trap_statement tokens.now result }
 {
     let (_, rest) = expect(tokens, Terminal::Trap)?;
     let (word, rest) = name(alloc, Part::Body, rest)?;
@@ -157,7 +154,7 @@ fn is_statement_next(tokens: &[Token]) -> bool
 #[cycle(block)]
 #[tactic(auto, using(crate::proofs::Begins::statement_reads))]
 fn statement(alloc: Global, tokens: &[Token]) -> Result<(StmtTree, &[Token]), ReadRefusal>
-    ensures { Returns (λ x. (x.0, x.1.now)) result (reading productions statement tokens.now) }
+    ensures { Reads statement tokens.now result }
 {
     if is_next(tokens, Terminal::Int) {
         return declaration(alloc, tokens);
@@ -169,7 +166,7 @@ fn statement(alloc: Global, tokens: &[Token]) -> Result<(StmtTree, &[Token]), Re
         return for_loop(alloc, tokens);
     }
     if is_next(tokens, Terminal::Trap) {
-        return stop(alloc, tokens);
+        return trap_statement(alloc, tokens);
     }
     assignment(alloc, tokens)
 }
@@ -181,7 +178,7 @@ pub(crate) fn statements(
     alloc: Global,
     tokens: &[Token],
 ) -> Result<(BlockTree, &[Token]), ReadRefusal>
-    ensures { Returns (λ x. (x.0, x.1.now)) result (reading productions statements tokens.now) }
+    ensures { Reads statements tokens.now result }
 {
     let mut list = Seq::new(alloc);
     let mut rest = tokens;
@@ -197,7 +194,7 @@ pub(crate) fn statements(
 #[cycle(block)]
 #[tactic(auto, unfolding(jdf_tree::specs::BodyGrammar::block_rest))]
 fn block_rest(alloc: Global, tokens: &[Token]) -> Result<(BlockTree, &[Token]), ReadRefusal>
-    ensures { Returns (λ x. (x.0, x.1.now)) result (reading productions block_rest tokens.now) }
+    ensures { Reads block_rest tokens.now result }
 {
     let (list, rest) = statements(alloc, tokens)?;
     let (_, rest) = expect(rest, Terminal::RightBrace)?;

@@ -1,24 +1,24 @@
 //! The text of a body as a whole.
 
 ghost use Rattle.ptg_base.specs.Returns.{FindsOrRefuses, Returns};
-ghost use Rattle.grammar_core.specs.Reading.{reading, whole};
+ghost use Rattle.grammar_core.specs.Reading.{whole};
 ghost use Rattle.jdf_tree.specs.BodyGrammar.{text, body};
 ghost use Rattle.jdf_tree.specs.Grammar.{productions};
+ghost use Rattle.jdf_tree.specs.Reads.{Reads};
 ghost use Rattle.body_read.specs.Text.{IsTree, IsFaultBefore, IsTreeFault};
 
 use crate::limits::{block_limit, variable_limit};
 use crate::statement::{block, statements};
 use expr_read::fault_at;
 use grammar_core::{Code, ReadFault, ReadRefusal, refusal_at};
-use jdf_alphabet::{GrammarCode, Terminal, is_next};
-use jdf_lex::{JdfRefusal, Spot, Token};
+use jdf_lex::{GrammarCode, JdfRefusal, Spot, Terminal, Token, is_next};
 use jdf_tree::BlockTree;
 use std::alloc::Global;
 
 // `block | statement*`, whatever the limits.
 #[tactic(auto, using(crate::proofs::Begins::text_reads))]
 fn text(alloc: Global, tokens: &[Token]) -> Result<(BlockTree, &[Token]), ReadRefusal>
-    ensures { Returns (λ x. (x.0, x.1.now)) result (reading productions text tokens.now) }
+    ensures { Reads text tokens.now result }
 {
     if is_next(tokens, Terminal::LeftBrace) {
         return block(alloc, tokens);
@@ -29,7 +29,7 @@ fn text(alloc: Global, tokens: &[Token]) -> Result<(BlockTree, &[Token]), ReadRe
 // A body is read in a window up to the first of its limits, so that no text makes the recursion deep.
 #[tactic(auto, using(crate::proofs::Limited::within_limit, crate::proofs::Limited::slice, crate::proofs::Limited::fault, crate::proofs::Limited::cut_after, crate::proofs::Limited::cut_at_fault, crate::proofs::Limited::text_within, expr_read::proofs::Loops::reading_shrinks))]
 fn body(alloc: Global, tokens: &[Token]) -> Result<(BlockTree, &[Token]), ReadRefusal>
-    ensures { Returns (λ x. (x.0, x.1.now)) result (reading productions body tokens.now) }
+    ensures { Reads body tokens.now result }
 {
     let blocks = block_limit(tokens);
     let variables = variable_limit(tokens);
@@ -70,8 +70,7 @@ fn whole(alloc: Global, tokens: &[Token]) -> Result<BlockTree, ReadRefusal>
 }
 
 /// Reads the statements of a body; or says how many tokens are left at the first fault of its text, and which fault
-/// that is.
-/// What its names mean is not looked at.
+/// that is. What its names mean is not looked at.
 pub fn tree(alloc: Global, tokens: &[Token]) -> Result<BlockTree, ReadRefusal>
     // What is read is the tree of the text; a fault is its first one.
     ensures exact { FindsOrRefuses (IsTree tokens.now) (IsFaultBefore tokens.now) result }

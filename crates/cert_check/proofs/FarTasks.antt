@@ -14,9 +14,9 @@ use Rattle.list_lemmas.proofs.Members.{IsIn-append_left, IsIn-append_right, IsIn
 use Rattle.std.proofs.lemmas.List.{map-append}
 use Rattle.list_lemmas.proofs.Joins.{map-map}
 use Rattle.dep_iter.specs.declared.link.Link.{Link}
-use Rattle.dep_iter.specs.Active.{by_flow, flow_ins, held_target, held_targets}
+use Rattle.dep_iter.specs.Active.{by_flow, flow_ins, flow_targets, held_target, held_targets}
 use Rattle.dep_iter.specs.Edges.{sources}
-use Rattle.dep_iter.specs.Links.{all_links, edge_in, flow_targets, link, links_to, task_links}
+use Rattle.dep_iter.specs.Links.{all_links, edge_of_link, link, links_to, task_links}
 use Rattle.dep_iter.proofs.Belonging.{by_flow-links, from_links, held-first, held-more, held-none, to_links}
 use Rattle.dep_iter.proofs.Joining.{in_edges-links}
 
@@ -77,4 +77,4 @@ flow_rest env n f fs u b none w =
 
 -- the sources of the edges into a task are the tasks at the other ends of its links
 pub sources-links : (P : Plan) (t : Task) → map far_of (task_links P t In) ≡ sources P t
-sources-links P t = sym (map-map (λ (e : Edge). e.from) (edge_in t) (task_links P t In)) ∙ ap (map (λ (e : Edge). e.from)) (in_edges-links P t)
+sources-links P t = sym (map-map (λ (e : Edge). e.from) (edge_of_link In t) (task_links P t In)) ∙ ap (map (λ (e : Edge). e.from)) (in_edges-links P t)

@@ -4,9 +4,9 @@ ghost use Rattle.std.specs.Prelude.{◌≡◌, ◌↔◌, ℕ, IsTrue, flat_map,
 ghost use Rattle.ptg_base.specs.Lists.{IsIn};
 ghost use Rattle.term_core.specs.declared.direction.Direction.TheVariants.{In};
 ghost use Rattle.dep_iter.specs.declared.link.Link.{Link as LinkValue};
-ghost use Rattle.dep_iter.specs.Active.{by_flow, held_targets};
+ghost use Rattle.dep_iter.specs.Active.{by_flow, flow_targets, held_targets};
 ghost use Rattle.dep_iter.specs.Edges as edges;
-ghost use Rattle.dep_iter.specs.Links.{all_links, flow_targets, links_to};
+ghost use Rattle.dep_iter.specs.Links.{all_links, links_to};
 ghost use Rattle.dep_iter.specs.Tasks as tasks;
 ghost use Rattle.dep_iter.specs.Tasks.{IsTask};
 

@@ -72,7 +72,8 @@ fn chain_and_levels(
     requires legal { IsLegalOrder m.now order.items }
     requires all { length order.items ≡ length (all_tasks m.now) }
     requires levels { HasLevels m.now weights.now order.items table.now.entries }
-    ensures { IfOk result (λ found. IsPrintedChain m.now weights.now found.0 × AreLevels m.now weights.now found.1) }
+    ensures { IfOk result (λ (chain, levels).
+        IsPrintedChain m.now weights.now chain × AreLevels m.now weights.now levels) }
 {
     m.plan_is_consistent();
     let rows = all_levels(alloc, table, m, order)?;

@@ -10,14 +10,14 @@ use Rattle.coll_data.specs.declared.coll.Coll.{Coll}
 use Rattle.plan_core.specs.declared.class.ClassPlan.{ClassPlan}
 use Rattle.plan_core.specs.declared.shape.Shape.{Shape}
 use Rattle.plan_core.specs.Targets.{dimensions, has_dimensions, is_element}
-use Rattle.check_names.specs.Alphabet.{Word, DefTree, ArgTree, Arity}
+use Rattle.check_names.specs.TreesAndFaults.{Word, DefTree, ArgTree, Arity}
 use Rattle.check_names.specs.Names.{Job, is_declared, coll_is, coll_named}
 use Rattle.check_names.specs.Arguments.{index_of, indices_faults, indices_of}
 use Rattle.check_names.proofs.Closed.{pair_parts}
 use Rattle.check_names.proofs.ClosedArguments.{closed_indices}
 use Rattle.check_names.proofs.NoFaults.{holds_not}
 use Rattle.check_names.proofs.Parts.{each_length}
-use Rattle.check_flows.specs.Places.{dimensions_of, collection_faults, element_faults, element_of}
+use Rattle.check_flows.specs.Elements.{dimensions_of, collection_faults, element_faults, element_of}
 use Rattle.check_flows.specs.PartsOfJob.{HaveParts}
 use Rattle.list_lemmas.proofs.Places.{position_within, slice_get_there}
 use Rattle.list_lemmas.proofs.Joins.{first_nil}

@@ -1,6 +1,6 @@
 -- The class and the flow that a target in tasks names.
 use Rattle.std.proofs.Common.{◌≡◌, ℕ, Some, slice_get, option_and_then, sym, ◌∙◌, ap}
-use Rattle.check_names.specs.Alphabet.{Word, FlowTree, ClassTree}
+use Rattle.check_names.specs.TreesAndFaults.{Word, FlowTree, ClassTree}
 use Rattle.check_names.specs.Names.{Job, word_is, class_named, class_of, flow_named, flow_of}
 use Rattle.check_names.proofs.Closed.{pair_parts}
 use Rattle.check_flows.specs.Targets.{task_of}

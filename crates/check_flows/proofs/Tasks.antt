@@ -5,7 +5,7 @@ use Rattle.ptg_base.specs.declared.refusal.Refusal.{Refusal}
 use Rattle.plan_core.specs.declared.target.Arg.{Arg}
 use Rattle.plan_core.specs.declared.target.Target.{Target}
 use Rattle.plan_core.specs.declared.target.Target.TheVariants.{Task}
-use Rattle.check_names.specs.Alphabet.{JdfFault, Word, ClassTree, Arity, NoSuchFlow}
+use Rattle.check_names.specs.TreesAndFaults.{JdfFault, Word, ClassTree, Arity, NoSuchFlow}
 use Rattle.check_names.specs.Faults.{fault_if}
 use Rattle.check_names.specs.Names.{Job, class_named, class_of, flow_named}
 use Rattle.check_names.specs.Returns.{ReturnsChecked, both}

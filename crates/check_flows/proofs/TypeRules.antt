@@ -10,7 +10,7 @@ use Rattle.term_core.specs.declared.flow.FlowKind.TheVariants.{Read, Write, Rw, 
 use Rattle.coll_data.specs.declared.coll.Coll.{Coll}
 use Rattle.coll_data.specs.Data.{Data}
 use Rattle.plan_core.specs.Flows.{is_datatype}
-use Rattle.check_names.specs.Alphabet.{FlowTree}
+use Rattle.check_names.specs.TreesAndFaults.{FlowTree}
 use Rattle.std.proofs.lemmas.Option.{same_Some}
 use Rattle.list_lemmas.proofs.Places.{position_within}
 use Rattle.list_lemmas.proofs.Options.{from_option_map}

@@ -7,7 +7,7 @@ use Rattle.list_lemmas.proofs.Joins.{flat_map_push}
 use Rattle.term_core.specs.Term.{Term}
 use Rattle.plan_core.specs.declared.target.Target.{Target}
 use Rattle.plan_core.specs.declared.flow.DepPlan.{DepPlan}
-use Rattle.check_names.specs.Alphabet.{JdfFault}
+use Rattle.check_names.specs.TreesAndFaults.{JdfFault}
 use Rattle.check_names.specs.Returns.{ReturnsChecked, both, each}
 use Rattle.check_names.proofs.Parts.{each_more}
 

@@ -18,7 +18,7 @@ use Rattle.plan_core.specs.declared.target.Target.{Target}
 use Rattle.plan_core.specs.Closed.{is_closed_option}
 use Rattle.plan_core.specs.Targets.{exists_target, has_datatype}
 use Rattle.plan_core.specs.Flows.{is_second, is_dependence, is_datatype, is_source, is_destination, is_flow}
-use Rattle.check_names.specs.Alphabet.{JdfFault, DefTree, TargetTree, DepTree, FlowTree}
+use Rattle.check_names.specs.TreesAndFaults.{JdfFault, DefTree, TargetTree, DepTree, FlowTree}
 use Rattle.check_names.specs.Names.{Job}
 use Rattle.check_names.specs.Returns.{both, each, each_option}
 use Rattle.check_names.specs.Expressions.{term_of, option_faults, option_term}

@@ -20,7 +20,7 @@ use Rattle.plan_core.specs.Closed.{is_closed_arg}
 use Rattle.plan_core.specs.Kinds as kinds
 use Rattle.plan_core.specs.Targets.{has_params, exists_target, has_datatype}
 use Rattle.plan_core.specs.Flows.{is_in_target, is_out_target}
-use Rattle.check_names.specs.Alphabet.{Spot, Word, ArgTree, DefTree, TargetTree, FlowTree, Arity, CtlMixed, TypeDiffers, WriteInput, NewSent, RangeInDataInput}
+use Rattle.check_names.specs.TreesAndFaults.{Spot, Word, ArgTree, DefTree, TargetTree, FlowTree, Arity, CtlMixed, TypeDiffers, WriteInput, NewSent, RangeInDataInput}
 use Rattle.check_names.specs.Faults.{fault_if}
 use Rattle.check_names.specs.Names.{Job, coll_named, class_of}
 use Rattle.check_names.specs.Arguments.{argument_of, arguments_faults, arguments_of, ranges_faults, indices_of}
@@ -30,7 +30,7 @@ use Rattle.check_names.proofs.NoFaults.{holds_not, parts_of}
 use Rattle.check_names.proofs.Parts.{each_length}
 use Rattle.check_flows.specs.Kinds.{is_control, is_write}
 use Rattle.check_flows.specs.Datatypes.{type_of_flow, flow_type}
-use Rattle.check_flows.specs.Places.{element_of}
+use Rattle.check_flows.specs.Elements.{element_of}
 use Rattle.check_flows.specs.Targets.{first_spot, class_faults, task_faults, task_of, named_faults, target_of}
 use Rattle.check_flows.specs.Rules.{mixes_flows, is_mixed, task_ranges, kind_faults, has_other_type, is_other_flow, type_differs, rule_faults}
 use Rattle.check_flows.specs.Dependences.{target_faults}

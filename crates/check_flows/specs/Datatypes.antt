@@ -6,7 +6,7 @@ use Rattle.std.specs.Str.{bytes_eq}
 use Rattle.term_core.specs.declared.flow.FlowKind.{FlowKind}
 use Rattle.coll_data.specs.Data.{Data}
 use Rattle.coll_data.specs.Types.{default_type}
-use Rattle.check_names.specs.Alphabet.{JdfFault, Word, DepTree, FlowTree, Datatype}
+use Rattle.check_names.specs.TreesAndFaults.{JdfFault, Word, DepTree, FlowTree, Datatype}
 use Rattle.check_names.specs.Faults.{fault_if}
 use Rattle.check_flows.specs.Kinds.{is_control}
 

@@ -11,7 +11,7 @@ use Rattle.coll_data.specs.Data.{Data}
 use Rattle.plan_core.specs.declared.target.Target.{Target}
 use Rattle.plan_core.specs.declared.flow.DepPlan.{DepPlan}
 use Rattle.plan_core.specs.declared.flow.FlowPlan.{FlowPlan}
-use Rattle.check_names.specs.Alphabet.{Spot, JdfFault, Word, DefTree, TargetTree, DepTree, FlowTree, MixedTypes}
+use Rattle.check_names.specs.TreesAndFaults.{Spot, JdfFault, Word, DefTree, TargetTree, DepTree, FlowTree, MixedTypes}
 use Rattle.check_names.specs.Faults.{fault_if}
 use Rattle.check_names.specs.Returns.{both, each, each_option}
 use Rattle.check_names.specs.Names.{Job}
@@ -25,7 +25,7 @@ use Rattle.check_flows.specs.Rules.{rule_faults}
 abbrev pub target_faults : Job → List DefTree → FlowTree → Direction → TargetTree → List JdfFault
 target_faults job seen flow direction t = named_faults job seen t ++ rule_faults job flow direction t
 
--- the place of the datatype of a dependence: its name, or where none is written the first target
+-- the spot of the datatype of a dependence: that of its name, or where none is written that of the first target
 abbrev pub type_spot : TargetTree → Option Word → Spot
 type_spot first None = first_spot first
 type_spot first (Some w) = w.spot

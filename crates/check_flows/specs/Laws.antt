@@ -8,9 +8,9 @@ use Rattle.plan_core.specs.declared.flow.FlowPlan.{FlowPlan}
 use Rattle.plan_core.specs.declared.shape.Shape.{Shape}
 use Rattle.plan_core.specs.Flows.{is_flow}
 use Rattle.plan_core.specs.Targets.{is_element}
-use Rattle.check_names.specs.Alphabet.{Word, DefTree, FlowTree, ArgTree}
+use Rattle.check_names.specs.TreesAndFaults.{Word, DefTree, FlowTree, ArgTree}
 use Rattle.check_names.specs.Names.{Job}
-use Rattle.check_flows.specs.Places.{element_faults, element_of}
+use Rattle.check_flows.specs.Elements.{element_faults, element_of}
 use Rattle.check_flows.specs.Dependences.{flow_faults, flow_plan}
 use Rattle.check_flows.specs.PartsOfJob.{HaveParts}
 

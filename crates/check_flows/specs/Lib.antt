@@ -1,5 +1,5 @@
 pub mod Kinds
-pub mod Places
+pub mod Elements
 pub mod Datatypes
 pub mod Targets
 pub mod Rules

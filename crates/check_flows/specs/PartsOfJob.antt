@@ -8,7 +8,7 @@ use Rattle.plan_core.specs.declared.flow.FlowPlan.{FlowPlan}
 use Rattle.plan_core.specs.declared.shape.Shape.{Shape}
 use Rattle.plan_core.specs.Kinds.{flow_of}
 use Rattle.plan_core.specs.Targets.{has_params}
-use Rattle.check_names.specs.Alphabet.{FlowTree, ClassTree}
+use Rattle.check_names.specs.TreesAndFaults.{FlowTree, ClassTree}
 use Rattle.check_names.specs.Names.{Job}
 use Rattle.check_flows.specs.Datatypes.{flow_type}
 

@@ -9,7 +9,7 @@ use Rattle.term_core.specs.declared.flow.FlowKind.{FlowKind}
 use Rattle.jdf_tree.specs.declared.tree.TargetTree.TheVariants as tree
 use Rattle.coll_data.specs.declared.coll.Coll.{Coll}
 use Rattle.coll_data.specs.Data.{Data}
-use Rattle.check_names.specs.Alphabet.{JdfFault, TargetTree, FlowTree, ClassTree, CtlMixed, WriteInput, NewSent, RangeInDataInput, TypeDiffers}
+use Rattle.check_names.specs.TreesAndFaults.{JdfFault, TargetTree, FlowTree, ClassTree, CtlMixed, WriteInput, NewSent, RangeInDataInput, TypeDiffers}
 use Rattle.check_names.specs.Faults.{fault_if}
 use Rattle.check_names.specs.Names.{Job, coll_named, class_of, flow_of}
 use Rattle.check_names.specs.Arguments.{ranges_faults}

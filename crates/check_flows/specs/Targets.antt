@@ -5,14 +5,14 @@ use Rattle.jdf_tree.specs.declared.tree.TargetTree.TheVariants as tree
 use Rattle.plan_core.specs.declared.target.Arg.{Arg}
 use Rattle.plan_core.specs.declared.target.Target.{Target}
 use Rattle.plan_core.specs.declared.target.Target.TheVariants as plan
-use Rattle.check_names.specs.Alphabet.{Spot, JdfFault, Word, DefTree, TargetTree, ClassTree, UnknownName, NoSuchFlow, Arity}
+use Rattle.check_names.specs.TreesAndFaults.{Spot, JdfFault, Word, DefTree, TargetTree, ClassTree, UnknownName, NoSuchFlow, Arity}
 use Rattle.check_names.specs.Faults.{fault, fault_if}
 use Rattle.check_names.specs.Returns.{both}
 use Rattle.check_names.specs.Names.{Job, class_named, class_of, flow_named}
 use Rattle.check_names.specs.Arguments.{arguments_faults, arguments_of}
-use Rattle.check_flows.specs.Places.{element_faults, element_of}
+use Rattle.check_flows.specs.Elements.{element_faults, element_of}
 
--- the place of a target: its first token
+-- the spot of a target: that of its first token
 abbrev pub first_spot : TargetTree → Spot
 first_spot (tree.Task flow class args) = flow.spot
 first_spot (tree.Element coll args) = coll.spot
@@ -51,6 +51,6 @@ target_of job seen (tree.Task flow class args) =
     both (λ (x : ℕ × ℕ) (y : List Arg). plan.Task x.0 x.1 y)
     (task_of job flow class) (arguments_of job seen args)
 target_of job seen (tree.Element coll args) =
-    option_map (λ (x : ℕ × List Term). plan.Element x.0 x.1) (element_of job seen coll args)
+    option_map (λ ((coll, indices) : ℕ × List Term). plan.Element coll indices) (element_of job seen coll args)
 target_of job seen (tree.New spot) = Some plan.New
 target_of job seen (tree.Null spot) = Some plan.Null

@@ -5,7 +5,7 @@ ghost use Rattle.check_names.specs.Contexts.{IsContext, job_of};
 ghost use Rattle.jdf_lex.specs.declared.fault.JdfCode.TheVariants.{UnknownName, WrongKind};
 ghost use Rattle.check_names.specs.Names.{coll_named, int_named};
 ghost use Rattle.check_names.specs.Returns.{ReturnsChecked};
-ghost use Rattle.check_flows.specs.Places.{dimensions_of, collection_faults, element_faults, element_of};
+ghost use Rattle.check_flows.specs.Elements.{dimensions_of, collection_faults, element_faults, element_of};
 
 use check_names::{Context, and_rules, coll_named, fault_if, indices, int_named, join};
 use coll_data::Given;

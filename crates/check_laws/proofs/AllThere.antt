@@ -1,7 +1,7 @@
 -- Parts that are there where no rule is broken.
 use Rattle.std.proofs.Common.{◌≡◌, List, [], ◌∷◌, ◌++◌, flat_map, Option, Some, None, is_none, refl}
 use Rattle.std.specs.Option.{IsSome}
-use Rattle.check_names.specs.Alphabet.{Spot, JdfCode, JdfFault}
+use Rattle.check_names.specs.TreesAndFaults.{Spot, JdfCode, JdfFault}
 use Rattle.check_names.specs.Faults.{fault, fault_if}
 use Rattle.check_names.specs.Returns.{both, each, each_option}
 use Rattle.list_lemmas.proofs.Joins.{first_nil, rest_nil}

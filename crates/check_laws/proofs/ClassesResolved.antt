@@ -2,7 +2,7 @@
 use Rattle.std.proofs.Common.{◌≡◌, List, [], ◌∷◌, ◌++◌, flat_map, Option, Some, None, Ok, Err, inl, inr, refl}
 use Rattle.std.specs.Option.{IsSome}
 use Rattle.std.specs.Result.{result_ok}
-use Rattle.check_names.specs.Alphabet.{JdfFault, DefTree, FlowTree, ClassTree, NameTwice}
+use Rattle.check_names.specs.TreesAndFaults.{JdfFault, DefTree, FlowTree, ClassTree, NameTwice}
 use Rattle.check_names.specs.Faults.{first_fault, resolved_faults}
 use Rattle.check_names.specs.Returns.{both}
 use Rattle.check_names.specs.Repeats.{repeats}
@@ -14,7 +14,7 @@ use Rattle.list_lemmas.proofs.Joins.{first_nil}
 use Rattle.list_lemmas.proofs.Options.{some_value}
 use Rattle.check_laws.proofs.AllThere.{both_there, each_there}
 use Rattle.check_laws.proofs.NamesResolved.{option_there, space_there}
-use Rattle.check_flows.specs.Places.{element_faults, element_of}
+use Rattle.check_flows.specs.Elements.{element_faults, element_of}
 use Rattle.check_flows.specs.Dependences.{flow_faults, flow_plan}
 use Rattle.check_laws.proofs.FlowsResolved.{element_there, flow_is_there}
 use Rattle.flow_check.specs.Bodies.{BodyResult}

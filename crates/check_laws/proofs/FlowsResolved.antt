@@ -10,7 +10,7 @@ use Rattle.term_core.specs.declared.flow.FlowKind.{FlowKind}
 use Rattle.jdf_tree.specs.declared.tree.TargetTree.TheVariants as tree
 use Rattle.coll_data.specs.Data.{Data}
 use Rattle.plan_core.specs.declared.target.Target.TheVariants as plan
-use Rattle.check_names.specs.Alphabet.{Word, DefTree, ArgTree, TargetTree, DepTree, FlowTree, ClassTree, NoSuchFlow, Arity, Datatype}
+use Rattle.check_names.specs.TreesAndFaults.{Word, DefTree, ArgTree, TargetTree, DepTree, FlowTree, ClassTree, NoSuchFlow, Arity, Datatype}
 use Rattle.check_names.specs.Faults.{fault_if}
 use Rattle.check_names.specs.Returns.{both, each_option}
 use Rattle.check_names.specs.Names.{Job, class_named, class_of, flow_named, coll_named}
@@ -22,7 +22,7 @@ use Rattle.list_lemmas.proofs.Options.{IsSome-option_map}
 use Rattle.check_laws.proofs.AllThere.{some_both, not_none, both_there, each_there, maybe_there}
 use Rattle.check_laws.proofs.NamesResolved.{option_there, arguments_there, indices_there}
 use Rattle.check_flows.specs.Kinds.{is_control}
-use Rattle.check_flows.specs.Places.{collection_faults, element_faults, element_of}
+use Rattle.check_flows.specs.Elements.{collection_faults, element_faults, element_of}
 use Rattle.coll_data.specs.Types.{default_type}
 use Rattle.check_flows.specs.Datatypes.{type_is, allowed_type, type_of_written, written_faults, first_written, flow_type}
 use Rattle.check_flows.specs.Targets.{task_faults, task_of, named_faults, target_of}

@@ -5,7 +5,7 @@ use Rattle.term_core.specs.declared.space.Def.TheVariants as def
 use Rattle.jdf_tree.specs.Expression.{Expression}
 use Rattle.jdf_tree.specs.declared.tree.ArgTree.TheVariants as tree
 use Rattle.plan_core.specs.declared.target.Arg.TheVariants as plan
-use Rattle.check_names.specs.Alphabet.{Word, DefTree, ArgTree, RangeInPlace, ParamUndefined, RangedLocal, LocalTwice, NameTwice}
+use Rattle.check_names.specs.TreesAndFaults.{Word, DefTree, ArgTree, RangeInPlace, ParamUndefined, RangedLocal, LocalTwice, NameTwice}
 use Rattle.check_names.specs.Faults.{fault_if}
 use Rattle.check_names.specs.Returns.{both, each}
 use Rattle.check_names.specs.Names.{Job, local_named}

@@ -19,7 +19,7 @@ use Rattle.expr_names.specs.Symbols.{Resolved}
 use Rattle.body_names.specs.Statements.{body_of}
 use Rattle.body_names.specs.TokenScan.{front_fault}
 use Rattle.body_lang.specs.Broken.{broken_fault}
-use Rattle.check_names.specs.Alphabet.{JdfFault, DefTree, FlowTree, ClassTree}
+use Rattle.check_names.specs.TreesAndFaults.{JdfFault, DefTree, FlowTree, ClassTree}
 use Rattle.check_names.specs.Names.{Job, int_named, coll_named}
 use Rattle.flow_check.specs.Bodies.{local_names, flow_names, BodyResult, ReadsAs, ReadsBody}
 use Rattle.flow_check.specs.Check.{ReadBodies}

@@ -5,12 +5,12 @@ use Rattle.jdf_tree.specs.Expression.{Expression}
 use Rattle.jdf_tree.specs.TreeLimits.{IsClassWithinLimits, IsWithinLimits}
 use Rattle.coll_data.specs.WellMade as well_data
 use Rattle.plan_core.specs.declared.plan.Plan.{Plan}
-use Rattle.check_names.specs.Alphabet.{JdfFault, Word, DefTree, ArgTree, FlowTree, ClassTree}
+use Rattle.check_names.specs.TreesAndFaults.{JdfFault, Word, DefTree, ArgTree, FlowTree, ClassTree}
 use Rattle.check_names.specs.Names.{Job}
 use Rattle.check_names.specs.Arguments.{arguments_faults, arguments_of, indices_faults, indices_of}
 use Rattle.check_names.specs.Expressions.{option_faults, option_term}
 use Rattle.check_names.specs.Definitions.{space_faults, space_of}
-use Rattle.check_flows.specs.Places.{element_faults, element_of}
+use Rattle.check_flows.specs.Elements.{element_faults, element_of}
 use Rattle.check_flows.specs.Dependences.{flow_faults, flow_plan}
 use Rattle.flow_check.specs.Bodies.{BodyResult, ReadsBody}
 use Rattle.flow_check.specs.Classes.{class_plan, class_faults}

@@ -10,7 +10,7 @@ use Rattle.term_core.specs.declared.space.Def.{Def}
 use Rattle.term_core.specs.declared.space.Def.TheVariants as def
 use Rattle.jdf_tree.specs.Expression.{Expression}
 use Rattle.jdf_tree.specs.declared.tree.ArgTree.TheVariants as tree
-use Rattle.check_names.specs.Alphabet.{Word, DefTree, ArgTree}
+use Rattle.check_names.specs.TreesAndFaults.{Word, DefTree, ArgTree}
 use Rattle.check_names.specs.Names.{Job, word_is, int_named, coll_named, local_named}
 use Rattle.check_names.specs.Returns.{both}
 use Rattle.check_names.specs.Expressions.{symbols_of, term_of, option_term}

@@ -7,7 +7,7 @@ use Rattle.jdf_tree.specs.declared.tree.ArgTree.TheVariants as tree
 use Rattle.plan_core.specs.declared.target.Arg.{Arg}
 use Rattle.plan_core.specs.declared.target.Arg.TheVariants as plan
 use Rattle.plan_core.specs.Closed.{is_closed_arg, is_span}
-use Rattle.check_names.specs.Alphabet.{JdfCode, DefTree, ArgTree}
+use Rattle.check_names.specs.TreesAndFaults.{JdfCode, DefTree, ArgTree}
 use Rattle.check_names.specs.Names.{Job}
 use Rattle.check_names.specs.Returns.{each}
 use Rattle.check_names.specs.Expressions.{term_of}

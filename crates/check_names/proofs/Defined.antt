@@ -3,7 +3,7 @@ use Rattle.std.proofs.Common.{◌≡◌, ℕ, ◌+◌, ◌<◌, List, [], ◌∷
 use Rattle.std.proofs.lemmas.List.{take_more, append-nil, append_assoc}
 use Rattle.ptg_base.specs.declared.refusal.Refusal.{Refusal}
 use Rattle.term_core.specs.declared.space.Def.{Def}
-use Rattle.check_names.specs.Alphabet.{JdfFault, Word, DefTree}
+use Rattle.check_names.specs.TreesAndFaults.{JdfFault, Word, DefTree}
 use Rattle.check_names.specs.Names.{Job}
 use Rattle.check_names.specs.Returns.{ReturnsChecked, both}
 use Rattle.check_names.specs.Definitions.{definition_faults, definitions_faults, definition_of, definitions_of}

@@ -5,7 +5,7 @@ use Rattle.std.specs.Str.{bytes_eq}
 use Rattle.std.specs.Cmp.Lexicographic.{pointwise, bytes_decides}
 use Rattle.std.proofs.lemmas.Bool.{false≢true, and_from, or_left, or_right}
 use Rattle.ptg_base.specs.Lists.{are_distinct}
-use Rattle.check_names.specs.Alphabet.{JdfCode, Word}
+use Rattle.check_names.specs.TreesAndFaults.{JdfCode, Word}
 use Rattle.check_names.specs.Repeats.{is_taken, repeats_after, repeats}
 use Rattle.list_lemmas.proofs.Joins.{first_nil, rest_nil}
 use Rattle.list_lemmas.proofs.Texts.{bytes_eq-self, bytes_eq-sym}

@@ -1,7 +1,7 @@
 -- The first fault of two lists together is the earlier one of theirs.
 use Rattle.std.proofs.Common.{◌≡◌, Bool, true, false, List, [], ◌∷◌, ◌++◌, Option, Some, None, refl, sym, ◌∙◌, ap}
 use Rattle.std.proofs.lemmas.Bool.{cond-true, cond-false}
-use Rattle.check_names.specs.Alphabet.{JdfFault}
+use Rattle.check_names.specs.TreesAndFaults.{JdfFault}
 use Rattle.check_names.specs.Faults.{is_before, earlier, earlier_of, first_fault}
 use Rattle.check_names.proofs.Order.{before-trans, before-cotrans}
 

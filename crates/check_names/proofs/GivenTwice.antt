@@ -4,7 +4,7 @@ use Rattle.std.specs.Str.{bytes_eq}
 use Rattle.std.proofs.lemmas.List.{take_more, append-nil, append_assoc}
 use Rattle.ptg_base.specs.declared.refusal.Refusal.{Refusal}
 use Rattle.name_table.specs.Names.{has_name}
-use Rattle.check_names.specs.Alphabet.{JdfCode, JdfFault, Word}
+use Rattle.check_names.specs.TreesAndFaults.{JdfCode, JdfFault, Word}
 use Rattle.check_names.specs.Faults.{fault_if}
 use Rattle.check_names.specs.Repeats.{is_taken, repeats_after, repeats}
 use Rattle.check_names.specs.Returns.{ReturnsChecked}

@@ -2,7 +2,7 @@
 use Rattle.std.proofs.Common.{◌≡◌, Bool, true, false, List, [], ◌∷◌, Option, Some, None, option_map, IsTrue, refl, subst}
 use Rattle.std.specs.List.{list_all}
 use Rattle.std.proofs.lemmas.Bool.{and_from}
-use Rattle.check_names.specs.Alphabet.{Spot, JdfCode}
+use Rattle.check_names.specs.TreesAndFaults.{Spot, JdfCode}
 use Rattle.check_names.specs.Faults.{fault_if}
 use Rattle.check_names.specs.Returns.{both, each, each_option}
 use Rattle.std.proofs.lemmas.Option.{same_Some}

@@ -3,7 +3,7 @@ use Rattle.std.proofs.Common.{◌≡◌, ℕ, suc, ◌+◌, ◌<◌, List, [], �
 use Rattle.std.proofs.lemmas.List.{take_more}
 use Rattle.ptg_base.specs.declared.refusal.Refusal.{Refusal}
 use Rattle.list_lemmas.proofs.Joins.{flat_map_push}
-use Rattle.check_names.specs.Alphabet.{JdfFault}
+use Rattle.check_names.specs.TreesAndFaults.{JdfFault}
 use Rattle.check_names.specs.Returns.{ReturnsChecked, both, each}
 
 -- the parts of one element more

@@ -12,7 +12,7 @@ use Rattle.term_core.specs.declared.space.Def.{Def}
 use Rattle.term_core.specs.declared.space.Def.TheVariants as def
 use Rattle.term_core.specs.declared.space.ClassSpace.{ClassSpace}
 use Rattle.jdf_tree.specs.declared.tree.ArgTree.TheVariants as tree
-use Rattle.check_names.specs.Alphabet.{Word, DefTree, ArgTree, NameTwice, LocalTwice, RangedLocal}
+use Rattle.check_names.specs.TreesAndFaults.{Word, DefTree, ArgTree, NameTwice, LocalTwice, RangedLocal}
 use Rattle.check_names.specs.Names.{Job, word_is, local_named}
 use Rattle.check_names.specs.Repeats.{is_taken, repeats_after, repeats}
 use Rattle.check_names.specs.Returns.{both, each}

@@ -7,7 +7,7 @@ use Rattle.jdf_tree.specs.Expression.{Expression}
 use Rattle.jdf_tree.specs.declared.tree.ArgTree.TheVariants as tree
 use Rattle.plan_core.specs.declared.target.Arg.{Arg}
 use Rattle.plan_core.specs.declared.target.Arg.TheVariants as plan
-use Rattle.check_names.specs.Alphabet.{JdfCode, JdfFault, DefTree, ArgTree, RangeInPlace}
+use Rattle.check_names.specs.TreesAndFaults.{JdfCode, JdfFault, DefTree, ArgTree, RangeInPlace}
 use Rattle.check_names.specs.Faults.{fault}
 use Rattle.check_names.specs.Returns.{both, each}
 use Rattle.check_names.specs.Names.{Job}

@@ -6,7 +6,7 @@ use Rattle.jdf_tree.specs.declared.tree.ArgTree.TheVariants as tree
 use Rattle.term_core.specs.declared.space.Def.{Def}
 use Rattle.term_core.specs.declared.space.Def.TheVariants as plan
 use Rattle.term_core.specs.declared.space.ClassSpace.{ClassSpace}
-use Rattle.check_names.specs.Alphabet.{JdfFault, Word, ArgTree, DefTree, NameTwice, LocalTwice, ParamUndefined, RangedLocal}
+use Rattle.check_names.specs.TreesAndFaults.{JdfFault, Word, ArgTree, DefTree, NameTwice, LocalTwice, ParamUndefined, RangedLocal}
 use Rattle.check_names.specs.Faults.{fault_if}
 use Rattle.check_names.specs.Returns.{both, each}
 use Rattle.check_names.specs.Repeats.{repeats}

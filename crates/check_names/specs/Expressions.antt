@@ -1,16 +1,16 @@
 -- The expressions of a class, outside of its body: the faults of their names, and the terms that they are. Source: the
 -- JDF documentation.
-use Rattle.std.specs.Prelude.{List, [], ◌∷◌, ◌++◌, Option, Some, None, option_map}
+use Rattle.std.specs.Prelude.{List, [], ◌∷◌, ◌++◌, Option}
 use Rattle.std.specs.Result.{result_ok}
 use Rattle.std.specs.Option.{option_map_or}
 use Rattle.term_core.specs.Term.{Term}
-use Rattle.term_core.specs.Term as term
 use Rattle.jdf_tree.specs.Expression.{Expression, Num, Name, Elem, Unary, Binary, Choose}
 use Rattle.expr_names.specs.Symbols.{SymbolTable, fault_at}
 use Rattle.expr_names.specs.Meanings.{value_of}
-use Rattle.check_names.specs.Alphabet.{JdfFault, DefTree, UnknownName}
+use Rattle.expr_names.specs.Expressions as expression
+use Rattle.check_names.specs.TreesAndFaults.{JdfFault, DefTree, UnknownName}
 use Rattle.check_names.specs.Faults.{earlier, fault, resolved_faults}
-use Rattle.check_names.specs.Returns.{both, each_option}
+use Rattle.check_names.specs.Returns.{each_option}
 use Rattle.check_names.specs.Names.{Job, meaning_of}
 
 -- the faults of the names in an expression, where these definitions are seen; only a body has flows before an index
@@ -23,17 +23,6 @@ expression_faults job seen (Binary o a b) = expression_faults job seen a ++ expr
 expression_faults job seen (Choose c a b) =
     expression_faults job seen c ++ (expression_faults job seen a ++ expression_faults job seen b)
 
--- the term of an expression, where each of its names means a number
-abbrev pub term_of : Job → List DefTree → Expression → Option Term
-term_of job seen (Num z spot) = Some (term.Num z)
-term_of job seen (Name w) = result_ok (value_of w (meaning_of job seen w.text))
-term_of job seen (Elem w at) = None
-term_of job seen (Unary o a spot) = option_map (term.Unary o) (term_of job seen a)
-term_of job seen (Binary o a b) = both (term.Binary o) (term_of job seen a) (term_of job seen b)
-term_of job seen (Choose c a b) =
-    both (λ x (y : Term × Term). term.Choose x y.0 y.1) (term_of job seen c)
-    (both (λ x y. (x, y)) (term_of job seen a) (term_of job seen b))
-
 -- what names mean where these definitions are seen; only a body has flows before an index
 abbrev pub symbols_of : Job → List DefTree → SymbolTable
 symbols_of job seen =
@@ -42,6 +31,10 @@ symbols_of job seen =
       flow = λ w. fault_at w UnknownName;
       reported = earlier;
     }
+
+-- the term of an expression, if each of its names means a number
+unfoldable pub term_of : Job → List DefTree → Expression → Option Term
+term_of job seen e = result_ok (expression.term_of (symbols_of job seen) e)
 
 -- the faults of an expression that may be left out
 abbrev pub option_faults : Job → List DefTree → Option Expression → List JdfFault

@@ -1,17 +1,17 @@
 -- Faults in the order of the text, and the first of several. That a text is refused with the first of all its faults,
--- and which code comes first at one place, are this project's own choice.
+-- and which code comes first at one spot, are this project's own choice.
 use Rattle.std.specs.Prelude.{ℕ, Bool, true, false, ◌&&◌, ◌||◌, nat_eq, nat_lt, List, [], ◌∷◌, Option, Some, None, if◌then◌else◌, option_to_list}
 use Rattle.std.specs.Result.{result_err}
 use Rattle.expr_names.specs.Symbols.{Resolved}
-use Rattle.check_names.specs.Alphabet.{Spot, JdfCode, JdfFault}
+use Rattle.check_names.specs.TreesAndFaults.{Spot, JdfCode, JdfFault}
 use denote.Enum.Declared.{tag_of}
 use Rattle.jdf_lex.specs.contracts.fault.JdfCode.{the_type}
 
--- The number of a code in the order in which the codes are declared: where two fit one place, the first is given.
+-- the number of a code in the order in which the codes are declared; of two at one spot the first is given
 abbrev pub code_number : JdfCode → ℕ
 code_number = tag_of the_type
 
--- whether a fault comes before another: its place does, or it has the same place and a code that does
+-- whether a fault comes before another: its spot does, or it has the same spot and a code that does
 abbrev pub is_before : JdfFault → JdfFault → Bool
 is_before f g =
     nat_lt f.spot.line g.spot.line
@@ -33,7 +33,7 @@ abbrev pub first_fault : List JdfFault → Option JdfFault
 first_fault [] = None
 first_fault (f ∷ faults) = earlier_of (Some f) (first_fault faults)
 
--- the fault with this code at a place
+-- the fault with this code at a spot
 abbrev pub fault : Spot → JdfCode → JdfFault
 fault spot code = record { spot = spot; code = code }
 

@@ -2,7 +2,7 @@
 use Rattle.std.specs.Prelude.{◌≡◌, List, [], map, IsTrue}
 use Rattle.std.specs.Str.{bytes_eq}
 use Rattle.ptg_base.specs.Lists.{are_distinct}
-use Rattle.check_names.specs.Alphabet.{JdfCode, Word}
+use Rattle.check_names.specs.TreesAndFaults.{JdfCode, Word}
 use Rattle.check_names.specs.Repeats.{repeats}
 
 -- Words of which none is given twice are distinct names.

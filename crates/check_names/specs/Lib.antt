@@ -1,4 +1,4 @@
-pub mod Alphabet
+pub mod TreesAndFaults
 pub mod Faults
 pub mod Returns
 pub mod Names

@@ -8,7 +8,7 @@ use Rattle.coll_data.specs.declared.coll.Coll.{Coll}
 use Rattle.coll_data.specs.Data.{Data}
 use Rattle.expr_names.specs.declared.meaning.Meaning.{Meaning}
 use Rattle.expr_names.specs.Meanings.{outer_meaning}
-use Rattle.check_names.specs.Alphabet.{Word, DefTree, FlowTree, ClassTree, Jdf}
+use Rattle.check_names.specs.TreesAndFaults.{Word, DefTree, FlowTree, ClassTree, Jdf}
 
 -- a JDF and its data
 pub record Job : Type 0 where

@@ -1,7 +1,7 @@
 -- Names that are given twice. Source: the JDF documentation.
 use Rattle.std.specs.Prelude.{ℕ, Bool, List, [], ◌∷◌, ◌++◌}
 use Rattle.std.specs.List.{list_any}
-use Rattle.check_names.specs.Alphabet.{JdfCode, JdfFault, Word}
+use Rattle.check_names.specs.TreesAndFaults.{JdfCode, JdfFault, Word}
 use Rattle.check_names.specs.Faults.{fault_if}
 use Rattle.check_names.specs.Names.{word_is}
 

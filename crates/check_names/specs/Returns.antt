@@ -2,7 +2,7 @@
 use Rattle.std.specs.Prelude.{◌≡◌, List, [], ◌∷◌, Option, Some, None, option_map, Result, Ok, Err}
 use Rattle.ptg_base.specs.declared.refusal.Refusal.{Refusal}
 use Rattle.ptg_base.specs.declared.refusal.Refusal.TheVariants.{Fault, OutOfMemory}
-use Rattle.check_names.specs.Alphabet.{JdfFault}
+use Rattle.check_names.specs.TreesAndFaults.{JdfFault}
 use Rattle.check_names.specs.Faults.{first_fault}
 
 -- The part is as its names resolve, and no rule is broken; or the first of its faults is named; or there was no memory.

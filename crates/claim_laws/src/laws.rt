@@ -57,13 +57,13 @@ pub fn claims_are_a_legal_order()
 /// elements. A CTL flow has none, and neither has a flow whose source is `NULL`; each item of a data flow has one.
 pub fn tiles_have_the_sizes_of_their_flows()
     ensures places { (P : Plan) (G : Data) (t : Task) (tiles : List (Option (List ℤ))) → IsConsistent P
-        → DataFit P.colls P.elems G → IsWellMade G → IsTask P t → ended P G t ≡ Some (Ok tiles)
+        → DataFit P G → IsWellMade G → IsTask P t → ended P G t ≡ Some (Ok tiles)
         → length tiles ≡ length (flows_of P t) }
     ensures sizes { (P : Plan) (G : Data) (t : Task) (tiles : List (Option (List ℤ))) (n : ℕ) (f : FlowPlan)
-        → IsConsistent P → DataFit P.colls P.elems G → IsWellMade G → IsTask P t → ended P G t ≡ Some (Ok tiles)
+        → IsConsistent P → DataFit P G → IsWellMade G → IsTask P t → ended P G t ≡ Some (Ok tiles)
         → slice_get (flows_of P t) n ≡ Some f → size_of tiles n ≡ flow_size P t n f }
     ensures sent { (P : Plan) (G : Data) (t : Task) (i : Item) (f : FlowPlan) → IsConsistent P
-        → DataFit P.colls P.elems G → IsWellMade G → IsTask P t → IsTrue (has_outputs (ended P G t))
+        → DataFit P G → IsWellMade G → IsTask P t → IsTrue (has_outputs (ended P G t))
         → IsIn i (items P t) → slice_get (flows_of P t) (item_flow i) ≡ Some f → IsTrue (is_data (Some f.kind))
         → option_map length (output_tile (ended P G t) (item_flow i)) ≡ Some (slice_index P.elems f.datatype) }
 {}

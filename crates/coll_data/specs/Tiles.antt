@@ -10,7 +10,8 @@ use Rattle.coll_data.specs.declared.coll.Coll.{Coll}
 abbrev pub HasPlace : List Coll → Place → Type 0
 HasPlace colls p = HasPlaceAmong (λ (c : Coll). c.shape.0) (λ (c : Coll). c.shape.1) colls p
 
--- the index of the tile in row i and column j, if they are there: their number among the places
+-- the index of the tile in row i and column j of a collection with this many rows and columns, if it has them: tiles
+-- are counted row by row
 abbrev pub tile_index : ℕ → Option ℕ → ℤ → ℤ → Option ℕ
 tile_index rows None i j = option_and_then (λ column. index_in rows i) (index_in 1 j)
 tile_index rows (Some cols) i j =

@@ -9,9 +9,9 @@ use Rattle.coll_data.specs.Tiles.{tile_count}
 
 -- how many elements each type has, by its number; type 0 is DEFAULT
 abbrev pub elements_by_type : Data → List ℕ
-elements_by_type d = d.elems ∷ map (λ (type : List ℕ × ℕ). type.1) d.types
+elements_by_type d = d.elems ∷ map (λ ((name, elements) : List ℕ × ℕ). elements) d.types
 
--- a collection has a tile for each of its places, of which there is one at least
+-- the collection has at least one place, and a tile for each
 pub record IsWhole (c : Coll) : Type 0 where
   pub has_tiles : 1 ≤ tile_count c.shape.0 c.shape.1
   pub all_tiles : length c.tiles ≡ tile_count c.shape.0 c.shape.1

@@ -39,7 +39,7 @@ is_coll_with test fields =
 abbrev pub is_of_coll_with : (GrowingColl → Bool) → Draft → Record → Bool
 is_of_coll_with test d fields =
     is_tile_with
-    (option_map_or (λ (found : ℕ × GrowingColl). test found.1) (coll_named d (field fields 1)) false) fields
+    (option_map_or (λ ((index, coll) : ℕ × GrowingColl). test coll) (coll_named d (field fields 1)) false) fields
 
 -- a test of two numbers, passed only where both are there
 abbrev pub both_pass : {A B : Type 0} → (A → B → Bool) → Option A → Option B → Bool
@@ -109,7 +109,8 @@ has_wrong_tile_count fields =
 abbrev pub asked_elements : Draft → Record → List ℕ → ℕ → Option ℕ
 asked_elements d fields type at =
     option_and_then
-    (λ (known : ℕ × ℕ). option_map (λ (s : ℕ × Option ℕ). tile_count s.0 s.1 * known.1) (shape_in fields (at + 1)))
+    (λ ((number, elements) : ℕ × ℕ).
+    option_map (λ ((rows, cols) : ℕ × Option ℕ). tile_count rows cols * elements) (shape_in fields (at + 1)))
     (type_named d type)
 
 -- with the collection that a record asks for the tiles of all collections have too many elements

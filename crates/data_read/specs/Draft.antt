@@ -47,7 +47,8 @@ coll_named d name =
 
 -- neither an integer nor a collection has this name
 abbrev pub is_new : Draft → List ℕ → Bool
-is_new d name = not (is_some (coll_index name d.colls) || list_any (λ (int : List ℕ × ℤ). bytes_eq name int.0) d.ints)
+is_new d name =
+    not (is_some (coll_index name d.colls) || list_any (λ ((other, value) : List ℕ × ℤ). bytes_eq name other) d.ints)
 
 -- the index of the tile in row i and column j, and the values that a record gave for it, if one did
 abbrev pub slot_at : GrowingColl → ℤ → ℤ → Option (ℕ × Option (List ℤ))

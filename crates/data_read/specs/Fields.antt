@@ -27,7 +27,7 @@ without_blanks bytes = take (content_length (after_blanks bytes)) (after_blanks 
 abbrev pub field : List (List ℕ) → ℕ → List ℕ
 field fields at = without_blanks (get_or fields at [])
 
--- the first field of the record is this word
+-- whether the first field of the record is this word
 abbrev pub begins : List ℕ → List (List ℕ) → Bool
 begins word fields = bytes_eq (field fields 0) word
 

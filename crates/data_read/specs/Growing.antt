@@ -26,7 +26,7 @@ coll_or_int None int = if int then Some Integer else None
 -- what a name stands for
 abbrev pub meaning : List (List ℕ × ℤ) → List GrowingColl → List ℕ → Option Known
 meaning ints colls name =
-    coll_or_int (coll_index name colls) (list_any (λ (int : List ℕ × ℤ). bytes_eq name int.0) ints)
+    coll_or_int (coll_index name colls) (list_any (λ ((other, value) : List ℕ × ℤ). bytes_eq name other) ints)
 
 -- the table has the names of the integers and the collections
 abbrev pub IsKeyed : Growing → Type 0

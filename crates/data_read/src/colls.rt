@@ -50,7 +50,7 @@ fn side(n: i64) -> Option<u32>
 // The shape of this many rows and columns, if it has from 1 to 65,536 tiles.
 fn shape_of(rows: i64, cols: Option<i64>) -> Option<(u32, Option<u32>)>
     ensures shape { result ≡ shape_of rows cols }
-    ensures at_most { IfSome result (λ shape. tile_count shape.0 shape.1 ≤ most_tiles) }
+    ensures at_most { IfSome result (λ (rows, cols). tile_count rows cols ≤ most_tiles) }
 {
     let rows = side(rows)?;
     let Some(cols) = cols else {

@@ -7,7 +7,7 @@ ghost use Rattle.data_read.specs.Fields.{is_blank, after_blanks, content_length,
 ghost use Rattle.data_read.specs.Records.{element_count};
 
 use csv::ByteRecord;
-use ptg_base::decimal;
+use ptg_base::{MOST_NUMBER, decimal};
 
 // How many elements a tile may have.
 const MOST_TILE_ELEMENTS: i64 = 4096;
@@ -76,7 +76,7 @@ fn digits_at_most(digits: &[u8], most: u64) -> Option<u64>
 fn positive(digits: &[u8]) -> Option<i64>
     ensures { result ≡ positive digits.now }
 {
-    match digits_at_most(digits, 9_223_372_036_854_775_807) {
+    match digits_at_most(digits, MOST_NUMBER) {
         Some(value) => Some(value as i64),
         None => None,
     }

@@ -19,13 +19,13 @@ use Rattle.dep_iter.specs.declared.link.Link.{Link}
 use Rattle.dep_iter.specs.Tasks.{flows_of, locals_of}
 use Rattle.plan_core.specs.declared.flow.DepPlan.{DepPlan}
 use Rattle.plan_core.specs.Flows.{dependences}
-use Rattle.dep_iter.specs.Active.{by_flow, held_target, held_targets, held_then}
+use Rattle.dep_iter.specs.Active.{by_flow, flow_targets, held_target, held_targets, held_then}
 use Rattle.dep_iter.specs.Arguments.{combinations, product}
 use Rattle.dep_iter.specs.Directions.{IsNearFlow, edges_before, edges_of, far_flow, far_task}
 use Rattle.dep_iter.specs.Directions.{near_flow, near_task}
 use Rattle.dep_iter.specs.Edges.{in_edges, in_edges_before}
 use Rattle.dep_iter.specs.Items.{out_edges, out_edges_before}
-use Rattle.dep_iter.specs.Links.{all_links, edge_in, edge_out, flow_targets, link, links_to, task_links}
+use Rattle.dep_iter.specs.Links.{all_links, edge_of_link, link, links_to, task_links}
 use Rattle.dep_iter.proofs.Joining.{edges_into-among, in_edges-links, items_to-among, out_edges-links}
 
 -- a combination has a value of the first list, and the others are a combination of the other lists
@@ -113,21 +113,21 @@ link_in e = record { near = e.in_flow; far = e.from; far_flow = e.out_flow }
 abbrev pub link_out : Edge → Link
 link_out e = record { near = e.out_flow; far = e.to; far_flow = e.in_flow }
 
-pub from_edges_in : (t : Task) (ls : List Link) (e : Edge) → IsIn e (map (edge_in t) ls) → (e.to ≡ t) × IsIn (link_in e) ls
+pub from_edges_in : (t : Task) (ls : List Link) (e : Edge) → IsIn e (map (edge_of_link In t) ls) → (e.to ≡ t) × IsIn (link_in e) ls
 from_edges_in t ls e h =
-    let p = from_map (edge_in t) ls e h in
+    let p = from_map (edge_of_link In t) ls e h in
     (ap (λ (e : Edge). e.to) p.2, rw (ap link_in p.2) p.1)
 
-pub to_edges_in : (t : Task) (ls : List Link) (e : Edge) → e.to ≡ t → IsIn (link_in e) ls → IsIn e (map (edge_in t) ls)
-to_edges_in t ls e q h = subst (λ u. IsIn e (map (edge_in u) ls)) q (IsIn-map (edge_in e.to) ls (link_in e) h)
+pub to_edges_in : (t : Task) (ls : List Link) (e : Edge) → e.to ≡ t → IsIn (link_in e) ls → IsIn e (map (edge_of_link In t) ls)
+to_edges_in t ls e q h = subst (λ u. IsIn e (map (edge_of_link In u) ls)) q (IsIn-map (edge_of_link In e.to) ls (link_in e) h)
 
-pub from_edges_out : (t : Task) (ls : List Link) (e : Edge) → IsIn e (map (edge_out t) ls) → (e.from ≡ t) × IsIn (link_out e) ls
+pub from_edges_out : (t : Task) (ls : List Link) (e : Edge) → IsIn e (map (edge_of_link Out t) ls) → (e.from ≡ t) × IsIn (link_out e) ls
 from_edges_out t ls e h =
-    let p = from_map (edge_out t) ls e h in
+    let p = from_map (edge_of_link Out t) ls e h in
     (ap (λ (e : Edge). e.from) p.2, rw (ap link_out p.2) p.1)
 
-pub to_edges_out : (t : Task) (ls : List Link) (e : Edge) → e.from ≡ t → IsIn (link_out e) ls → IsIn e (map (edge_out t) ls)
-to_edges_out t ls e q h = subst (λ u. IsIn e (map (edge_out u) ls)) q (IsIn-map (edge_out e.from) ls (link_out e) h)
+pub to_edges_out : (t : Task) (ls : List Link) (e : Edge) → e.from ≡ t → IsIn (link_out e) ls → IsIn e (map (edge_of_link Out t) ls)
+to_edges_out t ls e q h = subst (λ u. IsIn e (map (edge_of_link Out u) ls)) q (IsIn-map (edge_of_link Out e.from) ls (link_out e) h)
 
 -- the links of a task whose flow has the number of the link
 pub from_task : (P : Plan) (t : Task) (way : Direction) (l : Link) → IsIn l (task_links P t way) → IsSomeAnd (slice_get (flows_of P t) l.near) (λ f. IsIn l (flat_map (links_to (locals_of P t) l.near) (flow_targets way (locals_of P t) f)))

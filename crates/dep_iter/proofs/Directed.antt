@@ -7,8 +7,8 @@ use Rattle.term_core.specs.Kinds.{first_only}
 use Rattle.plan_core.specs.declared.flow.FlowPlan.{FlowPlan}
 use Rattle.plan_core.specs.declared.plan.Plan.{Plan}
 use Rattle.plan_core.specs.Flows.{dependences}
-use Rattle.dep_iter.specs.Active.{held_targets}
-use Rattle.dep_iter.specs.Links.{dependences_fit, flow_targets}
+use Rattle.dep_iter.specs.Active.{flow_targets, held_targets}
+use Rattle.dep_iter.specs.Links.{dependences_fit}
 
 pub held_of : (way : Direction) (env : List ℤ) (f : FlowPlan) → held_targets (first_only way f.kind) (dependences way f) env ≡ flow_targets way env f
 held_of In env f = refl

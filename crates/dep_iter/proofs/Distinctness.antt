@@ -4,6 +4,7 @@ use Rattle.std.specs.List.{filter_map}
 use Rattle.std.specs.Result.{result_unwrap_or}
 use Rattle.ptg_base.specs.Lists.{HasNoRepeats}
 use Rattle.ptg_base.specs.Task.{Task}
+use Rattle.term_core.specs.declared.direction.Direction.TheVariants.{In, Out}
 use Rattle.range_space.specs.Fault.{bounds, number}
 use Rattle.range_space.proofs.Distinct.{distinct_number, distinct_range}
 use Rattle.list_lemmas.proofs.Members.{from_map}
@@ -16,7 +17,7 @@ use Rattle.dep_iter.specs.declared.link.Link.{Link}
 use Rattle.dep_iter.specs.Arguments.{arg_values, combinations}
 use Rattle.dep_iter.specs.Edges.{edges_into}
 use Rattle.dep_iter.specs.Items.{edge_of, items_to}
-use Rattle.dep_iter.specs.Links.{edge_in, edge_out, link, links_to}
+use Rattle.dep_iter.specs.Links.{edge_of_link, link, links_to}
 use Rattle.dep_iter.proofs.Belonging.{link_in, link_out}
 use Rattle.dep_iter.proofs.Joining.{edges_into-links, items_to-links}
 
@@ -46,8 +47,8 @@ distinct_links env n target.Null = tt
 
 pub distinct_in : (t : Task) (env : List ℤ) (n : ℕ) (x : Target) → HasNoRepeats (edges_into t env n x)
 distinct_in t env n x =
-    rw (edges_into-links t env n x) (HasNoRepeats-map (edge_in t) (links_to env n x) (distinct_links env n x) (λ k l e. ap link_in e))
+    rw (edges_into-links t env n x) (HasNoRepeats-map (edge_of_link In t) (links_to env n x) (distinct_links env n x) (λ k l e. ap link_in e))
 
 pub distinct_out : (t : Task) (env : List ℤ) (n : ℕ) (x : Target) → HasNoRepeats (filter_map edge_of (items_to t env n x))
 distinct_out t env n x =
-    rw (items_to-links t env n x) (HasNoRepeats-map (edge_out t) (links_to env n x) (distinct_links env n x) (λ k l e. ap link_out e))
+    rw (items_to-links t env n x) (HasNoRepeats-map (edge_of_link Out t) (links_to env n x) (distinct_links env n x) (λ k l e. ap link_out e))

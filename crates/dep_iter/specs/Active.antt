@@ -9,11 +9,14 @@ use Rattle.term_core.specs.Arith.{holds}
 use Rattle.ptg_base.specs.Returns.{and_then}
 use Rattle.term_core.specs.Value.{value}
 use Rattle.term_core.specs.declared.fault.ExprFault.{ExprFault}
-use Rattle.term_core.specs.Kinds.{is_data}
+use Rattle.term_core.specs.Kinds.{first_only}
+use Rattle.term_core.specs.declared.direction.Direction.{Direction}
+use Rattle.term_core.specs.declared.direction.Direction.TheVariants.{In, Out}
 use Rattle.plan_core.specs.declared.flow.DepPlan.{DepPlan}
 use Rattle.plan_core.specs.declared.flow.FlowPlan.{FlowPlan}
 use Rattle.plan_core.specs.declared.plan.Plan.{Plan}
 use Rattle.plan_core.specs.declared.target.Target.{Target}
+use Rattle.plan_core.specs.Flows.{dependences}
 use Rattle.dep_iter.specs.Tasks.{locals_of, flows_of}
 
 -- whether a guard holds under these locals, which is where it is not 0, or its fault; without a guard a dependence
@@ -47,13 +50,22 @@ abbrev pub held_targets : Bool → List DepPlan → List ℤ → List Target
 held_targets first_only [] env = []
 held_targets first_only (d ∷ ds) env = held_then first_only (held_target d env) (held_targets first_only ds env)
 
+-- the targets of a flow's active dependences in one direction
+abbrev pub flow_targets : Direction → List ℤ → FlowPlan → List Target
+flow_targets direction env f = held_targets (first_only direction f.kind) (dependences direction f) env
+
 -- the targets of the active in dependences of a flow
 abbrev pub flow_ins : List ℤ → FlowPlan → List Target
-flow_ins env f = held_targets (is_data f.kind) f.ins env
+flow_ins env f = flow_targets In env f
 
 -- the targets of the active out dependences of a flow
 abbrev pub flow_outs : List ℤ → FlowPlan → List Target
-flow_outs env f = held_targets false f.outs env
+flow_outs env f = flow_targets Out env f
+
+-- what each of these flows gives, which are numbered from n on
+abbrev pub by_number : {X : Type 0} → (ℕ → FlowPlan → List X) → ℕ → List FlowPlan → List X
+by_number g n [] = []
+by_number g n (f ∷ fs) = g n f ++ by_number g (suc n) fs
 
 -- the targets of each of these flows, which are numbered from n on, with the number of their flow
 abbrev pub by_flow : (FlowPlan → List Target) → ℕ → List FlowPlan → List (ℕ × Target)

@@ -48,10 +48,12 @@ abbrev pub edges_before : Direction → Plan → Task → ℕ → ℕ → List E
 edges_before In P t n k = in_edges_before P t n k
 edges_before Out P t n k = out_edges_before P t n k
 
--- an edge of a task in one direction is one of the task at its other end in the other direction
+-- The task at the other end of an edge is one of the job, and has the edge in the other direction.
 abbrev pub HasOtherEnd : Direction → Plan → Edge → Type 0
-HasOtherEnd d P e = IsTask P (far_task d e) × IsIn e (edges_of (opposite d) P (far_task d e))
+HasOtherEnd direction P e =
+    IsTask P (far_task direction e) × IsIn e (edges_of (opposite direction) P (far_task direction e))
 
--- the edge names this task and this flow of it
+-- The edge names this task and this flow of it.
 abbrev pub IsNearFlow : Direction → Plan → Task → Edge → FlowPlan → Type 0
-IsNearFlow d P t e f = (near_task d e ≡ t) × (slice_get (flows_of P t) (near_flow d e) ≡ Some f)
+IsNearFlow direction P t e f =
+    (near_task direction e ≡ t) × (slice_get (flows_of P t) (near_flow direction e) ≡ Some f)

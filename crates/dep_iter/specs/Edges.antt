@@ -29,7 +29,7 @@ edges_into t env n target.Null = []
 
 -- the edges into a task, by flow
 unfoldable pub in_edges : Plan → Task → List Edge
-in_edges P t = flat_map (λ a. edges_into t (locals_of P t) a.0 a.1) (active_ins P t)
+in_edges P t = flat_map (λ (flow, target). edges_into t (locals_of P t) flow target) (active_ins P t)
 
 -- how many edges go into a task
 abbrev pub goal : Plan → Task → ℕ

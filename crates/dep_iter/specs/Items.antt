@@ -33,7 +33,7 @@ items_to t env n target.Null = []
 
 -- what a task sends, in the text's order
 unfoldable pub items : Plan → Task → List Item
-items P t = flat_map (λ a. items_to t (locals_of P t) a.0 a.1) (active_outs P t)
+items P t = flat_map (λ (flow, target). items_to t (locals_of P t) flow target) (active_outs P t)
 
 -- the edge that an item is
 abbrev pub edge_of : Item → Option Edge

@@ -3,11 +3,11 @@ pub mod Active
 pub mod Arguments
 pub mod Edges
 pub mod Items
+pub mod Directions
 pub mod Hints
 pub mod Well
 pub mod Consistent
 pub mod Combining
 pub mod Links
 pub mod Walking
-pub mod Given
-pub mod Directions
+pub mod WalkLocals

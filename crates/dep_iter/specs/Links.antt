@@ -6,7 +6,6 @@ use Rattle.std.specs.Option.{option_map_or}
 use Rattle.ptg_base.specs.Task.{Task}
 use Rattle.ptg_base.specs.declared.edge.Edge.{Edge}
 use Rattle.term_core.specs.declared.direction.Direction.{Direction}
-use Rattle.term_core.specs.declared.direction.Direction.TheVariants.{In, Out}
 use Rattle.plan_core.specs.declared.flow.DepPlan.{DepPlan}
 use Rattle.plan_core.specs.declared.flow.FlowPlan.{FlowPlan}
 use Rattle.plan_core.specs.declared.plan.Plan.{Plan}
@@ -16,9 +15,9 @@ use Rattle.plan_core.specs.Kinds.{flow_of}
 use Rattle.plan_core.specs.Targets.{has_params}
 use Rattle.dep_iter.specs.declared.link.Link.{Link}
 use Rattle.dep_iter.specs.Tasks.{flows_of, locals_of, task}
-use Rattle.dep_iter.specs.Active.{by_flow, flow_ins, flow_outs}
+use Rattle.dep_iter.specs.Active.{by_flow, flow_targets}
 use Rattle.dep_iter.specs.Arguments.{combinations}
-use Rattle.dep_iter.specs.Edges.{edge}
+use Rattle.dep_iter.specs.Directions.{edge_at}
 
 -- the link of flow n with a flow of the task of this class with these parameters
 abbrev pub link : ℕ → ℕ → ℕ → List ℤ → Link
@@ -33,20 +32,11 @@ links_to env n target.Null = []
 
 -- the links that these targets of flows stand for
 abbrev pub all_links : List ℤ → List (ℕ × Target) → List Link
-all_links env targets = flat_map (λ a. links_to env a.0 a.1) targets
+all_links env targets = flat_map (λ (flow, target). links_to env flow target) targets
 
--- a link of the task t as an edge into it
-abbrev pub edge_in : Task → Link → Edge
-edge_in t l = edge l.far l.far_flow t l.near
-
--- a link of the task t as an edge out of it
-abbrev pub edge_out : Task → Link → Edge
-edge_out t l = edge t l.near l.far l.far_flow
-
--- the targets of a flow's active dependences in one direction
-abbrev pub flow_targets : Direction → List ℤ → FlowPlan → List Target
-flow_targets In env f = flow_ins env f
-flow_targets Out env f = flow_outs env f
+-- the edge that a link of the task t in one direction is
+abbrev pub edge_of_link : Direction → Task → Link → Edge
+edge_of_link direction t l = edge_at direction t l.near l.far l.far_flow
 
 -- whether a target names a flow of a class and has as many arguments as the class has parameters, if it names a task
 abbrev pub fits : Plan → Target → Bool
@@ -69,4 +59,4 @@ flows_fit P fs = list_all (λ (f : FlowPlan). dependences_fit P f.ins && depende
 
 -- all links of a task in one direction
 abbrev pub task_links : Plan → Task → Direction → List Link
-task_links P t way = all_links (locals_of P t) (by_flow (flow_targets way (locals_of P t)) 0 (flows_of P t))
+task_links P t direction = all_links (locals_of P t) (by_flow (flow_targets direction (locals_of P t)) 0 (flows_of P t))

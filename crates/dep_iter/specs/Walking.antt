@@ -8,15 +8,15 @@ use Rattle.plan_core.specs.declared.target.Target.TheVariants as target
 use Rattle.ptg_base.specs.Task.{Task}
 use Rattle.ptg_base.specs.declared.edge.WriteBack.{WriteBack}
 use Rattle.dep_iter.specs.Arguments.{place_of}
-use Rattle.dep_iter.specs.Active.{by_flow, held_targets}
+use Rattle.dep_iter.specs.Active.{by_flow, flow_targets, held_targets}
 use Rattle.dep_iter.specs.Items.{write_back}
-use Rattle.dep_iter.specs.Links.{dependences_fit, flow_targets, flows_fit}
+use Rattle.dep_iter.specs.Links.{dependences_fit, flows_fit}
 
 -- the targets left: those of the dependences left of the flow at hand, and those of the flows after it
 abbrev pub targets_left : Direction → List ℤ → Position → List (ℕ × Target)
-targets_left way env p =
+targets_left direction env p =
     map (λ x. (p.flow, x)) (held_targets p.first_only p.deps.now env)
-    ++ by_flow (flow_targets way env) p.next_flow p.flows.now
+    ++ by_flow (flow_targets direction env) p.next_flow p.flows.now
 
 -- whether the targets of all dependences left fit the plan
 abbrev pub position_fits : Plan → Position → Bool
@@ -31,4 +31,4 @@ writes_to t env n target.Null = []
 
 -- the write-backs that these targets of flows stand for
 abbrev pub all_writes_to : Task → List ℤ → List (ℕ × Target) → List WriteBack
-all_writes_to t env targets = flat_map (λ a. writes_to t env a.0 a.1) targets
+all_writes_to t env targets = flat_map (λ (flow, target). writes_to t env flow target) targets

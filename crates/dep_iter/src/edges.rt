@@ -1,4 +1,4 @@
-//! The edges of a task, one after another.
+//! The edges of a task in one direction, one after another.
 
 ghost use Rattle.std.specs.Prelude.{◌≡◌};
 ghost use Rattle.std.specs.Iterator.{YieldsFirst, item_count};
@@ -6,7 +6,9 @@ ghost use Rattle.dep_iter.specs.Tasks as tasks;
 ghost use Rattle.dep_iter.specs.Tasks.{IsTask};
 ghost use Rattle.dep_iter.specs.Edges as edges;
 ghost use Rattle.dep_iter.specs.Items as items;
+ghost use Rattle.dep_iter.specs.Links.{edge_of_link};
 
+use crate::link::Link;
 use crate::links::Links;
 use crate::locals::Locals;
 use crate::task::locals_of;
@@ -15,22 +17,30 @@ use ptg_base::{Edge, TaskId};
 use std::marker::Model;
 use term_core::Direction;
 
-/// An iterator over the edges into a task. Contracts see it as the list of those not yet given. It takes no memory.
+/// An iterator over the edges of a task in one direction. Contracts see it as the list of those not yet given. It takes
+/// no memory.
 #[derive(Drop)]
-pub struct InEdges<'a> {
+pub struct TaskEdges<'a> {
     task: TaskId,
+    direction: Direction,
     links: Links<'a>,
 }
 
-impl<'a> Model for InEdges<'a> {
+impl<'a> Model for TaskEdges<'a> {
     ghost use Rattle.std.specs.Prelude.{List, map};
     ghost use Rattle.ptg_base.specs.declared.edge.Edge.{Edge};
-    ghost use Rattle.dep_iter.specs.Links.{edge_in};
+    ghost use Rattle.dep_iter.specs.Links.{edge_of_link};
 
     ghost Value = { List Edge };
 
-    ghost view = { λ e. map (edge_in e.task) e.links };
+    ghost view = { λ e. map (edge_of_link e.direction e.task) e.links };
 }
+
+/// The edges into a task.
+pub type InEdges<'a> = TaskEdges<'a>;
+
+/// The edges out of a task.
+pub type OutEdges<'a> = TaskEdges<'a>;
 
 /// The edges into a task, by flow in the text's order; of a gather, the first argument outermost. They are evaluated as
 /// they are asked for.
@@ -38,8 +48,9 @@ pub fn in_edges<'a>(plan: &'a Plan, t: &TaskId) -> InEdges<'a>
     requires { IsTask plan.now t.now }
     ensures { result ≡ edges.in_edges plan.now t.now }
 {
-    InEdges {
+    TaskEdges {
         task: t.copy(),
+        direction: Direction::In,
         links: Links::new(plan, t, Locals::Own(locals_of(plan, t)), Direction::In),
     }
 }
@@ -50,45 +61,11 @@ pub fn in_edges_under<'a>(plan: &'a Plan, t: &TaskId, env: &'a [i64]) -> InEdges
     requires locals { env.now ≡ tasks.locals_of plan.now t.now }
     ensures { result ≡ edges.in_edges plan.now t.now }
 {
-    InEdges {
+    TaskEdges {
         task: t.copy(),
+        direction: Direction::In,
         links: Links::new(plan, t, Locals::Lent(env), Direction::In),
     }
-}
-
-impl Iterator for InEdges<'_> {
-    type Item = Edge;
-
-    ghost next_gives = { YieldsFirst (λ left. left) };
-
-    ghost remaining = { item_count (λ left. left) };
-
-    fn next(&mut self) -> Option<Edge> {
-        let link = self.links.next()?;
-        Some(Edge {
-            from: link.far,
-            out_flow: link.far_flow,
-            to: self.task.copy(),
-            in_flow: link.near,
-        })
-    }
-}
-
-/// An iterator over the edges out of a task. Contracts see it as the list of those not yet given. It takes no memory.
-#[derive(Drop)]
-pub struct OutEdges<'a> {
-    task: TaskId,
-    links: Links<'a>,
-}
-
-impl<'a> Model for OutEdges<'a> {
-    ghost use Rattle.std.specs.Prelude.{List, map};
-    ghost use Rattle.ptg_base.specs.declared.edge.Edge.{Edge};
-    ghost use Rattle.dep_iter.specs.Links.{edge_out};
-
-    ghost Value = { List Edge };
-
-    ghost view = { λ e. map (edge_out e.task) e.links };
 }
 
 /// The edges out of a task, by flow and dependence in the text's order; of a broadcast, the first argument outermost.
@@ -97,8 +74,9 @@ pub fn out_edges<'a>(plan: &'a Plan, t: &TaskId) -> OutEdges<'a>
     requires { IsTask plan.now t.now }
     ensures { result ≡ items.out_edges plan.now t.now }
 {
-    OutEdges {
+    TaskEdges {
         task: t.copy(),
+        direction: Direction::Out,
         links: Links::new(plan, t, Locals::Own(locals_of(plan, t)), Direction::Out),
     }
 }
@@ -109,13 +87,35 @@ pub fn out_edges_under<'a>(plan: &'a Plan, t: &TaskId, env: &'a [i64]) -> OutEdg
     requires locals { env.now ≡ tasks.locals_of plan.now t.now }
     ensures { result ≡ items.out_edges plan.now t.now }
 {
-    OutEdges {
+    TaskEdges {
         task: t.copy(),
+        direction: Direction::Out,
         links: Links::new(plan, t, Locals::Lent(env), Direction::Out),
     }
 }
 
-impl Iterator for OutEdges<'_> {
+// The edge that a link of this task in one direction is.
+fn edge_of_link(direction: Direction, t: &TaskId, link: Link) -> Edge
+    ensures { result ≡ edge_of_link direction t.now link }
+{
+    let task = t.copy();
+    match direction {
+        Direction::In => Edge {
+            from: link.far,
+            out_flow: link.far_flow,
+            to: task,
+            in_flow: link.near,
+        },
+        Direction::Out => Edge {
+            from: task,
+            out_flow: link.near,
+            to: link.far,
+            in_flow: link.far_flow,
+        },
+    }
+}
+
+impl Iterator for TaskEdges<'_> {
     type Item = Edge;
 
     ghost next_gives = { YieldsFirst (λ left. left) };
@@ -124,11 +124,6 @@ impl Iterator for OutEdges<'_> {
 
     fn next(&mut self) -> Option<Edge> {
         let link = self.links.next()?;
-        Some(Edge {
-            from: self.task.copy(),
-            out_flow: link.near,
-            to: link.far,
-            in_flow: link.far_flow,
-        })
+        Some(edge_of_link(self.direction, &self.task, link))
     }
 }

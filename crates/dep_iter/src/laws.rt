@@ -8,7 +8,7 @@ ghost use Rattle.range_space.specs.Walk.{task_total};
 ghost use Rattle.plan_core.specs.declared.plan.Plan.{Plan};
 ghost use Rattle.plan_core.specs.declared.target.Target.{Target};
 ghost use Rattle.dep_iter.specs.Tasks.{IsTask, all_tasks};
-ghost use Rattle.dep_iter.specs.Links.{edge_in, edge_out, task_links};
+ghost use Rattle.dep_iter.specs.Links.{edge_of_link, task_links};
 ghost use Rattle.dep_iter.specs.Edges as edges;
 ghost use Rattle.dep_iter.specs.Items as items;
 ghost use Rattle.dep_iter.specs.Consistent as consistent;
@@ -27,8 +27,8 @@ pub fn a_task_has_no_more_edges_than_the_job()
 
 /// A law: the edges of a task are its links, of its in dependences and of its out dependences.
 pub fn edges_are_links()
-    ensures ins { (P : Plan) (t : Task) → map (edge_in t) (task_links P t In) ≡ edges.in_edges P t }
-    ensures outs { (P : Plan) (t : Task) → map (edge_out t) (task_links P t Out) ≡ items.out_edges P t }
+    ensures ins { (P : Plan) (t : Task) → map (edge_of_link In t) (task_links P t In) ≡ edges.in_edges P t }
+    ensures outs { (P : Plan) (t : Task) → map (edge_of_link Out t) (task_links P t Out) ≡ items.out_edges P t }
 {}
 
 /// A law: within one dependence no edge occurs twice, in either direction.

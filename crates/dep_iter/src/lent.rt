@@ -40,15 +40,15 @@ impl<'a> LentEdge<'a> {
 
     /// The edge between a flow of one task and a flow of another, as one into or out of the first.
     pub fn between(
-        way: Direction,
+        direction: Direction,
         near: &'a TaskId,
         near_flow: u8,
         far: &'a TaskId,
         far_flow: u8,
     ) -> LentEdge<'a>
-        ensures { result ≡ directions.edge_at way near.now near_flow far.now far_flow }
+        ensures { result ≡ directions.edge_at direction near.now near_flow far.now far_flow }
     {
-        match way {
+        match direction {
             Direction::In => LentEdge {
                 from: far,
                 out_flow: far_flow,
@@ -65,40 +65,40 @@ impl<'a> LentEdge<'a> {
     }
 
     /// The task of the edge in this direction: its target for In, its source for Out.
-    pub fn near_task(&self, way: Direction) -> &TaskId
-        ensures { result.now ≡ directions.near_task way self.now }
+    pub fn near_task(&self, direction: Direction) -> &TaskId
+        ensures { result.now ≡ directions.near_task direction self.now }
     {
-        match way {
+        match direction {
             Direction::In => self.to,
             Direction::Out => self.from,
         }
     }
 
     /// The number of the flow of that task.
-    pub fn near_flow(&self, way: Direction) -> u8
-        ensures { result ≡ directions.near_flow way self.now }
+    pub fn near_flow(&self, direction: Direction) -> u8
+        ensures { result ≡ directions.near_flow direction self.now }
     {
-        match way {
+        match direction {
             Direction::In => self.in_flow,
             Direction::Out => self.out_flow,
         }
     }
 
     /// The task at the other end of the edge.
-    pub fn far_task(&self, way: Direction) -> &TaskId
-        ensures { result.now ≡ directions.far_task way self.now }
+    pub fn far_task(&self, direction: Direction) -> &TaskId
+        ensures { result.now ≡ directions.far_task direction self.now }
     {
-        match way {
+        match direction {
             Direction::In => self.from,
             Direction::Out => self.to,
         }
     }
 
     /// The number of the flow of that task.
-    pub fn far_flow(&self, way: Direction) -> u8
-        ensures { result ≡ directions.far_flow way self.now }
+    pub fn far_flow(&self, direction: Direction) -> u8
+        ensures { result ≡ directions.far_flow direction self.now }
     {
-        match way {
+        match direction {
             Direction::In => self.out_flow,
             Direction::Out => self.in_flow,
         }

@@ -26,7 +26,9 @@ mod writes;
 
 pub use combining::Combinations;
 pub use counts::Counts;
-pub use edges::{InEdges, OutEdges, in_edges, in_edges_under, out_edges, out_edges_under};
+pub use edges::{
+    InEdges, OutEdges, TaskEdges, in_edges, in_edges_under, out_edges, out_edges_under,
+};
 pub use ends::has_other_end;
 pub use guard::{guard_value, held_target, target_by};
 pub use hints::{affinity, affinity_under, place_number, priority, priority_under};

@@ -4,7 +4,7 @@ ghost use Rattle.std.specs.Prelude.{◌≡◌, ◌+◌, ◌≤◌, [], ◌++◌,
 ghost use Rattle.std.specs.Iterator.{YieldsFirst};
 ghost use Rattle.ptg_base.specs.Limits.{most_flows, most_params};
 ghost use Rattle.dep_iter.specs.Links.{all_links, fits, links_to, task_links};
-ghost use Rattle.dep_iter.specs.Given.{given_locals};
+ghost use Rattle.dep_iter.specs.WalkLocals.{walk_locals};
 ghost use Rattle.dep_iter.specs.Tasks.{IsTask, locals_of};
 ghost use Rattle.dep_iter.specs.declared.link.Link.{Link as LinkValue};
 ghost use Rattle.dep_iter.specs.Walking.{position_fits, targets_left};
@@ -103,7 +103,7 @@ impl TargetLinks {
 // The next link of a walk under these locals: of those left of the target at hand, or of the targets after it.
 fn next_link<'a>(
     plan: &Plan,
-    way: Direction,
+    direction: Direction,
     env: &[i64],
     p: &mut Position<'a>,
     at_hand: &mut TargetLinks,
@@ -111,25 +111,25 @@ fn next_link<'a>(
     requires room { p.old.next_flow + length p.old.flows.now ≤ most_flows }
     requires fit { IsTrue (position_fits plan.now p.old) }
     ensures found { YieldsFirst (λ (left : List LinkValue). left)
-        (at_hand.old ++ all_links env.now (targets_left way env.now p.old)) result
-        (at_hand.new ++ all_links env.now (targets_left way env.now p.new)) }
+        (at_hand.old ++ all_links env.now (targets_left direction env.now p.old)) result
+        (at_hand.new ++ all_links env.now (targets_left direction env.now p.new)) }
     ensures room { p.new.next_flow + length p.new.flows.now ≤ most_flows }
     ensures fit { IsTrue (position_fits plan.now p.new) }
 {
     if let Some(link) = at_hand.next() {
         return Some(link);
     }
-    let (target, later) = next_target(way, env, *p)?;
+    let (target, later) = next_target(direction, env, *p)?;
     at_hand.restart(plan, later.flow, target, env);
     *p = later;
-    next_link(plan, way, env, p, at_hand)
+    next_link(plan, direction, env, p, at_hand)
 }
 
 /// The links of a task in one direction that are not yet given. It takes no memory.
 #[derive(Drop)]
 pub(crate) struct Links<'a> {
     plan: &'a Plan,
-    way: Direction,
+    direction: Direction,
     env: Locals<'a>,
     position: Position<'a>,
     at_hand: TargetLinks,
@@ -141,12 +141,12 @@ impl<'a> Model for Links<'a> {
     ghost use Rattle.dep_iter.specs.declared.link.Link.{Link};
     ghost use Rattle.dep_iter.specs.Links.{all_links};
     ghost use Rattle.dep_iter.specs.Walking.{position_fits, targets_left};
-    ghost use Rattle.dep_iter.specs.Given.{given_locals};
+    ghost use Rattle.dep_iter.specs.WalkLocals.{walk_locals};
 
     ghost Value = { List Link };
 
     ghost view = { λ l.
-        l.at_hand ++ all_links (given_locals l.env) (targets_left l.way (given_locals l.env) l.position) };
+        l.at_hand ++ all_links (walk_locals l.env) (targets_left l.direction (walk_locals l.env) l.position) };
 
     ghost invariant = { λ l.
         (l.position.next_flow + length l.position.flows.now ≤ most_flows)
@@ -155,15 +155,20 @@ impl<'a> Model for Links<'a> {
 
 impl<'a> Links<'a> {
     // All links of a task with these locals in one direction.
-    pub(crate) fn new(plan: &'a Plan, t: &TaskId, env: Locals<'a>, way: Direction) -> Links<'a>
+    pub(crate) fn new(
+        plan: &'a Plan,
+        t: &TaskId,
+        env: Locals<'a>,
+        direction: Direction,
+    ) -> Links<'a>
         requires task { IsTask plan.now t.now }
-        requires locals { given_locals env ≡ locals_of plan.now t.now }
-        ensures { result ≡ task_links plan.now t.now way }
+        requires locals { walk_locals env ≡ locals_of plan.now t.now }
+        ensures { result ≡ task_links plan.now t.now direction }
     {
         let flows = flows_of(plan, t);
         Links {
             plan,
-            way,
+            direction,
             env,
             position: start(flows),
             at_hand: TargetLinks::none(),
@@ -177,7 +182,7 @@ impl<'a> Links<'a> {
         let env = self.env.as_slice();
         next_link(
             self.plan,
-            self.way,
+            self.direction,
             env,
             &mut self.position,
             &mut self.at_hand,

@@ -1,7 +1,7 @@
 //! The locals that a walk over a task's dependences evaluates under.
 
 ghost use Rattle.std.specs.Prelude.{◌≡◌};
-ghost use Rattle.dep_iter.specs.Given.{given_locals};
+ghost use Rattle.dep_iter.specs.WalkLocals.{walk_locals};
 
 use ptg_base::MOST_LOCALS;
 use range_space::Numbers;
@@ -16,7 +16,7 @@ pub enum Locals<'a> {
 impl Locals<'_> {
     // The locals in their order.
     pub(crate) fn as_slice(&self) -> &[i64]
-        ensures { result.now ≡ given_locals self.now }
+        ensures { result.now ≡ walk_locals self.now }
     {
         match self {
             Locals::Own(locals) => locals.as_slice(),

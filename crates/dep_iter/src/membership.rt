@@ -75,17 +75,22 @@ fn any_leads_to(first_only: bool, deps: &[DepPlan], env: &[i64], far: &TaskId, f
 }
 
 // The flow of this task that the edge names, if it names the task and one of its flows.
-fn flow_at<'a>(plan: &'a Plan, way: Direction, t: &TaskId, edge: &LentEdge) -> Option<&'a FlowPlan>
+fn named_flow<'a>(
+    plan: &'a Plan,
+    direction: Direction,
+    t: &TaskId,
+    edge: &LentEdge,
+) -> Option<&'a FlowPlan>
     requires { IsTask plan.now t.now }
-    ensures { MatchOption result ((f : FlowPlanValue) → IsNearFlow way plan.now t.now edge.now f → ⊥)
-        (λ f. IsNearFlow way plan.now t.now edge.now f.now) }
+    ensures { MatchOption result ((f : FlowPlanValue) → IsNearFlow direction plan.now t.now edge.now f → ⊥)
+        (λ f. IsNearFlow direction plan.now t.now edge.now f.now) }
 {
-    let same_task = *edge.near_task(way) == *t;
+    let same_task = *edge.near_task(direction) == *t;
     if !same_task {
         return None;
     }
     let flows = flows_of(plan, t);
-    let number = edge.near_flow(way) as usize;
+    let number = edge.near_flow(direction) as usize;
     if number >= flows.len() {
         return None;
     }
@@ -94,20 +99,26 @@ fn flow_at<'a>(plan: &'a Plan, way: Direction, t: &TaskId, edge: &LentEdge) -> O
 
 /// Whether the edge is one of those of the task with these locals, into it or out of it. Takes time according to the
 /// dependences of one flow, however many edges they give.
-pub fn has_edge_under(plan: &Plan, way: Direction, t: &TaskId, env: &[i64], edge: &LentEdge) -> bool
+pub fn has_edge_under(
+    plan: &Plan,
+    direction: Direction,
+    t: &TaskId,
+    env: &[i64],
+    edge: &LentEdge,
+) -> bool
     requires task { IsTask plan.now t.now }
     requires locals { env.now ≡ tasks.locals_of plan.now t.now }
-    ensures { IsTrue result ↔ IsIn edge.now (edges_of way plan.now t.now) }
+    ensures { IsTrue result ↔ IsIn edge.now (edges_of direction plan.now t.now) }
 {
-    let Some(flow) = flow_at(plan, way, t, edge) else {
+    let Some(flow) = named_flow(plan, direction, t, edge) else {
         return false;
     };
     any_leads_to(
-        flow.kind.first_only(way),
-        flow.dependences(way),
+        flow.kind.first_only(direction),
+        flow.dependences(direction),
         env,
-        edge.far_task(way),
-        edge.far_flow(way),
+        edge.far_task(direction),
+        edge.far_flow(direction),
     )
 }
 
@@ -122,19 +133,19 @@ fn first_dependences<'a>(deps: &'a [DepPlan], k: usize) -> &'a [DepPlan]
 /// dependence with number `k` is walked, this is whether an earlier one gives its edge too.
 pub fn has_edge_before(
     flow: &FlowPlan,
-    way: Direction,
+    direction: Direction,
     env: &[i64],
     edge: &LentEdge,
     k: usize,
 ) -> bool
-    ensures { (P : PlanValue) (t : Task) → env.now ≡ tasks.locals_of P t → IsNearFlow way P t edge.now flow.now
-        → IsTrue result ↔ IsIn edge.now (edges_before way P t (near_flow way edge.now) k) }
+    ensures { (P : PlanValue) (t : Task) → env.now ≡ tasks.locals_of P t → IsNearFlow direction P t edge.now flow.now
+        → IsTrue result ↔ IsIn edge.now (edges_before direction P t (near_flow direction edge.now) k) }
 {
     any_leads_to(
-        flow.kind.first_only(way),
-        first_dependences(flow.dependences(way), k),
+        flow.kind.first_only(direction),
+        first_dependences(flow.dependences(direction), k),
         env,
-        edge.far_task(way),
-        edge.far_flow(way),
+        edge.far_task(direction),
+        edge.far_flow(direction),
     )
 }

@@ -4,8 +4,8 @@ ghost use Rattle.std.specs.Prelude.{◌≡◌, ◌+◌, ◌<◌, ◌≤◌, [], 
 ghost use Rattle.ptg_base.specs.Limits.{most_flows};
 ghost use Rattle.term_core.specs.declared.direction.Direction.{Direction as DirectionValue};
 ghost use Rattle.plan_core.specs.declared.plan.Plan.{Plan};
-ghost use Rattle.dep_iter.specs.Active.{by_flow, held_targets};
-ghost use Rattle.dep_iter.specs.Links.{dependences_fit, fits, flow_targets, flows_fit};
+ghost use Rattle.dep_iter.specs.Active.{by_flow, flow_targets, held_targets};
+ghost use Rattle.dep_iter.specs.Links.{dependences_fit, fits, flows_fit};
 ghost use Rattle.dep_iter.specs.Walking.{position_fits, targets_left};
 
 use crate::guard::held_target;
@@ -30,8 +30,8 @@ pub struct Position<'a> {
 // The start of a walk over these flows.
 pub(crate) fn start<'a>(flows: &'a [FlowPlan]) -> Position<'a>
     requires { length flows.now ≤ most_flows }
-    ensures targets { (way : DirectionValue) (env : List ℤ)
-        → targets_left way env result ≡ by_flow (flow_targets way env) 0 flows.now }
+    ensures targets { (direction : DirectionValue) (env : List ℤ)
+        → targets_left direction env result ≡ by_flow (flow_targets direction env) 0 flows.now }
     ensures room { result.next_flow + length result.flows.now ≤ most_flows }
     ensures fits { (P : Plan) → IsTrue (flows_fit P flows.now) → IsTrue (position_fits P result) }
 {
@@ -53,7 +53,7 @@ pub(crate) fn next_held<'a>(
     ensures found { MatchOption result (held_targets first_only deps.now env.now ≡ []) (λ r.
         held_targets first_only deps.now env.now ≡ r.0.now ∷ held_targets first_only r.1.now env.now) }
     ensures fits { (P : Plan) → IsTrue (dependences_fit P deps.now)
-        → IfSome result (λ r. IsTrue (fits P r.0.now) × IsTrue (dependences_fit P r.1.now)) }
+        → IfSome result (λ (target, left). IsTrue (fits P target.now) × IsTrue (dependences_fit P left.now)) }
 {
     let (d, later) = deps.split_first()?;
     match held_target(d, env) {
@@ -63,20 +63,25 @@ pub(crate) fn next_held<'a>(
 }
 
 // The walk where it enters a flow, with the flows after it.
-fn enter<'a>(way: Direction, flow: &'a FlowPlan, number: u8, others: &'a [FlowPlan]) -> Position<'a>
+fn enter<'a>(
+    direction: Direction,
+    flow: &'a FlowPlan,
+    number: u8,
+    others: &'a [FlowPlan],
+) -> Position<'a>
     requires { number < most_flows }
     ensures flow { result.flow ≡ number }
     ensures next { result.next_flow ≡ number + 1 }
     ensures flows { result.flows.now ≡ others.now }
     ensures targets { (env : List ℤ)
-        → held_targets result.first_only result.deps.now env ≡ flow_targets way env flow.now }
+        → held_targets result.first_only result.deps.now env ≡ flow_targets direction env flow.now }
     ensures fits { (P : Plan) → IsTrue (dependences_fit P flow.now.ins && dependences_fit P flow.now.outs)
         → IsTrue (dependences_fit P result.deps.now) }
 {
     Position {
         flow: number,
-        first_only: flow.kind.first_only(way),
-        deps: flow.dependences(way),
+        first_only: flow.kind.first_only(direction),
+        deps: flow.dependences(direction),
         next_flow: number + 1,
         flows: others,
     }
@@ -84,20 +89,20 @@ fn enter<'a>(way: Direction, flow: &'a FlowPlan, number: u8, others: &'a [FlowPl
 
 // The next active target of a walk in one direction, under these locals, and where the walk stands after it.
 pub(crate) fn next_target<'a>(
-    way: Direction,
+    direction: Direction,
     env: &[i64],
     p: Position<'a>,
 ) -> Option<(&'a Target, Position<'a>)>
     requires { p.next_flow + length p.flows.now ≤ most_flows }
-    ensures found { MatchOption result (targets_left way env.now p.entry ≡ []) (λ r.
-        targets_left way env.now p.entry ≡ (r.1.flow, r.0.now) ∷ targets_left way env.now r.1) }
-    ensures room { IfSome result (λ r. r.1.next_flow + length r.1.flows.now ≤ most_flows) }
+    ensures found { MatchOption result (targets_left direction env.now p.entry ≡ []) (λ r.
+        targets_left direction env.now p.entry ≡ (r.1.flow, r.0.now) ∷ targets_left direction env.now r.1) }
+    ensures room { IfSome result (λ (target, left). left.next_flow + length left.flows.now ≤ most_flows) }
     ensures fits { (P : Plan) → IsTrue (position_fits P p.entry)
-        → IfSome result (λ r. IsTrue (fits P r.0.now) × IsTrue (position_fits P r.1)) }
+        → IfSome result (λ (target, left). IsTrue (fits P target.now) × IsTrue (position_fits P left)) }
 {
     if let Some((target, later)) = next_held(p.first_only, p.deps, env) {
         return Some((target, Position { deps: later, ..p }));
     }
     let (flow, others) = p.flows.split_first()?;
-    next_target(way, env, enter(way, flow, p.next_flow, others))
+    next_target(direction, env, enter(direction, flow, p.next_flow, others))
 }

@@ -33,12 +33,12 @@ impl<'a> Model for WriteBacks<'a> {
     ghost use Rattle.ptg_base.specs.declared.edge.WriteBack.{WriteBack};
     ghost use Rattle.term_core.specs.declared.direction.Direction.TheVariants.{Out};
     ghost use Rattle.dep_iter.specs.Walking.{all_writes_to, targets_left};
-    ghost use Rattle.dep_iter.specs.Given.{given_locals};
+    ghost use Rattle.dep_iter.specs.WalkLocals.{walk_locals};
 
     ghost Value = { List WriteBack };
 
     ghost view = { λ w.
-        all_writes_to w.task (given_locals w.env) (targets_left Out (given_locals w.env) w.position) };
+        all_writes_to w.task (walk_locals w.env) (targets_left Out (walk_locals w.env) w.position) };
 
     ghost invariant = { λ w. w.position.next_flow + length w.position.flows.now ≤ most_flows };
 }

@@ -24,7 +24,7 @@ tile_of tiles flow = lookup (nat_eq flow) tiles
 
 -- the list without the tile of this flow
 abbrev pub without_tile : ℕ → List FlowTile → List FlowTile
-without_tile flow tiles = filter (λ (t : FlowTile). not (nat_eq flow t.0)) tiles
+without_tile flow tiles = filter (λ ((n, tile) : FlowTile). not (nat_eq flow n)) tiles
 
 -- The flow numbers rise from `least` at the earliest, and are below 8.
 abbrev pub RiseFrom : ℕ → List FlowTile → Type 0

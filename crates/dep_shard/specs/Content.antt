@@ -51,6 +51,10 @@ pub record Uses (old new : Spares) (entry_count : ℕ) (datatype : Option ℕ) (
   pub writes : old.writes ≤ new.writes + write_count
   pub traps : old.traps ≤ new.traps + trap_count
 
+-- no spare is used
+abbrev pub KeepsSpares : Spares → Spares → Type 0
+KeepsSpares old new = Uses old new 0 None 0 0
+
 -- a shard
 pub record Content : Type 0 where
   pub entries : Entries

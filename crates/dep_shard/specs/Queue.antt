@@ -3,26 +3,26 @@ use Rattle.std.specs.Prelude.{◌≡◌, ℕ, ◌+◌, ◌≤◌, ℤ, Bool, tru
 use Rattle.std.specs.BinaryHeap.{IsHeap}
 use Rattle.std.specs.List.{list_any}
 use Rattle.std.specs.Option.{option_map_or}
-use Rattle.std.specs.Ordering.{int_eq, int_cmp, ordering_then}
+use Rattle.std.specs.Ordering.{int_eq}
 use Rattle.std.specs.declared.cmp.Ordering.{Ordering}
 use Rattle.std.specs.declared.cmp.Reverse.{Reverse}
 use Rattle.ptg_base.specs.Entry.{Entry}
 use Rattle.ptg_base.specs.Task.{Task}
-use Rattle.ptg_base.specs.TaskComparing.{same_task, task_cmp}
-use Rattle.dep_shard.specs.Content.{Entries, entry_in}
+use Rattle.ptg_base.specs.TaskComparing.{same_task}
+use Rattle.dep_shard.specs.Content.{Entries, entry_in, priority_cmp}
 use Rattle.list_lemmas.specs.Counting.{count}
 
 -- a candidate: a priority and a task
 abbrev pub Candidate : Type 0
 Candidate = ℤ × Reverse Task
 
--- how the queue orders its candidates
+-- how the queue orders its candidates: by priority, and of one priority the task first in task order is the greater
 abbrev pub order : Candidate → Candidate → Ordering
-order a b = ordering_then (int_cmp a.0 b.0) (task_cmp b.1.0 a.1.0)
+order (p, a) (q, b) = priority_cmp (p, a.0) (q, b.0)
 
 -- whether a candidate is the task at this priority
 abbrev pub is_candidate : ℤ → Task → Candidate → Bool
-is_candidate p t c = int_eq p c.0 && same_task t c.1.0
+is_candidate p t (q, u) = int_eq p q && same_task t u.0
 
 -- whether there is an entry, it is ready, and it has this priority
 abbrev pub is_ready_at : ℤ → Option Entry → Bool
@@ -46,13 +46,13 @@ is_waiting e = nat_lt e.arrived e.goal
 
 -- how many entries wait
 abbrev pub count_waiting : Entries → ℕ
-count_waiting entries = count (λ (e : Task × Entry). is_waiting e.1) entries
+count_waiting entries = count (λ ((t, e) : Task × Entry). is_waiting e) entries
 
 -- to no entry more edges have come than it waits for
 abbrev pub HaveAtMostGoal : Entries → Type 0
 HaveAtMostGoal entries = (t : Task) (e : Entry) → entry_in entries t ≡ Some e → e.arrived ≤ e.goal
 
--- The queue is in order and has every ready entry, and it has room for every entry that waits.
+-- the queue is in order and has every ready entry, and it has room for every entry that waits
 pub record IsQueueOf (entries : Entries) (cs : List Candidate) (len capacity waiting : ℕ) : Type 0 where
   pub heap : IsHeap order cs
   pub has_ready : HasEveryReady entries cs

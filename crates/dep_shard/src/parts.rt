@@ -54,7 +54,7 @@ impl Entries {
     /// The entry at this index, with its task.
     pub fn get(&self, index: usize) -> Option<(&TaskId, &Entry)>
         ensures value { option_map deref_pair result ≡ slice_get self.now index }
-        ensures entry { IfSome result (λ e. entry_in self.now e.0.now ≡ Some e.1.now) }
+        ensures entry { IfSome result (λ (t, e). entry_in self.now t.now ≡ Some e.now) }
     {
         self.table.get_index(index)
     }

@@ -9,7 +9,7 @@ ghost use Rattle.ptg_base.specs.Limits.{most_flows, most_tasks};
 ghost use Rattle.ptg_base.specs.Task.{Task};
 ghost use Rattle.ptg_base.specs.TaskComparing.{same_task};
 ghost use Rattle.dep_shard.specs.declared.shard.Arrived.TheVariants.{Fired};
-ghost use Rattle.dep_shard.specs.Content.{HasSpares, Uses, HasNoReady, IsBest, IsReady, IsWaiting, IsNew, IsTileOf, IsUnchanged, KeepsAllButEntries, KeepsAllButWritten, KeepsEntriesAndWritten, Updates, Takes, Ends, IsEntryAt, HasWaitingAt, HasReadyAt, ArrivesAt, entry_of, entry_before, fresh, with_arrival, HasNoReadyOf};
+ghost use Rattle.dep_shard.specs.Content.{HasSpares, KeepsSpares, Uses, HasNoReady, IsBest, IsReady, IsWaiting, IsNew, IsTileOf, IsUnchanged, KeepsAllButEntries, KeepsAllButWritten, KeepsEntriesAndWritten, Updates, Takes, Ends, IsEntryAt, HasWaitingAt, HasReadyAt, ArrivesAt, entry_of, entry_before, fresh, with_arrival, HasNoReadyOf};
 
 use crate::arrivals::Arrivals;
 use crate::entry::Entry;
@@ -111,7 +111,7 @@ impl Shard {
         requires { length tiles.now ≡ length self.old.elems }
         ensures ok { OnOk result (HasSpares self.new.spare entries tiles.now writes traps) }
         ensures same { IsUnchanged self.old self.new }
-        ensures spare { Uses self.old.spare self.new.spare 0 None 0 0 }
+        ensures spare { KeepsSpares self.old.spare self.new.spare }
         ensures succeeds { HasSpares self.old.spare entries tiles.now writes traps → IsOk result }
     {
         self.reserve_entries(entries as usize)?;
@@ -125,7 +125,7 @@ impl Shard {
     fn reserve_entries(&mut self, n: usize) -> Result<(), OutOfMemory>
         ensures ok { OnOk result (n ≤ self.new.spare.entries) }
         ensures same { IsUnchanged self.old self.new }
-        ensures spare { Uses self.old.spare self.new.spare 0 None 0 0 }
+        ensures spare { KeepsSpares self.old.spare self.new.spare }
         ensures succeeds { n ≤ self.old.spare.entries → IsOk result }
     {
         self.table.reserve(n)?;
@@ -145,7 +145,7 @@ impl Shard {
         ensures err { OnErr result (self.new.entries ≡ self.old.entries) }
         ensures rest { KeepsAllButEntries self.old self.new }
         ensures spare { Uses self.old.spare self.new.spare 1 None 0 0 }
-        ensures kept { OnErr result (Uses self.old.spare self.new.spare 0 None 0 0) }
+        ensures kept { OnErr result (KeepsSpares self.old.spare self.new.spare) }
         ensures succeeds { 0 < self.old.spare.entries → IsOk result }
     {
         self.reserve_entries(1)?;
@@ -185,7 +185,7 @@ impl Shard {
     /// candidates that are stale, and changes nothing that contracts see but for spares that grow.
     pub fn best_ready(&mut self) -> Option<TaskId>
         ensures same { IsUnchanged self.old self.new }
-        ensures spare { Uses self.old.spare self.new.spare 0 None 0 0 }
+        ensures spare { KeepsSpares self.old.spare self.new.spare }
         ensures none { IfNone result (HasNoReady self.old.entries) }
         ensures some { IfSome result (IsBest self.old.entries) }
     {
@@ -231,7 +231,7 @@ impl Shard {
         ensures rest { KeepsAllButEntries self.old self.new }
         ensures spare { Uses self.old.spare self.new.spare (if is_some (entry_of self.old edge.now.to) then 0 else 1)
             (if is_some tile.entry then Some datatype else None) 0 0 }
-        ensures kept { OnErr result (Uses self.old.spare self.new.spare 0 None 0 0) }
+        ensures kept { OnErr result (KeepsSpares self.old.spare self.new.spare) }
         ensures succeeds { (entry_of self.old edge.now.to ≡ None → 0 < self.old.spare.entries)
             → (IsSome tile.entry → 0 < slice_index self.old.spare.tiles datatype) → IsOk result }
     {
@@ -260,7 +260,7 @@ impl Shard {
         ensures err { OnErr result (self.new.entries ≡ self.old.entries) }
         ensures rest { KeepsAllButEntries self.old self.new }
         ensures spare { Uses self.old.spare self.new.spare 0 (if is_some tile.entry then Some datatype else None) 0 0 }
-        ensures kept { OnErr result (Uses self.old.spare self.new.spare 0 None 0 0) }
+        ensures kept { OnErr result (KeepsSpares self.old.spare self.new.spare) }
         ensures succeeds { (IsSome tile.entry → 0 < slice_index self.old.spare.tiles datatype) → IsOk result }
     {
         let copied = self.copy_in(datatype, tile)?;
@@ -289,7 +289,7 @@ impl Shard {
         ensures err { OnErr result (self.new.entries ≡ self.old.entries) }
         ensures rest { KeepsAllButEntries self.old self.new }
         ensures spare { Uses self.old.spare self.new.spare 1 (if is_some tile.entry then Some datatype else None) 0 0 }
-        ensures kept { OnErr result (Uses self.old.spare self.new.spare 0 None 0 0) }
+        ensures kept { OnErr result (KeepsSpares self.old.spare self.new.spare) }
         ensures succeeds { 0 < self.old.spare.entries
             → (IsSome tile.entry → 0 < slice_index self.old.spare.tiles datatype) → IsOk result }
     {
@@ -309,7 +309,7 @@ impl Shard {
         ensures ok { IfOk result (λ made. option_map (λ m. m.0) made ≡ option_copied tile.entry) }
         ensures same { IsUnchanged self.old self.new }
         ensures spare { Uses self.old.spare self.new.spare 0 (if is_some tile.entry then Some datatype else None) 0 0 }
-        ensures kept { OnErr result (Uses self.old.spare self.new.spare 0 None 0 0) }
+        ensures kept { OnErr result (KeepsSpares self.old.spare self.new.spare) }
         ensures succeeds { (IsSome tile.entry → 0 < slice_index self.old.spare.tiles datatype) → IsOk result }
     {
         self.stock.copy_if_any(datatype, tile)
@@ -323,7 +323,7 @@ impl Shard {
         ensures fired { (t : Task) (e : EntryContent) → slice_get self.old.entries index ≡ Some (t, e)
             → (result ≡ Fired) ↔ IsReady (with_arrival e flow (option_map (λ m. m.0) tile)) }
         ensures rest { KeepsAllButEntries self.old self.new }
-        ensures spare { Uses self.old.spare self.new.spare 0 None 0 0 }
+        ensures spare { KeepsSpares self.old.spare self.new.spare }
     {
         let (task, entry) = self.table.pair_mut(index);
         entry.add(flow, tile);
@@ -343,7 +343,7 @@ impl Shard {
         ensures none { IfNone result (HasNoReadyOf self.old t.now) }
         ensures same { IfNone result (self.new ≡ self.old) }
         ensures some { IfSome result (λ tiles. Takes self.old self.new t.now tiles) }
-        ensures spare { Uses self.old.spare self.new.spare 0 None 0 0 }
+        ensures spare { KeepsSpares self.old.spare self.new.spare }
     {
         let index = self.index_of(t)?;
         if !self.is_ready_at(index) {
@@ -382,7 +382,7 @@ impl Shard {
         ensures there { IsSome result }
         ensures some { IfSome result (λ tiles.
             (t : Task) → IsEntryAt self.old t index → Takes self.old self.new t tiles) }
-        ensures spare { Uses self.old.spare self.new.spare 0 None 0 0 }
+        ensures spare { KeepsSpares self.old.spare self.new.spare }
     {
         let (_task, entry) = self.table.swap_remove_index(index)?;
         self.running += 1;
@@ -392,7 +392,7 @@ impl Shard {
     // Drops the stale candidates where most are, so that they do not pile up until the next search.
     fn drop_stale_if_many(&mut self)
         ensures same { IsUnchanged self.old self.new }
-        ensures spare { Uses self.old.spare self.new.spare 0 None 0 0 }
+        ensures spare { KeepsSpares self.old.spare self.new.spare }
     {
         let ready = self.table.len().saturating_sub(self.waiting);
         if self.queue.len() / 2 > ready + STALE_ALLOWANCE {
@@ -407,7 +407,7 @@ impl Shard {
         ensures err { OnErr result (self.new.written ≡ self.old.written) }
         ensures rest { KeepsAllButWritten self.old self.new }
         ensures spare { Uses self.old.spare self.new.spare 0 (Some datatype) 1 0 }
-        ensures kept { OnErr result (Uses self.old.spare self.new.spare 0 None 0 0) }
+        ensures kept { OnErr result (KeepsSpares self.old.spare self.new.spare) }
         ensures succeeds { 0 < self.old.spare.writes → 0 < slice_index self.old.spare.tiles datatype → IsOk result }
     {
         self.written.reserve(1)?;
@@ -428,7 +428,7 @@ impl Shard {
         ensures ends { Ends self.old self.new }
         ensures rest { KeepsEntriesAndWritten self.old self.new }
         ensures trapped { self.new.trapped ≡ self.old.trapped }
-        ensures spare { Uses self.old.spare self.new.spare 0 None 0 0 }
+        ensures spare { KeepsSpares self.old.spare self.new.spare }
     {
         self.running -= 1;
         self.ended += 1;
@@ -438,7 +438,7 @@ impl Shard {
     /// spare tiles that were used. What contracts see stays, but for spares that grow.
     pub fn reuse(&mut self, spent: &mut Arrivals)
         ensures same { IsUnchanged self.old self.new }
-        ensures spare { Uses self.old.spare self.new.spare 0 None 0 0 }
+        ensures spare { KeepsSpares self.old.spare self.new.spare }
     {
         self.stock.keep_all(spent);
     }
@@ -452,7 +452,7 @@ impl Shard {
         ensures rest { KeepsEntriesAndWritten self.old self.new }
         ensures err { OnErr result (IsUnchanged self.old self.new) }
         ensures spare { Uses self.old.spare self.new.spare 0 None 0 1 }
-        ensures kept { OnErr result (Uses self.old.spare self.new.spare 0 None 0 0) }
+        ensures kept { OnErr result (KeepsSpares self.old.spare self.new.spare) }
         ensures succeeds { 0 < self.old.spare.traps → IsOk result }
     {
         self.trapped.push((t.copy(), cause))?;
@@ -471,7 +471,7 @@ impl Shard {
     /// The entry at this index of the list, with its task.
     pub fn entry(&self, index: usize) -> Option<(&TaskId, &Entry)>
         ensures value { option_map deref_pair result ≡ slice_get self.now.entries index }
-        ensures entry { IfSome result (λ e. entry_of self.now e.0.now ≡ Some e.1.now) }
+        ensures entry { IfSome result (λ (t, e). entry_of self.now t.now ≡ Some e.now) }
     {
         self.table.get_index(index)
     }
@@ -486,7 +486,7 @@ impl Shard {
 
     /// The trapped task at this index of the list, with its cause.
     pub fn trapped(&self, index: usize) -> Option<(&TaskId, Trap)>
-        ensures { option_map (λ t. (t.0.now, t.1)) result ≡ slice_get self.now.trapped index }
+        ensures { option_map (λ (t, trap). (t.now, trap)) result ≡ slice_get self.now.trapped index }
     {
         let row = self.trapped.as_slice().get(index)?;
         Some((&row.0, row.1))

@@ -135,7 +135,7 @@ impl Table {
     // The entry at this index of the list, with its task.
     pub(crate) fn get_index(&self, index: usize) -> Option<(&TaskId, &Entry)>
         ensures entry { option_map deref_pair result ≡ slice_get self.now.entries index }
-        ensures value { IfSome result (λ e. entry_in self.now.entries e.0.now ≡ Some e.1.now) }
+        ensures value { IfSome result (λ (t, e). entry_in self.now.entries t.now ≡ Some e.now) }
     {
         self.used.get_index(index)
     }
@@ -154,7 +154,7 @@ impl Table {
     pub(crate) fn swap_remove_index(&mut self, index: usize) -> Option<(TaskId, Entry)>
         ensures entry { result ≡ slice_get self.old.entries index }
         ensures entries { IfSome result (λ e. self.new.entries ≡ swap_remove self.old.entries index e) }
-        ensures updates { IfSome result (λ e. Updates self.old.entries self.new.entries e.0 None) }
+        ensures updates { IfSome result (λ (t, e). Updates self.old.entries self.new.entries t None) }
         ensures unchanged { IfNone result (self.new.entries ≡ self.old.entries) }
         ensures spare { self.old.spare ≤ self.new.spare }
     {

@@ -14,6 +14,7 @@ use Rattle.std.proofs.lemmas.Bool.{or_right}
 use Rattle.std.proofs.lemmas.Option.{slice_get_within}
 use Rattle.dep_shard.specs.Content.{Content}
 use Rattle.list_lemmas.specs.Counting.{HasSameMembers, weigh}
+use Rattle.shard_meaning.specs.Calm.{HaveNoWork}
 use Rattle.work_board.specs.declared.record.PassRecord.{PassRecord}
 use Rattle.table_rule.specs.declared.table_job.TableJob.{TableJob}
 use Rattle.table_rule.specs.Changes.{both}
@@ -23,7 +24,7 @@ use Rattle.table_rule.specs.Records.{joined, moment_of}
 use Rattle.table_rule.specs.Rule.{Rule, Share}
 use Rattle.table_rule.proofs.AllNames.{join_all, order_all}
 use Rattle.table_rule.proofs.Alone.{alone_free, alone_parts, alone_stamps}
-use Rattle.dep_table.specs.Closing.{AreAllPasses, HaveNoWork, IsClosedAt}
+use Rattle.dep_table.specs.Closing.{AreAllPasses, IsClosedAt}
 use Rattle.dep_table.specs.Passes.{IsPassOf}
 use Rattle.dep_table.specs.StampOrders.{AreInStampOrder, IsClaimOrder, joined_stamps}
 use Rattle.dep_table.specs.Views.{PassView, shown}
@@ -157,7 +158,7 @@ closes j id v ws xs ys all none f same =
       shares = λ k y e.
           let e' : slice_get xs k ≡ Some y = subst (λ l. slice_get l k ≡ Some y) same e in
           let near : k < length xs = slice_get_within xs k y e' in
-          let home = p.at_rest k (omega (arith, f.3)) (alone_free j f.0 id v f.1.0 f.1.1 all none k (omega (arith, f.3, p.slots))) in
+          let home = p.in_slots k (omega (arith, f.3)) (alone_free j f.0 id v f.1.0 f.1.1 all none k (omega (arith, f.3, p.slots))) in
           subst (Share j (moment_of v) k) (same_get xs k y home.0 e' (f.4 k home.0 home.1)) home.2;
     }
 

@@ -26,7 +26,7 @@ use Rattle.table_rule.proofs.Seeing.{seen_reserve, seen_runs, seen_share}
 use Rattle.dep_table.specs.declared.turn.Turn.{Turn}
 use Rattle.dep_table.specs.Passes.{IsPassOf}
 use Rattle.dep_table.specs.Tables.{id_of, job_of}
-use Rattle.dep_table.specs.Turns.{EndsTask, IsTurnOf}
+use Rattle.dep_table.specs.Turns.{IsTurnOf, MayGiveEnd}
 use Rattle.dep_table.specs.Views.{PassView, shown}
 use Rattle.work_board.specs.Stamps.{StampedTask}
 
@@ -51,7 +51,7 @@ module _ (t : Turn) (v : PassRecord) (y z : Content) (h : IsTurnOf t v y z) (u :
     me0 = ap (λ (p : PassView). p.me.0) is ∙ ap (λ (m : Seated). m.0) h.me
 
     pub ends_task : shard_of (job_of t.table.now).matched (job_of t.table.now).shards u ≡ t.shard → MayEnd (job_of t.table.now).matched (job_of t.table.now).given u i.me.0 → (d w : Content) → d ≡ z → Ends d w → KeepsEntriesAndWritten d w → w.trapped ≡ d.trapped → Uses d.spare w.spare 0 None 0 0
-        → EndsTask (job_of t.table.now) t.shard (i.me.0, (t.shard, w) ∷ rest i.me.1)
+        → MayGiveEnd (job_of t.table.now) t.shard (i.me.0, (t.shard, w) ∷ rest i.me.1)
     ends_task at may d w same ends kept trapped spares = record {
       task = u;
       at = at;
@@ -75,7 +75,7 @@ module _ (t : Turn) (v : PassRecord) (y z : Content) (h : IsTurnOf t v y z) (u :
     }
 
     pub traps_task : (cause : Trap) → shard_of (job_of t.table.now).matched (job_of t.table.now).shards u ≡ t.shard → MayTrap (job_of t.table.now).matched (job_of t.table.now).given u cause i.me.0 → (d w : Content) → d ≡ z → Ends d w → KeepsEntriesAndWritten d w → w.trapped ≡ d.trapped ++ (u, cause) ∷ [] → Uses d.spare w.spare 0 None 0 1
-        → EndsTask (job_of t.table.now) t.shard (i.me.0, (t.shard, w) ∷ rest i.me.1)
+        → MayGiveEnd (job_of t.table.now) t.shard (i.me.0, (t.shard, w) ∷ rest i.me.1)
     traps_task cause at may d w same ends kept trapped spares = record {
       task = u;
       at = at;

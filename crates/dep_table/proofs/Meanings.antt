@@ -33,10 +33,11 @@ use Rattle.flow_meaning.proofs.Once.{claims_members}
 use Rattle.flow_meaning.proofs.Quiet.{sent_are_items}
 use Rattle.flow_meaning.proofs.Reordering.{same_sent_item-decides}
 use Rattle.flow_meaning.proofs.Rest.{item_sender}
+use Rattle.shard_meaning.specs.Calm.{HaveNoWork}
 use Rattle.shard_meaning.specs.Moment.{Moment}
 use Rattle.table_rule.specs.declared.table_job.TableJob.{TableJob}
 use Rattle.dep_table.specs.ClosedMeaning.{HasTheMeaning, all_sent, sent_by}
-use Rattle.dep_table.specs.Closing.{HaveNoWork, IsClosedAt}
+use Rattle.dep_table.specs.Closing.{IsClosedAt}
 use Rattle.dep_table.proofs.Quiets.{closed_calm, closed_quiescent}
 
 -- edges and write-backs among items

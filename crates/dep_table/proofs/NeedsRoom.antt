@@ -18,7 +18,7 @@ use Rattle.std.proofs.lemmas.List.Concat.{flat_map-append}
 use Rattle.shard_meaning.specs.Opening.{has_edges}
 use Rattle.shard_meaning.specs.Reserve.{is_edge_of_type, is_write_of_type}
 use Rattle.dep_table.specs.declared.needs.Needs.{Needs}
-use Rattle.dep_table.specs.Needs.{AddsTask, AddsTaskAt, AreNoNeeds, HasRoomFor, HaveRoomFor, IsNoNeed, edge_tiles, write_tiles, writes_of}
+use Rattle.dep_table.specs.Needs.{AddsTask, AddsTaskAt, AreNoNeeds, CanCount, CanCountEach, IsNoNeed, edge_tiles, write_tiles, writes_of}
 use Rattle.dep_table.proofs.NeedsCounts.{count-filter_append}
 
 writes-fewer : (is : List Item) → length (filter_map write_of is) ≤ length is
@@ -44,7 +44,7 @@ module _ (P : Plan) where
   places_both ts us = ap length (flat_map-append (write_backs P) ts us) ∙ length-append (writes_of P ts) (writes_of P us)
 
   -- the first of some tasks have room, and the later ones
-  pub room_first : (ts us : List Task) (n : Needs) → HasRoomFor P (ts ++ us) n → HasRoomFor P ts n
+  pub room_first : (ts us : List Task) (n : Needs) → CanCount P (ts ++ us) n → CanCount P ts n
   room_first ts us n r = record {
     entries = omega (arith, r.entries, length-append ts us);
     tiles = λ d. omega (arith, r.tiles d, edges_both ts us d, writes_both ts us d);
@@ -52,7 +52,7 @@ module _ (P : Plan) where
     traps = omega (arith, r.traps, length-append ts us);
   }
 
-  room_later : (ts us : List Task) (n : Needs) → HasRoomFor P (ts ++ us) n → HasRoomFor P us n
+  room_later : (ts us : List Task) (n : Needs) → CanCount P (ts ++ us) n → CanCount P us n
   room_later ts us n r = record {
     entries = omega (arith, r.entries, length-append ts us);
     tiles = λ d. omega (arith, r.tiles d, edges_both ts us d, writes_both ts us d);
@@ -61,7 +61,7 @@ module _ (P : Plan) where
   }
 
   -- once a task is counted there is room for the others
-  room_then : (t : Task) (us : List Task) (m n : Needs) → HasRoomFor P (t ∷ us) m → AddsTask P t m n → HasRoomFor P us n
+  room_then : (t : Task) (us : List Task) (m n : Needs) → CanCount P (t ∷ us) m → AddsTask P t m n → CanCount P us n
   room_then t us m n r a = record {
     entries = omega (arith, r.entries, a.entries, one_at_most (has_edges P t));
     tiles = λ d. omega (
@@ -75,7 +75,7 @@ module _ (P : Plan) where
     traps = omega (arith, r.traps, a.traps);
   }
 
-  pub room_task : (t : Task) (k : ℕ) (old new : List Needs) (rest : List Task) → k < length old → AddsTaskAt P t k old new → HaveRoomFor P (t ∷ rest) old → HaveRoomFor P rest new
+  pub room_task : (t : Task) (k : ℕ) (old new : List Needs) (rest : List Task) → k < length old → AddsTaskAt P t k old new → CanCountEach P (t ∷ rest) old → CanCountEach P rest new
   room_task t k old new rest near a r i n at =
       let m = slice_get_there old k near in
       elim (cases_eq i k) [
@@ -84,7 +84,7 @@ module _ (P : Plan) where
       ]
 
   -- there is room for all tasks of a consistent job
-  pub room_all : IsConsistent P → (shards types : ℕ) (ns : List Needs) → AreNoNeeds shards types ns → HaveRoomFor P (all_tasks P) ns
+  pub room_all : IsConsistent P → (shards types : ℕ) (ns : List Needs) → AreNoNeeds shards types ns → CanCountEach P (all_tasks P) ns
   room_all con shards types ns none k n at =
       let z : IsNoNeed types n = none.each k n at in record {
         entries = omega (arith, z.entries, con.tasks_at_most);

@@ -2,14 +2,14 @@
 use Rattle.std.proofs.Common.{List, [], arith, get_or}
 use Rattle.dep_shard.specs.Content.{Content}
 use Rattle.flow_meaning.specs.Machine.{IsQuiescent}
-use Rattle.shard_meaning.specs.Calm.{IsCalm}
+use Rattle.shard_meaning.specs.Calm.{HaveNoWork, IsCalm}
 use Rattle.shard_meaning.specs.Moment.{Moment}
 use Rattle.shard_meaning.proofs.Calming.{calm_by_shards, calm_quiescent, calm_shard}
 use Rattle.shard_answer.specs.Ending.{HoldAnEnd}
 use Rattle.table_rule.specs.declared.table_job.TableJob.{TableJob}
 use Rattle.shard_meaning.specs.Placing.{shard_of}
 use Rattle.shard_meaning.proofs.Placing.{shard_below}
-use Rattle.dep_table.specs.Closing.{HaveNoWork, IsClosed, IsClosedAt}
+use Rattle.dep_table.specs.Closing.{IsClosed, IsClosedAt}
 use Rattle.std.proofs.lemmas.Option.{slice_get-get_or}
 
 no_shard : Content

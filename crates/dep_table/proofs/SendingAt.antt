@@ -7,24 +7,24 @@ use Rattle.ptg_base.specs.declared.edge.Item.TheVariants as item
 use Rattle.flow_meaning.specs.Machine.{SentItem}
 use Rattle.work_board.specs.Sends.{IsNext}
 use Rattle.table_rule.specs.declared.table_job.TableJob.{TableJob}
-use Rattle.table_rule.specs.Plays.{HasName, Seated, gave_send, raised_live}
+use Rattle.table_rule.specs.Plays.{GivesSend, HasName, RaisesLive, Seated}
 use Rattle.table_rule.specs.Rule.{Rule}
 use Rattle.table_rule.specs.Words.{live_word, turn_word}
 use Rattle.table_rule.proofs.Sending.{sends_edge, sends_write}
 use Rattle.table_rule.proofs.WordSteps.{raises_live}
-use Rattle.dep_table.specs.Sending.{SendsItem}
+use Rattle.dep_table.specs.Sending.{MayGiveSend}
 
-pub raises_live_at : (j key : TableJob) → j ≡ key → (word n id : ℕ) (m : Seated) → word ≡ live_word j.shards → m.0.credit < length m.0.turns → HasName m.0 → Allows (Rule key) n id m word (λ x. (x + 1) % 2 ^ 64) (raised_live (step n word 1 0 none) m)
-raises_live_at j key same word n id m at room named = subst (λ (i : TableJob). Allows (Rule i) n id m word (λ x. (x + 1) % 2 ^ 64) (raised_live (step n word 1 0 none) m)) same (subst (λ (i : ℕ). Allows (Rule j) n id m i (λ x. (x + 1) % 2 ^ 64) (raised_live (step n i 1 0 none) m)) (sym at) (raises_live j n id m room named))
+pub raises_live_at : (j key : TableJob) → j ≡ key → (word n id : ℕ) (m : Seated) → word ≡ live_word j.shards → m.0.credit < length m.0.turns → HasName m.0 → Allows (Rule key) n id m word (λ x. (x + 1) % 2 ^ 64) (RaisesLive (step n word 1 0 none) m)
+raises_live_at j key same word n id m at room named = subst (λ (i : TableJob). Allows (Rule i) n id m word (λ x. (x + 1) % 2 ^ 64) (RaisesLive (step n word 1 0 none) m)) same (subst (λ (i : ℕ). Allows (Rule j) n id m i (λ x. (x + 1) % 2 ^ 64) (RaisesLive (step n i 1 0 none) m)) (sym at) (raises_live j n id m room named))
 
 -- an edge, or a write-back
-sends : (j : TableJob) (n id k : ℕ) (m : Seated) (i : Item) (tile : Option (List ℤ)) → SendsItem j k i tile m → Allows (Rule j) n id m (turn_word k) (λ _. 0) (λ _. gave_send record { item = i; tile = tile } (step n (turn_word k) 0 0 none) m 0)
+sends : (j : TableJob) (n id k : ℕ) (m : Seated) (i : Item) (tile : Option (List ℤ)) → MayGiveSend j k i tile m → Allows (Rule j) n id m (turn_word k) (λ _. 0) (λ _. GivesSend record { item = i; tile = tile } (step n (turn_word k) 0 0 none) m 0)
 sends j n id k m (item.Edge e) tile s = let x = s.takes in sends_edge j n id m k e tile s.before s.after x.datatype s.turn s.next s.at s.stamped x.entries x.rest x.typed x.uses
 sends j n id k m (item.Write w) tile s = let x = s.takes in
-    subst (λ (o : Option (List ℤ)). Allows (Rule j) n id m (turn_word k) (λ _. 0) (λ _. gave_send record { item = item.Write w; tile = o } (step n (turn_word k) 0 0 none) m 0)) (sym x.carried)
+    subst (λ (o : Option (List ℤ)). Allows (Rule j) n id m (turn_word k) (λ _. 0) (λ _. GivesSend record { item = item.Write w; tile = o } (step n (turn_word k) 0 0 none) m 0)) (sym x.carried)
     (sends_write j n id m k w x.content s.before s.after x.datatype s.turn (subst (λ (o : Option (List ℤ)). IsNext j.matched j.given (item.Write w) o m.0) x.carried s.next) s.at s.stamped x.written x.rest x.typed x.uses)
 
-pub sends_at : (j key : TableJob) (x : SentItem) (i : Item) (tile : Option (List ℤ)) → j ≡ key → x ≡ record { item = i; tile = tile } → (word n id k : ℕ) (m : Seated) → word ≡ turn_word k → SendsItem j k i tile m → Allows (Rule key) n id m word (λ _. 0) (λ _. gave_send x (step n word 0 0 none) m 0)
-sends_at j key x i tile same event word n id k m at s = subst (λ (h : TableJob). Allows (Rule h) n id m word (λ _. 0) (λ _. gave_send x (step n word 0 0 none) m 0)) same
-    (subst (λ (y : SentItem). Allows (Rule j) n id m word (λ _. 0) (λ _. gave_send y (step n word 0 0 none) m 0)) (sym event)
-    (subst (λ (w : ℕ). Allows (Rule j) n id m w (λ _. 0) (λ _. gave_send record { item = i; tile = tile } (step n w 0 0 none) m 0)) (sym at) (sends j n id k m i tile s)))
+pub sends_at : (j key : TableJob) (x : SentItem) (i : Item) (tile : Option (List ℤ)) → j ≡ key → x ≡ record { item = i; tile = tile } → (word n id k : ℕ) (m : Seated) → word ≡ turn_word k → MayGiveSend j k i tile m → Allows (Rule key) n id m word (λ _. 0) (λ _. GivesSend x (step n word 0 0 none) m 0)
+sends_at j key x i tile same event word n id k m at s = subst (λ (h : TableJob). Allows (Rule h) n id m word (λ _. 0) (λ _. GivesSend x (step n word 0 0 none) m 0)) same
+    (subst (λ (y : SentItem). Allows (Rule j) n id m word (λ _. 0) (λ _. GivesSend y (step n word 0 0 none) m 0)) (sym event)
+    (subst (λ (w : ℕ). Allows (Rule j) n id m w (λ _. 0) (λ _. GivesSend record { item = i; tile = tile } (step n w 0 0 none) m 0)) (sym at) (sends j n id k m i tile s)))

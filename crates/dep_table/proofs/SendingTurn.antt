@@ -40,9 +40,9 @@ use Rattle.table_rule.proofs.SameMembers.{joined_parts}
 use Rattle.table_rule.proofs.Seeing.{seen_next, seen_reserve, seen_share}
 use Rattle.dep_table.specs.declared.turn.Turn.{Turn}
 use Rattle.dep_table.specs.Passes.{IsPassOf}
-use Rattle.dep_table.specs.Sending.{HasSpareForItem, MayTakeItem, SendsItem, TakesItem, credit_after, credited, spends}
+use Rattle.dep_table.specs.Sending.{HasSpareForItem, MayGiveSend, MayTakeItem, TakesItem, credit_after, credited, spends}
 use Rattle.dep_table.specs.Tables.{id_of, job_of}
-use Rattle.dep_table.specs.Turns.{IsTurnOf, Leaves}
+use Rattle.dep_table.specs.Turns.{IsTurnOf, MayGiveBack}
 use Rattle.dep_table.specs.Views.{PassView, shown}
 use Rattle.dep_table.proofs.Turns.{has_turn}
 use Rattle.work_board.specs.Stamps.{StampedTask}
@@ -132,7 +132,7 @@ takes_since P (item.Write b) tile y d w same grown t = record {
 }
 
 -- the shard of a send that was refused is the one that was taken, but for spares that have grown
-pub refused : (t : Turn) (v : PassRecord) (y z : Content) → IsTurnOf t v y z → (p : PassView) → p ≡ t.pass.now → (d w : Content) → d ≡ z → IsUnchanged d w → Uses d.spare w.spare 0 None 0 0 → Leaves t.shard (p.me.0, (t.shard, w) ∷ rest p.me.1)
+pub refused : (t : Turn) (v : PassRecord) (y z : Content) → IsTurnOf t v y z → (p : PassView) → p ≡ t.pass.now → (d w : Content) → d ≡ z → IsUnchanged d w → Uses d.spare w.spare 0 None 0 0 → MayGiveBack t.shard (p.me.0, (t.shard, w) ∷ rest p.me.1)
 refused t v y z h p is d w here same grown = record {
   before = y;
   after = w;
@@ -234,8 +234,8 @@ module _ (t : Turn) (v : PassRecord) (y z : Content) (h : IsTurnOf t v y z) wher
       send_named = subst HasName (sym me0) (omega (arith, h.one_name))
 
       -- the send is allowed after the live word was raised as the answer says
-      pub sends_item : (a : Answer) (d w : Content) → d ≡ z → AnswersFor (job_of t.table.now).matched d i a → TakesItem (job_of t.table.now).matched i tile d w → (m : Seated) → m ≡ (credited a p.me.0, (t.shard, w) ∷ rest p.me.1) → SendsItem (job_of t.table.now) t.shard i tile m
-      sends_item a d w here answers takes m raised = subst (SendsItem job t.shard i tile) (sym raised) (subst (λ (u : PassRecord). SendsItem job t.shard i tile (credited a u, (t.shard, w) ∷ rest p.me.1)) (sym me0) (record {
+      pub sends_item : (a : Answer) (d w : Content) → d ≡ z → AnswersFor (job_of t.table.now).matched d i a → TakesItem (job_of t.table.now).matched i tile d w → (m : Seated) → m ≡ (credited a p.me.0, (t.shard, w) ∷ rest p.me.1) → MayGiveSend (job_of t.table.now) t.shard i tile m
+      sends_item a d w here answers takes m raised = subst (MayGiveSend job t.shard i tile) (sym raised) (subst (λ (u : PassRecord). MayGiveSend job t.shard i tile (credited a u, (t.shard, w) ∷ rest p.me.1)) (sym me0) (record {
         before = y;
         after = w;
         turn = record {

@@ -11,7 +11,7 @@ use Rattle.work_board.specs.declared.answers.Sent.TheVariants as answer
 use Rattle.work_board.specs.declared.record.PassRecord.{PassRecord}
 use Rattle.work_board.specs.Claims.{FoundGone, HasClaimed, HasClaimedBest}
 use Rattle.work_board.specs.Records.{OnlyTook}
-use Rattle.work_board.specs.Sends.{HasEnded, HasSent, SentAs}
+use Rattle.work_board.specs.Sends.{HasEnded, HasSent, SendAnswers}
 use Rattle.dep_table.specs.declared.table.DepTable.{DepTable}
 use Rattle.dep_table.specs.declared.turn.Turn.{Turn}
 use Rattle.dep_table.specs.Tables.{job_of}
@@ -40,7 +40,7 @@ module _ (k n : ℕ) (f : k ≡ n) (v w : PassRecord) where
   took_at = subst (λ m. OnlyTook m v w) f
 
 -- an item that was sent was not found busy
-pub sent_as : (P : Plan) (k : ℕ) (i : Item) (tile : Option (List ℤ)) (a : Sent) (v w : PassRecord) → HasSent P k i tile a v w → SentAs P k i tile a v w
+pub sent_as : (P : Plan) (k : ℕ) (i : Item) (tile : Option (List ℤ)) (a : Sent) (v w : PassRecord) → HasSent P k i tile a v w → SendAnswers P k i tile a v w
 sent_as P k i tile answer.Waits v w h = h
 sent_as P k i tile answer.Fired v w h = h
 sent_as P k i tile answer.Kept v w h = h
@@ -50,7 +50,7 @@ sent_as P k (item.Write x) tile answer.Busy v w h = absurd h.answer
 -- what the answer of a send, or its want of memory, says
 module _ (t : Turn) (v : PassRecord) (y z : Content) (h : IsTurnOf t v y z) (b c : DepTable) (e : b ≡ c) (k n : ℕ) (f : k ≡ n) (w : PassRecord) where
   pub sent_in : {E : Type 0} (i : Item) (tile : Option (List ℤ)) (r : Result Sent E) → IfOk r (λ a. (u : PassRecord) → (x x' : Content) → IsTurnOf t u x x' → HasSent (job_of b).matched k i tile a u w)
-      → IfOk r (λ a. SentAs (job_of c).matched n i tile a v w)
+      → IfOk r (λ a. SendAnswers (job_of c).matched n i tile a v w)
   sent_in i tile (Ok a) s = sent_as (job_of c).matched n i tile a v w (sent_at b c e k n f v w i tile a (s v y z h))
   sent_in i tile (Err x) s = s
 

@@ -10,7 +10,7 @@ use Rattle.table_rule.specs.Plays.{HasName, HasTurn, Seated, WasSeen}
 use Rattle.dep_table.specs.declared.turn.Turn.{Turn}
 use Rattle.dep_table.specs.Passes.{IsPassOf}
 use Rattle.dep_table.specs.Tables.{id_of, job_of}
-use Rattle.dep_table.specs.Turns.{IsTurn, IsTurnOf, Leaves}
+use Rattle.dep_table.specs.Turns.{IsTurn, IsTurnOf, MayGiveBack}
 use Rattle.dep_table.specs.Views.{PassView, shown}
 
 -- a turn has just been taken by the clean pass p, which is i
@@ -37,7 +37,7 @@ has_turn t v y z i h is = let me = ap (λ (q : PassView). q.me) is ∙ h.me in r
   credit = ap (λ (m : Seated). m.0.credit) me ∙ h.clean.no_credit;
 }
 
-pub leaves_turn : (t : Turn) (i : PassView) → IsTurn t → i ≡ t.pass.now → Leaves t.shard i.me
+pub leaves_turn : (t : Turn) (i : PassView) → IsTurn t → i ≡ t.pass.now → MayGiveBack t.shard i.me
 leaves_turn t i h is = record { before = h.1; after = h.2; turn = has_turn t h.0 h.1 h.2 i h.3 is; same = h.3.same; spares = h.3.spares }
 
 -- the record of a pass that gave its turn back, and did nothing else

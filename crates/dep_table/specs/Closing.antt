@@ -8,13 +8,13 @@ use Rattle.dep_iter.specs.Consistent.{IsConsistent}
 use Rattle.dep_iter.specs.Tasks.{all_tasks}
 use Rattle.dep_shard.specs.Content.{Content}
 use Rattle.flow_meaning.specs.Sound.{IsSoundState}
-use Rattle.shard_meaning.specs.Calm.{AreFinished, HasNoWork}
+use Rattle.shard_meaning.specs.Calm.{AreFinished}
 use Rattle.shard_meaning.specs.Moment.{Moment}
 use Rattle.shard_meaning.specs.Share.{IsShardOf}
 use Rattle.table_rule.specs.declared.table_job.TableJob.{TableJob}
 use Rattle.table_rule.specs.Names.{AreAll}
-use Rattle.shard_meaning.specs.Placing.{shard_of}
 use Rattle.table_rule.specs.Records.{moment_of}
+use Rattle.table_rule.specs.Rule.{placement_of}
 use Rattle.dep_table.specs.Passes.{IsPassOf}
 use Rattle.dep_table.specs.Views.{PassView, shown}
 use Rattle.work_board.specs.Stamps.{StampedTask}
@@ -28,9 +28,9 @@ pub record IsClosedAt (j : TableJob) (R : Moment) (ys : List Content) : Type 0 w
   pub sound : IsSoundState j.matched j.given R.state
   pub finished : AreFinished j.matched j.given R
   pub shares : (k : ℕ) (y : Content) → slice_get ys k ≡ Some y
-      → IsShardOf j.matched j.given (shard_of j.matched j.shards) k R y
+      → IsShardOf j.matched j.given (placement_of j) k R y
 
--- there is such a moment
+-- There is such a moment.
 abbrev pub IsClosed : TableJob → List Content → Type 0
 IsClosed j ys = (R : Moment) × IsClosedAt j R ys
 
@@ -38,7 +38,7 @@ IsClosed j ys = (R : Moment) × IsClosedAt j R ys
 -- was taken before, it has room for a row of each task.
 pub record IsClosedTable (j : TableJob) (ys : List Content) (rows : ℕ) : Type 0 where
   pub ends : IsClosed j ys
-  pub fit : DataFit j.matched.colls j.matched.elems j.given
+  pub fit : DataFit j.matched j.given
   pub room : j.preloaded ≡ true → length (all_tasks j.matched) ≤ rows
 
 -- clean passes of one table, and all that it has
@@ -56,7 +56,3 @@ pub record IsLastPass (table : TableId) (p : PassView) (R : Moment) (stamps : Li
   pub did : moment_of (shown p) ≡ R
   pub drew : (shown p).stamps ≡ stamps
   pub stamped : (t : Task) → IsIn t (shown p).claims → (stamp : ℕ) × IsIn (t, stamp) (shown p).stamps
-
--- no shard has work
-abbrev pub HaveNoWork : List Content → Type 0
-HaveNoWork ys = (k : ℕ) (y : Content) → slice_get ys k ≡ Some y → HasNoWork y

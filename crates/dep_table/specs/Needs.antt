@@ -58,7 +58,7 @@ abbrev pub write_tiles : Plan → List WriteBack → ℕ → ℕ
 write_tiles P ws datatype = count (is_write_of_type P datatype) ws
 
 -- the counts of a shard stay below 2 ^ 64 while what these tasks need is added, whatever shards they are of
-pub record HasRoomFor (P : Plan) (ts : List Task) (n : Needs) : Type 0 where
+pub record CanCount (P : Plan) (ts : List Task) (n : Needs) : Type 0 where
   pub entries : n.entries + length ts < 2 ^ 64
   pub tiles : (datatype : ℕ)
       → slice_index n.tiles.items datatype
@@ -68,16 +68,16 @@ pub record HasRoomFor (P : Plan) (ts : List Task) (n : Needs) : Type 0 where
   pub traps : n.traps + length ts < 2 ^ 64
 
 -- the counts of each of these shards stay so
-abbrev pub HaveRoomFor : Plan → List Task → List Needs → Type 0
-HaveRoomFor P ts ns = (k : ℕ) (n : Needs) → slice_get ns k ≡ Some n → HasRoomFor P ts n
+abbrev pub CanCountEach : Plan → List Task → List Needs → Type 0
+CanCountEach P ts ns = (k : ℕ) (n : Needs) → slice_get ns k ≡ Some n → CanCount P ts n
 
--- Where old is what the shards need for some tasks, new is what they need for those and for this one. Where there was
--- room for this task and others, there is room for the others.
+-- Where old is what the shards need for some tasks, new is what they need for those and for this one. Where the counts
+-- stayed so for this task and others, they stay so for the others.
 pub record AddsNeeds (P : Plan) (of : Placement) (t : Task) (old new : List Needs) : Type 0 where
   pub count : length new ≡ length old
   pub types : HaveTypes (length P.elems) old → HaveTypes (length P.elems) new
   pub needs : (done : List Task) → AreNeedsOf P of done old → AreNeedsOf P of (done ++ t ∷ []) new
-  pub room : (others : List Task) → HaveRoomFor P (t ∷ others) old → HaveRoomFor P others new
+  pub room : (others : List Task) → CanCountEach P (t ∷ others) old → CanCountEach P others new
 
 -- the needs have grown by this many tiles of each type and this many write-backs
 pub record AddsTiles (of_type : ℕ → ℕ) (places : ℕ) (old new : Needs) : Type 0 where

@@ -4,6 +4,7 @@ use Rattle.atomic_table.specs.Seated.{TableId}
 use Rattle.ptg_base.specs.Task.{Task}
 use Rattle.work_board.specs.Looks.{HasStamp}
 use Rattle.work_board.specs.Records.{IsClean}
+use Rattle.table_rule.specs.Changes.{first_pass}
 use Rattle.table_rule.specs.Plays.{Seated}
 use Rattle.dep_table.specs.Views.{PassView, shown}
 
@@ -18,3 +19,7 @@ pub record IsPassOf (table : TableId) (p : PassView) : Type 0 where
   pub of : p.table ≡ table
   pub clean : IsCleanSeat p.me
   pub stamp : (t : Task) → (shown p).running ≡ t ∷ [] → HasStamp (shown p) t p.stamp
+
+-- the first pass of this table: nothing is done, and none was split off it
+abbrev pub IsFirstPassOf : TableId → PassView → Type 0
+IsFirstPassOf table p = IsPassOf table p × (p.me.0 ≡ first_pass)

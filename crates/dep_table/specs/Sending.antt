@@ -6,8 +6,7 @@ use Rattle.ptg_base.specs.declared.edge.Item.{Item}
 use Rattle.ptg_base.specs.declared.edge.Item.TheVariants as item
 use Rattle.plan_core.specs.declared.plan.Plan.{Plan}
 use Rattle.dep_iter.specs.Edges.{goal}
-use Rattle.dep_iter.specs.Hints.{priority}
-use Rattle.dep_shard.specs.Content.{Content, entry_before}
+use Rattle.dep_shard.specs.Content.{Content}
 use Rattle.dep_shard.specs.declared.shard.Arrived.{Arrived}
 use Rattle.dep_shard.specs.declared.shard.Arrived.TheVariants as arrived
 use Rattle.list_lemmas.specs.Counting.{as_number}
@@ -19,12 +18,13 @@ use Rattle.work_board.specs.declared.record.PassRecord.{PassRecord}
 use Rattle.table_rule.specs.declared.table_job.TableJob.{TableJob}
 use Rattle.table_rule.specs.Live.{own_stamps}
 use Rattle.shard_calls.specs.Taken.{HasSpareForEdge, HasSpareForWrite, MayTakeEdge, MayTakeWrite, TakesEdge, TakesWrite}
-use Rattle.shard_meaning.specs.Placing.{shard_of}
+use Rattle.shard_meaning.specs.Share.{entry_found}
 use Rattle.table_rule.specs.Plays.{HasTurn, Seated, fires}
+use Rattle.table_rule.specs.Rule.{placement_of}
 
 -- what an edge finds in its shard waits for as many edges as go into its target
 abbrev pub FindsGoal : Plan → Edge → Content → Type 0
-FindsGoal P e y = (entry_before y e.to (goal P e.to) (priority P e.to)).goal ≡ goal P e.to
+FindsGoal P e y = (entry_found P e y).goal ≡ goal P e.to
 
 -- what an item needs
 abbrev pub MayTakeItem : Plan → Item → Option (List ℤ) → Content → Type 0
@@ -64,11 +64,11 @@ spends P y (item.Write w) = 0
 
 -- what a pass may give a turn back with: the shard took the pass's next item, whose sender has its stamp, and the pass
 -- has the credit that the send spends
-pub record SendsItem (j : TableJob) (k : ℕ) (i : Item) (tile : Option (List ℤ)) (m : Seated) : Type 0 where
+pub record MayGiveSend (j : TableJob) (k : ℕ) (i : Item) (tile : Option (List ℤ)) (m : Seated) : Type 0 where
   pub before : Content
   pub after : Content
   pub turn : HasTurn m k before after (spends j.matched before i)
   pub next : IsNext j.matched j.given i tile m.0
-  pub at : shard_of_item (shard_of j.matched j.shards) i ≡ k
+  pub at : shard_of_item (placement_of j) i ≡ k
   pub stamped : 0 < own_stamps m.0 (sender i)
   pub takes : TakesItem j.matched i tile before after

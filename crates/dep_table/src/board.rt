@@ -1,13 +1,13 @@
 //! The table is a board for workers.
 
 ghost use Rattle.std.specs.Prelude.{◌≡◌, []};
-ghost use Rattle.shard_meaning.specs.Placing as placing;
 ghost use Rattle.dep_table.specs.declared.table.DepTable.{DepTable as TableValue};
 ghost use Rattle.dep_table.specs.Boards.{IsWorkerPass};
 ghost use Rattle.dep_table.specs.Passes.{IsPassOf};
 ghost use Rattle.dep_table.specs.Tables.{id_of, job_of};
 ghost use Rattle.dep_table.specs.Views as views;
 ghost use Rattle.dep_table.specs.Views.{PassView};
+ghost use Rattle.table_rule.specs.Rule.{placement_of};
 
 use crate::pass::Pass;
 use crate::table::DepTable;
@@ -29,7 +29,7 @@ impl Board for DepTable {
 
     ghost job_data = { λ (b : TableValue). (job_of b).given };
 
-    ghost placement = { λ (b : TableValue). placing.shard_of (job_of b).matched (job_of b).shards };
+    ghost placement = { λ (b : TableValue). placement_of (job_of b) };
 
     ghost shard_count = { λ (b : TableValue). (job_of b).shards };
 

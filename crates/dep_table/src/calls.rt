@@ -2,7 +2,7 @@
 
 ghost use Rattle.std.specs.Prelude.{◌≡◌, true, false, IsTrue, ◌∷◌, []};
 ghost use Rattle.ptg_base.specs.Task.{Task};
-ghost use Rattle.work_board.specs.Looks.{HaltedIf, HasHalted, HasStamp, QuietIf};
+ghost use Rattle.work_board.specs.Looks.{HaltAnswers, HasHalted, HasStamp, QuietAnswers};
 ghost use Rattle.table_rule.specs.Changes.{after_split, split_off};
 ghost use Rattle.table_rule.specs.Plays.{WasPass};
 ghost use Rattle.dep_table.specs.Passes.{IsPassOf};
@@ -40,7 +40,7 @@ impl DepTable {
     pub fn halted(&self, pass: &mut Pass) -> bool
         requires { IsPassOf (id_of self.now) pass.old }
         ensures pass { IsPassOf (id_of self.now) pass.new }
-        ensures halted { HaltedIf result (shown pass.old) (shown pass.new) }
+        ensures halted { HaltAnswers result (shown pass.old) (shown pass.new) }
         ensures preloaded { (job_of self.now).preloaded ≡ true → result ≡ false }
     {
         self.read_halt(&mut pass.seat) != 0
@@ -50,7 +50,7 @@ impl DepTable {
     pub fn see_quiet(&self, pass: &mut Pass) -> bool
         requires { IsPassOf (id_of self.now) pass.old }
         ensures pass { IsPassOf (id_of self.now) pass.new }
-        ensures quiet { QuietIf result (shown pass.old) (shown pass.new) }
+        ensures quiet { QuietAnswers result (shown pass.old) (shown pass.new) }
         ensures rule { IsTrue result → WasPass (job_of self.now) (shown pass.new) }
     {
         self.read_live(&mut pass.seat) == 0

@@ -3,11 +3,12 @@
 ghost use Rattle.std.specs.Prelude.{◌≡◌, List, [], length, map, true};
 ghost use Rattle.ptg_base.specs.Lists.{IsIn};
 ghost use Rattle.ptg_base.specs.Task.{Task};
+ghost use Rattle.shard_meaning.specs.Calm.{HaveNoWork};
 ghost use Rattle.table_rule.specs.Changes.{both};
 ghost use Rattle.table_rule.specs.Plays.{HasName};
 ghost use Rattle.table_rule.specs.Records.{joined, moment_of};
 ghost use Rattle.dep_table.specs.ClosedTables.{shards_of};
-ghost use Rattle.dep_table.specs.Closing.{AreAllPasses, HaveNoWork, IsClosedAt, IsLastPass};
+ghost use Rattle.dep_table.specs.Closing.{AreAllPasses, IsClosedAt, IsLastPass};
 ghost use Rattle.dep_table.specs.StampOrders.{AreInStampOrder, IsClaimOrder, joined_stamps};
 ghost use Rattle.dep_table.specs.Tables.{id_of, job_of};
 ghost use Rattle.dep_table.specs.Views.{PassView, shown};

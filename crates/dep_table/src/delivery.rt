@@ -1,8 +1,8 @@
 //! What the send of an item changes in its shard.
 
-ghost use Rattle.std.specs.Prelude.{◌≡◌, None, IfOk, IsOk, OnErr, OnOk};
+ghost use Rattle.std.specs.Prelude.{◌≡◌, IfOk, IsOk, OnErr, OnOk};
 ghost use Rattle.std.specs.Option.{option_copied};
-ghost use Rattle.dep_shard.specs.Content.{IsUnchanged, Uses};
+ghost use Rattle.dep_shard.specs.Content.{IsUnchanged, KeepsSpares};
 ghost use Rattle.work_board.specs.Sends.{AnswersFor};
 ghost use Rattle.dep_table.specs.Sending as sending;
 ghost use Rattle.dep_table.specs.Sending.{HasSpareForItem, MayTakeItem, TakesItem};
@@ -34,7 +34,7 @@ pub(crate) fn take_item(
     ensures takes { OnOk result (TakesItem m.now item.now (option_copied tile.entry) shard.old shard.new) }
     ensures answer { IfOk result (λ a. AnswersFor m.now shard.old item.now a) }
     ensures same { OnErr result (IsUnchanged shard.old shard.new) }
-    ensures kept { OnErr result (Uses shard.old.spare shard.new.spare 0 None 0 0) }
+    ensures kept { OnErr result (KeepsSpares shard.old.spare shard.new.spare) }
     ensures succeeds { HasSpareForItem m.now item.now (option_copied tile.entry) shard.old → IsOk result }
 {
     match item {

@@ -2,8 +2,8 @@
 
 ghost use Rattle.std.specs.Prelude.{◌≡◌, ◌<◌};
 ghost use Rattle.dep_iter.specs.Tasks.{IsTask};
-ghost use Rattle.shard_meaning.specs.Placing as placing;
 ghost use Rattle.dep_table.specs.Tables.{job_of};
+ghost use Rattle.table_rule.specs.Rule.{placement_of};
 
 use crate::table::DepTable;
 use coll_data::Given;
@@ -43,7 +43,7 @@ impl DepTable {
     /// The number of the shard of a task.
     pub fn shard_of(&self, t: &TaskId) -> u32
         requires { IsTask (job_of self.now).matched t.now }
-        ensures number { result ≡ placing.shard_of (job_of self.now).matched (job_of self.now).shards t.now }
+        ensures number { result ≡ placement_of (job_of self.now) t.now }
         ensures within { result < (job_of self.now).shards }
     {
         shard_at(&self.job.matched, self.job.shards as usize, t) as u32

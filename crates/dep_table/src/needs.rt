@@ -10,7 +10,7 @@ ghost use Rattle.dep_iter.specs.Tasks as tasks;
 ghost use Rattle.dep_iter.specs.Tasks.{IsTask};
 ghost use Rattle.list_lemmas.specs.Counting.{as_number};
 ghost use Rattle.dep_table.specs.Needs as needs;
-ghost use Rattle.dep_table.specs.Needs.{AddsTask, AddsTiles, HasRoomFor, IsNoNeed, edge_tiles, flow_tiles, flows_tiles, write_tiles};
+ghost use Rattle.dep_table.specs.Needs.{AddsTask, AddsTiles, CanCount, IsNoNeed, edge_tiles, flow_tiles, flows_tiles, write_tiles};
 
 use dep_iter::{Matched, flows_of, held_target, write_backs_under};
 use goal_count::goal_under;
@@ -160,7 +160,7 @@ impl Needs {
         requires task { IsTask m.now t.now }
         requires locals { env.now ≡ tasks.locals_of m.now t.now }
         requires types { length self.old.tiles.items ≡ length m.now.elems }
-        requires room { HasRoomFor m.now (t.now ∷ []) self.old }
+        requires room { CanCount m.now (t.now ∷ []) self.old }
         ensures { AddsTask m.now t.now self.old self.new }
     {
         if goal_under(m, t, env) != 0 {

@@ -1,14 +1,13 @@
 //! The opening of a table.
 
 ghost use Rattle.std.specs.Prelude.{◌≡◌, ◌<◌, ◌≤◌, true, false, IfOk};
-ghost use Rattle.ptg_base.specs.Limits.{most_shards};
+ghost use Rattle.ptg_base.specs.Limits.{IsShardCount, most_shards};
 ghost use Rattle.plan_data.specs.Fit.{DataFit};
 ghost use Rattle.shard_calls.specs.Opened.{AreOpeningShards};
-ghost use Rattle.table_rule.specs.Changes.{first_pass};
 ghost use Rattle.table_rule.specs.Opening.{AreOpeningWords, IsOpening};
 ghost use Rattle.dep_table.specs.ClosingRooms.{IsRoomFor};
 ghost use Rattle.dep_table.specs.Opened.{HaveOpeningReserve};
-ghost use Rattle.dep_table.specs.Passes.{IsPassOf};
+ghost use Rattle.dep_table.specs.Passes.{IsFirstPassOf};
 ghost use Rattle.dep_table.specs.Tables.{id_of, job_of};
 
 use crate::closing_room::{ClosingRoom, closing_room};
@@ -57,10 +56,10 @@ fn lay(
     closing: ClosingRoom,
 ) -> Result<(DepTable, Pass), OutOfMemory>
     requires opening { IsOpening job words.items shards.items }
-    requires fit { DataFit job.matched.colls job.matched.elems job.given }
+    requires fit { DataFit job.matched job.given }
     requires room { IsRoomFor job closing }
-    ensures pass { IfOk result (λ r. IsPassOf (id_of r.0) r.1 × (r.1.me.0 ≡ first_pass)) }
-    ensures job { IfOk result (λ r. job_of r.0 ≡ job) }
+    ensures pass { IfOk result (λ (table, pass). IsFirstPassOf (id_of table) pass) }
+    ensures job { IfOk result (λ (table, pass). job_of table ≡ job) }
 {
     the_rule_holds_before_the_first_step();
     let laid: Result<
@@ -87,7 +86,7 @@ fn shards_for(
     shards: u32,
     preload: bool,
 ) -> Result<Vec<Shard>, OutOfMemory>
-    requires { (0 < shards) × (shards ≤ most_shards) }
+    requires { IsShardCount shards }
     ensures shards { IfOk result (λ v. AreOpeningShards m.now shards v.items) }
     ensures spares { preload ≡ true → IfOk result (λ v. HaveOpeningReserve m.now shards v.items) }
 {
@@ -104,12 +103,12 @@ fn open_table(
     shards: Vec<Shard>,
     job: TableJob,
 ) -> Result<(DepTable, Pass), OutOfMemory>
-    requires count { (0 < job.shards) × (job.shards ≤ most_shards) }
+    requires count { IsShardCount job.shards }
     requires shards { AreOpeningShards job.matched job.shards shards.items }
     requires spares { job.preloaded ≡ true → HaveOpeningReserve job.matched job.shards shards.items }
-    requires fit { DataFit job.matched.colls job.matched.elems job.given }
-    ensures pass { IfOk result (λ r. IsPassOf (id_of r.0) r.1 × (r.1.me.0 ≡ first_pass)) }
-    ensures job { IfOk result (λ r. job_of r.0 ≡ job) }
+    requires fit { DataFit job.matched job.given }
+    ensures pass { IfOk result (λ (table, pass). IsFirstPassOf (id_of table) pass) }
+    ensures job { IfOk result (λ (table, pass). job_of table ≡ job) }
 {
     job.matched.plan_is_consistent();
     let words = opening_words(alloc, job.shards, job.matched.roots())?;
@@ -125,12 +124,12 @@ impl DepTable {
         given: Given,
         shards: u32,
     ) -> Result<(DepTable, Pass), OutOfMemory>
-        requires fit { DataFit matched.colls matched.elems given }
+        requires fit { DataFit matched given }
         requires some_shards { 0 < shards }
         requires shards_at_most { shards ≤ most_shards }
-        ensures pass { IfOk result (λ r. IsPassOf (id_of r.0) r.1 × (r.1.me.0 ≡ first_pass)) }
-        ensures job { IfOk result (λ r.
-            job_of r.0 ≡ record { matched = matched; given = given; shards = shards; preloaded = false }) }
+        ensures pass { IfOk result (λ (table, pass). IsFirstPassOf (id_of table) pass) }
+        ensures job { IfOk result (λ (table, pass).
+            job_of table ≡ record { matched = matched; given = given; shards = shards; preloaded = false }) }
     {
         DepTable::open(alloc, matched, given, shards, false)
     }
@@ -143,12 +142,12 @@ impl DepTable {
         given: Given,
         shards: u32,
     ) -> Result<(DepTable, Pass), OutOfMemory>
-        requires fit { DataFit matched.colls matched.elems given }
+        requires fit { DataFit matched given }
         requires some_shards { 0 < shards }
         requires shards_at_most { shards ≤ most_shards }
-        ensures pass { IfOk result (λ r. IsPassOf (id_of r.0) r.1 × (r.1.me.0 ≡ first_pass)) }
-        ensures job { IfOk result (λ r.
-            job_of r.0 ≡ record { matched = matched; given = given; shards = shards; preloaded = true }) }
+        ensures pass { IfOk result (λ (table, pass). IsFirstPassOf (id_of table) pass) }
+        ensures job { IfOk result (λ (table, pass).
+            job_of table ≡ record { matched = matched; given = given; shards = shards; preloaded = true }) }
     {
         DepTable::open(alloc, matched, given, shards, true)
     }
@@ -161,12 +160,12 @@ impl DepTable {
         shards: u32,
         preload: bool,
     ) -> Result<(DepTable, Pass), OutOfMemory>
-        requires fit { DataFit matched.colls matched.elems given }
+        requires fit { DataFit matched given }
         requires some_shards { 0 < shards }
         requires shards_at_most { shards ≤ most_shards }
-        ensures pass { IfOk result (λ r. IsPassOf (id_of r.0) r.1 × (r.1.me.0 ≡ first_pass)) }
-        ensures job { IfOk result (λ r.
-            job_of r.0 ≡ record { matched = matched; given = given; shards = shards; preloaded = preload }) }
+        ensures pass { IfOk result (λ (table, pass). IsFirstPassOf (id_of table) pass) }
+        ensures job { IfOk result (λ (table, pass).
+            job_of table ≡ record { matched = matched; given = given; shards = shards; preloaded = preload }) }
     {
         let opened = shards_for(alloc, &matched, shards, preload)?;
         let job = TableJob {

@@ -3,7 +3,7 @@
 ghost use Rattle.std.specs.Prelude.{◌≡◌, IfOk, IsOk, true};
 ghost use Rattle.flow_meaning.specs.Answer.{answer};
 ghost use Rattle.dep_table.specs.ClosedTables.{shards_of};
-ghost use Rattle.dep_table.specs.Closing.{HaveNoWork};
+ghost use Rattle.shard_meaning.specs.Calm.{HaveNoWork};
 ghost use Rattle.dep_table.specs.Receipts.{receipt_of};
 
 use crate::closed::Closed;
@@ -18,8 +18,8 @@ impl Closed {
     /// preloaded table has the memory.
     pub fn outcome(self) -> Result<(Outcome, Receipt), OutOfMemory>
         requires { HaveNoWork (shards_of self) }
-        ensures answer { IfOk result (λ r. r.0 ≡ answer self.job.matched self.job.given) }
-        ensures receipt { IfOk result (λ r. r.1 ≡ receipt_of self) }
+        ensures answer { IfOk result (λ (outcome, receipt). outcome ≡ answer self.job.matched self.job.given) }
+        ensures receipt { IfOk result (λ (outcome, receipt). receipt ≡ receipt_of self) }
         ensures preloaded { self.job.preloaded ≡ true → IsOk result }
     {
         let Closed {

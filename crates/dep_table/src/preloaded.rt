@@ -1,12 +1,12 @@
 //! The shards of a table that takes all memory before the first step.
 
-ghost use Rattle.std.specs.Prelude.{◌≡◌, ◌<◌, ◌≤◌, ◌∷◌, [], Some, IfOk, OnOk, length, slice_get};
-ghost use Rattle.ptg_base.specs.Limits.{most_shards};
+ghost use Rattle.std.specs.Prelude.{◌≡◌, ◌<◌, ◌∷◌, [], Some, IfOk, OnOk, length, slice_get};
+ghost use Rattle.ptg_base.specs.Limits.{IsShardCount};
 ghost use Rattle.dep_iter.specs.Tasks as tasks;
 ghost use Rattle.dep_iter.specs.Tasks.{IsTask, all_tasks};
 ghost use Rattle.dep_shard.specs.Content.{Content};
 ghost use Rattle.shard_meaning.specs.Placing as placing;
-ghost use Rattle.dep_table.specs.Needs.{AddsNeeds, AddsTaskAt, AreNeedsOf, AreNoNeeds, AreReserved, FitShards, HaveRoomFor, HaveTypes, IsReservedFor, ReservesAt};
+ghost use Rattle.dep_table.specs.Needs.{AddsNeeds, AddsTaskAt, AreNeedsOf, AreNoNeeds, AreReserved, CanCountEach, FitShards, HaveTypes, IsReservedFor, ReservesAt};
 ghost use Rattle.shard_calls.specs.Opened.{AreOpeningShards};
 ghost use Rattle.dep_table.specs.Opened.{HaveOpeningReserve};
 
@@ -35,7 +35,7 @@ fn need_at(needs: &mut Vec<Needs>, k: usize, m: &Matched, t: &TaskId, env: &[i64
     requires locals { env.now ≡ tasks.locals_of m.now t.now }
     requires within { k < length needs.old.items }
     requires types { HaveTypes (length m.now.elems) needs.old.items }
-    requires room { HaveRoomFor m.now (t.now ∷ []) needs.old.items }
+    requires room { CanCountEach m.now (t.now ∷ []) needs.old.items }
     ensures { AddsTaskAt m.now t.now k needs.old.items needs.new.items }
 {
     needs[k].add_task(m, t, env);
@@ -44,9 +44,9 @@ fn need_at(needs: &mut Vec<Needs>, k: usize, m: &Matched, t: &TaskId, env: &[i64
 // Adds what a task needs to the needs of its shard.
 fn need_task(needs: &mut Vec<Needs>, m: &Matched, t: &TaskId)
     requires task { IsTask m.now t.now }
-    requires shards { (0 < length needs.old.items) × (length needs.old.items ≤ most_shards) }
+    requires shards { IsShardCount (length needs.old.items) }
     requires types { HaveTypes (length m.now.elems) needs.old.items }
-    requires room { HaveRoomFor m.now (t.now ∷ []) needs.old.items }
+    requires room { CanCountEach m.now (t.now ∷ []) needs.old.items }
     ensures { AddsNeeds m.now (placing.shard_of m.now (length needs.old.items)) t.now needs.old.items needs.new.items }
 {
     let env = locals_of(m.plan(), t);
@@ -56,7 +56,7 @@ fn need_task(needs: &mut Vec<Needs>, m: &Matched, t: &TaskId)
 
 // What each of this many shards needs for all tasks.
 fn needs_of(alloc: Global, m: &Matched, shards: u32) -> Result<Vec<Needs>, OutOfMemory>
-    requires { (0 < shards) × (shards ≤ most_shards) }
+    requires { IsShardCount shards }
     ensures count { IfOk result (λ v. length v.items ≡ shards) }
     ensures needs { IfOk result (λ v. AreNeedsOf m.now (placing.shard_of m.now shards) (all_tasks m.now) v.items) }
 {
@@ -109,7 +109,7 @@ pub(crate) fn preloaded_shards(
     m: &Matched,
     shards: u32,
 ) -> Result<Vec<Shard>, OutOfMemory>
-    requires { (0 < shards) × (shards ≤ most_shards) }
+    requires { IsShardCount shards }
     ensures shards { IfOk result (λ v. AreOpeningShards m.now shards v.items) }
     ensures spares { IfOk result (λ v. HaveOpeningReserve m.now shards v.items) }
 {

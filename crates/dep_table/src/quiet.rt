@@ -4,12 +4,12 @@ ghost use Rattle.std.specs.Prelude.{◌↔◌, List, IsTrue};
 ghost use Rattle.ptg_base.specs.Task.{Task};
 ghost use Rattle.dep_shard.specs.Content.{Content};
 ghost use Rattle.flow_meaning.specs.Machine.{IsQuiescent};
-ghost use Rattle.shard_meaning.specs.Calm.{IsCalm};
+ghost use Rattle.shard_meaning.specs.Calm.{HaveNoWork, IsCalm};
 ghost use Rattle.shard_meaning.specs.Moment.{Moment};
 ghost use Rattle.table_rule.specs.declared.table_job.TableJob.{TableJob};
 ghost use Rattle.dep_table.specs.ClosedMeaning.{HasTheMeaning};
 ghost use Rattle.dep_table.specs.ClosedTables.{shards_of};
-ghost use Rattle.dep_table.specs.Closing.{HaveNoWork, IsClosedAt};
+ghost use Rattle.dep_table.specs.Closing.{IsClosedAt};
 ghost use Rattle.flow_meaning.specs.Order.{IsWholeOrder};
 ghost use Rattle.dep_table.specs.StampOrders.{IsClaimOrder};
 

@@ -2,10 +2,9 @@
 
 ghost use Rattle.std.specs.Prelude.{◌≡◌, ◌<◌, length};
 ghost use Rattle.std.specs.Option.{option_copied};
-ghost use Rattle.atomic_table.specs.Table.{rest};
-ghost use Rattle.table_rule.specs.Changes.{turn_left, with_credit, with_own_send};
-ghost use Rattle.table_rule.specs.Plays.{HasName};
-ghost use Rattle.dep_table.specs.Sending.{SendsItem, credited};
+ghost use Rattle.table_rule.specs.Changes.{with_credit};
+ghost use Rattle.table_rule.specs.Plays.{HasName, after_send};
+ghost use Rattle.dep_table.specs.Sending.{MayGiveSend, credited};
 
 use crate::pass::Seat;
 use crate::table::DepTable;
@@ -47,14 +46,9 @@ impl DepTable {
         requires event { E.sent ≡ record { item = item.now; tile = option_copied tile } }
         requires of { seat.old.table_id ≡ self.now.table.shared.table_id }
         requires within { shard < self.now.job.shards }
-        requires sends { SendsItem self.now.job shard item.now (option_copied tile) seat.old.me }
+        requires sends { MayGiveSend self.now.job shard item.now (option_copied tile) seat.old.me }
         ensures of { seat.new.table_id ≡ seat.old.table_id }
-        ensures me { seat.new.me
-            ≡ (
-              turn_left (with_own_send seat.old.me.0 record { item = item.now; tile = option_copied tile.entry }),
-              rest
-                  seat.old.me.1,
-            ) }
+        ensures me { seat.new.me ≡ after_send record { item = item.now; tile = option_copied tile.entry } seat.old.me }
     {
         let _item = item;
         let _tile = tile;
@@ -66,14 +60,9 @@ impl DepTable {
     pub(crate) fn give_send(&self, seat: &mut Seat, shard: u32, item: &Item, tile: Option<&Tile>)
         requires of { seat.old.table_id ≡ self.now.table.shared.table_id }
         requires within { shard < self.now.job.shards }
-        requires sends { SendsItem self.now.job shard item.now (option_copied tile) seat.old.me }
+        requires sends { MayGiveSend self.now.job shard item.now (option_copied tile) seat.old.me }
         ensures of { seat.new.table_id ≡ seat.old.table_id }
-        ensures me { seat.new.me
-            ≡ (
-              turn_left (with_own_send seat.old.me.0 record { item = item.now; tile = option_copied tile.entry }),
-              rest
-                  seat.old.me.1,
-            ) }
+        ensures me { seat.new.me ≡ after_send record { item = item.now; tile = option_copied tile.entry } seat.old.me }
     {
         self.give_send_of::<Brand>(seat, shard, item, tile);
     }

@@ -6,11 +6,11 @@ ghost use Rattle.dep_shard.specs.Content.{Content};
 ghost use Rattle.work_board.specs.Records.{OnlyTook};
 ghost use Rattle.work_board.specs.Sends.{HasSent, IsNext, shard_of_item};
 ghost use Rattle.work_board.specs.declared.record.PassRecord.{PassRecord};
-ghost use Rattle.shard_meaning.specs.Placing as placing;
 ghost use Rattle.dep_table.specs.Passes.{IsPassOf};
 ghost use Rattle.dep_table.specs.Tables.{id_of, job_of};
 ghost use Rattle.dep_table.specs.Turns.{IsTurn, IsTurnOf};
 ghost use Rattle.dep_table.specs.Views.{shown};
+ghost use Rattle.table_rule.specs.Rule.{placement_of};
 
 use crate::delivery::take_item;
 use crate::turn::Turn;
@@ -25,9 +25,7 @@ impl<'a> Turn<'a> {
         requires turn { IsTurn self }
         requires item { IsNext (job_of self.table.now).matched (job_of self.table.now).given item.now
             (option_copied tile) (shown self.pass.now) }
-        requires shard { shard_of_item (placing.shard_of (job_of self.table.now).matched (job_of self.table.now).shards)
-            item.now
-            ≡ self.shard }
+        requires shard { shard_of_item (placement_of (job_of self.table.now)) item.now ≡ self.shard }
         ensures pass { IsPassOf (id_of self.entry.table.now) self.exit.1.0.now }
         ensures sent { IfOk result (λ a.
             (v : PassRecord) (y z : Content) → IsTurnOf self.entry v y z

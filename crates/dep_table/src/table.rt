@@ -24,7 +24,7 @@ pub struct DepTable {
     ghost of_job: { job ≡ table.shared.key },
     ghost sized: { (table.shared.table_id.words ≡ word_count job.shards) × (table.shared.table_id.slots ≡ job.shards)
         × (0 < job.shards) × (job.shards ≤ most_shards) },
-    ghost fit: { DataFit job.matched.colls job.matched.elems job.given },
+    ghost fit: { DataFit job.matched job.given },
     ghost well_made: { IsWellMade job.given } by { Prim.hlevel props },
     ghost room: { IsRoomFor job closing },
 }

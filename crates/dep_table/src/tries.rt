@@ -6,13 +6,13 @@ ghost use Rattle.ptg_base.specs.Lists.{IsIn};
 ghost use Rattle.dep_iter.specs.Items.{items};
 ghost use Rattle.dep_iter.specs.Tasks.{IsTask};
 ghost use Rattle.flow_meaning.specs.Machine.{sender};
-ghost use Rattle.work_board.specs.Claims.{Claimed, Scanned};
+ghost use Rattle.work_board.specs.Claims.{ClaimAnswers, ScanAnswers};
 ghost use Rattle.work_board.specs.Records.{OnlyTook};
-ghost use Rattle.work_board.specs.Sends.{EndedIf, IsNext, MayEnd, MayTrap, SentAs, shard_of_item};
-ghost use Rattle.shard_meaning.specs.Placing as placing;
+ghost use Rattle.work_board.specs.Sends.{EndAnswers, IsNext, MayEnd, MayTrap, SendAnswers, shard_of_item};
 ghost use Rattle.dep_table.specs.Passes.{IsPassOf};
 ghost use Rattle.dep_table.specs.Tables.{id_of, job_of};
 ghost use Rattle.dep_table.specs.Views.{shown};
+ghost use Rattle.table_rule.specs.Rule.{placement_of};
 
 use crate::pass::Pass;
 use crate::table::DepTable;
@@ -29,9 +29,8 @@ impl DepTable {
         requires task { IsTask (job_of self.now).matched t.now }
         requires idle { (shown pass.old).running ≡ [] }
         ensures pass { IsPassOf (id_of self.now) pass.new }
-        ensures claim { Claimed (job_of self.now).matched (job_of self.now).given
-            (placing.shard_of (job_of self.now).matched (job_of self.now).shards t.now) t.now result (shown pass.old)
-            (shown pass.new) }
+        ensures claim { ClaimAnswers (job_of self.now).matched (job_of self.now).given
+            (placement_of (job_of self.now) t.now) t.now result (shown pass.old) (shown pass.new) }
     {
         let shard = self.shard_of(t);
         match self.try_turn(pass, shard) {
@@ -49,9 +48,8 @@ impl DepTable {
         requires shard { shard < (job_of self.now).shards }
         requires idle { (shown pass.old).running ≡ [] }
         ensures pass { IsPassOf (id_of self.now) pass.new }
-        ensures scan { Scanned (job_of self.now).matched (job_of self.now).given
-            (placing.shard_of (job_of self.now).matched (job_of self.now).shards) shard result (shown pass.old)
-            (shown pass.new) }
+        ensures scan { ScanAnswers (job_of self.now).matched (job_of self.now).given
+            (placement_of (job_of self.now)) shard result (shown pass.old) (shown pass.new) }
     {
         match self.try_turn(pass, shard) {
             Ok(mut turn) => match turn.best_ready() {
@@ -72,8 +70,7 @@ impl DepTable {
     fn shard_for(&self, item: &Item) -> u32
         requires task { IsTask (job_of self.now).matched (sender item.now) }
         requires item { IsIn item.now (items (job_of self.now).matched (sender item.now)) }
-        ensures number { result
-            ≡ shard_of_item (placing.shard_of (job_of self.now).matched (job_of self.now).shards) item.now }
+        ensures number { result ≡ shard_of_item (placement_of (job_of self.now)) item.now }
         ensures within { result < (job_of self.now).shards }
     {
         self.job.matched.plan_is_consistent();
@@ -96,12 +93,10 @@ impl DepTable {
             (shown pass.old) }
         ensures pass { IsPassOf (id_of self.now) pass.new }
         ensures sent { IfOk result (λ a.
-            SentAs (job_of self.now).matched
-            (shard_of_item (placing.shard_of (job_of self.now).matched (job_of self.now).shards) item.now) item.now
+            SendAnswers (job_of self.now).matched (shard_of_item (placement_of (job_of self.now)) item.now) item.now
             (option_copied tile.entry) a (shown pass.old) (shown pass.new)) }
         ensures err { OnErr result
-            (OnlyTook (shard_of_item (placing.shard_of (job_of self.now).matched (job_of self.now).shards) item.now)
-            (shown pass.old) (shown pass.new)) }
+            (OnlyTook (shard_of_item (placement_of (job_of self.now)) item.now) (shown pass.old) (shown pass.new)) }
         ensures preloaded { (job_of self.now).preloaded ≡ true → IsOk result }
     {
         let shard = self.shard_for(item);
@@ -118,8 +113,7 @@ impl DepTable {
         requires is_task { IsTask (job_of self.now).matched t.now }
         requires task { MayEnd (job_of self.now).matched (job_of self.now).given t.now (shown pass.old) }
         ensures pass { IsPassOf (id_of self.now) pass.new }
-        ensures ended { EndedIf result (placing.shard_of (job_of self.now).matched (job_of self.now).shards t.now)
-            (shown pass.old) (shown pass.new) }
+        ensures ended { EndAnswers result (placement_of (job_of self.now) t.now) (shown pass.old) (shown pass.new) }
     {
         let shard = self.shard_of(t);
         match self.try_turn(pass, shard) {
@@ -143,11 +137,9 @@ impl DepTable {
         requires task { MayTrap (job_of self.now).matched (job_of self.now).given t.now cause (shown pass.old) }
         ensures pass { IsPassOf (id_of self.now) pass.new }
         ensures ended { IfOk result (λ a.
-            EndedIf a (placing.shard_of (job_of self.now).matched (job_of self.now).shards t.now) (shown pass.old)
-            (shown pass.new)) }
+            EndAnswers a (placement_of (job_of self.now) t.now) (shown pass.old) (shown pass.new)) }
         ensures err { OnErr result
-            (OnlyTook (placing.shard_of (job_of self.now).matched (job_of self.now).shards t.now) (shown pass.old)
-            (shown pass.new)) }
+            (OnlyTook (placement_of (job_of self.now) t.now) (shown pass.old) (shown pass.new)) }
         ensures preloaded { (job_of self.now).preloaded ≡ true → IsOk result }
     {
         let shard = self.shard_of(t);

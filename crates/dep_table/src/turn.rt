@@ -7,11 +7,11 @@ ghost use Rattle.work_board.specs.Records.{FoundBusy, OnlyTook};
 ghost use Rattle.work_board.specs.Word as word;
 ghost use Rattle.work_board.specs.declared.record.PassRecord.{PassRecord};
 ghost use Rattle.work_board.specs.Sends.{HasEnded, MayEnd, MayTrap};
-ghost use Rattle.shard_meaning.specs.Placing as placing;
 ghost use Rattle.dep_table.specs.Passes.{IsPassOf};
 ghost use Rattle.dep_table.specs.Tables.{id_of, job_of};
 ghost use Rattle.dep_table.specs.Turns.{IsTurn, IsTurnOf};
 ghost use Rattle.dep_table.specs.Views.{shown};
+ghost use Rattle.table_rule.specs.Rule.{placement_of};
 
 use crate::pass::Pass;
 use crate::table::DepTable;
@@ -112,8 +112,7 @@ impl<'a> Turn<'a> {
         requires turn { IsTurn self }
         requires task { MayEnd (job_of self.table.now).matched (job_of self.table.now).given t.now
             (shown self.pass.now) }
-        requires shard { placing.shard_of (job_of self.table.now).matched (job_of self.table.now).shards t.now
-            ≡ self.shard }
+        requires shard { placement_of (job_of self.table.now) t.now ≡ self.shard }
         ensures pass { IsPassOf (id_of self.entry.table.now) self.exit.1.0.now }
         ensures ended { (v : PassRecord) (y z : Content) → IsTurnOf self.entry v y z
             → HasEnded self.entry.shard v (shown self.exit.1.0.now) }
@@ -136,8 +135,7 @@ impl<'a> Turn<'a> {
         requires turn { IsTurn self }
         requires task { MayTrap (job_of self.table.now).matched (job_of self.table.now).given t.now cause
             (shown self.pass.now) }
-        requires shard { placing.shard_of (job_of self.table.now).matched (job_of self.table.now).shards t.now
-            ≡ self.shard }
+        requires shard { placement_of (job_of self.table.now) t.now ≡ self.shard }
         ensures pass { IsPassOf (id_of self.entry.table.now) self.exit.1.0.now }
         ensures ended { OnOk result
             ((v : PassRecord) (y z : Content) → IsTurnOf self.entry v y z

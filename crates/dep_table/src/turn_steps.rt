@@ -4,13 +4,13 @@ ghost use Rattle.std.specs.Prelude.{[], IfNone, IfSome, None, ◌≡◌, ◌≢�
 ghost use Rattle.ptg_base.specs.Entry.{Entry};
 ghost use Rattle.ptg_base.specs.Limits.{most_tasks};
 ghost use Rattle.atomic_table.specs.Table.{rest};
-ghost use Rattle.dep_shard.specs.Content.{Content, Ends, KeepsEntriesAndWritten, Takes, Uses, entry_of, HasNoReadyOf};
+ghost use Rattle.dep_shard.specs.Content.{Content, Ends, KeepsEntriesAndWritten, KeepsSpares, Takes, entry_of, HasNoReadyOf};
 ghost use Rattle.table_rule.specs.Changes.{turn_left, with_look, with_own_claim, with_own_end, with_stamp, with_turn, without_credit};
 ghost use Rattle.table_rule.specs.Live.{own_stamps};
 ghost use Rattle.table_rule.specs.Plays.{HasName, WasSeen};
 ghost use Rattle.work_board.specs.Claims.{MayStart};
 ghost use Rattle.work_board.specs.Word as word;
-ghost use Rattle.dep_table.specs.Turns.{Claims, EndsTask, Leaves};
+ghost use Rattle.dep_table.specs.Turns.{MayGiveBack, MayGiveClaim, MayGiveEnd};
 
 use crate::pass::Seat;
 use crate::table::DepTable;
@@ -55,7 +55,7 @@ impl DepTable {
     pub(crate) fn give(&self, seat: &mut Seat, shard: u32)
         requires of { seat.old.table_id ≡ self.now.table.shared.table_id }
         requires within { shard < self.now.job.shards }
-        requires leaves { Leaves shard seat.old.me }
+        requires leaves { MayGiveBack shard seat.old.me }
         ensures of { seat.new.table_id ≡ seat.old.table_id }
         ensures me { seat.new.me ≡ (turn_left seat.old.me.0, rest seat.old.me.1) }
     {
@@ -70,7 +70,7 @@ pub(crate) fn take_ready(shard: &mut Shard, t: &TaskId) -> Option<Arrivals>
     ensures none { IfNone result (HasNoReadyOf shard.old t.now) }
     ensures same { IfNone result (shard.new ≡ shard.old) }
     ensures some { IfSome result (λ tiles. Takes shard.old shard.new t.now tiles) }
-    ensures spare { Uses shard.old.spare shard.new.spare 0 None 0 0 }
+    ensures spare { KeepsSpares shard.old.spare shard.new.spare }
 {
     if shard.running() >= MOST_TASKS {
         return None;
@@ -85,7 +85,7 @@ pub(crate) fn end_task(shard: &mut Shard, spent: &mut Arrivals)
     ensures ends { Ends shard.old shard.new }
     ensures rest { KeepsEntriesAndWritten shard.old shard.new }
     ensures trapped { shard.new.trapped ≡ shard.old.trapped }
-    ensures spare { Uses shard.old.spare shard.new.spare 0 None 0 0 }
+    ensures spare { KeepsSpares shard.old.spare shard.new.spare }
 {
     shard.end();
     shard.reuse(spent);
@@ -97,7 +97,7 @@ impl DepTable {
         requires event { (E.job ≡ Some self.now.job) × (E.task ≡ t.now) × (E.tiles ≡ tiles.now) }
         requires of { seat.old.table_id ≡ self.now.table.shared.table_id }
         requires within { shard < self.now.job.shards }
-        requires claims { Claims shard t.now tiles.now seat.old.me }
+        requires claims { MayGiveClaim shard t.now tiles.now seat.old.me }
         ensures of { seat.new.table_id ≡ seat.old.table_id }
         ensures me { seat.new.me ≡ (turn_left (with_own_claim seat.old.me.0 t.now), rest seat.old.me.1) }
         ensures starts { MayStart self.now.job.matched self.now.job.given t.now tiles.now seat.old.me.0 }
@@ -112,7 +112,7 @@ impl DepTable {
     pub(crate) fn give_claim(&self, seat: &mut Seat, shard: u32, t: &TaskId, tiles: &Arrivals)
         requires of { seat.old.table_id ≡ self.now.table.shared.table_id }
         requires within { shard < self.now.job.shards }
-        requires claims { Claims shard t.now tiles.now seat.old.me }
+        requires claims { MayGiveClaim shard t.now tiles.now seat.old.me }
         ensures of { seat.new.table_id ≡ seat.old.table_id }
         ensures me { seat.new.me ≡ (turn_left (with_own_claim seat.old.me.0 t.now), rest seat.old.me.1) }
         ensures starts { MayStart self.now.job.matched self.now.job.given t.now tiles.now seat.old.me.0 }
@@ -153,7 +153,7 @@ impl DepTable {
     pub(crate) fn give_end(&self, seat: &mut Seat, shard: u32)
         requires of { seat.old.table_id ≡ self.now.table.shared.table_id }
         requires within { shard < self.now.job.shards }
-        requires ends { EndsTask self.now.job shard seat.old.me }
+        requires ends { MayGiveEnd self.now.job shard seat.old.me }
         ensures of { seat.new.table_id ≡ seat.old.table_id }
         ensures me { seat.new.me ≡ (turn_left (with_own_end seat.old.me.0), rest seat.old.me.1) }
     {

@@ -20,14 +20,14 @@ use Rattle.list_lemmas.proofs.Members.{from_append, from_flat_map, from_map}
 use Rattle.dep_iter.specs.declared.source.Source.{Source}
 use Rattle.dep_iter.specs.declared.source.Source.TheVariants as source
 use Rattle.dep_iter.specs.Tasks.{flows_of, locals_of, task}
-use Rattle.dep_iter.specs.Active.{by_flow, flow_ins, flow_outs}
+use Rattle.dep_iter.specs.Active.{by_flow, flow_ins, flow_outs, by_number}
 use Rattle.dep_iter.specs.Arguments.{combinations}
 use Rattle.dep_iter.specs.Edges.{data_source, edge, edges_into, in_edges, source_among}
 use Rattle.dep_iter.specs.Items.{edge_of, item_flow, items, items_to, write_of}
 use Rattle.dep_iter.specs.Links.{links_to}
 use Rattle.dep_iter.proofs.Belonging.{from_edges_in, link_in, near_among}
 use Rattle.dep_iter.proofs.Joining.{edges_into-among}
-use Rattle.edge_accept.specs.Flows.{by_number, edges_into_flow, items_of_flow}
+use Rattle.edge_accept.specs.Flows.{edges_into_flow, items_of_flow}
 
 by_flow-is : {X : Type 0} (g : ℕ → Target → List X) (targets : FlowPlan → List Target) (n : ℕ) (fs : List FlowPlan)
     → flat_map (λ (a : ℕ × Target). g a.0 a.1) (by_flow targets n fs) ≡ by_number (λ m f. flat_map (g m) (targets f)) n fs

@@ -15,7 +15,8 @@ use Rattle.dep_iter.specs.Items.{items}
 use Rattle.dep_iter.specs.Tasks.{flows_of, locals_of}
 use Rattle.dep_iter.specs.Well.{IsWellTask}
 use Rattle.edge_accept.specs.declared.tally.Tally.{Tally}
-use Rattle.edge_accept.specs.Flows.{AreTakenOnce, HasSoundSource, IsSoundFlow, IsSoundTask, by_number, edges_into_flow}
+use Rattle.dep_iter.specs.Active.{by_number}
+use Rattle.edge_accept.specs.Flows.{AreTakenOnce, HasSoundSource, IsSoundFlow, IsSoundTask, edges_into_flow}
 use Rattle.edge_accept.specs.Flows.{items_of_flow}
 use Rattle.edge_accept.specs.Tallies.{Accepts, AreSent, WentOver}
 use Rattle.edge_accept.proofs.SentItems.{sent_append, sent_nil}

@@ -1,6 +1,6 @@
 -- What the walk shows of a task: that it is well, and that each edge into it is sent.
 -- Source: PaRSEC (2013), in which each edge is written at both ends.
-use Rattle.std.specs.Prelude.{◌≡◌, ◌+◌, ℕ, suc, ℤ, List, [], ◌∷◌, ◌++◌, flat_map, filter, length, IsTrue, slice_get}
+use Rattle.std.specs.Prelude.{◌≡◌, ◌+◌, ℕ, ℤ, List, [], flat_map, filter, length, IsTrue, slice_get}
 use Rattle.std.specs.Prelude.{Some}
 use Rattle.ptg_base.specs.Lists.{HasNoRepeats, IsIn}
 use Rattle.ptg_base.specs.Task.{Task}
@@ -27,11 +27,6 @@ edges_into_flow t env n f = flat_map (edges_into t env n) (flow_ins env f)
 -- the items that flow n of a task with these locals sends
 abbrev pub items_of_flow : Task → List ℤ → ℕ → FlowPlan → List Item
 items_of_flow t env n f = flat_map (items_to t env n) (flow_outs env f)
-
--- what each of these flows gives, which are numbered from n on
-abbrev pub by_number : {X : Type 0} → (ℕ → FlowPlan → List X) → ℕ → List FlowPlan → List X
-by_number g n [] = []
-by_number g n (f ∷ fs) = g n f ++ by_number g (suc n) fs
 
 -- an edge comes from a task of the job, and is one out of it
 abbrev pub IsSent : Plan → Edge → Type 0

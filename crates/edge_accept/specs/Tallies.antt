@@ -11,7 +11,7 @@ use Rattle.plan_core.specs.declared.shape.Shape.{Shape}
 use Rattle.plan_core.specs.declared.target.Target.{Target}
 use Rattle.plan_core.specs.Place.{HasPlace}
 use Rattle.term_core.specs.Kinds.{is_data}
-use Rattle.dep_iter.specs.Active.{held_targets}
+use Rattle.dep_iter.specs.Active.{held_targets, by_number}
 use Rattle.dep_iter.specs.Edges.{edges_into, in_edges, in_edges_before, source_among}
 use Rattle.dep_iter.specs.Items.{edge_of, items, write_of}
 use Rattle.place_set.specs.declared.PlaceSet.{PlaceSet}
@@ -20,7 +20,7 @@ use Rattle.edge_accept.specs.declared.at.FlowAt.{FlowAt}
 use Rattle.edge_accept.specs.declared.ins.Ins.{Ins}
 use Rattle.edge_accept.specs.declared.outs.Outs.{Outs}
 use Rattle.edge_accept.specs.declared.tally.Tally.{Tally}
-use Rattle.edge_accept.specs.Flows.{AreTaken, AreTakenOnce, IsSoundFlow, IsSoundSource, IsSoundTask, by_number}
+use Rattle.edge_accept.specs.Flows.{AreTaken, AreTakenOnce, IsSoundFlow, IsSoundSource, IsSoundTask}
 use Rattle.edge_accept.specs.Flows.{edges_into_flow, items_of_flow}
 
 -- the flow may start from the first of these targets, which dependences from number k on give, and the edges that they

@@ -14,7 +14,7 @@ use Rattle.plan_core.specs.declared.flow.FlowPlan.{FlowPlan}
 use Rattle.plan_core.specs.declared.plan.Plan.{Plan}
 use Rattle.dep_iter.specs.declared.source.Source.{Source}
 use Rattle.dep_iter.specs.Tasks.{all_tasks, flows_of}
-use Rattle.edge_accept.specs.Flows.{by_number}
+use Rattle.dep_iter.specs.Active.{by_number}
 use Rattle.edge_accept.specs.Tallies.{places_of}
 use Rattle.edge_accept.proofs.TaskFlows.{items-flows}
 use Rattle.dep_iter.specs.Consistent.{all_in, all_items, all_writes}

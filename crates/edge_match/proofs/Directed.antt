@@ -28,14 +28,14 @@ use Rattle.std.proofs.lemmas.List.Elements.{filter_map-append}
 use Rattle.list_lemmas.proofs.Joins.{map-flat_map, map-map, flat_map_push}
 use Rattle.dep_iter.specs.declared.source.Source.{Source}
 use Rattle.dep_iter.specs.Tasks.{flows_of, locals_of, task}
-use Rattle.dep_iter.specs.Active.{flow_ins, held_target, held_targets}
+use Rattle.dep_iter.specs.Active.{flow_ins, held_target, held_targets, by_number}
 use Rattle.dep_iter.specs.Directions.{edge_at, edges_of, near_flow}
 use Rattle.dep_iter.specs.Edges.{data_source, edges_into, in_edges_before}
 use Rattle.dep_iter.specs.Items.{edge_of, out_edges_before, write_of}
 use Rattle.dep_iter.specs.Arguments.{combinations}
 use Rattle.dep_iter.proofs.Belonging.{held-none}
 use Rattle.dep_iter.proofs.Distinctness.{distinct_in, distinct_out}
-use Rattle.edge_accept.specs.Flows.{by_number, edges_into_flow}
+use Rattle.edge_accept.specs.Flows.{edges_into_flow}
 use Rattle.edge_accept.proofs.SentItems.{edges_only}
 use Rattle.edge_accept.proofs.TakenEdges.{held-next_none, held-next_some}
 use Rattle.edge_accept.proofs.TaskFlows.{each_more, in_edges-flows, into_flow_is, items-flows, sent_flow_is}

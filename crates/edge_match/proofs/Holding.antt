@@ -25,8 +25,8 @@ use Rattle.edge_match.specs.declared.phase.Phase.{Phase}
 use Rattle.edge_match.specs.declared.phase.Phase.TheVariants.{Connecting, Matching}
 use Rattle.edge_match.specs.Marks.{AllPass, Before, Check, CountsIn, CountsItem, Holds, Is, IsNewPlace, Mark, Passes, add, add_all}
 use Rattle.edge_match.specs.Marks.{edge_marks, flow_marks, flow_start, item_marks, phase_marks, task_marks, task_start}
-use Rattle.edge_match.specs.Marks.{way_marks, write_marks}
-use Rattle.edge_accept.specs.Flows.{by_number}
+use Rattle.edge_match.specs.Marks.{direction_marks, write_marks}
+use Rattle.dep_iter.specs.Active.{by_number}
 use Rattle.edge_accept.proofs.TaskFlows.{each_more}
 
 -- ---- lists
@@ -61,20 +61,20 @@ module _ (Q : Mark → Type 0) where
     -- of all marks at a flow: at the flow itself, and at its edges in each direction
     pub record AtFlow (t : Task) (n : ℕ) (f : FlowPlan) : Type 0 where
       pub start : All (flow_start phase P t n f)
-      pub directed : (d : Direction) → All (way_marks d phase P t n f)
+      pub directed : (d : Direction) → All (direction_marks d phase P t n f)
 
     at_each_flow : (t : Task) (n : ℕ) (f : FlowPlan) → All (flow_marks phase P t n f) ↔ AtFlow t n f
     at_each_flow t n f =
         let start = flow_start phase P t n f in
-        let ins = way_marks In phase P t n f in
-        let outs = way_marks Out phase P t n f in (
+        let ins = direction_marks In phase P t n f in
+        let outs = direction_marks Out phase P t n f in (
           λ h. let p = parts (start ++ ins) outs h in
               let q = parts start ins p.0 in
               record { start = q.0; directed = λ d. in_direction d q.1 p.1 },
           λ w. join (start ++ ins) outs (join start ins w.start (w.directed In)) (w.directed Out),
         )
       where
-        in_direction : (d : Direction) → All (way_marks In phase P t n f) → All (way_marks Out phase P t n f) → All (way_marks d phase P t n f)
+        in_direction : (d : Direction) → All (direction_marks In phase P t n f) → All (direction_marks Out phase P t n f) → All (direction_marks d phase P t n f)
         in_direction In h k = h
         in_direction Out h k = k
 

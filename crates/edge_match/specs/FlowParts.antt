@@ -18,18 +18,19 @@ use Rattle.edge_match.specs.Marks.{Mark, held_items, item_marks}
 abbrev pub FlowMarks : Type 0
 FlowMarks = Phase → Source → Task → ℕ → List Mark
 
--- a part of the pass at this flow that went from these counts to those: all of these marks pass and are counted, or it
--- gives the fault of the first that does not
+-- A part of the pass at this flow that went from these counts to those: all of these marks pass and are counted, or it
+-- gives the fault of the first that does not.
 abbrev pub CheckedAt : Phase → FlowAt → Counted → Counted → Result (Unit {0}) MatchFault → FlowMarks → Type 0
 CheckedAt phase at old new r ms =
     Checked at.plan.now old new r (ms phase (data_source at.plan.now at.task.now at.number) at.task.now at.number)
 
 -- the edges that the first k dependences of the flow give
 abbrev pub before_at : Direction → FlowAt → ℕ → List Edge
-before_at d at k = edges_before d at.plan.now at.task.now at.number k
+before_at direction at k = edges_before direction at.plan.now at.task.now at.number k
 
 -- the marks of what the dependences from number k on give
 abbrev pub marks_from : Direction → FlowAt → ℕ → FlowMarks
-marks_from d at k =
-    item_marks d (before_at d at k)
-    (held_items d at.task.now at.env.now at.number at.flow.now.kind (drop k (dependences d at.flow.now)))
+marks_from direction at k =
+    item_marks direction (before_at direction at k)
+    (held_items direction at.task.now at.env.now at.number at.flow.now.kind
+    (drop k (dependences direction at.flow.now)))

@@ -1,6 +1,6 @@
 -- What is checked of a plan whose tasks are known, as one list of marks in their order: first that all tasks and their
--- edges exist, then that the edges match.
--- Source: PaRSEC (2013), in which each edge is written at both ends; the order is this project's own choice.
+-- edges exist, then that the edges match. Source: PaRSEC (2013), in which each edge is written at both ends; the order
+-- is this project's own choice.
 use Rattle.std.specs.Prelude.{◌≡◌, ◌≢◌, ◌<◌, ℕ, ℤ, List, [], ◌∷◌, ◌++◌, map, flat_map, length, IsTrue}
 use Rattle.std.specs.Prelude.{Option, Some, None, unwrap_or}
 use Rattle.ptg_base.specs.Limits.{most_edges}
@@ -24,45 +24,44 @@ use Rattle.plan_core.specs.Flows.{dependences}
 use Rattle.dep_iter.specs.declared.source.Source.{Source}
 use Rattle.dep_iter.specs.declared.source.Source.TheVariants as source
 use Rattle.dep_iter.specs.Tasks.{all_tasks, flows_of, locals_of, IsTask}
-use Rattle.dep_iter.specs.Active.{held_targets}
+use Rattle.dep_iter.specs.Active.{held_targets, by_number}
 use Rattle.dep_iter.specs.Edges.{data_source, edges_into}
 use Rattle.dep_iter.specs.Items.{items_to}
 use Rattle.dep_iter.specs.Directions.{HasOtherEnd, far_task}
 use Rattle.dep_iter.specs.Hints.{affinity}
 use Rattle.dep_iter.specs.Well.{IsWellTask, ill_part}
 use Rattle.dep_iter.specs.Consistent.{takes_tile}
-use Rattle.edge_accept.specs.Flows.{by_number}
 use Rattle.edge_match.specs.declared.phase.Phase.{Phase}
 use Rattle.edge_match.specs.declared.phase.Phase.TheVariants.{Connecting, Matching}
 
 -- what is checked of a plan and counts nothing
 pub data Fact : Type 0 where
-  -- each expression that the task needs has a value
+  -- Each expression that the task needs has a value.
   HasValues : Task → Fact
-  -- the place exists
+  -- The place exists.
   IsPlace : Place → Fact
-  -- a flow of this kind with this source has an in dependence that holds, if it must
+  -- A flow of this kind with this source has an in dependence that holds, if it must.
   HasInput : FlowKind → Source → Fact
-  -- the place of the source exists, if it is one
+  -- The place of the source exists, if it is one.
   HasSource : Source → Fact
-  -- the task is one of the job
+  -- The task is one of the job.
   IsOfJob : Task → Fact
-  -- what sends has a tile, its source being this
+  -- What sends has a tile, its source being this.
   HasTile : Source → Fact
-  -- the edge, into a task or out of it, is one of the task at its other end too
+  -- The edge, into a task or out of it, is one of the task at its other end too.
   HasOther : Direction → Edge → Fact
-  -- the edge is not among these earlier ones
+  -- The edge is not among these earlier ones.
   IsNewEdge : List Edge → Edge → Fact
 
 -- what is checked of a plan
 pub data Check : Type 0 where
-  -- a fact holds
+  -- A fact holds.
   Is : Fact → Check
-  -- the edge into a task is counted: the limit is not reached
+  -- The edge into a task is counted: the limit is not reached.
   CountsIn : Edge → Check
-  -- the item is counted: the limit is not reached
+  -- The item is counted: the limit is not reached.
   CountsItem : Item → Check
-  -- the place is not written before
+  -- The place is not written before.
   IsNewPlace : Place → Check
 
 -- a check, and the task and the flow that its fault names
@@ -82,11 +81,12 @@ items_at Out t env n = items_to t env n
 
 -- the items that those of these dependences of a flow of this kind that hold stand for
 abbrev pub held_items : Direction → Task → List ℤ → ℕ → FlowKind → List DepPlan → List Item
-held_items d t env n kind ds = flat_map (items_at d t env n) (held_targets (first_only d kind) ds env)
+held_items direction t env n kind ds =
+    flat_map (items_at direction t env n) (held_targets (first_only direction kind) ds env)
 
 -- the items of flow n of the task t in one direction
 abbrev pub flow_items : Direction → Plan → Task → ℕ → FlowPlan → List Item
-flow_items d P t n f = held_items d t (locals_of P t) n f.kind (dependences d f)
+flow_items direction P t n f = held_items direction t (locals_of P t) n f.kind (dependences direction f)
 
 -- the mark that flow n of the task t, whose source is this, has a tile to send
 abbrev pub tile_marks : Direction → Source → Task → ℕ → List Mark
@@ -100,10 +100,11 @@ counts Out e = CountsItem (item.Edge e)
 
 -- the marks of an edge of flow n in each phase: its task exists and it is counted; it is one at its other end, and new
 abbrev pub edge_marks : Direction → List Edge → Edge → Phase → Source → Task → ℕ → List Mark
-edge_marks d earlier e Connecting s t n =
-    tile_marks d s t n ++ mark t (Some n) (Is (IsOfJob (far_task d e))) ∷ mark t (Some n) (counts d e) ∷ []
-edge_marks d earlier e Matching s t n =
-    mark t (Some n) (Is (HasOther d e)) ∷ mark t (Some n) (Is (IsNewEdge earlier e)) ∷ []
+edge_marks direction earlier e Connecting s t n =
+    tile_marks direction s t n ++ mark t (Some n) (Is (IsOfJob (far_task direction e)))
+    ∷ mark t (Some n) (counts direction e) ∷ []
+edge_marks direction earlier e Matching s t n =
+    mark t (Some n) (Is (HasOther direction e)) ∷ mark t (Some n) (Is (IsNewEdge earlier e)) ∷ []
 
 -- the marks of a write-back of flow n in each phase: its place exists, and it is counted and new
 abbrev pub write_marks : WriteBack → Phase → Source → Task → ℕ → List Mark
@@ -114,10 +115,11 @@ write_marks w Matching s t n = []
 
 -- the marks of these items of flow n in each phase, after these earlier edges of the flow
 abbrev pub item_marks : Direction → List Edge → List Item → Phase → Source → Task → ℕ → List Mark
-item_marks d earlier [] phase s t n = []
-item_marks d earlier (item.Edge e ∷ is) phase s t n =
-    edge_marks d earlier e phase s t n ++ item_marks d (earlier ++ e ∷ []) is phase s t n
-item_marks d earlier (item.Write w ∷ is) phase s t n = write_marks w phase s t n ++ item_marks d earlier is phase s t n
+item_marks direction earlier [] phase s t n = []
+item_marks direction earlier (item.Edge e ∷ is) phase s t n =
+    edge_marks direction earlier e phase s t n ++ item_marks direction (earlier ++ e ∷ []) is phase s t n
+item_marks direction earlier (item.Write w ∷ is) phase s t n =
+    write_marks w phase s t n ++ item_marks direction earlier is phase s t n
 
 -- the marks of a flow itself in each phase: it has an input if it must, and the place of its source exists
 abbrev pub flow_start : Phase → Plan → Task → ℕ → FlowPlan → List Mark
@@ -127,12 +129,14 @@ flow_start Connecting P t n f =
 flow_start Matching P t n f = []
 
 -- the marks of the edges of a flow in one direction, with the write-backs among what it sends
-abbrev pub way_marks : Direction → Phase → Plan → Task → ℕ → FlowPlan → List Mark
-way_marks d phase P t n f = item_marks d [] (flow_items d P t n f) phase (data_source P t n) t n
+abbrev pub direction_marks : Direction → Phase → Plan → Task → ℕ → FlowPlan → List Mark
+direction_marks direction phase P t n f =
+    item_marks direction [] (flow_items direction P t n f) phase (data_source P t n) t n
 
 -- the marks of a flow: the flow itself, then the edges into it, then what it sends
 abbrev pub flow_marks : Phase → Plan → Task → ℕ → FlowPlan → List Mark
-flow_marks phase P t n f = flow_start phase P t n f ++ way_marks In phase P t n f ++ way_marks Out phase P t n f
+flow_marks phase P t n f =
+    flow_start phase P t n f ++ direction_marks In phase P t n f ++ direction_marks Out phase P t n f
 
 -- the flow of an ill task that is ill, if it is one
 abbrev pub ill_flow : Plan → Task → Option ℕ
@@ -162,11 +166,11 @@ pub record Before : Type 0 where
   pub items : List Item
   pub places : List Place
 
--- nothing came before
+-- Nothing came before.
 abbrev pub nothing : Before
 nothing = record { ins = []; items = []; places = [] }
 
--- a fact holds of a plan
+-- A fact holds of a plan.
 abbrev pub Holds : Plan → Fact → Type 0
 Holds P (HasValues t) = IsWellTask P t
 Holds P (IsPlace p) = HasPlace P.colls p
@@ -174,10 +178,10 @@ Holds P (HasInput kind s) = IsTrue (takes_tile kind) → s ≢ source.Nothing
 Holds P (HasSource s) = (p : Place) → s ≡ source.Place p → HasPlace P.colls p
 Holds P (IsOfJob t) = IsTask P t
 Holds P (HasTile s) = s ≢ source.Null
-Holds P (HasOther d e) = HasOtherEnd d P e
+Holds P (HasOther direction e) = HasOtherEnd direction P e
 Holds P (IsNewEdge earlier e) = IsIn e earlier → ⊥
 
--- a check passes, after what came before
+-- A check passes, after what came before.
 abbrev pub Passes : Plan → Before → Check → Type 0
 Passes P b (Is f) = Holds P f
 Passes P b (CountsIn e) = length b.ins < most_edges
@@ -191,7 +195,7 @@ add b (CountsIn e) = record b { ins = b.ins ++ e ∷ [] }
 add b (CountsItem i) = record b { items = b.items ++ i ∷ [] }
 add b (IsNewPlace p) = record b { places = b.places ++ p ∷ [] }
 
--- all these marks pass, and what came before those after them
+-- All these marks pass, each after what came before it.
 abbrev pub AllPass : Plan → Before → List Mark → Type 0
 AllPass P b [] = Unit {0}
 AllPass P b (m ∷ ms) = Passes P b m.check × AllPass P (add b m.check) ms

@@ -19,15 +19,15 @@ use term_core::Direction;
 // Checks what a target of dependence `k` of the flow stands for. An in dependence writes nothing.
 fn check_target(
     at: &FlowAt,
-    way: Direction,
+    direction: Direction,
     k: usize,
     target: &Target,
     counted: &mut Counted,
 ) -> Result<(), MatchFault>
     requires { IsTrue (fits at.now.plan.now target.now) }
     ensures { CheckedAt at.now.phase at.now counted.old counted.new result
-        (item_marks way (before_at way at.now k)
-        (items_at way at.now.task.now at.now.env.now at.now.number target.now)) }
+        (item_marks direction (before_at direction at.now k)
+        (items_at direction at.now.task.now at.now.env.now at.now.number target.now)) }
 {
     match target {
         Target::Task(class, flow, args) => {
@@ -37,12 +37,12 @@ fn check_target(
             let mut params = Combinations::new(args, at.env);
             while let Some(values) = params.next() {
                 let far = TaskId::new(*class, values.as_slice());
-                let edge = LentEdge::between(way, at.task, at.number, &far, *flow);
-                check_edge(at, way, k, &edge, counted)?;
+                let edge = LentEdge::between(direction, at.task, at.number, &far, *flow);
+                check_edge(at, direction, k, &edge, counted)?;
             }
             Ok(())
         }
-        Target::Element(coll, indices) => match way {
+        Target::Element(coll, indices) => match direction {
             Direction::In => Ok(()),
             Direction::Out => check_write(at, place_of(*coll, indices.as_slice(), at.env), counted),
         },
@@ -54,21 +54,21 @@ fn check_target(
 // Checks what the dependences of the flow from number `k` on stand for.
 pub(crate) fn check_dependences(
     at: &FlowAt,
-    way: Direction,
+    direction: Direction,
     k: usize,
     counted: &mut Counted,
 ) -> Result<(), MatchFault>
-    ensures { CheckedAt at.now.phase at.now counted.old counted.new result (marks_from way at.now k) }
+    ensures { CheckedAt at.now.phase at.now counted.old counted.new result (marks_from direction at.now k) }
 {
-    let Some(d) = at.flow.dependences(way).get(k) else {
+    let Some(d) = at.flow.dependences(direction).get(k) else {
         return Ok(());
     };
     let Some(target) = held_target(d, at.env) else {
-        return check_dependences(at, way, k + 1, counted);
+        return check_dependences(at, direction, k + 1, counted);
     };
-    check_target(at, way, k, target, counted)?;
-    if at.flow.kind.first_only(way) {
+    check_target(at, direction, k, target, counted)?;
+    if at.flow.kind.first_only(direction) {
         return Ok(());
     }
-    check_dependences(at, way, k + 1, counted)
+    check_dependences(at, direction, k + 1, counted)
 }

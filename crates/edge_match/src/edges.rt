@@ -4,7 +4,7 @@ ghost use Rattle.std.specs.Prelude.{◌≡◌, ◌↔◌, List};
 ghost use Rattle.ptg_base.specs.Lists.{IsIn};
 ghost use Rattle.ptg_base.specs.declared.edge.Edge.{Edge as EdgeValue};
 ghost use Rattle.ptg_base.specs.declared.edge.WriteBack.{WriteBack as WriteBackValue};
-ghost use Rattle.term_core.specs.declared.direction.Direction.TheVariants as direction;
+ghost use Rattle.term_core.specs.declared.direction.Direction.TheVariants.{In};
 ghost use Rattle.plan_core.specs.declared.plan.Plan.{Plan as PlanValue};
 ghost use Rattle.dep_iter.specs.Consistent.{is_data_edge};
 ghost use Rattle.dep_iter.specs.Directions.{near_flow, near_task};
@@ -25,31 +25,31 @@ use ptg_base::Place;
 use term_core::Direction;
 
 // The code of an edge that is none at its other end.
-fn unmatched(way: Direction) -> MatchCode
-    ensures { (e : EdgeValue) → fact_code (HasOther way e) ≡ result }
+fn unmatched(direction: Direction) -> MatchCode
+    ensures { (e : EdgeValue) → fact_code (HasOther direction e) ≡ result }
 {
-    match way {
+    match direction {
         Direction::In => MatchCode::NoMatchingOut,
         Direction::Out => MatchCode::NoMatchingIn,
     }
 }
 
 // Counts an edge, one that carries a tile or not, unless the limit is reached.
-fn count_edge(way: Direction, carries_tile: bool, counted: &mut Counted) -> bool
-    ensures { (P : PlanValue) (e : EdgeValue) → (way ≡ direction.In → is_data_edge P e ≡ carries_tile)
-        → Decides P counted.old counted.new result (counts way e) }
+fn count_edge(direction: Direction, carries_tile: bool, counted: &mut Counted) -> bool
+    ensures { (P : PlanValue) (e : EdgeValue) → (direction ≡ In → is_data_edge P e ≡ carries_tile)
+        → Decides P counted.old counted.new result (counts direction e) }
 {
-    match way {
+    match direction {
         Direction::In => counted.add_in(carries_tile),
         Direction::Out => counted.add_item(),
     }
 }
 
 // Whether what sends has a tile.
-fn check_tile(at: &FlowAt, way: Direction) -> Result<(), MatchFault>
-    ensures { (p : PhaseValue) (s : CountedValue) → CheckedAt p at.now s s result (λ _. tile_marks way) }
+fn check_tile(at: &FlowAt, direction: Direction) -> Result<(), MatchFault>
+    ensures { (p : PhaseValue) (s : CountedValue) → CheckedAt p at.now s s result (λ _. tile_marks direction) }
 {
-    match way {
+    match direction {
         Direction::In => Ok(()),
         Direction::Out => at.require(at.has_tile, MatchCode::NullSent),
     }
@@ -58,50 +58,61 @@ fn check_tile(at: &FlowAt, way: Direction) -> Result<(), MatchFault>
 // Whether what an edge of the flow names exists, and it is not one too many.
 fn connect_edge(
     at: &FlowAt,
-    way: Direction,
+    direction: Direction,
     edge: &LentEdge,
     counted: &mut Counted,
 ) -> Result<(), MatchFault>
-    requires task { near_task way edge.now ≡ at.now.task.now }
-    requires flow { near_flow way edge.now ≡ at.now.number }
+    requires task { near_task direction edge.now ≡ at.now.task.now }
+    requires flow { near_flow direction edge.now ≡ at.now.number }
     ensures { (earlier : List EdgeValue)
-        → CheckedAt phase.Connecting at.now counted.old counted.new result (edge_marks way earlier edge.now) }
+        → CheckedAt phase.Connecting at.now counted.old counted.new result (edge_marks direction earlier edge.now) }
 {
-    check_tile(at, way)?;
-    at.require(is_task(at.plan, edge.far_task(way)), MatchCode::OutOfSpace)?;
-    let fits = count_edge(way, at.flow.kind.is_data(), counted);
+    check_tile(at, direction)?;
+    at.require(
+        is_task(at.plan, edge.far_task(direction)),
+        MatchCode::OutOfSpace,
+    )?;
+    let fits = count_edge(direction, at.flow.kind.is_data(), counted);
     at.require(fits, MatchCode::TooManyEdges)
 }
 
 // Whether an edge of the flow, which dependence `k` gives, is one at its other end, and no earlier dependence gives it.
-fn match_edge(at: &FlowAt, way: Direction, k: usize, edge: &LentEdge) -> Result<(), MatchFault>
-    requires task { near_task way edge.now ≡ at.now.task.now }
-    requires flow { near_flow way edge.now ≡ at.now.number }
+fn match_edge(
+    at: &FlowAt,
+    direction: Direction,
+    k: usize,
+    edge: &LentEdge,
+) -> Result<(), MatchFault>
+    requires task { near_task direction edge.now ≡ at.now.task.now }
+    requires flow { near_flow direction edge.now ≡ at.now.number }
     ensures { (earlier : List EdgeValue) (s : CountedValue)
-        → IsIn edge.now earlier ↔ IsIn edge.now (before_at way at.now k)
-        → CheckedAt phase.Matching at.now s s result (edge_marks way earlier edge.now) }
+        → IsIn edge.now earlier ↔ IsIn edge.now (before_at direction at.now k)
+        → CheckedAt phase.Matching at.now s s result (edge_marks direction earlier edge.now) }
 {
-    at.require(has_other_end(at.plan, way, edge), unmatched(way))?;
-    let double = has_edge_before(at.flow, way, at.env, edge, k);
+    at.require(
+        has_other_end(at.plan, direction, edge),
+        unmatched(direction),
+    )?;
+    let double = has_edge_before(at.flow, direction, at.env, edge, k);
     at.require(!double, MatchCode::DoubleEdge)
 }
 
 // Checks an edge of the flow, which dependence `k` gives.
 pub(crate) fn check_edge(
     at: &FlowAt,
-    way: Direction,
+    direction: Direction,
     k: usize,
     edge: &LentEdge,
     counted: &mut Counted,
 ) -> Result<(), MatchFault>
-    requires task { near_task way edge.now ≡ at.now.task.now }
-    requires flow { near_flow way edge.now ≡ at.now.number }
-    ensures { (earlier : List EdgeValue) → IsIn edge.now earlier ↔ IsIn edge.now (before_at way at.now k)
-        → CheckedAt at.now.phase at.now counted.old counted.new result (edge_marks way earlier edge.now) }
+    requires task { near_task direction edge.now ≡ at.now.task.now }
+    requires flow { near_flow direction edge.now ≡ at.now.number }
+    ensures { (earlier : List EdgeValue) → IsIn edge.now earlier ↔ IsIn edge.now (before_at direction at.now k)
+        → CheckedAt at.now.phase at.now counted.old counted.new result (edge_marks direction earlier edge.now) }
 {
     match at.phase {
-        Phase::Connecting => connect_edge(at, way, edge, counted),
-        Phase::Matching => match_edge(at, way, k, edge),
+        Phase::Connecting => connect_edge(at, direction, edge, counted),
+        Phase::Matching => match_edge(at, direction, k, edge),
     }
 }
 

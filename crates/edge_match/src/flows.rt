@@ -7,9 +7,9 @@ ghost use Rattle.dep_iter.specs.declared.source.Source.TheVariants as source_var
 ghost use Rattle.dep_iter.specs.Consistent as consistent;
 ghost use Rattle.dep_iter.specs.Edges.{data_source};
 ghost use Rattle.dep_iter.specs.Tasks.{IsTask};
-ghost use Rattle.edge_accept.specs.Flows.{by_number};
+ghost use Rattle.dep_iter.specs.Active.{by_number};
 ghost use Rattle.edge_match.specs.Counted.{Checked};
-ghost use Rattle.edge_match.specs.Marks.{flow_marks, flow_start, way_marks};
+ghost use Rattle.edge_match.specs.Marks.{direction_marks, flow_marks, flow_start};
 ghost use Rattle.edge_match.specs.declared.counted.Counted.{Counted as CountedValue};
 
 use crate::counted::Counted;
@@ -64,11 +64,15 @@ fn start_flow(at: &FlowAt, source: &Source) -> Result<(), MatchFault>
 }
 
 // Checks the edges of the flow in one direction, and with those out of it what it writes.
-fn check_way(at: &FlowAt, way: Direction, counted: &mut Counted) -> Result<(), MatchFault>
+fn check_direction(
+    at: &FlowAt,
+    direction: Direction,
+    counted: &mut Counted,
+) -> Result<(), MatchFault>
     ensures { Checked at.now.plan.now counted.old counted.new result
-        (way_marks way at.now.phase at.now.plan.now at.now.task.now at.now.number at.now.flow.now) }
+        (direction_marks direction at.now.phase at.now.plan.now at.now.task.now at.now.number at.now.flow.now) }
 {
-    check_dependences(at, way, 0, counted)
+    check_dependences(at, direction, 0, counted)
 }
 
 // Checks the flow, the edges into it and what it sends.
@@ -78,8 +82,8 @@ fn check_flow(at: &FlowAt, source: &Source, counted: &mut Counted) -> Result<(),
         (flow_marks at.now.phase at.now.plan.now at.now.task.now at.now.number at.now.flow.now) }
 {
     start_flow(at, source)?;
-    check_way(at, Direction::In, counted)?;
-    check_way(at, Direction::Out, counted)
+    check_direction(at, Direction::In, counted)?;
+    check_direction(at, Direction::Out, counted)
 }
 
 // Checks the flows of a task from this number on.

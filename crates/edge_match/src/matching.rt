@@ -110,7 +110,7 @@ fn check_plan(alloc: Global, plan: &Plan) -> Result<Counts, MatchRefusal>
 /// the numbers of tasks and edges, and a byte of memory for each place of a collection.
 pub fn match_edges(alloc: Global, plan: Plan) -> Result<Matched, (MatchRefusal, Plan)>
     ensures found { IfOk result (λ m. (m ≡ plan) × IsConsistent plan) }
-    ensures back { IfErr result (λ e. e.1 ≡ plan) }
+    ensures back { IfErr result (λ (refusal, back). back ≡ plan) }
     ensures fault { (f : MatchFaultValue) (p : PlanValue) → result ≡ Err (refusal.Fault f, p) → IsFirstFault plan f }
     ensures only_inconsistent { IsConsistent plan → (f : MatchFaultValue) (p : PlanValue)
         → result ≡ Err (refusal.Fault f, p) → ⊥ }

@@ -13,7 +13,7 @@ use ptg_base::TaskId;
 use range_space::Numbers;
 
 // The fault with this code of a task, of one of its flows or of none.
-pub(crate) fn fault_of(code: MatchCode, t: &TaskId, flow: Option<u8>) -> MatchFault
+pub(crate) fn fault_at(code: MatchCode, t: &TaskId, flow: Option<u8>) -> MatchFault
     ensures { result ≡ fault_at code t.now flow }
 {
     let mut numbers = Numbers::new();
@@ -43,6 +43,6 @@ pub(crate) fn require(
     if holds {
         Ok(())
     } else {
-        Err(fault_of(code, t, flow))
+        Err(fault_at(code, t, flow))
     }
 }

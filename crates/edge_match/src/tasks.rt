@@ -10,7 +10,7 @@ use crate::counted::Counted;
 use crate::fault::{MatchCode, MatchFault};
 use crate::flows::check_flows;
 use crate::phase::Phase;
-use crate::refusing::{fault_of, require};
+use crate::refusing::{fault_at, require};
 use crate::task_at::TaskAt;
 use dep_iter::{
     affinity_under, all_tasks, all_tasks_are_listed, flows_of, locals_of, well_task_under,
@@ -27,7 +27,7 @@ fn check_values(task: &TaskAt) -> Result<(), MatchFault>
 {
     match well_task_under(task.plan, task.task, task.env) {
         Ok(()) => Ok(()),
-        Err(ill) => Err(fault_of(MatchCode::BadExpr, task.task, ill.flow)),
+        Err(ill) => Err(fault_at(MatchCode::BadExpr, task.task, ill.flow)),
     }
 }
 

@@ -11,11 +11,10 @@ use Rattle.plan_core.specs.declared.target.Target.{Target}
 use Rattle.plan_core.specs.declared.target.Target.TheVariants as target
 use Rattle.ptg_base.specs.declared.edge.Item.TheVariants as item
 use Rattle.term_core.specs.Kinds.{is_data}
-use Rattle.dep_iter.specs.Active.{by_flow, held_target, held_targets, held_then}
+use Rattle.dep_iter.specs.Active.{by_flow, flow_targets, held_target, held_targets, held_then}
 use Rattle.dep_iter.specs.Arguments.{combinations}
 use Rattle.dep_iter.specs.Edges.{edge, edges_into, in_edges}
 use Rattle.dep_iter.specs.Items.{items, items_to}
-use Rattle.dep_iter.specs.Links.{flow_targets}
 use Rattle.dep_iter.specs.Tasks.{flows_of, locals_of, task}
 use Rattle.std.proofs.lemmas.List.Elements.{filter_map-append}
 use Rattle.std.proofs.lemmas.List.Concat.{flat_map-append}

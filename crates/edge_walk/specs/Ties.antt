@@ -44,7 +44,7 @@ numbered_targets first_only k (d ∷ ds) env =
 
 -- the targets of a flow's active dependences in one direction
 abbrev pub numbered_flow : Direction → List ℤ → FlowPlan → List (ℕ × Target)
-numbered_flow way env f = numbered_targets (first_only way f.kind) 0 (dependences way f) env
+numbered_flow direction env f = numbered_targets (first_only direction f.kind) 0 (dependences direction f) env
 
 -- a target with the numbers of its flow and of its dependence
 abbrev pub numbered : ℕ → ℕ × Target → Numbered
@@ -52,8 +52,9 @@ numbered n x = record { flow = n; dependence = x.0; target = x.1 }
 
 -- the active dependences of these flows, which are numbered from n on
 abbrev pub active_from : Direction → List ℤ → ℕ → List FlowPlan → List Numbered
-active_from way env n [] = []
-active_from way env n (f ∷ fs) = map (numbered n) (numbered_flow way env f) ++ active_from way env (suc n) fs
+active_from direction env n [] = []
+active_from direction env n (f ∷ fs) =
+    map (numbered n) (numbered_flow direction env f) ++ active_from direction env (suc n) fs
 
 -- what a target names that is no task
 abbrev pub single : List ℤ → Target → Option Far
@@ -84,7 +85,7 @@ all_ties env actives = flat_map (λ (a : Numbered). ties_to env a.flow a.depende
 
 -- all ties of a task in one direction
 abbrev pub ties : Plan → Task → Direction → List Tie
-ties P t way = all_ties (locals_of P t) (active_from way (locals_of P t) 0 (flows_of P t))
+ties P t direction = all_ties (locals_of P t) (active_from direction (locals_of P t) 0 (flows_of P t))
 
 -- the edge into flow n of the task t that what a dependence of the flow names is, if it is one
 abbrev pub edge_from : Task → ℕ → Far → Option Edge

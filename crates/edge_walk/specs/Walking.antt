@@ -9,9 +9,9 @@ use Rattle.edge_walk.specs.Ties.{Numbered, active_from, numbered, numbered_targe
 
 -- the active dependences left: those of the flow at hand, and those of the flows after it
 abbrev pub left : Direction → List ℤ → Position → List Numbered
-left way env p =
+left direction env p =
     map (numbered p.flow) (numbered_targets p.first_only p.dependence p.deps.now env)
-    ++ active_from way env p.next_flow p.flows.now
+    ++ active_from direction env p.next_flow p.flows.now
 
 -- whether the targets of all dependences left fit the plan
 abbrev pub position_fits : Plan → Position → Bool

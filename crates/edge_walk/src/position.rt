@@ -52,8 +52,8 @@ pub struct Held<'a> {
 // The start of a walk over these flows.
 pub(crate) fn start<'a>(flows: &'a [FlowPlan]) -> Position<'a>
     requires { length flows.now ≤ most_flows }
-    ensures targets { (way : DirectionValue) (env : List ℤ)
-        → left way env result ≡ active_from way env 0 flows.now }
+    ensures targets { (direction : DirectionValue) (env : List ℤ)
+        → left direction env result ≡ active_from direction env 0 flows.now }
     ensures room { result.next_flow + length result.flows.now ≤ most_flows }
     ensures count { result.dependence + length result.deps.now < 2 ^ 64 }
     ensures fits { (P : Plan) → IsTrue (flows_fit P flows.now) → IsTrue (position_fits P result) }
@@ -97,23 +97,28 @@ fn count_fits(deps: &[DepPlan])
 }
 
 // The walk where it enters a flow, with the flows after it.
-fn enter<'a>(way: Direction, flow: &'a FlowPlan, number: u8, others: &'a [FlowPlan]) -> Position<'a>
+fn enter<'a>(
+    direction: Direction,
+    flow: &'a FlowPlan,
+    number: u8,
+    others: &'a [FlowPlan],
+) -> Position<'a>
     requires { number < most_flows }
     ensures flow { result.flow ≡ number }
     ensures next { result.next_flow ≡ number + 1 }
     ensures flows { result.flows.now ≡ others.now }
     ensures targets { (env : List ℤ)
         → numbered_targets result.first_only result.dependence result.deps.now env
-        ≡ numbered_flow way env flow.now }
+        ≡ numbered_flow direction env flow.now }
     ensures count { result.dependence + length result.deps.now < 2 ^ 64 }
     ensures fits { (P : Plan) → IsTrue (dependences_fit P flow.now.ins && dependences_fit P flow.now.outs)
         → IsTrue (dependences_fit P result.deps.now) }
 {
-    let deps = flow.dependences(way);
+    let deps = flow.dependences(direction);
     count_fits(deps);
     Position {
         flow: number,
-        first_only: flow.kind.first_only(way),
+        first_only: flow.kind.first_only(direction),
         dependence: 0,
         deps,
         next_flow: number + 1,
@@ -122,13 +127,17 @@ fn enter<'a>(way: Direction, flow: &'a FlowPlan, number: u8, others: &'a [FlowPl
 }
 
 // The next active dependence of a walk in one direction, under these locals, and where the walk stands after it.
-pub(crate) fn next_active<'a>(way: Direction, env: &[i64], p: Position<'a>) -> Option<Active<'a>>
+pub(crate) fn next_active<'a>(
+    direction: Direction,
+    env: &[i64],
+    p: Position<'a>,
+) -> Option<Active<'a>>
     requires room { p.next_flow + length p.flows.now ≤ most_flows }
     requires count { p.dependence + length p.deps.now < 2 ^ 64 }
-    ensures found { MatchOption result (left way env.now p.entry ≡ [])
-        (λ r. left way env.now p.entry
+    ensures found { MatchOption result (left direction env.now p.entry ≡ [])
+        (λ r. left direction env.now p.entry
         ≡ record { flow = r.after.flow; dependence = r.dependence; target = r.target.now }
-        ∷ left way env.now r.after) }
+        ∷ left direction env.now r.after) }
     ensures room { IfSome result (λ r. r.after.next_flow + length r.after.flows.now ≤ most_flows) }
     ensures count { IfSome result (λ r. r.after.dependence + length r.after.deps.now < 2 ^ 64) }
     ensures fits { (P : Plan) → IsTrue (position_fits P p.entry)
@@ -146,5 +155,5 @@ pub(crate) fn next_active<'a>(way: Direction, env: &[i64], p: Position<'a>) -> O
         });
     }
     let (flow, others) = p.flows.split_first()?;
-    next_active(way, env, enter(way, flow, p.next_flow, others))
+    next_active(direction, env, enter(direction, flow, p.next_flow, others))
 }

@@ -23,7 +23,7 @@ use term_core::Direction;
 #[derive(Drop)]
 pub struct Ties<'a> {
     plan: &'a Plan,
-    way: Direction,
+    direction: Direction,
     env: Numbers<MOST_LOCALS>,
     position: Position<'a>,
     at_hand: TargetTies,
@@ -38,7 +38,7 @@ impl<'a> Model for Ties<'a> {
 
     ghost Value = { List Tie };
 
-    ghost view = { λ t. t.at_hand ++ all_ties t.env (left t.way t.env t.position) };
+    ghost view = { λ t. t.at_hand ++ all_ties t.env (left t.direction t.env t.position) };
 
     ghost invariant = { λ t. (t.position.next_flow + length t.position.flows.now ≤ most_flows)
         × (t.position.dependence + length t.position.deps.now < 2 ^ 64)
@@ -48,7 +48,7 @@ impl<'a> Model for Ties<'a> {
 // The next tie of a walk under these locals: of those left of the dependence at hand, or of the dependences after it.
 fn next_tie<'a>(
     plan: &Plan,
-    way: Direction,
+    direction: Direction,
     env: &[i64],
     p: &mut Position<'a>,
     at_hand: &mut TargetTies,
@@ -57,8 +57,8 @@ fn next_tie<'a>(
     requires count { p.old.dependence + length p.old.deps.now < 2 ^ 64 }
     requires fit { IsTrue (position_fits plan.now p.old) }
     ensures found { YieldsFirst (λ (ts : List TieValue). ts)
-        (at_hand.old ++ all_ties env.now (left way env.now p.old)) result
-        (at_hand.new ++ all_ties env.now (left way env.now p.new)) }
+        (at_hand.old ++ all_ties env.now (left direction env.now p.old)) result
+        (at_hand.new ++ all_ties env.now (left direction env.now p.new)) }
     ensures room { p.new.next_flow + length p.new.flows.now ≤ most_flows }
     ensures count { p.new.dependence + length p.new.deps.now < 2 ^ 64 }
     ensures fit { IsTrue (position_fits plan.now p.new) }
@@ -66,21 +66,21 @@ fn next_tie<'a>(
     if let Some(tie) = at_hand.next() {
         return Some(tie);
     }
-    let active = next_active(way, env, *p)?;
+    let active = next_active(direction, env, *p)?;
     at_hand.restart(plan, active, env);
     *p = active.after;
-    next_tie(plan, way, env, p, at_hand)
+    next_tie(plan, direction, env, p, at_hand)
 }
 
-/// The ties of a task by its dependences in one direction: by flow and dependence in the text's order; of
-/// a dependence that names many tasks, the first argument outermost. They are evaluated as they are asked for.
-pub fn ties_of<'a>(plan: &'a Plan, t: &TaskId, way: Direction) -> Ties<'a>
+/// The ties of a task by its dependences in one direction: by flow and dependence in the text's order; of a
+/// dependence that names many tasks, the first argument outermost. They are evaluated as they are asked for.
+pub fn ties_of<'a>(plan: &'a Plan, t: &TaskId, direction: Direction) -> Ties<'a>
     requires { IsTask plan.now t.now }
-    ensures { result ≡ specs.ties plan.now t.now way }
+    ensures { result ≡ specs.ties plan.now t.now direction }
 {
     Ties {
         plan,
-        way,
+        direction,
         env: locals_of(plan, t),
         position: start(flows_of(plan, t)),
         at_hand: TargetTies::none(),
@@ -98,7 +98,7 @@ impl Iterator for Ties<'_> {
         let env = self.env.as_slice();
         next_tie(
             self.plan,
-            self.way,
+            self.direction,
             env,
             &mut self.position,
             &mut self.at_hand,

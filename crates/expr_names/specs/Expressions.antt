@@ -21,10 +21,11 @@ abbrev pub term_of : SymbolTable → Expression → Resolved Term
 term_of names (Num z spot) = Ok (term.Num z)
 term_of names (Name w) = value_of w (names.meaning w.text)
 term_of names (Elem w at) =
-    and_then (together names.reported (names.flow w) (term_of names at)) (λ x. Ok (term.Elem x.0 x.1))
+    and_then (together names.reported (names.flow w) (term_of names at)) (λ (flow, index). Ok (term.Elem flow index))
 term_of names (Unary o a spot) = and_then (term_of names a) (λ x. Ok (term.Unary o x))
 term_of names (Binary o a b) =
-    and_then (together names.reported (term_of names a) (term_of names b)) (λ x. Ok (term.Binary o x.0 x.1))
+    and_then (together names.reported (term_of names a) (term_of names b))
+    (λ (left, right). Ok (term.Binary o left right))
 term_of names (Choose c a b) =
     and_then (together names.reported (term_of names c) (together names.reported (term_of names a) (term_of names b)))
-    (λ x. Ok (term.Choose x.0 x.1.0 x.1.1))
+    (λ (condition, (first, second)). Ok (term.Choose condition first second))

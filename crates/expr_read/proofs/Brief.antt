@@ -5,12 +5,12 @@ use Rattle.std.proofs.lemmas.Bool.{le-ltb}
 use Rattle.std.proofs.lemmas.List.{length-append, take-append-drop, length-take-le, take_rest}
 use Rattle.std.proofs.lemmas.Bool.Decides.{nat_tests}
 use Rattle.grammar_core.specs.declared.token.Token.{Token}
-use Rattle.jdf_alphabet.specs.Codes.{ExprTooLong}
-use Rattle.jdf_alphabet.specs.Counted.{expression_limit, is_counted}
+use Rattle.jdf_lex.specs.Codes.{ExprTooLong}
+use Rattle.jdf_lex.specs.Counted.{expression_limit, is_counted}
 use Rattle.grammar_core.specs.TooMany.{token_indices, limit_at}
 use Rattle.grammar_core.specs.CountedLimit.{indices_none, indices_kept, indices_passed, not_before}
 use Rattle.grammar_core.specs.Terminals.{Terminal, terminal_of}
-use Rattle.jdf_alphabet.specs.Terminals.{set}
+use Rattle.jdf_lex.specs.Terminals.{set}
 use Rattle.grammar_core.specs.Reading.{Read, judge, reading}
 use Rattle.grammar_core.proofs.Sound.{SameHead}
 use Rattle.jdf_tree.specs.declared.expression.ExprWithSpot.{ExprWithSpot}

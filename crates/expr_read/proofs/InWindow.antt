@@ -3,8 +3,8 @@ use Rattle.std.proofs.Common.{◌≡◌, ℕ, ◌-◌, ◌+◌, ◌≤◌, ◌<�
 use Rattle.std.specs.Prelude.{◌==◌}
 use Rattle.grammar_core.specs.declared.fault.ReadFault.{ReadFault}
 use Rattle.grammar_core.specs.declared.token.Token.{Token}
-use Rattle.jdf_alphabet.specs.Codes.{ExprTooLong}
-use Rattle.jdf_alphabet.specs.Counted.{expression_limit}
+use Rattle.jdf_lex.specs.Codes.{ExprTooLong}
+use Rattle.jdf_lex.specs.Counted.{expression_limit}
 use Rattle.grammar_core.specs.Production.{Derives, Derived}
 use Rattle.grammar_core.specs.Predictive.{is_fine}
 use Rattle.grammar_core.specs.Reading.{judge, reading, fault_from_end}
@@ -14,7 +14,7 @@ use Rattle.jdf_tree.specs.declared.expression.ExprWithSpot.{ExprWithSpot}
 use Rattle.jdf_tree.specs.declared.part.Part.TheVariants.{Class, Body}
 use Rattle.jdf_tree.specs.ExpressionGrammar.{number, parens, index, reference, signed, unary, product, sum, relation, equality, conjunction, disjunction, branches, expr, outer, guard}
 use Rattle.jdf_tree.specs.Grammar.{productions, claims}
-use Rattle.jdf_alphabet.specs.Terminals.{terminal_at}
+use Rattle.jdf_lex.specs.Terminals.{terminal_at}
 use Rattle.jdf_tree.proofs.Fine.{productions_fine}
 use Rattle.expr_read.specs.declared.window.Outermost.{Outermost}
 use Rattle.expr_read.specs.declared.window.Outermost.TheVariants as outermost

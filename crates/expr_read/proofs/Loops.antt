@@ -4,11 +4,11 @@ use Rattle.grammar_core.specs.declared.fault.ReadFault.{ReadFault}
 use Rattle.grammar_core.specs.declared.token.Spot.{Spot}
 use Rattle.grammar_core.specs.declared.token.Token.{Token}
 use Rattle.term_core.specs.declared.operator.BinOp.{BinOp}
-use Rattle.jdf_alphabet.specs.declared.terminal.Terminal.{Terminal}
-use Rattle.jdf_alphabet.specs.declared.terminal.Terminal.TheVariants as terminal
-use Rattle.jdf_alphabet.specs.Terminals.{is, set}
+use Rattle.jdf_lex.specs.declared.terminal.Terminal.{Terminal}
+use Rattle.jdf_lex.specs.declared.terminal.Terminal.TheVariants as terminal
+use Rattle.jdf_lex.specs.Terminals.{is, set}
 use Rattle.grammar_core.specs.Production.{Production, seq, map, star}
-use Rattle.jdf_alphabet.specs.Sets.{one_of, starts, token_at}
+use Rattle.jdf_lex.specs.Sets.{one_of, starts, token_at}
 use Rattle.grammar_core.specs.Reading.{◌>>=◌, Read, many_at, nonterminal_at, reading}
 use Rattle.ptg_base.specs.declared.refusal.Refusal.TheVariants as errors
 use Rattle.ptg_base.specs.Returns.{ReturnsRefusal}

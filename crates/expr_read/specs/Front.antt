@@ -15,7 +15,7 @@ use Rattle.jdf_tree.specs.ExpressionGrammar.{with_spot, outer}
 use Rattle.jdf_tree.specs.Fault.{code_at_token}
 use Rattle.jdf_tree.specs.Grammar.{productions}
 
--- An expression with elements of flows is one of a body.
+-- the part of a text that an expression is of: a body, where it may have elements of flows, or else a class
 abbrev pub part_of : Bool → Part
 part_of true = Body
 part_of false = Class

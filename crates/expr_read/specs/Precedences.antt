@@ -1,6 +1,6 @@
 -- The productions of each precedence of operators, as the readers of the code name them.
 use Rattle.std.specs.Prelude.{Bool}
-use Rattle.jdf_alphabet.specs.declared.terminal.Terminal.{Terminal}
+use Rattle.jdf_lex.specs.declared.terminal.Terminal.{Terminal}
 use Rattle.jdf_tree.specs.declared.expression.ExprWithSpot.{ExprWithSpot}
 use Rattle.jdf_tree.specs.declared.part.Part.{Part}
 use Rattle.jdf_tree.specs.declared.part.Part.TheVariants.{Class}

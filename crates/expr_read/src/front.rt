@@ -10,11 +10,11 @@ use jdf_lex::{JdfFault, JdfRefusal, Spot, Token};
 use jdf_tree::{ExprTree, Part, code_at_token};
 use std::alloc::Global;
 
-// The part of a text: a body where elements of tiles may be read, else a class.
-fn part_of(elements: bool) -> Part
-    ensures { result ≡ part_of elements }
+// The part of a text: a body, where elements of tiles may be read, or a class.
+fn part_of(in_body: bool) -> Part
+    ensures { result ≡ part_of in_body }
 {
-    if elements { Part::Body } else { Part::Class }
+    if in_body { Part::Body } else { Part::Class }
 }
 
 /// The fault with this code at the token of index `token_index`, or at the spot `finish` where there is no such token.
@@ -32,21 +32,20 @@ pub fn fault_at(tokens: &[Token], finish: Spot, token_index: usize, code: Code) 
 }
 
 /// Reads the longest expression that begins at the token of index `from`: its tree, and the index of the token after
-/// it.
-/// Where `elements` holds, it is an expression of a body. A fault after all tokens has the spot `finish`.
+/// it. Where `in_body` holds, it is an expression of a body. A fault after all tokens has the spot `finish`.
 pub fn read_expr(
     alloc: Global,
     tokens: &[Token],
     from: usize,
-    elements: bool,
+    in_body: bool,
     finish: Spot,
 ) -> Result<(ExprTree, usize), JdfRefusal>
     requires { from ≤ length tokens.now }
     // What is read is the expression that begins there; a fault is its first one.
-    ensures exact { FindsOrRefuses (IsExpressionFrom (part_of elements) tokens.now from)
-        (IsFaultFrom (part_of elements) tokens.now from finish) result }
+    ensures exact { FindsOrRefuses (IsExpressionFrom (part_of in_body) tokens.now from)
+        (IsFaultFrom (part_of in_body) tokens.now from finish) result }
 {
-    match outer(alloc, part_of(elements), &tokens[from..]) {
+    match outer(alloc, part_of(in_body), &tokens[from..]) {
         Ok((expression, rest)) => Ok((expression.tree, tokens.len() - rest.len())),
         Err(ReadRefusal::OutOfMemory) => Err(JdfRefusal::OutOfMemory),
         Err(ReadRefusal::Fault(fault)) => Err(JdfRefusal::Fault(fault_at(

@@ -1,15 +1,12 @@
 //! Reads names.
 
 ghost use Rattle.std.specs.Prelude.{◌≡◌, IfOk};
-ghost use Rattle.ptg_base.specs.Returns.{Returns};
-ghost use Rattle.grammar_core.specs.Reading.{reading};
-ghost use Rattle.jdf_alphabet.specs.Sets.{starts};
+ghost use Rattle.jdf_lex.specs.Sets.{starts};
 ghost use Rattle.jdf_tree.specs.GrammarParts.{name, names, word_of};
-ghost use Rattle.jdf_tree.specs.Grammar.{productions};
+ghost use Rattle.jdf_tree.specs.Reads.{Reads};
 
 use grammar_core::{Code, ReadRefusal, refusal_at};
-use jdf_alphabet::Terminal;
-use jdf_lex::Token;
+use jdf_lex::{Terminal, Token};
 use jdf_tree::{Part, Word};
 use ptg_base::{OutOfMemory, Text};
 use std::alloc::Global;
@@ -48,7 +45,7 @@ fn word_of(alloc: Global, token: &Token) -> Result<Word, OutOfMemory>
 
 /// Takes a name: the name, and the tokens after it. Syntax at the next token if that is no name.
 pub fn name(alloc: Global, part: Part, tokens: &[Token]) -> Result<(Word, &[Token]), ReadRefusal>
-    ensures { Returns (λ x. (x.0, x.1.now)) result (reading productions (name part) tokens.now) }
+    ensures { Reads (name part) tokens.now result }
 {
     match tokens.split_first() {
         Some((first, rest)) if is_name(part, Terminal::of(first)) => Ok((

@@ -1,20 +1,14 @@
 //! Reads numbers.
 
 ghost use Rattle.std.specs.Prelude.{◌≡◌, pos, true, false, MatchOption};
-ghost use Rattle.ptg_base.specs.Returns.{Returns};
-ghost use Rattle.grammar_core.specs.Reading.{reading};
 ghost use Rattle.jdf_tree.specs.ExpressionGrammar.{number};
-ghost use Rattle.jdf_tree.specs.Grammar.{productions};
+ghost use Rattle.jdf_tree.specs.Reads.{Reads};
 ghost use Rattle.jdf_tree.specs.Numbers.{decimal, is_number, has_leading_zero};
 
 use grammar_core::{ReadRefusal, refusal_at};
-use jdf_alphabet::{GrammarCode, Terminal, expect};
-use jdf_lex::Token;
+use jdf_lex::{GrammarCode, Terminal, Token, expect};
 use jdf_tree::{ExprTree, ExprWithSpot};
-use ptg_base::decimal;
-
-// The largest number.
-const LARGEST: u64 = 9223372036854775807;
+use ptg_base::{MOST_NUMBER, decimal};
 
 // Whether a number of several digits begins with 0.
 fn has_leading_zero(text: &[u8]) -> bool
@@ -23,7 +17,7 @@ fn has_leading_zero(text: &[u8]) -> bool
     text.len() > 1 && text[0] == b'0'
 }
 
-// The number with this spelling; None if numbers are not written so, or it is larger than `LARGEST`.
+// The number with this spelling; None if numbers are not written so, or it is larger than `MOST_NUMBER`.
 #[tactic(auto, unfolding(jdf_tree::specs::Numbers::is_number))]
 fn value(text: &[u8]) -> Option<i64>
     ensures { MatchOption result (is_number text.now ≡ false) (λ z.
@@ -32,14 +26,14 @@ fn value(text: &[u8]) -> Option<i64>
     if has_leading_zero(text) {
         return None;
     }
-    let number = decimal(text, LARGEST)?;
+    let number = decimal(text, MOST_NUMBER)?;
     Some(number as i64)
 }
 
 /// Takes a number: its tree, and the tokens after it. BadNumber at a number that is not decimal or too large.
 #[tactic(auto, unfolding(jdf_tree::specs::ExpressionGrammar::number))]
 pub(crate) fn number(tokens: &[Token]) -> Result<(ExprWithSpot, &[Token]), ReadRefusal>
-    ensures { Returns (λ x. (x.0, x.1.now)) result (reading productions number tokens.now) }
+    ensures { Reads number tokens.now result }
 {
     let (token, rest) = expect(tokens, Terminal::Number)?;
     match value(token.text.bytes()) {

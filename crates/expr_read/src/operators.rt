@@ -3,11 +3,12 @@
 ghost use Rattle.std.specs.Prelude.{◌≡◌, MatchOption, IfOk, Ok, true, false};
 ghost use Rattle.ptg_base.specs.Returns.{Returns};
 ghost use Rattle.grammar_core.specs.Production.{map};
-ghost use Rattle.jdf_alphabet.specs.Sets.{one_of, starts, token_at};
+ghost use Rattle.jdf_lex.specs.Sets.{one_of, starts, token_at};
 ghost use Rattle.grammar_core.specs.Reading.{reading};
-ghost use Rattle.jdf_alphabet.specs.Terminals.{terminal_of};
+ghost use Rattle.jdf_lex.specs.Terminals.{terminal_of};
 ghost use Rattle.jdf_tree.specs.ExpressionGrammar.{index, parens, reference, signed, unary, branches, expr, is_sign, sign_by, operator_by, operator_of};
 ghost use Rattle.jdf_tree.specs.Grammar.{productions};
+ghost use Rattle.jdf_tree.specs.Reads.{Reads};
 ghost use Rattle.jdf_tree.specs.declared.part.Part.TheVariants.{Body};
 ghost use Rattle.expr_read.specs.Precedences.{operators_of, operand_of, of_precedence};
 
@@ -15,8 +16,7 @@ use crate::names::{is_name_next, name};
 use crate::number::number;
 use crate::precedence::Precedence;
 use grammar_core::{Code, ReadRefusal, refusal_at};
-use jdf_alphabet::{Terminal, expect, is_next};
-use jdf_lex::Token;
+use jdf_lex::{Terminal, Token, expect, is_next};
 use jdf_tree::{ExprTree, ExprWithSpot, Part};
 use std::alloc::Global;
 use term_core::{BinOp, UnOp};
@@ -29,7 +29,7 @@ fn parens(
     part: Part,
     tokens: &[Token],
 ) -> Result<(ExprWithSpot, &[Token]), ReadRefusal>
-    ensures { Returns (λ x. (x.0, x.1.now)) result (reading productions (parens part) tokens.now) }
+    ensures { Reads (parens part) tokens.now result }
 {
     let (open, rest) = expect(tokens, Terminal::LeftParen)?;
     let (inside, rest) = expression(alloc, part, rest)?;
@@ -45,7 +45,7 @@ fn parens(
 #[cycle(expression)]
 #[tactic(auto, using(crate::proofs::Named::expr_is, crate::proofs::Loops::token_shrinks), unfolding(jdf_tree::specs::ExpressionGrammar::index))]
 fn index(alloc: Global, tokens: &[Token]) -> Result<(ExprWithSpot, &[Token]), ReadRefusal>
-    ensures { Returns (λ x. (x.0, x.1.now)) result (reading productions index tokens.now) }
+    ensures { Reads index tokens.now result }
 {
     let (_, rest) = expect(tokens, Terminal::LeftBracket)?;
     let (inside, rest) = expression(alloc, Part::Body, rest)?;
@@ -57,7 +57,7 @@ fn index(alloc: Global, tokens: &[Token]) -> Result<(ExprWithSpot, &[Token]), Re
 #[cycle(expression)]
 #[tactic(auto, using(crate::proofs::Loops::element_reads, crate::proofs::Loops::reading_shrinks))]
 fn element(alloc: Global, tokens: &[Token]) -> Result<(ExprWithSpot, &[Token]), ReadRefusal>
-    ensures { Returns (λ x. (x.0, x.1.now)) result (reading productions (reference Body) tokens.now) }
+    ensures { Reads (reference Body) tokens.now result }
 {
     let (name, rest) = name(alloc, Part::Body, tokens)?;
     let spot = name.spot;
@@ -78,7 +78,7 @@ fn reference(
     part: Part,
     tokens: &[Token],
 ) -> Result<(ExprWithSpot, &[Token]), ReadRefusal>
-    ensures { Returns (λ x. (x.0, x.1.now)) result (reading productions (reference part) tokens.now) }
+    ensures { Reads (reference part) tokens.now result }
 {
     match part {
         Part::Body => element(alloc, tokens),
@@ -114,8 +114,8 @@ fn is_sign_next(tokens: &[Token]) -> bool
 
 // Takes a prefix operator: the operator, its token, and the tokens after it.
 fn sign_at(tokens: &[Token]) -> Result<(UnOp, &Token, &[Token]), ReadRefusal>
-    ensures token { Returns (λ x. (x.1.now, x.2.now)) result (token_at is_sign tokens.now) }
-    ensures operator { IfOk result (λ x. x.0 ≡ sign_by (terminal_of x.1.now)) }
+    ensures token { Returns (λ (operator, token, rest). (token.now, rest.now)) result (token_at is_sign tokens.now) }
+    ensures operator { IfOk result (λ (operator, token, rest). operator ≡ sign_by (terminal_of token.now)) }
 {
     let Some((first, rest)) = tokens.split_first() else {
         return Err(refusal_at(tokens, Code::Syntax));
@@ -134,7 +134,7 @@ fn signed(
     part: Part,
     tokens: &[Token],
 ) -> Result<(ExprWithSpot, &[Token]), ReadRefusal>
-    ensures { Returns (λ x. (x.0, x.1.now)) result (reading productions (signed part) tokens.now) }
+    ensures { Reads (signed part) tokens.now result }
 {
     let (operator, mark, rest) = sign_at(tokens)?;
     let (operand, rest) = unary(alloc, part, rest)?;
@@ -151,7 +151,7 @@ fn unary(
     part: Part,
     tokens: &[Token],
 ) -> Result<(ExprWithSpot, &[Token]), ReadRefusal>
-    ensures { Returns (λ x. (x.0, x.1.now)) result (reading productions (unary part) tokens.now) }
+    ensures { Reads (unary part) tokens.now result }
 {
     if is_sign_next(tokens) {
         return signed(alloc, part, tokens);
@@ -207,7 +207,7 @@ fn operand(
     precedence: Precedence,
     tokens: &[Token],
 ) -> Result<(ExprWithSpot, &[Token]), ReadRefusal>
-    ensures { Returns (λ x. (x.0, x.1.now)) result (reading productions (operand_of precedence part) tokens.now) }
+    ensures { Reads (operand_of precedence part) tokens.now result }
 {
     match precedence {
         Precedence::Product => unary(alloc, part, tokens),
@@ -228,7 +228,7 @@ pub(crate) fn operands(
     precedence: Precedence,
     tokens: &[Token],
 ) -> Result<(ExprWithSpot, &[Token]), ReadRefusal>
-    ensures { Returns (λ x. (x.0, x.1.now)) result (reading productions (of_precedence precedence part) tokens.now) }
+    ensures { Reads (of_precedence precedence part) tokens.now result }
 {
     let (first, mut rest) = operand(alloc, part, precedence, tokens)?;
     let spot = first.spot;
@@ -249,7 +249,7 @@ fn branches(
     part: Part,
     tokens: &[Token],
 ) -> Result<((ExprWithSpot, ExprWithSpot), &[Token]), ReadRefusal>
-    ensures { Returns (λ x. (x.0, x.1.now)) result (reading productions (branches part) tokens.now) }
+    ensures { Reads (branches part) tokens.now result }
 {
     let (_, rest) = expect(tokens, Terminal::Question)?;
     let (yes, rest) = expression(alloc, part, rest)?;
@@ -266,7 +266,7 @@ pub(crate) fn expression(
     part: Part,
     tokens: &[Token],
 ) -> Result<(ExprWithSpot, &[Token]), ReadRefusal>
-    ensures { Returns (λ x. (x.0, x.1.now)) result (reading productions (expr part) tokens.now) }
+    ensures { Reads (expr part) tokens.now result }
 {
     let (condition, rest) = operands(alloc, part, Precedence::Disjunction, tokens)?;
     if !is_next(rest, Terminal::Question) {

@@ -1,17 +1,16 @@
 //! Outermost expressions, which have a limit.
 
 ghost use Rattle.std.specs.Prelude.{◌≡◌, IfSome, Ok};
-ghost use Rattle.ptg_base.specs.Returns.{Returns};
 ghost use Rattle.grammar_core.specs.Reading.{reading};
 ghost use Rattle.jdf_tree.specs.ExpressionGrammar.{outer, guard};
 ghost use Rattle.jdf_tree.specs.Grammar.{productions};
+ghost use Rattle.jdf_tree.specs.Reads.{Reads};
 ghost use Rattle.expr_read.specs.Precedences.{form_of, limited_form};
 
 use crate::operators::{expression, operands};
 use crate::precedence::Precedence;
 use grammar_core::{ReadFault, ReadRefusal, refusal_at};
-use jdf_alphabet::{GrammarCode, expression_limit};
-use jdf_lex::Token;
+use jdf_lex::{GrammarCode, Token, expression_limit};
 use jdf_tree::{ExprWithSpot, Part};
 use std::alloc::Global;
 
@@ -33,7 +32,7 @@ fn form(
     outermost: Outermost,
     tokens: &[Token],
 ) -> Result<(ExprWithSpot, &[Token]), ReadRefusal>
-    ensures { Returns (λ x. (x.0, x.1.now)) result (reading productions (form_of outermost) tokens.now) }
+    ensures { Reads (form_of outermost) tokens.now result }
 {
     match outermost {
         Outermost::Expression(part) => expression(alloc, part, tokens),
@@ -45,7 +44,8 @@ fn form(
 // not.
 #[tactic(auto, using(crate::proofs::Brief::brief_reads, crate::proofs::Loops::reading_shrinks))]
 fn brief(alloc: Global, outermost: Outermost, tokens: &[Token]) -> Option<(ExprWithSpot, &[Token])>
-    ensures { IfSome result (λ x. reading productions (limited_form outermost) tokens.now ≡ Ok (x.0, x.1.now)) }
+    ensures { IfSome result (λ (tree, rest).
+        reading productions (limited_form outermost) tokens.now ≡ Ok (tree, rest.now)) }
 {
     if tokens.len() <= WITHIN {
         return None;
@@ -64,7 +64,7 @@ fn within_limit(
     outermost: Outermost,
     tokens: &[Token],
 ) -> Result<(ExprWithSpot, &[Token]), ReadRefusal>
-    ensures { Returns (λ x. (x.0, x.1.now)) result (reading productions (limited_form outermost) tokens.now) }
+    ensures { Reads (limited_form outermost) tokens.now result }
 {
     if let Some(read) = brief(alloc, outermost, tokens) {
         return Ok(read);
@@ -95,14 +95,14 @@ pub fn outer(
     part: Part,
     tokens: &[Token],
 ) -> Result<(ExprWithSpot, &[Token]), ReadRefusal>
-    ensures { Returns (λ x. (x.0, x.1.now)) result (reading productions (outer part) tokens.now) }
+    ensures { Reads (outer part) tokens.now result }
 {
     within_limit(alloc, Outermost::Expression(part), tokens)
 }
 
 /// Reads a guard: its tree, and the tokens after it.
 pub fn guard(alloc: Global, tokens: &[Token]) -> Result<(ExprWithSpot, &[Token]), ReadRefusal>
-    ensures { Returns (λ x. (x.0, x.1.now)) result (reading productions guard tokens.now) }
+    ensures { Reads guard tokens.now result }
 {
     within_limit(alloc, Outermost::Guard, tokens)
 }

@@ -5,7 +5,7 @@ use Rattle.ptg_base.specs.declared.refusal.Refusal.{Refusal}
 use Rattle.ptg_base.specs.declared.refusal.Refusal.TheVariants.{Fault, OutOfMemory}
 use Rattle.term_core.specs.declared.space.ClassSpace.{ClassSpace}
 use Rattle.plan_core.specs.declared.class.ClassPlan.{ClassPlan}
-use Rattle.check_names.specs.Alphabet.{JdfFault, ClassTree}
+use Rattle.check_names.specs.TreesAndFaults.{JdfFault, ClassTree}
 use Rattle.check_names.specs.Names.{Job}
 use Rattle.check_names.specs.Returns.{ReturnsChecked, both}
 use Rattle.flow_check.specs.Bodies.{BodyResult, ReadsBody}

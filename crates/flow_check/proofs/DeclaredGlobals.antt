@@ -4,7 +4,7 @@ use Rattle.std.specs.List.{list_any, position}
 use Rattle.name_table.specs.Names.{value_named}
 use Rattle.coll_data.specs.Data.{Data}
 use Rattle.check_names.specs.declared.context.Globals.{Globals}
-use Rattle.check_names.specs.Alphabet.{Word, Jdf}
+use Rattle.check_names.specs.TreesAndFaults.{Word, Jdf}
 use Rattle.check_names.specs.Contexts.{AreGlobals}
 use Rattle.check_names.specs.Names.{word_is, coll_is}
 use Rattle.std.proofs.lemmas.Bool.{or_left, or_right}

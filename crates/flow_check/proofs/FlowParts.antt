@@ -1,7 +1,7 @@
 -- A flow of a plan has the kind, the datatype and the name of its tree.
 use Rattle.std.proofs.Common.{◌≡◌, List, Some, refl, sym, ap, subst}
 use Rattle.plan_core.specs.declared.flow.FlowPlan.{FlowPlan}
-use Rattle.check_names.specs.Alphabet.{DefTree, FlowTree}
+use Rattle.check_names.specs.TreesAndFaults.{DefTree, FlowTree}
 use Rattle.check_names.specs.Names.{Job}
 use Rattle.check_names.proofs.NoFaults.{parts_of}
 use Rattle.check_flows.specs.Datatypes.{flow_type}

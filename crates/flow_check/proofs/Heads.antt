@@ -1,12 +1,12 @@
 -- The parts of a class, by the lists that its parts are.
 use Rattle.std.proofs.Common.{◌≡◌, List, ◌++◌, Option, Result, subst}
 use Rattle.ptg_base.specs.declared.refusal.Refusal.{Refusal}
-use Rattle.check_names.specs.Alphabet.{JdfFault, DefTree, ArgTree, FlowTree, ClassTree}
+use Rattle.check_names.specs.TreesAndFaults.{JdfFault, DefTree, ArgTree, FlowTree, ClassTree}
 use Rattle.check_names.specs.Names.{Job}
 use Rattle.check_names.specs.Returns.{ReturnsChecked, both}
 use Rattle.check_names.specs.Expressions.{option_faults, option_term}
 use Rattle.check_names.specs.Definitions.{space_of, space_faults}
-use Rattle.check_flows.specs.Places.{element_faults, element_of}
+use Rattle.check_flows.specs.Elements.{element_faults, element_of}
 use Rattle.flow_check.specs.declared.head.ClassHead.{ClassHead}
 use Rattle.flow_check.specs.Classes.{flows_of, flows_faults, head_from, head_of, head_faults}
 

@@ -12,7 +12,7 @@ use Rattle.plan_core.specs.declared.class.ClassPlan.{ClassPlan}
 use Rattle.plan_core.specs.declared.shape.Shape.{Shape}
 use Rattle.plan_core.specs.declared.plan.Plan.{Plan}
 use Rattle.plan_core.specs.WellMade.{IsWellMade}
-use Rattle.check_names.specs.Alphabet.{JdfFault}
+use Rattle.check_names.specs.TreesAndFaults.{JdfFault}
 use Rattle.check_names.specs.Names.{Job}
 use Rattle.flow_check.specs.Check.{IsFirstFault}
 use Rattle.flow_check.specs.Plans.{IsPlan, ReturnsPlan}

@@ -6,7 +6,7 @@ use native.Mathlib.Bridge.{le_prop}
 use Rattle.body_names.specs.Environment.{Environment}
 use Rattle.body_names.specs.declared.scope.FlowName.{FlowName}
 use Rattle.body_lang.proofs.Once.{one_body, one_fault, body_or_fault}
-use Rattle.check_names.specs.Alphabet.{JdfFault, ClassTree}
+use Rattle.check_names.specs.TreesAndFaults.{JdfFault, ClassTree}
 use Rattle.check_names.specs.Names.{Job}
 use Rattle.check_names.specs.Faults.{first_fault}
 use Rattle.flow_check.specs.Bodies.{BodyResult, ReadsAs, ReadsBody}

@@ -17,7 +17,7 @@ use Rattle.plan_core.specs.Targets.{is_element}
 use Rattle.plan_core.specs.Flows.{is_flow}
 use Rattle.plan_core.specs.Bodies.{respects_kinds}
 use Rattle.plan_core.specs.WellMade.{IsWellClass}
-use Rattle.check_names.specs.Alphabet.{JdfFault, DefTree, FlowTree, ClassTree, NameTwice}
+use Rattle.check_names.specs.TreesAndFaults.{JdfFault, DefTree, FlowTree, ClassTree, NameTwice}
 use Rattle.check_names.specs.Faults.{resolved_faults}
 use Rattle.check_names.specs.Names.{Job}
 use Rattle.check_names.specs.Repeats.{repeats}
@@ -30,7 +30,7 @@ use Rattle.check_names.proofs.NoFaults.{parts_of}
 use Rattle.flow_check.proofs.Parts.{parts_map}
 use Rattle.check_names.proofs.Parts.{each_length}
 use Rattle.check_names.proofs.WellSpaces.{definitions_length, pair_of, well_space}
-use Rattle.check_flows.specs.Places.{element_faults, element_of}
+use Rattle.check_flows.specs.Elements.{element_faults, element_of}
 use Rattle.check_flows.specs.Dependences.{flow_faults, flow_plan}
 use Rattle.check_flows.specs.PartsOfJob.{HaveParts}
 use Rattle.check_flows.proofs.Elements.{element_exists}

@@ -15,7 +15,7 @@ use Rattle.coll_data.specs.WellMade as well_data
 use Rattle.plan_core.specs.declared.class.ClassPlan.{ClassPlan}
 use Rattle.plan_core.specs.WellMade.{IsWellClass, tile_count, is_shape, IsWellMade}
 use Rattle.plan_data.specs.Fit.{shape_of}
-use Rattle.check_names.specs.Alphabet.{ClassTree, Word, NameTwice}
+use Rattle.check_names.specs.TreesAndFaults.{ClassTree, Word, NameTwice}
 use Rattle.check_names.specs.Names.{Job}
 use Rattle.check_names.specs.Repeats.{repeats}
 use Rattle.list_lemmas.proofs.Joins.{first_nil, rest_nil}

@@ -6,7 +6,7 @@ use Rattle.expr_names.specs.Symbols.{Resolved}
 use Rattle.body_names.specs.Environment.{Environment}
 use Rattle.body_names.specs.declared.scope.FlowName.{FlowName}
 use Rattle.body_lang.specs.Body.{IsBody, IsBodyFault}
-use Rattle.check_names.specs.Alphabet.{DefTree, FlowTree, ClassTree}
+use Rattle.check_names.specs.TreesAndFaults.{DefTree, FlowTree, ClassTree}
 use Rattle.check_names.specs.Names.{Job, int_named, coll_named}
 
 -- the definitions of a class by name
@@ -28,7 +28,7 @@ pub record IsEnvironment (job : Job) (class : ClassTree) (scope : Environment) :
 abbrev pub BodyResult : Type 0
 BodyResult = Resolved (Body × List (List ℕ))
 
--- The tokens of a body are a body, or have a first fault. In a text that is broken the names after that place do not
+-- The tokens of a body are a body, or have a first fault. In a text that is broken the names after its fault do not
 -- count.
 abbrev pub ReadsAs : Environment → ClassTree → BodyResult → Type 0
 ReadsAs scope class (Ok x) = IsBody scope class.body x

@@ -6,7 +6,7 @@ use Rattle.term_core.specs.declared.space.ClassSpace.{ClassSpace}
 use Rattle.plan_core.specs.declared.class.ClassPlan.{ClassPlan}
 use Rattle.ptg_base.specs.declared.refusal.Refusal.{Refusal}
 use Rattle.ptg_base.specs.declared.refusal.Refusal.TheVariants.{Fault, OutOfMemory}
-use Rattle.check_names.specs.Alphabet.{JdfFault, Word, ClassTree, NameTwice}
+use Rattle.check_names.specs.TreesAndFaults.{JdfFault, Word, ClassTree, NameTwice}
 use Rattle.check_names.specs.Faults.{first_fault}
 use Rattle.check_names.specs.Returns.{ReturnsChecked, both}
 use Rattle.check_names.specs.Repeats.{repeats}

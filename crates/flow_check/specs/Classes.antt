@@ -6,14 +6,14 @@ use Rattle.term_core.specs.declared.body.Body.{Body}
 use Rattle.term_core.specs.declared.space.ClassSpace.{ClassSpace}
 use Rattle.plan_core.specs.declared.class.ClassPlan.{ClassPlan}
 use Rattle.plan_core.specs.declared.flow.FlowPlan.{FlowPlan}
-use Rattle.check_names.specs.Alphabet.{JdfFault, DefTree, FlowTree, ClassTree, NameTwice}
+use Rattle.check_names.specs.TreesAndFaults.{JdfFault, DefTree, FlowTree, ClassTree, NameTwice}
 use Rattle.check_names.specs.Faults.{resolved_faults}
 use Rattle.check_names.specs.Returns.{both, each}
 use Rattle.check_names.specs.Repeats.{repeats}
 use Rattle.check_names.specs.Names.{Job}
 use Rattle.check_names.specs.Expressions.{option_faults, option_term}
 use Rattle.check_names.specs.Definitions.{space_of, space_faults}
-use Rattle.check_flows.specs.Places.{element_faults, element_of}
+use Rattle.check_flows.specs.Elements.{element_faults, element_of}
 use Rattle.check_flows.specs.Dependences.{flow_faults, flow_plan}
 use Rattle.flow_check.specs.declared.head.ClassHead.{ClassHead}
 use Rattle.flow_check.specs.Bodies.{BodyResult}
@@ -29,11 +29,11 @@ flows_faults job seen flows =
 
 -- the parts of a class outside of its body, from its space and its affinity, and from its flows and its priority
 abbrev pub head_from : ClassSpace × (ℕ × List Term) → List FlowPlan × Option Term → ClassHead
-head_from place rest = record {
-  space = place.0;
-  affinity = record { coll = place.1.0; indices = place.1.1 };
-  flows = rest.0;
-  priority = rest.1;
+head_from (space, (coll, indices)) (flows, priority) = record {
+  space = space;
+  affinity = record { coll = coll; indices = indices };
+  flows = flows;
+  priority = priority;
 }
 
 -- the parts of a class outside of its body, with their names resolved

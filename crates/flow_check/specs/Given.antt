@@ -3,7 +3,7 @@ use Rattle.std.specs.Prelude.{ℕ, Bool, not, ◌||◌, List, position, is_some}
 use Rattle.std.specs.List.{list_any}
 use Rattle.name_table.specs.Names.{value_named}
 use Rattle.coll_data.specs.Data.{Data}
-use Rattle.check_names.specs.Alphabet.{Word, Jdf}
+use Rattle.check_names.specs.TreesAndFaults.{Word, Jdf}
 use Rattle.check_names.specs.Names.{coll_is}
 
 -- whether the data have an integer or a collection of this name

@@ -8,7 +8,7 @@ use Rattle.plan_core.specs.WellMade.{IsWellMade}
 use Rattle.plan_core.specs.declared.class.ClassPlan.{ClassPlan}
 use Rattle.plan_core.specs.declared.plan.Plan.{Plan}
 use Rattle.plan_data.specs.Fit.{shape_of}
-use Rattle.check_names.specs.Alphabet.{JdfFault}
+use Rattle.check_names.specs.TreesAndFaults.{JdfFault}
 use Rattle.check_names.specs.Names.{Job}
 use Rattle.flow_check.specs.Check.{AreResolved, IsFirstFault}
 use Rattle.flow_check.specs.Plans.{IsPlan}

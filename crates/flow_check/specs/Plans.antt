@@ -4,14 +4,14 @@ use Rattle.ptg_base.specs.declared.refusal.Refusal.{Refusal}
 use Rattle.ptg_base.specs.declared.refusal.Refusal.TheVariants.{Fault, OutOfMemory}
 use Rattle.plan_core.specs.declared.plan.Plan.{Plan}
 use Rattle.plan_data.specs.Fit.{DataFit}
-use Rattle.check_names.specs.Alphabet.{JdfFault}
+use Rattle.check_names.specs.TreesAndFaults.{JdfFault}
 use Rattle.check_names.specs.Names.{Job}
 use Rattle.flow_check.specs.Check.{AreResolved, IsFirstFault}
 
 -- The plan of a JDF and its data: the classes with their spaces, with all names resolved, and the data fit it.
 pub record IsPlan (job : Job) (plan : Plan) : Type 0 where
   pub resolved : AreResolved job plan.classes plan.spaces
-  pub fit : DataFit plan.colls plan.elems job.given
+  pub fit : DataFit plan job.given
 
 -- The result of the type check: the plan, or the first fault, unless there was no memory.
 abbrev pub ReturnsPlan : Job → Result Plan (Refusal JdfFault) → Type 0

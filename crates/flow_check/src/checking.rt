@@ -46,7 +46,7 @@ pub fn check(alloc: Global, jdf: &Jdf, given: &Given, globals: &Globals) -> Resu
     ensures exact { FindsOrRefuses (IsPlan (record { jdf = jdf.now; given = given.now }))
         (IsFirstFault (record { jdf = jdf.now; given = given.now })) result }
     // The data fit the plan.
-    ensures fit { IfOk result (λ plan. DataFit plan.colls plan.elems given.now) }
+    ensures fit { IfOk result (λ plan. DataFit plan given.now) }
 {
     answer(alloc, jdf, given, globals)
 }

@@ -34,7 +34,7 @@ fn element_counts(
     default: u32,
     types: &[(Text, u32)],
 ) -> Result<Seq<u32>, OutOfMemory>
-    ensures { IfOk result (λ counts. counts ≡ default ∷ map (λ (type : List ℕ × ℕ). type.1) types.now) }
+    ensures { IfOk result (λ counts. counts ≡ default ∷ map (λ ((name, elements) : List ℕ × ℕ). elements) types.now) }
 {
     let mut counts = Seq::new(alloc);
     counts.push(default)?;
@@ -61,7 +61,7 @@ pub(crate) fn plan_of(
     requires { IsWellMade classes spaces (map shape_of given.now.colls) (elements_by_type given.now) }
     ensures classes { IfOk result (λ plan. plan.classes ≡ classes) }
     ensures spaces { IfOk result (λ plan. plan.spaces ≡ spaces) }
-    ensures fit { IfOk result (λ plan. DataFit plan.colls plan.elems given.now) }
+    ensures fit { IfOk result (λ plan. DataFit plan given.now) }
 {
     let colls = shapes(alloc, given.colls())?;
     let elems = elements(alloc, given)?;

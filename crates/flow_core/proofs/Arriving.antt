@@ -24,7 +24,7 @@ use Rattle.flow_meaning.specs.Sound.{IsSoundState}
 use Rattle.flow_meaning.proofs.Comparing.{same_item-decides}
 use Rattle.flow_meaning.proofs.Members.{in_edge_to}
 use Rattle.flow_meaning.proofs.Arriving.{edge_once, no_edge, sent_edge_in}
-use Rattle.flow_core.specs.Arrivals.{edges_to, is_edge_to}
+use Rattle.flow_core.specs.Arrivals.{edge_count_to, is_edge_to}
 
 weigh-none : {A : Type 0} (xs : List A) → weigh (λ _. 0) xs ≡ 0
 weigh-none [] = refl
@@ -62,7 +62,7 @@ module _ (P : Plan) (G : Data) (con : IsConsistent P) (S : MachineState) (sound 
       let task = subst (λ j. IsTask P (sender j)) q (sound.claimed_have_all _ out.claimed).task in
       sent_edge_in P con e task (subst (λ j. IsIn j (items P (sender j))) q out.is_item)
 
-  pub arrived_are : arrived P S t ≡ edges_to t S.sends
+  pub arrived_are : arrived P S t ≡ edge_count_to t S.sends
   arrived_are =
       weigh-same (λ e. send_count S (item.Edge e)) (λ e. as_number (is_sent S (item.Edge e))) (in_edges P t) (λ e _. test_of (send_count S (item.Edge e)) (sound.sent_once (item.Edge e)))
       ∙ weigh-swap (λ (e : Edge) (x : SentItem). as_number (same_item (item.Edge e) x.item)) (in_edges P t) S.sends

@@ -39,7 +39,7 @@ use Rattle.flow_meaning.proofs.Sizes.{with_tiles as ended_with}
 use Rattle.flow_core.specs.RunState.{HasLetGo, IsRunning, KeepsTiles, RunState, Tiles, end_of, machine, mark_of, send_of, with_claim, with_end, with_send, with_tiles}
 use Rattle.flow_core.specs.Fits.{Fits, HasSentAll, MaySendNow}
 use Rattle.flow_core.specs.SentItems.{IsUnsent}
-use Rattle.flow_core.specs.Arrivals.{CountsArrivals, edges_to, is_edge_to}
+use Rattle.flow_core.specs.Arrivals.{CountsArrivals, edge_count_to, is_edge_to}
 use Rattle.flow_core.specs.Possible.{GoesToWaiting, IsOutputItem, KeepsTilesFor, goes_to_claimed}
 use Rattle.flow_core.specs.Kept.{is_read}
 use Rattle.flow_core.proofs.Lookups.{end_push, found_in, found_key, key_count, key_found, keys_set, none_before}
@@ -94,14 +94,14 @@ module _ (P : Plan) (G : Data) (con : IsConsistent P) (r : RunState) (fits : Fit
   running_end t h = ends_so P G con (machine r) fits.sound t (fits.sound.claimed_have_all t (found_key t r.claims None h))
 
   -- when a task may be claimed
-  pub claimable : (t : Task) → (IsTask P t × (mark_of r t ≡ None) × (edges_to t r.sends ≡ goal P t)) ↔ MayClaim P (machine r) t
+  pub claimable : (t : Task) → (IsTask P t × (mark_of r t ≡ None) × (edge_count_to t r.sends ≡ goal P t)) ↔ MayClaim P (machine r) t
   claimable t = (
     λ h. record { task = h.0; unclaimed = (key_count t r.claims).0 h.1; all_arrived = arrived_are P G con (machine r) fits.sound t h.0 ∙ h.2 },
     λ may. (may.task, (key_count t r.claims).1 may.unclaimed, sym (arrived_are P G con (machine r) fits.sound t may.task) ∙ may.all_arrived),
   )
 
   -- the same, where the edges that were sent to it are counted
-  pub counted : (t : Task) → IsTask P t → mark_of r t ≡ None → (sent all : ℕ) → sent ≡ edges_to t r.sends → all ≡ goal P t → IsTrue (nat_eq sent all) ↔ MayClaim P (machine r) t
+  pub counted : (t : Task) → IsTask P t → mark_of r t ≡ None → (sent all : ℕ) → sent ≡ edge_count_to t r.sends → all ≡ goal P t → IsTrue (nat_eq sent all) ↔ MayClaim P (machine r) t
   counted t job none sent all sent_is all_is = (
     λ k. (claimable t).0 (job, none, sym sent_is ∙ eqb-true sent all k ∙ all_is),
     λ may. eq-eqb sent all (sent_is ∙ ((claimable t).1 may).2 ∙ sym all_is),
@@ -229,7 +229,7 @@ module _ (P : Plan) (G : Data) (con : IsConsistent P) (r : RunState) (fits : Fit
 
 module _ (P : Plan) (G : Data) (con : IsConsistent P) (r : RunState) (fits : Fits P G r) (e : Edge) (now : MaySendNow P G r (item.Edge e)) where
   -- an edge that may be sent is not yet counted at its target
-  not_full : IsTask P e.to × (edges_to e.to r.sends < goal P e.to) × (arrived P (machine r) e.to < goal P e.to)
+  not_full : IsTask P e.to × (edge_count_to e.to r.sends < goal P e.to) × (arrived P (machine r) e.to < goal P e.to)
   not_full =
       let job = (fits.sound.claimed_have_all e.from now.may.claimed).task in
       let target = (con.connected e.from job).to_tasks e (item_edge (items P e.from) e now.may.is_item) in
@@ -246,7 +246,7 @@ module _ (P : Plan) (G : Data) (con : IsConsistent P) (r : RunState) (fits : Fit
       by (Some x) h = let full = (fits.sound.claimed_have_all e.to (found_key e.to r.claims x h)).all_arrived in absurd (omega (arith, full, not_full.2))
 
   -- and fewer edges have come to it than a job may have
-  pub target_count : edges_to e.to r.sends < 4000000
+  pub target_count : edge_count_to e.to r.sends < 4000000
   target_count =
       let part = length-part (in_edges P) (all_tasks P) e.to ((listed P e.to).0 not_full.0) in
       omega (arith, part, con.in_edges_at_most, not_full.1)
@@ -255,8 +255,8 @@ module _ (P : Plan) (G : Data) (con : IsConsistent P) (r : RunState) (fits : Fit
 pub goes_to_waiting : (P : Plan) (G : Data) → IsConsistent P → (r : RunState) → Fits P G r → (i : Item) → MaySendNow P G r i → GoesToWaiting r i
 goes_to_waiting P G con r fits (item.Edge e) now u h =
     let same : u ≡ e.to = (same_task-decides u e.to).0 h in
-    let few : edges_to e.to r.sends ≤ 4000000 = let k = target_count P G con r fits e now in omega arith in
-    subst (λ t. (mark_of r t ≡ None) × (edges_to t r.sends ≤ 4000000)) (sym same) (target_unclaimed P G con r fits e now, few)
+    let few : edge_count_to e.to r.sends ≤ 4000000 = let k = target_count P G con r fits e now in omega arith in
+    subst (λ t. (mark_of r t ≡ None) × (edge_count_to t r.sends ≤ 4000000)) (sym same) (target_unclaimed P G con r fits e now, few)
 goes_to_waiting P G con r fits (item.Write w) now u h = absurd (false≢true h)
 
 -- an output that goes to a claimed task was sent

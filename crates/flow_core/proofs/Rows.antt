@@ -25,13 +25,13 @@ use Rattle.list_lemmas.specs.Counting.{as_number, count}
 use Rattle.flow_meaning.specs.Ending.{Ended}
 use Rattle.flow_meaning.specs.Machine.{MachineState, arrived, claim_count, end_in}
 use Rattle.flow_meaning.specs.StateAnswer.{state_answer, state_answer_by, state_traps}
-use Rattle.flow_meaning.specs.Table.{is_waiting, waiting_rows, waiting_tasks}
+use Rattle.flow_meaning.specs.Table.{is_waiting, wait_row, waiting_rows, waiting_tasks}
 use Rattle.flow_meaning.proofs.Once.{tasks_once}
 use Rattle.run_answer.specs.Rows.{AreOfDifferentTasks}
 use Rattle.flow_core.specs.RunState.{IsRunning, RunState, end_of, machine, mark_of}
 use Rattle.flow_core.specs.Fits.{Fits}
-use Rattle.flow_core.specs.Arrivals.{edges_to}
-use Rattle.flow_core.specs.Rows.{claim_traps, wait_row, waits_among}
+use Rattle.flow_core.specs.Arrivals.{edge_count_to}
+use Rattle.flow_core.specs.Rows.{claim_traps, waits_among}
 use Rattle.flow_core.proofs.Lookups.{key_count}
 use Rattle.flow_core.proofs.Arriving.{arrived_are}
 use Rattle.flow_core.proofs.Fitting.{end_known}
@@ -56,7 +56,7 @@ module _ (P : Plan) (G : Data) (con : IsConsistent P) (r : RunState) (fits : Fit
       (λ k. let none = (key_count t r.claims).1 (eqb-true (claim_count (machine r) t) 0 k) in absurd (false≢true (ap is_some (sym none) ∙ h)))
       (λ k. ap (λ b. b && (nat_lt 0 (arrived P (machine r) t) && nat_lt (arrived P (machine r) t) (goal P t))) k)
 
-  module _ (job : IsTask P t) (none : mark_of r t ≡ None) (sent all : ℕ) (sent_is : sent ≡ edges_to t r.sends) (all_is : all ≡ goal P t) where
+  module _ (job : IsTask P t) (none : mark_of r t ≡ None) (sent all : ℕ) (sent_is : sent ≡ edge_count_to t r.sends) (all_is : all ≡ goal P t) where
     come : arrived P (machine r) t ≡ sent
     come = arrived_are P G con (machine r) fits.sound t job ∙ sym sent_is
 

@@ -21,7 +21,7 @@ use Rattle.flow_core.specs.RunState.{RunState, machine}
 use Rattle.flow_core.specs.Fits.{Fits}
 use Rattle.flow_core.specs.Rows.{write_with, writes_among}
 
-module _ (P : Plan) (G : Data) (con : IsConsistent P) (r : RunState) (fits : Fits P G r) (known : DataFit P.colls P.elems G) (well : IsWellMade G) where
+module _ (P : Plan) (G : Data) (con : IsConsistent P) (r : RunState) (fits : Fits P G r) (known : DataFit P G) (well : IsWellMade G) where
   -- what is said of the write-backs among some items
   record HasWrites (sends : List SentItem) : Type 0 where
     writable : All (IsWritable G) (writes_among sends)

@@ -17,10 +17,10 @@ is_edge_to t (item.Edge e) = same_task t e.to
 is_edge_to t (item.Write w) = false
 
 -- how many of the items that were sent are edges into the task
-abbrev pub edges_to : Task → List SentItem → ℕ
-edges_to t sends = count (λ (x : SentItem). is_edge_to t x.item) sends
+abbrev pub edge_count_to : Task → List SentItem → ℕ
+edge_count_to t sends = count (λ (x : SentItem). is_edge_to t x.item) sends
 
 -- the table has the number of edges that were sent to each task that is not claimed
 abbrev pub CountsArrivals : List (Task × ℕ) → List (Task × Option Ended) → List SentItem → Type 0
 CountsArrivals table claims sends =
-    (t : Task) → lookup (same_task t) claims ≡ None → number_for table t ≡ edges_to t sends
+    (t : Task) → lookup (same_task t) claims ≡ None → number_for table t ≡ edge_count_to t sends

@@ -25,6 +25,10 @@ pub record Fits (P : Plan) (G : Data) (r : RunState) : Type 0 where
   pub ends : (t : Task) (end : Ended) → end_of r t ≡ Some end → ended P G t ≡ Some end
   pub kept : (t : Task) (tiles : Tiles) → end_of r t ≡ Some (Ok tiles) → KeepsTiles r t tiles ⊎ HasSentAll P r t
 
+-- the run fits the job and some data
+abbrev pub FitsSome : Plan → RunState → Type 0
+FitsSome P r = (G : Data) × Fits P G r
+
 -- an item may be sent now: the event machine allows it, and its task has ended
 pub record MaySendNow (P : Plan) (G : Data) (r : RunState) (i : Item) : Type 0 where
   pub may : MaySend P G (machine r) i

@@ -29,7 +29,7 @@ edge_into P t n f = if is_data (Some f.kind) then edge_of_source (data_source P 
 abbrev pub source_of : Plan → Task → ℕ → FlowPlan → Source
 source_of P t n f = if is_data (Some f.kind) then data_source P t n else source.Null
 
--- the edges that bring the tiles of these flows of a task, which are numbered from n on: one place for each flow
+-- the edges that bring the tiles of these flows of a task, which are numbered from n on: an entry for each flow
 abbrev pub edges_from : Plan → Task → ℕ → List FlowPlan → List (Option Item)
 edges_from P t n [] = []
 edges_from P t n (f ∷ fs) = option_map (λ e. item.Edge e) (edge_into P t n f) ∷ edges_from P t (suc n) fs

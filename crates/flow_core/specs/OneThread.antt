@@ -15,7 +15,7 @@ use Rattle.flow_core.specs.Fits.{Fits}
 
 -- the running tasks among claimed ones, in the order of the claims
 abbrev pub running_among : List (Task × Option Ended) → List Task
-running_among claims = keys_of (filter (λ (c : Task × Option Ended). is_none c.1) claims)
+running_among claims = keys_of (filter (λ ((t, ended) : Task × Option Ended). is_none ended) claims)
 
 -- the running tasks of a run, in the order of the claims
 abbrev pub running_tasks : RunState → List Task
@@ -23,7 +23,7 @@ running_tasks r = running_among r.claims
 
 -- how many of the claimed tasks have ended
 abbrev pub ended_among : List (Task × Option Ended) → ℕ
-ended_among claims = length (filter (λ (c : Task × Option Ended). is_some c.1) claims)
+ended_among claims = length (filter (λ ((t, ended) : Task × Option Ended). is_some ended) claims)
 
 -- how many tasks of a run have ended
 abbrev pub ended_count : RunState → ℕ

@@ -10,7 +10,7 @@ use Rattle.dep_iter.specs.Items.{items}
 use Rattle.flow_meaning.specs.Ending.{has_outputs}
 use Rattle.flow_meaning.specs.Machine.{sender}
 use Rattle.flow_core.specs.RunState.{RunState, KeepsTiles, Tiles, end_of, mark_of}
-use Rattle.flow_core.specs.Arrivals.{edges_to, is_edge_to}
+use Rattle.flow_core.specs.Arrivals.{edge_count_to, is_edge_to}
 
 -- the task of an item has ended without a trap, and the tiles that it left are kept
 pub record KeepsTilesFor (r : RunState) (i : Item) : Type 0 where
@@ -20,7 +20,7 @@ pub record KeepsTilesFor (r : RunState) (i : Item) : Type 0 where
 
 -- the task that an item goes to, if it is an edge, is not claimed, and fewer edges have come to it than a job may have
 abbrev pub GoesToWaiting : RunState → Item → Type 0
-GoesToWaiting r i = (u : Task) → IsTrue (is_edge_to u i) → (mark_of r u ≡ None) × (edges_to u r.sends ≤ most_edges)
+GoesToWaiting r i = (u : Task) → IsTrue (is_edge_to u i) → (mark_of r u ≡ None) × (edge_count_to u r.sends ≤ most_edges)
 
 -- whether an item is an edge to a claimed task
 abbrev pub goes_to_claimed : RunState → Item → Bool

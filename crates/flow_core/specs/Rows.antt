@@ -6,21 +6,16 @@ use Rattle.ptg_base.specs.declared.edge.WriteBack.{WriteBack}
 use Rattle.ptg_base.specs.declared.edge.Item.{Item}
 use Rattle.ptg_base.specs.declared.edge.Item.TheVariants as item
 use Rattle.plan_core.specs.declared.plan.Plan.{Plan}
-use Rattle.dep_iter.specs.Edges.{goal}
 use Rattle.flow_meaning.specs.declared.outcome.TrapRow.{TrapRow}
 use Rattle.flow_meaning.specs.declared.outcome.WaitRow.{WaitRow}
 use Rattle.flow_meaning.specs.Answer.{trap_rows}
 use Rattle.flow_meaning.specs.Ending.{Ended}
-use Rattle.flow_meaning.specs.Machine.{MachineState, SentItem, arrived}
-use Rattle.flow_meaning.specs.Table.{is_waiting}
+use Rattle.flow_meaning.specs.Machine.{MachineState, SentItem}
+use Rattle.flow_meaning.specs.Table.{is_waiting, wait_row}
 
 -- the claimed tasks that have trapped, in the order of the claims
 abbrev pub claim_traps : List (Task × Option Ended) → List TrapRow
-claim_traps claims = flat_map (λ (c : Task × Option Ended). trap_rows c.0 c.1) claims
-
--- the row of a task, if it waits
-abbrev pub wait_row : Plan → MachineState → Task → WaitRow
-wait_row P S t = record { task = t; arrived = arrived P S t; goal = goal P t }
+claim_traps claims = flat_map (λ ((t, ended) : Task × Option Ended). trap_rows t ended) claims
 
 -- the rows of those of these tasks that wait
 abbrev pub waits_among : Plan → MachineState → List Task → List WaitRow

@@ -10,7 +10,7 @@ use Rattle.ptg_base.specs.declared.edge.Item.{Item}
 use Rattle.flow_meaning.specs.Ending.{Ended}
 use Rattle.flow_meaning.specs.Machine.{MachineState, SentItem, sender, item_from}
 
--- the tiles that a task left, one place for each of its flows
+-- the tiles that a task left, an entry for each of its flows
 abbrev pub Tiles : Type 0
 Tiles = List (Option (List ℤ))
 
@@ -23,7 +23,7 @@ pub record RunState : Type 0 where
   -- the tasks that have ended without a trap and whose tiles were not let go, each with them
   pub outputs : List (Task × Tiles)
 
--- nothing is claimed, and nothing is sent
+-- Nothing is claimed, and nothing is sent.
 abbrev pub opening_run : RunState
 opening_run = record { claims = []; sends = []; outputs = [] }
 
@@ -35,7 +35,7 @@ machine r = record { claims = keys_of r.claims; sends = r.sends }
 abbrev pub mark_of : RunState → Task → Option (Option Ended)
 mark_of r t = lookup (same_task t) r.claims
 
--- the task was claimed, and has not ended
+-- The task was claimed, and has not ended.
 abbrev pub IsRunning : RunState → Task → Type 0
 IsRunning r t = mark_of r t ≡ Some None
 
@@ -69,7 +69,7 @@ send_of r i = item_from (end_of r (sender i)) i
 abbrev pub with_send : Item → RunState → RunState
 with_send i r = record { claims = r.claims; sends = r.sends ++ send_of r i ∷ []; outputs = r.outputs }
 
--- the tiles that a task left are kept
+-- The tiles that a task left are kept.
 abbrev pub KeepsTiles : RunState → Task → Tiles → Type 0
 KeepsTiles r t tiles = lookup (same_task t) r.outputs ≡ Some tiles
 

@@ -7,7 +7,7 @@ use Rattle.flow_meaning.specs.Machine.{SentItem}
 
 -- the items with their tiles, as the event machine has them
 abbrev pub all_sent : List (Item × Option (List ℤ)) → List SentItem
-all_sent entries = map (λ (e : Item × Option (List ℤ)). record { item = e.0; tile = e.1 }) entries
+all_sent entries = map (λ ((item, tile) : Item × Option (List ℤ)). record { item = item; tile = tile }) entries
 
 -- the item is none of these
 abbrev pub IsUnsent : List SentItem → Item → Type 0

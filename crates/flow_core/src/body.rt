@@ -17,7 +17,7 @@ pub struct Ran {
     pub end: Result<Seq<Option<Tile>>, Trap>,
 }
 
-// Runs the body of a task with these locals on these tiles, one place for each of its flows.
+// Runs the body of a task with these locals on these tiles, an entry for each of its flows.
 pub(crate) fn run_task(plan: &Plan, t: &TaskId, env: &[i64], tiles: Vec<Option<Tile>>) -> Ran
     requires locals { env.now ≡ tasks.locals_of plan.now t.now }
     requires task { IsTask plan.now t.now }

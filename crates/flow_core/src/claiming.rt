@@ -1,10 +1,9 @@
 //! Claims of the tasks that may be claimed.
 
 ghost use Rattle.std.specs.Prelude.{◌≡◌, ◌∷◌, [], IsTrue, OnOk};
-ghost use Rattle.coll_data.specs.Data.{Data};
 ghost use Rattle.dep_iter.specs.Tasks as tasks;
 ghost use Rattle.dep_iter.specs.Tasks.{IsTask};
-ghost use Rattle.flow_core.specs.Fits.{Fits};
+ghost use Rattle.flow_core.specs.Fits.{FitsSome};
 ghost use Rattle.flow_core.specs.Goals.{AreGoals};
 ghost use Rattle.flow_core.specs.OneThread.{HasDone, IsOpening, MayClaimOnly, running_tasks};
 
@@ -20,7 +19,7 @@ pub(crate) fn claim_if_ready(
     t: &TaskId,
 ) -> Result<(), OutOfMemory>
     requires task { IsTask m.now t.now }
-    requires fits { (G : Data) × Fits m.now G runner.old.run }
+    requires fits { FitsSome m.now runner.old.run }
     requires running { runner.old.running.items ≡ running_tasks runner.old.run }
     ensures done { OnOk result (HasDone m.now (t.now ∷ []) [] runner.old.run runner.new.run) }
     ensures running { OnOk result (runner.new.running.items ≡ running_tasks runner.new.run) }
@@ -37,7 +36,7 @@ pub(crate) fn claim_if_ready(
 // Claims the task to which an edge has come, if it may be claimed. Its goal is counted when the first edge comes.
 pub(crate) fn claim_if_come(runner: &mut Runner, m: &Matched, t: &TaskId) -> Result<(), OutOfMemory>
     requires task { IsTask m.now t.now }
-    requires fits { (G : Data) × Fits m.now G runner.old.run }
+    requires fits { FitsSome m.now runner.old.run }
     requires running { runner.old.running.items ≡ running_tasks runner.old.run }
     requires goals { AreGoals m.now runner.old.goals.entries }
     ensures done { OnOk result (HasDone m.now (t.now ∷ []) [] runner.old.run runner.new.run) }
@@ -56,7 +55,7 @@ pub(crate) fn claim_if_come(runner: &mut Runner, m: &Matched, t: &TaskId) -> Res
 
 // Whether as many tasks were claimed as no edge goes into, in a run that only opens: then no other may be claimed.
 fn is_open(runner: &Runner, m: &Matched) -> bool
-    requires fits { (G : Data) × Fits m.now G runner.now.run }
+    requires fits { FitsSome m.now runner.now.run }
     requires running { runner.now.running.items ≡ running_tasks runner.now.run }
     requires opening { IsOpening runner.now.run }
     ensures { IsTrue result → MayClaimOnly m.now [] runner.now.run }
@@ -67,7 +66,7 @@ fn is_open(runner: &Runner, m: &Matched) -> bool
 
 // Claims the tasks that may be claimed, in a run that only opens.
 pub(crate) fn claim_roots(runner: &mut Runner, m: &Matched) -> Result<(), OutOfMemory>
-    requires fits { (G : Data) × Fits m.now G runner.old.run }
+    requires fits { FitsSome m.now runner.old.run }
     requires running { runner.old.running.items ≡ running_tasks runner.old.run }
     requires opening { IsOpening runner.old.run }
     ensures done { OnOk result (HasDone m.now (tasks.all_tasks m.now) [] runner.old.run runner.new.run) }

@@ -111,7 +111,7 @@ fn edge_of(source: Source) -> Option<Item>
     }
 }
 
-// What a task starts on, one place for each of its flows: the tiles that come by no edge, and the edges that bring the
+// What a task starts on, an entry for each of its flows: the tiles that come by no edge, and the edges that bring the
 // others.
 #[derive(Drop)]
 pub(crate) struct Inputs {

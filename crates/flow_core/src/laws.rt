@@ -30,7 +30,7 @@ pub fn calls_are_events()
 /// A law: an item of a CTL flow is sent without a tile.
 pub fn items_of_ctl_flows_carry_no_tile()
     ensures { (P : Plan) (G : Data) (r : RunState) (x : SentItem) (f : FlowPlan) → IsConsistent P
-        → DataFit P.colls P.elems G → IsWellMade G → Fits P G r → IsIn x r.sends
+        → DataFit P G → IsWellMade G → Fits P G r → IsIn x r.sends
         → slice_get (flows_of P (sender x.item)) (item_flow x.item) ≡ Some f → IsFalse (is_data (Some f.kind))
         → x.tile ≡ None }
 {}

@@ -71,7 +71,7 @@ fn opened(alloc: Global, m: &Matched, given: &Given) -> Result<Runner, OutOfMemo
 
 /// The answer of a job, run by one thread.
 pub fn run_one(alloc: Global, m: &Matched, given: Given) -> Result<Outcome, OutOfMemory>
-    requires { DataFit m.now.colls m.now.elems given }
+    requires { DataFit m.now given }
     ensures { IfOk result (λ outcome. outcome ≡ meaning.answer m.now given) }
 {
     let mut runner = opened(alloc, m, &given)?;

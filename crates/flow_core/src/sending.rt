@@ -4,13 +4,12 @@ ghost use Rattle.std.specs.Prelude.{◌≡◌, ◌∷◌, [], IsTrue, OnOk, map}
 ghost use Rattle.ptg_base.specs.declared.edge.Edge.{Edge as EdgeValue};
 ghost use Rattle.ptg_base.specs.declared.edge.WriteBack.{WriteBack as WriteBackValue};
 ghost use Rattle.ptg_base.specs.declared.edge.Item.TheVariants as item;
-ghost use Rattle.coll_data.specs.Data.{Data};
 ghost use Rattle.dep_iter.specs.Items as items;
 ghost use Rattle.dep_iter.specs.Tasks as tasks;
 ghost use Rattle.dep_iter.specs.Tasks.{IsTask};
 ghost use Rattle.flow_meaning.specs.Ending.{has_outputs};
 ghost use Rattle.flow_core.specs.RunState.{end_of};
-ghost use Rattle.flow_core.specs.Fits.{Fits};
+ghost use Rattle.flow_core.specs.Fits.{FitsSome};
 ghost use Rattle.flow_core.specs.Possible.{IsOutputItem};
 ghost use Rattle.flow_core.specs.Goals.{AreGoals};
 ghost use Rattle.flow_core.specs.OneThread.{HasDone, running_tasks};
@@ -23,7 +22,7 @@ use ptg_base::{Edge, Item, OutOfMemory, TaskId, WriteBack};
 // Sends an edge of a task that has ended without a trap, and claims the task that it goes to if it may be claimed then.
 fn send_edge(runner: &mut Runner, m: &Matched, edge: Edge) -> Result<(), OutOfMemory>
     requires output { IsOutputItem m.now runner.old.run (item.Edge edge) }
-    requires fits { (G : Data) × Fits m.now G runner.old.run }
+    requires fits { FitsSome m.now runner.old.run }
     requires running { runner.old.running.items ≡ running_tasks runner.old.run }
     requires goals { AreGoals m.now runner.old.goals.entries }
     ensures done { OnOk result (HasDone m.now [] (item.Edge edge ∷ []) runner.old.run runner.new.run) }
@@ -41,7 +40,7 @@ fn send_edges(runner: &mut Runner, m: &Matched, t: &TaskId, env: &[i64]) -> Resu
     requires task { IsTask m.now t.now }
     requires locals { env.now ≡ tasks.locals_of m.now t.now }
     requires outputs { IsTrue (has_outputs (end_of runner.old.run t.now)) }
-    requires fits { (G : Data) × Fits m.now G runner.old.run }
+    requires fits { FitsSome m.now runner.old.run }
     requires running { runner.old.running.items ≡ running_tasks runner.old.run }
     requires goals { AreGoals m.now runner.old.goals.entries }
     ensures done { OnOk result
@@ -59,7 +58,7 @@ fn send_edges(runner: &mut Runner, m: &Matched, t: &TaskId, env: &[i64]) -> Resu
 // Sends a write-back of a task that has ended without a trap.
 fn send_write(runner: &mut Runner, m: &Matched, write: WriteBack) -> Result<(), OutOfMemory>
     requires output { IsOutputItem m.now runner.old.run (item.Write write) }
-    requires fits { (G : Data) × Fits m.now G runner.old.run }
+    requires fits { FitsSome m.now runner.old.run }
     requires running { runner.old.running.items ≡ running_tasks runner.old.run }
     requires goals { AreGoals m.now runner.old.goals.entries }
     ensures done { OnOk result (HasDone m.now [] (item.Write write ∷ []) runner.old.run runner.new.run) }
@@ -76,7 +75,7 @@ fn send_writes(runner: &mut Runner, m: &Matched, t: &TaskId, env: &[i64]) -> Res
     requires task { IsTask m.now t.now }
     requires locals { env.now ≡ tasks.locals_of m.now t.now }
     requires outputs { IsTrue (has_outputs (end_of runner.old.run t.now)) }
-    requires fits { (G : Data) × Fits m.now G runner.old.run }
+    requires fits { FitsSome m.now runner.old.run }
     requires running { runner.old.running.items ≡ running_tasks runner.old.run }
     requires goals { AreGoals m.now runner.old.goals.entries }
     ensures done { OnOk result
@@ -95,7 +94,7 @@ fn send_writes(runner: &mut Runner, m: &Matched, t: &TaskId, env: &[i64]) -> Res
 pub(crate) fn send_items(runner: &mut Runner, m: &Matched, t: &TaskId) -> Result<(), OutOfMemory>
     requires task { IsTask m.now t.now }
     requires outputs { IsTrue (has_outputs (end_of runner.old.run t.now)) }
-    requires fits { (G : Data) × Fits m.now G runner.old.run }
+    requires fits { FitsSome m.now runner.old.run }
     requires running { runner.old.running.items ≡ running_tasks runner.old.run }
     requires goals { AreGoals m.now runner.old.goals.entries }
     ensures done { OnOk result (HasDone m.now [] (items.items m.now t.now) runner.old.run runner.new.run) }

@@ -14,7 +14,7 @@ ghost use Rattle.dep_iter.specs.Edges as edges;
 ghost use Rattle.dep_iter.specs.Items as items;
 ghost use Rattle.dep_iter.specs.Tasks.{IsTask};
 ghost use Rattle.flow_core.specs.RunState.{HasLetGo, IsRunning, end_of, machine, mark_of, opening_run, with_claim, with_send};
-ghost use Rattle.flow_core.specs.Fits.{Fits, HasFinished, MaySendNow};
+ghost use Rattle.flow_core.specs.Fits.{Fits, FitsSome, HasFinished, MaySendNow};
 ghost use Rattle.flow_core.specs.Possible as possible;
 ghost use Rattle.flow_core.specs.Possible.{GoesToWaiting, IsOutputItem, KeepsTilesFor};
 ghost use Rattle.flow_core.specs.SentItems.{IsUnsent};
@@ -243,7 +243,7 @@ impl State {
     /// Sends an item with the tile that its task left: true exactly if it was not sent, and is an item of a task that
     /// has ended without a trap. Else nothing changes, nor does it without memory.
     pub fn send(&mut self, m: &Matched, item: &Item) -> Result<bool, OutOfMemory>
-        requires fits { (G : Data) × Fits m.now G self.old }
+        requires fits { FitsSome m.now self.old }
         ensures exact { IfOk result (λ sent.
             (G : Data) → Fits m.now G self.old → IsTrue sent ↔ MaySendNow m.now G self.old item.now) }
         ensures state { IfOk result (λ sent. self.new ≡ (if sent then with_send item.now self.old else self.old)) }
@@ -258,7 +258,7 @@ impl State {
 
     // Whether an item is an output.
     fn is_output(&self, m: &Matched, item: &Item) -> bool
-        requires fits { (G : Data) × Fits m.now G self.now }
+        requires fits { FitsSome m.now self.now }
         ensures output { IsTrue result ↔ IsOutputItem m.now self.now item.now }
         ensures consistent { IsConsistent m.now }
     {
@@ -271,7 +271,7 @@ impl State {
 
     // Sends an item that is an output, with the tile that its task left, unless it was sent.
     pub(crate) fn send_output(&mut self, m: &Matched, item: &Item) -> Result<bool, OutOfMemory>
-        requires fits { (G : Data) × Fits m.now G self.old }
+        requires fits { FitsSome m.now self.old }
         requires output { IsOutputItem m.now self.old item.now }
         ensures exact { IfOk result (λ sent.
             (G : Data) → Fits m.now G self.old → IsTrue sent ↔ MaySendNow m.now G self.old item.now) }
@@ -299,7 +299,7 @@ impl State {
 
     // Whether an output was not sent. All edges into a claimed task were sent.
     fn is_unsent(&self, m: &Matched, item: &Item) -> bool
-        requires fits { (G : Data) × Fits m.now G self.now }
+        requires fits { FitsSome m.now self.now }
         requires output { IsOutputItem m.now self.now item.now }
         ensures { IsTrue result ↔ IsUnsent self.now.sends item.now }
     {

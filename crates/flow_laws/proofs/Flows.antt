@@ -20,7 +20,7 @@ use Rattle.plan_core.specs.declared.target.Target.{Target}
 use Rattle.plan_core.specs.Closed.{is_closed_option}
 use Rattle.plan_core.specs.Targets.{exists_target, has_datatype}
 use Rattle.plan_core.specs.Flows.{is_datatype, is_dependence, is_destination, is_flow, is_second, is_source}
-use Rattle.check_names.specs.Alphabet.{Datatype, DefTree, DepTree, FlowTree, JdfFault, MixedTypes, TargetTree, Word}
+use Rattle.check_names.specs.TreesAndFaults.{Datatype, DefTree, DepTree, FlowTree, JdfFault, MixedTypes, TargetTree, Word}
 use Rattle.check_names.specs.Expressions.{option_faults, option_term}
 use Rattle.check_names.specs.Faults.{fault_if}
 use Rattle.check_names.specs.Names.{Job}

@@ -8,7 +8,7 @@ use Rattle.jdf_tree.specs.declared.tree.ArgTree.TheVariants as tree
 use Rattle.plan_core.specs.declared.target.Arg.{Arg}
 use Rattle.plan_core.specs.declared.target.Arg.TheVariants as plan
 use Rattle.plan_core.specs.Closed.{is_span}
-use Rattle.check_names.specs.Alphabet.{ArgTree, DefTree, JdfCode, JdfFault}
+use Rattle.check_names.specs.TreesAndFaults.{ArgTree, DefTree, JdfCode, JdfFault}
 use Rattle.check_names.specs.Arguments.{argument_faults, argument_of, arguments_faults, arguments_of, index_faults, index_of, indices_faults, indices_of, range_faults, range_of, ranges_faults}
 use Rattle.check_names.specs.Expressions.{expression_faults, option_faults, option_term, term_of}
 use Rattle.check_names.specs.Names.{Job}

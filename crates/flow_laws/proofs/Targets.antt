@@ -26,7 +26,7 @@ use Rattle.plan_core.specs.Closed.{is_closed_arg, is_span}
 use Rattle.plan_core.specs.Kinds as kinds
 use Rattle.plan_core.specs.Targets.{dimensions, has_dimensions, has_params, is_element}
 use Rattle.plan_core.specs.Flows.{is_in_target, is_out_target}
-use Rattle.check_names.specs.Alphabet.{ArgTree, Arity, ClassTree, CtlMixed, DefTree, FlowTree, NoSuchFlow, RangeInDataInput, Spot, TargetTree, TypeDiffers, Word}
+use Rattle.check_names.specs.TreesAndFaults.{ArgTree, Arity, ClassTree, CtlMixed, DefTree, FlowTree, NoSuchFlow, RangeInDataInput, Spot, TargetTree, TypeDiffers, Word}
 use Rattle.check_names.specs.Faults.{fault_if}
 use Rattle.check_names.specs.Names.{Job, class_named, class_of, coll_named, flow_named}
 use Rattle.check_names.specs.Arguments.{argument_of, arguments_faults, arguments_of, index_of, indices_faults, indices_of, ranges_faults}
@@ -35,7 +35,7 @@ use Rattle.check_names.proofs.NoFaults.{parts_of}
 use Rattle.check_names.proofs.Parts.{each_length}
 use Rattle.check_flows.specs.Kinds.{are_mixed, is_control}
 use Rattle.check_flows.specs.Datatypes.{flow_type, type_number, type_of_flow}
-use Rattle.check_flows.specs.Places.{collection_faults, dimensions_of, element_faults, element_of}
+use Rattle.check_flows.specs.Elements.{collection_faults, dimensions_of, element_faults, element_of}
 use Rattle.check_flows.specs.Targets.{first_spot, named_faults, target_of, task_faults, task_of}
 use Rattle.check_flows.specs.Rules.{has_other_type, in_faults, is_mixed, is_other_flow, kind_faults, mixes_flows, rule_faults, type_differs}
 use Rattle.check_flows.specs.Dependences.{target_faults}

@@ -6,7 +6,7 @@ use Rattle.term_core.specs.Value.{is_closed}
 use Rattle.jdf_tree.specs.Expression.{Expression}
 use Rattle.plan_core.specs.Closed.{is_closed_option, is_closed_arg, is_span}
 use Rattle.plan_core.specs.declared.target.Arg.{Arg}
-use Rattle.check_names.specs.Alphabet.{JdfCode, DefTree, ArgTree}
+use Rattle.check_names.specs.TreesAndFaults.{JdfCode, DefTree, ArgTree}
 use Rattle.check_names.specs.Names.{Job}
 use Rattle.check_names.specs.Arguments.{arguments_of, ranges_faults, indices_of}
 use Rattle.check_names.specs.Expressions.{option_term}

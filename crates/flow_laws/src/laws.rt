@@ -11,14 +11,14 @@ ghost use Rattle.plan_core.specs.declared.class.ClassPlan.{ClassPlan};
 ghost use Rattle.plan_core.specs.declared.flow.FlowPlan.{FlowPlan};
 ghost use Rattle.plan_core.specs.declared.shape.Shape.{Shape};
 ghost use Rattle.plan_core.specs.declared.target.Arg.{Arg};
-ghost use Rattle.check_names.specs.Alphabet.{ArgTree, DefTree, FlowTree, Word};
+ghost use Rattle.check_names.specs.TreesAndFaults.{ArgTree, DefTree, FlowTree, Word};
 ghost use Rattle.check_names.specs.Arguments.{arguments_faults, arguments_of, indices_faults, indices_of};
 ghost use Rattle.check_names.specs.Expressions.{option_faults, option_term};
 ghost use Rattle.check_names.specs.Names.{Job};
 ghost use Rattle.check_flows.specs.Datatypes.{type_number};
 ghost use Rattle.check_flows.specs.Dependences.{flow_faults, flow_plan};
 ghost use Rattle.check_flows.specs.PartsOfJob.{HaveParts};
-ghost use Rattle.check_flows.specs.Places.{element_faults, element_of};
+ghost use Rattle.check_flows.specs.Elements.{element_faults, element_of};
 ghost use Rattle.flow_laws.specs.Closed.{ArgumentsAreClosed, ArgumentsAreNoRanges, IndicesAreClosed, OptionIsClosed};
 ghost use Rattle.flow_laws.specs.Datatypes.{HasOneDatatype};
 

@@ -151,10 +151,10 @@ tile_size elements c well None tile e = absurd cc
 tile_size elements c well (Some k) tile e = each_at (λ (tile : List ℤ). length tile ≡ slice_index elements c.datatype) c.tiles k tile well.tile_lengths e
 
 -- a place of the plan has a tile of the size that its collection's type says
-place_size : (P : Plan) (G : Data) → DataFit P.colls P.elems G → IsWellMade G → (p : Place) (datatype : ℕ) → HasPlace P.colls p → option_map_or (λ (s : Shape). eqb s.datatype datatype) (slice_get P.colls p.coll) false ≡ true →
+place_size : (P : Plan) (G : Data) → DataFit P G → IsWellMade G → (p : Place) (datatype : ℕ) → HasPlace P.colls p → option_map_or (λ (s : Shape). eqb s.datatype datatype) (slice_get P.colls p.coll) false ≡ true →
     option_map length (tile_at G.colls p) ≡ Some (slice_index P.elems datatype)
 place_size P G fit well p datatype exists type =
-    let c = from_is_some_and (slice_get G.colls p.coll) _ ((same_places P.colls P.elems G p fit).0 exists) in
+    let c = from_is_some_and (slice_get G.colls p.coll) _ ((same_places P G p fit).0 exists) in
     let its_type : option_map_or (λ (s : Shape). eqb s.datatype datatype) (option_map shape_of (slice_get G.colls p.coll)) false ≡ true =
     subst (λ o. option_map_or (λ (s : Shape). eqb s.datatype datatype) o false ≡ true) (ap (λ cs. slice_get cs p.coll) (sym fit.collections) ∙ slice_get-map shape_of G.colls p.coll) type in
     let same : c.0.datatype ≡ datatype = eqb-true c.0.datatype datatype (subst (λ o. option_map_or (λ (s : Shape). eqb s.datatype datatype) (option_map shape_of o) false ≡ true) c.1 its_type) in
@@ -174,7 +174,7 @@ ended_shape P G d t tiles job e =
     let start = starting_tiles P G d t in
     body_shape h.class.body (locals_of P t) start tiles (same_Some _ _ (ap (λ o. option_map (λ (c : ClassPlan). body_meaning c.body (locals_of P t) start) o) (sym h.class_is) ∙ e))
 
-module _ (P : Plan) (G : Data) (con : IsConsistent P) (fit : DataFit P.colls P.elems G) (well : IsWellMade G) where
+module _ (P : Plan) (G : Data) (con : IsConsistent P) (fit : DataFit P G) (well : IsWellMade G) where
   -- what rounds have found so far has the sizes that it should
   abbrev AreSized : (Task → Option Ended) → Type 0
   AreSized before = (t : Task) → IsTask P t → (tiles : List (Option (List ℤ))) → before t ≡ Some (Ok tiles) → (k : ℕ) (f : FlowPlan) → slice_get (flows_of P t) k ≡ Some f → size_of tiles k ≡ flow_size P t k f

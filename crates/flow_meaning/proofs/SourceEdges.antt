@@ -34,11 +34,11 @@ use Rattle.plan_core.specs.Kinds.{is_data}
 use Rattle.dep_iter.specs.declared.source.Source.{Source}
 use Rattle.dep_iter.specs.declared.source.Source.TheVariants as source
 use Rattle.dep_iter.specs.Tasks.{IsTask, flows_of, locals_of, task}
-use Rattle.dep_iter.specs.Active.{active_ins, active_target, by_flow, flow_ins, guard_value, held_targets, held_then, target_by, held_target}
+use Rattle.dep_iter.specs.Active.{active_ins, active_target, by_flow, flow_ins, flow_targets, guard_value, held_targets, held_then, target_by, held_target}
 use Rattle.dep_iter.specs.Arguments.{arg_values, combinations, single_value}
 use Rattle.dep_iter.specs.Edges.{data_source, edge, edges_into, in_edges, source_among, source_at}
 use Rattle.dep_iter.specs.Well.{IsWellTask, are_well, first_ill_flow, has_arg, has_arguments, has_hints, ill_part, ill_part_of, is_well_flow, is_well_then}
-use Rattle.dep_iter.specs.Links.{flow_targets, link, links_to}
+use Rattle.dep_iter.specs.Links.{link, links_to}
 use Rattle.dep_iter.proofs.Belonging.{in_edge_is, link_in}
 
 -- an argument that is no range and has a value has that one

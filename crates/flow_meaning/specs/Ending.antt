@@ -16,11 +16,11 @@ use Rattle.dep_iter.specs.Edges.{data_source}
 use Rattle.dep_iter.specs.Tasks.{locals_of}
 use Rattle.flow_meaning.specs.Starting.{Delivery, starting_tiles}
 
--- how a task ends: with the tiles of its flows after the body, one place for each flow, or with the cause of a trap
+-- how a task ends: with the tiles of its flows after the body, an entry for each flow, or with the cause of a trap
 abbrev pub Ended : Type 0
 Ended = Result (List (Option (List ℤ))) Trap
 
--- whether a task has ended, and without a trap: then it has outputs. An output may be absent, as that of a CTL flow is
+-- Whether a task has ended, and without a trap: then it has outputs. An output may be absent, as that of a CTL flow is.
 abbrev pub has_outputs : Option Ended → Bool
 has_outputs None = false
 has_outputs (Some (Err cause)) = false
@@ -32,15 +32,15 @@ output_tile None flow = None
 output_tile (Some (Err cause)) flow = None
 output_tile (Some (Ok tiles)) flow = tile_of tiles flow
 
--- how a task ends where the edges into it deliver these tiles: as its body says. A class that does not exist has no
--- body
+-- How a task ends where the edges into it deliver these tiles: as its body says. A class that does not exist has no
+-- body.
 unfoldable pub ended_on : Plan → Data → Delivery → Task → Option Ended
 ended_on P G delivered t =
     option_map (λ (c : ClassPlan). body_meaning c.body (locals_of P t) (starting_tiles P G delivered t))
     (slice_get P.classes t.class)
 
--- how many numbers the tile of a flow with this source has: as many as the type of the flow has elements. A flow whose
--- source is `NULL` has no tile. In a consistent job only a WRITE flow is without a source, and it starts as new
+-- How many numbers the tile of a flow with this source has: as many as the type of the flow has elements. A flow whose
+-- source is `NULL` has no tile. In a consistent job only a WRITE flow is without a source, and it starts as new.
 abbrev pub size_from : Plan → FlowPlan → Source → Option ℕ
 size_from P f (source.Task e) = Some (slice_index P.elems f.datatype)
 size_from P f (source.Place p) = Some (slice_index P.elems f.datatype)

@@ -21,7 +21,7 @@ use Rattle.dep_iter.specs.Edges.{data_source}
 abbrev pub Delivery : Type 0
 Delivery = Edge → Option (List ℤ)
 
--- no edge delivers a tile
+-- No edge delivers a tile.
 abbrev pub nothing_delivered : Delivery
 nothing_delivered e = None
 
@@ -29,8 +29,8 @@ nothing_delivered e = None
 abbrev pub new_tile : Plan → FlowPlan → List ℤ
 new_tile P f = replicate (slice_index P.elems f.datatype) (pos 0)
 
--- the tile of a flow of this kind that has no source: a WRITE flow starts as new. In a consistent job every READ and RW
--- flow has a source
+-- The tile of a flow of this kind that has no source: a WRITE flow starts as new. In a consistent job every READ and RW
+-- flow has a source.
 abbrev pub unsourced_tile : FlowKind → List ℤ → Option (List ℤ)
 unsourced_tile Read new = None
 unsourced_tile Write new = Some new
@@ -56,7 +56,7 @@ abbrev pub tiles_from : Plan → Data → Delivery → Task → ℕ → List Flo
 tiles_from P G delivered t n [] = []
 tiles_from P G delivered t n (f ∷ fs) = starting_tile P G delivered t n f ∷ tiles_from P G delivered t (suc n) fs
 
--- the tiles that a task starts on: one place for each of its flows, in order
+-- the tiles that a task starts on: an entry for each of its flows, in order
 unfoldable pub starting_tiles : Plan → Data → Delivery → Task → List (Option (List ℤ))
 starting_tiles P G delivered t = tiles_from P G delivered t 0 (flows_of P t)
 

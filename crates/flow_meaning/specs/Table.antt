@@ -51,11 +51,13 @@ ready_tasks P S = filter (is_ready P S) (all_tasks P)
 unfoldable pub waiting_tasks : Plan → MachineState → List Task
 waiting_tasks P S = filter (is_waiting P S) (all_tasks P)
 
+-- the row of a task, if it waits
+abbrev pub wait_row : Plan → MachineState → Task → WaitRow
+wait_row P S t = record { task = t; arrived = arrived P S t; goal = goal P t }
+
 -- the rows of the tasks that wait, in task order
 unfoldable pub waiting_rows : Plan → MachineState → List WaitRow
-waiting_rows P S =
-    in_task_order (λ (r : WaitRow). r.task)
-    (map (λ t. record { task = t; arrived = arrived P S t; goal = goal P t }) (waiting_tasks P S))
+waiting_rows P S = in_task_order (λ (r : WaitRow). r.task) (map (wait_row P S) (waiting_tasks P S))
 
 -- the write-back that was sent, with its tile
 abbrev pub written_by : Item → Option (List ℤ) → Option (WriteBack × Option (List ℤ))

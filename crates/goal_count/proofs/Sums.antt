@@ -12,10 +12,10 @@ use Rattle.plan_core.specs.declared.target.Target.{Target}
 use Rattle.plan_core.specs.declared.target.Target.TheVariants as target
 use Rattle.dep_iter.specs.Tasks.{flows_of, locals_of}
 use Rattle.term_core.specs.Kinds.{is_data}
-use Rattle.dep_iter.specs.Active.{by_flow, flow_ins}
+use Rattle.dep_iter.specs.Active.{by_flow, flow_ins, flow_targets}
 use Rattle.dep_iter.specs.Edges.{in_edges}
 use Rattle.dep_iter.specs.Arguments.{combinations, product}
-use Rattle.dep_iter.specs.Links.{all_links, edge_in, flow_targets, link, links_to, task_links}
+use Rattle.dep_iter.specs.Links.{all_links, edge_of_link, link, links_to, task_links}
 use Rattle.goal_count.specs.Counting.{IsCount, flows_count, held_count, target_count}
 
 over : List (List ℤ) → List ℤ → List (List ℤ)
@@ -87,5 +87,5 @@ times a b m n r e f h k = (
 )
 
 -- the number of edges into a task, whose links they are
-pub length-in_edges : (P : Plan) (t : Task) → map (edge_in t) (task_links P t In) ≡ in_edges P t → flows_count (locals_of P t) (flows_of P t) ≡ length (in_edges P t)
-length-in_edges P t links = sym (length-task_links P t) ∙ sym (length-map (task_links P t In) (edge_in t)) ∙ ap length links
+pub length-in_edges : (P : Plan) (t : Task) → map (edge_of_link In t) (task_links P t In) ≡ in_edges P t → flows_count (locals_of P t) (flows_of P t) ≡ length (in_edges P t)
+length-in_edges P t links = sym (length-task_links P t) ∙ sym (length-map (task_links P t In) (edge_of_link In t)) ∙ ap length links

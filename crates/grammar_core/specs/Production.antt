@@ -1,7 +1,6 @@
 -- Grammars as data: which texts a production derives, with which trees and first faults. Nothing here says how a text
--- is read: no lookahead, no order of choice.
--- Source: the field's context-free grammars with synthesized attributes. That the first fault counts, and limits, are
--- this project's own choice.
+-- is read: no lookahead, no order of choice. Source: the field's context-free grammars with synthesized attributes.
+-- That the first fault counts, and limits, are this project's own choice.
 use Rattle.std.specs.Prelude.{◌≡◌, ℕ, zero, suc, Bool, true, false, List, [], ◌∷◌, Option, Some, None, ◌⊎◌, ◌++◌, ◌≤◌, ◌<◌, ◌+◌, ◌-◌, length, take, nat_lt, if◌then◌else◌}
 use Rattle.std.specs.Option.{option_or}
 use Rattle.grammar_core.specs.declared.token.Token.{Token}
@@ -16,7 +15,7 @@ pub record Limit : Type 0 where
   pub at : List Token → ℕ
   -- at least one token fits
   pub one : (s : List Token) → 1 ≤ at s
-  -- whether a prefix fits depends on it alone
+  -- whether a front fits depends on it alone
   pub keeps : (w r r' : List Token) → length w ≤ at (w ++ r) → length w ≤ at (w ++ r')
   -- where it ends depends on no later token
   pub stays : (w : List Token) (x : Token) (r r' : List Token) → at (w ++ x ∷ r) ≡ length w

@@ -17,7 +17,8 @@ fault_from_end left code = record { left = left; code = code }
 abbrev pub Read : Type 0 → Type 0
 Read A = Result (A × List Token) ReadFault
 
--- `r >>= next` is what `next` gives for the value of r, or the fault of r: `and_then`, between the two.
+-- `r >>= next` reads one part after another: r is what reading the first part gave, and `next` reads what follows, by
+-- the value of r and the tokens left. If r is a fault, that is the result. It is `and_then`, written between the two.
 infixl 10 ◌>>=◌
 abbrev pub ◌>>=◌ : {A B : Type 0} → Result A ReadFault → (A → Result B ReadFault) → Result B ReadFault
 r >>= next = and_then r next
@@ -85,7 +86,8 @@ unfoldable pub many_at : {A : Type 0} → (ℕ → Option Code) → (Terminal �
 many_at full q p i zero s = Ok ([], s)
 many_at full q p i (suc n) s =
     if starts q s
-    then refuse (full i) s (p s >>= λ a. many_at full q p (suc i) n a.1 >>= λ more. Ok (a.0 ∷ more.0, more.1))
+    then refuse (full i) s
+    (p s >>= λ (a, left). many_at full q p (suc i) n left >>= λ (more, rest). Ok (a ∷ more, rest))
     else Ok ([], s)
 
 -- the token that was read first in s if the test holds of it, or else the code c at it
@@ -103,13 +105,13 @@ abbrev pub run : {N : Type 0} {Tree : N → Type 0} → ((n : N) → List Token 
     → Production N Tree A → List Token → Read A
 run p (one_of q) s = token_at q s
 run p (checked q good c) s = token_at q s >>= check good c s
-run p (seq g h) s = run p g s >>= λ a. run p h a.1 >>= λ b. Ok ((a.0, b.0), b.1)
-run p (map f g) s = run p g s >>= λ a. Ok (f a.0, a.1)
+run p (seq g h) s = run p g s >>= λ (a, left). run p h left >>= λ (b, rest). Ok ((a, b), rest)
+run p (map f g) s = run p g s >>= λ (a, left). Ok (f a, left)
 run p (alt g h) s = if starts (first g) s then run p g s else run p h s
 run p (pick q g h) s = if picks (first g) (first h) q s then run p g s else run p h s
-run p (opt g) s = if starts (first g) s then (run p g s >>= λ a. Ok (Some a.0, a.1)) else Ok (None, s)
+run p (opt g) s = if starts (first g) s then (run p g s >>= λ (a, left). Ok (Some a, left)) else Ok (None, s)
 run p (star full g) s = many_at full (first g) (run p g) 0 (length s) s
-run p (after_token q n) s = token_at q s >>= λ x. p n x.1 >>= λ b. Ok ((x.0, b.0), b.1)
+run p (after_token q n) s = token_at q s >>= λ (token, left). p n left >>= λ (b, rest). Ok ((token, b), rest)
 run p (limited l c g) s = judge (l.at s) c s (run p g s)
 
 -- Reading a nonterminal, where at most k nonterminals are inside one another.
@@ -132,4 +134,6 @@ reading body g s = run (nonterminal_at body) g s
 -- Reading a production that is to take all of the tokens.
 abbrev pub whole : {N : Type 0} {Tree : N → Type 0} → ((n : N) → Production N Tree (Tree n)) → {A : Type 0}
     → Production N Tree A → List Token → Result A ReadFault
-whole body g s = reading body g s >>= λ x. if length x.1 == 0 then Ok x.0 else Err (fault_from_end (length x.1) Syntax)
+whole body g s =
+    reading body g s >>= λ (a, left).
+    if length left == 0 then Ok a else Err (fault_from_end (length left) Syntax)

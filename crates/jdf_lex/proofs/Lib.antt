@@ -1,3 +1,6 @@
+pub mod Counting
+pub mod Same
+pub mod Spelled
 pub mod Closing
 pub mod Fronts
 pub mod Runs

@@ -7,11 +7,11 @@ use Rattle.jdf_lex.specs.declared.fault.JdfCode.TheVariants.{Unclosed, TooManyTo
 use Rattle.jdf_lex.specs.declared.lexical_unit.LexicalUnit.{LexicalUnit}
 use Rattle.jdf_lex.specs.declared.lexical_unit.LexicalUnit.TheVariants.{Blank, LineComment, BlockComment, TokenOf}
 use Rattle.grammar_core.specs.declared.token.Token.{Token}
-use Rattle.jdf_alphabet.specs.declared.kind.TokenKind.{TokenKind}
+use Rattle.jdf_lex.specs.declared.kind.TokenKind.{TokenKind}
 use Rattle.jdf_lex.specs.Spelling.{unit_at, first_unit, is_spelling}
 use Rattle.jdf_lex.specs.Tokens.{spot_after, IsUnit, IsToken, is_dropped, IsLexedTo, IsLexed, IsUnclosed, IsTokenFault}
 use Rattle.jdf_lex.specs.Tokens.IsLexedTo.{nothing_more, dropped_then, token_then}
-use Rattle.jdf_alphabet.specs.Terminals.{number_of, terminal_by}
+use Rattle.jdf_lex.specs.Terminals.{number_of, terminal_by}
 use Rattle.jdf_lex.specs.Reading.{token_here, front_unit, IsCursorIn, IsScanned}
 use Rattle.jdf_lex.proofs.Fronts.{front_found, front_none, Found, found_unit, nothing}
 use Rattle.std.proofs.lemmas.Bool.{false_from_ne_true}

@@ -9,8 +9,8 @@ use Rattle.jdf_lex.specs.declared.lexical_unit.LexicalUnit.{LexicalUnit}
 use Rattle.jdf_lex.specs.declared.lexical_unit.LexicalUnit.TheVariants.{TokenOf}
 use Rattle.grammar_core.specs.declared.token.Spot.{Spot}
 use Rattle.grammar_core.specs.declared.token.Token.{Token}
-use Rattle.jdf_alphabet.specs.declared.kind.TokenKind.{TokenKind}
-use Rattle.jdf_alphabet.specs.Terminals.{number_of, terminal_by}
+use Rattle.jdf_lex.specs.declared.kind.TokenKind.{TokenKind}
+use Rattle.jdf_lex.specs.Terminals.{number_of, terminal_by}
 use Rattle.jdf_lex.specs.Spelling.{unit_at, is_spelling}
 use Rattle.jdf_lex.specs.Tokens.{spot_after, IsUnit, IsToken, is_dropped, IsLexedTo, IsLexed, OneListOfTokens, IsUnclosed, HasToken, IsTokenFault}
 use Rattle.jdf_lex.specs.Tokens.IsLexedTo.{nothing_more, dropped_then, token_then}

@@ -1,3 +1,7 @@
+pub mod Terminals
+pub mod Codes
+pub mod Sets
+pub mod Counted
 pub mod Reading
 pub mod Spelling
 pub mod Tokens

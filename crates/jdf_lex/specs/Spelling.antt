@@ -7,7 +7,7 @@ use Rattle.jdf_lex.specs.declared.lexical_unit.LexicalUnit.{LexicalUnit}
 use Rattle.jdf_lex.specs.declared.lexical_unit.LexicalUnit.TheVariants.{Blank, LineComment, BlockComment, TokenOf}
 pub use Rattle.ptg_base.specs.Decimal.{is_digit}
 pub use Rattle.ptg_base.specs.Names.{is_letter, is_part}
-use Rattle.jdf_alphabet.specs.declared.kind.TokenKind.TheVariants.{Name, Number, Quoted, Raw, OptionLine, Mark, Other}
+use Rattle.jdf_lex.specs.declared.kind.TokenKind.TheVariants.{Name, Number, Quoted, Raw, OptionLine, Mark, Other}
 
 -- a space, a tab, CR or LF
 abbrev pub is_blank : ℕ → Bool
@@ -21,36 +21,36 @@ is_not_lf b = not (b == 10)
 abbrev pub continues_character : ℕ → Bool
 continues_character b = nat_le 128 b && nat_le b 191
 
--- The marks of one byte, each a byte of this list.
+-- the marks of one byte, each a byte of this list
 abbrev pub short_marks : List ℕ
 short_marks = codes "()[]{},;:?=+-*/%<>&|!"
 
--- The marks of two bytes: `..` `<-` `->` `==` `!=` `<=` `>=` `&&` `||`.
+-- the marks of two bytes: `..` `<-` `->` `==` `!=` `<=` `>=` `&&` `||`
 abbrev pub long_marks : List (ℕ × ℕ)
 long_marks = (46, 46) ∷ (60, 45) ∷ (45, 62) ∷ (61, 61) ∷ (33, 61) ∷ (60, 61) ∷ (62, 61) ∷ (38, 38) ∷ (124, 124) ∷ []
 
--- Whether a word is one of the marks.
+-- whether a word is one of the marks
 abbrev pub is_mark : List ℕ → Bool
 is_mark (a ∷ []) = list_any (λ m. m == a) short_marks
-is_mark (a ∷ b ∷ []) = list_any (λ m. (m.0 == a) && (m.1 == b)) long_marks
+is_mark (a ∷ b ∷ []) = list_any (λ (first, second). (first == a) && (second == b)) long_marks
 is_mark _ = false
 
--- Whether a mark is at the front.
+-- whether a mark is at the front
 abbrev pub begins_mark : List ℕ → Bool
 begins_mark [] = false
 begins_mark (a ∷ []) = is_mark (a ∷ [])
 begins_mark (a ∷ b ∷ rest) = is_mark (a ∷ b ∷ []) || is_mark (a ∷ [])
 
--- Whether a text begins with a byte that may continue a name.
+-- whether a text begins with a byte that may continue a name
 abbrev pub begins_part : List ℕ → Bool
 begins_part [] = false
 begins_part (b ∷ bs) = is_part b
 
--- Whether `%option` is at the front, and no letter, digit or `_` follows it.
+-- whether `%option` is at the front, and no letter, digit or `_` follows it
 abbrev pub begins_option : List ℕ → Bool
 begins_option rest = starts_with nat_eq rest (codes "%option") && not (begins_part (drop 7 rest))
 
--- The unit that begins with the byte `b` before `rest`, if it is not a comment, a raw block or an option line.
+-- the unit that begins with the byte `b` before `rest`, if it is not a comment, a raw block or an option line
 abbrev pub plain_unit : ℕ → List ℕ → LexicalUnit
 plain_unit b rest =
     if b == 34 then TokenOf Quoted
@@ -70,7 +70,7 @@ first_unit b rest =
     else (if begins_option (b ∷ rest) then TokenOf OptionLine
     else plain_unit b rest)))
 
--- The lexical unit that begins a text, decided by its first bytes.
+-- the lexical unit that begins a text, decided by its first bytes
 abbrev pub unit_at : List ℕ → Option LexicalUnit
 unit_at [] = None
 unit_at (b ∷ bs) = Some (first_unit b bs)
@@ -92,19 +92,19 @@ ends_unit (TokenOf Raw) affected b = affected && (b == 125)
 ends_unit (TokenOf Quoted) affected b = not affected && (b == 34)
 ends_unit _ affected b = false
 
--- Whether the byte escapes the next byte, or may begin a closing mark with it.
+-- whether the byte escapes the next byte, or may begin a closing mark with it
 abbrev pub affects_next : LexicalUnit → Bool → ℕ → Bool
 affects_next BlockComment affected b = b == 42
 affects_next (TokenOf Raw) affected b = b == 37
 affects_next (TokenOf Quoted) affected b = not affected && (b == 92)
 affects_next _ affected b = false
 
--- Whether a list is empty.
+-- whether a list is empty
 abbrev pub is_empty : List ℕ → Bool
 is_empty [] = true
 is_empty (b ∷ bs) = false
 
--- Whether the bytes after the opening of a unit end with the first byte that ends the unit.
+-- whether the bytes after the opening of a unit end with the first byte that ends the unit
 abbrev pub is_closed : LexicalUnit → Bool → List ℕ → Bool
 is_closed unit affected [] = false
 is_closed unit affected (b ∷ bs) =

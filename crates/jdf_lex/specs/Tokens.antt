@@ -11,14 +11,14 @@ use Rattle.jdf_lex.specs.declared.token.Lexed.{Lexed}
 use Rattle.jdf_lex.specs.declared.lexical_unit.LexicalUnit.TheVariants.{Blank, LineComment, BlockComment, TokenOf}
 use Rattle.grammar_core.specs.declared.token.Spot.{Spot}
 use Rattle.grammar_core.specs.declared.token.Token.{Token}
-use Rattle.jdf_alphabet.specs.declared.kind.TokenKind.{TokenKind}
-use Rattle.jdf_alphabet.specs.declared.kind.TokenKind.TheVariants.{OptionLine}
-use Rattle.jdf_alphabet.specs.Terminals.{number_of, terminal_by}
+use Rattle.jdf_lex.specs.declared.kind.TokenKind.{TokenKind}
+use Rattle.jdf_lex.specs.declared.kind.TokenKind.TheVariants.{OptionLine}
+use Rattle.jdf_lex.specs.Terminals.{number_of, terminal_by}
 use Rattle.jdf_lex.specs.Spelling.{begins_part, unit_at, is_spelling}
 pub use Rattle.jdf_lex.specs.Spelling.{is_letter, is_digit, is_part, is_blank}
 
--- The spot after the front of a text: its line is one more than the number of LF bytes in the front, its column one
--- more than the number of bytes after the last LF.
+-- the spot after the front of a text: its line is one more than the number of LF bytes in the front, its column one
+-- more than the number of bytes after the last LF
 abbrev pub spot_after : List ℕ → Spot
 spot_after front =
     record { line = 1 + count_by (λ b. b == 10) front; column = 1 + suffix_len (λ b. not (b == 10)) front }
@@ -91,14 +91,14 @@ pub record HasToken (left : List ℕ) : Type 0 where
   pub whole : left ≡ word ++ after
   pub unit : IsUnit (TokenOf kind) word after
 
--- What is wrong after these tokens: a unit begins that the text does not end, or another token follows the first
--- 1,000,000.
+-- what is wrong after these tokens: a unit begins that the text does not end, or another token follows the first
+-- `most_tokens`
 abbrev pub IsFaultAt : List Token → List ℕ → JdfCode → Type 0
 IsFaultAt tokens left code =
     ((code ≡ Unclosed) × IsUnclosed left × (length tokens ≤ most_tokens))
     ⊎ ((code ≡ TooManyTokens) × HasToken left × (length tokens ≡ most_tokens))
 
--- The first token fault of a text: before its spot are only tokens, blanks and comments.
+-- the first token fault of a text: before its spot are only tokens, blanks and comments
 pub record IsTokenFault (text : List ℕ) (fault : JdfFault) : Type 0 where
   pub tokens : List Token
   pub front : List ℕ
@@ -107,19 +107,19 @@ pub record IsTokenFault (text : List ℕ) (fault : JdfFault) : Type 0 where
   pub spot : fault.spot ≡ spot_after front
   pub wrong : IsFaultAt tokens left fault.code
 
--- The tokens of a text, at most 1,000,000, and the spot after its last byte.
+-- the tokens of a text, at most `most_tokens`, and the spot after its last byte
 abbrev pub IsTokensOf : List ℕ → Lexed → Type 0
 IsTokensOf text lexed = IsLexed text lexed.tokens lexed.end × (length lexed.tokens ≤ most_tokens)
 
--- A text has tokens, at most 1,000,000.
+-- A text has tokens, at most `most_tokens`.
 abbrev pub HasTokens : List ℕ → Type 0
-HasTokens text = (tokens : List Token) × (end : Spot) × IsLexed text tokens end × (length tokens ≤ most_tokens)
+HasTokens text = (lexed : Lexed) × IsTokensOf text lexed
 
 -- A text has a first token fault.
 abbrev pub HasFault : List ℕ → Type 0
 HasFault text = (fault : JdfFault) × IsTokenFault text fault
 
--- Each text has tokens, at most 1,000,000, or a first token fault.
+-- Each text has tokens, at most `most_tokens`, or a first token fault.
 abbrev pub TokensOrFault : Type 0
 TokensOrFault = (text : List ℕ) → HasTokens text ⊎ HasFault text
 

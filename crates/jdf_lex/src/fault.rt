@@ -23,7 +23,7 @@ pub enum JdfCode {
     Truncated,
     /// A number is not spelled as decimal digits without a leading 0, or is above the largest number.
     BadNumber,
-    /// An expression has too many tokens, or too many names, numbers and operators.
+    /// An expression has more than 512 tokens, or more than 128 names, numbers, operators and `?`.
     ExprTooLong,
     /// More classes than a text may have.
     TooManyClasses,

@@ -6,9 +6,9 @@ ghost use Rattle.jdf_lex.specs.Spelling.{continues, ends_unit, affects_next};
 ghost use Rattle.jdf_lex.specs.Reading.{closed_len, unit_len, front_unit};
 
 use crate::bytes::{continues_character, is_not_lf, mark_len};
+use crate::kind::TokenKind;
 use crate::lexical_unit::LexicalUnit;
 use crate::opening::unit_at;
-use jdf_alphabet::TokenKind;
 use ptg_base::is_part;
 
 // Whether the byte continues a unit that has no closing mark.

@@ -15,10 +15,11 @@ ghost use Rattle.jdf_lex.specs.Reading.{front_unit, token_here, IsScanned};
 use crate::cursor::{Cursor, advance};
 use crate::fault::{JdfCode, JdfRefusal, fault_at};
 use crate::front::front_unit;
+use crate::kind::TokenKind;
 use crate::lexical_unit::LexicalUnit;
+use crate::terminal::Terminal;
 use crate::token::Lexed;
 use grammar_core::{Spot, Token};
-use jdf_alphabet::{Terminal, TokenKind};
 use ptg_base::{Seq, Text};
 use std::alloc::Global;
 

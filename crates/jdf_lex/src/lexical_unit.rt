@@ -1,6 +1,6 @@
 //! Kinds of lexical units.
 
-use jdf_alphabet::TokenKind;
+use crate::kind::TokenKind;
 
 /// The kind of a lexical unit: a token, or a blank or comment between tokens.
 #[derive(Clone, Copy, Debug, PartialEq, Eq)]

@@ -1,20 +1,30 @@
-//! The tokens of a JDF text, with their spots.
+//! The tokens of a JDF text, with their spots, and the alphabet of its grammar: the terminals and the codes, how long
+//! an expression may be, and looking at the next token.
 #![tactic(auto)]
 
 mod bytes;
+mod code;
 mod cursor;
 mod fault;
 mod front;
+mod kind;
 mod laws;
 mod lex;
 mod lexical_unit;
+mod limit;
+mod next;
 mod opening;
+mod terminal;
 mod token;
 
+pub use code::GrammarCode;
 pub use fault::{JdfCode, JdfFault, JdfRefusal, fault_at};
 pub use grammar_core::{Spot, Token};
-pub use jdf_alphabet::TokenKind;
+pub use kind::TokenKind;
 pub use laws::one_list_of_tokens;
 pub use lex::tokens;
 pub use lexical_unit::LexicalUnit;
+pub use limit::expression_limit;
+pub use next::{expect, is_next};
+pub use terminal::Terminal;
 pub use token::Lexed;

@@ -4,8 +4,8 @@ ghost use Rattle.std.specs.Prelude.{◌≡◌, ◌∷◌};
 ghost use Rattle.jdf_lex.specs.Spelling.{begins_part, begins_option, begins_mark, plain_unit, unit_at};
 
 use crate::bytes::{is_blank, is_digit, mark_len};
+use crate::kind::TokenKind;
 use crate::lexical_unit::LexicalUnit;
-use jdf_alphabet::TokenKind;
 use ptg_base::{is_letter, is_part};
 
 // Whether the first byte may continue a name.

@@ -3,14 +3,14 @@ use Rattle.std.proofs.Common.{◌≡◌, ◌<◌, Bool, true, false, cond, List,
 use Rattle.std.specs.Prelude.{Option, Some, None, ◌&&◌, ◌||◌}
 use Rattle.std.proofs.lemmas.List.{append-nil}
 use Rattle.grammar_core.specs.declared.token.Token.{Token}
-use Rattle.jdf_alphabet.specs.declared.terminal.Terminal.{Terminal}
-use Rattle.jdf_alphabet.specs.declared.terminal.Terminal.TheVariants as terminal
+use Rattle.jdf_lex.specs.declared.terminal.Terminal.{Terminal}
+use Rattle.jdf_lex.specs.declared.terminal.Terminal.TheVariants as terminal
 use Rattle.ptg_base.specs.declared.refusal.Refusal.TheVariants as errors
 use Rattle.ptg_base.specs.Returns.{ReturnsRefusal}
-use Rattle.jdf_alphabet.specs.Terminals.{is, terminal_of}
-use Rattle.jdf_alphabet.specs.Counted.{is_name}
+use Rattle.jdf_lex.specs.Terminals.{is, terminal_of}
+use Rattle.jdf_lex.specs.Counted.{is_name}
 use Rattle.grammar_core.specs.Production.{star, opt}
-use Rattle.jdf_alphabet.specs.Sets.{one_of, starts, token_at}
+use Rattle.jdf_lex.specs.Sets.{one_of, starts, token_at}
 use Rattle.grammar_core.specs.Reading.{◌>>=◌, Read, nonterminal_at, reading}
 use Rattle.grammar_core.specs.Refusing.{ReadRefusal}
 use Rattle.grammar_core.proofs.Fuel.{nonterminal_is}

@@ -3,7 +3,7 @@ use Rattle.std.proofs.Common.{◌≡◌, ℕ, suc, ◌<◌, ◌≤◌, ◌-◌, 
 use Rattle.grammar_core.specs.declared.token.Token.{Token}
 use Rattle.grammar_core.specs.Reading.{reading}
 use Rattle.grammar_core.proofs.Loops.{so_far}
-use Rattle.jdf_alphabet.specs.Codes.{TooManyClasses}
+use Rattle.jdf_lex.specs.Codes.{TooManyClasses}
 use Rattle.jdf_tree.specs.declared.tree.ClassTree.{ClassTree}
 use Rattle.jdf_tree.specs.Grammar.{productions, class_and_skips, classes}
 use Rattle.jdf_read.proofs.ListSteps.{counted}

@@ -2,9 +2,9 @@
 use Rattle.std.proofs.Common.{◌≡◌, List, [], ◌∷◌, ◌++◌, Ok, refl}
 use Rattle.ptg_base.specs.Returns.{ReturnsRefusal}
 use Rattle.grammar_core.specs.declared.token.Token.{Token}
-use Rattle.jdf_alphabet.specs.declared.terminal.Terminal.TheVariants as terminal
-use Rattle.jdf_alphabet.specs.Terminals.{is, set}
-use Rattle.jdf_alphabet.specs.Codes.{TooManyClasses, TooManyLocals, TooManyFlows, TooManyDeps}
+use Rattle.jdf_lex.specs.declared.terminal.Terminal.TheVariants as terminal
+use Rattle.jdf_lex.specs.Terminals.{is, set}
+use Rattle.jdf_lex.specs.Codes.{TooManyClasses, TooManyLocals, TooManyFlows, TooManyDeps}
 use Rattle.grammar_core.specs.Reading.{reading}
 use Rattle.grammar_core.specs.Refusing.{ReadRefusal}
 use Rattle.grammar_core.proofs.Loops.{so_far, IsListed}

@@ -3,11 +3,11 @@ use Rattle.std.proofs.Common.{◌≡◌, List, Ok, Err, refl, ◌∙◌}
 use Rattle.std.specs.Prelude.{Option}
 use Rattle.grammar_core.specs.declared.token.Token.{Token}
 use Rattle.grammar_core.specs.declared.token.Spot.{Spot}
-use Rattle.jdf_alphabet.specs.declared.terminal.Terminal.TheVariants as terminal
-use Rattle.jdf_alphabet.specs.Terminals.{is}
+use Rattle.jdf_lex.specs.declared.terminal.Terminal.TheVariants as terminal
+use Rattle.jdf_lex.specs.Terminals.{is}
 use Rattle.grammar_core.specs.Production.{seq, map, opt}
 use Rattle.grammar_core.specs.Reading.{Read, ◌>>=◌, reading}
-use Rattle.jdf_alphabet.specs.Sets.{token_at}
+use Rattle.jdf_lex.specs.Sets.{token_at}
 use Rattle.grammar_core.proofs.Loops.{applied, regroup}
 use Rattle.jdf_tree.specs.declared.expression.Word.{Word}
 use Rattle.jdf_tree.specs.declared.part.Part.TheVariants.{Class}

@@ -2,14 +2,14 @@
 use Rattle.std.proofs.Common.{◌≡◌, ℕ, suc, ◌+◌, length, Bool, true, false, cond, List, [], ◌∷◌, Ok, Err, take, drop, refl, sym, ap, ◌∙◌, arith}
 use Rattle.std.specs.Prelude.{Some, None, not}
 use Rattle.std.specs.List.{prefix_len}
-use Rattle.jdf_alphabet.specs.declared.terminal.Terminal.TheVariants as terminal
+use Rattle.jdf_lex.specs.declared.terminal.Terminal.TheVariants as terminal
 use Rattle.jdf_tree.specs.ClassGrammar.{is_in_body, begins_body, body_tokens}
 use Rattle.grammar_core.specs.declared.token.Token.{Token}
-use Rattle.jdf_alphabet.specs.declared.terminal.Terminal.{Terminal}
-use Rattle.jdf_alphabet.specs.Terminals.{is, set, terminal_of}
+use Rattle.jdf_lex.specs.declared.terminal.Terminal.{Terminal}
+use Rattle.jdf_lex.specs.Terminals.{is, set, terminal_of}
 use Rattle.grammar_core.specs.declared.code.Code.TheVariants.{Syntax}
 use Rattle.grammar_core.specs.Production.{star}
-use Rattle.jdf_alphabet.specs.Sets.{one_of, starts}
+use Rattle.jdf_lex.specs.Sets.{one_of, starts}
 use Rattle.grammar_core.specs.Reading.{◌>>=◌, Read, reading, fault_from_end}
 use Rattle.grammar_core.proofs.Loops.{pair_with, applied, IsListed, many_from, many_step}
 use Rattle.jdf_tree.specs.Nonterminal.{Grammar}

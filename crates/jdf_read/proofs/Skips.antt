@@ -6,7 +6,7 @@ use Rattle.ptg_base.specs.declared.refusal.Refusal.TheVariants as errors
 use Rattle.ptg_base.specs.Returns.{ReturnsRefusal}
 use Rattle.grammar_core.specs.Production.{star}
 use Rattle.grammar_core.specs.Reading.{◌>>=◌, Read, reading}
-use Rattle.jdf_alphabet.specs.Sets.{starts}
+use Rattle.jdf_lex.specs.Sets.{starts}
 use Rattle.grammar_core.specs.Refusing.{ReadRefusal}
 use Rattle.grammar_core.proofs.Loops.{applied, regroup, many_from, reading_consumes}
 use Rattle.jdf_tree.specs.declared.tree.ClassTree.{ClassTree}

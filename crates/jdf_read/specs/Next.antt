@@ -2,13 +2,13 @@
 use Rattle.std.specs.Prelude.{Bool, false, ◌&&◌, ◌||◌, List, [], ◌∷◌, Option, Some, None, Result, Ok}
 use Rattle.grammar_core.specs.declared.fault.ReadFault.{ReadFault}
 use Rattle.grammar_core.specs.declared.token.Token.{Token}
-use Rattle.jdf_alphabet.specs.declared.terminal.Terminal.{Terminal}
-use Rattle.jdf_alphabet.specs.declared.terminal.Terminal.TheVariants as terminal
-use Rattle.jdf_alphabet.specs.Terminals.{is, terminal_of}
-use Rattle.jdf_alphabet.specs.Counted.{is_name}
+use Rattle.jdf_lex.specs.declared.terminal.Terminal.{Terminal}
+use Rattle.jdf_lex.specs.declared.terminal.Terminal.TheVariants as terminal
+use Rattle.jdf_lex.specs.Terminals.{is, terminal_of}
+use Rattle.jdf_lex.specs.Counted.{is_name}
 use Rattle.grammar_core.specs.Production.{seq, map, alt, opt}
 use Rattle.grammar_core.specs.Reading.{◌>>=◌, reading}
-use Rattle.jdf_alphabet.specs.Sets.{starts}
+use Rattle.jdf_lex.specs.Sets.{starts}
 use Rattle.jdf_tree.specs.declared.expression.Word.{Word}
 use Rattle.jdf_tree.specs.declared.part.Part.TheVariants.{Class}
 use Rattle.jdf_tree.specs.Nonterminal.{Grammar}
@@ -20,7 +20,7 @@ use Rattle.jdf_tree.specs.Grammar.{productions, skip}
 
 -- The tokens after a text of this production, whose tree is not kept.
 abbrev pub past : {A : Type 0} → Grammar A → List Token → Result (List Token) ReadFault
-past g s = reading productions g s >>= λ x. Ok x.1
+past g s = reading productions g s >>= λ (a, left). Ok left
 
 -- Whether a target is next, and not a guard: `NEW`, `NULL`, or a name before a name or "(".
 abbrev pub is_target : List Token → Bool
@@ -40,7 +40,7 @@ is_skip k = is terminal.Extern k || is terminal.OptionLine k
 
 -- One part before the first class: a global, or a part that is skipped.
 unfoldable pub leading : Grammar (Option Word)
-leading = alt (map (λ x. None) skip) (map (λ x. Some x.0) (seq (name Class) (opt properties)))
+leading = alt (map (λ x. None) skip) (map (λ (w, _). Some w) (seq (name Class) (opt properties)))
 
 -- the class with this name, these parameters and this rest
 abbrev pub class_from : Word × List Word → Rest → ClassTree
@@ -60,4 +60,4 @@ next_parameter = prefixed_by terminal.Comma (name Class)
 
 -- the name and the parameters of a class
 abbrev pub signature : Grammar (Word × List Word)
-signature = map (λ x. (x.0, x.1.0)) head
+signature = map (λ (w, (params, _)). (w, params)) head

@@ -1,19 +1,17 @@
 //! Reads arguments.
 
 ghost use Rattle.std.specs.Prelude.{◌≡◌};
-ghost use Rattle.ptg_base.specs.Returns.{Returns};
-ghost use Rattle.grammar_core.specs.Reading.{reading};
-ghost use Rattle.jdf_alphabet.specs.Sets.{starts};
+ghost use Rattle.jdf_lex.specs.Sets.{starts};
 ghost use Rattle.jdf_tree.specs.ClassGrammar.{argument, arguments, call};
-ghost use Rattle.jdf_tree.specs.Grammar.{productions, begins_operand};
+ghost use Rattle.jdf_tree.specs.Grammar.{begins_operand};
+ghost use Rattle.jdf_tree.specs.Reads.{Reads};
 ghost use Rattle.jdf_tree.specs.declared.part.Part.TheVariants.{Class};
 ghost use Rattle.jdf_tree.specs.GrammarParts.{maybe};
 ghost use Rattle.jdf_read.specs.Next.{next_argument};
 
 use expr_read::{is_name_next, outer};
 use grammar_core::ReadRefusal;
-use jdf_alphabet::{Terminal, expect, is_next};
-use jdf_lex::Token;
+use jdf_lex::{Terminal, Token, expect, is_next};
 use jdf_tree::{ArgTree, Part};
 use ptg_base::Seq;
 use std::alloc::Global;
@@ -21,7 +19,7 @@ use std::alloc::Global;
 /// `expr (".." expr (".." expr)?)?`
 #[tactic(auto, unfolding(jdf_tree::specs::ClassGrammar::argument))]
 pub(crate) fn argument(alloc: Global, tokens: &[Token]) -> Result<(ArgTree, &[Token]), ReadRefusal>
-    ensures { Returns (λ x. (x.0, x.1.now)) result (reading productions argument tokens.now) }
+    ensures { Reads argument tokens.now result }
 {
     let (low, rest) = outer(alloc, Part::Class, tokens)?;
     if !is_next(rest, Terminal::Dots) {
@@ -43,7 +41,7 @@ pub(crate) fn argument(alloc: Global, tokens: &[Token]) -> Result<(ArgTree, &[To
 // `"," argument`
 #[tactic(auto, unfolding(crate::specs::Next::next_argument))]
 fn next_argument(alloc: Global, tokens: &[Token]) -> Result<(ArgTree, &[Token]), ReadRefusal>
-    ensures { Returns (λ x. (x.0, x.1.now)) result (reading productions next_argument tokens.now) }
+    ensures { Reads next_argument tokens.now result }
 {
     let (_, rest) = expect(tokens, Terminal::Comma)?;
     argument(alloc, rest)
@@ -51,7 +49,7 @@ fn next_argument(alloc: Global, tokens: &[Token]) -> Result<(ArgTree, &[Token]),
 
 // `argument ("," argument)*`
 fn arguments(alloc: Global, tokens: &[Token]) -> Result<(Seq<ArgTree>, &[Token]), ReadRefusal>
-    ensures { Returns (λ x. (x.0, x.1.now)) result (reading productions arguments tokens.now) }
+    ensures { Reads arguments tokens.now result }
 {
     let (first, mut rest) = argument(alloc, tokens)?;
     let mut list = Seq::new(alloc);
@@ -80,7 +78,7 @@ fn is_argument_next(tokens: &[Token]) -> bool
 // `arguments?`
 #[tactic(auto, using(crate::proofs::Begins::arguments_begin))]
 fn maybe_arguments(alloc: Global, tokens: &[Token]) -> Result<(Seq<ArgTree>, &[Token]), ReadRefusal>
-    ensures { Returns (λ x. (x.0, x.1.now)) result (reading productions (maybe arguments) tokens.now) }
+    ensures { Reads (maybe arguments) tokens.now result }
 {
     if !is_argument_next(tokens) {
         return Ok((Seq::new(alloc), tokens));
@@ -91,7 +89,7 @@ fn maybe_arguments(alloc: Global, tokens: &[Token]) -> Result<(Seq<ArgTree>, &[T
 /// `"(" arguments? ")"`
 #[tactic(auto, unfolding(jdf_tree::specs::ClassGrammar::call))]
 pub(crate) fn call(alloc: Global, tokens: &[Token]) -> Result<(Seq<ArgTree>, &[Token]), ReadRefusal>
-    ensures { Returns (λ x. (x.0, x.1.now)) result (reading productions call tokens.now) }
+    ensures { Reads call tokens.now result }
 {
     let (_, rest) = expect(tokens, Terminal::LeftParen)?;
     let (list, rest) = maybe_arguments(alloc, rest)?;

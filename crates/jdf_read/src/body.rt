@@ -2,18 +2,15 @@
 
 ghost use Rattle.std.specs.Prelude.{◌≡◌, ◌≤◌, length, IfOk};
 ghost use Rattle.std.specs.List.{prefix_len};
-ghost use Rattle.ptg_base.specs.Returns.{Returns};
-ghost use Rattle.grammar_core.specs.Reading.{reading};
-ghost use Rattle.jdf_alphabet.specs.Sets.{starts};
-ghost use Rattle.jdf_alphabet.specs.Terminals.{terminal_of};
+ghost use Rattle.jdf_lex.specs.Sets.{starts};
+ghost use Rattle.jdf_lex.specs.Terminals.{terminal_of};
 ghost use Rattle.jdf_tree.specs.ClassGrammar.{is_in_body, begins_body, body_tokens, body};
-ghost use Rattle.jdf_tree.specs.Grammar.{productions};
+ghost use Rattle.jdf_tree.specs.Reads.{Reads};
 ghost use Rattle.jdf_tree.specs.GrammarParts.{maybe};
 
 use crate::head::past_properties;
 use grammar_core::ReadRefusal;
-use jdf_alphabet::{Terminal, expect, is_next};
-use jdf_lex::{Spot, Token};
+use jdf_lex::{Spot, Terminal, Token, expect, is_next};
 use ptg_base::{OutOfMemory, Seq, Text};
 use std::alloc::Global;
 
@@ -76,7 +73,7 @@ fn copies_of(alloc: Global, tokens: &[Token]) -> Result<Seq<Token>, OutOfMemory>
 // The tokens of a body, which may be none.
 #[tactic(auto, using(crate::proofs::Runs::body_is, crate::proofs::Runs::no_body))]
 fn body_tokens(alloc: Global, tokens: &[Token]) -> Result<(Seq<Token>, &[Token]), ReadRefusal>
-    ensures { Returns (λ x. (x.0, x.1.now)) result (reading productions (maybe body_tokens) tokens.now) }
+    ensures { Reads (maybe body_tokens) tokens.now result }
 {
     if !is_body_next(tokens) {
         return Ok((Seq::new(alloc), tokens));
@@ -90,7 +87,7 @@ pub(crate) fn body(
     alloc: Global,
     tokens: &[Token],
 ) -> Result<((Seq<Token>, Spot), &[Token]), ReadRefusal>
-    ensures { Returns (λ x. (x.0, x.1.now)) result (reading productions body tokens.now) }
+    ensures { Reads body tokens.now result }
 {
     let (_, rest) = expect(tokens, Terminal::Body)?;
     let rest = past_properties(rest)?;

@@ -3,10 +3,10 @@
 ghost use Rattle.std.specs.Prelude.{◌≡◌};
 ghost use Rattle.ptg_base.specs.Returns.{Returns};
 ghost use Rattle.grammar_core.specs.Production.{opt, star};
-ghost use Rattle.grammar_core.specs.Reading.{reading};
-ghost use Rattle.jdf_alphabet.specs.Sets.{starts};
+ghost use Rattle.jdf_lex.specs.Sets.{starts};
 ghost use Rattle.jdf_tree.specs.ClassGrammar.{priority, class};
-ghost use Rattle.jdf_tree.specs.Grammar.{productions, skip, class_and_skips, classes};
+ghost use Rattle.jdf_tree.specs.Grammar.{skip, class_and_skips, classes};
+ghost use Rattle.jdf_tree.specs.Reads.{Reads};
 ghost use Rattle.jdf_tree.specs.GrammarParts.{any};
 ghost use Rattle.jdf_read.specs.Next.{past, is_skip, class_rest};
 
@@ -15,8 +15,7 @@ use crate::flow::flows;
 use crate::head::{affinity, definitions, signature};
 use expr_read::{is_name_next, outer};
 use grammar_core::{ReadRefusal, refusal_at};
-use jdf_alphabet::{GrammarCode, Terminal, expect, is_next};
-use jdf_lex::Token;
+use jdf_lex::{GrammarCode, Terminal, Token, expect, is_next};
 use jdf_tree::{ClassTree, ExprTree, Part, Word};
 use ptg_base::Seq;
 use std::alloc::Global;
@@ -27,7 +26,7 @@ const MOST_CLASSES: usize = 64;
 // `(";" expr)?`
 #[tactic(auto, unfolding(jdf_tree::specs::ClassGrammar::priority))]
 fn priority(alloc: Global, tokens: &[Token]) -> Result<(Option<ExprTree>, &[Token]), ReadRefusal>
-    ensures { Returns (λ x. (x.0, x.1.now)) result (reading productions (opt priority) tokens.now) }
+    ensures { Reads (opt priority) tokens.now result }
 {
     if !is_next(tokens, Terminal::Semicolon) {
         return Ok((None, tokens));
@@ -45,7 +44,7 @@ fn class_rest(
     params: Seq<Word>,
     tokens: &[Token],
 ) -> Result<(ClassTree, &[Token]), ReadRefusal>
-    ensures { Returns (λ x. (x.0, x.1.now)) result (reading productions (class_rest (name, params)) tokens.now) }
+    ensures { Reads (class_rest (name, params)) tokens.now result }
 {
     let (defs, rest) = definitions(alloc, tokens)?;
     let ((affinity, affinity_args), rest) = affinity(alloc, rest)?;
@@ -71,7 +70,7 @@ fn class_rest(
 // A class: its name and parameters, and the rest.
 #[tactic(auto, using(crate::proofs::Parts::class_reads))]
 fn class(alloc: Global, tokens: &[Token]) -> Result<(ClassTree, &[Token]), ReadRefusal>
-    ensures { Returns (λ x. (x.0, x.1.now)) result (reading productions class tokens.now) }
+    ensures { Reads class tokens.now result }
 {
     let ((name, params), rest) = signature(alloc, tokens)?;
     class_rest(alloc, name, params, rest)
@@ -113,7 +112,7 @@ fn past_skips(tokens: &[Token]) -> Result<&[Token], ReadRefusal>
 
 // `class skip*`
 fn class_and_skips(alloc: Global, tokens: &[Token]) -> Result<(ClassTree, &[Token]), ReadRefusal>
-    ensures { Returns (λ x. (x.0, x.1.now)) result (reading productions class_and_skips tokens.now) }
+    ensures { Reads class_and_skips tokens.now result }
 {
     let (class, rest) = class(alloc, tokens)?;
     let rest = past_skips(rest)?;
@@ -125,7 +124,7 @@ pub(crate) fn classes(
     alloc: Global,
     tokens: &[Token],
 ) -> Result<(Seq<ClassTree>, &[Token]), ReadRefusal>
-    ensures { Returns (λ x. (x.0, x.1.now)) result (reading productions classes tokens.now) }
+    ensures { Reads classes tokens.now result }
 {
     let (first, mut rest) = class_and_skips(alloc, tokens)?;
     let mut list = Seq::new(alloc);

@@ -1,19 +1,16 @@
 //! Reads dependences.
 
 ghost use Rattle.std.specs.Prelude.{◌≡◌};
-ghost use Rattle.ptg_base.specs.Returns.{Returns};
 ghost use Rattle.grammar_core.specs.Production.{opt};
-ghost use Rattle.jdf_alphabet.specs.Sets.{pick, starts};
-ghost use Rattle.grammar_core.specs.Reading.{reading};
+ghost use Rattle.jdf_lex.specs.Sets.{pick, starts};
 ghost use Rattle.jdf_tree.specs.ClassGrammar.{unguarded, guarded, arrow, is_arrow, direction_by, may_follow_target_name, datatype, dependence, dependences};
-ghost use Rattle.jdf_tree.specs.Grammar.{productions};
+ghost use Rattle.jdf_tree.specs.Reads.{Reads};
 ghost use Rattle.jdf_read.specs.Next.{is_target};
 
 use crate::target::target;
 use expr_read::{guard, is_name_next, name};
 use grammar_core::{Code, ReadRefusal, refusal_at};
-use jdf_alphabet::{GrammarCode, Terminal, expect, is_next};
-use jdf_lex::Token;
+use jdf_lex::{GrammarCode, Terminal, Token, expect, is_next};
 use jdf_tree::{DepTree, ExprTree, Part, TargetTree, Word};
 use ptg_base::Seq;
 use std::alloc::Global;
@@ -28,7 +25,7 @@ type Choice = (Option<ExprTree>, TargetTree, Option<TargetTree>);
 // A target without a guard.
 #[tactic(auto, unfolding(jdf_tree::specs::ClassGrammar::unguarded))]
 fn unguarded(alloc: Global, tokens: &[Token]) -> Result<(Choice, &[Token]), ReadRefusal>
-    ensures { Returns (λ x. (x.0, x.1.now)) result (reading productions unguarded tokens.now) }
+    ensures { Reads unguarded tokens.now result }
 {
     let (yes, rest) = target(alloc, tokens)?;
     Ok(((None, yes, None), rest))
@@ -37,7 +34,7 @@ fn unguarded(alloc: Global, tokens: &[Token]) -> Result<(Choice, &[Token]), Read
 // `guard "?" target (":" target)?`
 #[tactic(auto, unfolding(jdf_tree::specs::ClassGrammar::guarded))]
 fn guarded(alloc: Global, tokens: &[Token]) -> Result<(Choice, &[Token]), ReadRefusal>
-    ensures { Returns (λ x. (x.0, x.1.now)) result (reading productions guarded tokens.now) }
+    ensures { Reads guarded tokens.now result }
 {
     let (guard, rest) = guard(alloc, tokens)?;
     let (_, rest) = expect(rest, Terminal::Question)?;
@@ -68,8 +65,7 @@ fn is_target_next(tokens: &[Token]) -> bool
 // The targets after an arrow, with or without a guard: a name before a name or `(` begins a target.
 #[tactic(auto, using(crate::proofs::Begins::choice_reads))]
 fn choice(alloc: Global, tokens: &[Token]) -> Result<(Choice, &[Token]), ReadRefusal>
-    ensures { Returns (λ x. (x.0, x.1.now)) result
-        (reading productions (pick may_follow_target_name unguarded guarded) tokens.now) }
+    ensures { Reads (pick may_follow_target_name unguarded guarded) tokens.now result }
 {
     if is_target_next(tokens) {
         unguarded(alloc, tokens)
@@ -101,7 +97,7 @@ fn direction_by(terminal: Terminal) -> Direction
 // Takes an arrow: its direction, and the tokens after it.
 #[tactic(auto, unfolding(jdf_tree::specs::ClassGrammar::arrow))]
 fn arrow(tokens: &[Token]) -> Result<(Direction, &[Token]), ReadRefusal>
-    ensures { Returns (λ x. (x.0, x.1.now)) result (reading productions arrow tokens.now) }
+    ensures { Reads arrow tokens.now result }
 {
     match tokens.split_first() {
         Some((first, rest)) if is_arrow_next(tokens) => Ok((
@@ -115,7 +111,7 @@ fn arrow(tokens: &[Token]) -> Result<(Direction, &[Token]), ReadRefusal>
 // `"[" type "=" name "]"`
 #[tactic(auto, unfolding(jdf_tree::specs::ClassGrammar::datatype))]
 fn datatype(alloc: Global, tokens: &[Token]) -> Result<(Word, &[Token]), ReadRefusal>
-    ensures { Returns (λ x. (x.0, x.1.now)) result (reading productions datatype tokens.now) }
+    ensures { Reads datatype tokens.now result }
 {
     let (_, rest) = expect(tokens, Terminal::LeftBracket)?;
     let (_, rest) = expect(rest, Terminal::TypeWord)?;
@@ -128,7 +124,7 @@ fn datatype(alloc: Global, tokens: &[Token]) -> Result<(Word, &[Token]), ReadRef
 // `datatype?`
 #[tactic(auto, using(crate::proofs::Begins::datatype_begins))]
 fn maybe_datatype(alloc: Global, tokens: &[Token]) -> Result<(Option<Word>, &[Token]), ReadRefusal>
-    ensures { Returns (λ x. (x.0, x.1.now)) result (reading productions (opt datatype) tokens.now) }
+    ensures { Reads (opt datatype) tokens.now result }
 {
     if !is_next(tokens, Terminal::LeftBracket) {
         return Ok((None, tokens));
@@ -139,7 +135,7 @@ fn maybe_datatype(alloc: Global, tokens: &[Token]) -> Result<(Option<Word>, &[To
 
 // `arrow targets datatype?`
 fn dependence(alloc: Global, tokens: &[Token]) -> Result<(DepTree, &[Token]), ReadRefusal>
-    ensures { Returns (λ x. (x.0, x.1.now)) result (reading productions dependence tokens.now) }
+    ensures { Reads dependence tokens.now result }
 {
     let (direction, rest) = arrow(tokens)?;
     let ((guard, yes, no), rest) = choice(alloc, rest)?;
@@ -161,7 +157,7 @@ pub(crate) fn dependences(
     alloc: Global,
     tokens: &[Token],
 ) -> Result<(Seq<DepTree>, &[Token]), ReadRefusal>
-    ensures { Returns (λ x. (x.0, x.1.now)) result (reading productions dependences tokens.now) }
+    ensures { Reads dependences tokens.now result }
 {
     let mut list = Seq::new(alloc);
     let mut rest = tokens;

@@ -1,17 +1,14 @@
 //! Reads flows.
 
 ghost use Rattle.std.specs.Prelude.{◌≡◌, MatchOption, true, false};
-ghost use Rattle.ptg_base.specs.Returns.{Returns};
-ghost use Rattle.grammar_core.specs.Reading.{reading};
-ghost use Rattle.jdf_alphabet.specs.Sets.{starts};
+ghost use Rattle.jdf_lex.specs.Sets.{starts};
 ghost use Rattle.jdf_tree.specs.ClassGrammar.{is_kind, kind_by, kind_of_flow, flow, flows};
-ghost use Rattle.jdf_tree.specs.Grammar.{productions};
+ghost use Rattle.jdf_tree.specs.Reads.{Reads};
 
 use crate::dependence::dependences;
 use expr_read::name;
 use grammar_core::{Code, ReadRefusal, refusal_at};
-use jdf_alphabet::{GrammarCode, Terminal};
-use jdf_lex::Token;
+use jdf_lex::{GrammarCode, Terminal, Token};
 use jdf_tree::{FlowTree, Part};
 use ptg_base::{MOST_FLOWS, Seq};
 use std::alloc::Global;
@@ -44,7 +41,7 @@ fn is_kind_next(tokens: &[Token]) -> bool
 // `READ | WRITE | RW | CTL`
 #[tactic(auto, unfolding(jdf_tree::specs::ClassGrammar::kind_of_flow))]
 fn kind_of_flow(tokens: &[Token]) -> Result<(FlowKind, &[Token]), ReadRefusal>
-    ensures { Returns (λ x. (x.0, x.1.now)) result (reading productions kind_of_flow tokens.now) }
+    ensures { Reads kind_of_flow tokens.now result }
 {
     let Some((first, rest)) = tokens.split_first() else {
         return Err(refusal_at(tokens, Code::Syntax));
@@ -58,7 +55,7 @@ fn kind_of_flow(tokens: &[Token]) -> Result<(FlowKind, &[Token]), ReadRefusal>
 // `kind name dependence*`
 #[tactic(auto, unfolding(jdf_tree::specs::ClassGrammar::flow))]
 fn flow(alloc: Global, tokens: &[Token]) -> Result<(FlowTree, &[Token]), ReadRefusal>
-    ensures { Returns (λ x. (x.0, x.1.now)) result (reading productions flow tokens.now) }
+    ensures { Reads flow tokens.now result }
 {
     let (kind, rest) = kind_of_flow(tokens)?;
     let (name, rest) = name(alloc, Part::Class, rest)?;
@@ -71,7 +68,7 @@ pub(crate) fn flows(
     alloc: Global,
     tokens: &[Token],
 ) -> Result<(Seq<FlowTree>, &[Token]), ReadRefusal>
-    ensures { Returns (λ x. (x.0, x.1.now)) result (reading productions flows tokens.now) }
+    ensures { Reads flows tokens.now result }
 {
     let mut list = Seq::new(alloc);
     let mut rest = tokens;

@@ -1,17 +1,15 @@
 //! Reads the globals before the first class, and the whole text.
 
 ghost use Rattle.std.specs.Prelude.{◌≡◌};
-ghost use Rattle.ptg_base.specs.Returns.{Returns};
-ghost use Rattle.grammar_core.specs.Reading.{reading};
-ghost use Rattle.jdf_tree.specs.Grammar.{productions, file};
+ghost use Rattle.jdf_tree.specs.Grammar.{file};
+ghost use Rattle.jdf_tree.specs.Reads.{Reads};
 ghost use Rattle.jdf_read.specs.Next.{is_class, leading};
 
 use crate::class::{classes, is_skip_next, past_skip};
 use crate::head::past_properties;
 use expr_read::{is_name_next, name};
 use grammar_core::ReadRefusal;
-use jdf_alphabet::{Terminal, is_next};
-use jdf_lex::Token;
+use jdf_lex::{Terminal, Token, is_next};
 use jdf_tree::{Jdf, Part, Word};
 use ptg_base::Seq;
 use std::alloc::Global;
@@ -28,7 +26,7 @@ fn is_class_next(tokens: &[Token]) -> bool
 
 // A part that is skipped, or a global and its properties.
 fn leading(alloc: Global, tokens: &[Token]) -> Result<(Option<Word>, &[Token]), ReadRefusal>
-    ensures { Returns (λ x. (x.0, x.1.now)) result (reading productions leading tokens.now) }
+    ensures { Reads leading tokens.now result }
 {
     if is_skip_next(tokens) {
         let rest = past_skip(tokens)?;
@@ -41,7 +39,7 @@ fn leading(alloc: Global, tokens: &[Token]) -> Result<(Option<Word>, &[Token]), 
 
 /// A text: globals and skipped parts, and the classes.
 pub(crate) fn file(alloc: Global, tokens: &[Token]) -> Result<(Jdf, &[Token]), ReadRefusal>
-    ensures { Returns (λ x. (x.0, x.1.now)) result (reading productions file tokens.now) }
+    ensures { Reads file tokens.now result }
 {
     let mut globals = Seq::new(alloc);
     let mut rest = tokens;

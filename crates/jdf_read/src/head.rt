@@ -5,18 +5,18 @@ ghost use Rattle.std.specs.List.{prefix_len};
 ghost use Rattle.ptg_base.specs.Returns.{Returns};
 ghost use Rattle.grammar_core.specs.Production.{opt};
 ghost use Rattle.grammar_core.specs.Reading.{reading};
-ghost use Rattle.jdf_alphabet.specs.Terminals.{terminal_of};
+ghost use Rattle.jdf_lex.specs.Terminals.{terminal_of};
 ghost use Rattle.jdf_tree.specs.declared.part.Part.TheVariants.{Class};
 ghost use Rattle.jdf_tree.specs.ClassGrammar.{most_parameter_tokens, parameters, parameter_list, definition, definitions, affinity, is_no_right_bracket, properties};
 ghost use Rattle.jdf_tree.specs.Grammar.{productions};
+ghost use Rattle.jdf_tree.specs.Reads.{Reads};
 ghost use Rattle.jdf_tree.specs.GrammarParts.{name, listed, maybe};
 ghost use Rattle.jdf_read.specs.Next.{next_parameter, past, signature};
 
 use crate::argument::{argument, call};
 use expr_read::{is_name_next, name};
 use grammar_core::{ReadFault, ReadRefusal, refusal_at};
-use jdf_alphabet::{GrammarCode, Terminal, expect, is_next};
-use jdf_lex::Token;
+use jdf_lex::{GrammarCode, Terminal, Token, expect, is_next};
 use jdf_tree::{ArgTree, DefTree, Part, Word};
 use ptg_base::{MOST_LOCALS, MOST_PARAMS, Seq};
 use std::alloc::Global;
@@ -27,7 +27,7 @@ const MOST_PARAMETER_TOKENS: usize = 2 * MOST_PARAMS;
 // `"," name`
 #[tactic(auto, unfolding(crate::specs::Next::next_parameter))]
 fn next_parameter(alloc: Global, tokens: &[Token]) -> Result<(Word, &[Token]), ReadRefusal>
-    ensures { Returns (λ x. (x.0, x.1.now)) result (reading productions next_parameter tokens.now) }
+    ensures { Reads next_parameter tokens.now result }
 {
     let (_, rest) = expect(tokens, Terminal::Comma)?;
     name(alloc, Part::Class, rest)
@@ -35,7 +35,7 @@ fn next_parameter(alloc: Global, tokens: &[Token]) -> Result<(Word, &[Token]), R
 
 // `name ("," name)*`
 fn names(alloc: Global, tokens: &[Token]) -> Result<(Seq<Word>, &[Token]), ReadRefusal>
-    ensures { Returns (λ x. (x.0, x.1.now)) result (reading productions (listed (name Class)) tokens.now) }
+    ensures { Reads (listed (name Class)) tokens.now result }
 {
     let (first, mut rest) = name(alloc, Part::Class, tokens)?;
     let mut list = Seq::new(alloc);
@@ -58,7 +58,7 @@ fn is_over(tokens: &[Token], left: usize) -> bool
 // The names, at most 8.
 #[tactic(auto, unfolding(jdf_tree::specs::ClassGrammar::parameters))]
 fn parameters(alloc: Global, tokens: &[Token]) -> Result<(Seq<Word>, &[Token]), ReadRefusal>
-    ensures { Returns (λ x. (x.0, x.1.now)) result (reading productions parameters tokens.now) }
+    ensures { Reads parameters tokens.now result }
 {
     let over = ReadRefusal::Fault(ReadFault {
         left: tokens.len().saturating_sub(MOST_PARAMETER_TOKENS),
@@ -74,7 +74,7 @@ fn parameters(alloc: Global, tokens: &[Token]) -> Result<(Seq<Word>, &[Token]), 
 // `parameters?`
 #[tactic(auto, using(crate::proofs::Begins::parameters_begin))]
 fn maybe_parameters(alloc: Global, tokens: &[Token]) -> Result<(Seq<Word>, &[Token]), ReadRefusal>
-    ensures { Returns (λ x. (x.0, x.1.now)) result (reading productions (maybe parameters) tokens.now) }
+    ensures { Reads (maybe parameters) tokens.now result }
 {
     if !is_name_next(Part::Class, tokens) {
         return Ok((Seq::new(alloc), tokens));
@@ -85,7 +85,7 @@ fn maybe_parameters(alloc: Global, tokens: &[Token]) -> Result<(Seq<Word>, &[Tok
 // `"(" parameters? ")"`
 #[tactic(auto, unfolding(jdf_tree::specs::ClassGrammar::parameter_list))]
 fn parameter_list(alloc: Global, tokens: &[Token]) -> Result<(Seq<Word>, &[Token]), ReadRefusal>
-    ensures { Returns (λ x. (x.0, x.1.now)) result (reading productions parameter_list tokens.now) }
+    ensures { Reads parameter_list tokens.now result }
 {
     let (_, rest) = expect(tokens, Terminal::LeftParen)?;
     let (list, rest) = maybe_parameters(alloc, rest)?;
@@ -107,7 +107,7 @@ fn bracket_index(tokens: &[Token]) -> usize
 // `"[", tokens other than "]", "]"`: the tokens between the brackets.
 #[tactic(auto, using(crate::proofs::Runs::split_is), unfolding(jdf_tree::specs::ClassGrammar::properties))]
 fn properties(tokens: &[Token]) -> Result<(&[Token], &[Token]), ReadRefusal>
-    ensures { Returns (λ x. (x.0.now, x.1.now)) result (reading productions properties tokens.now) }
+    ensures { Returns (λ (skipped, rest). (skipped.now, rest.now)) result (reading productions properties tokens.now) }
 {
     let (_, inside) = expect(tokens, Terminal::LeftBracket)?;
     let (skipped, rest) = inside.split_at(bracket_index(inside));
@@ -132,7 +132,7 @@ pub(crate) fn signature(
     alloc: Global,
     tokens: &[Token],
 ) -> Result<((Word, Seq<Word>), &[Token]), ReadRefusal>
-    ensures { Returns (λ x. (x.0, x.1.now)) result (reading productions signature tokens.now) }
+    ensures { Reads signature tokens.now result }
 {
     let (class, rest) = name(alloc, Part::Class, tokens)?;
     let (params, rest) = parameter_list(alloc, rest)?;
@@ -143,7 +143,7 @@ pub(crate) fn signature(
 // `name "=" argument`
 #[tactic(auto, unfolding(jdf_tree::specs::ClassGrammar::definition))]
 fn definition(alloc: Global, tokens: &[Token]) -> Result<(DefTree, &[Token]), ReadRefusal>
-    ensures { Returns (λ x. (x.0, x.1.now)) result (reading productions definition tokens.now) }
+    ensures { Reads definition tokens.now result }
 {
     let (name, rest) = name(alloc, Part::Class, tokens)?;
     let (_, rest) = expect(rest, Terminal::Assign)?;
@@ -156,7 +156,7 @@ pub(crate) fn definitions(
     alloc: Global,
     tokens: &[Token],
 ) -> Result<(Seq<DefTree>, &[Token]), ReadRefusal>
-    ensures { Returns (λ x. (x.0, x.1.now)) result (reading productions definitions tokens.now) }
+    ensures { Reads definitions tokens.now result }
 {
     let mut list = Seq::new(alloc);
     let mut rest = tokens;
@@ -177,7 +177,7 @@ pub(crate) fn affinity(
     alloc: Global,
     tokens: &[Token],
 ) -> Result<((Word, Seq<ArgTree>), &[Token]), ReadRefusal>
-    ensures { Returns (λ x. (x.0, x.1.now)) result (reading productions affinity tokens.now) }
+    ensures { Reads affinity tokens.now result }
 {
     let (_, rest) = expect(tokens, Terminal::Colon)?;
     let (collection, rest) = name(alloc, Part::Class, rest)?;

@@ -1,22 +1,19 @@
 //! Reads the targets of dependences.
 
-ghost use Rattle.ptg_base.specs.Returns.{Returns};
-ghost use Rattle.grammar_core.specs.Reading.{reading};
 ghost use Rattle.jdf_tree.specs.ClassGrammar.{called, target};
-ghost use Rattle.jdf_tree.specs.Grammar.{productions};
+ghost use Rattle.jdf_tree.specs.Reads.{Reads};
 
 use crate::argument::call;
 use expr_read::{is_name_next, name};
 use grammar_core::ReadRefusal;
-use jdf_alphabet::{Terminal, expect, is_next};
-use jdf_lex::Token;
+use jdf_lex::{Terminal, Token, expect, is_next};
 use jdf_tree::{Part, TargetTree};
 use std::alloc::Global;
 
 // `name name? call`: one name is a collection's; of two names the second is a class's.
 #[tactic(auto, unfolding(jdf_tree::specs::ClassGrammar::called))]
 fn called(alloc: Global, tokens: &[Token]) -> Result<(TargetTree, &[Token]), ReadRefusal>
-    ensures { Returns (λ x. (x.0, x.1.now)) result (reading productions called tokens.now) }
+    ensures { Reads called tokens.now result }
 {
     let (first, rest) = name(alloc, Part::Class, tokens)?;
     if !is_name_next(Part::Class, rest) {
@@ -31,7 +28,7 @@ fn called(alloc: Global, tokens: &[Token]) -> Result<(TargetTree, &[Token]), Rea
 /// `name name call | name call | NEW | NULL`
 #[tactic(auto, unfolding(jdf_tree::specs::ClassGrammar::target))]
 pub(crate) fn target(alloc: Global, tokens: &[Token]) -> Result<(TargetTree, &[Token]), ReadRefusal>
-    ensures { Returns (λ x. (x.0, x.1.now)) result (reading productions target tokens.now) }
+    ensures { Reads target tokens.now result }
 {
     if is_next(tokens, Terminal::New) {
         let (word, rest) = expect(tokens, Terminal::New)?;

@@ -3,7 +3,7 @@ use Rattle.std.proofs.Common.{◌≡◌, true, refl}
 use Rattle.jdf_tree.specs.declared.part.Part.{Part}
 use Rattle.jdf_tree.specs.declared.part.Part.TheVariants.{Class, Body}
 use Rattle.grammar_core.specs.Predictive.{are_names}
-use Rattle.jdf_alphabet.specs.Terminals.{terminal_at}
+use Rattle.jdf_lex.specs.Terminals.{terminal_at}
 use Rattle.jdf_tree.specs.Nonterminal.{Nonterminal, an_expr, a_unary, a_file, a_block}
 use Rattle.jdf_tree.specs.ExpressionGrammar.{number, parens, index, reference, signed, unary, product, sum, relation, equality, conjunction, disjunction, branches, expr, outer, guard}
 use Rattle.jdf_tree.specs.ClassGrammar.{argument, arguments, call, called, target, unguarded, guarded, arrow, datatype, dependence, dependences, kind_of_flow, flow, flows, parameters, parameter_list, definition, definitions, affinity, priority, properties, body_tokens, body, head, rest, class}

@@ -7,9 +7,9 @@ use Rattle.std.specs.Option.{option_or, unwrap_or}
 use Rattle.grammar_core.specs.declared.token.Token.{Token}
 use Rattle.grammar_core.specs.declared.code.Code.{Code}
 use Rattle.grammar_core.specs.Production.{seq, opt, star, Language, Fault, then_fault, at_start, cut_at, taken, Many, Derives, DerivedWithin, Derived}
-use Rattle.jdf_alphabet.specs.declared.terminal.Terminal.{Terminal}
-use Rattle.jdf_alphabet.specs.declared.terminal.Terminal.TheVariants as terminal
-use Rattle.jdf_alphabet.specs.Codes.{TooManyParams, TooManyLocals, TooManyFlows, TooManyDeps, TooManyClasses}
+use Rattle.jdf_lex.specs.declared.terminal.Terminal.{Terminal}
+use Rattle.jdf_lex.specs.declared.terminal.Terminal.TheVariants as terminal
+use Rattle.jdf_lex.specs.Codes.{TooManyParams, TooManyLocals, TooManyFlows, TooManyDeps, TooManyClasses}
 use Rattle.jdf_tree.specs.declared.expression.Word.{Word}
 use Rattle.jdf_tree.specs.declared.part.Part.TheVariants.{Class}
 use Rattle.jdf_tree.specs.declared.tree.DepTree.{DepTree}
@@ -17,9 +17,9 @@ use Rattle.jdf_tree.specs.declared.tree.FlowTree.{FlowTree}
 use Rattle.jdf_tree.specs.declared.tree.ClassTree.{ClassTree}
 use Rattle.jdf_tree.specs.declared.tree.Jdf.{Jdf}
 use Rattle.jdf_tree.specs.Nonterminal.{Nonterminal, a_file, TreeOf, Grammar}
-use Rattle.jdf_alphabet.specs.Terminals.{is}
-use Rattle.jdf_alphabet.specs.Counted.{is_name}
-use Rattle.jdf_alphabet.specs.Sets.{one_of, pick, after_token}
+use Rattle.jdf_lex.specs.Terminals.{is}
+use Rattle.jdf_lex.specs.Counted.{is_name}
+use Rattle.jdf_lex.specs.Sets.{one_of, pick, after_token}
 use Rattle.jdf_tree.specs.GrammarParts.{word, prefixed_by, suffixed_by, any, maybe, name, word_of}
 use Rattle.jdf_tree.specs.ClassGrammar.{full_at, Choice, unguarded, guarded, arrow, datatype, may_follow_target_name, dependence, dependences, kind_of_flow, flow, flows, parameters, parameter_list, definition, definitions, affinity, priority, is_no_right_bracket, properties, body, head, rest, class}
 use Rattle.jdf_tree.specs.Grammar.{skip, class_and_skips, classes, without_globals, with_global, file_after_extern, file_after_option, file_after_properties, file_after_global, file, productions}

@@ -1,11 +1,11 @@
 -- The grammar of the body of a class. The language of bodies is this project's own choice.
 use Rattle.std.specs.Prelude.{Bool, Option, Some, None, ◌||◌, unwrap_or}
-use Rattle.jdf_alphabet.specs.declared.terminal.Terminal.{Terminal}
-use Rattle.jdf_alphabet.specs.declared.terminal.Terminal.TheVariants as terminal
-use Rattle.jdf_alphabet.specs.Codes.{TooDeep, TooManyVars}
-use Rattle.jdf_alphabet.specs.Terminals.{is}
+use Rattle.jdf_lex.specs.declared.terminal.Terminal.{Terminal}
+use Rattle.jdf_lex.specs.declared.terminal.Terminal.TheVariants as terminal
+use Rattle.jdf_lex.specs.Codes.{TooDeep, TooManyVars}
+use Rattle.jdf_lex.specs.Terminals.{is}
 use Rattle.grammar_core.specs.Production.{seq, map, alt, opt, star, limited}
-use Rattle.jdf_alphabet.specs.Sets.{after_token}
+use Rattle.jdf_lex.specs.Sets.{after_token}
 use Rattle.jdf_tree.specs.declared.expression.Word.{Word}
 use Rattle.jdf_tree.specs.declared.expression.ExprWithSpot.{ExprWithSpot}
 use Rattle.jdf_tree.specs.declared.body.StmtTree.{StmtTree}
@@ -20,7 +20,7 @@ use Rattle.jdf_tree.specs.BodyLimits.{block_limit, variable_limit}
 
 -- block = "{" statement* "}"
 unfoldable pub block : Grammar Statements
-block = map (λ x. x.1) (after_token (is terminal.LeftBrace) a_block)
+block = map (λ (opening, inner). inner) (after_token (is terminal.LeftBrace) a_block)
 
 -- value = "=" expr ";"
 unfoldable pub value : Grammar ExprWithSpot
@@ -49,7 +49,7 @@ assignment = map assign_of (seq (name Body) (seq (opt element) value))
 
 -- the choice with this condition, this block and this else part; one that is left out is an empty block
 abbrev pub if_of : ExprWithSpot × (Statements × Option Statements) → StmtTree
-if_of x = If x.0.tree x.1.0 (unwrap_or x.1.1 Done)
+if_of (c, (then_block, else_block)) = If c.tree then_block (unwrap_or else_block Done)
 
 -- condition = "(" expr ")"
 unfoldable pub condition : Grammar ExprWithSpot
@@ -65,7 +65,7 @@ choice = map if_of (prefixed_by terminal.If (seq condition (seq block (opt other
 
 -- the loop with this variable, these first and last values, and this block
 abbrev pub for_of : Word × (ExprWithSpot × (ExprWithSpot × Statements)) → StmtTree
-for_of x = For x.0 x.1.0.tree x.1.1.0.tree x.1.1.1
+for_of (variable, (low, (high, turn))) = For variable low.tree high.tree turn
 
 -- for_loop = for name "=" expr ".." expr block
 unfoldable pub for_loop : Grammar StmtTree

@@ -2,12 +2,12 @@
 use Rattle.std.specs.Prelude.{◌≡◌, ℕ, ◌-◌, Bool, true, false, nat_le, ◌&&◌, ◌||◌, List, [], if◌then◌else◌, count_by, refl, ◌+◌}
 use Rattle.ptg_base.specs.Limits.{most_variables}
 use Rattle.grammar_core.specs.declared.token.Token.{Token}
-use Rattle.jdf_alphabet.specs.declared.terminal.Terminal.{Terminal}
-use Rattle.jdf_alphabet.specs.declared.terminal.Terminal.TheVariants as terminal
-use Rattle.jdf_alphabet.specs.Terminals.{terminal_of, is}
+use Rattle.jdf_lex.specs.declared.terminal.Terminal.{Terminal}
+use Rattle.jdf_lex.specs.declared.terminal.Terminal.TheVariants as terminal
+use Rattle.jdf_lex.specs.Terminals.{terminal_of, is}
 use Rattle.grammar_core.specs.Production.{Limit}
 use Rattle.grammar_core.specs.LimitBy.{limit_by}
-use Rattle.jdf_alphabet.specs.Sets.{starts}
+use Rattle.jdf_lex.specs.Sets.{starts}
 
 -- how many of the tokens are in this set
 abbrev pub how_many : (Terminal → Bool) → List Token → ℕ
@@ -17,7 +17,7 @@ how_many q s = count_by (λ x. q (terminal_of x)) s
 abbrev pub open_blocks : List Token → ℕ
 open_blocks s = how_many (is terminal.LeftBrace) s - how_many (is terminal.RightBrace) s
 
--- how many blocks may be inside one another
+-- how deep blocks may be nested
 abbrev pub most_nested : ℕ
 most_nested = 32
 
@@ -33,7 +33,7 @@ is_too_deep front x = is terminal.LeftBrace (terminal_of x) && nat_le (most_bloc
 abbrev pub declares : Terminal → Bool
 declares k = is terminal.Int k || is terminal.For k
 
--- A declaration is too many if 256 are before it.
+-- A declaration is too many if `most_variables` are before it.
 unfoldable pub is_too_many : List Token → Token → Bool
 is_too_many front x = declares (terminal_of x) && nat_le most_variables (how_many declares front)
 
@@ -51,10 +51,10 @@ pub none_too_many : (x : Token) → is_too_many [] x ≡ false
 unfolding is_too_many
 none_too_many x = never (declares (terminal_of x))
 
--- at most 32 blocks inside one another
+-- blocks are nested at most `most_nested` deep
 unfoldable pub block_limit : Limit
 block_limit = limit_by is_too_deep none_too_deep
 
--- at most 256 variables
+-- at most `most_variables` variables
 unfoldable pub variable_limit : Limit
 variable_limit = limit_by is_too_many none_too_many

@@ -9,14 +9,14 @@ use Rattle.term_core.specs.declared.direction.Direction.{Direction}
 use Rattle.term_core.specs.declared.direction.Direction.TheVariants.{In, Out}
 use Rattle.term_core.specs.declared.flow.FlowKind.{FlowKind}
 use Rattle.term_core.specs.declared.flow.FlowKind.TheVariants as kind
-use Rattle.jdf_alphabet.specs.declared.terminal.Terminal.{Terminal}
-use Rattle.jdf_alphabet.specs.declared.terminal.Terminal.TheVariants as terminal
+use Rattle.jdf_lex.specs.declared.terminal.Terminal.{Terminal}
+use Rattle.jdf_lex.specs.declared.terminal.Terminal.TheVariants as terminal
 use Rattle.grammar_core.specs.declared.code.Code.{Code}
-use Rattle.jdf_alphabet.specs.Codes.{TooManyParams, TooManyLocals, TooManyFlows, TooManyDeps}
-use Rattle.jdf_alphabet.specs.Terminals.{terminal_of, is}
-use Rattle.jdf_alphabet.specs.Counted.{is_name}
+use Rattle.jdf_lex.specs.Codes.{TooManyParams, TooManyLocals, TooManyFlows, TooManyDeps}
+use Rattle.jdf_lex.specs.Terminals.{terminal_of, is}
+use Rattle.jdf_lex.specs.Counted.{is_name}
 use Rattle.grammar_core.specs.Production.{Limit, seq, map, alt, opt, star, limited}
-use Rattle.jdf_alphabet.specs.Sets.{one_of, pick}
+use Rattle.jdf_lex.specs.Sets.{one_of, pick}
 use Rattle.jdf_tree.specs.declared.expression.Word.{Word}
 use Rattle.jdf_tree.specs.declared.expression.ExprWithSpot.{ExprWithSpot}
 use Rattle.jdf_tree.specs.declared.part.Part.TheVariants.{Class}
@@ -42,7 +42,7 @@ full_at n c i = if nat_le n i then Some c else None
 -- one expression is a value; two or three are a range
 abbrev pub argument_of : ExprWithSpot × Option (ExprWithSpot × Option ExprWithSpot) → ArgTree
 argument_of (a, None) = One a.tree
-argument_of (a, Some x) = Span a.spot a.tree x.0.tree (option_map (λ s. s.tree) x.1)
+argument_of (a, Some (b, step)) = Span a.spot a.tree b.tree (option_map (λ s. s.tree) step)
 
 -- argument = expr (".." expr (".." expr)?)?
 unfoldable pub argument : Grammar ArgTree
@@ -85,7 +85,7 @@ unguarded = map (λ x. (None, x, None)) target
 -- guarded = guard "?" target (":" target)?
 unfoldable pub guarded : Grammar Choice
 guarded =
-    map (λ x. (Some x.0.tree, x.1.0, x.1.1))
+    map (λ (condition, (one, other)). (Some condition.tree, one, other))
     (seq guard (prefixed_by terminal.Question (seq target (opt (prefixed_by terminal.Colon target)))))
 
 -- the two arrows
@@ -113,7 +113,8 @@ datatype =
 
 -- the dependence of an arrow, its targets and its datatype
 abbrev pub dependence_of : Direction × (Choice × Option Word) → DepTree
-dependence_of x = record { direction = x.0; guard = x.1.0.0; yes = x.1.0.1; no = x.1.0.2; datatype = x.1.1 }
+dependence_of (direction, ((condition, one, other), type)) =
+    record { direction = direction; guard = condition; yes = one; no = other; datatype = type }
 
 -- dependence = ("<-" | "->") (target | guard "?" target (":" target)?) datatype?
 unfoldable pub dependence : Grammar DepTree
@@ -142,7 +143,7 @@ kind_of_flow = map (λ x. kind_by (terminal_of x)) (one_of is_kind)
 
 -- the flow with this kind, this name and these dependences
 abbrev pub flow_of : FlowKind × (Word × List DepTree) → FlowTree
-flow_of x = record { kind = x.0; name = x.1.0; deps = x.1.1 }
+flow_of (k, (w, deps)) = record { kind = k; name = w; deps = deps }
 
 -- flow = kind name dependence*
 unfoldable pub flow : Grammar FlowTree
@@ -177,7 +178,7 @@ parameter_list = prefixed_by terminal.LeftParen (suffixed_by terminal.RightParen
 
 -- the definition with this name and this value
 abbrev pub definition_of : Word × ArgTree → DefTree
-definition_of x = record { name = x.0; value = x.1 }
+definition_of (w, value) = record { name = w; value = value }
 
 -- definition = name "=" argument
 unfoldable pub definition : Grammar DefTree
@@ -219,11 +220,11 @@ begins_body k = is_in_body k && not (is terminal.LeftBracket k)
 
 -- the tokens of a body, at least one
 unfoldable pub body_tokens : Grammar (List Token)
-body_tokens = map (λ x. x.0 ∷ x.1) (seq (one_of begins_body) (star any (one_of is_in_body)))
+body_tokens = map (λ (one, more). one ∷ more) (seq (one_of begins_body) (star any (one_of is_in_body)))
 
 -- the tokens of a body, and the spot of END
 abbrev pub body_of : Option (List Token) × (List Token × Token) → List Token × Spot
-body_of x = (x.1.0, x.1.1.spot)
+body_of (_, (tokens, end)) = (tokens, end.spot)
 
 -- body = BODY properties? tokens? END: the tokens, and the spot of END
 unfoldable pub body : Grammar (List Token × Spot)
@@ -237,17 +238,17 @@ Rest = List DefTree × ((Word × List ArgTree) × (List FlowTree × (Option Expr
 
 -- the class with this head and this rest
 abbrev pub class_of : (Word × (List Word × Option (List Token))) × Rest → ClassTree
-class_of x =
+class_of ((name, (params, _)), (defs, ((coll, indices), (flows, (priority, (tokens, end)))))) =
     record {
-      name = x.0.0;
-      params = x.0.1.0;
-      defs = x.1.0;
-      affinity = x.1.1.0.0;
-      affinity_args = x.1.1.0.1;
-      flows = x.1.1.1.0;
-      priority = x.1.1.1.1.0;
-      body = x.1.1.1.1.1.0;
-      finish = x.1.1.1.1.1.1;
+      name = name;
+      params = params;
+      defs = defs;
+      affinity = coll;
+      affinity_args = indices;
+      flows = flows;
+      priority = priority;
+      body = tokens;
+      finish = end;
     }
 
 -- head = name "(" parameters? ")" properties?

@@ -11,14 +11,15 @@ use Rattle.term_core.specs.TermCode.{unary_number, one_unary, binary_number, one
 -- the code of a spot
 spot_code : Coded Spot
 spot_code =
-    code_by (ℕ × ℕ) (coded× coded_ℕ coded_ℕ) (λ s. (s.line, s.column)) (λ p. record { line = p.0; column = p.1 }) (λ _.
+    code_by (ℕ × ℕ) (coded× coded_ℕ coded_ℕ) (λ s. (s.line, s.column))
+    (λ (line, column). record { line = line; column = column }) (λ _.
     refl)
 
 -- the code of a name with its spot
 pub word_code : Coded Word
 word_code =
     code_by (List ℕ × Spot) (coded× (coded_list coded_ℕ) spot_code) (λ w. (w.text, w.spot))
-    (λ p. record { text = p.0; spot = p.1 }) (λ _. refl)
+    (λ (text, spot). record { text = text; spot = spot }) (λ _. refl)
 
 -- the code of an expression
 pub ghost_of : Expression → Gv

@@ -7,13 +7,13 @@ use Rattle.term_core.specs.declared.operator.UnOp.{UnOp}
 use Rattle.term_core.specs.declared.operator.UnOp.TheVariants as un
 use Rattle.term_core.specs.declared.operator.BinOp.{BinOp}
 use Rattle.term_core.specs.declared.operator.BinOp.TheVariants as bin
-use Rattle.jdf_alphabet.specs.declared.terminal.Terminal.{Terminal}
-use Rattle.jdf_alphabet.specs.declared.terminal.Terminal.TheVariants as terminal
-use Rattle.jdf_alphabet.specs.Codes.{BadNumber, ExprTooLong}
-use Rattle.jdf_alphabet.specs.Terminals.{terminal_of, is}
-use Rattle.jdf_alphabet.specs.Counted.{expression_limit}
+use Rattle.jdf_lex.specs.declared.terminal.Terminal.{Terminal}
+use Rattle.jdf_lex.specs.declared.terminal.Terminal.TheVariants as terminal
+use Rattle.jdf_lex.specs.Codes.{BadNumber, ExprTooLong}
+use Rattle.jdf_lex.specs.Terminals.{terminal_of, is}
+use Rattle.jdf_lex.specs.Counted.{expression_limit}
 use Rattle.grammar_core.specs.Production.{seq, map, alt, opt, star, limited}
-use Rattle.jdf_alphabet.specs.Sets.{one_of, checked, after_token}
+use Rattle.jdf_lex.specs.Sets.{one_of, checked, after_token}
 use Rattle.jdf_tree.specs.declared.expression.Word.{Word}
 use Rattle.jdf_tree.specs.declared.expression.ExprWithSpot.{ExprWithSpot}
 use Rattle.jdf_tree.specs.declared.part.Part.{Part}
@@ -41,11 +41,11 @@ number = map number_at (checked (is terminal.Number) is_good BadNumber)
 
 -- an expression after a mark
 abbrev pub inside : Terminal → Part → Grammar ExprWithSpot
-inside k part = map (λ x. x.1) (after_token (is k) (an_expr part))
+inside k part = map (λ (mark, e). e) (after_token (is k) (an_expr part))
 
 -- an expression in parentheses has the spot of the first parenthesis
 abbrev pub enclosed : (Token × ExprWithSpot) × Token → ExprWithSpot
-enclosed x = with_spot x.0.0.spot x.0.1.tree
+enclosed ((opening, e), closing) = with_spot opening.spot e.tree
 
 -- parens = "(" expr ")"
 unfoldable pub parens : Part → Grammar ExprWithSpot
@@ -119,7 +119,7 @@ grouped a (x ∷ xs) = grouped (Binary x.0 a x.1.tree) xs
 -- operand (operator operand)*, where the operators are in this set
 abbrev pub ranked : (Terminal → Bool) → Grammar ExprWithSpot → Grammar ExprWithSpot
 ranked ops operand =
-    map (λ x. with_spot x.0.spot (grouped x.0.tree x.1))
+    map (λ (a, more). with_spot a.spot (grouped a.tree more))
     (seq operand (star any (seq (map operator_of (one_of ops)) operand)))
 
 -- the operators of products; of the groups of infix operators this one binds tightest, the last one least

@@ -10,9 +10,9 @@ use Rattle.grammar_core.specs.declared.token.Token.{Token}
 use Rattle.jdf_lex.specs.Tokens.{IsLexed, IsTokenFault, spot_after}
 use Rattle.grammar_core.specs.declared.code.Code.{Code}
 use Rattle.grammar_core.specs.declared.code.Code.TheVariants as code
-use Rattle.jdf_alphabet.specs.declared.code.GrammarCode.{GrammarCode}
-use Rattle.jdf_alphabet.specs.declared.code.GrammarCode.TheVariants as grammar
-use Rattle.jdf_alphabet.specs.Codes.{code_at}
+use Rattle.jdf_lex.specs.declared.code.GrammarCode.{GrammarCode}
+use Rattle.jdf_lex.specs.declared.code.GrammarCode.TheVariants as grammar
+use Rattle.jdf_lex.specs.Codes.{code_at}
 use Rattle.grammar_core.specs.Production.{IsFirstFault}
 use Rattle.jdf_tree.specs.Grammar.{productions, file}
 
@@ -20,7 +20,7 @@ use Rattle.jdf_tree.specs.Grammar.{productions, file}
 abbrev pub first_spot : Spot
 first_spot = record { line = 1; column = 1 }
 
--- The text stops being UTF-8 at this byte: the bytes before it are UTF-8, and no longer prefix of the text is.
+-- The text stops being UTF-8 at this byte: the bytes before it are UTF-8, and no front of the text that is longer is.
 pub record StopsBeingUtf8 (bytes : List ℕ) (at : ℕ) : Type 0 where
   pub within : at < length bytes
   pub before : IsUtf8 (take at bytes)
@@ -53,12 +53,16 @@ pub record IsGrammarFault (tokens : List Token) (end : Spot) (fault : JdfFault) 
       × (fault ≡ record { spot = token.spot; code = code_at_token code }))
       ⊎ ((slice_get tokens token_index ≡ None) × (fault ≡ record { spot = end; code = jdf.Truncated }))
 
--- the text has more than 16 MiB
+-- the fault of a text of more than `most_bytes` bytes, at its first byte
+abbrev pub too_long : JdfFault
+too_long = record { spot = first_spot; code = jdf.TooLong }
+
+-- the text has more than `most_bytes` bytes
 pub record IsTooLong (bytes : List ℕ) (fault : JdfFault) : Type 0 where
   pub long : most_bytes < length bytes
-  pub fault_is : fault ≡ record { spot = first_spot; code = jdf.TooLong }
+  pub fault_is : fault ≡ too_long
 
--- the text has at most 16 MiB, and is not UTF-8
+-- the text has at most `most_bytes` bytes, and is not UTF-8
 pub record IsNotUtf8 (bytes : List ℕ) (fault : JdfFault) : Type 0 where
   pub bytes_at_most : length bytes ≤ most_bytes
   pub at : ℕ
@@ -71,7 +75,7 @@ pub record HasTokenFault (bytes : List ℕ) (fault : JdfFault) : Type 0 where
   pub utf8 : IsUtf8 bytes
   pub fault_is : IsTokenFault bytes fault
 
--- the text has tokens, at most 1000000, which are no text of the grammar
+-- the text has tokens, at most `most_tokens`, which are no text of the grammar
 pub record HasGrammarFault (bytes : List ℕ) (fault : JdfFault) : Type 0 where
   pub bytes_at_most : length bytes ≤ most_bytes
   pub utf8 : IsUtf8 bytes

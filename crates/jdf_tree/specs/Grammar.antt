@@ -2,13 +2,13 @@
 use Rattle.std.specs.Prelude.{Bool, false, List, [], ◌∷◌, ◌||◌, ◌-◌}
 use Rattle.ptg_base.specs.Limits.{most_classes}
 use Rattle.grammar_core.specs.declared.token.Token.{Token}
-use Rattle.jdf_alphabet.specs.declared.terminal.Terminal.{Terminal}
-use Rattle.jdf_alphabet.specs.declared.terminal.Terminal.TheVariants as terminal
-use Rattle.jdf_alphabet.specs.Codes.{TooManyClasses}
-use Rattle.jdf_alphabet.specs.Terminals.{is, set}
-use Rattle.jdf_alphabet.specs.Counted.{is_name}
+use Rattle.jdf_lex.specs.declared.terminal.Terminal.{Terminal}
+use Rattle.jdf_lex.specs.declared.terminal.Terminal.TheVariants as terminal
+use Rattle.jdf_lex.specs.Codes.{TooManyClasses}
+use Rattle.jdf_lex.specs.Terminals.{is, set}
+use Rattle.jdf_lex.specs.Counted.{is_name}
 use Rattle.grammar_core.specs.Production.{seq, map, alt, star}
-use Rattle.jdf_alphabet.specs.Sets.{one_of, pick, after_token}
+use Rattle.jdf_lex.specs.Sets.{one_of, pick, after_token}
 use Rattle.grammar_core.specs.Predictive.{Claims}
 use Rattle.jdf_tree.specs.declared.expression.Word.{Word}
 use Rattle.jdf_tree.specs.declared.part.Part.{Part}
@@ -24,17 +24,18 @@ use Rattle.jdf_tree.specs.BodyGrammar.{begins_statement, block_rest}
 -- skip = extern Quoted Raw | OptionLine
 unfoldable pub skip : Grammar Token
 skip =
-    alt (map (λ x. x.0) (seq (word terminal.Extern) (seq (word terminal.Quoted) (word terminal.Raw))))
+    alt (map (λ (extern, others). extern) (seq (word terminal.Extern) (seq (word terminal.Quoted) (word terminal.Raw))))
     (word terminal.OptionLine)
 
 -- class skip*
 unfoldable pub class_and_skips : Grammar ClassTree
-class_and_skips = map (λ x. x.0) (seq class (star any skip))
+class_and_skips = map (λ (one, skipped). one) (seq class (star any skip))
 
 -- classes = class skip* (class skip*)*, at most 64; the first one is not in the list that is counted
 unfoldable pub classes : Grammar (List ClassTree)
 classes =
-    map (λ x. x.0 ∷ x.1) (seq class_and_skips (star (full_at (most_classes - 1) TooManyClasses) class_and_skips))
+    map (λ (one, more). one ∷ more)
+    (seq class_and_skips (star (full_at (most_classes - 1) TooManyClasses) class_and_skips))
 
 -- a text without globals
 abbrev pub without_globals : List ClassTree → Jdf
@@ -47,26 +48,26 @@ with_global name jdf = record { globals = name ∷ jdf.globals; classes = jdf.cl
 -- extern Quoted Raw file
 unfoldable pub file_after_extern : Grammar Jdf
 file_after_extern =
-    map (λ x. x.1.1.1)
+    map (λ (extern, (quoted, (raw, jdf))). jdf)
     (seq (word terminal.Extern) (seq (word terminal.Quoted) (after_token (is terminal.Raw) a_file)))
 
 -- OptionLine file
 unfoldable pub file_after_option : Grammar Jdf
-file_after_option = map (λ x. x.1) (after_token (is terminal.OptionLine) a_file)
+file_after_option = map (λ (option, jdf). jdf) (after_token (is terminal.OptionLine) a_file)
 
 -- name "[" tokens "]" file
 unfoldable pub file_after_properties : Grammar Jdf
 file_after_properties =
-    map (λ x. with_global x.0 x.1.1.1.1)
+    map (λ (global, (opening, (tokens, (closing, jdf)))). with_global global jdf)
     (seq (name Class) (seq (word terminal.LeftBracket)
     (seq (star any (one_of is_no_right_bracket)) (after_token (is terminal.RightBracket) a_file))))
 
 -- name file
 unfoldable pub file_after_global : Grammar Jdf
-file_after_global = map (λ x. with_global (word_of x.0) x.1) (after_token is_name a_file)
+file_after_global = map (λ (global, jdf). with_global (word_of global) jdf) (after_token is_name a_file)
 
--- file = skip file | classes | name properties? file, where a name before "(" begins a class: so it is
--- (skip | name properties?)* class (skip | class)*
+-- file = skip file | classes | name properties? file, where properties = "[" tokens "]" and a name before "(" begins
+-- the first class; so it is (skip | name properties?)* class (skip | class)*
 unfoldable pub file : Grammar Jdf
 file =
     alt file_after_extern

@@ -1,13 +1,13 @@
 -- Small productions that the grammar is built from.
 use Rattle.std.specs.Prelude.{ℕ, Bool, List, [], ◌∷◌, Option, None, ◌||◌, unwrap_or}
 use Rattle.grammar_core.specs.declared.token.Token.{Token}
-use Rattle.jdf_alphabet.specs.declared.terminal.Terminal.{Terminal}
-use Rattle.jdf_alphabet.specs.declared.terminal.Terminal.TheVariants as terminal
+use Rattle.jdf_lex.specs.declared.terminal.Terminal.{Terminal}
+use Rattle.jdf_lex.specs.declared.terminal.Terminal.TheVariants as terminal
 use Rattle.grammar_core.specs.declared.code.Code.{Code}
-use Rattle.jdf_alphabet.specs.Terminals.{is}
-use Rattle.jdf_alphabet.specs.Counted.{is_name}
+use Rattle.jdf_lex.specs.Terminals.{is}
+use Rattle.jdf_lex.specs.Counted.{is_name}
 use Rattle.grammar_core.specs.Production.{seq, map, opt, star}
-use Rattle.jdf_alphabet.specs.Sets.{one_of}
+use Rattle.jdf_lex.specs.Sets.{one_of}
 use Rattle.jdf_tree.specs.declared.expression.Word.{Word}
 use Rattle.jdf_tree.specs.declared.part.Part.{Part}
 use Rattle.jdf_tree.specs.declared.part.Part.TheVariants.{Class, Body}
@@ -19,11 +19,11 @@ word k = one_of (is k)
 
 -- g with this terminal before it, which is not kept
 abbrev pub prefixed_by : {A : Type 0} → Terminal → Grammar A → Grammar A
-prefixed_by k g = map (λ x. x.1) (seq (word k) g)
+prefixed_by k g = map (λ (before, kept). kept) (seq (word k) g)
 
 -- g with this terminal after it, which is not kept
 abbrev pub suffixed_by : {A : Type 0} → Terminal → Grammar A → Grammar A
-suffixed_by k g = map (λ x. x.0) (seq g (word k))
+suffixed_by k g = map (λ (kept, after). kept) (seq g (word k))
 
 -- no element of a list is too many
 abbrev pub any : ℕ → Option Code
@@ -31,7 +31,7 @@ any i = None
 
 -- one or more, separated by commas
 abbrev pub listed : {A : Type 0} → Grammar A → Grammar (List A)
-listed g = map (λ x. x.0 ∷ x.1) (seq g (star any (prefixed_by terminal.Comma g)))
+listed g = map (λ (one, more). one ∷ more) (seq g (star any (prefixed_by terminal.Comma g)))
 
 -- a list that may be left out, and is empty then
 abbrev pub maybe : {A : Type 0} → Grammar (List A) → Grammar (List A)

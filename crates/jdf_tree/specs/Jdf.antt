@@ -9,8 +9,8 @@ use Rattle.grammar_core.specs.Production.{IsText}
 use Rattle.jdf_tree.specs.declared.tree.Jdf.{Jdf}
 use Rattle.jdf_tree.specs.Grammar.{productions, file}
 
--- The bytes are the text of this tree: at most 16 MiB of UTF-8, with at most 1000000 tokens, which are a text of the
--- grammar without a fault.
+-- The bytes are the text of this tree: at most `most_bytes` bytes of UTF-8, with at most `most_tokens` tokens, which
+-- are a text of the grammar without a fault.
 pub record IsJdf (bytes : List ℕ) (jdf : Jdf) : Type 0 where
   pub bytes_at_most : length bytes ≤ most_bytes
   pub utf8 : IsUtf8 bytes

@@ -13,6 +13,7 @@ pub mod ClassGrammar
 pub mod BodyLimits
 pub mod BodyGrammar
 pub mod Grammar
+pub mod Reads
 pub mod Jdf
 pub mod TreeLimits
 pub mod Fault

@@ -4,8 +4,7 @@ ghost use Rattle.std.specs.Prelude.{◌≡◌};
 ghost use Rattle.jdf_tree.specs.Fault.{code_at_token, stated_code};
 
 use grammar_core::Code;
-use jdf_alphabet::GrammarCode;
-use jdf_lex::JdfCode;
+use jdf_lex::{GrammarCode, JdfCode};
 
 // The JDF code for a code that the grammar states.
 fn stated_code(code: GrammarCode) -> JdfCode

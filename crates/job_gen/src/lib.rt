@@ -68,8 +68,8 @@ END
 /// The job of a lower triangle of `n` rows of tiles: its JDF text and its data.
 pub fn make(alloc: Global, n: u32) -> Result<(Text, Text), OutOfMemory>
     requires { (1 ≤ n) × (n ≤ most_rows) }
-    ensures jdf { IfOk result (λ texts. texts.0 ≡ jdf_text) }
-    ensures data_file { IfOk result (λ texts. texts.1 ≡ data_text n) }
+    ensures jdf { IfOk result (λ (jdf, data_file). jdf ≡ jdf_text) }
+    ensures data_file { IfOk result (λ (jdf, data_file). data_file ≡ data_text n) }
 {
     let jdf = Text::of(alloc, JDF)?;
     let records = format!(in alloc; "elems,3\nint,NT,{n}\ncoll,D,{n},{n}\n")?;

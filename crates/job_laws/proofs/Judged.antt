@@ -10,4 +10,4 @@ judged_alone jdf_text data_text v w h k = sym (texts_once jdf_text data_text v w
 pub data_fit : DataFitPlan
 data_fit jdf_text data_text P given (inl (f, first, e)) = absurd cc
 data_fit jdf_text data_text P given (inr (inl (J, f, tree, first, e))) = absurd cc
-data_fit jdf_text data_text P given (inr (inr (job, read, h))) = subst (DataFit P.colls P.elems) (sym h.2) h.0.plan.fit
+data_fit jdf_text data_text P given (inr (inr (job, read, h))) = subst (DataFit P) (sym h.2) h.0.plan.fit

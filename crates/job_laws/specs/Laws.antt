@@ -29,4 +29,4 @@ JdfIsJudgedAlone =
 abbrev pub DataFitPlan : Type 0
 DataFitPlan =
     (jdf_text data_text : List ℕ) (P : Plan) (given : Data)
-    → TextsDenote jdf_text data_text (verdicts.Consistent P given) → DataFit P.colls P.elems given
+    → TextsDenote jdf_text data_text (verdicts.Consistent P given) → DataFit P given

@@ -8,4 +8,4 @@ abbrev pub HasFittingData : JobVerdict → Type 0
 HasFittingData (Jdf fault) = Unit {0}
 HasFittingData (DataRefused fault) = Unit {0}
 HasFittingData (Inconsistent P fault) = Unit {0}
-HasFittingData (Consistent P given) = DataFit P.colls P.elems given
+HasFittingData (Consistent P given) = DataFit P given

@@ -3,9 +3,8 @@
 ghost use Rattle.std.specs.Prelude.{◌≡◌, Err, IfOk};
 ghost use Rattle.ptg_base.specs.declared.refusal.Refusal.TheVariants.{Fault};
 ghost use Rattle.jdf_lex.specs.declared.fault.JdfFault.{JdfFault};
-ghost use Rattle.jdf_lex.specs.declared.fault.JdfCode.TheVariants as jdf;
 ghost use Rattle.jdf_tree.specs.Jdf.{IsJdf};
-ghost use Rattle.jdf_tree.specs.Fault.{IsJdfFault, first_spot};
+ghost use Rattle.jdf_tree.specs.Fault.{IsJdfFault, too_long};
 ghost use Rattle.jdf_tree.specs.TreeLimits.{IsWithinLimits};
 
 use jdf_lex::{JdfCode, JdfFault, JdfRefusal, Spot};
@@ -15,7 +14,7 @@ use std::alloc::Global;
 
 /// The fault of a JDF text that was not read to its end, since it has more than 16 MiB.
 pub fn jdf_too_long() -> JdfFault
-    ensures { result ≡ record { spot = first_spot; code = jdf.TooLong } }
+    ensures { result ≡ too_long }
 {
     JdfFault {
         spot: Spot { line: 1, column: 1 },

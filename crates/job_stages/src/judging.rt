@@ -55,13 +55,13 @@ pub fn job_of_texts(
     data_text: &[u8],
 ) -> Result<Option<(Matched, Given)>, OutOfMemory>
     // What is answered the two texts denote.
-    ensures found { IfOk result (λ o. IfSome o (λ job. TextsDenote jdf_text.now data_text.now
-        (Consistent job.0 job.1))) }
+    ensures found { IfOk result (λ o. IfSome o (λ (matched, given).
+        TextsDenote jdf_text.now data_text.now (Consistent matched given))) }
     // The consistent job that they denote is answered, unless memory runs out.
     ensures only { (P : PlanValue) (given : Data) → TextsDenote jdf_text.now data_text.now (Consistent P given)
         → IfOk result (λ o. o ≡ Some (P, given)) }
     // And it may be run.
-    ensures fit { IfOk result (λ o. IfSome o (λ job. DataFit job.0.colls job.0.elems job.1)) }
+    ensures fit { IfOk result (λ o. IfSome o (λ (matched, given). DataFit matched given)) }
 {
     match judge_texts(alloc, jdf_text, data_text)? {
         JobVerdict::Consistent(matched, given) => Ok(Some((matched, given))),
@@ -101,7 +101,7 @@ fn judge_job(alloc: Global, jdf: &Jdf, given: Given) -> Result<JobVerdict, OutOf
 
 // The verdict on the plan of a JDF with its data.
 fn judge_plan(alloc: Global, plan: Plan, given: Given) -> Result<JobVerdict, OutOfMemory>
-    requires { DataFit plan.colls plan.elems given }
+    requires { DataFit plan given }
     ensures found { (job : Job) → HasPlan job plan → given ≡ job.given → IfOk result (JobDenotes job) }
     ensures fit { IfOk result HasFittingData }
 {

@@ -16,7 +16,7 @@ use std::alloc::Global;
 
 /// The certificate of a job, whether the checker accepts it, and how many lists that differ in one entry it accepts.
 pub fn shown(alloc: Global, m: &Matched, given: Given) -> Result<Printed, Why>
-    requires { DataFit m.now.colls m.now.elems given }
+    requires { DataFit m.now given }
 {
     let weights = weights(alloc, m.plan(), &given)?;
     let outcome = run_one(alloc, m, given)?;

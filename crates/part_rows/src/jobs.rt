@@ -70,7 +70,7 @@ impl JobPart {
 
 // The job of two texts, which is consistent.
 fn job_of(alloc: Global, jdf: &[u8], table: &[u8]) -> Result<(Matched, Given), Why>
-    ensures { IfOk result (λ j. DataFit j.0.colls j.0.elems j.1) }
+    ensures { IfOk result (λ (matched, given). DataFit matched given) }
 {
     job_of_texts(alloc, jdf, table)?.ok_or(Why("a job that is not consistent"))
 }

@@ -1,7 +1,6 @@
 //! What a text comes to as the trace of a job, as it is printed.
 
 ghost use Rattle.plan_data.specs.Fit.{DataFit};
-ghost use Rattle.report_text.specs.Rows.{HasRowsOf};
 
 use coll_data::Given;
 use dep_iter::Matched;
@@ -9,7 +8,7 @@ use flow_meaning::Outcome;
 use plan_core::Plan;
 use ptg_base::{OutOfMemory, Refusal, Seq};
 use ptg_io::{Failed, MemSink};
-use report_text::{Line, answers_have_rows_of_their_plan, refusal, report};
+use report_text::{Line, refusal, report};
 use row_files::{Printed, Why};
 use std::alloc::Global;
 use trace_core::{TraceFault, TraceRefusal, read_trace, trace_text};
@@ -30,10 +29,9 @@ const TRACE_REFUSED: u8 = 11;
 /// The answer of a job, where the text is that of its tasks in an order in which they may run; else the text's first
 /// fault.
 pub fn replayed(alloc: Global, m: &Matched, given: Given, trace: &[u8]) -> Result<Printed, Why>
-    requires { DataFit m.now.colls m.now.elems given }
+    requires { DataFit m.now given }
 {
     let verdict = judge_trace(alloc, m, given, trace)?;
-    answers_have_rows_of_their_plan();
     match verdict {
         Ok(outcome) => answered(alloc, m.plan(), &outcome),
         Err(fault) => refused(alloc, fault),
@@ -43,7 +41,7 @@ pub fn replayed(alloc: Global, m: &Matched, given: Given, trace: &[u8]) -> Resul
 /// The text of the tasks that were read, and what comes of them in this order: the answer of the job, or the list's
 /// first fault. Of a text that is not one of different tasks of the job its first fault as such.
 pub fn listed(alloc: Global, m: &Matched, given: Given, trace: &[u8]) -> Result<Printed, Why>
-    requires { DataFit m.now.colls m.now.elems given }
+    requires { DataFit m.now given }
 {
     let tasks = match read_trace(alloc, m, trace) {
         Ok(tasks) => tasks,
@@ -51,7 +49,6 @@ pub fn listed(alloc: Global, m: &Matched, given: Given, trace: &[u8]) -> Result<
     };
     let written = trace_text(alloc, m.plan(), tasks.as_slice())?;
     let answer = replay(alloc, m, given, tasks.as_slice());
-    answers_have_rows_of_their_plan();
     let come = match answer {
         Ok(outcome) => answered(alloc, m.plan(), &outcome)?,
         Err(stopped) => unread(alloc, stopped)?,
@@ -65,9 +62,7 @@ pub fn listed(alloc: Global, m: &Matched, given: Given, trace: &[u8]) -> Result<
 }
 
 // An answer.
-fn answered(alloc: Global, plan: &Plan, outcome: &Outcome) -> Result<Printed, Why>
-    requires { HasRowsOf plan.now outcome.now }
-{
+fn answered(alloc: Global, plan: &Plan, outcome: &Outcome) -> Result<Printed, Why> {
     let mut sink = MemSink::new(alloc, Seq::new(alloc));
     let printing = report(plan, outcome, &mut sink);
     printed(alloc, printing, &sink, status_of(outcome))

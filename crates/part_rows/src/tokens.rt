@@ -1,7 +1,6 @@
 //! Texts, read into tokens.
 
-use jdf_alphabet::Terminal;
-use jdf_lex::{JdfRefusal, Lexed, tokens};
+use jdf_lex::{JdfRefusal, Lexed, Terminal, tokens};
 use ptg_base::MOST_BYTES;
 use row_files::{Printed, Why};
 use std::alloc::Global;

@@ -1,2 +1,4 @@
 pub mod Indexes
 pub mod Listing
+pub mod TrapWords
+pub mod PlanRows

@@ -7,11 +7,12 @@ use Rattle.plan_core.specs.declared.flow.FlowPlan.{FlowPlan}
 use Rattle.plan_core.specs.declared.plan.Plan.{Plan}
 use Rattle.plan_core.specs.Kinds.{flow_of}
 
--- the name of the class with this number
+-- the name of the class with this number; empty where there is no such class
 abbrev pub class_name : Plan → ℕ → List ℕ
 class_name plan class = option_map_or (λ (c : ClassPlan). c.name) (slice_get plan.classes class) []
 
--- the name of the flow with this number of the class with this number; where there is no number, there is no name
+-- the name of the flow with the second number, of the class with the first; empty where there is no number, or no such
+-- flow
 abbrev pub flow_name : Plan → ℕ → Option ℕ → List ℕ
 flow_name P class None = []
 flow_name P class (Some flow) = option_map_or (λ (f : FlowPlan). f.name) (flow_of P.classes class flow) []

@@ -2,6 +2,7 @@
 use Rattle.std.proofs.Common.{ℕ, zero, suc, ◌↔◌, List, [], ◌∷◌, map, IsSomeAnd, slice_get, ℤ, subst}
 use Rattle.ptg_base.specs.declared.place.Place.{Place}
 use Rattle.ptg_base.specs.Places.{IsRow, IsColumn}
+use Rattle.plan_core.specs.declared.plan.Plan.{Plan}
 use Rattle.plan_core.specs.declared.shape.Shape.{Shape}
 use Rattle.plan_core.specs.Place as plan
 use Rattle.coll_data.specs.declared.coll.Coll.{Coll}
@@ -16,7 +17,7 @@ at_places [] (suc n) i j = (λ w. w, λ w. w)
 at_places (c ∷ cs) zero i j = (λ w. w, λ w. w)
 at_places (c ∷ cs) (suc n) i j = at_places cs n i j
 
-pub same_places : (colls : List Shape) (elems : List ℕ) (d : Data) (p : Place) → DataFit colls elems d → plan.HasPlace colls p ↔ tiles.HasPlace d.colls p
-same_places colls elems d p fit =
+pub same_places : (P : Plan) (d : Data) (p : Place) → DataFit P d → plan.HasPlace P.colls p ↔ tiles.HasPlace d.colls p
+same_places P d p fit =
     let At : List Shape → Type 0 = λ cs. plan.HasPlace cs p ↔ tiles.HasPlace d.colls p in
     subst At fit.collections (at_places d.colls p.coll p.i p.j)

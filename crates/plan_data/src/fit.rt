@@ -12,7 +12,7 @@ use ptg_base::{Place, Tile};
 
 /// The tile that the data give at a place of the plan.
 pub fn opening_tile<'a>(plan: &Plan, given: &'a Given, place: &Place) -> &'a Tile
-    requires fit { DataFit plan.now.colls plan.now.elems given.now }
+    requires fit { DataFit plan.now given.now }
     requires exists { HasPlace plan.now.colls place.now }
     ensures tile { tile_at given.now.colls place.now ≡ Some result.now }
     ensures elements { IfSome (slice_get plan.now.colls place.now.coll) (λ (shape : Shape).

@@ -6,11 +6,11 @@ use Rattle.std.specs.Fmt as fmt
 use Rattle.std.proofs.Math.Nat.{pow-suc}
 use Rattle.std.proofs.lemmas.Fmt.{decimal_by_steps}
 use Rattle.std.proofs.lemmas.List.Folds.{list_all-append}
-use Rattle.jdf_alphabet.specs.declared.kind.TokenKind.{TokenKind}
-use Rattle.jdf_alphabet.specs.declared.kind.TokenKind.TheVariants as kinds
+use Rattle.jdf_lex.specs.declared.kind.TokenKind.{TokenKind}
+use Rattle.jdf_lex.specs.declared.kind.TokenKind.TheVariants as kinds
 use Rattle.jdf_lex.specs.Spelling.{is_letter, is_digit}
-use Rattle.jdf_alphabet.specs.declared.terminal.Terminal.TheVariants as terminal
-use Rattle.jdf_alphabet.specs.Terminals.{is, terminal_by}
+use Rattle.jdf_lex.specs.declared.terminal.Terminal.TheVariants as terminal
+use Rattle.jdf_lex.specs.Terminals.{is, terminal_by}
 use Rattle.print_laws.proofs.Readable.{kind_of, terminal_at}
 use Rattle.jdf_tree.specs.Numbers.{decimal, has_leading_zero, is_number}
 use Rattle.print_laws.proofs.NumberTexts.{number_from}

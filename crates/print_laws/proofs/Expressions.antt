@@ -8,11 +8,11 @@ use Rattle.term_core.specs.declared.operator.UnOp.{UnOp}
 use Rattle.term_core.specs.declared.operator.UnOp.TheVariants as un
 use Rattle.term_core.specs.declared.operator.BinOp.{BinOp}
 use Rattle.term_core.specs.declared.operator.BinOp.TheVariants as bin
-use Rattle.jdf_alphabet.specs.declared.terminal.Terminal.{Terminal}
-use Rattle.jdf_alphabet.specs.declared.terminal.Terminal.TheVariants as terminal
-use Rattle.jdf_alphabet.specs.Terminals.{words, marks, terminal_of, is}
-use Rattle.jdf_alphabet.specs.Codes.{BadNumber}
-use Rattle.jdf_alphabet.specs.Counted.{is_name}
+use Rattle.jdf_lex.specs.declared.terminal.Terminal.{Terminal}
+use Rattle.jdf_lex.specs.declared.terminal.Terminal.TheVariants as terminal
+use Rattle.jdf_lex.specs.Terminals.{words, marks, terminal_of, is}
+use Rattle.jdf_lex.specs.Codes.{BadNumber}
+use Rattle.jdf_lex.specs.Counted.{is_name}
 use Rattle.grammar_core.specs.Production.{Derives, Derived, bad_unless}
 use Rattle.jdf_tree.specs.declared.expression.Word.{Word}
 use Rattle.jdf_tree.specs.declared.expression.ExprWithSpot.{ExprWithSpot}

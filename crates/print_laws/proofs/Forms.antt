@@ -5,14 +5,14 @@ use Rattle.std.specs.List.{flat_map}
 use Rattle.std.proofs.lemmas.Bool.{cond-false, lt-leb}
 use Rattle.std.specs.Option.{option_or}
 use Rattle.grammar_core.specs.declared.token.Token.{Token}
-use Rattle.jdf_alphabet.specs.declared.terminal.Terminal.{Terminal}
-use Rattle.jdf_alphabet.specs.declared.terminal.Terminal.TheVariants as terminal
+use Rattle.jdf_lex.specs.declared.terminal.Terminal.{Terminal}
+use Rattle.jdf_lex.specs.declared.terminal.Terminal.TheVariants as terminal
 use Rattle.grammar_core.specs.declared.code.Code.{Code}
-use Rattle.jdf_alphabet.specs.Terminals.{words, marks, is}
-use Rattle.jdf_alphabet.specs.Counted.{is_counted}
-use Rattle.jdf_alphabet.specs.Sets.{limit_at}
+use Rattle.jdf_lex.specs.Terminals.{words, marks, is}
+use Rattle.jdf_lex.specs.Counted.{is_counted}
+use Rattle.jdf_lex.specs.Sets.{limit_at}
 use Rattle.grammar_core.specs.Production.{Fault, then_fault, at_start, star, Derives, Many, Derived, taken}
-use Rattle.jdf_alphabet.specs.Codes.{ExprTooLong}
+use Rattle.jdf_lex.specs.Codes.{ExprTooLong}
 use Rattle.jdf_tree.specs.declared.expression.Word.{Word}
 use Rattle.jdf_tree.specs.declared.part.Part.TheVariants.{Class}
 use Rattle.jdf_tree.specs.Expression.{Expression}

@@ -6,7 +6,7 @@ use Rattle.std.specs.Fmt.{signed_decimal}
 use Rattle.std.proofs.lemmas.Bool.{and_parts, and_from, or_right, or_left}
 use Rattle.std.proofs.lemmas.Option.{same_Some}
 use Rattle.jdf_lex.specs.declared.lexical_unit.LexicalUnit.TheVariants as lex
-use Rattle.jdf_alphabet.specs.declared.kind.TokenKind.TheVariants as kinds
+use Rattle.jdf_lex.specs.declared.kind.TokenKind.TheVariants as kinds
 use Rattle.grammar_core.specs.declared.token.Token.{Token}
 use Rattle.jdf_lex.specs.Spelling.{is_letter, is_digit, is_part, is_mark, begins_part, short_marks, long_marks}
 use Rattle.jdf_lex.specs.Tokens.{IsUnit}
@@ -18,8 +18,8 @@ use Rattle.term_core.specs.declared.direction.Direction.{Direction}
 use Rattle.term_core.specs.declared.direction.Direction.TheVariants.{In, Out}
 use Rattle.term_core.specs.declared.flow.FlowKind.{FlowKind}
 use Rattle.term_core.specs.declared.flow.FlowKind.TheVariants as kind
-use Rattle.jdf_alphabet.specs.Terminals.{terminal_by}
-use Rattle.jdf_alphabet.specs.Counted.{is_name}
+use Rattle.jdf_lex.specs.Terminals.{terminal_by}
+use Rattle.jdf_lex.specs.Counted.{is_name}
 use Rattle.jdf_tree.specs.declared.expression.Word.{Word}
 use Rattle.jdf_tree.specs.declared.tree.ArgTree.{ArgTree}
 use Rattle.jdf_tree.specs.declared.tree.ArgTree.TheVariants.{One, Span}

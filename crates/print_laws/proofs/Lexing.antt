@@ -9,7 +9,7 @@ use Rattle.jdf_lex.specs.declared.lexical_unit.LexicalUnit.TheVariants as lex
 use Rattle.grammar_core.specs.declared.token.Token.{Token}
 use Rattle.jdf_lex.specs.Tokens.{spot_after, IsUnit, IsLexedTo, IsLexed}
 use Rattle.jdf_lex.specs.Tokens.IsLexedTo.{nothing_more, dropped_then, token_then}
-use Rattle.jdf_alphabet.specs.Terminals.{number_of}
+use Rattle.jdf_lex.specs.Terminals.{number_of}
 use Rattle.jdf_print.specs.Fragments.{Fragment, token, blank, bytes_of, text, token_count}
 use Rattle.print_laws.proofs.Readable.{kind_of, terminal_at, Reads}
 use Rattle.print_laws.proofs.Forms.{Every}

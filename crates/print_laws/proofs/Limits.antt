@@ -2,12 +2,12 @@
 use Rattle.std.proofs.Common.{◌≡◌, ℕ, zero, suc, ◌+◌, ◌≤◌, min, Bool, true, false, cond, List, [], ◌∷◌, ◌++◌, length, get_or, refl, arith}
 use Rattle.std.specs.Prelude.{Some, None, nat_lt}
 use Rattle.grammar_core.specs.declared.token.Token.{Token}
-use Rattle.jdf_alphabet.specs.declared.terminal.Terminal.{Terminal}
+use Rattle.jdf_lex.specs.declared.terminal.Terminal.{Terminal}
 use Rattle.grammar_core.specs.declared.code.Code.{Code}
-use Rattle.jdf_alphabet.specs.Terminals.{set, terminal_of}
+use Rattle.jdf_lex.specs.Terminals.{set, terminal_of}
 use Rattle.grammar_core.specs.TooMany.{token_indices}
 use Rattle.grammar_core.specs.TooMany as too_many
-use Rattle.jdf_alphabet.specs.Sets.{limit_at}
+use Rattle.jdf_lex.specs.Sets.{limit_at}
 use Rattle.grammar_core.specs.CountedLimit.{indices_kept, indices_passed, not_before}
 use Rattle.grammar_core.specs.Production.{Fault, cut_at}
 use Rattle.std.proofs.lemmas.Bool.{ltb-true}

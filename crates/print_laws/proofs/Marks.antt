@@ -5,7 +5,7 @@ use Rattle.std.specs.List.{list_any, list_all}
 use Rattle.std.proofs.lemmas.Bool.{and_parts, eqb-true, not-true, or_right}
 use Rattle.std.proofs.lemmas.List.Folds.{list_all-append}
 use Rattle.jdf_lex.specs.declared.lexical_unit.LexicalUnit.TheVariants.{Blank, TokenOf}
-use Rattle.jdf_alphabet.specs.declared.kind.TokenKind.TheVariants.{Name, Number, Mark, Other}
+use Rattle.jdf_lex.specs.declared.kind.TokenKind.TheVariants.{Name, Number, Mark, Other}
 use Rattle.jdf_lex.specs.Spelling.{is_letter, is_digit, is_part, is_blank, short_marks, long_marks, is_mark, begins_mark, begins_part, first_unit, continues}
 use Rattle.jdf_lex.specs.Tokens.{IsUnit}
 use Rattle.print_laws.proofs.Readable.{kind_of, IsWritten}

@@ -3,12 +3,12 @@ use Rattle.std.proofs.Common.{◌≡◌, ℕ, Bool, true, false, List, [], ◌�
 use Rattle.std.specs.Prelude.{if◌then◌else◌, ◌||◌}
 use Rattle.std.specs.List.{list_all}
 use Rattle.grammar_core.specs.declared.token.Token.{Token}
-use Rattle.jdf_alphabet.specs.declared.kind.TokenKind.{TokenKind}
-use Rattle.jdf_alphabet.specs.declared.kind.TokenKind.TheVariants as kinds
+use Rattle.jdf_lex.specs.declared.kind.TokenKind.{TokenKind}
+use Rattle.jdf_lex.specs.declared.kind.TokenKind.TheVariants as kinds
 use Rattle.jdf_lex.specs.Spelling.{is_letter, is_digit, is_part, is_mark}
-use Rattle.jdf_alphabet.specs.declared.terminal.Terminal.{Terminal}
-use Rattle.jdf_alphabet.specs.Terminals.{number_of, terminal_by, terminal_of}
-use Rattle.jdf_alphabet.specs.Sets.{IsOne}
+use Rattle.jdf_lex.specs.declared.terminal.Terminal.{Terminal}
+use Rattle.jdf_lex.specs.Terminals.{number_of, terminal_by, terminal_of}
+use Rattle.jdf_lex.specs.Sets.{IsOne}
 use Rattle.print_laws.proofs.TokenNumbers.{token_terminal}
 use Rattle.jdf_print.specs.Fragments.{Fragment, token, blank}
 

@@ -3,10 +3,10 @@ use Rattle.std.proofs.Common.{◌≡◌, ℕ, ◌+◌, ◌*◌, ◌≤◌, Bool,
 use Rattle.std.specs.Prelude.{codes}
 use Rattle.std.specs.Fmt.{signed_decimal}
 use Rattle.grammar_core.specs.declared.token.Token.{Token}
-use Rattle.jdf_alphabet.specs.declared.terminal.Terminal.{Terminal}
-use Rattle.jdf_alphabet.specs.Terminals.{words, marks}
-use Rattle.jdf_alphabet.specs.Counted.{is_counted}
-use Rattle.jdf_alphabet.specs.Sets.{limit_at}
+use Rattle.jdf_lex.specs.declared.terminal.Terminal.{Terminal}
+use Rattle.jdf_lex.specs.Terminals.{words, marks}
+use Rattle.jdf_lex.specs.Counted.{is_counted}
+use Rattle.jdf_lex.specs.Sets.{limit_at}
 use Rattle.grammar_core.specs.Production.{taken}
 use Rattle.jdf_tree.specs.Expression.{Expression, Num, Name, Elem, Unary, Binary, Choose}
 use Rattle.jdf_print.specs.Fragments.{Fragment, token, blank, between, token_count}

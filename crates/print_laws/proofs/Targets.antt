@@ -2,8 +2,8 @@
 use Rattle.std.proofs.Common.{◌≡◌, true, List, [], ◌∷◌, ◌++◌, map, refl, ap, subst, ◌∙◌, inl, inr, append_assoc}
 use Rattle.std.specs.Prelude.{Option, Some, None, option_map, codes}
 use Rattle.grammar_core.specs.declared.token.Token.{Token}
-use Rattle.jdf_alphabet.specs.declared.terminal.Terminal.TheVariants as terminal
-use Rattle.jdf_alphabet.specs.Terminals.{words, marks, is}
+use Rattle.jdf_lex.specs.declared.terminal.Terminal.TheVariants as terminal
+use Rattle.jdf_lex.specs.Terminals.{words, marks, is}
 use Rattle.term_core.specs.declared.direction.Direction.{Direction}
 use Rattle.term_core.specs.declared.direction.Direction.TheVariants.{In, Out}
 use Rattle.jdf_tree.specs.declared.expression.Word.{Word}
@@ -15,7 +15,7 @@ use Rattle.jdf_tree.specs.declared.tree.TargetTree.TheVariants.{Task, Element, N
 use Rattle.jdf_tree.specs.declared.tree.DepTree.{DepTree}
 use Rattle.jdf_tree.specs.Expression.{Expression}
 use Rattle.grammar_core.specs.Production.{seq, opt}
-use Rattle.jdf_alphabet.specs.Sets.{pick}
+use Rattle.jdf_lex.specs.Sets.{pick}
 use Rattle.jdf_tree.specs.Nonterminal.{Grammar}
 use Rattle.jdf_tree.specs.GrammarParts.{prefixed_by, suffixed_by, maybe, name, word_of}
 use Rattle.jdf_tree.specs.ExpressionGrammar.{outer}

@@ -6,9 +6,9 @@ use Rattle.std.proofs.lemmas.Option.{same_Some}
 use Rattle.jdf_lex.specs.declared.lexical_unit.LexicalUnit.{LexicalUnit}
 use Rattle.jdf_lex.specs.declared.lexical_unit.LexicalUnit.TheVariants.{Blank, LineComment, BlockComment, TokenOf}
 use Rattle.grammar_core.specs.declared.token.Token.{Token}
-use Rattle.jdf_alphabet.specs.declared.kind.TokenKind.{TokenKind}
-use Rattle.jdf_alphabet.specs.declared.kind.TokenKind.TheVariants.{Name, Number, Quoted, Raw, OptionLine, Mark, Other}
-use Rattle.jdf_alphabet.specs.Terminals.{number_of, terminal_by}
+use Rattle.jdf_lex.specs.declared.kind.TokenKind.{TokenKind}
+use Rattle.jdf_lex.specs.declared.kind.TokenKind.TheVariants.{Name, Number, Quoted, Raw, OptionLine, Mark, Other}
+use Rattle.jdf_lex.specs.Terminals.{number_of, terminal_by}
 use Rattle.jdf_lex.specs.Spelling.{is_letter, is_digit, is_blank, begins_mark, begins_option, plain_unit, first_unit}
 use Rattle.jdf_lex.specs.Tokens.{IsUnit, IsToken, IsLexedTo}
 use Rattle.jdf_lex.specs.Tokens.IsLexedTo.{nothing_more, dropped_then, token_then}

@@ -3,13 +3,13 @@ use Rattle.std.proofs.Common.{◌≡◌, ℕ, zero, suc, ◌+◌, ◌*◌, ◌�
 use Rattle.std.specs.Prelude.{Option, Some, None, not}
 use Rattle.std.proofs.lemmas.Bool.{and_parts}
 use Rattle.grammar_core.specs.declared.token.Token.{Token}
-use Rattle.jdf_alphabet.specs.declared.terminal.Terminal.{Terminal}
-use Rattle.jdf_alphabet.specs.declared.terminal.Terminal.TheVariants as terminal
-use Rattle.jdf_alphabet.specs.Codes.{TooManyParams, TooManyLocals, TooManyFlows, TooManyDeps, TooManyClasses}
-use Rattle.jdf_alphabet.specs.Terminals.{is, terminal_of}
-use Rattle.jdf_alphabet.specs.Counted.{is_name}
+use Rattle.jdf_lex.specs.declared.terminal.Terminal.{Terminal}
+use Rattle.jdf_lex.specs.declared.terminal.Terminal.TheVariants as terminal
+use Rattle.jdf_lex.specs.Codes.{TooManyParams, TooManyLocals, TooManyFlows, TooManyDeps, TooManyClasses}
+use Rattle.jdf_lex.specs.Terminals.{is, terminal_of}
+use Rattle.jdf_lex.specs.Counted.{is_name}
 use Rattle.grammar_core.specs.Production.{map, seq, alt, opt, star, Fault, Language, Many, Derives, DerivedWithin, IsText, taken}
-use Rattle.jdf_alphabet.specs.Sets.{pick, one_of, after_token}
+use Rattle.jdf_lex.specs.Sets.{pick, one_of, after_token}
 use Rattle.term_core.specs.declared.direction.Direction.{Direction}
 use Rattle.jdf_tree.specs.declared.expression.Word.{Word}
 use Rattle.jdf_tree.specs.declared.expression.ExprWithSpot.{ExprWithSpot}

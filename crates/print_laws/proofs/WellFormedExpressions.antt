@@ -3,12 +3,12 @@ use Rattle.std.proofs.Common.{◌≡◌, ℕ, pos, suc, ◌+◌, ◌≤◌, Bool
 use Rattle.std.specs.Prelude.{Option, Some, None}
 use Rattle.grammar_core.specs.declared.token.Token.{Token}
 use Rattle.term_core.specs.declared.operator.BinOp.{BinOp}
-use Rattle.jdf_alphabet.specs.declared.terminal.Terminal.{Terminal}
-use Rattle.jdf_alphabet.specs.declared.terminal.Terminal.TheVariants as terminal
-use Rattle.jdf_alphabet.specs.Codes.{BadNumber, ExprTooLong}
-use Rattle.jdf_alphabet.specs.Terminals.{terminal_of, is}
-use Rattle.jdf_alphabet.specs.Counted.{is_name, is_counted}
-use Rattle.jdf_alphabet.specs.Sets.{limit_at, one_of, IsOne}
+use Rattle.jdf_lex.specs.declared.terminal.Terminal.{Terminal}
+use Rattle.jdf_lex.specs.declared.terminal.Terminal.TheVariants as terminal
+use Rattle.jdf_lex.specs.Codes.{BadNumber, ExprTooLong}
+use Rattle.jdf_lex.specs.Terminals.{terminal_of, is}
+use Rattle.jdf_lex.specs.Counted.{is_name, is_counted}
+use Rattle.jdf_lex.specs.Sets.{limit_at, one_of, IsOne}
 use Rattle.grammar_core.specs.Production.{map, seq, opt, Fault, Language, Many, Derives, taken, bad_unless}
 use Rattle.text_laws.proofs.Disjoint.{is_within, within_at}
 use Rattle.jdf_tree.specs.declared.expression.Word.{Word}

@@ -77,13 +77,25 @@ most_workers = 64
 abbrev pub most_shards : ℕ
 most_shards = 256
 
--- a run may have so many workers, and its table so many shards
-abbrev pub AreCounts : ℕ → ℕ → Type 0
-AreCounts workers shards = (1 ≤ workers) × (workers ≤ most_workers) × (1 ≤ shards) × (shards ≤ most_shards)
+-- a run may have this many workers
+abbrev pub IsWorkerCount : ℕ → Type 0
+IsWorkerCount n = (1 ≤ n) × (n ≤ most_workers)
+
+-- the table of a run may have this many shards
+abbrev pub IsShardCount : ℕ → Type 0
+IsShardCount n = (1 ≤ n) × (n ≤ most_shards)
+
+-- a run may have this many workers (the first number), and its table this many shards (the second)
+abbrev pub AreRunCounts : ℕ → ℕ → Type 0
+AreRunCounts workers shards = IsWorkerCount workers × IsShardCount shards
 
 -- how many ranks a world may have
 abbrev pub most_ranks : ℕ
 most_ranks = 64
+
+-- a world may have this many ranks
+abbrev pub IsRankCount : ℕ → Type 0
+IsRankCount n = (1 ≤ n) × (n ≤ most_ranks)
 
 -- how many workers a run has where it is not asked for others
 abbrev pub usual_workers : ℕ

@@ -16,9 +16,8 @@ IsColumn (Some cols) j = (pos 0 ≤ℤ j) × (j <ℤ pos cols)
 abbrev pub HasPlaceAmong : {A : Type 0} → (A → ℕ) → (A → Option ℕ) → List A → Place → Type 0
 HasPlaceAmong rows cols colls p = IsSomeAnd (slice_get colls p.coll) (λ c. IsRow (rows c) p.i × IsColumn (cols c) p.j)
 
--- the number of a row and a column among the places of a collection with this many columns, row by row: all places of
--- the rows before it come first, and those before it in its row. It is the row's in one dimension, and asks for no
--- bounds
+-- The number of a place by its row and column, counted row by row, where a row has this many columns; in one dimension
+-- it is the row. The place need not exist.
 abbrev pub number_in : Option ℕ → ℕ → ℕ → ℕ
 number_in None row column = row
 number_in (Some cols) row column = row * cols + column

@@ -20,8 +20,8 @@ pub use edge::{Edge, Item, WriteBack};
 pub use index::index_in;
 pub use laws::{items_compare_field_by_field, tasks_compare_in_task_order};
 pub use limits::{
-    MOST_BYTES, MOST_EDGES, MOST_FLOWS, MOST_LOCALS, MOST_PARAMS, MOST_RANKS, MOST_ROWS,
-    MOST_SHARDS, MOST_TASKS, MOST_VARIABLES, MOST_WORKERS, USUAL_SHARDS, USUAL_WORKERS,
+    MOST_BYTES, MOST_EDGES, MOST_FLOWS, MOST_LOCALS, MOST_NUMBER, MOST_PARAMS, MOST_RANKS,
+    MOST_ROWS, MOST_SHARDS, MOST_TASKS, MOST_VARIABLES, MOST_WORKERS, USUAL_SHARDS, USUAL_WORKERS,
 };
 pub use memory::OutOfMemory;
 pub use name::{is_letter, is_name, is_part};

@@ -38,3 +38,6 @@ pub const USUAL_SHARDS: u32 = 16;
 
 /// How many rows of tiles a made job may have.
 pub const MOST_ROWS: u32 = 96;
+
+/// The greatest number that a JDF and its data may have: 2^63 - 1.
+pub const MOST_NUMBER: u64 = 9223372036854775807;

@@ -1,14 +1,14 @@
 -- Counts of failed reads and writes. Source: this project's own choice.
 use Rattle.std.specs.Prelude.{◌≡◌, ◌⊎◌, ℕ, ◌+◌, ◌<◌, min}
 
--- The greatest number of 64 bits, where a count stays: 2^64 - 1.
+-- the last value of a count of faults, from which it does not rise: 2^64 - 1
 abbrev pub last_count : ℕ
 last_count = 18446744073709551615
 
--- A count of faults rose: it is greater than before, or has reached its last value.
+-- a count of faults rose: it is greater than before, or has reached its last value
 abbrev pub Rose : ℕ → ℕ → Type 0
 Rose old new = (old < new) ⊎ (new ≡ last_count)
 
--- A count after one more fault: it stays at its last value.
+-- a count after one more fault: it stays at its last value
 abbrev pub one_more : ℕ → ℕ
 one_more count = min (count + 1) last_count

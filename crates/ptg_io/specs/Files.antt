@@ -4,20 +4,24 @@ use Rattle.std.specs.Prelude.{◌≡◌, ℕ, ◌<◌, ◌≤◌, List, length, 
 use Rattle.std.specs.Str.{bytes_eq}
 use Rattle.std.specs.Map.{lookup}
 
--- The bytes of the first file with this name. A file is its name and its bytes.
-abbrev pub file_of : List (List ℕ × List ℕ) → List ℕ → Option (List ℕ)
+-- files by name: each a name and its bytes
+abbrev pub NamedFiles : Type 0
+NamedFiles = List (List ℕ × List ℕ)
+
+-- the bytes of the first file with this name
+abbrev pub file_of : NamedFiles → List ℕ → Option (List ℕ)
 file_of files name = lookup (λ (n : List ℕ). bytes_eq n name) files
 
--- A read of a file from an offset gave n bytes: the buffer begins with that many of the bytes from there on.
--- It gave none only at or past the end.
+-- A read of a file from an offset gave n bytes: the buffer begins with that many of the bytes from there on. It gave
+-- none only at or past the end.
 pub record IsPiece (bytes : List ℕ) (from n : ℕ) (buffer : List ℕ) : Type 0 where
   pub piece : take n buffer ≡ take n (drop from bytes)
   pub end : n ≡ 0 → length bytes ≤ from
 
--- A read of n bytes of the file with this name, which is there.
-abbrev pub ReadsPiece : List (List ℕ × List ℕ) → List ℕ → ℕ → ℕ → List ℕ → Type 0
+-- a read of n bytes of the file with this name, which is there
+abbrev pub ReadsPiece : NamedFiles → List ℕ → ℕ → ℕ → List ℕ → Type 0
 ReadsPiece files name from n buffer = (bytes : List ℕ) × (file_of files name ≡ Some bytes) × IsPiece bytes from n buffer
 
--- The file with this name is there and has more bytes than this.
-abbrev pub IsLonger : List (List ℕ × List ℕ) → List ℕ → ℕ → Type 0
+-- the file with this name is there and has more bytes than this
+abbrev pub IsLonger : NamedFiles → List ℕ → ℕ → Type 0
 IsLonger files name limit = (bytes : List ℕ) × (file_of files name ≡ Some bytes) × (limit < length bytes)

@@ -1,12 +1,12 @@
 -- Reads of one file in turn, up to its end or past a limit. Source: this project's own choice.
 use Rattle.std.specs.Prelude.{◌≡◌, ◌<◌, ◌≤◌, ◌+◌, ℕ, List, [], ◌∷◌, length, take, Option, Some, sum}
-use Rattle.ptg_io.specs.Files.{file_of}
+use Rattle.ptg_io.specs.Files.{NamedFiles, file_of}
 
--- The bytes read so far are the first ones of the file with this name, where the contents of the files are known and it
--- is among them.
-abbrev pub IsReadSoFar : Option (List (List ℕ × List ℕ)) → List ℕ → List ℕ → Type 0
+-- the bytes read so far are the first ones of the file with this name, where the contents of the files are known and it
+-- is among them
+abbrev pub IsReadSoFar : Option NamedFiles → List ℕ → List ℕ → Type 0
 IsReadSoFar contents name bytes =
-    (files : List (List ℕ × List ℕ)) (file : List ℕ) →
+    (files : NamedFiles) (file : List ℕ) →
     contents ≡ Some files → file_of files name ≡ Some file → bytes ≡ take (length bytes) file
 
 -- Reads of one file, each from where the one before it ended, lead from one state of the files to another. They gave so
@@ -17,7 +17,7 @@ ReadsInTurn gives name start [] end = start ≡ end
 ReadsInTurn {Files} gives name start (n ∷ counts) end =
     (before : Files) × ReadsInTurn gives name start counts before × gives before name (sum counts) n end
 
--- Reads of one file in turn, which gave this many bytes together.
+-- reads of one file in turn, which gave this many bytes together
 pub record HasRead {Files : Type 0} (gives : Files → List ℕ → ℕ → ℕ → Files → Type 0)
     (name : List ℕ) (start : Files) (size : ℕ) (end : Files) : Type 0 where
   pub counts : List ℕ
@@ -33,8 +33,8 @@ pub record StopsPast {Files : Type 0} (gives : Files → List ℕ → ℕ → �
   pub within : sum earlier ≤ limit
   pub past : limit < sum earlier + last
 
--- Reads of one file in turn, which gave at most this many bytes together, and then one from where they ended, which
--- failed.
+-- reads of one file in turn, which gave at most this many bytes together, and then one from where they ended, which
+-- failed
 pub record FailsWithin {Files : Type 0} (gives : Files → List ℕ → ℕ → ℕ → Files → Type 0)
     (fails : Files → List ℕ → ℕ → Files → Type 0)
     (name : List ℕ) (limit : ℕ) (start end : Files) : Type 0 where

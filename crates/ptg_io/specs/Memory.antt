@@ -2,38 +2,39 @@
 use Rattle.std.specs.Prelude.{◌≡◌, ◌≢◌, ◌⊎◌, ℕ, List, Option, None, Some, slice_index, position, Contains}
 use Rattle.std.specs.Str.{bytes_eq}
 use Rattle.ptg_io.specs.Faults.{one_more}
+use Rattle.ptg_io.specs.Files.{NamedFiles}
 
--- The index of the first file with this name, counted from 0.
-abbrev pub index_of : List (List ℕ × List ℕ) → List ℕ → Option ℕ
-index_of files name = position (λ file. bytes_eq file.0 name) files
+-- the index of the first file with this name, counted from 0
+abbrev pub index_of : NamedFiles → List ℕ → Option ℕ
+index_of files name = position (λ (other, bytes). bytes_eq other name) files
 
--- The count of a file by its index, or that of the names that are missing.
+-- the count of a file by its index, or that of the names that are missing
 abbrev pub fault_count : List ℕ → ℕ → Option ℕ → ℕ
 fault_count failed missing None = missing
 fault_count failed missing (Some index) = slice_index failed index
 
--- What files in memory are: the files as names and bytes; for each, how many of its reads failed, and how many
--- of a name that is missing; the number of the reads so far; and the numbers of the reads that fail, from 1.
+-- what files in memory are: the files as names and bytes; for each, how many of its reads failed, and how many of a
+-- name that is missing; the number of the reads so far; and the numbers of the reads that fail, from 1
 pub record MemoryFiles : Type 0 where
-  pub files : List (List ℕ × List ℕ)
+  pub files : NamedFiles
   pub failed : List ℕ
   pub missing : ℕ
   pub reads : ℕ
   pub fails : List ℕ
 
--- How many reads of this name failed.
+-- how many reads of this name failed
 abbrev pub failed_reads : MemoryFiles → List ℕ → ℕ
 failed_reads files name = fault_count files.failed files.missing (index_of files.files name)
 
--- What a failed read of a name does to the counts: the name's own count has one more, which is also that of every
--- other missing name where the name is missing, and each other count stays.
+-- what a failed read of a name does to the counts: the name's own count has one more, which is also that of every other
+-- missing name where the name is missing, and each other count stays
 pub record CountsFault (old new : MemoryFiles) (name : List ℕ) : Type 0 where
   pub own : (other : List ℕ) → index_of old.files other ≡ index_of old.files name
       → failed_reads new other ≡ one_more (failed_reads old other)
   pub others : (other : List ℕ) → index_of old.files other ≢ index_of old.files name
       → failed_reads new other ≡ failed_reads old other
 
--- A read that gives bytes has the next number, which is none of those that fail, and changes nothing else.
+-- a read that gives bytes has the next number, which is none of those that fail, and changes nothing else
 pub record CountsRead (old new : MemoryFiles) : Type 0 where
   pub allowed : ¬ Contains old.fails new.reads
   pub next : new
@@ -54,8 +55,8 @@ pub record CountsFailedRead (old new : MemoryFiles) (name : List ℕ) : Type 0 w
   pub files : new.files ≡ old.files
   pub fails : new.fails ≡ old.fails
 
--- What a sink in memory is: the bytes written; how many writes failed; the number of the writes so far; and the
--- numbers of the writes that fail, from 1.
+-- what a sink in memory is: the bytes written; how many writes failed; the number of the writes so far; and the numbers
+-- of the writes that fail, from 1
 pub record MemorySink : Type 0 where
   pub bytes : List ℕ
   pub failed : ℕ

@@ -2,7 +2,7 @@
 
 ghost use Rattle.std.specs.Prelude.{◌≡◌, ◌<◌, ◌≤◌, ⊤, List, ℕ, Option, length, IfOk, OnOk, OnErr};
 ghost use Rattle.ptg_io.specs.Faults.{Rose};
-ghost use Rattle.ptg_io.specs.Files.{ReadsPiece};
+ghost use Rattle.ptg_io.specs.Files.{NamedFiles, ReadsPiece};
 
 /// A read or a write failed.
 #[derive(Clone, Copy, Debug, PartialEq, Eq)]
@@ -11,7 +11,7 @@ pub struct Failed;
 /// Files that can be read by name.
 pub trait Files {
     /// The files as names and bytes, where that is known.
-    ghost contents: { Self → Option (List (List ℕ × List ℕ)) };
+    ghost contents: { Self → Option NamedFiles };
 
     /// How many reads of a name failed so far.
     ghost faults: { Self → List ℕ → ℕ };
@@ -27,7 +27,7 @@ pub trait Files {
         requires { 0 < length into.old }
         ensures stays { contents self.new ≡ contents self.old }
         ensures within { IfOk result (λ n. n ≤ length into.new) }
-        ensures given { (files : List (List ℕ × List ℕ)) → contents self.old ≡ Some files →
+        ensures given { (files : NamedFiles) → contents self.old ≡ Some files →
             IfOk result (λ n. ReadsPiece files name.now from n into.new) }
         ensures gives { IfOk result (λ n. read_gives self.old name.now from n self.new) }
         ensures read_fails { OnErr result (read_fails self.old name.now from self.new) }

@@ -3,7 +3,7 @@
 ghost use Rattle.std.specs.Prelude.{◌≡◌, ◌<◌, ◌≤◌, ◌+◌, List, ℕ, length, vec_len, IfOk, OnOk, IsErrOf, IsTrue, IsFalse};
 ghost use Rattle.ptg_base.specs.Limits.{most_bytes};
 ghost use Rattle.ptg_io.specs.Faults.{Rose};
-ghost use Rattle.ptg_io.specs.Files.{file_of, IsLonger};
+ghost use Rattle.ptg_io.specs.Files.{file_of, IsLonger, NamedFiles};
 ghost use Rattle.ptg_io.specs.Load.{FailsWithin, IsReadSoFar, StopsPast};
 ghost use Rattle.ptg_io.specs.declared.loading.LoadFault.TheVariants.{Failed, OutOfMemory};
 
@@ -53,13 +53,13 @@ impl<T: Drop> From<AllocFailed<T>> for LoadFault {
 pub fn load<F: Files>(alloc: Global, files: &mut F, name: &str) -> Result<Seq<u8>, LoadFault>
     ensures stays { F.contents files.new ≡ F.contents files.old }
     ensures grows { (other : List ℕ) → F.faults files.old other ≤ F.faults files.new other }
-    ensures given { (entries : List (List ℕ × List ℕ)) → F.contents files.old ≡ Some entries →
+    ensures given { (entries : NamedFiles) → F.contents files.old ≡ Some entries →
         IfOk result (λ bytes. file_of entries name.now ≡ Some bytes) }
     ensures bounded { IfOk result (λ bytes. length bytes ≤ most_bytes) }
     ensures failed { IsErrOf result LoadFault.Failed →
         Rose (F.faults files.old name.now) (F.faults files.new name.now) }
     ensures too_long { IsErrOf result LoadFault.TooLong →
-        (entries : List (List ℕ × List ℕ)) → F.contents files.old ≡ Some entries →
+        (entries : NamedFiles) → F.contents files.old ≡ Some entries →
         IsLonger entries name.now most_bytes }
     ensures stops { IsErrOf result LoadFault.TooLong →
         StopsPast F.read_gives name.now most_bytes files.old files.new }
@@ -91,13 +91,13 @@ fn read_all<F: Files>(
     requires { 0 < length piece.old }
     ensures stays { F.contents files.new ≡ F.contents files.old }
     ensures grows { (other : List ℕ) → F.faults files.old other ≤ F.faults files.new other }
-    ensures given { (entries : List (List ℕ × List ℕ)) → F.contents files.old ≡ Some entries →
+    ensures given { (entries : NamedFiles) → F.contents files.old ≡ Some entries →
         IfOk result (λ bytes. file_of entries name.now ≡ Some bytes.items) }
     ensures bounded { IfOk result (λ bytes. vec_len bytes ≤ most_bytes) }
     ensures failed { IsErrOf result LoadFault.Failed →
         Rose (F.faults files.old name.now) (F.faults files.new name.now) }
     ensures too_long { IsErrOf result LoadFault.TooLong →
-        (entries : List (List ℕ × List ℕ)) → F.contents files.old ≡ Some entries →
+        (entries : NamedFiles) → F.contents files.old ≡ Some entries →
         IsLonger entries name.now most_bytes }
     ensures stops { IsErrOf result LoadFault.TooLong →
         StopsPast F.read_gives name.now most_bytes files.old files.new }
@@ -132,12 +132,12 @@ fn read_piece<F: Files>(
     ensures read { OnOk result ((n : ℕ) × F.read_gives files.old name.now (vec_len bytes.old) n files.new ×
         (vec_len bytes.new ≡ vec_len bytes.old + n)) }
     ensures end { IfOk result (λ more. IsFalse more →
-        (entries : List (List ℕ × List ℕ)) → F.contents files.old ≡ Some entries →
+        (entries : NamedFiles) → F.contents files.old ≡ Some entries →
         file_of entries name.now ≡ Some bytes.new.items) }
     ensures failed { IsErrOf result LoadFault.Failed →
         Rose (F.faults files.old name.now) (F.faults files.new name.now) }
     ensures too_long { IsErrOf result LoadFault.TooLong →
-        (entries : List (List ℕ × List ℕ)) → F.contents files.old ≡ Some entries →
+        (entries : NamedFiles) → F.contents files.old ≡ Some entries →
         IsLonger entries name.now most_bytes }
     ensures read_fails { IsErrOf result LoadFault.Failed
         → F.read_fails files.old name.now (vec_len bytes.old) files.new }

@@ -2,7 +2,7 @@
 
 ghost use Rattle.std.specs.Prelude.{◌≡◌, ◌≢◌, ◌<◌, ◌≤◌, ◌-◌, ◌⊎◌, ◌↔◌, min, List, ℕ, Option, Some, None, length, Contains, IfOk, IfSome, OnOk, OnErr, IsErr};
 ghost use Rattle.ptg_io.specs.Faults.{Rose, one_more};
-ghost use Rattle.ptg_io.specs.Files.{file_of, IsPiece, ReadsPiece};
+ghost use Rattle.ptg_io.specs.Files.{file_of, IsPiece, NamedFiles, ReadsPiece};
 ghost use Rattle.ptg_io.specs.Memory.{index_of, fault_count, failed_reads, CountsFailedRead, CountsFault, CountsRead};
 
 use crate::file::File;
@@ -65,7 +65,7 @@ impl Files for MemFiles {
         requires { 0 < length into.old }
         ensures stays { Some self.new.files ≡ Some self.old.files }
         ensures within { IfOk result (λ n. n ≤ length into.new) }
-        ensures given { (files : List (List ℕ × List ℕ)) → Some self.old.files ≡ Some files →
+        ensures given { (files : NamedFiles) → Some self.old.files ≡ Some files →
             IfOk result (λ n. ReadsPiece files name.now from n into.new) }
         ensures gives { IfOk result (λ n. CountsRead self.old self.new) }
         ensures read_fails { OnErr result (CountsFailedRead self.old self.new name.now) }

@@ -113,7 +113,7 @@ fn plan_up_to(alloc: Global, jdf: &[u8], count: u32) -> Result<Plan, Failure> {
 
 // The job of a JDF whose last number is one less than this.
 fn job_up_to(alloc: Global, jdf: &[u8], count: u32) -> Result<(Matched, Given), Failure>
-    ensures { IfOk result (λ j. DataFit j.0.colls j.0.elems j.1) }
+    ensures { IfOk result (λ (matched, given). DataFit matched given) }
 {
     let table = table_up_to(alloc, count)?;
     job_of_texts(alloc, jdf, table.as_bytes())?.ok_or(Failure::NotWellMade)
@@ -136,14 +136,14 @@ pub fn ring(alloc: Global, tasks: u32) -> Result<Plan, Failure> {
 
 /// The job of this many tasks in a line.
 pub fn line_job(alloc: Global, tasks: u32) -> Result<(Matched, Given), Failure>
-    ensures { IfOk result (λ j. DataFit j.0.colls j.0.elems j.1) }
+    ensures { IfOk result (λ (matched, given). DataFit matched given) }
 {
     job_up_to(alloc, LINE, tasks)
 }
 
 /// The job of one task that runs and this many others that wait for ever.
 pub fn waiting_job(alloc: Global, others: u32) -> Result<(Matched, Given), Failure>
-    ensures { IfOk result (λ j. DataFit j.0.colls j.0.elems j.1) }
+    ensures { IfOk result (λ (matched, given). DataFit matched given) }
 {
     job_up_to(alloc, WAITING, others)
 }

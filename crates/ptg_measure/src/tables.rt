@@ -28,8 +28,8 @@ const THREADS: u32 = 4;
 
 // A table of a job, with its first pass.
 fn open(alloc: Global, job: (Matched, Given)) -> Result<(DepTable, Pass), Failure>
-    requires { DataFit job.0.colls job.0.elems job.1 }
-    ensures pass { IfOk result (λ r. IsPassOf (id_of r.0) r.1 × (shown r.1 ≡ first_pass)) }
+    requires { DataFit job.0 job.1 }
+    ensures pass { IfOk result (λ (table, pass). IsPassOf (id_of table) pass × (shown pass ≡ first_pass)) }
 {
     let (matched, given) = job;
     Ok(DepTable::new(alloc, matched, given, SHARDS)?)
@@ -175,7 +175,7 @@ fn closed<R: Threads + Wait + Sync>(
     alloc: Global,
     job: (Matched, Given),
 ) -> Result<Closed, Failure>
-    requires { DataFit job.0.colls job.0.elems job.1 }
+    requires { DataFit job.0 job.1 }
 {
     let (matched, given) = job;
     let settings = Settings {

@@ -74,7 +74,7 @@ fn read_next<R: rt::Files>(
     mut opened: Opened<R::File>,
     into: &mut [u8],
 ) -> Option<(usize, Opened<R::File>)>
-    ensures { IfSome result (λ r. r.0 ≤ length into.new) }
+    ensures { IfSome result (λ (count, more). count ≤ length into.new) }
 {
     let n = opened.file.read(into).ok()?;
     opened.offset = opened.offset.saturating_add(n as u64);

@@ -19,7 +19,7 @@ use Rattle.ptg_top.specs.Answering.{IsAnswer, IsRefusedByCheck, OnConsistent}
 use Rattle.ptg_top.specs.Certify.{IsCertified}
 use Rattle.ptg_top.specs.Trace.{IsTraced}
 use Rattle.ptg_top.specs.Ranks.{IsRanked}
-use Rattle.ptg_top.specs.JobFiles.{Entries, FilesDenote}
+use Rattle.ptg_top.specs.JobFiles.{FilesDenote, NamedFiles}
 use Rattle.ptg_top.specs.Meaning.{CommandDenotes, IsUnreadOf, MayBeUnreadFor}
 use Rattle.ptg_top.specs.Reports.{IsOfTexts, IsVerdictOnCommand}
 
@@ -51,14 +51,14 @@ module _ (Verb : Plan → Data → Denotation → Type 0) where
 answer_of_texts : (settings : Settings) → IsVerbOfTexts (IsAnswer settings)
 answer_of_texts settings P given v h = subst IsOfTexts (sym h) (either (is_too_large settings P))
   where
-    either : (large : Bool) → IsOfTexts (if large then verdicts.Preload else verdicts.Ran P (Answer (answer P given)))
+    either : (large : Bool) → IsOfTexts (if large then verdicts.PreloadTooLarge else verdicts.Ran P (Answer (answer P given)))
     either true = tt
     either false = tt
 
 -- the command is of a verb that goes on from the check of two files
 pub record GoesOn (command : Order) (jdf data_name : List ℕ) (Verb : Plan → Data → Denotation → Type 0) : Type 0 where
-  pub unread : (contents : Option Entries) (name : List ℕ) → IsUnreadOf contents jdf data_name name → MayBeUnreadFor contents command name
-  pub denotes : (files : Entries) (checked v : Denotation) → FilesDenote files jdf data_name checked → OnConsistent Verb checked v → CommandDenotes files command v
+  pub unread : (contents : Option NamedFiles) (name : List ℕ) → IsUnreadOf contents jdf data_name name → MayBeUnreadFor contents command name
+  pub denotes : (files : NamedFiles) (checked v : Denotation) → FilesDenote files jdf data_name checked → OnConsistent Verb checked v → CommandDenotes files command v
   pub of_texts : IsVerbOfTexts Verb
 
 pub run_goes_on : (jdf data_name : List ℕ) (settings : Settings) → GoesOn (Run jdf data_name settings.workers settings.shards settings.preload) jdf data_name (IsAnswer settings)
@@ -77,7 +77,7 @@ pub ranks_goes_on : (jdf data_name : List ℕ) (ranks seed : ℕ) → GoesOn (Ra
 ranks_goes_on jdf data_name ranks seed =
     record { unread = λ contents name h. h; denotes = λ files checked v h k. (checked, h, k); of_texts = λ P given v h. subst IsOfTexts (sym h) tt }
 
-module _ (contents : Option Entries) (old new : List ℕ → ℕ) {jdf data_name : List ℕ} {command : Order} {Verb : Plan → Data → Denotation → Type 0} (on : GoesOn command jdf data_name Verb) where
+module _ (contents : Option NamedFiles) (old new : List ℕ → ℕ) {jdf data_name : List ℕ} {command : Order} {Verb : Plan → Data → Denotation → Type 0} (on : GoesOn command jdf data_name Verb) where
   -- the verdict of a verb, from that of `check`
   verb_ends : (checked v : Denotation) → IsVerdictOnCommand contents old new (Check jdf data_name) checked → OnConsistent Verb checked v → IsVerdictOnCommand contents old new command v
   verb_ends checked v (inl (name, rose, may, e)) h = inl (name, rose, on.unread contents name may, subst (λ (c : Denotation). OnConsistent Verb c v) e h)

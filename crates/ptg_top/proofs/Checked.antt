@@ -19,20 +19,20 @@ use Rattle.ptg_words.specs.declared.order.Order.TheVariants.{Check}
 use Rattle.ptg_top.specs.Denotation as verdicts
 use Rattle.ptg_top.specs.declared.verdict.Verdict.{Verdict}
 use Rattle.ptg_top.specs.Denotation.{Denotation, denoted}
-use Rattle.ptg_top.specs.JobFiles.{Entries, RefusesText, ContentsDenote, FilesDenote, JobTextsDenote}
+use Rattle.ptg_top.specs.JobFiles.{ContentsDenote, FilesDenote, JobTextsDenote, NamedFiles, RefusesText}
 use Rattle.ptg_top.specs.Steps.{CheckOfDataEndsWith, IsTreeRead, TreeIsRefused}
 use Rattle.ptg_top.specs.Reports.{IsVerdictOnCommand}
 use Rattle.ptg_top.proofs.JdfFiles.{job_is_of_texts}
 use Rattle.report_text.proofs.Putting.{rose_from}
 
-module _ (contents : Option Entries) (old new : ℕ) (text data_name : List ℕ) where
+module _ (contents : Option NamedFiles) (old new : ℕ) (text data_name : List ℕ) where
   -- a data file that was loaded
-  pub data_ends : (data_text : List ℕ) (job : JobVerdict) → ((files : Entries) → contents ≡ Some files → file_of files data_name ≡ Some data_text) → TextsDenote text data_text job
+  pub data_ends : (data_text : List ℕ) (job : JobVerdict) → ((files : NamedFiles) → contents ≡ Some files → file_of files data_name ≡ Some data_text) → TextsDenote text data_text job
       → CheckOfDataEndsWith contents old new text data_name (verdicts.Job job)
   data_ends data_text job there h = inr (job, refl, λ files t. (data_text, there files t, h))
 
   -- a data file that is too long
-  pub long_data_ends : (J : Jdf) (fault : DataFault) → IsJdf text J → fault ≡ too_long → ((files : Entries) → contents ≡ Some files → IsLonger files data_name 16777216)
+  pub long_data_ends : (J : Jdf) (fault : DataFault) → IsJdf text J → fault ≡ too_long → ((files : NamedFiles) → contents ≡ Some files → IsLonger files data_name 16777216)
       → CheckOfDataEndsWith contents old new text data_name (verdicts.Job (jobs.Data fault))
   long_data_ends J fault tree e long =
       inr (
@@ -49,10 +49,10 @@ refused_whatever jdf data_name text None v h = inl h
 refused_whatever jdf data_name text (Some data_text) v h = (h.0, inl h.1, h.2)
 
 -- what the contents of a JDF file that is there denote, the files denote
-files_denote : (files : Entries) (jdf data_name text : List ℕ) (v : Denotation) → file_of files jdf ≡ Some text → ContentsDenote jdf data_name (Some text) (file_of files data_name) v → FilesDenote files jdf data_name v
+files_denote : (files : NamedFiles) (jdf data_name text : List ℕ) (v : Denotation) → file_of files jdf ≡ Some text → ContentsDenote jdf data_name (Some text) (file_of files data_name) v → FilesDenote files jdf data_name v
 files_denote files jdf data_name text v there h = subst (λ (o : Option (List ℕ)). ContentsDenote jdf data_name o (file_of files data_name) v) (sym there) h
 
-module _ (contents : Option Entries) (old new : List ℕ → ℕ) (jdf data_name : List ℕ) where
+module _ (contents : Option NamedFiles) (old new : List ℕ → ℕ) (jdf data_name : List ℕ) where
   -- the check of the data file is the check of the files, where the tree of the JDF file was read
   tree_ends : (mid : ℕ) (J : Jdf) (v : Denotation) (read : IsTreeRead contents jdf J) → old data_name ≤ mid
       → CheckOfDataEndsWith contents mid (new data_name) read.0 data_name v → IsVerdictOnCommand contents old new (Check jdf data_name) v

@@ -13,18 +13,18 @@ use Rattle.ptg_top.specs.declared.verdict.Finding.TheVariants as findings
 use Rattle.ptg_top.specs.Findings.{status_of_outcome}
 use Rattle.ptg_top.specs.Denotation as verdicts
 use Rattle.ptg_top.specs.Denotation.{Denotation}
-use Rattle.ptg_top.specs.JobFiles.{Entries}
+use Rattle.ptg_top.specs.JobFiles.{NamedFiles}
 use Rattle.ptg_top.specs.Meaning.{Denotes, IsNoCommand, MayBeUnread}
 use Rattle.ptg_top.specs.Reports.{IsOfTexts, IsVerdictOnWords}
 use Rattle.ptg_top.specs.Headline.{text_of, status_of, IsExact, Prints}
 
 -- arguments and files denote the verdict, unless it is a read fault
-pub is_denoted : (words : List (List ℕ)) (files : Entries) (contents : Option Entries) (old new : List ℕ → ℕ) (v : Denotation) → IsVerdictOnWords words contents old new v → contents ≡ Some files → ((name : List ℕ) → v ≡ verdicts.Unread name → Rose (old name) (new name) → ⊥) → Denotes words files v
+pub is_denoted : (words : List (List ℕ)) (files : NamedFiles) (contents : Option NamedFiles) (old new : List ℕ → ℕ) (v : Denotation) → IsVerdictOnWords words contents old new v → contents ≡ Some files → ((name : List ℕ) → v ≡ verdicts.Unread name → Rose (old name) (new name) → ⊥) → Denotes words files v
 is_denoted words files contents old new v (inl h) t read = inl h
 is_denoted words files contents old new v (inr (command, formed, inl (name, rose, may, e))) t read = absurd (read name e rose)
 is_denoted words files contents old new v (inr (command, formed, inr (of, known))) t read = inr (command, formed, known files t)
 
-pub exact_prints : (words : List (List ℕ)) (files : Entries) (contents : Option Entries) (old new : List ℕ → ℕ) (before after : Option (List ℕ)) (v : Denotation) (s : Status)
+pub exact_prints : (words : List (List ℕ)) (files : NamedFiles) (contents : Option NamedFiles) (old new : List ℕ → ℕ) (before after : Option (List ℕ)) (v : Denotation) (s : Status)
     → IsVerdictOnWords words contents old new v → contents ≡ Some files → after ≡ appended before (text_of v) → s ≡ status_of v → IsExact s → Prints words files before after s
 exact_prints words files contents old new before after v s h t text ends exact =
     record {
@@ -34,7 +34,7 @@ exact_prints words files contents old new before after v s h t text ends exact =
       ends = ends;
     }
 
-pub complete_prints : (words : List (List ℕ)) (files : Entries) (contents : Option Entries) (old new : List ℕ → ℕ) (before after : Option (List ℕ)) (v : Denotation) (s : Status)
+pub complete_prints : (words : List (List ℕ)) (files : NamedFiles) (contents : Option NamedFiles) (old new : List ℕ → ℕ) (before after : Option (List ℕ)) (v : Denotation) (s : Status)
     → IsVerdictOnWords words contents old new v → contents ≡ Some files → after ≡ appended before (text_of v) → s ≡ status_of v → ((name : List ℕ) → Rose (old name) (new name) → ⊥)
     → Prints words files before after s ⊎ (s ≡ status.OutOfMemory)
 complete_prints words files contents old new before after v s h t text ends none =
@@ -64,8 +64,8 @@ of_texts (verdicts.Ran P (findings.Cycle found)) h = (λ e. absurd cc, λ e. abs
 of_texts (verdicts.Ran P (findings.Trace text)) h = (λ e. absurd cc, λ e. absurd cc, λ e. absurd cc)
 of_texts (verdicts.Ran P (findings.Ranked found)) h = of_outcome found.outcome
 of_texts (verdicts.Spelling text) h = (λ e. absurd cc, λ e. absurd cc, λ e. absurd cc)
-of_texts verdicts.Preload h = (λ e. absurd cc, λ e. absurd cc, λ e. absurd cc)
-of_texts (verdicts.Trace fault) h = (λ e. absurd cc, λ e. absurd cc, λ e. absurd cc)
+of_texts verdicts.PreloadTooLarge h = (λ e. absurd cc, λ e. absurd cc, λ e. absurd cc)
+of_texts (verdicts.TraceRefused fault) h = (λ e. absurd cc, λ e. absurd cc, λ e. absurd cc)
 
 not_usage : ◌≡◌ {A = Status} status.ReadFault status.Usage → ⊥
 not_usage e = absurd cc
@@ -73,7 +73,7 @@ not_usage e = absurd cc
 not_read_fault : ◌≡◌ {A = Status} status.Usage status.ReadFault → ⊥
 not_read_fault e = absurd cc
 
-module _ (words : List (List ℕ)) (contents : Option Entries) (old new : List ℕ → ℕ) (v : Denotation) where
+module _ (words : List (List ℕ)) (contents : Option NamedFiles) (old new : List ℕ → ℕ) (v : Denotation) where
   -- the status of usage comes with its line alone, and only to arguments that form no command
   pub usage_is_its_line : IsVerdictOnWords words contents old new v → status_of v ≡ status.Usage → text_of v ≡ usage_line
   usage_is_its_line (inl h) e = ap text_of h.1

@@ -15,7 +15,7 @@ use Rattle.ptg_words.specs.declared.order.Order.TheVariants.{Show}
 use Rattle.ptg_top.specs.Denotation as verdicts
 use Rattle.ptg_top.specs.declared.verdict.Verdict.{Verdict}
 use Rattle.ptg_top.specs.Denotation.{Denotation, denoted}
-use Rattle.ptg_top.specs.JobFiles.{Entries, RefusesText}
+use Rattle.ptg_top.specs.JobFiles.{NamedFiles, RefusesText}
 use Rattle.ptg_top.specs.Meaning.{ContentShows}
 use Rattle.ptg_top.specs.Steps.{IsTreeRead, TreeIsRefused}
 use Rattle.ptg_top.specs.Reports.{IsOfTexts, IsVerdictOnCommand}
@@ -35,7 +35,7 @@ long_refuses text fault e long = fault_refuses text fault (inl (record { long = 
 pub job_is_of_texts : (v : Denotation) (job : JobVerdict) → v ≡ verdicts.Job job → IsOfTexts v
 job_is_of_texts v job e = subst IsOfTexts (sym e) tt
 
-module _ (contents : Option Entries) (name text : List ℕ) (there : (files : Entries) → contents ≡ Some files → file_of files name ≡ Some text) where
+module _ (contents : Option NamedFiles) (name text : List ℕ) (there : (files : NamedFiles) → contents ≡ Some files → file_of files name ≡ Some text) where
   -- a tree of the text that was read
   pub tree_read : (r : Result (Result Jdf Verdict) OutOfMemory) → IfOk r (λ read. IfOk read (IsJdf text)) → IfOk r (λ read. IfOk read (IsTreeRead contents name))
   tree_read (Ok (Ok J)) h = (text, h, there)
@@ -49,10 +49,10 @@ module _ (contents : Option Entries) (name text : List ℕ) (there : (files : En
   text_is_refused old new (Ok (Err v)) h = inr (job_is_of_texts (denoted v) h.0 h.2, λ files t. (text, there files t, h))
   text_is_refused old new (Err x) h = tt
 
-module _ (contents : Option Entries) where
+module _ (contents : Option NamedFiles) where
   -- a file that is too long
   pub long_is_refused : (old new : ℕ) (name : List ℕ) (fault : JdfFault) → fault ≡ record { spot = first_spot; code = jdf_codes.TooLong }
-      → ((files : Entries) → contents ≡ Some files → IsLonger files name 16777216) → TreeIsRefused contents old new name (verdicts.Job (jobs.Jdf fault))
+      → ((files : NamedFiles) → contents ≡ Some files → IsLonger files name 16777216) → TreeIsRefused contents old new name (verdicts.Job (jobs.Jdf fault))
   long_is_refused old new name fault e long =
       inr (
         tt,

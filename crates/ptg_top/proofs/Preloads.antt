@@ -14,11 +14,11 @@ use Rattle.ptg_top.specs.Denotation.{Denotation}
 module _ (P : Plan) (s : Settings) (G : Data) where
   -- the verdict where these are the bytes of a preload that is too large, or there is none
   abbrev verdict_at : Option ℕ → Denotation
-  verdict_at large = if is_some large then verdicts.Preload else verdicts.Ran P (Answer (answer P G))
+  verdict_at large = if is_some large then verdicts.PreloadTooLarge else verdicts.Ran P (Answer (answer P G))
 
   -- a preload that is refused
-  pub refused_is_answer : (bytes : ℕ) → too_large_preload s P ≡ Some bytes → IsAnswer s P G verdicts.Preload
-  refused_is_answer bytes h = subst (λ large. verdicts.Preload ≡ verdict_at large) (sym h) refl
+  pub refused_is_answer : (bytes : ℕ) → too_large_preload s P ≡ Some bytes → IsAnswer s P G verdicts.PreloadTooLarge
+  refused_is_answer bytes h = subst (λ large. verdicts.PreloadTooLarge ≡ verdict_at large) (sym h) refl
 
   -- an answer, where none was refused
   pub fitting_is_answer : (v : Denotation) → ((bytes : ℕ) → too_large_preload s P ≡ Some bytes → ⊥) → v ≡ verdicts.Ran P (Answer (answer P G)) → IsAnswer s P G v

@@ -1,6 +1,7 @@
 -- The receipt of a verdict: it is that of the command, and its plan is the one that the files denote.
 use Rattle.std.proofs.Common.{◌≡◌, ℕ, List, Some, sym, subst, inl, inr}
 use Rattle.std.specs.Prelude.{Option, None, IfSome, IfNone, Bool, true, false, if◌then◌else◌}
+use Rattle.std.proofs.lemmas.Bool.{false≢true}
 use Rattle.coll_data.specs.Data.{Data}
 use Rattle.plan_core.specs.declared.plan.Plan.{Plan}
 use Rattle.ptg_io.specs.Files.{file_of}
@@ -19,12 +20,12 @@ use Rattle.ptg_top.specs.declared.verdict.Finding.{Finding}
 use Rattle.ptg_top.specs.declared.verdict.Finding.TheVariants as findings
 use Rattle.ptg_top.specs.declared.verdict.RanBy.TheVariants.{Table, OneThread}
 use Rattle.ptg_top.specs.declared.verdict.Verdict.{Verdict}
-use Rattle.ptg_top.specs.declared.verdict.Verdict.TheVariants.{Usage, Unread, Job, Ran, Spelling, Preload, Trace}
+use Rattle.ptg_top.specs.declared.verdict.Verdict.TheVariants.{Usage, Unread, Job, Ran, Spelling, PreloadTooLarge, TraceRefused}
 use Rattle.ptg_top.specs.Answering.{IsAnswer, OnConsistent}
 use Rattle.ptg_top.specs.Denotation as verdicts
 use Rattle.ptg_top.specs.Denotation.{Denotation, denoted}
 use Rattle.job_gen.specs.Job.{data_text, jdf_text}
-use Rattle.ptg_top.specs.JobFiles.{Entries, ContentsDenote, FilesDenote, JobTextsDenote}
+use Rattle.ptg_top.specs.JobFiles.{ContentsDenote, FilesDenote, JobTextsDenote, NamedFiles}
 use Rattle.ptg_top.specs.Meaning.{CommandDenotes, ContentShows, Denotes}
 use Rattle.ptg_top.specs.Reports.{IsVerdictOnWords}
 use Rattle.ptg_top.specs.Certify.{IsCertified}
@@ -35,7 +36,7 @@ use Rattle.ptg_top.specs.Findings.{status_of_finding, status_of_outcome}
 use Rattle.ptg_top.specs.Ranks.{IsRanked}
 use Rattle.ptg_top.specs.Headline.{status_of}
 use Rattle.ptg_top.specs.Tables.{usual_settings}
-use Rattle.ptg_top.specs.Receipts.{FindsPlan, HasConsistentPlan, IsAnswerStatus, IsOfRun, IsReceiptFor, IsRun, IsRunAsAsked, IsRunAsCommanded, receipt_of}
+use Rattle.ptg_top.specs.Receipts.{FindsPlan, HasConsistentPlan, IsAnswerStatus, IsReceiptFor, IsVerdictForCommand, IsVerdictForWords, IsVerdictOfTable, RunsOnTable, receipt_of}
 use Rattle.ptg_top.proofs.Ending.{is_denoted}
 
 -- ---- what is found of a job that was run has the receipt of the command
@@ -57,7 +58,7 @@ some_is_not_none : (r : ReceiptView) → ◌≡◌ {A = Option ReceiptView} (Som
 some_is_not_none r e = absurd cc
 
 module _ (r : ReceiptView) (finding : Finding) where
-  receipt_of_order : (o : Order) → IsRunAsAsked o (Ran (Table r) finding) → IsReceiptFor o r
+  receipt_of_order : (o : Order) → IsVerdictForCommand o (Ran (Table r) finding) → IsReceiptFor o r
   receipt_of_order (order.Run j t w s p) h = h
   receipt_of_order (order.Show j) h = absurd (some_is_not_none r h)
   receipt_of_order (order.Check j t) h = absurd (some_is_not_none r h)
@@ -67,14 +68,14 @@ module _ (r : ReceiptView) (finding : Finding) where
   receipt_of_order (order.Certify j t) h = h
   receipt_of_order (order.Ranks j t k s) h = absurd (some_is_not_none r h)
 
-module _ (words : List (List ℕ)) (contents : Option Entries) (old new : List ℕ → ℕ) where
-  answer_receipt : (r : ReceiptView) (finding : Finding) → IsVerdictOnWords words contents old new (verdicts.Ran r.plan finding) → IsRunAsCommanded words (Ran (Table r) finding)
+module _ (words : List (List ℕ)) (contents : Option NamedFiles) (old new : List ℕ → ℕ) where
+  answer_receipt : (r : ReceiptView) (finding : Finding) → IsVerdictOnWords words contents old new (verdicts.Ran r.plan finding) → IsVerdictForWords words (Ran (Table r) finding)
       → (o : Order) × Orders words o × IsReceiptFor o r
   answer_receipt r finding (inl (none, e)) ran = absurd cc
   answer_receipt r finding (inr (command, formed, h)) ran =
       (command, formed, receipt_of_order r finding command (ran command formed))
 
-  asked_receipt : (v : Verdict) (s : Status) → IsVerdictOnWords words contents old new (denoted v) → IsRunAsCommanded words v → s ≡ status_of (denoted v)
+  asked_receipt : (v : Verdict) (s : Status) → IsVerdictOnWords words contents old new (denoted v) → IsVerdictForWords words v → s ≡ status_of (denoted v)
       → IfSome (receipt_of v) (λ r. (o : Order) × Orders words o × IsReceiptFor o r × IsAnswerStatus s)
   asked_receipt (Ran (Table r) finding) s judged ran e =
       let at = answer_receipt r finding judged ran in
@@ -83,11 +84,11 @@ module _ (words : List (List ℕ)) (contents : Option Entries) (old new : List �
   asked_receipt (Unread name) s judged ran e = tt
   asked_receipt (Job job) s judged ran e = tt
   asked_receipt (Spelling text) s judged ran e = tt
-  asked_receipt Preload s judged ran e = tt
+  asked_receipt PreloadTooLarge s judged ran e = tt
   asked_receipt (Ran (OneThread matched) finding) s judged ran e = tt
-  asked_receipt (Trace fault) s judged ran e = tt
+  asked_receipt (TraceRefused fault) s judged ran e = tt
 
-  pub receipt_is_asked : (v : Verdict) (s : Status) (found : Option ReceiptView) → IsVerdictOnWords words contents old new (denoted v) → IsRunAsCommanded words v → s ≡ status_of (denoted v) → found ≡ receipt_of v
+  pub receipt_is_asked : (v : Verdict) (s : Status) (found : Option ReceiptView) → IsVerdictOnWords words contents old new (denoted v) → IsVerdictForWords words v → s ≡ status_of (denoted v) → found ≡ receipt_of v
       → IfSome found (λ r. (o : Order) × Orders words o × IsReceiptFor o r × IsAnswerStatus s)
   receipt_is_asked v s found judged ran e is =
       subst (λ (x : Option ReceiptView). IfSome x (λ r. (o : Order) × Orders words o × IsReceiptFor o r × IsAnswerStatus s)) (sym is) (asked_receipt v s judged ran e)
@@ -95,31 +96,31 @@ module _ (words : List (List ℕ)) (contents : Option Entries) (old new : List �
 -- ---- a run without a receipt has no answer
 
 module _ (words : List (List ℕ)) (s : Status) where
-  unanswered : (v : Verdict) → IsRunAsCommanded words v → ((settings : Settings) → IsOfRun settings v → IsAnswerStatus s → ⊥)
-      → (o : Order) → Orders words o → IsRun o → IsAnswerStatus s → ⊥
+  unanswered : (v : Verdict) → IsVerdictForWords words v → ((settings : Settings) → IsVerdictOfTable settings v → IsAnswerStatus s → ⊥)
+      → (o : Order) → Orders words o → RunsOnTable o → IsAnswerStatus s → ⊥
   unanswered v ran of_run (order.Run j t w k p) formed is_run answer_status =
       of_run (record { workers = w; shards = k; preload = p }) (ran (order.Run j t w k p) formed) answer_status
   unanswered v ran of_run (order.Trace j t w k) formed is_run answer_status =
       of_run (record { workers = w; shards = k; preload = false }) (ran (order.Trace j t w k) formed) answer_status
   unanswered v ran of_run (order.Demo rows) formed is_run answer_status = of_run usual_settings (ran (order.Demo rows) formed) answer_status
   unanswered v ran of_run (order.Certify j t) formed is_run answer_status = of_run usual_settings (ran (order.Certify j t) formed) answer_status
-  unanswered v ran of_run o formed is_run answer_status = absurd is_run
+  unanswered v ran of_run o formed is_run answer_status = absurd (false≢true is_run)
 
-  no_answer : (v : Verdict) → IsRunAsCommanded words v → s ≡ status_of (denoted v)
-      → IfNone (receipt_of v) ((o : Order) → Orders words o → IsRun o → IsAnswerStatus s → ⊥)
+  no_answer : (v : Verdict) → IsVerdictForWords words v → s ≡ status_of (denoted v)
+      → IfNone (receipt_of v) ((o : Order) → Orders words o → RunsOnTable o → IsAnswerStatus s → ⊥)
   no_answer (Ran (Table r) finding) ran e = tt
   no_answer Usage ran e = unanswered Usage ran (λ settings h status. h (subst IsAnswerStatus e status))
   no_answer (Unread name) ran e = unanswered (Unread name) ran (λ settings h status. h (subst IsAnswerStatus e status))
   no_answer (Job job) ran e = unanswered (Job job) ran (λ settings h status. h (subst IsAnswerStatus e status))
   no_answer (Spelling text) ran e = unanswered (Spelling text) ran (λ settings h status. h (subst IsAnswerStatus e status))
-  no_answer Preload ran e = unanswered Preload ran (λ settings h status. h (subst IsAnswerStatus e status))
+  no_answer PreloadTooLarge ran e = unanswered PreloadTooLarge ran (λ settings h status. h (subst IsAnswerStatus e status))
   no_answer (Ran (OneThread matched) finding) ran e = unanswered (Ran (OneThread matched) finding) ran (λ settings h status. h)
-  no_answer (Trace fault) ran e = unanswered (Trace fault) ran (λ settings h status. h (subst IsAnswerStatus e status))
+  no_answer (TraceRefused fault) ran e = unanswered (TraceRefused fault) ran (λ settings h status. h (subst IsAnswerStatus e status))
 
-  pub no_receipt_no_answer : (v : Verdict) (found : Option ReceiptView) → IsRunAsCommanded words v → s ≡ status_of (denoted v) → found ≡ receipt_of v
-      → IfNone found ((o : Order) → Orders words o → IsRun o → IsAnswerStatus s → ⊥)
+  pub no_receipt_no_answer : (v : Verdict) (found : Option ReceiptView) → IsVerdictForWords words v → s ≡ status_of (denoted v) → found ≡ receipt_of v
+      → IfNone found ((o : Order) → Orders words o → RunsOnTable o → IsAnswerStatus s → ⊥)
   no_receipt_no_answer v found ran e is =
-      subst (λ (x : Option ReceiptView). IfNone x ((o : Order) → Orders words o → IsRun o → IsAnswerStatus s → ⊥)) (sym is) (no_answer v ran e)
+      subst (λ (x : Option ReceiptView). IfNone x ((o : Order) → Orders words o → RunsOnTable o → IsAnswerStatus s → ⊥)) (sym is) (no_answer v ran e)
 
 -- ---- the plan of an answer is the one that the files denote
 
@@ -147,7 +148,7 @@ module _ (P : Plan) (finding : Finding) where
         (given, subst (λ (p : Plan). Found (verdicts.Job (jobs.Consistent p given))) (same Q given e) h)
     plan_is_found none same checked h e = absurd (none (subst Found (sym e) h))
 
-  of_answer : (large : Bool) (Q : Plan) (other : Finding) → verdicts.Ran P finding ≡ (if large then verdicts.Preload else verdicts.Ran Q other) → Q ≡ P
+  of_answer : (large : Bool) (Q : Plan) (other : Finding) → verdicts.Ran P finding ≡ (if large then verdicts.PreloadTooLarge else verdicts.Ran Q other) → Q ≡ P
   of_answer true Q other e = absurd cc
   of_answer false Q other e = cc
 
@@ -168,7 +169,7 @@ module _ (P : Plan) (finding : Finding) where
   of_certified : (Q : Plan) (given : Data) → IsCertified Q given (verdicts.Ran P finding) → Q ≡ P
   of_certified Q given (c, h, e) = cc
 
-  module _ (files : Entries) where
+  module _ (files : NamedFiles) where
     order_finds : (o : Order) → CommandDenotes files o (verdicts.Ran P finding) → FindsPlan files o P
     order_finds (order.Run j t w s p) h =
         let settings : Settings = record { workers = w; shards = s; preload = p } in
@@ -194,7 +195,7 @@ module _ (P : Plan) (finding : Finding) where
 run_is_read : (P : Plan) (finding : Finding) (name : List ℕ) → verdicts.Ran P finding ≡ verdicts.Unread name → ⊥
 run_is_read P finding name e = absurd cc
 
-module _ (words : List (List ℕ)) (files : Entries) (contents : Option Entries) (old new : List ℕ → ℕ) where
+module _ (words : List (List ℕ)) (files : NamedFiles) (contents : Option NamedFiles) (old new : List ℕ → ℕ) where
   has_plan : (v : Verdict) → IsVerdictOnWords words contents old new (denoted v) → contents ≡ Some files → IfSome (receipt_of v) (λ r. HasConsistentPlan words files r.plan)
   has_plan (Ran (Table r) finding) judged known =
       answer_has_plan r.plan finding files words
@@ -203,9 +204,9 @@ module _ (words : List (List ℕ)) (files : Entries) (contents : Option Entries)
   has_plan (Unread name) judged known = tt
   has_plan (Job job) judged known = tt
   has_plan (Spelling text) judged known = tt
-  has_plan Preload judged known = tt
+  has_plan PreloadTooLarge judged known = tt
   has_plan (Ran (OneThread matched) finding) judged known = tt
-  has_plan (Trace fault) judged known = tt
+  has_plan (TraceRefused fault) judged known = tt
 
   pub receipt_has_plan : (v : Verdict) (found : Option ReceiptView) → IsVerdictOnWords words contents old new (denoted v) → contents ≡ Some files → found ≡ receipt_of v
       → IfSome found (λ r. HasConsistentPlan words files r.plan)

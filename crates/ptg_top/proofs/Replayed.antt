@@ -11,7 +11,7 @@ use Rattle.flow_meaning.specs.declared.outcome.Outcome.{Outcome}
 use Rattle.trace_core.specs.Faults.{IsTraceFault, of_spelling}
 use Rattle.trace_core.specs.Reading.{over_length, too_long}
 use Rattle.trace_core.specs.declared.fault.TraceFault.{TraceFault}
-use Rattle.trace_exists.proofs.Either.{fault_or_trace}
+use Rattle.trace_core.proofs.Either.{fault_or_trace}
 use Rattle.job_stages.specs.declared.verdict.JobVerdict.TheVariants as jobs
 use Rattle.ptg_words.specs.declared.order.Order.TheVariants.{Check, Replay}
 use Rattle.ptg_top.specs.declared.verdict.Finding.TheVariants.{Answer}
@@ -19,7 +19,7 @@ use Rattle.ptg_top.specs.declared.verdict.Verdict.{Verdict}
 use Rattle.ptg_top.specs.Denotation as verdicts
 use Rattle.ptg_top.specs.Denotation.{Denotation, denoted}
 use Rattle.ptg_top.specs.Answering.{IsRefusedByCheck}
-use Rattle.ptg_top.specs.JobFiles.{Entries, FilesDenote}
+use Rattle.ptg_top.specs.JobFiles.{FilesDenote, NamedFiles}
 use Rattle.ptg_top.specs.Replay.{IsReplayed, IsReplayOf}
 use Rattle.ptg_top.specs.Reports.{IsOfTexts, IsVerdictOnCommand}
 use Rattle.ptg_top.specs.Steps.{ReplayEndsWith}
@@ -34,27 +34,27 @@ accepted P given con text r o is refused answered = elim (fault_or_trace P given
   | inr found ↦ inr (found, ap (λ (x : Outcome). verdicts.Ran P (Answer x)) (subst (λ (q : Result Outcome TraceFault). IfOk q (λ x. x ≡ answer P given)) is answered))
 ]
 
-module _ (contents : Option Entries) (old new : ℕ) (trace : List ℕ) (P : Plan) (given : Data) where
+module _ (contents : Option NamedFiles) (old new : ℕ) (trace : List ℕ) (P : Plan) (given : Data) where
   -- a trace file that was loaded
-  pub read_ends : (text : List ℕ) (r : Result Verdict OutOfMemory) → ((files : Entries) → contents ≡ Some files → file_of files trace ≡ Some text)
+  pub read_ends : (text : List ℕ) (r : Result Verdict OutOfMemory) → ((files : NamedFiles) → contents ≡ Some files → file_of files trace ≡ Some text)
       → IfOk r (λ v. IsReplayOf text P given (denoted v)) → IfOk r (λ v. IsOfTexts (denoted v)) → IfOk r (λ v. ReplayEndsWith contents old new trace P given (denoted v))
   read_ends text (Ok v) there h of = inr (of, λ files t. (text, there files t, h))
   read_ends text (Err x) there h of = tt
 
   -- a trace file that is too long
-  pub long_ends : (f : TraceFault) → f ≡ too_long → ((files : Entries) → contents ≡ Some files → IsLonger files trace 16777216)
-      → ReplayEndsWith contents old new trace P given (verdicts.Trace f)
+  pub long_ends : (f : TraceFault) → f ≡ too_long → ((files : NamedFiles) → contents ≡ Some files → IsLonger files trace 16777216)
+      → ReplayEndsWith contents old new trace P given (verdicts.TraceRefused f)
   long_ends f is long = inr (tt, λ files t. let at = long files t in (at.0, at.1, inl (f, of_spelling (over_length at.2 is), refl)))
 
-module _ (contents : Option Entries) (jdf data_name trace : List ℕ) where
+module _ (contents : Option NamedFiles) (jdf data_name trace : List ℕ) where
   module _ (old mid new : List ℕ → ℕ) (P : Plan) (given : Data) where
     -- the files denote the job that was found consistent
     job_known : (checked : Denotation) → checked ≡ verdicts.Job (jobs.Consistent P given) → IsVerdictOnCommand contents old mid (Check jdf data_name) checked
-        → (files : Entries) → contents ≡ Some files → FilesDenote files jdf data_name (verdicts.Job (jobs.Consistent P given))
+        → (files : NamedFiles) → contents ≡ Some files → FilesDenote files jdf data_name (verdicts.Job (jobs.Consistent P given))
     job_known checked is (inl (name, rose, may, e)) files t = let d : verdicts.Job (jobs.Consistent P given) ≡ verdicts.Unread name = sym is ∙ e in absurd cc
     job_known checked is (inr (of, known)) files t = subst (FilesDenote files jdf data_name) is (known files t)
 
-    trace_ends : (v : Denotation) → old trace ≤ mid trace → ((files : Entries) → contents ≡ Some files → FilesDenote files jdf data_name (verdicts.Job (jobs.Consistent P given)))
+    trace_ends : (v : Denotation) → old trace ≤ mid trace → ((files : NamedFiles) → contents ≡ Some files → FilesDenote files jdf data_name (verdicts.Job (jobs.Consistent P given)))
         → ReplayEndsWith contents (mid trace) (new trace) trace P given v → IsVerdictOnCommand contents old new (Replay jdf data_name trace) v
     trace_ends v le job (inl (e, rose)) = inl (trace, rose_from (old trace) (mid trace) (new trace) le rose, inr (refl, λ files t. (P, given, job files t)), e)
     trace_ends v le job (inr (of, known)) =

@@ -4,8 +4,6 @@ use Rattle.std.specs.Prelude.{Option, IfOk}
 use Rattle.ptg_base.specs.declared.memory.OutOfMemory.{OutOfMemory}
 use Rattle.coll_data.specs.Data.{Data}
 use Rattle.plan_core.specs.declared.plan.Plan.{Plan}
-use Rattle.flow_meaning.specs.declared.outcome.Outcome.{Outcome}
-use Rattle.flow_meaning.specs.declared.outcome.Outcome.TheVariants as outcomes
 use Rattle.job_gen.specs.Job.{data_text, jdf_text}
 use Rattle.job_stages.specs.Verdict.{TextsDenote}
 use Rattle.job_stages.specs.declared.verdict.JobVerdict.{JobVerdict}
@@ -14,20 +12,13 @@ use Rattle.ptg_words.specs.declared.order.Order.{Order}
 use Rattle.ptg_words.specs.declared.order.Order.TheVariants.{Demo}
 use Rattle.ptg_top.specs.declared.verdict.Verdict.{Verdict}
 use Rattle.ptg_top.specs.Answering.{IsRefusedByCheck, OnConsistent}
-use Rattle.ptg_top.specs.Demo.{DemoDenotes, IsSummary, MadeTextsDenote, summed}
+use Rattle.ptg_top.specs.Demo.{DemoDenotes, IsSummary, MadeTextsDenote}
 use Rattle.ptg_top.specs.Denotation as verdicts
 use Rattle.ptg_top.specs.Denotation.{Denotation, denoted}
-use Rattle.ptg_top.specs.Findings.{IsAnswered, IsFindingOf}
-use Rattle.ptg_top.specs.JobFiles.{Entries}
+use Rattle.ptg_top.specs.JobFiles.{NamedFiles}
 use Rattle.ptg_top.specs.Reports.{IsOfTexts, IsVerdictOnCommand}
 use Rattle.ptg_top.proofs.Answered.{kept, on_texts}
 use Rattle.ptg_top.proofs.JdfFiles.{job_is_of_texts}
-
--- what is found of an answer is of its plan
-pub summed_is_finding : (n : ℕ) (P : Plan) (outcome : Outcome) → IsAnswered P outcome → IsFindingOf P (summed n outcome)
-summed_is_finding n P (outcomes.Complete count final) h = tt
-summed_is_finding n P (outcomes.Trapped rows) h = h
-summed_is_finding n P (outcomes.Stalled ran total rows) h = h
 
 module _ (n : ℕ) where
   -- texts that are those of the made job denote what these denote
@@ -50,7 +41,7 @@ module _ (n : ℕ) where
   demo_of_texts v (checked, (job, h, e), k) = on_texts (IsSummary n) (λ P given w s. subst IsOfTexts (sym s) tt) checked v (job_is_of_texts checked job e) k
 
   -- what is denoted is a verdict on the command, whatever the files are
-  pub demo_ends : (contents : Option Entries) (old new : List ℕ → ℕ) (command : Order) (r : Result Verdict OutOfMemory) → command ≡ Demo n → IfOk r (λ v. DemoDenotes n (denoted v))
+  pub demo_ends : (contents : Option NamedFiles) (old new : List ℕ → ℕ) (command : Order) (r : Result Verdict OutOfMemory) → command ≡ Demo n → IfOk r (λ v. DemoDenotes n (denoted v))
       → IfOk r (λ v. IsVerdictOnCommand contents old new command (denoted v))
   demo_ends contents old new command (Ok v) e h =
       subst (λ (q : Order). IsVerdictOnCommand contents old new q (denoted v)) (sym e) (inr (demo_of_texts (denoted v) h, λ files t. h))

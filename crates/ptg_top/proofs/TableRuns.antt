@@ -1,5 +1,5 @@
 -- The run of a job by a table: its answer, and what is found of it.
-use Rattle.std.proofs.Common.{◌≡◌, sym, ◌∙◌, ap}
+use Rattle.std.proofs.Common.{◌≡◌, ◌∙◌, ap}
 use Rattle.coll_data.specs.Data.{Data}
 use Rattle.plan_core.specs.declared.plan.Plan.{Plan}
 use Rattle.flow_meaning.specs.Answer.{answer}
@@ -14,13 +14,12 @@ use Rattle.ptg_top.specs.declared.verdict.RanBy.{RanBy}
 use Rattle.ptg_top.specs.declared.verdict.RanBy.TheVariants.{Table}
 use Rattle.ptg_top.specs.Denotation as verdicts
 use Rattle.ptg_top.specs.Denotation.{plan_of}
-use Rattle.ptg_top.specs.Findings.{IsAnswered}
-use Rattle.ptg_top.specs.Tables.{IsRunOf}
+use Rattle.ptg_top.specs.Tables.{IsTableAnswer}
 
 module _ (s : Settings) (P : Plan) (G : Data) where
   -- a table that was closed when it was quiet ran the job that was made ready
   pub closed_is_run : (p : Run) (t : ClosedView) (r : ReceiptView) (outcome : Outcome) → p ≡ run_of P G s → t.job ≡ p.job → t.passes ≡ p.workers → r ≡ receipt_of t
-      → outcome ≡ answer t.job.matched t.job.given → IsRunOf s P G (Table r) outcome
+      → outcome ≡ answer t.job.matched t.job.given → IsTableAnswer s P G (Table r) outcome
   closed_is_run p t r outcome run job passes receipt ended =
       let same : t.job ≡ (run_of P G s).job = job ∙ ap (λ (q : Run). q.job) run in
       record {
@@ -33,12 +32,8 @@ module _ (s : Settings) (P : Plan) (G : Data) where
         answered = ended ∙ ap (λ (j : TableJob). answer j.matched j.given) same;
       }
 
-  module _ (by : RanBy) (outcome : Outcome) (h : IsRunOf s P G by outcome) where
+  module _ (by : RanBy) (outcome : Outcome) (h : IsTableAnswer s P G by outcome) where
     -- what is found of its answer
     pub found_of_run : (find : Outcome → Finding) (finding : Finding) → finding ≡ find outcome → verdicts.Ran (plan_of by) finding ≡ verdicts.Ran P (find (answer P G))
     found_of_run find finding is =
         ap (λ (Q : Plan). verdicts.Ran Q finding) h.plan ∙ ap (λ (f : Finding). verdicts.Ran P f) (is ∙ ap find h.answered)
-
-    -- which is the answer of the plan that the table has
-    pub run_is_answered : IsAnswered (plan_of by) outcome
-    run_is_answered = (G, h.answered ∙ ap (λ (Q : Plan). answer Q G) (sym h.plan))

@@ -12,11 +12,11 @@ use Rattle.flow_meaning.specs.Order.{IsWholeOrder}
 use Rattle.run_pool.specs.Runs.{Run, run_of}
 use Rattle.run_pool.specs.declared.settings.Settings.{Settings}
 use Rattle.trace_core.specs.Text.{trace_text}
-use Rattle.trace_exists.proofs.Either.{order_tasks}
+use Rattle.trace_core.proofs.Either.{order_tasks}
 use Rattle.ptg_top.specs.declared.verdict.Finding.TheVariants.{Trace}
 use Rattle.ptg_top.specs.declared.verdict.RanBy.TheVariants.{Table}
 use Rattle.ptg_top.specs.Denotation as verdicts
-use Rattle.ptg_top.specs.Tables.{IsRunOf}
+use Rattle.ptg_top.specs.Tables.{IsTableAnswer}
 use Rattle.ptg_top.specs.Trace.{IsTraced}
 
 -- the tasks of a run are tasks of its plan
@@ -25,7 +25,7 @@ ran_tasks P Q G ts us plan same order =
     subst (λ (R : Plan). AllByRecursion (IsTask R) us) (sym plan) (subst (AllByRecursion (IsTask P)) (sym same) (order_tasks P ts order.legal))
 
 -- the text of the tasks of a run, in the order in which they ran
-pub traced_by : (s : Settings) (P : Plan) (G : Data) (p : Run) (r : ReceiptView) (outcome : Outcome) (ts us : List Task) (text : List ℕ) (Q : Plan) → p ≡ run_of P G s → IsRunOf s P G (Table r) outcome
+pub traced_by : (s : Settings) (P : Plan) (G : Data) (p : Run) (r : ReceiptView) (outcome : Outcome) (ts us : List Task) (text : List ℕ) (Q : Plan) → p ≡ run_of P G s → IsTableAnswer s P G (Table r) outcome
     → IsWholeOrder p.job.matched p.job.given ts → Q ≡ r.plan → us ≡ ts → text ≡ trace_text Q us → IsTraced P G (verdicts.Ran r.plan (Trace text))
 traced_by s P G p r outcome ts us text Q run of order plan same is =
     let here : IsWholeOrder P G ts = subst (λ (j : TableJob). IsWholeOrder j.matched j.given ts) (ap (λ (q : Run). q.job) run) order in

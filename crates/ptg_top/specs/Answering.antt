@@ -10,13 +10,17 @@ use Rattle.ptg_top.specs.declared.verdict.Finding.TheVariants.{Answer}
 use Rattle.ptg_top.specs.Denotation as verdicts
 use Rattle.ptg_top.specs.Denotation.{Denotation}
 
--- The verdict of a verb for that of `check`: what the verb makes of a consistent job with its data; every refusal stays
--- as it is.
+-- the verdict of a verb for that of `check`: what the verb makes of a consistent job with its data, or the refusal as
+-- it is
 abbrev pub OnConsistent : (Plan → Data → Denotation → Type 0) → Denotation → Denotation → Type 0
 OnConsistent Verb (verdicts.Job (jobs.Consistent P given)) v = Verb P given v
 OnConsistent Verb checked v = v ≡ checked
 
--- a refusal of `check`: every verdict of it but a consistent job
+-- the verdict of a verb that goes on from a verdict of `check`, for which `Checked` holds
+abbrev pub GoesOnFrom : (Denotation → Type 0) → (Plan → Data → Denotation → Type 0) → Denotation → Type 0
+GoesOnFrom Checked Verb v = (checked : Denotation) × Checked checked × OnConsistent Verb checked v
+
+-- the verdict is a refusal of `check`: any of its verdicts but a consistent job
 abbrev pub IsRefusedByCheck : Denotation → Type 0
 IsRefusedByCheck (verdicts.Unread name) = Unit {0}
 IsRefusedByCheck (verdicts.Job (jobs.Consistent P given)) = ⊥
@@ -26,4 +30,4 @@ IsRefusedByCheck v = ⊥
 -- the verdict of `run` on a consistent job: its preload is too large, or else its answer
 abbrev pub IsAnswer : Settings → Plan → Data → Denotation → Type 0
 IsAnswer settings P given v =
-    v ≡ (if is_too_large settings P then verdicts.Preload else verdicts.Ran P (Answer (answer P given)))
+    v ≡ (if is_too_large settings P then verdicts.PreloadTooLarge else verdicts.Ran P (Answer (answer P given)))

@@ -9,7 +9,7 @@ use Rattle.flow_meaning.specs.declared.outcome.Outcome.TheVariants.{Complete}
 use Rattle.job_gen.specs.Job.{data_text, jdf_text}
 use Rattle.ptg_top.specs.declared.verdict.Finding.{Finding}
 use Rattle.ptg_top.specs.declared.verdict.Finding.TheVariants.{Answer, Summary}
-use Rattle.ptg_top.specs.Answering.{OnConsistent}
+use Rattle.ptg_top.specs.Answering.{GoesOnFrom}
 use Rattle.ptg_top.specs.Denotation as verdicts
 use Rattle.ptg_top.specs.Denotation.{Denotation}
 use Rattle.ptg_top.specs.JobFiles.{JobTextsDenote}
@@ -30,4 +30,4 @@ MadeTextsDenote n v = JobTextsDenote jdf_text (data_text n) v
 
 -- the verdict of `demo`: of the made job, if it is consistent, its summary or its answer; else what refuses it
 abbrev pub DemoDenotes : ℕ → Denotation → Type 0
-DemoDenotes n v = (checked : Denotation) × MadeTextsDenote n checked × OnConsistent (IsSummary n) checked v
+DemoDenotes n v = GoesOnFrom (MadeTextsDenote n) (IsSummary n) v

@@ -10,16 +10,16 @@ use Rattle.ptg_top.specs.declared.verdict.Verdict.{Verdict}
 use Rattle.ptg_top.specs.declared.verdict.Verdict.TheVariants as verdicts
 
 -- The arguments form no command; the file of this name could not be read; a refusal, or a job that was found
--- consistent; what is found of the answer of a job with this plan; the canonical spelling of a JDF; a preload that is
--- too large; the first fault of a trace.
+-- consistent; what is found of the answer of a job with this plan; the canonical spelling of a JDF; the preload that
+-- was asked for takes too much memory; the trace is refused, and this is its first fault.
 pub data Denotation : Type 0 where
   Usage : Denotation
   Unread : List ℕ → Denotation
   Job : JobVerdict → Denotation
   Ran : Plan → Finding → Denotation
   Spelling : List ℕ → Denotation
-  Preload : Denotation
-  Trace : TraceFault → Denotation
+  PreloadTooLarge : Denotation
+  TraceRefused : TraceFault → Denotation
 
 -- the plan of the job that was run
 abbrev pub plan_of : RanBy → Plan
@@ -33,5 +33,5 @@ denoted (verdicts.Unread name) = Unread name
 denoted (verdicts.Job job) = Job job
 denoted (verdicts.Ran by finding) = Ran (plan_of by) finding
 denoted (verdicts.Spelling text) = Spelling text
-denoted verdicts.Preload = Preload
-denoted (verdicts.Trace fault) = Trace fault
+denoted verdicts.PreloadTooLarge = PreloadTooLarge
+denoted (verdicts.TraceRefused fault) = TraceRefused fault

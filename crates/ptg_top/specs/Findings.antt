@@ -1,32 +1,16 @@
 -- What a command finds of the answer of a job, what is printed of it, and the exit status. Source: this project's own
 -- choice.
-use Rattle.std.specs.Prelude.{◌≡◌, ℕ, List}
-use Rattle.coll_data.specs.Data.{Data}
+use Rattle.std.specs.Prelude.{ℕ, List}
 use Rattle.plan_core.specs.declared.plan.Plan.{Plan}
-use Rattle.flow_meaning.specs.Answer.{answer}
 use Rattle.flow_meaning.specs.declared.outcome.Outcome.{Outcome}
 use Rattle.flow_meaning.specs.declared.outcome.Outcome.TheVariants as outcomes
-use Rattle.report_text.specs.Found.{HasClassesOfChain, HasClassesOfCycle, chain_text, cycle_text, summary_text}
+use Rattle.report_text.specs.Found.{chain_text, cycle_text, summary_text}
 use Rattle.report_text.specs.Printed.{outcome_text}
 use Rattle.report_text.specs.Ranked.{ranked_text}
 use Rattle.ptg_top.specs.declared.status.Status.{Status}
 use Rattle.ptg_top.specs.declared.status.Status.TheVariants as status
 use Rattle.ptg_top.specs.declared.verdict.Finding.{Finding}
 use Rattle.ptg_top.specs.declared.verdict.Finding.TheVariants.{Answer, Summary, Chain, Cycle, Trace, Ranked}
-
--- an answer of this plan, on some data
-abbrev pub IsAnswered : Plan → Outcome → Type 0
-IsAnswered P outcome = (given : Data) × (outcome ≡ answer P given)
-
--- what is found of a job with this plan: its answer on some data, or what names no tasks but those of its classes, or a
--- text
-abbrev pub IsFindingOf : Plan → Finding → Type 0
-IsFindingOf P (Answer outcome) = IsAnswered P outcome
-IsFindingOf P (Summary found) = Unit {0}
-IsFindingOf P (Chain found) = HasClassesOfChain P found
-IsFindingOf P (Cycle found) = HasClassesOfCycle P found
-IsFindingOf P (Trace text) = Unit {0}
-IsFindingOf P (Ranked found) = IsAnswered P found.outcome
 
 -- what is printed of a finding
 abbrev pub finding_text : Plan → Finding → List ℕ
@@ -37,13 +21,13 @@ finding_text P (Cycle found) = cycle_text P found
 finding_text P (Trace text) = text
 finding_text P (Ranked found) = ranked_text P found
 
--- how a run with this outcome ends
+-- the status of a run with this outcome
 abbrev pub status_of_outcome : Outcome → Status
 status_of_outcome (outcomes.Complete count given) = status.Complete
 status_of_outcome (outcomes.Trapped rows) = status.Trapped
 status_of_outcome (outcomes.Stalled ran total rows) = status.Stalled
 
--- the status of a finding
+-- the status of a run with this finding
 abbrev pub status_of_finding : Finding → Status
 status_of_finding (Answer outcome) = status_of_outcome outcome
 status_of_finding (Summary found) = status.Complete

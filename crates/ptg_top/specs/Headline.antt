@@ -10,7 +10,7 @@ use Rattle.ptg_top.specs.declared.status.Status.TheVariants.{Complete, Usage, Jd
 use Rattle.ptg_top.specs.Denotation as verdicts
 use Rattle.ptg_top.specs.Denotation.{Denotation}
 use Rattle.ptg_top.specs.Findings.{finding_text, status_of_finding}
-use Rattle.ptg_top.specs.JobFiles.{Entries}
+use Rattle.ptg_top.specs.JobFiles.{NamedFiles}
 use Rattle.ptg_top.specs.Meaning.{Denotes}
 use Rattle.ptg_top.specs.Reports.{IsVerdictOnWords}
 use Rattle.ptg_top.specs.JobText.{job_text, status_of_job}
@@ -22,8 +22,8 @@ text_of (verdicts.Unread name) = unread_line name
 text_of (verdicts.Job job) = job_text job
 text_of (verdicts.Ran P finding) = finding_text P finding
 text_of (verdicts.Spelling text) = text
-text_of verdicts.Preload = preload_line
-text_of (verdicts.Trace fault) = refusal_text (line_of.Trace fault)
+text_of verdicts.PreloadTooLarge = preload_line
+text_of (verdicts.TraceRefused fault) = refusal_text (line_of.Trace fault)
 
 -- the status of a verdict
 abbrev pub status_of : Denotation → Status
@@ -32,10 +32,10 @@ status_of (verdicts.Unread name) = ReadFault
 status_of (verdicts.Job job) = status_of_job job
 status_of (verdicts.Ran P finding) = status_of_finding finding
 status_of (verdicts.Spelling text) = Complete
-status_of verdicts.Preload = PreloadTooLarge
-status_of (verdicts.Trace fault) = TraceRefused
+status_of verdicts.PreloadTooLarge = PreloadTooLarge
+status_of (verdicts.TraceRefused fault) = TraceRefused
 
--- the statuses of a verdict, where no failed read or write and no want of memory took its place
+-- the status is that of a verdict: neither a failed read or write nor want of memory took its place
 abbrev pub IsExact : Status → Type 0
 IsExact Complete = Unit {0}
 IsExact Usage = Unit {0}
@@ -52,7 +52,7 @@ IsExact TraceRefused = Unit {0}
 
 -- the sink grew by exactly the text of a verdict that the arguments and the files denote (one at most, but for traces),
 -- and this is its status
-pub record Prints (words : List (List ℕ)) (files : Entries) (before after : Option (List ℕ))
+pub record Prints (words : List (List ℕ)) (files : NamedFiles) (before after : Option (List ℕ))
     (status : Status) : Type 0 where
   pub verdict : Denotation
   pub denoted : Denotes words files verdict
@@ -61,7 +61,7 @@ pub record Prints (words : List (List ℕ)) (files : Entries) (before after : Op
 
 -- a failed write cut the text of a verdict short: the one that the arguments and the files denote, or the name of a
 -- file that could not be read
-pub record IsCut (words : List (List ℕ)) (contents : Option Entries) (old new : List ℕ → ℕ)
+pub record IsCut (words : List (List ℕ)) (contents : Option NamedFiles) (old new : List ℕ → ℕ)
     (before after : Option (List ℕ)) : Type 0 where
   pub verdict : Denotation
   pub due : IsVerdictOnWords words contents old new verdict

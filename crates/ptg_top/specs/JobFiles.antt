@@ -2,6 +2,7 @@
 -- only once the JDF's text was found to be that of a tree.
 use Rattle.std.specs.Prelude.{◌≡◌, ◌⊎◌, ℕ, List, Option, Some, None}
 use Rattle.ptg_io.specs.Files.{file_of}
+pub use Rattle.ptg_io.specs.Files.{NamedFiles}
 use Rattle.jdf_tree.specs.declared.tree.Jdf.{Jdf}
 use Rattle.jdf_tree.specs.Jdf.{IsJdf}
 use Rattle.job_stages.specs.declared.verdict.JobVerdict.{JobVerdict}
@@ -9,14 +10,9 @@ use Rattle.job_stages.specs.Fitting.{HasFittingData}
 use Rattle.job_stages.specs.Verdict.{JdfTextDenotes, TextsDenote}
 use Rattle.ptg_top.specs.Denotation as verdicts
 use Rattle.ptg_top.specs.Denotation.{Denotation}
-use Rattle.ptg_top.specs.Findings.{IsFindingOf}
-
--- files by name
-abbrev pub Entries : Type 0
-Entries = List (List ℕ × List ℕ)
 
 -- the file of this name is the text of this tree
-abbrev pub TreeAt : Entries → List ℕ → Jdf → Type 0
+abbrev pub TreeAt : NamedFiles → List ℕ → Jdf → Type 0
 TreeAt files name J = (text : List ℕ) × (file_of files name ≡ Some text) × IsJdf text J
 
 -- the text of a JDF has a fault, and this is its refusal
@@ -37,21 +33,11 @@ ContentsDenote jdf data_name (Some text) None v =
 ContentsDenote jdf data_name (Some text) (Some data_text) v = JobTextsDenote text data_text v
 
 -- the files of these names denote this verdict
-abbrev pub FilesDenote : Entries → List ℕ → List ℕ → Denotation → Type 0
+abbrev pub FilesDenote : NamedFiles → List ℕ → List ℕ → Denotation → Type 0
 FilesDenote files jdf data_name v = ContentsDenote jdf data_name (file_of files jdf) (file_of files data_name) v
 
--- The data of a consistent job fit its plan, and what is found of a job that was run is of its plan.
-abbrev pub HasFittingJob : Denotation → Type 0
-HasFittingJob verdicts.Usage = Unit {0}
-HasFittingJob (verdicts.Unread name) = Unit {0}
-HasFittingJob (verdicts.Job job) = HasFittingData job
-HasFittingJob (verdicts.Ran P finding) = IsFindingOf P finding
-HasFittingJob (verdicts.Spelling text) = Unit {0}
-HasFittingJob verdicts.Preload = Unit {0}
-HasFittingJob (verdicts.Trace fault) = Unit {0}
-
--- a verdict of `check`: a file that could not be read, or what two texts come to, with data that fit a consistent job's
--- plan
+-- The verdict is one of `check`: a file could not be read, or it is what two texts come to, and the data of a
+-- consistent job fit its plan.
 abbrev pub IsChecked : Denotation → Type 0
 IsChecked (verdicts.Unread name) = Unit {0}
 IsChecked (verdicts.Job job) = HasFittingData job

@@ -1,6 +1,5 @@
 -- What `ranks` denotes: the answer of a job that is run by ranks, and how many messages they send one another, whatever
--- the seed.
--- Source: this project's own choice.
+-- the seed. Source: this project's own choice.
 use Rattle.std.specs.Prelude.{◌≡◌, ℕ}
 use Rattle.coll_data.specs.Data.{Data}
 use Rattle.plan_core.specs.declared.plan.Plan.{Plan}

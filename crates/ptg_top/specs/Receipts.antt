@@ -1,6 +1,6 @@
 -- When the program ends with a receipt of the table that ran its job, and what the receipt shows. Source: this
 -- project's own choice.
-use Rattle.std.specs.Prelude.{◌≡◌, ℕ, false, List, Option, Some, None}
+use Rattle.std.specs.Prelude.{◌≡◌, ℕ, false, List, Option, Some, None, IsSome, IsSomeAnd, MatchOption}
 use Rattle.coll_data.specs.Data.{Data}
 use Rattle.plan_core.specs.declared.plan.Plan.{Plan}
 use Rattle.dep_table.specs.Receipts.{ReceiptView}
@@ -17,78 +17,74 @@ use Rattle.ptg_top.specs.declared.verdict.Verdict.TheVariants.{Ran}
 use Rattle.ptg_top.specs.Denotation as verdicts
 use Rattle.ptg_top.specs.Denotation.{denoted}
 use Rattle.ptg_top.specs.Demo.{MadeTextsDenote}
-use Rattle.ptg_top.specs.JobFiles.{Entries, FilesDenote}
+use Rattle.ptg_top.specs.JobFiles.{FilesDenote, NamedFiles}
 use Rattle.ptg_top.specs.Headline.{status_of}
-use Rattle.ptg_top.specs.Tables.{IsRunWith, ShowsSettings, usual_settings}
+use Rattle.ptg_top.specs.Tables.{RanWith, ShowsSettings, usual_settings}
 
--- the command runs a job
-abbrev pub IsRun : Order → Type 0
-IsRun (order.Run jdf data_name workers shards preload) = Unit {0}
-IsRun (order.Demo rows) = Unit {0}
-IsRun (order.Trace jdf data_name workers shards) = Unit {0}
-IsRun (order.Certify jdf data_name) = Unit {0}
-IsRun o = ⊥
+-- the settings of the table on which a command runs its job: those that it says, or the usual ones where it has no
+-- options for them; none where it runs no job on a table
+abbrev pub settings_of : Order → Option Settings
+settings_of (order.Run jdf data_name workers shards preload) =
+    Some (record { workers = workers; shards = shards; preload = preload })
+settings_of (order.Demo rows) = Some usual_settings
+settings_of (order.Trace jdf data_name workers shards) =
+    Some (record { workers = workers; shards = shards; preload = false })
+settings_of (order.Certify jdf data_name) = Some usual_settings
+settings_of command = None
 
--- The receipt is of a table with the settings that the command says, or with the usual ones where it has no options for
--- them.
+-- the command runs a job on a table
+abbrev pub RunsOnTable : Order → Type 0
+RunsOnTable command = IsSome (settings_of command)
+
+-- the receipt shows the settings of the table on which the command runs its job
 abbrev pub IsReceiptFor : Order → ReceiptView → Type 0
-IsReceiptFor (order.Run jdf data_name workers shards preload) r =
-    ShowsSettings (record { workers = workers; shards = shards; preload = preload }) r
-IsReceiptFor (order.Demo rows) r = ShowsSettings usual_settings r
-IsReceiptFor (order.Trace jdf data_name workers shards) r =
-    ShowsSettings (record { workers = workers; shards = shards; preload = false }) r
-IsReceiptFor (order.Certify jdf data_name) r = ShowsSettings usual_settings r
-IsReceiptFor o r = ⊥
+IsReceiptFor command r = IsSomeAnd (settings_of command) (λ (settings : Settings). ShowsSettings settings r)
 
--- the status of a job's answer
+-- the status is one of a job's answer: all tasks ran, some task trapped, or some task could not run
 abbrev pub IsAnswerStatus : Status → Type 0
 IsAnswerStatus status.Complete = Unit {0}
 IsAnswerStatus status.Trapped = Unit {0}
 IsAnswerStatus status.Stalled = Unit {0}
 IsAnswerStatus s = ⊥
 
+-- the files of these names denote a consistent job with this plan
+abbrev pub FilesHavePlan : NamedFiles → List ℕ → List ℕ → Plan → Type 0
+FilesHavePlan files jdf data_name P =
+    (given : Data) × FilesDenote files jdf data_name (verdicts.Job (jobs.Consistent P given))
+
 -- the files that the command names, or the texts that it makes, denote a consistent job with this plan
-abbrev pub FindsPlan : Entries → Order → Plan → Type 0
-FindsPlan files (order.Run jdf data_name workers shards preload) P =
-    (given : Data) × FilesDenote files jdf data_name (verdicts.Job (jobs.Consistent P given))
+abbrev pub FindsPlan : NamedFiles → Order → Plan → Type 0
+FindsPlan files (order.Run jdf data_name workers shards preload) P = FilesHavePlan files jdf data_name P
 FindsPlan files (order.Demo rows) P = (given : Data) × MadeTextsDenote rows (verdicts.Job (jobs.Consistent P given))
-FindsPlan files (order.Trace jdf data_name workers shards) P =
-    (given : Data) × FilesDenote files jdf data_name (verdicts.Job (jobs.Consistent P given))
-FindsPlan files (order.Replay jdf data_name trace) P =
-    (given : Data) × FilesDenote files jdf data_name (verdicts.Job (jobs.Consistent P given))
-FindsPlan files (order.Certify jdf data_name) P =
-    (given : Data) × FilesDenote files jdf data_name (verdicts.Job (jobs.Consistent P given))
-FindsPlan files (order.Ranks jdf data_name ranks seed) P =
-    (given : Data) × FilesDenote files jdf data_name (verdicts.Job (jobs.Consistent P given))
+FindsPlan files (order.Trace jdf data_name workers shards) P = FilesHavePlan files jdf data_name P
+FindsPlan files (order.Replay jdf data_name trace) P = FilesHavePlan files jdf data_name P
+FindsPlan files (order.Certify jdf data_name) P = FilesHavePlan files jdf data_name P
+FindsPlan files (order.Ranks jdf data_name ranks seed) P = FilesHavePlan files jdf data_name P
 FindsPlan files o P = ⊥
 
 -- the arguments form a command, and its job is consistent and has this plan
-abbrev pub HasConsistentPlan : List (List ℕ) → Entries → Plan → Type 0
+abbrev pub HasConsistentPlan : List (List ℕ) → NamedFiles → Plan → Type 0
 HasConsistentPlan words files P = (o : Order) × Orders words o × FindsPlan files o P
 
 -- ---- of verdicts
 
--- the receipt of the table that ran the job of a verdict
+-- the receipt of the table that ran the job of a verdict; none where no table ran it
 abbrev pub receipt_of : Verdict → Option ReceiptView
 receipt_of (Ran (Table receipt) finding) = Some receipt
 receipt_of v = None
 
--- A verdict on a run with these settings: what is found of a job that a table with these settings ran, or one without
--- the status of an answer.
-abbrev pub IsOfRun : Settings → Verdict → Type 0
-IsOfRun settings (Ran by finding) = IsRunWith settings by
-IsOfRun settings v = IsAnswerStatus (status_of (denoted v)) → ⊥
+-- The verdict is of a table with these settings: it is what is found of a job that such a table ran, or its status is
+-- not one of an answer.
+abbrev pub IsVerdictOfTable : Settings → Verdict → Type 0
+IsVerdictOfTable settings (Ran by finding) = RanWith settings by
+IsVerdictOfTable settings v = IsAnswerStatus (status_of (denoted v)) → ⊥
 
--- A verdict on a command: on a run with its settings, or without a receipt.
-abbrev pub IsRunAsAsked : Order → Verdict → Type 0
-IsRunAsAsked (order.Run jdf data_name workers shards preload) v =
-    IsOfRun (record { workers = workers; shards = shards; preload = preload }) v
-IsRunAsAsked (order.Demo rows) v = IsOfRun usual_settings v
-IsRunAsAsked (order.Trace jdf data_name workers shards) v =
-    IsOfRun (record { workers = workers; shards = shards; preload = false }) v
-IsRunAsAsked (order.Certify jdf data_name) v = IsOfRun usual_settings v
-IsRunAsAsked command v = receipt_of v ≡ None
+-- Where the command runs a job on a table, the verdict is of a table with the settings of the command; else it has no
+-- receipt.
+abbrev pub IsVerdictForCommand : Order → Verdict → Type 0
+IsVerdictForCommand command v =
+    MatchOption (settings_of command) (receipt_of v ≡ None) (λ (settings : Settings). IsVerdictOfTable settings v)
 
--- a verdict on arguments: on a run with the settings of the command that they form, or without a receipt
-abbrev pub IsRunAsCommanded : List (List ℕ) → Verdict → Type 0
-IsRunAsCommanded words v = (command : Order) → Orders words command → IsRunAsAsked command v
+-- the same holds of each command that the arguments form
+abbrev pub IsVerdictForWords : List (List ℕ) → Verdict → Type 0
+IsVerdictForWords words v = (command : Order) → Orders words command → IsVerdictForCommand command v

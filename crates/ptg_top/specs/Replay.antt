@@ -6,7 +6,7 @@ use Rattle.plan_core.specs.declared.plan.Plan.{Plan}
 use Rattle.flow_meaning.specs.Answer.{answer}
 use Rattle.trace_core.specs.Faults.{IsTraceFault}
 use Rattle.trace_core.specs.declared.fault.TraceFault.{TraceFault}
-use Rattle.trace_exists.specs.Traces.{IsSomeTrace}
+use Rattle.trace_core.specs.Traces.{IsSomeTrace}
 use Rattle.ptg_top.specs.declared.verdict.Finding.TheVariants.{Answer}
 use Rattle.ptg_top.specs.Denotation as verdicts
 use Rattle.ptg_top.specs.Denotation.{Denotation}
@@ -15,7 +15,7 @@ use Rattle.ptg_top.specs.Denotation.{Denotation}
 -- of a whole order, the answer of the job.
 abbrev pub IsReplayOf : List ℕ → Plan → Data → Denotation → Type 0
 IsReplayOf text P given v =
-    ((fault : TraceFault) × IsTraceFault P given text fault × (v ≡ verdicts.Trace fault))
+    ((fault : TraceFault) × IsTraceFault P given text fault × (v ≡ verdicts.TraceRefused fault))
     ⊎ (IsSomeTrace P given text × (v ≡ verdicts.Ran P (Answer (answer P given))))
 
 -- The verdict of `replay` on a consistent job and a trace file with this name and this content: that it is not there,

@@ -21,12 +21,12 @@ abbrev pub ShowsSettings : Settings → ReceiptView → Type 0
 ShowsSettings s r = (r.shards ≡ s.shards) × (r.passes ≡ s.workers) × (r.preloaded ≡ s.preload)
 
 -- a table with these settings ran the job
-abbrev pub IsRunWith : Settings → RanBy → Type 0
-IsRunWith s (Table r) = ShowsSettings s r
-IsRunWith s (OneThread matched) = ⊥
+abbrev pub RanWith : Settings → RanBy → Type 0
+RanWith s (Table r) = ShowsSettings s r
+RanWith s (OneThread matched) = ⊥
 
 -- a table with these settings ran the job of this plan on these data, and this is its answer
-pub record IsRunOf (s : Settings) (P : Plan) (given : Data) (by : RanBy) (outcome : Outcome) : Type 0 where
+pub record IsTableAnswer (s : Settings) (P : Plan) (given : Data) (by : RanBy) (outcome : Outcome) : Type 0 where
   pub plan : plan_of by ≡ P
-  pub settings : IsRunWith s by
+  pub settings : RanWith s by
   pub answered : outcome ≡ answer P given

@@ -14,9 +14,8 @@ ghost use Rattle.chain_cert.specs.Finding.{IsAccepted};
 ghost use Rattle.ptg_words.specs.declared.order.Order.TheVariants as commands;
 ghost use Rattle.ptg_top.specs.Certify.{IsCertified, certified};
 ghost use Rattle.ptg_top.specs.Denotation.{denoted, plan_of};
-ghost use Rattle.ptg_top.specs.JobFiles.{HasFittingJob};
 ghost use Rattle.ptg_top.specs.Reports.{IsVerdictOnCommand};
-ghost use Rattle.ptg_top.specs.Receipts.{IsOfRun};
+ghost use Rattle.ptg_top.specs.Receipts.{IsVerdictOfTable};
 ghost use Rattle.ptg_top.specs.Tables.{usual_settings};
 
 use crate::checking::check;
@@ -51,8 +50,7 @@ pub fn certify<R: Threads + Wait + Sync, F: Files, G: Gate>(
     ensures verdict { IfOk result (λ v.
         IsVerdictOnCommand (F.contents files.old) (F.faults files.old) (F.faults files.new)
         (commands.Certify jdf.now data_name.now) (denoted v)) }
-    ensures fit { IfOk result (λ v. HasFittingJob (denoted v)) }
-    ensures ran { IfOk result (λ v. IsOfRun usual_settings v) }
+    ensures ran { IfOk result (λ v. IsVerdictOfTable usual_settings v) }
 {
     let checked = check(host.alloc, jdf, data_name, files)?;
     match consistent_job(checked) {
@@ -67,10 +65,9 @@ fn certificate_found<R: Threads + Wait + Sync, G: Gate>(
     matched: Matched,
     given: Given,
 ) -> Result<Verdict, OutOfMemory>
-    requires { DataFit matched.colls matched.elems given }
+    requires { DataFit matched given }
     ensures certified { IfOk result (λ v. IsCertified matched given (denoted v)) }
-    ensures fit { IfOk result (λ v. HasFittingJob (denoted v)) }
-    ensures ran { IfOk result (λ v. IsOfRun usual_settings v) }
+    ensures ran { IfOk result (λ v. IsVerdictOfTable usual_settings v) }
 {
     let weights = weights(host.alloc, matched.plan(), &given)?;
     let (by, outcome) = run_as_usual(host, matched, given)?;

@@ -16,8 +16,8 @@ use job_stages::JobVerdict;
 /// The consistent job that `check` found, with its data; a refusal is handed back.
 pub fn consistent_job(checked: Verdict) -> Result<(Matched, Given), Verdict>
     requires { IsChecked (denoted checked) }
-    ensures found { IfOk result (λ job. denoted checked ≡ verdicts.Job (jobs.Consistent job.0 job.1)) }
-    ensures fit { IfOk result (λ job. DataFit job.0.colls job.0.elems job.1) }
+    ensures found { IfOk result (λ (matched, given). denoted checked ≡ verdicts.Job (jobs.Consistent matched given)) }
+    ensures fit { IfOk result (λ (matched, given). DataFit matched given) }
     ensures refused { IfErr result (λ v. (v ≡ checked) × IsRefusedByCheck (denoted v)) }
 {
     match checked {

@@ -3,17 +3,14 @@
 ghost use Rattle.std.specs.Prelude.{◌≡◌};
 ghost use Rattle.report_text.specs.Puts.{PrintsText};
 ghost use Rattle.ptg_top.specs.Denotation.{plan_of};
-ghost use Rattle.ptg_top.specs.Findings.{IsFindingOf, finding_text, status_of_finding, status_of_outcome};
+ghost use Rattle.ptg_top.specs.Findings.{finding_text, status_of_finding, status_of_outcome};
 
 use crate::status::Status;
 use crate::verdict::{Finding, RanBy};
 use flow_meaning::Outcome;
 use plan_core::Plan;
 use ptg_io::{Failed, Sink, write_all};
-use report_text::{
-    answers_have_rows_of_their_plan, found_cycle, heaviest_chain, ranked_answer, report,
-    summary_line,
-};
+use report_text::{found_cycle, heaviest_chain, ranked_answer, report, summary_line};
 
 // The plan of the job that was run.
 fn plan_of(by: &RanBy) -> &Plan
@@ -27,10 +24,8 @@ fn plan_of(by: &RanBy) -> &Plan
 
 /// Prints what is found of a job that was run. On `Err` a prefix of its text was written.
 pub fn print_finding<O: Sink>(by: &RanBy, finding: &Finding, out: &mut O) -> Result<(), Failed>
-    requires { IsFindingOf (plan_of by.now) finding.now }
     ensures { PrintsText O.bytes O.faults result out.old out.new (finding_text (plan_of by.now) finding.now) }
 {
-    answers_have_rows_of_their_plan();
     match finding {
         Finding::Answer(outcome) => report(plan_of(by), outcome, out),
         Finding::Summary(found) => summary_line(found, out),

@@ -5,9 +5,8 @@ ghost use Rattle.std.specs.List.{AllByRecursion};
 ghost use Rattle.std.specs.Str.{IsUtf8};
 ghost use Rattle.ptg_words.specs.Laws.{HasNumbersInRange, files_of};
 ghost use Rattle.ptg_top.specs.Denotation.{denoted};
-ghost use Rattle.ptg_top.specs.JobFiles.{HasFittingJob};
 ghost use Rattle.ptg_top.specs.Reports.{IsVerdictOnCommand, IsVerdictOnWords};
-ghost use Rattle.ptg_top.specs.Receipts.{IsRunAsAsked, IsRunAsCommanded};
+ghost use Rattle.ptg_top.specs.Receipts.{IsVerdictForCommand, IsVerdictForWords};
 
 use crate::certifying::certify;
 use crate::checking::check;
@@ -37,8 +36,7 @@ pub fn judge<R: Threads + Wait + Sync, F: Files, G: Gate>(
     ensures grows { (other : List ℕ) → F.faults files.old other ≤ F.faults files.new other }
     ensures judged { IfOk result (λ v.
         IsVerdictOnWords list.now (F.contents files.old) (F.faults files.old) (F.faults files.new) (denoted v)) }
-    ensures fit { IfOk result (λ v. HasFittingJob (denoted v)) }
-    ensures ran { IfOk result (λ v. IsRunAsCommanded list.now v) }
+    ensures ran { IfOk result (λ v. IsVerdictForWords list.now v) }
 {
     files_are_text();
     commands_have_numbers_in_range();
@@ -61,8 +59,7 @@ fn carry_out<R: Threads + Wait + Sync, F: Files, G: Gate>(
     ensures grows { (other : List ℕ) → F.faults files.old other ≤ F.faults files.new other }
     ensures judged { IfOk result (λ v.
         IsVerdictOnCommand (F.contents files.old) (F.faults files.old) (F.faults files.new) order.now (denoted v)) }
-    ensures fit { IfOk result (λ v. HasFittingJob (denoted v)) }
-    ensures ran { IfOk result (λ v. IsRunAsAsked order.now v) }
+    ensures ran { IfOk result (λ v. IsVerdictForCommand order.now v) }
 {
     match order {
         Order::Run(jdf, data_name, workers, shards, preload) => {

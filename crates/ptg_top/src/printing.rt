@@ -3,7 +3,6 @@
 ghost use Rattle.std.specs.Prelude.{◌≡◌};
 ghost use Rattle.report_text.specs.Puts.{PrintsText};
 ghost use Rattle.ptg_top.specs.Denotation.{denoted};
-ghost use Rattle.ptg_top.specs.JobFiles.{HasFittingJob};
 ghost use Rattle.ptg_top.specs.Headline.{text_of, status_of};
 ghost use Rattle.ptg_top.specs.Receipts.{receipt_of};
 
@@ -17,7 +16,6 @@ use report_text::{Line, refusal};
 
 /// Prints a verdict. On `Err` a prefix of its text was written.
 pub fn print_verdict<O: Sink>(verdict: &Verdict, out: &mut O) -> Result<(), Failed>
-    requires { HasFittingJob (denoted verdict.now) }
     ensures { PrintsText O.bytes O.faults result out.old out.new (text_of (denoted verdict.now)) }
 {
     match verdict {
@@ -26,8 +24,8 @@ pub fn print_verdict<O: Sink>(verdict: &Verdict, out: &mut O) -> Result<(), Fail
         Verdict::Job(job) => print_job(job, out),
         Verdict::Ran(by, finding) => print_finding(by, finding, out),
         Verdict::Spelling(text) => write_all(out, text.bytes()),
-        Verdict::Preload => refusal(&Line::Preload, out),
-        Verdict::Trace(fault) => refusal(&Line::Trace(*fault), out),
+        Verdict::PreloadTooLarge => refusal(&Line::Preload, out),
+        Verdict::TraceRefused(fault) => refusal(&Line::Trace(*fault), out),
     }
 }
 
@@ -41,8 +39,8 @@ pub fn status(verdict: &Verdict) -> Status
         Verdict::Job(job) => status_of_job(job),
         Verdict::Ran(_, finding) => status_of_finding(finding),
         Verdict::Spelling(_) => Status::Complete,
-        Verdict::Preload => Status::PreloadTooLarge,
-        Verdict::Trace(_) => Status::TraceRefused,
+        Verdict::PreloadTooLarge => Status::PreloadTooLarge,
+        Verdict::TraceRefused(_) => Status::TraceRefused,
     }
 }
 

@@ -4,10 +4,10 @@ ghost use Rattle.std.specs.Prelude.{◌≡◌, ◌⊎◌, ◌≤◌, ℕ, List, 
 ghost use Rattle.ptg_io.specs.Faults.{Rose};
 ghost use Rattle.ptg_io.specs.Sink.{appended};
 ghost use Rattle.report_text.specs.Refusal.{unread_line, usage_line};
-ghost use Rattle.ptg_top.specs.JobFiles.{Entries};
+ghost use Rattle.ptg_top.specs.JobFiles.{NamedFiles};
 ghost use Rattle.ptg_top.specs.Meaning.{IsNoCommand, MayBeUnread};
 ghost use Rattle.ptg_top.specs.Headline.{IsExact, Prints, IsCut};
-ghost use Rattle.ptg_top.specs.Receipts.{HasConsistentPlan, IsAnswerStatus, IsReceiptFor, IsRun};
+ghost use Rattle.ptg_top.specs.Receipts.{HasConsistentPlan, IsAnswerStatus, IsReceiptFor, RunsOnTable};
 ghost use Rattle.ptg_words.specs.declared.order.Order.{Order};
 ghost use Rattle.ptg_words.specs.Words.{Orders};
 
@@ -53,7 +53,7 @@ pub fn ptg_main<R: Threads + Wait + Sync, F: Files, O: Sink, G: Gate>(
     ensures read_faults { (other : List ℕ) → F.faults files.old other ≤ F.faults files.new other }
     ensures write_faults { O.faults out.old ≤ O.faults out.new }
     // Where the contents of the files are known: exactly a text and a status that arguments and files denote.
-    ensures exact { (entries : Entries) → F.contents files.old ≡ Some entries → IsExact result.status →
+    ensures exact { (entries : NamedFiles) → F.contents files.old ≡ Some entries → IsExact result.status →
         Prints words.now entries (O.bytes out.old) (O.bytes out.new) result.status }
     // `unread,NAME` is printed only if reading NAME failed; NAME is the data file's only once the JDF was read, and the
     // trace file's only once the job was found to be consistent.
@@ -68,7 +68,7 @@ pub fn ptg_main<R: Threads + Wait + Sync, F: Files, O: Sink, G: Gate>(
     // If memory runs out, nothing is written.
     ensures silent { result.status ≡ Status.OutOfMemory → O.bytes out.new ≡ O.bytes out.old }
     // Where no read and no write failed: what arguments and files denote, unless memory runs out.
-    ensures complete { (entries : Entries) → F.contents files.old ≡ Some entries
+    ensures complete { (entries : NamedFiles) → F.contents files.old ≡ Some entries
         → ((name : List ℕ) → Rose (F.faults files.old name) (F.faults files.new name) → ⊥)
         → (Rose (O.faults out.old) (O.faults out.new) → ⊥)
         → Prints words.now entries (O.bytes out.old) (O.bytes out.new) result.status
@@ -85,9 +85,9 @@ pub fn ptg_main<R: Threads + Wait + Sync, F: Files, O: Sink, G: Gate>(
     ensures receipt { IfSome result.receipt (λ r.
         (o : Order) × Orders words.now o × IsReceiptFor o r × IsAnswerStatus result.status) }
     ensures no_receipt { IfNone result.receipt
-        ((o : Order) → Orders words.now o → IsRun o → IsAnswerStatus result.status → ⊥) }
+        ((o : Order) → Orders words.now o → RunsOnTable o → IsAnswerStatus result.status → ⊥) }
     // Where the contents of the files are known, the table had the job that the files denote.
-    ensures of_job { (entries : Entries) → F.contents files.old ≡ Some entries
+    ensures of_job { (entries : NamedFiles) → F.contents files.old ≡ Some entries
         → IfSome result.receipt (λ r. HasConsistentPlan words.now entries r.plan) }
 {
     let host = Host { rt, alloc, gate };

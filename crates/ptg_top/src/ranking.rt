@@ -2,11 +2,10 @@
 
 ghost use Rattle.std.specs.Prelude.{◌≡◌, ◌≤◌, ℕ, List, IfOk, None};
 ghost use Rattle.std.specs.Str.{IsUtf8};
-ghost use Rattle.ptg_base.specs.Limits.{most_ranks};
+ghost use Rattle.ptg_base.specs.Limits.{IsRankCount};
 ghost use Rattle.plan_data.specs.Fit.{DataFit};
 ghost use Rattle.ptg_words.specs.declared.order.Order.TheVariants as commands;
 ghost use Rattle.ptg_top.specs.Denotation.{denoted};
-ghost use Rattle.ptg_top.specs.JobFiles.{HasFittingJob};
 ghost use Rattle.ptg_top.specs.Ranks.{IsRanked};
 ghost use Rattle.ptg_top.specs.Reports.{IsVerdictOnCommand};
 ghost use Rattle.ptg_top.specs.Receipts.{receipt_of};
@@ -42,13 +41,12 @@ pub fn ranks<F: Files>(
 ) -> Result<Verdict, OutOfMemory>
     requires jdf_text { IsUtf8 jdf.now }
     requires data_name_text { IsUtf8 data_name.now }
-    requires ranks { (1 ≤ settings.ranks) × (settings.ranks ≤ most_ranks) }
+    requires ranks { IsRankCount settings.ranks }
     ensures stays { F.contents files.new ≡ F.contents files.old }
     ensures grows { (other : List ℕ) → F.faults files.old other ≤ F.faults files.new other }
     ensures verdict { IfOk result (λ v.
         IsVerdictOnCommand (F.contents files.old) (F.faults files.old) (F.faults files.new)
         (commands.Ranks jdf.now data_name.now settings.ranks settings.seed) (denoted v)) }
-    ensures fit { IfOk result (λ v. HasFittingJob (denoted v)) }
     ensures not_run { IfOk result (λ v. receipt_of v ≡ None) }
 {
     let checked = check(alloc, jdf, data_name, files)?;
@@ -65,10 +63,9 @@ fn ranked(
     given: Given,
     settings: RankSettings,
 ) -> Result<Verdict, OutOfMemory>
-    requires fit { DataFit matched.colls matched.elems given }
-    requires ranks { (1 ≤ settings.ranks) × (settings.ranks ≤ most_ranks) }
+    requires fit { DataFit matched given }
+    requires ranks { IsRankCount settings.ranks }
     ensures ranked { IfOk result (λ v. IsRanked settings.ranks matched given (denoted v)) }
-    ensures fit { IfOk result (λ v. HasFittingJob (denoted v)) }
     ensures not_run { IfOk result (λ v. receipt_of v ≡ None) }
 {
     let (messages, outcome) = ranks_of(alloc, &matched, given, settings.ranks, settings.seed)?;

@@ -5,7 +5,6 @@ ghost use Rattle.std.specs.Str.{IsUtf8};
 ghost use Rattle.plan_data.specs.Fit.{DataFit};
 ghost use Rattle.ptg_words.specs.declared.order.Order.TheVariants as commands;
 ghost use Rattle.ptg_top.specs.Denotation.{denoted};
-ghost use Rattle.ptg_top.specs.JobFiles.{HasFittingJob};
 ghost use Rattle.ptg_top.specs.Replay.{IsReplayOf};
 ghost use Rattle.ptg_top.specs.Reports.{IsOfTexts, IsVerdictOnCommand};
 ghost use Rattle.ptg_top.specs.Receipts.{receipt_of};
@@ -41,7 +40,6 @@ pub fn replay<F: Files>(
     ensures verdict { IfOk result (λ v.
         IsVerdictOnCommand (F.contents files.old) (F.faults files.old) (F.faults files.new)
         (commands.Replay jdf.now data_name.now trace.now) (denoted v)) }
-    ensures fit { IfOk result (λ v. HasFittingJob (denoted v)) }
     ensures not_run { IfOk result (λ v. receipt_of v ≡ None) }
 {
     let checked = check(alloc, jdf, data_name, files)?;
@@ -60,18 +58,17 @@ fn replayed<F: Files>(
     files: &mut F,
 ) -> Result<Verdict, OutOfMemory>
     requires name { IsUtf8 trace.now }
-    requires fit { DataFit matched.colls matched.elems given }
+    requires fit { DataFit matched given }
     ensures stays { F.contents files.new ≡ F.contents files.old }
     ensures grows { (other : List ℕ) → F.faults files.old other ≤ F.faults files.new other }
     ensures verdict { IfOk result (λ v.
         ReplayEndsWith (F.contents files.old) (F.faults files.old trace.now) (F.faults files.new trace.now) trace.now
         matched given (denoted v)) }
-    ensures fit { IfOk result (λ v. HasFittingJob (denoted v)) }
     ensures not_run { IfOk result (λ v. receipt_of v ≡ None) }
 {
     match load(alloc, files, name_of(trace)) {
         Ok(text) => replay_of(alloc, matched, given, text.as_slice()),
-        Err(LoadFault::TooLong) => Ok(Verdict::Trace(trace_too_long())),
+        Err(LoadFault::TooLong) => Ok(Verdict::TraceRefused(trace_too_long())),
         Err(LoadFault::Failed) => unread(alloc, trace),
         Err(LoadFault::OutOfMemory) => Err(OutOfMemory),
     }
@@ -84,16 +81,15 @@ fn replay_of(
     given: Given,
     text: &[u8],
 ) -> Result<Verdict, OutOfMemory>
-    requires { DataFit matched.colls matched.elems given }
+    requires { DataFit matched given }
     ensures verdict { IfOk result (λ v. IsReplayOf text.now matched given (denoted v)) }
     ensures of_texts { IfOk result (λ v. IsOfTexts (denoted v)) }
-    ensures fit { IfOk result (λ v. HasFittingJob (denoted v)) }
     ensures not_run { IfOk result (λ v. receipt_of v ≡ None) }
 {
     matched.plan_is_consistent();
     let verdict = judge_trace(alloc, &matched, given, text)?;
     match verdict {
         Ok(outcome) => Ok(Verdict::Ran(RanBy::OneThread(matched), Finding::Answer(outcome))),
-        Err(fault) => Ok(Verdict::Trace(fault)),
+        Err(fault) => Ok(Verdict::TraceRefused(fault)),
     }
 }

@@ -2,14 +2,13 @@
 
 ghost use Rattle.std.specs.Prelude.{◌≡◌, ◌≤◌, ℕ, List, IfOk};
 ghost use Rattle.std.specs.Str.{IsUtf8};
-ghost use Rattle.ptg_base.specs.Limits.{AreCounts};
+ghost use Rattle.ptg_base.specs.Limits.{AreRunCounts};
 ghost use Rattle.plan_data.specs.Fit.{DataFit};
 ghost use Rattle.ptg_words.specs.declared.order.Order.TheVariants as commands;
 ghost use Rattle.ptg_top.specs.Denotation.{denoted};
 ghost use Rattle.ptg_top.specs.Answering.{IsAnswer};
-ghost use Rattle.ptg_top.specs.JobFiles.{HasFittingJob};
 ghost use Rattle.ptg_top.specs.Reports.{IsVerdictOnCommand};
-ghost use Rattle.ptg_top.specs.Receipts.{IsOfRun};
+ghost use Rattle.ptg_top.specs.Receipts.{IsVerdictOfTable};
 
 use crate::checking::check;
 use crate::consistent::consistent_job;
@@ -36,14 +35,13 @@ pub fn run<R: Threads + Wait + Sync, F: Files, G: Gate>(
 ) -> Result<Verdict, OutOfMemory>
     requires jdf_text { IsUtf8 jdf.now }
     requires data_name_text { IsUtf8 data_name.now }
-    requires counts { AreCounts settings.workers settings.shards }
+    requires counts { AreRunCounts settings.workers settings.shards }
     ensures stays { F.contents files.new ≡ F.contents files.old }
     ensures grows { (other : List ℕ) → F.faults files.old other ≤ F.faults files.new other }
     ensures verdict { IfOk result (λ v.
         IsVerdictOnCommand (F.contents files.old) (F.faults files.old) (F.faults files.new)
         (commands.Run jdf.now data_name.now settings.workers settings.shards settings.preload) (denoted v)) }
-    ensures fit { IfOk result (λ v. HasFittingJob (denoted v)) }
-    ensures ran { IfOk result (λ v. IsOfRun settings v) }
+    ensures ran { IfOk result (λ v. IsVerdictOfTable settings v) }
 {
     let checked = check(host.alloc, jdf, data_name, files)?;
     match consistent_job(checked) {
@@ -59,18 +57,17 @@ fn answered<R: Threads + Wait + Sync, G: Gate>(
     given: Given,
     settings: Settings,
 ) -> Result<Verdict, OutOfMemory>
-    requires fit { DataFit matched.colls matched.elems given }
-    requires counts { AreCounts settings.workers settings.shards }
+    requires fit { DataFit matched given }
+    requires counts { AreRunCounts settings.workers settings.shards }
     ensures answer { IfOk result (λ v. IsAnswer settings matched given (denoted v)) }
-    ensures fit { IfOk result (λ v. HasFittingJob (denoted v)) }
-    ensures ran { IfOk result (λ v. IsOfRun settings v) }
+    ensures ran { IfOk result (λ v. IsVerdictOfTable settings v) }
 {
     match prepare(host.alloc, matched, given, settings) {
         Ok(prepared) => {
             let (by, outcome) = run_prepared(host, prepared)?;
             Ok(Verdict::Ran(by, Finding::Answer(outcome)))
         }
-        Err(PrepareFault::PreloadTooLarge(_bytes)) => Ok(Verdict::Preload),
+        Err(PrepareFault::PreloadTooLarge(_bytes)) => Ok(Verdict::PreloadTooLarge),
         Err(PrepareFault::OutOfMemory) => Err(OutOfMemory),
     }
 }

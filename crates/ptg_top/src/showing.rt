@@ -4,7 +4,6 @@ ghost use Rattle.std.specs.Prelude.{◌≡◌, ◌≤◌, ℕ, List, IfOk, None}
 ghost use Rattle.std.specs.Str.{IsUtf8};
 ghost use Rattle.ptg_words.specs.declared.order.Order.TheVariants as commands;
 ghost use Rattle.ptg_top.specs.Denotation.{denoted};
-ghost use Rattle.ptg_top.specs.JobFiles.{HasFittingJob};
 ghost use Rattle.ptg_top.specs.Reports.{IsVerdictOnCommand};
 ghost use Rattle.ptg_top.specs.Receipts.{receipt_of};
 
@@ -23,7 +22,6 @@ pub fn show<F: Files>(alloc: Global, jdf: &Text, files: &mut F) -> Result<Verdic
     ensures verdict { IfOk result (λ v.
         IsVerdictOnCommand (F.contents files.old) (F.faults files.old) (F.faults files.new) (commands.Show jdf.now)
         (denoted v)) }
-    ensures fit { IfOk result (λ v. HasFittingJob (denoted v)) }
     ensures not_run { IfOk result (λ v. receipt_of v ≡ None) }
 {
     let read = tree_of_file(alloc, jdf, files)?;

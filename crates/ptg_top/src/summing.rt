@@ -5,8 +5,8 @@ ghost use Rattle.ptg_base.specs.Limits.{most_rows};
 ghost use Rattle.plan_data.specs.Fit.{DataFit};
 ghost use Rattle.ptg_top.specs.Denotation.{denoted};
 ghost use Rattle.ptg_top.specs.Demo.{DemoDenotes, IsSummary, MadeTextsDenote, summed};
-ghost use Rattle.ptg_top.specs.JobFiles.{HasFittingJob, IsChecked};
-ghost use Rattle.ptg_top.specs.Receipts.{IsOfRun};
+ghost use Rattle.ptg_top.specs.JobFiles.{IsChecked};
+ghost use Rattle.ptg_top.specs.Receipts.{IsVerdictOfTable};
 ghost use Rattle.ptg_top.specs.Tables.{usual_settings};
 
 use crate::consistent::consistent_job;
@@ -33,8 +33,7 @@ pub fn demo<R: Threads + Wait + Sync, G: Gate>(
 ) -> Result<Verdict, OutOfMemory>
     requires { (1 ≤ rows) × (rows ≤ most_rows) }
     ensures denotes { IfOk result (λ v. DemoDenotes rows (denoted v)) }
-    ensures fit { IfOk result (λ v. HasFittingJob (denoted v)) }
-    ensures ran { IfOk result (λ v. IsOfRun usual_settings v) }
+    ensures ran { IfOk result (λ v. IsVerdictOfTable usual_settings v) }
 {
     let checked = check_made(host.alloc, rows)?;
     match consistent_job(checked) {
@@ -61,10 +60,9 @@ fn summary_of<R: Threads + Wait + Sync, G: Gate>(
     matched: Matched,
     given: Given,
 ) -> Result<Verdict, OutOfMemory>
-    requires { DataFit matched.colls matched.elems given }
+    requires { DataFit matched given }
     ensures summary { IfOk result (λ v. IsSummary rows matched given (denoted v)) }
-    ensures fit { IfOk result (λ v. HasFittingJob (denoted v)) }
-    ensures ran { IfOk result (λ v. IsOfRun usual_settings v) }
+    ensures ran { IfOk result (λ v. IsVerdictOfTable usual_settings v) }
 {
     let (by, outcome) = run_as_usual(host, matched, given)?;
     Ok(Verdict::Ran(by, summed(rows, outcome)))

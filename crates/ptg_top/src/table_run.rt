@@ -6,7 +6,7 @@ ghost use Rattle.plan_core.specs.declared.plan.Plan.{Plan};
 ghost use Rattle.plan_data.specs.Fit.{DataFit};
 ghost use Rattle.run_pool.specs.Runs.{run_of};
 ghost use Rattle.run_pool.specs.declared.settings.Settings.{Settings as SettingsValue};
-ghost use Rattle.ptg_top.specs.Tables.{IsRunOf, usual_settings};
+ghost use Rattle.ptg_top.specs.Tables.{IsTableAnswer, usual_settings};
 
 use crate::host::Host;
 use crate::verdict::RanBy;
@@ -25,7 +25,7 @@ pub fn run_prepared<R: Threads + Wait + Sync, G: Gate>(
     prepared: Prepared,
 ) -> Result<(RanBy, Outcome), OutOfMemory>
     ensures { (P : Plan) (given : Data) (settings : SettingsValue) → prepared ≡ run_of P given settings
-        → IfOk result (λ ran. IsRunOf settings P given ran.0 ran.1) }
+        → IfOk result (λ (by, outcome). IsTableAnswer settings P given by outcome) }
 {
     let closed = run(host.rt, prepared, host.gate)?;
     let (outcome, receipt) = closed.outcome()?;
@@ -49,8 +49,8 @@ pub fn run_as_usual<R: Threads + Wait + Sync, G: Gate>(
     matched: Matched,
     given: Given,
 ) -> Result<(RanBy, Outcome), OutOfMemory>
-    requires { DataFit matched.colls matched.elems given }
-    ensures { IfOk result (λ ran. IsRunOf usual_settings matched given ran.0 ran.1) }
+    requires { DataFit matched given }
+    ensures { IfOk result (λ (by, outcome). IsTableAnswer usual_settings matched given by outcome) }
 {
     let prepared = lay_out(host.alloc, matched, given, usual_settings())?;
     run_prepared(host, prepared)

@@ -2,7 +2,7 @@
 
 ghost use Rattle.std.specs.Prelude.{◌≡◌, ◌≤◌, ℕ, List, false, IfOk};
 ghost use Rattle.std.specs.Str.{IsUtf8};
-ghost use Rattle.ptg_base.specs.Limits.{AreCounts};
+ghost use Rattle.ptg_base.specs.Limits.{AreRunCounts};
 ghost use Rattle.coll_data.specs.Data.{Data};
 ghost use Rattle.plan_core.specs.declared.plan.Plan.{Plan};
 ghost use Rattle.plan_data.specs.Fit.{DataFit};
@@ -10,9 +10,8 @@ ghost use Rattle.run_pool.specs.Runs.{run_of};
 ghost use Rattle.run_pool.specs.declared.settings.Settings.{Settings as SettingsValue};
 ghost use Rattle.ptg_words.specs.declared.order.Order.TheVariants as commands;
 ghost use Rattle.ptg_top.specs.Denotation.{denoted};
-ghost use Rattle.ptg_top.specs.JobFiles.{HasFittingJob};
 ghost use Rattle.ptg_top.specs.Reports.{IsVerdictOnCommand};
-ghost use Rattle.ptg_top.specs.Receipts.{IsOfRun};
+ghost use Rattle.ptg_top.specs.Receipts.{IsVerdictOfTable};
 ghost use Rattle.ptg_top.specs.Trace.{IsTraced};
 
 use crate::checking::check;
@@ -40,15 +39,14 @@ pub fn trace<R: Threads + Wait + Sync, F: Files, G: Gate>(
 ) -> Result<Verdict, OutOfMemory>
     requires jdf_text { IsUtf8 jdf.now }
     requires data_name_text { IsUtf8 data_name.now }
-    requires counts { AreCounts settings.workers settings.shards }
+    requires counts { AreRunCounts settings.workers settings.shards }
     requires no_preload { settings.preload ≡ false }
     ensures stays { F.contents files.new ≡ F.contents files.old }
     ensures grows { (other : List ℕ) → F.faults files.old other ≤ F.faults files.new other }
     ensures verdict { IfOk result (λ v.
         IsVerdictOnCommand (F.contents files.old) (F.faults files.old) (F.faults files.new)
         (commands.Trace jdf.now data_name.now settings.workers settings.shards) (denoted v)) }
-    ensures fit { IfOk result (λ v. HasFittingJob (denoted v)) }
-    ensures ran { IfOk result (λ v. IsOfRun settings v) }
+    ensures ran { IfOk result (λ v. IsVerdictOfTable settings v) }
 {
     let checked = check(host.alloc, jdf, data_name, files)?;
     match consistent_job(checked) {
@@ -64,12 +62,11 @@ fn traced<R: Threads + Wait + Sync, G: Gate>(
     given: Given,
     settings: Settings,
 ) -> Result<Verdict, OutOfMemory>
-    requires fit { DataFit matched.colls matched.elems given }
-    requires counts { AreCounts settings.workers settings.shards }
+    requires fit { DataFit matched given }
+    requires counts { AreRunCounts settings.workers settings.shards }
     requires no_preload { settings.preload ≡ false }
     ensures trace { IfOk result (λ v. IsTraced matched given (denoted v)) }
-    ensures fit { IfOk result (λ v. HasFittingJob (denoted v)) }
-    ensures ran { IfOk result (λ v. IsOfRun settings v) }
+    ensures ran { IfOk result (λ v. IsVerdictOfTable settings v) }
 {
     let prepared = lay_out(host.alloc, matched, given, settings)?;
     trace_of(host, prepared)
@@ -83,9 +80,8 @@ fn trace_of<R: Threads + Wait + Sync, G: Gate>(
     requires { prepared.job.preloaded ≡ false }
     ensures trace { (P : Plan) (given : Data) (settings : SettingsValue) → prepared ≡ run_of P given settings
         → IfOk result (λ v. IsTraced P given (denoted v)) }
-    ensures fit { IfOk result (λ v. HasFittingJob (denoted v)) }
     ensures ran { (P : Plan) (given : Data) (settings : SettingsValue) → prepared ≡ run_of P given settings
-        → IfOk result (λ v. IsOfRun settings v) }
+        → IfOk result (λ v. IsVerdictOfTable settings v) }
 {
     let (tasks, closed) = run_traced(host.alloc, host.rt, prepared, host.gate)?;
     let (_outcome, receipt) = closed.outcome()?;

@@ -21,10 +21,10 @@ pub enum Verdict {
     Ran(RanBy, Finding),
     /// The canonical spelling of a JDF.
     Spelling(Text),
-    /// A preload that is too large.
-    Preload,
-    /// The first fault of a trace.
-    Trace(TraceFault),
+    /// A preload was asked for, and it takes too much memory.
+    PreloadTooLarge,
+    /// The trace was refused: its first fault.
+    TraceRefused(TraceFault),
 }
 
 /// By whom a job was run. It has the job.

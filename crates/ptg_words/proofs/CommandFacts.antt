@@ -1,6 +1,6 @@
 -- What the files and the numbers of a command are.
 use Rattle.std.proofs.Common.{◌≡◌, ◌∙◌, ℕ, ◌≤◌, ◌<◌, ◌^◌, Bool, true, false, not, ◌&&◌, List, [], ◌∷◌, Option, Some, None, refl, sym, ap, subst, inl, inr, arith}
-use Rattle.ptg_base.specs.Limits.{AreCounts, most_rows}
+use Rattle.ptg_base.specs.Limits.{AreRunCounts, most_rows}
 use Rattle.std.specs.Prelude.{◌⊎◌, nat_le, length, option_map}
 use Rattle.std.specs.List.{All, Any, AllByRecursion}
 use Rattle.std.proofs.lemmas.Bool.Decides.{nat_tests}
@@ -104,12 +104,12 @@ counted : (most default : ℕ) (texts : List (List ℕ)) → 1 ≤ default → d
 counted most default [] low high h = (low, high)
 counted most default (text ∷ texts) low high h = numbered 1 most text (or_parts _ _ h).0
 
-are_counts : (ps : List Part) → has_bad_count ps ≡ false → AreCounts (workers_of ps) (shards_of ps)
+are_counts : (ps : List Part) → has_bad_count ps ≡ false → AreRunCounts (workers_of ps) (shards_of ps)
 are_counts ps h =
     let two = or_parts (has_no_number 1 64 (texts_of workers ps)) (has_no_number 1 256 (texts_of shards ps)) h in
     let w = counted 64 4 (texts_of workers ps) (omega arith) (omega arith) two.0 in
     let s = counted 256 16 (texts_of shards ps) (omega arith) (omega arith) two.1 in
-    (w.0, w.1, s.0, s.1)
+    (w, s)
 
 in_ranges : (v : Verb) (ops : List (List ℕ)) (ps : List Part) → has_bad_count ps ≡ false → has_bad_operand (operands_of v) ops ≡ false → OnOrder HasNumbersInRange (formed v ops ps)
 unfolding OnOrder
@@ -120,7 +120,7 @@ in_ranges verbs.Ranks (jdf ∷ data_name ∷ count ∷ seed ∷ []) ps c h =
     let two = or_parts _ _ h in
     let r = numbered 1 64 count two.0 in
     let s = numbered 0 18446744073709551615 seed (or_parts _ _ two.1).0 in
-    (r.0, r.1, below_two_to_64 (decimal seed) s.1)
+    (r, below_two_to_64 (decimal seed) s.1)
   where
     below_two_to_64 : (n : ℕ) → n ≤ 18446744073709551615 → n < 2 ^ 64
     below_two_to_64 n h = omega (arith, h)

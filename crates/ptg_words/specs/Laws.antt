@@ -1,7 +1,7 @@
 -- What follows from the rules of the command line.
 use Rattle.std.specs.Prelude.{ℕ, ◌<◌, ◌≤◌, ◌^◌, List, [], ◌∷◌}
 use Rattle.std.specs.Str.{IsUtf8}
-use Rattle.ptg_base.specs.Limits.{AreCounts, most_ranks, most_rows}
+use Rattle.ptg_base.specs.Limits.{AreRunCounts, IsRankCount, most_rows}
 use Rattle.std.specs.List.{AllByRecursion}
 use Rattle.ptg_words.specs.declared.order.Order.{Order}
 use Rattle.ptg_words.specs.declared.order.Order.TheVariants.{Run, Show, Check, Demo, Trace, Replay, Certify, Ranks}
@@ -25,14 +25,14 @@ FilesAreText = (words : List (List ℕ)) (order : Order) → Orders words order 
 -- The numbers of a command are in their ranges: 1 to 64 workers or ranks, 1 to 256 shards, 1 to 96 rows of tiles, a
 -- seed below 2^64.
 abbrev pub HasNumbersInRange : Order → Type 0
-HasNumbersInRange (Run jdf data_name w s p) = AreCounts w s
+HasNumbersInRange (Run jdf data_name w s p) = AreRunCounts w s
 HasNumbersInRange (Show jdf) = Unit {0}
 HasNumbersInRange (Check jdf data_name) = Unit {0}
 HasNumbersInRange (Demo rows) = (1 ≤ rows) × (rows ≤ most_rows)
-HasNumbersInRange (Trace jdf data_name w s) = AreCounts w s
+HasNumbersInRange (Trace jdf data_name w s) = AreRunCounts w s
 HasNumbersInRange (Replay jdf data_name list) = Unit {0}
 HasNumbersInRange (Certify jdf data_name) = Unit {0}
-HasNumbersInRange (Ranks jdf data_name r seed) = (1 ≤ r) × (r ≤ most_ranks) × (seed < 2 ^ 64)
+HasNumbersInRange (Ranks jdf data_name r seed) = IsRankCount r × (seed < 2 ^ 64)
 
 -- each command that words form has its numbers in their ranges
 abbrev pub NumbersInRange : Type 0

@@ -101,7 +101,7 @@ has_wrong_count verb ps = not (length (operands ps) == operand_count verb)
 
 -- the words begin with a verb, and the words after it break this rule
 abbrev pub Breaks : (Verb → List Part → Bool) → List (List ℕ) → Type 0
-Breaks rule words = option_map_or (λ r. rule r.0 r.1) (read words) false ≡ true
+Breaks rule words = option_map_or (λ (verb, parts). rule verb parts) (read words) false ≡ true
 
 -- The seven rules: arguments form no command where one of these holds. There is no word, or the first is no verb. A
 -- word is no text, is empty, or is `-` or `--`. A word begins with `-` and is no option of the verb. An option lacks

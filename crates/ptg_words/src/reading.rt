@@ -175,7 +175,7 @@ fn ranks(alloc: Global, read: &ReadVerb) -> Result<Order, WordsRefusal>
 // The names of a job's JDF file and of its data file, with which the operands begin.
 fn job_files(alloc: Global, operands: &[&str]) -> Result<(Text, Text), OutOfMemory>
     requires { 2 ≤ length operands.now }
-    ensures { IfOk result (λ files. files.0 ∷ files.1 ∷ drop 2 (texts operands.now) ≡ texts operands.now) }
+    ensures { IfOk result (λ (jdf, data_file). jdf ∷ data_file ∷ drop 2 (texts operands.now) ≡ texts operands.now) }
 {
     let jdf = file(alloc, operands[0])?;
     Ok((jdf, file(alloc, operands[1])?))

@@ -43,8 +43,7 @@ pub record IsFirstOf (ds : List Def) (outer now : List ℤ) (lists : List (List 
   pub first : lists ≡ now ∷ lists_after ds outer locals
 
 -- `now` extends `outer` by a value of these bounds and one value for each definition, and is the first of the lists;
--- the
--- others are those after it
+-- the others are those after it
 pub record IsFirstOver (bounds : Result Bounds SpanFault) (ds : List Def) (outer now : List ℤ)
     (lists : List (List ℤ)) : Type 0 where
   pub value : ℤ

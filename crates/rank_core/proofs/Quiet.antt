@@ -1,4 +1,4 @@
--- A world is quiescent exactly where the state that it stands for is.
+-- A world is quiescent exactly where its state of the event machine is.
 use Rattle.std.proofs.Common.{◌≡◌, ◌↔◌, ℕ, true, sym, ◌∙◌, subst, inl, inr}
 use Rattle.std.proofs.lemmas.Bool.{false≢true}
 use Rattle.ptg_base.specs.Lists.{IsIn}

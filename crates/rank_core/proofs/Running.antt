@@ -29,7 +29,7 @@ use Rattle.rank_core.specs.Sound.{IsSoundWorld}
 use Rattle.rank_core.proofs.Items.{between_is_out, out_is_item, within_is_item, within_once}
 pub use Rattle.flow_meaning.proofs.Events.{unclaimed_unsent}
 
--- what stands and what is sent after a task has ended so
+-- the items and the messages that are sent after a task has ended so
 pub items_with : (P : Plan) (r : ℕ) (t : Task) (end : Option Ended) → has_outputs end ≡ true → items_by P r t end ≡ map (item_from end) (items_within P r t)
 items_with P r t end k = ap (λ b. cond b (map (item_from end) (items_within P r t)) []) k
 

@@ -16,9 +16,9 @@ use Rattle.rank_core.specs.World.{WorldState, is_between, items_within, messages
 
 -- a sound world of r ranks
 pub record IsSoundWorld (P : Plan) (G : Data) (r : ℕ) (w : WorldState) : Type 0 where
-  -- the state that it stands for is sound
+  -- its state of the event machine is sound
   pub state : IsSoundState P G w.machine
-  -- the items within its rank of a task that ran and has outputs stand
+  -- the items within its rank of a task that ran and has outputs were sent
   pub within : (t : Task) (i : Item) → IsIn t w.machine.claims → IsTrue (has_outputs (ended P G t))
       → IsIn i (items_within P r t) → IsTrue (is_sent w.machine i)
   -- the messages are those of the tasks that ran, in the order in which they ran

@@ -42,7 +42,7 @@ items_within P r t = map item.Write (write_backs P t) ++ map item.Edge (edges_wi
 abbrev pub message_from : Option Ended → Edge → Message
 message_from end e = record { edge = e; tile = output_tile end e.out_flow }
 
--- the items of a task that stand as soon as it has ended so: none where it traps
+-- the items of a task that are sent within its rank as soon as it has ended so: none where it traps
 abbrev pub items_by : Plan → ℕ → Task → Option Ended → List SentItem
 items_by P r t end = if has_outputs end then map (item_from end) (items_within P r t) else []
 
@@ -50,8 +50,8 @@ items_by P r t end = if has_outputs end then map (item_from end) (items_within P
 abbrev pub messages_by : Plan → ℕ → Task → Option Ended → List Message
 messages_by P r t end = if has_outputs end then map (message_from end) (edges_between P r t) else []
 
--- a world: the state of the event machine that it stands for, whose claimed tasks are those that ran and whose sent
--- items are those that stand; and the messages that were sent, numbered from 0
+-- a world: a state of the event machine, whose claimed tasks are those that ran and whose sent items are those that
+-- were sent within a rank or delivered; and the messages that were sent, numbered from 0
 pub record WorldState : Type 0 where
   pub machine : MachineState
   pub messages : List Message
@@ -65,14 +65,14 @@ pub data WorldEvent : Type 0 where
   Run : Task → WorldEvent
   Deliver : ℕ → WorldEvent
 
--- a task may run that has not run, once all edges into it stand; a message may be delivered that was ever sent, as
--- often as it may be
+-- a task may run that has not run, once all edges into it were sent within its rank or delivered; a message may be
+-- delivered that was ever sent, as often as it may be
 abbrev pub IsPossibleIn : Plan → WorldState → WorldEvent → Type 0
 IsPossibleIn P w (Run t) = MayClaim P w.machine t
 IsPossibleIn P w (Deliver n) = n < length w.messages
 
--- after a task has run, its items within its rank stand and its edges to other ranks are messages, if its body has
--- outputs on the tiles that stand
+-- after a task has run, its items within its rank were sent and its edges to other ranks are messages, if its body has
+-- outputs on the tiles that were delivered to it
 abbrev pub after_run : Plan → Data → ℕ → WorldState → Task → WorldState
 after_run P G r w t = record {
   machine = record {

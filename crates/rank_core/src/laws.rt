@@ -19,8 +19,8 @@ ghost use Rattle.rank_core.specs.declared.message.Message.{Message};
 ghost use Rattle.rank_core.specs.World.{IsQuiet, WorldState, is_delivered};
 ghost use Rattle.rank_core.specs.Sound.{IsSoundWorld, message_count};
 
-/// A law: the tiles that stand for a task that may run, or that ran, are its inputs. On these it ends as the backward
-/// meaning says.
+/// A law: the tiles that were delivered to a task that may run, or that ran, are its inputs. On these it ends as the
+/// backward meaning says.
 pub fn a_task_runs_on_its_inputs()
     ensures now { (P : Plan) (G : Data) (r : ℕ) (w : WorldState) (t : Task) → IsConsistent P → IsSoundWorld P G r w
         → MayClaim P w.machine t → delivered_tiles P (sent_tile w.machine.sends) t ≡ inputs P G t }
@@ -30,7 +30,7 @@ pub fn a_task_runs_on_its_inputs()
         → MayClaim P w.machine t → (ended P G t ≡ end_in P G w.machine t) × IsSome (ended P G t) }
 {}
 
-/// A law: a sound world is quiescent exactly where the state that it stands for is, so where no event is possible.
+/// A law: a sound world is quiescent exactly where its state of the event machine is, so where no event is possible.
 pub fn quiet_worlds_are_quiescent()
     ensures { (P : Plan) (G : Data) (r : ℕ) (w : WorldState) → IsConsistent P → IsSoundWorld P G r w
         → IsQuiet P w ↔ IsQuiescent P G w.machine }

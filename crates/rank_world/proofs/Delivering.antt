@@ -38,11 +38,11 @@ use Rattle.rank_core.specs.Sound.{IsSoundWorld}
 use Rattle.rank_core.specs.World.{WorldState, after_delivery, rank_of, is_delivered, with_message}
 use Rattle.rank_core.proofs.Messages.{edges_once}
 use Rattle.rank_core.proofs.Running.{message_is, message_may}
-use Rattle.rank_world.specs.Keeping.{IsUnderWay, at_rest, unless_delivered}
+use Rattle.rank_world.specs.Keeping.{IsUnderWay, idle_moment, unless_delivered}
 use Rattle.shard_calls.specs.Taken.{MayTakeEdge, TakesEdge}
 
 -- an edge that may be sent may come to the rank of its target, with the tile that its task leaves
-pub may_take_edge : (P : Plan) (G : Data) → IsConsistent P → DataFit P.colls P.elems G → IsWellMade G → (of : Placement) (k : ℕ) (R : Moment) → IsSoundState P G R.state → (e : Edge) → MaySend P G R.state (item.Edge e) → of e.to ≡ k → (y : Content) → IsShardOf P G of k R y
+pub may_take_edge : (P : Plan) (G : Data) → IsConsistent P → DataFit P G → IsWellMade G → (of : Placement) (k : ℕ) (R : Moment) → IsSoundState P G R.state → (e : Edge) → MaySend P G R.state (item.Edge e) → of e.to ≡ k → (y : Content) → IsShardOf P G of k R y
     → MayTakeEdge P e (output_tile (ended P G e.from) e.out_flow) y
 may_take_edge P G con fit well of k R sound e may at y h =
     let f = edge_flow P G con R.state sound e may in
@@ -99,17 +99,17 @@ module _ (P : Plan) (G : Data) (con : IsConsistent P) (r : ℕ) (w : WorldState)
         ap (λ y. record { claims = w.machine.claims; sends = w.machine.sends ++ y ∷ [] }) x
         ∙ sym (ap (λ o. option_map_or (with_message w.machine) o w.machine) is ∙ ap (λ b. cond b w.machine (record { claims = w.machine.claims; sends = w.machine.sends ++ record { item = item.Edge m.edge; tile = m.tile } ∷ [] })) new)
 
-    pub rests_then : with_send P G (at_rest w.machine) (item.Edge m.edge) ≡ at_rest (after_delivery w n).machine
-    rests_then = ap at_rest sends
+    pub idle_then : with_send P G (idle_moment w.machine) (item.Edge m.edge) ≡ idle_moment (after_delivery w n).machine
+    idle_then = ap idle_moment sends
 
     -- the rank of the target takes the edge in, and the other ranks stay
-    pub here : (k : ℕ) (y z : Content) → rank_of P r m.edge.to ≡ k → TakesEdge P m.edge m.tile y z → IsShardOf P G (rank_of P r) k (at_rest w.machine) y → IsShardOf P G (rank_of P r) k (at_rest (after_delivery w n).machine) z
+    pub here : (k : ℕ) (y z : Content) → rank_of P r m.edge.to ≡ k → TakesEdge P m.edge m.tile y z → IsShardOf P G (rank_of P r) k (idle_moment w.machine) y → IsShardOf P G (rank_of P r) k (idle_moment (after_delivery w n).machine) z
     here k y z at takes h =
         let t = subst (λ o. TakesEdge P m.edge o y z) its_tile takes in
-        subst (λ R. IsShardOf P G (rank_of P r) k R z) rests_then (edge_here P G con (rank_of P r) k (at_rest w.machine) sound.state m.edge may y z at t.entries t.rest h)
+        subst (λ R. IsShardOf P G (rank_of P r) k R z) idle_then (edge_here P G con (rank_of P r) k (idle_moment w.machine) sound.state m.edge may y z at t.entries t.rest h)
 
-    pub away : (k : ℕ) (y : Content) → rank_of P r m.edge.to ≢ k → IsShardOf P G (rank_of P r) k (at_rest w.machine) y → IsShardOf P G (rank_of P r) k (at_rest (after_delivery w n).machine) y
-    away k y other h = subst (λ R. IsShardOf P G (rank_of P r) k R y) rests_then (edge_away P G con (rank_of P r) k (at_rest w.machine) sound.state m.edge may y other h)
+    pub away : (k : ℕ) (y : Content) → rank_of P r m.edge.to ≢ k → IsShardOf P G (rank_of P r) k (idle_moment w.machine) y → IsShardOf P G (rank_of P r) k (idle_moment (after_delivery w n).machine) y
+    away k y other h = subst (λ R. IsShardOf P G (rank_of P r) k R y) idle_then (edge_away P G con (rank_of P r) k (idle_moment w.machine) sound.state m.edge may y other h)
 
     -- how often an item was sent then
     counted : (i : Item) → send_count (after_delivery w n).machine i ≡ send_count w.machine i + as_number (same_item i (item.Edge m.edge))

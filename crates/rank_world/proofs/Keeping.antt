@@ -13,7 +13,7 @@ use Rattle.dep_iter.specs.Consistent.{IsConsistent}
 use Rattle.dep_shard.specs.Content.{Content, IsReady, entry_of}
 use Rattle.flow_meaning.specs.Machine.{MachineState, MayClaim}
 use Rattle.flow_meaning.proofs.Rest.{rests}
-use Rattle.shard_meaning.specs.Calm.{HasNoWork}
+use Rattle.shard_meaning.specs.Calm.{HaveNoWork}
 use Rattle.shard_meaning.specs.Opening.{IsOpeningShard}
 use Rattle.shard_meaning.proofs.Holding.{may_ready, ready_may}
 use Rattle.shard_meaning.proofs.Openings.{opening_share}
@@ -23,7 +23,7 @@ use Rattle.rank_core.specs.declared.message.Message.{Message}
 use Rattle.rank_core.specs.Sound.{IsSoundWorld}
 use Rattle.rank_core.specs.World.{IsQuiet, WorldState, opening_world, rank_of, is_delivered}
 use Rattle.rank_core.proofs.Quiet.{quiet_iff}
-use Rattle.rank_world.specs.Keeping.{HoldShares, IsUnderWay, at_rest, unless_delivered}
+use Rattle.rank_world.specs.Keeping.{HoldShares, IsUnderWay, idle_moment, unless_delivered}
 use Rattle.shard_calls.specs.Opened.{AreOpeningShards}
 
 -- what is under way
@@ -68,16 +68,16 @@ empty_all_delivered S ms table under none m i =
 module _ (P : Plan) (G : Data) (w : WorldState) (ys : List Content) (some : 0 < length ys) (shares : HoldShares P G w ys) where
   -- a task that may run has a ready entry at its rank, and the other way round
   pub ready_at : (t : Task) (k : ℕ) (y : Content) → slice_get ys k ≡ Some y → rank_of P (length ys) t ≡ k → MayClaim P w.machine t → (e : Entry) × (entry_of y t ≡ Some e) × IsReady e
-  ready_at t k y e at may = let p = may_ready P G (rank_of P (length ys)) k (at_rest w.machine) y (shares k y e) t at may in (_, p.0, p.1)
+  ready_at t k y e at may = let p = may_ready P G (rank_of P (length ys)) k (idle_moment w.machine) y (shares k y e) t at may in (_, p.0, p.1)
 
-  pub quiet_by_ranks : ((k : ℕ) (y : Content) → slice_get ys k ≡ Some y → HasNoWork y) → (t : Task) → MayClaim P w.machine t → ⊥
+  pub quiet_by_ranks : HaveNoWork ys → (t : Task) → MayClaim P w.machine t → ⊥
   quiet_by_ranks idle t may =
       let p = slice_get_there ys (rank_of P (length ys) t) (shard_below P (length ys) t some) in
       let e = ready_at t (rank_of P (length ys) t) p.0 p.1 refl may in
       (idle (rank_of P (length ys) t) p.0 p.1).ready t e.0 e.1 e.2
 
-  pub ranks_by_quiet : ((t : Task) → MayClaim P w.machine t → ⊥) → (k : ℕ) (y : Content) → slice_get ys k ≡ Some y → HasNoWork y
-  ranks_by_quiet none k y e = record { ready = λ t f is ready. none t (ready_may P G (rank_of P (length ys)) k (at_rest w.machine) y (shares k y e) t f is ready); running = (shares k y e).running }
+  pub ranks_by_quiet : ((t : Task) → MayClaim P w.machine t → ⊥) → HaveNoWork ys
+  ranks_by_quiet none k y e = record { ready = λ t f is ready. none t (ready_may P G (rank_of P (length ys)) k (idle_moment w.machine) y (shares k y e) t f is ready); running = (shares k y e).running }
 
 -- the ranks of a world that was opened
 pub opening_shares : (P : Plan) (G : Data) (n : ℕ) (ys : List Content) → AreOpeningShards P n ys → HoldShares P G opening_world ys
@@ -90,7 +90,7 @@ holds_an_end P G w ys con some sound shares quiet =
     let rest = (rests P G con w.machine sound.state).0 ((quiet_iff P G con (length ys) w sound).0 quiet) in
     record {
       of = rank_of P (length ys);
-      moment = at_rest w.machine;
+      moment = idle_moment w.machine;
       placed = λ t job. shard_below P (length ys) t some;
       shares = shares;
       sound = sound.state;

@@ -22,7 +22,7 @@ use Rattle.rank_core.specs.World.{Deliver, WorldState, after_delivery, opening_w
 use Rattle.rank_core.proofs.Worlds.{event_sound, opening_sound_world}
 use Rattle.rank_world.specs.declared.mail.Mail.{Mail}
 use Rattle.rank_world.specs.Changes.{StaysAt, TakesEdgeAt}
-use Rattle.rank_world.specs.Keeping.{IsUnderWay, Keeps, at_rest}
+use Rattle.rank_world.specs.Keeping.{IsUnderWay, Keeps, idle_moment}
 use Rattle.shard_calls.specs.Opened.{AreOpeningShards}
 use Rattle.shard_calls.specs.Taken.{MayTakeEdge}
 use Rattle.rank_world.proofs.Delivering.{away, here, its_tile, mail_then, may, may_take_edge}
@@ -36,7 +36,7 @@ if_none None f h = f h
 if_none (Some x) f h = h
 
 -- a world that was opened
-pub new_keeps : (P : Plan) (G : Data) (n : ℕ) (ys : List Content) (w : WorldState) (laid : Laid) (mail : Mail) → IsConsistent P → DataFit P.colls P.elems G → 0 < n → n ≤ 64 → AreOpeningShards P n ys → w ≡ opening_world → IsBenchOf P laid → mail.under_way.entries ≡ [] → mail.sent ≡ 0 → Keeps P G w ys laid mail
+pub new_keeps : (P : Plan) (G : Data) (n : ℕ) (ys : List Content) (w : WorldState) (laid : Laid) (mail : Mail) → IsConsistent P → DataFit P G → 0 < n → n ≤ 64 → AreOpeningShards P n ys → w ≡ opening_world → IsBenchOf P laid → mail.under_way.entries ≡ [] → mail.sent ≡ 0 → Keeps P G w ys laid mail
 new_keeps P G n ys w laid mail con fit some few ranks is bench none zero_sent = subst (λ v. Keeps P G v ys laid mail) (sym is) (record {
   consistent = con;
   fit = fit;
@@ -61,18 +61,18 @@ module _ (P : Plan) (G : Data) (w : WorldState) (old : List Content) (laid : Lai
     some_ranks = omega (arith, s.count, k.some_ranks);
     ranks_at_most = omega (arith, s.count, k.ranks_at_most);
     sound = subst (λ r. IsSoundWorld P G r w) (sym s.count) k.sound;
-    shares = λ j z at. subst (λ r. IsShardOf P G (rank_of P r) j (at_rest w.machine) z) (sym s.count) (share j z at);
+    shares = λ j z at. subst (λ r. IsShardOf P G (rank_of P r) j (idle_moment w.machine) z) (sym s.count) (share j z at);
     bench = k.bench;
     mail = k.mail;
   }
     where
-      share : (j : ℕ) (z : Content) → slice_get new j ≡ Some z → IsShardOf P G (rank_of P (length old)) j (at_rest w.machine) z
+      share : (j : ℕ) (z : Content) → slice_get new j ≡ Some z → IsShardOf P G (rank_of P (length old)) j (idle_moment w.machine) z
       share j z at = elim (cases_eq j i) [
         | inl same ↦
             let y = slice_get_there old j (omega (arith, same, near)) in
             let own = ap (slice_get old) (sym same) ∙ y.1 in
             let new_own = ap (slice_get new) (sym same) ∙ at in
-            unchanged P G (rank_of P (length old)) j (at_rest w.machine) y.0 z (s.here y.0 z own new_own) (k.shares j y.0 y.1)
+            unchanged P G (rank_of P (length old)) j (idle_moment w.machine) y.0 z (s.here y.0 z own new_own) (k.shares j y.0 y.1)
         | inr other ↦ k.shares j z (sym (s.others j other) ∙ at)
       ]
 
@@ -82,7 +82,7 @@ module _ (P : Plan) (G : Data) (w : WorldState) (old : List Content) (laid : Lai
       let y = slice_get_there old i near in
       let b = best y.0 y.1 in
       let share = k.shares i y.0 y.1 in
-      (ready_may P G (rank_of P (length old)) i (at_rest w.machine) y.0 share t b.entry b.is b.ready, (share.only t b.entry b.is).1)
+      (ready_may P G (rank_of P (length old)) i (idle_moment w.machine) y.0 share t b.entry b.is b.ready, (share.only t b.entry b.is).1)
 
   pub none_may : (i : ℕ) → i < length old → ((y : Content) → slice_get old i ≡ Some y → HasNoReady y.entries) → (t : Task) → rank_of P (length old) t ≡ i → MayClaim P w.machine t → ⊥
   none_may i near none t at may =
@@ -93,12 +93,12 @@ module _ (P : Plan) (G : Data) (w : WorldState) (old : List Content) (laid : Lai
   -- a message that is under way
   module _ (n : ℕ) (m : Message) (is : slice_get w.messages n ≡ Some m) (fresh : is_delivered w.machine m ≡ false) where
     pub target : IsTask P m.edge.to
-    target = target_is_task P G k.consistent (rank_of P (length old)) (rank_of P (length old) m.edge.to) (at_rest w.machine) k.sound.state m.edge (may P G k.consistent (length old) w k.sound n m is fresh)
+    target = target_is_task P G k.consistent (rank_of P (length old)) (rank_of P (length old) m.edge.to) (idle_moment w.machine) k.sound.state m.edge (may P G k.consistent (length old) w k.sound n m is fresh)
 
     pub takes : IsWellMade G → (y : Content) → slice_get old (rank_of P (length old) m.edge.to) ≡ Some y → MayTakeEdge P m.edge m.tile y
     takes well y at =
         subst (λ o. MayTakeEdge P m.edge o y) (sym (its_tile P G k.consistent (length old) w k.sound n m is fresh))
-        (may_take_edge P G k.consistent k.fit well (rank_of P (length old)) (rank_of P (length old) m.edge.to) (at_rest w.machine) k.sound.state m.edge (may P G k.consistent (length old) w k.sound n m is fresh) refl y
+        (may_take_edge P G k.consistent k.fit well (rank_of P (length old)) (rank_of P (length old) m.edge.to) (idle_moment w.machine) k.sound.state m.edge (may P G k.consistent (length old) w k.sound n m is fresh) refl y
         (k.shares (rank_of P (length old) m.edge.to) y at))
 
     pub delivered : (new : List Content) (letters : Mail) (v : WorldState) → v ≡ after_delivery w n → n < length w.messages → TakesEdgeAt P m (rank_of P (length old) m.edge.to) old new → letters.sent ≡ mail.sent
@@ -109,17 +109,17 @@ module _ (P : Plan) (G : Data) (w : WorldState) (old : List Content) (laid : Lai
       some_ranks = omega (arith, t.count, k.some_ranks);
       ranks_at_most = omega (arith, t.count, k.ranks_at_most);
       sound = subst (λ r. IsSoundWorld P G r (after_delivery w n)) (sym t.count) (event_sound P G k.consistent (length old) w k.sound (Deliver n) few);
-      shares = λ j z at. subst (λ r. IsShardOf P G (rank_of P r) j (at_rest (after_delivery w n).machine) z) (sym t.count) (share j z at);
+      shares = λ j z at. subst (λ r. IsShardOf P G (rank_of P r) j (idle_moment (after_delivery w n).machine) z) (sym t.count) (share j z at);
       bench = k.bench;
       mail = record { under_way = mail_then P G k.consistent (length old) w k.sound n m is fresh mail.under_way.entries letters.under_way.entries k.mail.under_way changes; sent = sent ∙ k.mail.sent };
     })
       where
-        share : (j : ℕ) (z : Content) → slice_get new j ≡ Some z → IsShardOf P G (rank_of P (length old)) j (at_rest (after_delivery w n).machine) z
+        share : (j : ℕ) (z : Content) → slice_get new j ≡ Some z → IsShardOf P G (rank_of P (length old)) j (idle_moment (after_delivery w n).machine) z
         share j z at = elim (cases_eq j (rank_of P (length old) m.edge.to)) [
           | inl same ↦
               let y = rank_at m.edge.to in
               let own = ap (slice_get new) (sym same) ∙ at in
-              subst (λ i. IsShardOf P G (rank_of P (length old)) i (at_rest (after_delivery w n).machine) z) (sym same)
+              subst (λ i. IsShardOf P G (rank_of P (length old)) i (idle_moment (after_delivery w n).machine) z) (sym same)
               (here P G k.consistent (length old) w k.sound n m is fresh (rank_of P (length old) m.edge.to) y.0 z refl (t.here y.0 z y.1 own) (k.shares (rank_of P (length old) m.edge.to) y.0 y.1))
           | inr other ↦ away P G k.consistent (length old) w k.sound n m is fresh j z (λ e. other (sym e)) (k.shares j z (sym (t.others j other) ∙ at))
         ]

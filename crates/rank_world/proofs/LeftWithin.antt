@@ -24,8 +24,8 @@ use Rattle.rank_core.proofs.Items.{out_from}
 use Rattle.rank_world.specs.declared.running_task.RunningTask.{RunningTask}
 use Rattle.shard_calls.specs.Taken.{HasSpareForEdge, HasSpareForWrite, MayTakeEdge, MayTakeWrite, TakesEdge, TakesWrite}
 use Rattle.rank_world.specs.RankRoom.{HasRoomFor}
-use Rattle.rank_world.specs.RunningTasks.{HoldsAt, IsRunningTask, data_of, its_writes, part_way, plan_of, within_among}
-use Rattle.rank_world.proofs.Parts.{by_task, edge_holds, may_edge, may_write, write_holds}
+use Rattle.rank_world.specs.RunningTasks.{HoldsAt, IsRunningTask, data_of, its_writes, part_way, plan_of}
+use Rattle.rank_world.proofs.Parts.{by_task, edge_holds, may_edge, may_write, within_among, write_holds}
 
 one_tile : (d k : ℕ) → tiles_used (Some d) k ≤ 1
 one_tile d k = by (nat_eq d k)

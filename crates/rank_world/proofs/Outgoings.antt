@@ -34,8 +34,8 @@ use Rattle.rank_world.specs.declared.running_task.RunningTask.{RunningTask}
 use Rattle.indexmap.specs.IndexMap.{spare}
 use Rattle.rank_world.specs.Keeping.{IsMailOf, IsUnderWay}
 use Rattle.rank_world.specs.Outgoings.{AddsBlank, AddsWithin}
-use Rattle.rank_world.specs.RunningTasks.{AreBlank, HasShape, IsRunningTask, after, before, between_among, data_of, part_way, plan_of, within_among}
-use Rattle.rank_world.proofs.Parts.{ends_so, part_sound}
+use Rattle.rank_world.specs.RunningTasks.{AreBlank, HasShape, IsRunningTask, after, before, data_of, part_way, plan_of}
+use Rattle.rank_world.proofs.Parts.{between_among, ends_so, part_sound, within_among}
 use Rattle.rank_world.proofs.Posted.{between_waits, mail_kept, one_posted}
 
 blank_push : (P : Plan) (es : List Edge) (ms : List Message) (e : Edge) (m : Message) → AreBlank P es ms → m.edge ≡ e → HasShape P m → AreBlank P (es ++ e ∷ []) (ms ++ m ∷ [])

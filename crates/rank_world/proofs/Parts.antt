@@ -1,5 +1,5 @@
 -- The run of a task, part by part: what happens to the state, and to each rank.
-use Rattle.std.proofs.Common.{◌≡◌, ◌≢◌, ◌<◌, ◌==◌, ℕ, Bool, true, false, not, cond, List, [], ◌∷◌, ◌++◌, map, refl, ap, sym, ◌∙◌, subst, append_assoc, inl, inr, Some, Ok, Err, Result, IsOk, OnOk, IsSome, IfSome, arith}
+use Rattle.std.proofs.Common.{◌≡◌, ◌≢◌, ◌<◌, ◌==◌, ℕ, Bool, true, false, not, cond, List, [], ◌∷◌, ◌++◌, map, filter, refl, ap, sym, ◌∙◌, subst, append_assoc, inl, inr, Some, Ok, Err, Result, IsOk, OnOk, IsSome, IfSome, arith}
 use Rattle.std.proofs.lemmas.Bool.{false≢true, eqb-true}
 use Rattle.std.proofs.lemmas.List.{append-nil, map-append}
 use Rattle.ptg_base.specs.Entry.{FlowTile}
@@ -36,7 +36,7 @@ use Rattle.rank_core.specs.World.{edges_within, is_between, items_by, items_with
 use Rattle.rank_core.proofs.Items.{within_is_item, within_once}
 use Rattle.rank_core.proofs.Running.{items_with, items_without, part_happens, run_ends}
 use Rattle.rank_world.specs.declared.running_task.RunningTask.{RunningTask}
-use Rattle.rank_world.specs.Keeping.{at_rest}
+use Rattle.rank_world.specs.Keeping.{idle_moment}
 use Rattle.shard_calls.specs.Taken.{MayTakeEdge, MayTakeWrite, TakesEdge, TakesWrite}
 use Rattle.rank_world.specs.RunningTasks.{HoldsAt, IsRunningTask, after, before, data_of, its_writes, part_way, plan_of}
 use Rattle.rank_world.proofs.Delivering.{may_take_edge}
@@ -44,6 +44,14 @@ use Rattle.rank_world.proofs.Delivering.{may_take_edge}
 happen-last : (P : Plan) (G : Data) (es : List Event) (e : Event) (S T U : MachineState) → Happen P G (es ++ e ∷ []) S U → Happen P G es S T → IsPossible P G T e
 happen-last P G [] e S T U h k = subst (λ V. IsPossible P G V e) k h.0
 happen-last P G (x ∷ es) e S T U h k = happen-last P G es e (state_after P G S x) T U h.1 k.1
+
+-- those of these edges that stay within the task's rank
+abbrev pub within_among : RunningTask → List Edge → List Edge
+within_among v es = filter (λ e. not (is_between (plan_of v) v.ranks e)) es
+
+-- those of these edges that go to another rank
+abbrev pub between_among : RunningTask → List Edge → List Edge
+between_among v es = filter (is_between (plan_of v) v.ranks) es
 
 -- what an `OnOk` says of an `Ok`
 pub get_ok : {X E Q : Type 0} (r : Result X E) → IsOk r → OnOk r Q → Q
@@ -56,13 +64,13 @@ module _ (v : RunningTask) (h : IsRunningTask v) where
   ends_so = run_ends (plan_of v) (data_of v) h.consistent v.ranks (before v) h.sound v.task.now h.may
 
   -- the claim
-  pub claimed_part : with_claim (at_rest (before v).machine) v.task.now ≡ part_way v []
+  pub claimed_part : with_claim (idle_moment (before v).machine) v.task.now ≡ part_way v []
   claimed_part = λ k. record { state = record { claims = (before v).machine.claims ++ v.task.now ∷ []; sends = sym (append-nil (before v).machine.sends) k }; running = v.task.now ∷ [] }
 
-  pub claim_holds : (y z : Content) (tiles : List FlowTile) → HoldsAt v (at_rest (before v).machine) y → Takes y z v.task.now tiles → HoldsAt v (part_way v []) z
+  pub claim_holds : (y z : Content) (tiles : List FlowTile) → HoldsAt v (idle_moment (before v).machine) y → Takes y z v.task.now tiles → HoldsAt v (part_way v []) z
   claim_holds y z tiles holds takes =
       subst (λ R. HoldsAt v R z) claimed_part
-      (claim_here (plan_of v) (data_of v) h.consistent (rank_of (plan_of v) v.ranks) v.rank (at_rest (before v).machine) h.sound.state v.task.now y z tiles (sym h.rank_is) takes holds)
+      (claim_here (plan_of v) (data_of v) h.consistent (rank_of (plan_of v) v.ranks) v.rank (idle_moment (before v).machine) h.sound.state v.task.now y z tiles (sym h.rank_is) takes holds)
 
   -- the state after the claim is sound
   pub claimed_sound : IsSoundState (plan_of v) (data_of v) (part_way v []).state
@@ -88,23 +96,23 @@ module _ (v : RunningTask) (h : IsRunningTask v) where
     no_outputs : has_outputs (ended (plan_of v) (data_of v) v.task.now) ≡ false
     no_outputs = ap has_outputs traps
 
-    pub trap_after : with_end (part_way v []) v.task.now ≡ at_rest (after v).machine
+    pub trap_after : with_end (part_way v []) v.task.now ≡ idle_moment (after v).machine
     trap_after =
         let none : items_by (plan_of v) v.ranks v.task.now (end_in (plan_of v) (data_of v) (before v).machine v.task.now) ≡ [] = ap (items_by (plan_of v) v.ranks v.task.now) (sym ends_so) ∙ items_without (plan_of v) v.ranks v.task.now (ended (plan_of v) (data_of v) v.task.now) no_outputs in
         λ k. record { state = record { claims = (before v).machine.claims ++ v.task.now ∷ []; sends = (before v).machine.sends ++ sym none k }; running = none_left k }
 
-    pub trap_holds : (y z : Content) → HoldsAt v (part_way v []) y → Ends y z → KeepsEntriesAndWritten y z → z.trapped ≡ y.trapped ++ (v.task.now, cause) ∷ [] → HoldsAt v (at_rest (after v).machine) z
+    pub trap_holds : (y z : Content) → HoldsAt v (part_way v []) y → Ends y z → KeepsEntriesAndWritten y z → z.trapped ≡ y.trapped ++ (v.task.now, cause) ∷ [] → HoldsAt v (idle_moment (after v).machine) z
     trap_holds y z holds ends kept trapped =
         subst (λ R. HoldsAt v R z) trap_after
         (trap_here (plan_of v) (data_of v) (rank_of (plan_of v) v.ranks) v.rank (part_way v []) v.task.now (runs_one []) y z cause (sym h.rank_is) traps ends kept trapped holds)
 
-    pub trap_away : (j : ℕ) (y : Content) → v.rank ≢ j → IsShardOf (plan_of v) (data_of v) (rank_of (plan_of v) v.ranks) j (at_rest (before v).machine) y → IsShardOf (plan_of v) (data_of v) (rank_of (plan_of v) v.ranks) j (at_rest (after v).machine) y
+    pub trap_away : (j : ℕ) (y : Content) → v.rank ≢ j → IsShardOf (plan_of v) (data_of v) (rank_of (plan_of v) v.ranks) j (idle_moment (before v).machine) y → IsShardOf (plan_of v) (data_of v) (rank_of (plan_of v) v.ranks) j (idle_moment (after v).machine) y
     trap_away j y other share =
         let away : rank_of (plan_of v) v.ranks v.task.now ≢ j = λ e. other (h.rank_is ∙ e) in
         subst (λ R. IsShardOf (plan_of v) (data_of v) (rank_of (plan_of v) v.ranks) j R y) trap_after
         (end_away (plan_of v) (data_of v) (rank_of (plan_of v) v.ranks) j (part_way v []) v.task.now (runs_one []) y away
         (subst (λ R. IsShardOf (plan_of v) (data_of v) (rank_of (plan_of v) v.ranks) j R y) claimed_part
-        (claim_away (plan_of v) (data_of v) h.consistent (rank_of (plan_of v) v.ranks) j (at_rest (before v).machine) h.sound.state v.task.now y away share)))
+        (claim_away (plan_of v) (data_of v) h.consistent (rank_of (plan_of v) v.ranks) j (idle_moment (before v).machine) h.sound.state v.task.now y away share)))
 
   -- the items of a task that has outputs
   module _ (outputs : has_outputs (ended (plan_of v) (data_of v) v.task.now) ≡ true) where
@@ -190,12 +198,12 @@ module _ (v : RunningTask) (h : IsRunningTask v) where
           (edge_here (plan_of v) (data_of v) h.consistent (rank_of (plan_of v) v.ranks) v.rank (part_way v is) (part_sound is (item.Edge e ∷ rest) split) e (next_may is (item.Edge e) rest split) y z same_rank takes.entries takes.rest holds)
 
     -- the end after all items
-    pub end_after : with_end (part_way v all) v.task.now ≡ at_rest (after v).machine
+    pub end_after : with_end (part_way v all) v.task.now ≡ idle_moment (after v).machine
     end_after =
         let sent = sym (items_with (plan_of v) v.ranks v.task.now (ended (plan_of v) (data_of v) v.task.now) outputs) ∙ ap (items_by (plan_of v) v.ranks v.task.now) ends_so in
         λ k. record { state = record { claims = (before v).machine.claims ++ v.task.now ∷ []; sends = (before v).machine.sends ++ sent k }; running = none_left k }
 
-    pub end_holds : (y z : Content) → HoldsAt v (part_way v all) y → Ends y z → KeepsEntriesAndWritten y z → z.trapped ≡ y.trapped → HoldsAt v (at_rest (after v).machine) z
+    pub end_holds : (y z : Content) → HoldsAt v (part_way v all) y → Ends y z → KeepsEntriesAndWritten y z → z.trapped ≡ y.trapped → HoldsAt v (idle_moment (after v).machine) z
     end_holds y z holds ends kept trapped =
         subst (λ R. HoldsAt v R z) end_after
         (end_here (plan_of v) (data_of v) (rank_of (plan_of v) v.ranks) v.rank (part_way v all) v.task.now (runs_one all) y z (sym h.rank_is) outputs ends kept trapped holds)
@@ -257,9 +265,9 @@ module _ (v : RunningTask) (h : IsRunningTask v) where
       sends_away is [] split share = subst (λ l. Holds (part_way v l)) (sym (append-nil is) ∙ split) share
       sends_away is (i ∷ rest) split share = sends_away (is ++ i ∷ []) rest (longer is i rest split) (send_away is i rest split share)
 
-      pub run_away : Holds (at_rest (before v).machine) → Holds (at_rest (after v).machine)
+      pub run_away : Holds (idle_moment (before v).machine) → Holds (idle_moment (after v).machine)
       run_away share =
           let away : rank_of (plan_of v) v.ranks v.task.now ≢ j = λ e. other (h.rank_is ∙ e) in
-          let claimed : Holds (part_way v []) = subst Holds claimed_part (claim_away (plan_of v) (data_of v) h.consistent (rank_of (plan_of v) v.ranks) j (at_rest (before v).machine) h.sound.state v.task.now y away share) in
+          let claimed : Holds (part_way v []) = subst Holds claimed_part (claim_away (plan_of v) (data_of v) h.consistent (rank_of (plan_of v) v.ranks) j (idle_moment (before v).machine) h.sound.state v.task.now y away share) in
           subst Holds end_after
           (end_away (plan_of v) (data_of v) (rank_of (plan_of v) v.ranks) j (part_way v all) v.task.now (runs_one all) y away (sends_away [] all refl claimed))

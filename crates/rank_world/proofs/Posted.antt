@@ -61,7 +61,7 @@ none_sent i xs none = elim (cases_eq (weigh (λ (x : SentItem). as_number (same_
 ]
 
 module _ (v : RunningTask) (h : IsRunningTask v) where
-  -- an item that the run does not send stands exactly where it stood
+  -- an item that the run does not send was sent as often as before
   as_before : (i : Item) → ((x : SentItem) → IsIn x (items_by (plan_of v) v.ranks v.task.now (end_in (plan_of v) (data_of v) (before v).machine v.task.now)) → x.item ≡ i → ⊥) → send_count (after v).machine i ≡ send_count (before v).machine i
   as_before i none =
       omega (

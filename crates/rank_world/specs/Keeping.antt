@@ -17,9 +17,9 @@ use Rattle.rank_core.specs.Sound.{IsSoundWorld}
 use Rattle.rank_core.specs.World.{WorldState, rank_of, is_delivered}
 use Rattle.rank_world.specs.declared.mail.Mail.{Mail}
 
--- a world between two events: no task runs
-abbrev pub at_rest : MachineState → Moment
-at_rest S = record { state = S; running = [] }
+-- a moment between two events of a world: no task runs
+abbrev pub idle_moment : MachineState → Moment
+idle_moment S = record { state = S; running = [] }
 
 -- a message that was sent, if it was not delivered
 abbrev pub unless_delivered : MachineState → Option Message → Option Message
@@ -35,16 +35,16 @@ pub record IsMailOf (w : WorldState) (m : Mail) : Type 0 where
   pub under_way : IsUnderWay w.machine w.messages m.under_way.entries
   pub sent : m.sent ≡ length w.messages
 
--- each rank holds its share of the state, as a shard of a table does at rest
+-- each rank holds its share of the state while no task runs
 abbrev pub HoldShares : Plan → Data → WorldState → List Content → Type 0
 HoldShares P G w ys =
-    (k : ℕ) (y : Content) → slice_get ys k ≡ Some y → IsShardOf P G (rank_of P (length ys)) k (at_rest w.machine) y
+    (k : ℕ) (y : Content) → slice_get ys k ≡ Some y → IsShardOf P G (rank_of P (length ys)) k (idle_moment w.machine) y
 
 -- what a world keeps for its job and what has happened
 pub record Keeps (P : Plan) (G : Data) (w : WorldState) (ys : List Content)
     (laid : Laid) (letters : Mail) : Type 0 where
   pub consistent : IsConsistent P
-  pub fit : DataFit P.colls P.elems G
+  pub fit : DataFit P G
   pub some_ranks : 0 < length ys
   pub ranks_at_most : length ys ≤ most_ranks
   pub sound : IsSoundWorld P G (length ys) w

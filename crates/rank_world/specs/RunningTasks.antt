@@ -1,7 +1,7 @@
 -- A task that runs in a world, part by part: it is claimed, its items within its rank are sent one after another, and
 -- it ends. Source: DAGuE (Parallel Computing, 2012), where a task that ends satisfies the dependences of its
 -- successors.
-use Rattle.std.specs.Prelude.{◌≡◌, ◌<◌, ◌≤◌, ◌++◌, ℤ, List, [], ◌∷◌, map, filter, length, not, option_map, slice_index, Option, Some, None, if◌then◌else◌}
+use Rattle.std.specs.Prelude.{◌≡◌, ◌<◌, ◌≤◌, ◌++◌, ℤ, List, [], ◌∷◌, map, length, option_map, slice_index, Option, Some, None, if◌then◌else◌}
 use Rattle.ptg_base.specs.Limits.{most_ranks}
 use Rattle.ptg_base.specs.declared.edge.Edge.{Edge}
 use Rattle.ptg_base.specs.declared.edge.Item.{Item}
@@ -22,7 +22,7 @@ use Rattle.shard_meaning.specs.Moment.{Moment}
 use Rattle.shard_meaning.specs.Share.{IsShardOf}
 use Rattle.rank_core.specs.declared.message.Message.{Message}
 use Rattle.rank_core.specs.Sound.{IsSoundWorld}
-use Rattle.rank_core.specs.World.{WorldState, after_run, is_between, rank_of}
+use Rattle.rank_core.specs.World.{WorldState, after_run, edges_between, edges_within, items_within, rank_of}
 use Rattle.rank_world.specs.declared.running_task.RunningTask.{RunningTask}
 
 -- the plan of a running task
@@ -44,7 +44,7 @@ after v = after_run (plan_of v) (data_of v) v.ranks (before v) v.task.now
 -- a task that may run, with its locals and its rank, in a sound world of a consistent job and its data
 pub record IsRunningTask (v : RunningTask) : Type 0 where
   pub consistent : IsConsistent (plan_of v)
-  pub fit : DataFit (plan_of v).colls (plan_of v).elems (data_of v)
+  pub fit : DataFit (plan_of v) (data_of v)
   pub well : IsWellMade (data_of v)
   pub some_ranks : 0 < v.ranks
   pub ranks_at_most : v.ranks ≤ most_ranks
@@ -71,13 +71,17 @@ HoldsAt v R y = IsShardOf (plan_of v) (data_of v) (rank_of (plan_of v) v.ranks) 
 abbrev pub its_writes : RunningTask → List Item
 its_writes v = map item.Write (write_backs (plan_of v) v.task.now)
 
--- those of these edges that stay within the task's rank
-abbrev pub within_among : RunningTask → List Edge → List Edge
-within_among v es = filter (λ e. not (is_between (plan_of v) v.ranks e)) es
+-- the edges of the task to its own rank
+abbrev pub its_edges_within : RunningTask → List Edge
+its_edges_within v = edges_within (plan_of v) v.ranks v.task.now
 
--- those of these edges that go to another rank
-abbrev pub between_among : RunningTask → List Edge → List Edge
-between_among v es = filter (is_between (plan_of v) v.ranks) es
+-- the edges of the task to other ranks
+abbrev pub its_edges_between : RunningTask → List Edge
+its_edges_between v = edges_between (plan_of v) v.ranks v.task.now
+
+-- the items of the task that need no message
+abbrev pub its_items_within : RunningTask → List Item
+its_items_within v = items_within (plan_of v) v.ranks v.task.now
 
 -- whether there is a tile, and how many numbers it has, is as the flow says that the edge goes to
 abbrev pub IsShapeOf : Plan → Edge → Option (List ℤ) → Type 0

@@ -1,7 +1,7 @@
 //! The answer of a job that is run by ranks.
 
-ghost use Rattle.std.specs.Prelude.{◌≡◌, ◌<◌, ◌≤◌, IfOk};
-ghost use Rattle.ptg_base.specs.Limits.{most_ranks};
+ghost use Rattle.std.specs.Prelude.{◌≡◌, IfOk};
+ghost use Rattle.ptg_base.specs.Limits.{IsRankCount};
 ghost use Rattle.plan_data.specs.Fit.{DataFit};
 ghost use Rattle.flow_meaning.specs.Answer as meaning;
 ghost use Rattle.rank_core.specs.Sound.{message_count};
@@ -23,10 +23,10 @@ pub fn ranks_of(
     ranks: u32,
     seed: u64,
 ) -> Result<(u64, Outcome), OutOfMemory>
-    requires fit { DataFit m.now.colls m.now.elems given }
-    requires ranks { (0 < ranks) × (ranks ≤ most_ranks) }
-    ensures messages { IfOk result (λ r. r.0 ≡ message_count m.now given ranks) }
-    ensures answer { IfOk result (λ r. r.1 ≡ meaning.answer m.now given) }
+    requires fit { DataFit m.now given }
+    requires ranks { IsRankCount ranks }
+    ensures messages { IfOk result (λ (messages, outcome). messages ≡ message_count m.now given ranks) }
+    ensures answer { IfOk result (λ (messages, outcome). outcome ≡ meaning.answer m.now given) }
 {
     let mut world = World::new(alloc, m, given, ranks)?;
     drive(&mut world, seed)?;

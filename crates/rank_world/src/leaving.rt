@@ -1,15 +1,15 @@
 //! What a task leaves within its rank: its write-backs, and its edges to tasks of the rank.
 
-ghost use Rattle.std.specs.Prelude.{◌≡◌, ◌++◌, [], Ok, Some, ℕ, false, true, length, map};
-ghost use Rattle.ptg_base.specs.declared.edge.Item.TheVariants as item;
+ghost use Rattle.std.specs.Prelude.{◌≡◌, [], ℕ, false, true, length};
 ghost use Rattle.dep_iter.specs.Items as items;
 ghost use Rattle.dep_iter.specs.Tasks.{IsTask};
 ghost use Rattle.flow_meaning.specs.Backward.{ended};
 ghost use Rattle.flow_meaning.specs.Ending.{output_tile};
 ghost use Rattle.rank_core.specs.World.{is_between};
 ghost use Rattle.shard_calls.specs.Taken.{MayTakeEdge, MayTakeWrite, TakesEdge, TakesWrite};
+ghost use Rattle.task_run.specs.Bench.{HoldsOutputs};
 ghost use Rattle.rank_world.specs.RankRoom.{HasRoomFor};
-ghost use Rattle.rank_world.specs.RunningTasks.{HoldsAt, IsRunningTask, data_of, its_writes, part_way, plan_of, within_among};
+ghost use Rattle.rank_world.specs.RunningTasks.{HoldsAt, IsRunningTask, data_of, its_edges_within, its_items_within, its_writes, part_way, plan_of};
 
 use crate::room::goes_away;
 use crate::running_task::RunningTask;
@@ -22,7 +22,7 @@ use task_run::Bench;
 // Keeps a write-back of a running task in its rank, which has room for it.
 #[tactic(auto, using(crate::proofs::LeftWithin::room_is_spare_write))]
 fn leave_write(at: &RunningTask, shard: &mut Shard, bench: &Bench, write: &WriteBack)
-    requires tiles { ended (plan_of at.now) (data_of at.now) write.now.from ≡ Some (Ok bench.now.tiles) }
+    requires tiles { HoldsOutputs (plan_of at.now) (data_of at.now) write.now.from bench.now }
     requires may { MayTakeWrite (plan_of at.now) write.now
         (output_tile (ended (plan_of at.now) (data_of at.now) write.now.from) write.now.flow) shard.old }
     requires room { HasRoomFor 0 1 shard.old }
@@ -35,7 +35,7 @@ fn leave_write(at: &RunningTask, shard: &mut Shard, bench: &Bench, write: &Write
 // Keeps the write-backs of a running task in its rank.
 fn leave_writes(at: &RunningTask, shard: &mut Shard, bench: &Bench)
     requires runs { IsRunningTask at.now }
-    requires tiles { ended (plan_of at.now) (data_of at.now) at.now.task.now ≡ Some (Ok bench.now.tiles) }
+    requires tiles { HoldsOutputs (plan_of at.now) (data_of at.now) at.now.task.now bench.now }
     requires holds { HoldsAt at.now (part_way at.now []) shard.old }
     requires room { HasRoomFor 0 (length (items.write_backs (plan_of at.now) at.now.task.now)) shard.old }
     ensures holds { HoldsAt at.now (part_way at.now (its_writes at.now)) shard.new }
@@ -53,7 +53,7 @@ fn leave_edge(at: &RunningTask, shard: &mut Shard, bench: &Bench, edge: &Edge)
     requires runs { IsRunningTask at.now }
     requires from { edge.now.from ≡ at.now.task.now }
     requires to { IsTask (plan_of at.now) edge.now.to }
-    requires tiles { ended (plan_of at.now) (data_of at.now) edge.now.from ≡ Some (Ok bench.now.tiles) }
+    requires tiles { HoldsOutputs (plan_of at.now) (data_of at.now) edge.now.from bench.now }
     requires may { is_between (plan_of at.now) at.now.ranks edge.now ≡ false
         → MayTakeEdge (plan_of at.now) edge.now
         (output_tile (ended (plan_of at.now) (data_of at.now) edge.now.from) edge.now.out_flow) shard.old }
@@ -72,15 +72,10 @@ fn leave_edge(at: &RunningTask, shard: &mut Shard, bench: &Bench, edge: &Edge)
 // Brings the edges of a running task that stay within its rank to their targets.
 fn leave_edges(at: &RunningTask, shard: &mut Shard, bench: &Bench)
     requires runs { IsRunningTask at.now }
-    requires tiles { ended (plan_of at.now) (data_of at.now) at.now.task.now ≡ Some (Ok bench.now.tiles) }
+    requires tiles { HoldsOutputs (plan_of at.now) (data_of at.now) at.now.task.now bench.now }
     requires holds { HoldsAt at.now (part_way at.now (its_writes at.now)) shard.old }
-    requires room { HasRoomFor (length (within_among at.now (items.out_edges (plan_of at.now) at.now.task.now))) 0
-        shard.old }
-    ensures { HoldsAt at.now
-        (part_way at.now
-        (its_writes at.now
-        ++ map item.Edge (within_among at.now (items.out_edges (plan_of at.now) at.now.task.now))))
-        shard.new }
+    requires room { HasRoomFor (length (its_edges_within at.now)) 0 shard.old }
+    ensures { HoldsAt at.now (part_way at.now (its_items_within at.now)) shard.new }
 {
     for edge in out_edges_under(at.matched.plan(), at.task, at.locals) {
         leave_edge(at, shard, bench, &edge);
@@ -90,15 +85,11 @@ fn leave_edges(at: &RunningTask, shard: &mut Shard, bench: &Bench)
 // Leaves what stays within its rank of a running task: its write-backs, and then its edges.
 pub(crate) fn leave_within(at: &RunningTask, shard: &mut Shard, bench: &Bench)
     requires runs { IsRunningTask at.now }
-    requires tiles { ended (plan_of at.now) (data_of at.now) at.now.task.now ≡ Some (Ok bench.now.tiles) }
+    requires tiles { HoldsOutputs (plan_of at.now) (data_of at.now) at.now.task.now bench.now }
     requires holds { HoldsAt at.now (part_way at.now []) shard.old }
-    requires room { HasRoomFor (length (within_among at.now (items.out_edges (plan_of at.now) at.now.task.now)))
+    requires room { HasRoomFor (length (its_edges_within at.now))
         (length (items.write_backs (plan_of at.now) at.now.task.now)) shard.old }
-    ensures { HoldsAt at.now
-        (part_way at.now
-        (its_writes at.now
-        ++ map item.Edge (within_among at.now (items.out_edges (plan_of at.now) at.now.task.now))))
-        shard.new }
+    ensures { HoldsAt at.now (part_way at.now (its_items_within at.now)) shard.new }
 {
     leave_writes(at, shard, bench);
     leave_edges(at, shard, bench);

@@ -8,7 +8,7 @@ ghost use Rattle.dep_shard.specs.Content.{IsUnchanged};
 ghost use Rattle.rank_core.specs.World.{is_between};
 ghost use Rattle.rank_world.specs.Outgoings.{AddsBlank, AddsWithin};
 ghost use Rattle.rank_world.specs.RankRoom.{HasRoomFor};
-ghost use Rattle.rank_world.specs.RunningTasks.{AreBlank, IsShapeOf, IsRunningTask, between_among, plan_of, within_among};
+ghost use Rattle.rank_world.specs.RunningTasks.{AreBlank, IsShapeOf, IsRunningTask, its_edges_between, its_edges_within, plan_of};
 
 use crate::running_task::RunningTask;
 use dep_iter::{Matched, out_edges_under, write_backs_under};
@@ -109,11 +109,8 @@ fn add_edge(
 // What a running task will send, if it has outputs.
 pub(crate) fn outgoing_of(alloc: Global, at: &RunningTask) -> Result<Outgoing, OutOfMemory>
     requires { IsRunningTask at.now }
-    ensures messages { IfOk result (λ o.
-        AreBlank (plan_of at.now) (between_among at.now (items.out_edges (plan_of at.now) at.now.task.now))
-        o.messages.items) }
-    ensures within { IfOk result (λ o.
-        o.within ≡ length (within_among at.now (items.out_edges (plan_of at.now) at.now.task.now))) }
+    ensures messages { IfOk result (λ o. AreBlank (plan_of at.now) (its_edges_between at.now) o.messages.items) }
+    ensures within { IfOk result (λ o. o.within ≡ length (its_edges_within at.now)) }
 {
     let mut outgoing = Outgoing {
         messages: Vec::new(alloc),

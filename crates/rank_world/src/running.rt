@@ -1,6 +1,6 @@
 //! The run of a task.
 
-ghost use Rattle.std.specs.Prelude.{◌≡◌, ◌≢◌, ◌<◌, ◌≤◌, ◌↔◌, [], Err, IfErr, IfOk, IsTrue, Ok, OnErr, OnOk, Some, false, if◌then◌else◌, length, slice_get, ℕ};
+ghost use Rattle.std.specs.Prelude.{◌≡◌, ◌≢◌, ◌<◌, ◌≤◌, ◌↔◌, [], Err, IfErr, IfOk, IsTrue, OnErr, OnOk, Some, false, if◌then◌else◌, length, slice_get, ℕ};
 ghost use Rattle.indexmap.specs.IndexMap.{spare};
 ghost use Rattle.dep_iter.specs.Items as items;
 ghost use Rattle.dep_iter.specs.Tasks as tasks;
@@ -9,11 +9,11 @@ ghost use Rattle.rank_core.specs.World as world;
 ghost use Rattle.dep_shard.specs.Content.{Content};
 ghost use Rattle.flow_meaning.specs.Backward.{ended};
 ghost use Rattle.flow_meaning.specs.Machine.{MayClaim};
-ghost use Rattle.task_run.specs.Bench.{IsBenchOf};
-ghost use Rattle.rank_world.specs.Keeping.{IsMailOf, at_rest};
+ghost use Rattle.task_run.specs.Bench.{HoldsOutputs, IsBenchOf};
+ghost use Rattle.rank_world.specs.Keeping.{IsMailOf, idle_moment};
 ghost use Rattle.rank_world.specs.RankRoom.{HasRoomFor};
 ghost use Rattle.rank_world.specs.Views.{with_run};
-ghost use Rattle.rank_world.specs.RunningTasks.{AreBlank, HoldsAt, IsRunningTask, after, before, between_among, data_of, part_way, plan_of, within_among};
+ghost use Rattle.rank_world.specs.RunningTasks.{AreBlank, HoldsAt, IsRunningTask, after, before, data_of, its_edges_between, its_edges_within, part_way, plan_of};
 
 use crate::history::{History, Number};
 use crate::leaving::leave_within;
@@ -42,11 +42,11 @@ struct Ending {
 fn begin(at: &RunningTask, shard: &mut Shard, bench: &mut Bench) -> Result<(), Trap>
     requires runs { IsRunningTask at.now }
     requires bench { IsBenchOf (plan_of at.now) bench.old }
-    requires holds { HoldsAt at.now (at_rest (before at.now).machine) shard.old }
+    requires holds { HoldsAt at.now (idle_moment (before at.now).machine) shard.old }
     ensures holds { HoldsAt at.now (part_way at.now []) shard.new }
     ensures room { (n m : ℕ) → HasRoomFor n m shard.old → HasRoomFor n m shard.new }
     ensures elems { bench.new.elems ≡ bench.old.elems }
-    ensures ok { OnOk result (ended (plan_of at.now) (data_of at.now) at.now.task.now ≡ Some (Ok bench.new.tiles)) }
+    ensures ok { OnOk result (HoldsOutputs (plan_of at.now) (data_of at.now) at.now.task.now bench.new) }
     ensures trap { IfErr result (λ cause. ended (plan_of at.now) (data_of at.now) at.now.task.now ≡ Some (Err cause)) }
 {
     let arrivals = shard.take_ready(at.task).unwrap();
@@ -68,15 +68,14 @@ fn end_with_outputs(
     messages: Vec<Message>,
 )
     requires runs { IsRunningTask at.now }
-    requires tiles { ended (plan_of at.now) (data_of at.now) at.now.task.now ≡ Some (Ok bench.now.tiles) }
+    requires tiles { HoldsOutputs (plan_of at.now) (data_of at.now) at.now.task.now bench.now }
     requires holds { HoldsAt at.now (part_way at.now []) shard.old }
-    requires room { HasRoomFor (length (within_among at.now (items.out_edges (plan_of at.now) at.now.task.now)))
+    requires room { HasRoomFor (length (its_edges_within at.now))
         (length (items.write_backs (plan_of at.now) at.now.task.now)) shard.old }
-    requires blank { AreBlank (plan_of at.now) (between_among at.now (items.out_edges (plan_of at.now) at.now.task.now))
-        messages.items }
+    requires blank { AreBlank (plan_of at.now) (its_edges_between at.now) messages.items }
     requires mail { IsMailOf (before at.now) mail.old }
     requires mail_room { length messages.items ≤ spare mail.old.under_way }
-    ensures holds { HoldsAt at.now (at_rest (after at.now).machine) shard.new }
+    ensures holds { HoldsAt at.now (idle_moment (after at.now).machine) shard.new }
     ensures mail { IsMailOf (after at.now) mail.new }
 {
     leave_within(at, shard, bench);
@@ -90,7 +89,7 @@ fn end_by_trap(at: &RunningTask, shard: &mut Shard, cause: Trap)
     requires trap { ended (plan_of at.now) (data_of at.now) at.now.task.now ≡ Some (Err cause) }
     requires holds { HoldsAt at.now (part_way at.now []) shard.old }
     requires room { (n : ℕ) × (m : ℕ) × HasRoomFor n m shard.old }
-    ensures { HoldsAt at.now (at_rest (after at.now).machine) shard.new }
+    ensures { HoldsAt at.now (idle_moment (after at.now).machine) shard.new }
 {
     shard.trap(at.task, cause).unwrap();
 }
@@ -99,17 +98,16 @@ fn end_by_trap(at: &RunningTask, shard: &mut Shard, cause: Trap)
 fn end_run(at: &RunningTask, shard: &mut Shard, mail: &mut Mail, bench: &Bench, ending: Ending)
     requires runs { IsRunningTask at.now }
     requires ok { OnOk ending.body
-        (ended (plan_of at.now) (data_of at.now) at.now.task.now ≡ Some (Ok bench.now.tiles)) }
+        (HoldsOutputs (plan_of at.now) (data_of at.now) at.now.task.now bench.now) }
     requires trap { IfErr ending.body (λ cause.
         ended (plan_of at.now) (data_of at.now) at.now.task.now ≡ Some (Err cause)) }
     requires holds { HoldsAt at.now (part_way at.now []) shard.old }
-    requires room { HasRoomFor (length (within_among at.now (items.out_edges (plan_of at.now) at.now.task.now)))
+    requires room { HasRoomFor (length (its_edges_within at.now))
         (length (items.write_backs (plan_of at.now) at.now.task.now)) shard.old }
-    requires blank { AreBlank (plan_of at.now) (between_among at.now (items.out_edges (plan_of at.now) at.now.task.now))
-        ending.messages.items }
+    requires blank { AreBlank (plan_of at.now) (its_edges_between at.now) ending.messages.items }
     requires mail { IsMailOf (before at.now) mail.old }
     requires mail_room { length ending.messages.items ≤ spare mail.old.under_way }
-    ensures holds { HoldsAt at.now (at_rest (after at.now).machine) shard.new }
+    ensures holds { HoldsAt at.now (idle_moment (after at.now).machine) shard.new }
     ensures mail { IsMailOf (after at.now) mail.new }
 {
     let Ending { body, messages } = ending;
@@ -130,14 +128,13 @@ fn run_task(
 )
     requires runs { IsRunningTask at.now }
     requires bench { IsBenchOf (plan_of at.now) bench.old }
-    requires holds { HoldsAt at.now (at_rest (before at.now).machine) shard.old }
-    requires room { HasRoomFor (length (within_among at.now (items.out_edges (plan_of at.now) at.now.task.now)))
+    requires holds { HoldsAt at.now (idle_moment (before at.now).machine) shard.old }
+    requires room { HasRoomFor (length (its_edges_within at.now))
         (length (items.write_backs (plan_of at.now) at.now.task.now)) shard.old }
-    requires blank { AreBlank (plan_of at.now) (between_among at.now (items.out_edges (plan_of at.now) at.now.task.now))
-        messages.items }
+    requires blank { AreBlank (plan_of at.now) (its_edges_between at.now) messages.items }
     requires mail { IsMailOf (before at.now) mail.old }
     requires mail_room { length messages.items ≤ spare mail.old.under_way }
-    ensures holds { HoldsAt at.now (at_rest (after at.now).machine) shard.new }
+    ensures holds { HoldsAt at.now (idle_moment (after at.now).machine) shard.new }
     ensures mail { IsMailOf (after at.now) mail.new }
     ensures bench { IsBenchOf (plan_of at.now) bench.new }
 {
@@ -159,11 +156,11 @@ fn run_in_shard(
 ) -> Result<(), OutOfMemory>
     requires runs { IsRunningTask at.now }
     requires bench { IsBenchOf (plan_of at.now) bench.old }
-    requires holds { HoldsAt at.now (at_rest (before at.now).machine) shard.old }
+    requires holds { HoldsAt at.now (idle_moment (before at.now).machine) shard.old }
     requires mail { IsMailOf (before at.now) mail.old }
-    ensures holds { OnOk result (HoldsAt at.now (at_rest (after at.now).machine) shard.new) }
+    ensures holds { OnOk result (HoldsAt at.now (idle_moment (after at.now).machine) shard.new) }
     ensures mail { OnOk result (IsMailOf (after at.now) mail.new) }
-    ensures same { OnErr result (HoldsAt at.now (at_rest (before at.now).machine) shard.new) }
+    ensures same { OnErr result (HoldsAt at.now (idle_moment (before at.now).machine) shard.new) }
     ensures kept { OnErr result (IsMailOf (before at.now) mail.new) }
     ensures bench { IsBenchOf (plan_of at.now) bench.new }
 {
@@ -187,17 +184,17 @@ fn run_at(
     requires within { at.now.rank < length ranks.old.items }
     requires bench { IsBenchOf (plan_of at.now) bench.old }
     requires holds { (y : Content) → slice_get ranks.old.items at.now.rank ≡ Some y
-        → HoldsAt at.now (at_rest (before at.now).machine) y }
+        → HoldsAt at.now (idle_moment (before at.now).machine) y }
     requires mail { IsMailOf (before at.now) mail.old }
     ensures others { (i : ℕ) → i ≢ at.now.rank → slice_get ranks.new.items i ≡ slice_get ranks.old.items i }
     ensures count { length ranks.new.items ≡ length ranks.old.items }
     ensures holds { OnOk result
         ((z : Content) → slice_get ranks.new.items at.now.rank ≡ Some z
-        → HoldsAt at.now (at_rest (after at.now).machine) z) }
+        → HoldsAt at.now (idle_moment (after at.now).machine) z) }
     ensures mail { OnOk result (IsMailOf (after at.now) mail.new) }
     ensures same { OnErr result
         ((z : Content) → slice_get ranks.new.items at.now.rank ≡ Some z
-        → HoldsAt at.now (at_rest (before at.now).machine) z) }
+        → HoldsAt at.now (idle_moment (before at.now).machine) z) }
     ensures kept { OnErr result (IsMailOf (before at.now) mail.new) }
     ensures bench { IsBenchOf (plan_of at.now) bench.new }
 {
@@ -238,10 +235,10 @@ impl<'m> World<'m> {
         Ok(())
     }
 
-    /// Runs a task: true exactly if it is a task of the job, has not run, and all edges into it stand. Then its body
-    /// is run on the tiles that stand; where it has outputs, its write-backs and its edges to its own rank stand at
-    /// once, and its edges to other ranks become messages in the text's order. Else nothing changes, nor does it
-    /// without memory.
+    /// Runs a task: true exactly if it is a task of the job, has not run, and all edges into it were sent within its
+    /// rank or delivered. Then its body is run on the tiles that came to it; where it has outputs, its write-backs and
+    /// its edges to its own rank are sent at once, and its edges to other ranks become messages in the text's order.
+    /// Else nothing changes, nor does it without memory.
     pub fn run(&mut self, t: &TaskId) -> Result<bool, OutOfMemory>
         ensures exact { IfOk result (λ ran. IsTrue ran ↔ MayClaim self.old.plan self.old.state.machine t.now) }
         ensures state { IfOk result (λ ran. self.new ≡ (if ran then with_run t.now self.old else self.old)) }

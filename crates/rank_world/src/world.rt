@@ -1,7 +1,7 @@
 //! A world of ranks.
 
 ghost use Rattle.std.specs.Prelude.{◌≡◌, ◌<◌, ◌≤◌, ◌↔◌, IfOk, IfNone, IfSome, IsTrue, IsFalse, OnErr, OnOk, Some, length, slice_get};
-ghost use Rattle.ptg_base.specs.Limits.{most_ranks};
+ghost use Rattle.ptg_base.specs.Limits.{IsRankCount, most_ranks};
 ghost use Rattle.ptg_base.specs.Lists.{IsIn};
 ghost use Rattle.ptg_base.specs.Task.{Task};
 ghost use Rattle.plan_data.specs.Fit.{DataFit};
@@ -111,8 +111,8 @@ impl<'m> World<'m> {
         given: Given,
         ranks: u32,
     ) -> Result<World<'m>, OutOfMemory>
-        requires fit { DataFit m.now.colls m.now.elems given }
-        requires ranks { (0 < ranks) × (ranks ≤ most_ranks) }
+        requires fit { DataFit m.now given }
+        requires ranks { IsRankCount ranks }
         ensures opened { IfOk result (λ w. w ≡ opened m.now given ranks) }
         ensures sound { IfOk result (λ w. IsSoundWorld w.plan w.given w.ranks w.state) }
     {

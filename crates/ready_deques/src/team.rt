@@ -3,7 +3,7 @@ ghost use Rattle.std.specs.Prelude.{◌≡◌, ◌<◌, ◌≤◌, All, IfOk, le
 ghost use Rattle.ready_deques.specs.Ends.{DequeId, IsNew, less, new_thief};
 ghost use Rattle.ready_deques.specs.Hands.{AreFresh};
 ghost use Rattle.std.specs.Prelude.{List};
-ghost use Rattle.ptg_base.specs.Limits.{most_workers};
+ghost use Rattle.ptg_base.specs.Limits.{IsWorkerCount, most_workers};
 
 use crate::ends::{OwnerEnd, ThiefEnd};
 use crate::hands::Hands;
@@ -12,7 +12,7 @@ use std::alloc::Global;
 
 /// An empty deque for each of these workers, and their hands in order of the workers' numbers from 0.
 pub fn make(alloc: Global, workers: u32) -> Result<Vec<Hands>, OutOfMemory>
-    requires { (1 ≤ workers) × (workers ≤ most_workers) }
+    requires { IsWorkerCount workers }
     ensures { IfOk result (λ hands. (deques : List DequeId) × AreFresh workers deques hands.items) }
 {
     let mut owners = new_owners(alloc, workers)?;

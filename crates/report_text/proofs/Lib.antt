@@ -2,5 +2,3 @@ pub mod Putting
 pub mod Loops
 pub mod Lines
 pub mod Placing
-pub mod TrapWords
-pub mod PlanRows

@@ -1,11 +1,11 @@
 -- What is printed of what a command finds of a job that was run, besides its answer. Source: this project's own choice.
-use Rattle.std.specs.Prelude.{ℕ, List, [], ◌∷◌, ◌++◌, length, map, flat_map, codes, All}
+use Rattle.std.specs.Prelude.{ℕ, List, [], ◌∷◌, ◌++◌, length, map, flat_map, codes}
 use Rattle.std.specs.Fmt.{decimal, signed_decimal}
 use Rattle.ptg_base.specs.Task.{Task}
 use Rattle.plan_core.specs.declared.plan.Plan.{Plan}
 use Rattle.report_text.specs.Field.{line}
 use Rattle.report_text.specs.Printed.{complete_line, stalled_line}
-use Rattle.report_text.specs.Rows.{HasClass, class_name}
+use Rattle.report_text.specs.Rows.{class_name}
 use Rattle.report_text.specs.declared.demo_line.Summary.{Summary}
 use Rattle.report_text.specs.declared.certificate.HeaviestChain.{HeaviestChain}
 use Rattle.report_text.specs.declared.certificate.FoundCycle.{FoundCycle}
@@ -29,7 +29,7 @@ abbrev pub chain_head : HeaviestChain → List ℕ
 chain_head found =
     complete_line found.tasks ++ line (codes "chain" ∷ decimal (length found.chain) ∷ decimal found.weight ∷ [])
 
--- what is printed of a heaviest chain: those, its tasks, and the level of each task of the job
+-- what is printed of a heaviest chain: its first two lines, its tasks, and the level of each task of the job
 abbrev pub chain_text : Plan → HeaviestChain → List ℕ
 chain_text plan found =
     chain_head found ++ (flat_map (link_line plan) found.chain ++ flat_map (level_line plan) found.levels)
@@ -39,15 +39,6 @@ abbrev pub cycle_head : FoundCycle → List ℕ
 cycle_head found =
     stalled_line found.ran found.tasks ++ line (codes "cycle" ∷ decimal (length found.cycle) ∷ [])
 
--- what is printed of a cycle: those, and its tasks
+-- what is printed of a cycle: its first two lines, and its tasks
 abbrev pub cycle_text : Plan → FoundCycle → List ℕ
 cycle_text plan found = cycle_head found ++ flat_map (link_line plan) found.cycle
-
--- the class of each task of a heaviest chain, and of each row of its levels, is one of the plan's
-pub record HasClassesOfChain (plan : Plan) (found : HeaviestChain) : Type 0 where
-  pub links : All (HasClass plan) found.chain
-  pub levels : All (λ (row : Task × ℕ). HasClass plan row.0) found.levels
-
--- the class of each task of a cycle is one of the plan's
-abbrev pub HasClassesOfCycle : Plan → FoundCycle → Type 0
-HasClassesOfCycle plan found = All (HasClass plan) found.cycle

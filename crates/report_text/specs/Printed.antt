@@ -18,7 +18,8 @@ tile_line name place numbers = line (codes "tile" ∷ name ∷ (map decimal plac
 
 -- the lines of a collection's tiles, each beside its place
 abbrev pub coll_lines : Coll → List ℕ
-coll_lines coll = flat_map (λ p. tile_line coll.name p.0 p.1) (zip (places coll.shape.0 coll.shape.1) coll.tiles)
+coll_lines coll =
+    flat_map (λ (place, tile). tile_line coll.name place tile) (zip (places coll.shape.0 coll.shape.1) coll.tiles)
 
 -- the line of a task that trapped: its class, its parameters, and the cause
 abbrev pub trap_line : Plan → TrapRow → List ℕ

@@ -7,7 +7,7 @@ use Rattle.report_text.specs.declared.refusal_line.Line.TheVariants.{Usage, Jdf,
 use Rattle.report_text.specs.Field.{line}
 use Rattle.report_text.specs.Codes.{jdf_code, data_code, match_code, trace_code}
 
--- the flow of a fault: its name, or `-` where the fault is of no flow
+-- the flow of a fault: its name, or `-` where the fault is at no flow
 abbrev pub flow_text : Option ℕ → List ℕ → List ℕ
 flow_text None name = codes "-"
 flow_text (Some flow) name = name

@@ -1,7 +1,6 @@
 //! The text of an answer.
 
 ghost use Rattle.report_text.specs.Puts.{PrintsText, Puts};
-ghost use Rattle.report_text.specs.Rows.{HasRowsOf};
 ghost use Rattle.report_text.specs.Printed.{complete_line, consistent_text, first_line, outcome_text, row_lines, stalled_line};
 
 use crate::fields::{Field, put_line};
@@ -14,7 +13,6 @@ use ptg_io::{Failed, Sink};
 
 /// Prints the answer of a job. On `Err` a prefix of it was written.
 pub fn report<O: Sink>(plan: &Plan, outcome: &Outcome, sink: &mut O) -> Result<(), Failed>
-    requires { HasRowsOf plan.now outcome.now }
     ensures { PrintsText O.bytes O.faults result sink.old sink.new (outcome_text plan.now outcome.now) }
 {
     let mut out = Pieces::new();
@@ -44,7 +42,6 @@ pub fn put_outcome<O: Sink>(
     plan: &Plan,
     outcome: &Outcome,
 ) -> Result<(), Failed>
-    requires { HasRowsOf plan.now outcome.now }
     ensures { Puts O.bytes O.faults result sink.old out.old sink.new out.new (outcome_text plan.now outcome.now) }
 {
     put_first_line(sink, out, outcome)?;
@@ -91,7 +88,6 @@ fn put_rows<O: Sink>(
     plan: &Plan,
     outcome: &Outcome,
 ) -> Result<(), Failed>
-    requires { HasRowsOf plan.now outcome.now }
     ensures { Puts O.bytes O.faults result sink.old out.old sink.new out.new (row_lines plan.now outcome.now) }
 {
     match outcome {

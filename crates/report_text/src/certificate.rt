@@ -1,7 +1,7 @@
 //! The lines of a certificate: a heaviest chain with the levels of all tasks, or a cycle.
 
 ghost use Rattle.report_text.specs.Puts.{PrintsText, Puts};
-ghost use Rattle.report_text.specs.Found.{HasClassesOfChain, HasClassesOfCycle, chain_head, chain_text, cycle_head, cycle_text};
+ghost use Rattle.report_text.specs.Found.{chain_head, chain_text, cycle_head, cycle_text};
 
 use crate::answer::{put_complete, put_stalled};
 use crate::fields::{Field, put_line};
@@ -41,7 +41,6 @@ pub fn heaviest_chain<O: Sink>(
     found: &HeaviestChain,
     sink: &mut O,
 ) -> Result<(), Failed>
-    requires { HasClassesOfChain plan.now found.now }
     ensures { PrintsText O.bytes O.faults result sink.old sink.new (chain_text plan.now found.now) }
 {
     let mut out = Pieces::new();
@@ -51,7 +50,6 @@ pub fn heaviest_chain<O: Sink>(
 
 /// Prints a cycle. On `Err` a prefix of it was written.
 pub fn found_cycle<O: Sink>(plan: &Plan, found: &FoundCycle, sink: &mut O) -> Result<(), Failed>
-    requires { HasClassesOfCycle plan.now found.now }
     ensures { PrintsText O.bytes O.faults result sink.old sink.new (cycle_text plan.now found.now) }
 {
     let mut out = Pieces::new();
@@ -66,7 +64,6 @@ fn put_chain<O: Sink>(
     plan: &Plan,
     found: &HeaviestChain,
 ) -> Result<(), Failed>
-    requires { HasClassesOfChain plan.now found.now }
     ensures { Puts O.bytes O.faults result sink.old out.old sink.new out.new (chain_text plan.now found.now) }
 {
     let chain = found.chain.as_slice();
@@ -96,7 +93,6 @@ fn put_cycle<O: Sink>(
     plan: &Plan,
     found: &FoundCycle,
 ) -> Result<(), Failed>
-    requires { HasClassesOfCycle plan.now found.now }
     ensures { Puts O.bytes O.faults result sink.old out.old sink.new out.new (cycle_text plan.now found.now) }
 {
     let cycle = found.cycle.as_slice();

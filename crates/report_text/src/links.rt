@@ -1,14 +1,12 @@
 //! The lines of the tasks of a chain or a cycle, and of the levels of tasks.
 
-ghost use Rattle.std.specs.Prelude.{ℕ, flat_map, All};
-ghost use Rattle.ptg_base.specs.Task.{Task};
+ghost use Rattle.std.specs.Prelude.{flat_map};
 ghost use Rattle.report_text.specs.Puts.{Puts};
-ghost use Rattle.report_text.specs.Rows.{HasClass};
 ghost use Rattle.report_text.specs.Found.{level_line, link_line};
 
 use crate::fields::{Field, put_line};
 use crate::pieces::Pieces;
-use plan_core::Plan;
+use plan_core::{Plan, class_name};
 use ptg_base::TaskId;
 use ptg_io::{Failed, Sink};
 
@@ -19,7 +17,6 @@ pub fn put_links<O: Sink>(
     plan: &Plan,
     tasks: &[TaskId],
 ) -> Result<(), Failed>
-    requires { All (HasClass plan.now) tasks.now }
     ensures { Puts O.bytes O.faults result sink.old out.old sink.new out.new (flat_map (link_line plan.now) tasks.now) }
 {
     for task in tasks {
@@ -35,10 +32,9 @@ fn put_link<'a, O: Sink>(
     plan: &'a Plan,
     task: &'a TaskId,
 ) -> Result<(), Failed>
-    requires { HasClass plan.now task.now }
     ensures { Puts O.bytes O.faults result sink.old out.old sink.new out.new (link_line plan.now task.now) }
 {
-    let name = Field::Word(plan.class(task.class()).name.bytes());
+    let name = Field::Word(class_name(plan, task.class()));
     put_line(sink, out, b"link", &[name, Field::Integers(task.params())])
 }
 
@@ -49,7 +45,6 @@ pub fn put_levels<O: Sink>(
     plan: &Plan,
     levels: &[(TaskId, u64)],
 ) -> Result<(), Failed>
-    requires { All (λ (row : Task × ℕ). HasClass plan.now row.0) levels.now }
     ensures { Puts O.bytes O.faults result sink.old out.old sink.new out.new
         (flat_map (level_line plan.now) levels.now) }
 {
@@ -66,11 +61,10 @@ fn put_level<'a, O: Sink>(
     plan: &'a Plan,
     level: &'a (TaskId, u64),
 ) -> Result<(), Failed>
-    requires { HasClass plan.now level.now.0 }
     ensures { Puts O.bytes O.faults result sink.old out.old sink.new out.new (level_line plan.now level.now) }
 {
     let fields = [
-        Field::Word(plan.class(level.0.class()).name.bytes()),
+        Field::Word(class_name(plan, level.0.class())),
         Field::Integers(level.0.params()),
         Field::Number(level.1),
     ];

@@ -1,7 +1,6 @@
 //! The answer of a job that was run by ranks, after the line of the ranks.
 
 ghost use Rattle.report_text.specs.Puts.{PrintsText, Puts};
-ghost use Rattle.report_text.specs.Rows.{HasRowsOf};
 ghost use Rattle.report_text.specs.Ranked.{ranked_head, ranked_text};
 
 use crate::answer::put_outcome;
@@ -25,7 +24,6 @@ pub struct RankedAnswer {
 /// Prints the line of the ranks, which goes out as a piece of its own, and the answer of the job. On `Err` a prefix of
 /// both was written.
 pub fn ranked_answer<O: Sink>(plan: &Plan, found: &RankedAnswer, sink: &mut O) -> Result<(), Failed>
-    requires { HasRowsOf plan.now found.now.outcome }
     ensures { PrintsText O.bytes O.faults result sink.old sink.new (ranked_text plan.now found.now) }
 {
     let mut out = Pieces::new();
@@ -40,7 +38,6 @@ fn put_ranked<O: Sink>(
     plan: &Plan,
     found: &RankedAnswer,
 ) -> Result<(), Failed>
-    requires { HasRowsOf plan.now found.now.outcome }
     ensures { Puts O.bytes O.faults result sink.old out.old sink.new out.new (ranked_text plan.now found.now) }
 {
     put_head(sink, out, found)?;

@@ -1,15 +1,14 @@
 //! The lines of tasks that trapped or wait.
 
-ghost use Rattle.std.specs.Prelude.{◌≡◌, flat_map, All};
+ghost use Rattle.std.specs.Prelude.{◌≡◌, [], flat_map, slice_index_or};
 ghost use Rattle.report_text.specs.Puts.{Puts};
-ghost use Rattle.report_text.specs.Rows.{cause_text, HasClass, HasWord, IsTrapOf};
+ghost use Rattle.report_text.specs.Rows.{cause_text, trap_words};
 ghost use Rattle.report_text.specs.Printed.{trap_line, wait_line};
-ghost use Rattle.flow_meaning.specs.declared.outcome.WaitRow.{WaitRow as WaitRowValue};
 
 use crate::fields::{Field, put_line};
 use crate::pieces::Pieces;
 use flow_meaning::{TrapRow, WaitRow};
-use plan_core::Plan;
+use plan_core::{Plan, class_name};
 use ptg_base::Text;
 use ptg_io::{Failed, Sink};
 use term_core::Trap;
@@ -21,7 +20,6 @@ pub fn put_traps<O: Sink>(
     plan: &Plan,
     rows: &[TrapRow],
 ) -> Result<(), Failed>
-    requires { All (IsTrapOf plan.now) rows.now }
     ensures { Puts O.bytes O.faults result sink.old out.old sink.new out.new (flat_map (trap_line plan.now) rows.now) }
 {
     for row in rows {
@@ -37,19 +35,37 @@ fn put_trap<'a, O: Sink>(
     plan: &'a Plan,
     row: &'a TrapRow,
 ) -> Result<(), Failed>
-    requires { IsTrapOf plan.now row.now }
     ensures { Puts O.bytes O.faults result sink.old out.old sink.new out.new (trap_line plan.now row.now) }
 {
-    let class = plan.class(row.task.class());
-    let name = Field::Word(class.name.bytes());
+    let class = row.task.class();
+    let name = Field::Word(class_name(plan, class));
     let params = Field::Integers(row.task.params());
-    let cause = Field::Word(cause_text(class.trap_words.as_slice(), row.cause));
+    let cause = Field::Word(cause_text(trap_words(plan, class), row.cause));
     put_line(sink, out, b"trap", &[name, params, cause])
+}
+
+// The trap words of the class with this number; none where there is no such class.
+fn trap_words(plan: &Plan, class: u32) -> &[Text]
+    ensures { result.now ≡ trap_words plan.now class }
+{
+    match plan.classes.as_slice().get(class as usize) {
+        Some(class) => class.trap_words.as_slice(),
+        None => &[],
+    }
+}
+
+// The word with this number among these; the empty text where there is no such word.
+fn trap_word(words: &[Text], n: u32) -> &[u8]
+    ensures { result.now ≡ slice_index_or words.now n [] }
+{
+    match words.get(n as usize) {
+        Some(word) => word.bytes(),
+        None => b"",
+    }
 }
 
 // The text of a cause, in a class with these trap words.
 fn cause_text(words: &[Text], trap: Trap) -> &[u8]
-    requires { HasWord words.now trap }
     ensures { result.now ≡ cause_text words.now trap }
 {
     match trap {
@@ -58,7 +74,7 @@ fn cause_text(words: &[Text], trap: Trap) -> &[u8]
         Trap::Index => b"index",
         Trap::Absent => b"absent",
         Trap::Budget => b"budget",
-        Trap::Word(n) => words[n as usize].bytes(),
+        Trap::Word(n) => trap_word(words, n),
     }
 }
 
@@ -69,7 +85,6 @@ pub fn put_waits<O: Sink>(
     plan: &Plan,
     rows: &[WaitRow],
 ) -> Result<(), Failed>
-    requires { All (λ (row : WaitRowValue). HasClass plan.now row.task) rows.now }
     ensures { Puts O.bytes O.faults result sink.old out.old sink.new out.new (flat_map (wait_line plan.now) rows.now) }
 {
     for row in rows {
@@ -85,11 +100,10 @@ fn put_wait<'a, O: Sink>(
     plan: &'a Plan,
     row: &'a WaitRow,
 ) -> Result<(), Failed>
-    requires { HasClass plan.now row.now.task }
     ensures { Puts O.bytes O.faults result sink.old out.old sink.new out.new (wait_line plan.now row.now) }
 {
     let fields = [
-        Field::Word(plan.class(row.task.class()).name.bytes()),
+        Field::Word(class_name(plan, row.task.class())),
         Field::Integers(row.task.params()),
         Field::Number(u64::from(row.arrived)),
         Field::Number(u64::from(row.goal)),

@@ -12,10 +12,9 @@ ghost use Rattle.shard_meaning.specs.Moment.{run_count};
 ghost use Rattle.work_board.specs.Sends.{IsNext};
 ghost use Rattle.work_board.specs.declared.record.PassRecord.{PassRecord};
 ghost use Rattle.table_rule.specs.declared.table_job.TableJob.{TableJob};
-ghost use Rattle.shard_meaning.specs.Placing.{shard_of};
 ghost use Rattle.table_rule.specs.Plays.{WasSeen, fires};
 ghost use Rattle.table_rule.specs.Records.{joined};
-ghost use Rattle.table_rule.specs.Rule.{Reserve, Share, Rule, Table};
+ghost use Rattle.table_rule.specs.Rule.{Reserve, Share, Rule, Table, placement_of};
 ghost use mathlib.Core.Option.{some};
 ghost use lib.ListN.{get_elem?};
 ghost use Rattle.shard_meaning.specs.Calm.{IsCalm};
@@ -38,7 +37,7 @@ pub fn a_taken_turn_tells_what_its_shard_had()
         → IsNext j.matched j.given i tile v → MaySend j.matched j.given (joined w.table.views).state i }
     ensures fires { (j : TableJob) (k : ℕ) (v : PassRecord) (y : Content) (w : WasSeen j k v y) (e : Edge)
         (tile : Option (List ℤ))
-        → IsNext j.matched j.given (item.Edge e) tile v → shard_of j.matched j.shards e.to ≡ k
+        → IsNext j.matched j.given (item.Edge e) tile v → placement_of j e.to ≡ k
         → IsTrue (fires j.matched y e)
         ↔ (arrived j.matched (joined w.table.views).state e.to + 1 ≡ goal j.matched e.to) }
 {}

@@ -28,7 +28,7 @@ use Rattle.dep_iter.proofs.Items.{item_write}
 use Rattle.flow_meaning.specs.Sound.{IsSoundState}
 
 -- a tile of a datatype is one of a collection of that datatype
-tile_of_coll : (P : Plan) (G : Data) → DataFit P.colls P.elems G → (coll datatype : ℕ) (tile : List ℤ) → option_map_or (λ (s : Shape). eqb s.datatype datatype) (slice_get P.colls coll) false ≡ true
+tile_of_coll : (P : Plan) (G : Data) → DataFit P G → (coll datatype : ℕ) (tile : List ℤ) → option_map_or (λ (s : Shape). eqb s.datatype datatype) (slice_get P.colls coll) false ≡ true
     → length tile ≡ slice_index P.elems datatype → IsTileOf G coll tile
 tile_of_coll P G fit coll datatype tile type long =
     by (slice_get G.colls coll)
@@ -38,7 +38,7 @@ tile_of_coll P G fit coll datatype tile type long =
     by None h = absurd (false≢true h)
     by (Some c) h = long ∙ ap (λ es. slice_index es datatype) (sym fit.elements) ∙ ap (slice_index (elements_by_type G)) (sym (eqb-true c.datatype datatype h))
 
-module _ (P : Plan) (G : Data) (con : IsConsistent P) (S : MachineState) (sound : IsSoundState P G S) (known : DataFit P.colls P.elems G) (well : IsWellMade G) where
+module _ (P : Plan) (G : Data) (con : IsConsistent P) (S : MachineState) (sound : IsSoundState P G S) (known : DataFit P G) (well : IsWellMade G) where
   -- a write-back that was sent has a tile, and may be written
   pub write_sent : (x : SentItem) → IsIn x S.sends → (w : WriteBack) → x.item ≡ item.Write w → (tile : List ℤ) × (x.tile ≡ Some tile) × IsWritable G (w, tile)
   write_sent x i w q =
@@ -53,5 +53,5 @@ module _ (P : Plan) (G : Data) (con : IsConsistent P) (S : MachineState) (sound 
       let exists = (con.connected w.from job).written_exist w (item_write (items P w.from) w among) in (
         tile.0,
         out.tile ∙ ap (λ j. output_tile (ended P G (sender j)) (item_flow j)) q ∙ tile.1,
-        record { exists = (same_places P.colls P.elems G w.place known).0 exists; elements = tile_of_coll P G known w.place.coll f.flow.datatype tile.0 f.same_type tile.2 },
+        record { exists = (same_places P G w.place known).0 exists; elements = tile_of_coll P G known w.place.coll f.flow.datatype tile.0 f.same_type tile.2 },
       )

@@ -7,7 +7,7 @@ use Rattle.coll_data.specs.WellMade.{IsTileOf}
 
 -- each write-back with its tile, as the event machine has it
 abbrev pub with_tiles : List (WriteBack × List ℤ) → List (WriteBack × Option (List ℤ))
-with_tiles ws = map (λ (w : WriteBack × List ℤ). (w.0, Some w.1)) ws
+with_tiles ws = map (λ ((write, tile) : WriteBack × List ℤ). (write, Some tile)) ws
 
 -- the place of the write-back exists, and the tile has as many numbers as the type of its collection has elements
 pub record IsWritable (d : Data) (w : WriteBack × List ℤ) : Type 0 where

@@ -1,8 +1,7 @@
 //! A broadcast between ranks, whose messages come in several orders. In three ranks Src(0) and Sink(0) are of rank 0,
 //! Sink(1) of rank 1 and Sink(2) of rank 2; message 0 goes to Sink(1) and message 1 to Sink(2).
 
-ghost use Rattle.std.specs.Prelude.{◌<◌, ◌≤◌};
-ghost use Rattle.ptg_base.specs.Limits.{most_ranks};
+ghost use Rattle.ptg_base.specs.Limits.{IsRankCount};
 
 use crate::jobs::{BROADCAST, numbers};
 use crate::steps::{Step, first_other};
@@ -80,7 +79,7 @@ pub const EARLY: &[(Step, bool)] = &[
 
 /// With calls that change nothing, each before or after one that does. There are four ranks, and the last has no tasks.
 pub const REFUSED: &[(Step, bool)] = &[
-    // The edges into these tasks do not stand.
+    // No edge into these tasks was sent.
     (Step::Run(1, 0), false),
     (Step::Run(1, 1), false),
     // There are no such tasks.
@@ -170,7 +169,7 @@ fn ending(world: World<'_>) -> Result<End, OutOfMemory> {
 
 /// The broadcast in this many ranks, in one order of steps.
 pub fn end_of(alloc: Global, ranks: u32, steps: &[(Step, bool)]) -> Result<End, OutOfMemory>
-    requires { (0 < ranks) × (ranks ≤ most_ranks) }
+    requires { IsRankCount ranks }
 {
     let Some((job, given)) = job_of_texts(alloc, BROADCAST.jdf, BROADCAST.data)? else {
         return Ok(End::NoJob);

@@ -1,7 +1,6 @@
 //! Jobs that are driven in the orders of several seeds.
 
-ghost use Rattle.std.specs.Prelude.{◌<◌, ◌≤◌};
-ghost use Rattle.ptg_base.specs.Limits.{most_ranks};
+ghost use Rattle.ptg_base.specs.Limits.{IsRankCount};
 
 use crate::comparing::same;
 use crate::jobs::Job;
@@ -71,7 +70,7 @@ fn driven(
     ranks: u32,
     seed: u64,
 ) -> Result<Option<(u64, Outcome)>, OutOfMemory>
-    requires { (0 < ranks) × (ranks ≤ most_ranks) }
+    requires { IsRankCount ranks }
 {
     match job_of_texts(alloc, job.jdf, job.data)? {
         Some((matched, given)) => Ok(Some(ranks_of(alloc, &matched, given, ranks, seed)?)),
@@ -81,7 +80,7 @@ fn driven(
 
 /// What the seeds have in common for a job in this many ranks.
 pub fn agreed(alloc: Global, job: &Job, ranks: u32) -> Result<Finding, OutOfMemory>
-    requires { (0 < ranks) × (ranks ≤ most_ranks) }
+    requires { IsRankCount ranks }
 {
     let Some(answer) = answer_of_run_one(alloc, job)? else {
         return Ok(Finding::NoJob);

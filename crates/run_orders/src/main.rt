@@ -11,8 +11,7 @@ mod orders;
 mod steps;
 mod stepwise;
 
-ghost use Rattle.std.specs.Prelude.{◌<◌, ◌≤◌};
-ghost use Rattle.ptg_base.specs.Limits.{most_ranks};
+ghost use Rattle.ptg_base.specs.Limits.{IsRankCount};
 
 use crate::broadcast::{EARLY, LATE, LEFT, REFUSED, THRICE};
 use crate::driven::agreed;
@@ -47,7 +46,7 @@ fn print_order_of_ranks<R: Print>(
     ranks: u32,
     steps: &[(steps::Step, bool)],
 ) -> io::Result<()>
-    requires { (0 < ranks) × (ranks ≤ most_ranks) }
+    requires { IsRankCount ranks }
 {
     match broadcast::end_of(alloc, ranks, steps) {
         Ok(end) => println!(rt; "{name},{ranks},{end}"),
@@ -57,7 +56,7 @@ fn print_order_of_ranks<R: Print>(
 
 // Prints what several seeds have in common for a job in this many ranks.
 fn print_agreed<R: Print>(rt: &R, alloc: Global, job: &Job, ranks: u32) -> io::Result<()>
-    requires { (0 < ranks) × (ranks ≤ most_ranks) }
+    requires { IsRankCount ranks }
 {
     match agreed(alloc, job, ranks) {
         Ok(finding) => println!(rt; "{},{ranks},{finding}", job.name),

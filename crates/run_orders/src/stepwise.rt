@@ -53,7 +53,7 @@ impl Model for Stepwise {
     ghost view = { λ s. s.run };
 
     ghost invariant = { λ s.
-        DataFit s.job.colls s.job.elems s.given × Fits s.job s.given s.run
+        DataFit s.job s.given × Fits s.job s.given s.run
         × ((t : Task) → IsRunning s.run t → IsIn t s.tried.items) };
 }
 

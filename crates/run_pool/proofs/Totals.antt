@@ -23,13 +23,13 @@ use Rattle.list_lemmas.proofs.Members.{from_filter_map}
 use Rattle.list_lemmas.proofs.Joins.{length-filter_le, length-filter_map_le, length-flat_map_le}
 use Rattle.list_lemmas.specs.Counting.{weigh}
 use Rattle.run_pool.specs.Bytes.{edge_elements, elements_of, sent_elements, write_elements}
-use Rattle.run_pool.specs.Elements.{carried_elements, in_elements, out_elements, task_elements}
+use Rattle.run_pool.specs.Elements.{carried_elements, in_elements, written_elements, task_elements}
 
 -- task by task as many numbers go over edges and write-backs as over all of them
 pub all_tasks_send : (P : Plan) → weigh (task_elements P) (all_tasks P) ≡ sent_elements P
 unfolding task_elements sent_elements
 all_tasks_send P =
-    let both = weigh-plus (in_elements P) (out_elements P) (all_tasks P) in
+    let both = weigh-plus (in_elements P) (written_elements P) (all_tasks P) in
     let ins = weigh-filter (is_data_edge P) (edge_elements P) (all_in P) ∙ weigh-flat_map (carried_elements P) (in_edges P) (all_tasks P) in
     let outs = weigh-flat_map (write_elements P) (write_backs P) (all_tasks P) in
     omega (arith, both, ins, outs)

@@ -1,5 +1,5 @@
 -- The logs of all workers, sorted, are the claims of all passes in the order of their stamps.
-use Rattle.std.proofs.Common.{◌≡◌, ℕ, zero, suc, List, [], ◌∷◌, ◌++◌, length, map, get_or, slice_index_or, refl, ap, sym, ◌∙◌, subst, inl, inr, arith, Result, Ok, Err}
+use Rattle.std.proofs.Common.{◌≡◌, ℕ, zero, suc, true, List, [], ◌∷◌, ◌++◌, length, map, get_or, slice_index_or, refl, ap, sym, ◌∙◌, subst, inl, inr, arith, Result, Ok, Err}
 use Rattle.std.proofs.lemmas.List.Sorted.{sum_by-IsPermutation}
 use Rattle.std.specs.List.{flat_map}
 use Rattle.std.specs.Result.{IfOk}
@@ -13,13 +13,14 @@ use Rattle.list_lemmas.proofs.Places.{IsIn-slice_get}
 use Rattle.list_lemmas.proofs.Counts.{weigh-map, weigh-sum}
 use Rattle.dep_shard.specs.Content.{Content}
 use Rattle.list_lemmas.specs.Counting.{weigh}
+use Rattle.shard_meaning.specs.Calm.{HaveNoWork}
 use Rattle.shard_meaning.specs.Moment.{Moment}
 use Rattle.worker_core.specs.Working.{HasLogged, logged}
 use Rattle.work_board.specs.declared.record.PassRecord.{PassRecord}
 use Rattle.table_rule.specs.declared.table_job.TableJob.{TableJob}
 use Rattle.table_rule.specs.Records.{joined}
 use Rattle.dep_table.specs.ClosedTables.{ClosedView}
-use Rattle.dep_table.specs.Closing.{HaveNoWork, IsClosedAt}
+use Rattle.dep_table.specs.Closing.{IsClosedAt}
 use Rattle.flow_meaning.specs.Order.{IsWholeOrder}
 use Rattle.dep_table.specs.StampOrders.{AreInStampOrder, IsClaimOrder, joined_stamps, number_of}
 use Rattle.dep_table.specs.Views.{PassView, shown}
@@ -29,7 +30,7 @@ use Rattle.run_pool.specs.Traces.{IsTraceOf}
 use Rattle.run_pool.proofs.Places.{has_both}
 use Rattle.work_board.specs.Stamps.{StampedTask}
 
--- an entry of a log, and the stamp that it stands for
+-- an entry of a log: a stamp and a task
 abbrev pub Logged : Type 0
 Logged = ℕ × Task
 
@@ -73,11 +74,11 @@ module _ (ds es : List PaddedDesk) (count : length es ≡ length ds) (w : HaveLo
   its_log e i =
       let b = has_both ds es e count i in
       let d : PaddedDesk = b.other in
-      let h : HasLogged (record_on d) (record_on e) (log_on d) (log_on e) =
-      subst (λ (x : PaddedDesk). HasLogged (record_on d) (record_on x) (log_on d) (log_on x)) (get_or_from_slice_get es b.place e d b.after)
-      (subst (λ (x : PaddedDesk). HasLogged (record_on x) (record_on (slice_index_or es b.place d)) (log_on x) (log_on (slice_index_or es b.place d))) (get_or_from_slice_get ds b.place d d b.before) (w b.place d (slice_get_within ds b.place d b.before))) in
+      let h : HasLogged true (record_on d) (record_on e) (log_on d) (log_on e) =
+      subst (λ (x : PaddedDesk). HasLogged true (record_on d) (record_on x) (log_on d) (log_on x)) (get_or_from_slice_get es b.place e d b.after)
+      (subst (λ (x : PaddedDesk). HasLogged true (record_on x) (record_on (slice_index_or es b.place d)) (log_on x) (log_on (slice_index_or es b.place d))) (get_or_from_slice_get ds b.place d d b.before) (w b.place d (slice_get_within ds b.place d b.before))) in
       let f = fresh d (IsIn-slice_get ds b.place d b.before) in
-      h.gained ∙ (ap (λ l. l ++ logged h.more) f.no_log ∙ ap logged (sym (h.claimed.stamps ∙ ap (λ l. l ++ h.more) f.no_stamp)))
+      h.gained refl ∙ (ap (λ l. l ++ logged h.more) f.no_log ∙ ap logged (sym (h.claimed.stamps ∙ ap (λ l. l ++ h.more) f.no_stamp)))
 
   pub logs_are : flat_map log_on es ≡ logged (joined_stamps (map record_on es))
   logs_are = logged_all es its_log

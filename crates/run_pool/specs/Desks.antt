@@ -45,7 +45,7 @@ module _ {P : Type 0} (is_pass : P → Type 0) (shown : P → PassRecord) where
 module _ {P : Type 0} (shown : P → PassRecord) where
   -- the log on a worker's desk has gained the claims of its pass, each with its stamp
   abbrev pub HasLoggedAt : Desk P → Desk P → Type 0
-  HasLoggedAt d e = HasLogged (shown d.pass) (shown e.pass) d.log.items e.log.items
+  HasLoggedAt d e = HasLogged true (shown d.pass) (shown e.pass) d.log.items e.log.items
 
   -- the log on each worker's desk has gained the claims of its pass, each with its stamp
   abbrev pub HaveLogged : List (CachePadded (Desk P)) → List (CachePadded (Desk P)) → Type 0

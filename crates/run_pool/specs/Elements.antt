@@ -18,9 +18,9 @@ abbrev pub in_elements : Plan → Task → ℕ
 in_elements P t = weigh (carried_elements P) (in_edges P t)
 
 -- how many numbers the tiles of the write-backs of a task have
-abbrev pub out_elements : Plan → Task → ℕ
-out_elements P t = weigh (write_elements P) (write_backs P t)
+abbrev pub written_elements : Plan → Task → ℕ
+written_elements P t = weigh (write_elements P) (write_backs P t)
 
 -- how many numbers the tiles of the edges into a task and of its write-backs have
 unfoldable pub task_elements : Plan → Task → ℕ
-task_elements P t = in_elements P t + out_elements P t
+task_elements P t = in_elements P t + written_elements P t

@@ -64,11 +64,11 @@ fn in_elements(plan: &Plan, t: &TaskId, env: &[i64]) -> u64
 }
 
 // How many numbers go over the write-backs of a task.
-fn out_elements(plan: &Plan, t: &TaskId, env: &[i64]) -> u64
+fn written_elements(plan: &Plan, t: &TaskId, env: &[i64]) -> u64
     requires task { IsTask plan.now t.now }
     requires locals { env.now ≡ tasks.locals_of plan.now t.now }
-    requires at_most { elements.out_elements plan.now t.now < 2 ^ 64 }
-    ensures { result ≡ elements.out_elements plan.now t.now }
+    requires at_most { elements.written_elements plan.now t.now < 2 ^ 64 }
+    ensures { result ≡ elements.written_elements plan.now t.now }
 {
     let mut all = 0;
     for write in write_backs_under(plan, t, env) {
@@ -85,7 +85,7 @@ fn task_elements(plan: &Plan, t: &TaskId) -> u64
     ensures { result ≡ elements.task_elements plan.now t.now }
 {
     let env = locals_of(plan, t);
-    in_elements(plan, t, env.as_slice()) + out_elements(plan, t, env.as_slice())
+    in_elements(plan, t, env.as_slice()) + written_elements(plan, t, env.as_slice())
 }
 
 // How many numbers go over the edges into all tasks and over their write-backs, by a walk over the tasks.

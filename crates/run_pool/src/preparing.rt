@@ -1,7 +1,7 @@
 //! What is made ready before a run: with a preload, all memory whose refusal could end it.
 
 ghost use Rattle.std.specs.Prelude.{◌≡◌, ◌↔◌, ℕ, Err, Some, IfOk};
-ghost use Rattle.ptg_base.specs.Limits.{AreCounts};
+ghost use Rattle.ptg_base.specs.Limits.{AreRunCounts};
 ghost use Rattle.plan_data.specs.Fit.{DataFit};
 ghost use Rattle.run_pool.specs.declared.preparing.PrepareFault.TheVariants as prepare_fault;
 ghost use Rattle.run_pool.specs.Runs.{run_of, too_large_preload};
@@ -56,8 +56,8 @@ pub fn lay_out(
     given: Given,
     settings: Settings,
 ) -> Result<Prepared, OutOfMemory>
-    requires counts { AreCounts settings.workers settings.shards }
-    requires fit { DataFit m.colls m.elems given }
+    requires counts { AreRunCounts settings.workers settings.shards }
+    requires fit { DataFit m given }
     ensures { IfOk result (λ p. p ≡ run_of m given settings) }
 {
     let (table, first) = DepTable::open(alloc, m, given, settings.shards, settings.preload)?;
@@ -76,8 +76,8 @@ pub fn prepare(
     given: Given,
     settings: Settings,
 ) -> Result<Prepared, PrepareFault>
-    requires counts { AreCounts settings.workers settings.shards }
-    requires fit { DataFit m.colls m.elems given }
+    requires counts { AreRunCounts settings.workers settings.shards }
+    requires fit { DataFit m given }
     ensures run { IfOk result (λ p. p ≡ run_of m given settings) }
     ensures too_large { (bytes : ℕ)
         → (result ≡ Err (prepare_fault.PreloadTooLarge bytes)) ↔ (too_large_preload settings m ≡ Some bytes) }

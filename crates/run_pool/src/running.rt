@@ -2,7 +2,7 @@
 
 ghost use Rattle.std.specs.Prelude.{◌≡◌, ◌≤◌, [], true, length, map, vec_capacity, IfOk, IsOk, OnErr, OnOk};
 ghost use Rattle.ptg_base.specs.Lists.{IsIn};
-ghost use Rattle.dep_table.specs.Closing.{HaveNoWork};
+ghost use Rattle.shard_meaning.specs.Calm.{HaveNoWork};
 ghost use Rattle.run_pool.specs.Seated.{HaveAnswered, IsDone, OneWasRefused, PaddedDesk, pass_on};
 
 use crate::desk::Desk;

@@ -4,7 +4,7 @@ ghost use Rattle.std.specs.Prelude.{◌≡◌, ◌++◌, ℕ, List, false, map, 
 ghost use Rattle.std.specs.List.{flat_map};
 ghost use Rattle.ptg_base.specs.Task.{Task};
 ghost use Rattle.worker_core.specs.Working.{logged};
-ghost use Rattle.dep_table.specs.Closing.{HaveNoWork};
+ghost use Rattle.shard_meaning.specs.Calm.{HaveNoWork};
 ghost use Rattle.flow_meaning.specs.Order.{IsWholeOrder};
 ghost use Rattle.dep_table.specs.StampOrders.{AreInStampOrder};
 ghost use Rattle.run_pool.specs.Seated.{log_on};
@@ -50,7 +50,7 @@ fn logs_of(alloc: Global, desks: &[PaddedDesk]) -> Result<Vec<(u64, TaskId)>, Ou
 
 // The tasks of a log.
 fn tasks_of(alloc: Global, log: Vec<(u64, TaskId)>) -> Result<Vec<TaskId>, OutOfMemory>
-    ensures { IfOk result (λ r. r.items ≡ map (λ (e : ℕ × Task). e.1) log.items) }
+    ensures { IfOk result (λ r. r.items ≡ map (λ ((stamp, t) : ℕ × Task). t) log.items) }
 {
     let mut tasks = Vec::new(alloc);
     for entry in log {
@@ -79,11 +79,11 @@ pub fn run_traced<R: Threads + Wait + Sync, G: Gate>(
     gate: &G,
 ) -> Result<(Vec<TaskId>, Closed), OutOfMemory>
     requires { prepared.job.preloaded ≡ false }
-    ensures job { IfOk result (λ r. r.1.job ≡ prepared.job) }
-    ensures passes { IfOk result (λ r. r.1.passes ≡ prepared.workers) }
-    ensures quiet { IfOk result (λ r. HaveNoWork r.1.shards) }
-    ensures trace { IfOk result (λ r. IsTraceOf r.1 r.0.items) }
-    ensures order { IfOk result (λ r. IsWholeOrder prepared.job.matched prepared.job.given r.0.items) }
+    ensures job { IfOk result (λ (trace, closed). closed.job ≡ prepared.job) }
+    ensures passes { IfOk result (λ (trace, closed). closed.passes ≡ prepared.workers) }
+    ensures quiet { IfOk result (λ (trace, closed). HaveNoWork closed.shards) }
+    ensures trace { IfOk result (λ (trace, closed). IsTraceOf closed trace.items) }
+    ensures order { IfOk result (λ (trace, closed). IsWholeOrder prepared.job.matched prepared.job.given trace.items) }
 {
     all_passes_stay_all();
     an_idle_pass_is_a_workers_pass();

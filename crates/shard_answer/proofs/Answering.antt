@@ -77,7 +77,7 @@ few_rows key P rows once tasks =
 pub few_all_traps : (P : Plan) (G : Data) → IsConsistent P → (ys : List Content) → HoldAnEnd P G ys → length (all_traps ys) ≤ length (all_tasks P)
 few_all_traps P G con ys h = few_rows (λ (r : TrapRow). r.task) P (all_traps ys) (rows_differ P G con ys h) (rows_are_tasks P G con ys h)
 
-module _ (P : Plan) (G : Data) (con : IsConsistent P) (known : DataFit P.colls P.elems G) (well : IsWellMade G) (ys : List Content) (h : HoldAnEnd P G ys) where
+module _ (P : Plan) (G : Data) (con : IsConsistent P) (known : DataFit P G) (well : IsWellMade G) (ys : List Content) (h : HoldAnEnd P G ys) where
   abbrev state : MachineState
   state = h.moment.state
 

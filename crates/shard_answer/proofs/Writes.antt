@@ -74,7 +74,7 @@ all_writes_of : (ws : List (WriteBack × List ℤ)) (rest : List SentItem) → f
 all_writes_of [] rest none = none
 all_writes_of (w ∷ ws) rest none = ap (λ l. (w.0, Some w.1) ∷ l) (all_writes_of ws rest none)
 
-module _ (P : Plan) (G : Data) (con : IsConsistent P) (known : DataFit P.colls P.elems G) (well : IsWellMade G) (ys : List Content) (h : HoldAnEnd P G ys) where
+module _ (P : Plan) (G : Data) (con : IsConsistent P) (known : DataFit P G) (well : IsWellMade G) (ys : List Content) (h : HoldAnEnd P G ys) where
   abbrev pub state : MachineState
   state = h.moment.state
 

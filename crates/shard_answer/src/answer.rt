@@ -32,7 +32,7 @@ pub fn outcome_of(
     shards: Vec<Shard>,
     room: Room,
 ) -> Result<Outcome, OutOfMemory>
-    requires known { DataFit m.now.colls m.now.elems given }
+    requires known { DataFit m.now given }
     requires end { HoldAnEnd m.now given shards.items }
     ensures answer { IfOk result (λ outcome. outcome ≡ answer m.now given) }
     ensures succeeds { length (all_tasks m.now) ≤ room → IsOk result }
@@ -52,7 +52,7 @@ fn incomplete(
     shards: &[Shard],
     room: Room,
 ) -> Result<Option<Outcome>, OutOfMemory>
-    requires known { DataFit m.now.colls m.now.elems given.now }
+    requires known { DataFit m.now given.now }
     requires end { HoldAnEnd m.now given.now shards.now }
     ensures answer { IfOk result (λ found.
         unwrap_or found
@@ -96,7 +96,7 @@ fn stall(
     shards: &[Shard],
     rows: Vec<WaitRow>,
 ) -> Result<Option<Outcome>, OutOfMemory>
-    requires known { DataFit m.now.colls m.now.elems given.now }
+    requires known { DataFit m.now given.now }
     requires end { HoldAnEnd m.now given.now shards.now }
     requires none { in_task_order (λ (r : TrapRowValue). r.task) (all_traps shards.now) ≡ [] }
     requires empty { (rows.items ≡ []) × (vec_len rows ≡ 0) }

@@ -7,13 +7,13 @@ use Rattle.dep_iter.specs.Edges.{goal}
 use Rattle.dep_iter.specs.Tasks.{all_tasks}
 use Rattle.dep_iter.proofs.Listing.{listed}
 use Rattle.dep_shard.specs.Content.{Content, IsNew}
-use Rattle.shard_meaning.specs.Opening.{IsOpeningShard}
+use Rattle.shard_meaning.specs.Opening.{IsOpenedFor, IsOpeningShard}
 use Rattle.shard_meaning.specs.Placing.{shard_of}
 use Rattle.shard_meaning.specs.Share.{Placement}
 use Rattle.list_lemmas.proofs.Members.{IsIn-filter}
 use Rattle.list_lemmas.proofs.Places.{slice_get_push}
 use Rattle.list_lemmas.proofs.Truth.{by_test}
-use Rattle.shard_calls.specs.Opened.{AreNew, AreOpened, AreOpeningShards, IsOpenedFor, Opens}
+use Rattle.shard_calls.specs.Opened.{AreNew, AreOpened, AreOpeningShards, Opens}
 use Rattle.dep_iter.specs.Consistent.{roots_among}
 use Rattle.shard_calls.proofs.OpeningSteps.{entry_now, more_kept}
 use Rattle.shard_calls.proofs.TaskWalks.{IsSoFar, one_more}
@@ -33,7 +33,7 @@ opened_more P n t rest old new count opens w =
     one_more P (λ ts. AreOpened P (shard_of P n) ts old) (λ ts. AreOpened P (shard_of P n) ts new) t rest here.opened w
 
 -- a shard that was opened for all tasks
-opening_shard : (P : Plan) (of : Placement) (k : ℕ) (y : Content) → IsOpenedFor P of k (all_tasks P) y → IsOpeningShard P of k y
+opening_shard : (P : Plan) (of : Placement) (k : ℕ) (y : Content) → IsOpenedFor P of k (λ t. IsIn t (all_tasks P)) y → IsOpeningShard P of k y
 opening_shard P of k y w = record {
   there = λ t job own. w.there t ((listed P t).0 job) own;
   only = λ t e is. let p = w.only t e is in ((listed P t).1 p.0, p.1);
@@ -67,5 +67,5 @@ opening_shards P n rest ys count none w = record {
       let of = shard_of P n in
       let here = w.holds k y at in
       let all = more_kept P of k w.passed y here rest (λ t i own. entry_now P of k w.passed y here t own (none_is_root P rest none t i)) in
-      opening_shard P of k y (subst (λ ts. IsOpenedFor P of k ts y) (sym w.split) all);
+      opening_shard P of k y (subst (λ ts. IsOpenedFor P of k (λ t. IsIn t ts) y) (sym w.split) all);
 }

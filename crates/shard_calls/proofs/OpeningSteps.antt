@@ -13,9 +13,9 @@ use Rattle.plan_core.specs.declared.plan.Plan.{Plan}
 use Rattle.dep_iter.specs.Edges.{goal}
 use Rattle.dep_iter.specs.Hints.{priority}
 use Rattle.dep_shard.specs.Content.{Content, entry_of, fresh}
-use Rattle.shard_meaning.specs.Opening.{opening_entry}
+use Rattle.shard_meaning.specs.Opening.{IsOpenedFor, opening_entry}
 use Rattle.shard_meaning.specs.Share.{Placement}
-use Rattle.shard_calls.specs.Opened.{Enters, EntersIn, IsOpenedFor, Opens}
+use Rattle.shard_calls.specs.Opened.{Enters, EntersIn, Opens}
 
 module _ (P : Plan) (of : Placement) where
   enters_none : (t : Task) → (goal P t == 0) ≡ false → opening_entry P t ≡ None
@@ -24,7 +24,7 @@ module _ (P : Plan) (of : Placement) where
   enters_one : (t : Task) → goal P t ≡ 0 → opening_entry P t ≡ Some (fresh 0 (priority P t))
   enters_one t z = ap (λ n. if n == 0 then Some (fresh 0 (priority P t)) else None) z
 
-  module _ (k : ℕ) (done : List Task) (y : Content) (w : IsOpenedFor P of k done y) where
+  module _ (k : ℕ) (done : List Task) (y : Content) (w : IsOpenedFor P of k (λ u. IsIn u done) y) where
     -- a task that an edge goes into has no entry, and one with an entry was opened before
     pub entry_now : (t : Task) → of t ≡ k → (goal P t == 0) ≡ false → entry_of y t ≡ opening_entry P t
     entry_now t own not = by (entry_of y t) refl
@@ -34,7 +34,7 @@ module _ (P : Plan) (of : Placement) where
         by (Some v) e = w.there t (w.only t v e).0 own
 
     -- more tasks are opened where their entries are there
-    pub more_kept : (more : List Task) → ((t : Task) → IsIn t more → of t ≡ k → entry_of y t ≡ opening_entry P t) → IsOpenedFor P of k (done ++ more) y
+    pub more_kept : (more : List Task) → ((t : Task) → IsIn t more → of t ≡ k → entry_of y t ≡ opening_entry P t) → IsOpenedFor P of k (λ u. IsIn u (done ++ more)) y
     more_kept more here = record {
       there = λ u i own. elim (from_append u done more i) [ inl before ↦ w.there u before own | inr later ↦ here u later own ];
       only = λ u e is. let p = w.only u e is in (IsIn-append_left u done more p.0, p.1);
@@ -46,14 +46,14 @@ module _ (P : Plan) (of : Placement) where
     }
 
     module _ (t : Task) where
-      one_more_kept : (of t ≡ k → entry_of y t ≡ opening_entry P t) → IsOpenedFor P of k (done ++ t ∷ []) y
+      one_more_kept : (of t ≡ k → entry_of y t ≡ opening_entry P t) → IsOpenedFor P of k (λ u. IsIn u (done ++ t ∷ [])) y
       one_more_kept here = more_kept (t ∷ []) (λ u i. elim i [
         | inl same ↦ subst (λ x. of x ≡ k → entry_of y x ≡ opening_entry P x) (sym same) here
         | inr none ↦ absurd none
       ])
 
       -- the shard of the task, after it was entered
-      entered : of t ≡ k → goal P t ≡ 0 → (z : Content) → EntersIn t (priority P t) y z → (v : Option Entry) → entry_of y t ≡ v → IsOpenedFor P of k (done ++ t ∷ []) z
+      entered : of t ≡ k → goal P t ≡ 0 → (z : Content) → EntersIn t (priority P t) y z → (v : Option Entry) → entry_of y t ≡ v → IsOpenedFor P of k (λ u. IsIn u (done ++ t ∷ [])) z
       entered own root z e (Some v) is =
           let same : z.entries ≡ y.entries = e.again v is in
           let g = one_more_kept (λ o. w.there t (w.only t v is).0 o) in record {

@@ -7,23 +7,13 @@ use Rattle.ptg_base.specs.Task.{Task}
 use Rattle.plan_core.specs.declared.plan.Plan.{Plan}
 use Rattle.dep_shard.specs.Content.{Content, IsNew, KeepsAllButEntries, Updates, entry_of, fresh}
 use Rattle.list_lemmas.specs.Changes.{ChangesAt}
-use Rattle.shard_meaning.specs.Opening.{IsOpeningShard, opening_entry}
+use Rattle.shard_meaning.specs.Opening.{IsOpenedFor, IsOpeningShard}
 use Rattle.shard_meaning.specs.Placing.{shard_of}
 use Rattle.shard_meaning.specs.Share.{Placement}
 
--- The shard k has, of these tasks, the entries of its own that no edge goes into, and nothing else.
-pub record IsOpenedFor (P : Plan) (of : Placement) (k : ℕ) (ts : List Task) (y : Content) : Type 0 where
-  pub there : (t : Task) → IsIn t ts → of t ≡ k → entry_of y t ≡ opening_entry P t
-  pub only : (t : Task) (e : Entry) → entry_of y t ≡ Some e → IsIn t ts × (of t ≡ k)
-  pub written : y.written ≡ []
-  pub trapped : y.trapped ≡ []
-  pub running : y.running ≡ 0
-  pub ended : y.ended ≡ 0
-  pub elems : y.elems ≡ P.elems
-
--- each shard has, of these tasks, the entries of its own that no edge goes into, and nothing else
+-- Each shard is opened for these tasks.
 abbrev pub AreOpened : Plan → Placement → List Task → List Content → Type 0
-AreOpened P of ts ys = (k : ℕ) (y : Content) → slice_get ys k ≡ Some y → IsOpenedFor P of k ts y
+AreOpened P of ts ys = (k : ℕ) (y : Content) → slice_get ys k ≡ Some y → IsOpenedFor P of k (λ t. IsIn t ts) y
 
 -- From old to new the shard of a task got its entry, if no edge goes into it, where the shards had the entries of the
 -- tasks before it.

@@ -9,10 +9,10 @@ use Rattle.plan_core.specs.declared.flow.FlowPlan.{FlowPlan}
 use Rattle.plan_core.specs.declared.plan.Plan.{Plan}
 use Rattle.plan_core.specs.Kinds.{flow_of}
 use Rattle.dep_iter.specs.Edges.{goal}
-use Rattle.dep_iter.specs.Hints.{priority}
 use Rattle.dep_iter.specs.Tasks.{IsTask}
-use Rattle.dep_shard.specs.Content.{Content, IsTileOf, IsWaiting, KeepsAllButEntries, KeepsAllButWritten, Updates, Uses, entry_before, entry_of, with_arrival}
+use Rattle.dep_shard.specs.Content.{Content, IsTileOf, IsWaiting, KeepsAllButEntries, KeepsAllButWritten, Updates, Uses, entry_of}
 use Rattle.shard_meaning.specs.Reserve.{has_type}
+use Rattle.shard_meaning.specs.Share.{entry_after, entry_found}
 
 -- the edge goes to a flow of a task that waits for it, by the entry that the shard has of the task, and its tile is of
 -- the flow's type
@@ -22,7 +22,7 @@ pub record MayTakeEdge (P : Plan) (e : Edge) (tile : Option (List ℤ)) (y : Con
   pub is_flow : flow_of P.classes e.to.class e.in_flow ≡ Some flow
   pub flow_number : e.in_flow < most_flows
   pub some_goal : 0 < goal P e.to
-  pub waits : IsWaiting (entry_before y e.to (goal P e.to) (priority P e.to))
+  pub waits : IsWaiting (entry_found P e y)
   pub fits : IfSome tile (IsTileOf y.elems flow.datatype)
 
 -- the write-back is of a flow of a task, and it has a tile of the flow's type
@@ -50,8 +50,7 @@ pub record HasSpareForWrite (P : Plan) (w : WriteBack) (y : Content) : Type 0 wh
 pub record TakesEdge (P : Plan) (e : Edge) (tile : Option (List ℤ)) (old new : Content) : Type 0 where
   pub datatype : ℕ
   pub typed : IsTrue (has_type datatype (flow_of P.classes e.to.class e.in_flow))
-  pub entries : Updates old.entries new.entries e.to
-      (Some (with_arrival (entry_before old e.to (goal P e.to) (priority P e.to)) e.in_flow tile))
+  pub entries : Updates old.entries new.entries e.to (Some (entry_after P e tile old))
   pub rest : KeepsAllButEntries old new
   pub uses : Uses old.spare new.spare (if is_some (entry_of old e.to) then 0 else 1)
       (if is_some tile then Some datatype else None) 0 0

@@ -6,10 +6,10 @@ ghost use Rattle.ptg_base.specs.Limits.{most_flows};
 ghost use Rattle.plan_core.specs.declared.flow.FlowPlan.{FlowPlan as FlowPlanValue};
 ghost use Rattle.plan_core.specs.Kinds.{flow_of};
 ghost use Rattle.dep_iter.specs.Edges as edges;
-ghost use Rattle.dep_iter.specs.Hints as hints;
 ghost use Rattle.dep_iter.specs.Tasks.{IsTask};
 ghost use Rattle.dep_shard.specs.declared.shard.Arrived.TheVariants.{Fired};
-ghost use Rattle.dep_shard.specs.Content.{IsReady, IsTileOf, IsWaiting, KeepsAllButEntries, Updates, Uses, entry_before, entry_of, with_arrival};
+ghost use Rattle.dep_shard.specs.Content.{IsReady, IsTileOf, IsWaiting, KeepsAllButEntries, KeepsSpares, Updates, Uses, entry_of};
+ghost use Rattle.shard_meaning.specs.Share.{entry_after, entry_found};
 
 use dep_iter::{Matched, flows_of, locals_of, priority_under};
 use dep_shard::{Arrived, Shard};
@@ -41,22 +41,14 @@ fn arrive_first(
     requires tile { IfSome (option_copied tile) (λ t. IsTileOf shard.old.elems datatype t) }
     ensures ok { OnOk result
         (Updates shard.old.entries shard.new.entries edge.now.to
-        (Some
-        (with_arrival
-        (entry_before shard.old edge.now.to (edges.goal m.now edge.now.to)
-        (hints.priority m.now edge.now.to))
-        edge.now.in_flow (option_copied tile.entry)))) }
+        (Some (entry_after m.now edge.now (option_copied tile.entry) shard.old))) }
     ensures fired { IfOk result (λ a.
-        (a ≡ Fired)
-        ↔ IsReady
-        (with_arrival
-        (entry_before shard.old edge.now.to (edges.goal m.now edge.now.to) (hints.priority m.now edge.now.to))
-        edge.now.in_flow (option_copied tile.entry))) }
+        (a ≡ Fired) ↔ IsReady (entry_after m.now edge.now (option_copied tile.entry) shard.old)) }
     ensures err { OnErr result (shard.new.entries ≡ shard.old.entries) }
     ensures rest { KeepsAllButEntries shard.old shard.new }
     ensures spare { Uses shard.old.spare shard.new.spare (if is_some (entry_of shard.old edge.now.to) then 0 else 1)
         (if is_some tile.entry then Some datatype else None) 0 0 }
-    ensures kept { OnErr result (Uses shard.old.spare shard.new.spare 0 None 0 0) }
+    ensures kept { OnErr result (KeepsSpares shard.old.spare shard.new.spare) }
     ensures succeeds { 0 < shard.old.spare.entries
         → (IsSome tile.entry → 0 < slice_index shard.old.spare.tiles datatype) → IsOk result }
 {
@@ -77,27 +69,18 @@ pub(crate) fn arrive(
     requires task { IsTask m.now edge.now.to }
     requires flow { edge.now.in_flow < most_flows }
     requires goal { 0 < edges.goal m.now edge.now.to }
-    requires waits { IsWaiting
-        (entry_before shard.old edge.now.to (edges.goal m.now edge.now.to) (hints.priority m.now edge.now.to)) }
+    requires waits { IsWaiting (entry_found m.now edge.now shard.old) }
     requires tile { IfSome (option_copied tile) (λ t. IsTileOf shard.old.elems datatype t) }
     ensures ok { OnOk result
         (Updates shard.old.entries shard.new.entries edge.now.to
-        (Some
-        (with_arrival
-        (entry_before shard.old edge.now.to (edges.goal m.now edge.now.to)
-        (hints.priority m.now edge.now.to))
-        edge.now.in_flow (option_copied tile.entry)))) }
+        (Some (entry_after m.now edge.now (option_copied tile.entry) shard.old))) }
     ensures fired { IfOk result (λ a.
-        (a ≡ Fired)
-        ↔ IsReady
-        (with_arrival
-        (entry_before shard.old edge.now.to (edges.goal m.now edge.now.to) (hints.priority m.now edge.now.to))
-        edge.now.in_flow (option_copied tile.entry))) }
+        (a ≡ Fired) ↔ IsReady (entry_after m.now edge.now (option_copied tile.entry) shard.old)) }
     ensures err { OnErr result (shard.new.entries ≡ shard.old.entries) }
     ensures rest { KeepsAllButEntries shard.old shard.new }
     ensures spare { Uses shard.old.spare shard.new.spare (if is_some (entry_of shard.old edge.now.to) then 0 else 1)
         (if is_some tile.entry then Some datatype else None) 0 0 }
-    ensures kept { OnErr result (Uses shard.old.spare shard.new.spare 0 None 0 0) }
+    ensures kept { OnErr result (KeepsSpares shard.old.spare shard.new.spare) }
     ensures succeeds { (entry_of shard.old edge.now.to ≡ None → 0 < shard.old.spare.entries)
         → (IsSome tile.entry → 0 < slice_index shard.old.spare.tiles datatype) → IsOk result }
 {

@@ -1,12 +1,11 @@
 //! The items that a shard takes in.
 
-ghost use Rattle.std.specs.Prelude.{◌≡◌, ◌↔◌, None, IfOk, IsOk, OnErr, OnOk};
+ghost use Rattle.std.specs.Prelude.{◌≡◌, ◌↔◌, IfOk, IsOk, OnErr, OnOk};
 ghost use Rattle.std.specs.Option.{option_copied};
-ghost use Rattle.dep_iter.specs.Edges as edges;
-ghost use Rattle.dep_iter.specs.Hints as hints;
 ghost use Rattle.dep_shard.specs.declared.shard.Arrived.TheVariants.{Fired};
-ghost use Rattle.dep_shard.specs.Content.{IsReady, IsUnchanged, Uses, entry_before, with_arrival};
+ghost use Rattle.dep_shard.specs.Content.{IsReady, IsUnchanged, KeepsSpares};
 ghost use Rattle.shard_calls.specs.Taken.{HasSpareForEdge, HasSpareForWrite, MayTakeEdge, MayTakeWrite, TakesEdge, TakesWrite};
+ghost use Rattle.shard_meaning.specs.Share.{entry_after};
 
 use crate::arriving::{arrive, type_of_flow};
 use dep_iter::Matched;
@@ -23,13 +22,9 @@ pub fn take_edge(
     requires { MayTakeEdge m.now edge.now (option_copied tile) shard.old }
     ensures takes { OnOk result (TakesEdge m.now edge.now (option_copied tile.entry) shard.old shard.new) }
     ensures fired { IfOk result (λ a.
-        (a ≡ Fired)
-        ↔ IsReady
-        (with_arrival
-        (entry_before shard.old edge.now.to (edges.goal m.now edge.now.to) (hints.priority m.now edge.now.to))
-        edge.now.in_flow (option_copied tile.entry))) }
+        (a ≡ Fired) ↔ IsReady (entry_after m.now edge.now (option_copied tile.entry) shard.old)) }
     ensures same { OnErr result (IsUnchanged shard.old shard.new) }
-    ensures kept { OnErr result (Uses shard.old.spare shard.new.spare 0 None 0 0) }
+    ensures kept { OnErr result (KeepsSpares shard.old.spare shard.new.spare) }
     ensures succeeds { HasSpareForEdge m.now edge.now (option_copied tile.entry) shard.old → IsOk result }
 {
     let datatype = type_of_flow(m, &edge.to, edge.in_flow);
@@ -46,7 +41,7 @@ pub fn take_write(
     requires { MayTakeWrite m.now write.now (option_copied tile) shard.old }
     ensures takes { OnOk result (TakesWrite m.now write.now (option_copied tile.entry) shard.old shard.new) }
     ensures same { OnErr result (IsUnchanged shard.old shard.new) }
-    ensures kept { OnErr result (Uses shard.old.spare shard.new.spare 0 None 0 0) }
+    ensures kept { OnErr result (KeepsSpares shard.old.spare shard.new.spare) }
     ensures succeeds { HasSpareForWrite m.now write.now shard.old → IsOk result }
 {
     let datatype = type_of_flow(m, &write.from, write.flow);

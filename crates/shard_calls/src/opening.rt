@@ -1,7 +1,7 @@
 //! The opening of shards: each gets a ready entry of its own tasks that no edge goes into.
 
-ghost use Rattle.std.specs.Prelude.{◌≡◌, ◌<◌, ◌≤◌, ◌==◌, IfOk, OnOk, length};
-ghost use Rattle.ptg_base.specs.Limits.{most_shards};
+ghost use Rattle.std.specs.Prelude.{◌≡◌, ◌<◌, ◌==◌, IfOk, OnOk, length};
+ghost use Rattle.ptg_base.specs.Limits.{IsShardCount};
 ghost use Rattle.dep_iter.specs.Edges.{goal};
 ghost use Rattle.dep_iter.specs.Tasks.{IsTask};
 ghost use Rattle.shard_meaning.specs.Placing.{shard_of};
@@ -35,7 +35,7 @@ fn enter(shards: &mut Vec<Shard>, k: usize, t: &TaskId, priority: i64) -> Result
 // Enters a task if no edge goes into it, and answers whether that is so.
 fn open_task(shards: &mut Vec<Shard>, m: &Matched, t: &TaskId) -> Result<bool, OutOfMemory>
     requires task { IsTask m.now t.now }
-    requires shards { (0 < length shards.old.items) × (length shards.old.items ≤ most_shards) }
+    requires shards { IsShardCount (length shards.old.items) }
     ensures root { IfOk result (λ root. root ≡ (goal m.now t.now == 0)) }
     ensures opened { OnOk result
         (Opens m.now (shard_of m.now (length shards.old.items)) t.now shards.old.items shards.new.items) }
@@ -65,7 +65,7 @@ fn new_shards(alloc: Global, m: &Matched, count: u32) -> Result<Vec<Shard>, OutO
 /// This many new shards: each has the ready entries of its own tasks that no edge goes into. The walk stops once all of
 /// these are found.
 pub fn opened_shards(alloc: Global, m: &Matched, shards: u32) -> Result<Vec<Shard>, OutOfMemory>
-    requires { (0 < shards) × (shards ≤ most_shards) }
+    requires { IsShardCount shards }
     ensures { IfOk result (λ v. AreOpeningShards m.now shards v.items) }
 {
     let mut opened = new_shards(alloc, m, shards)?;

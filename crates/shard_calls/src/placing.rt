@@ -1,7 +1,7 @@
 //! The shard of a task.
 
-ghost use Rattle.std.specs.Prelude.{◌≡◌, ◌<◌, ◌≤◌};
-ghost use Rattle.ptg_base.specs.Limits.{most_shards};
+ghost use Rattle.std.specs.Prelude.{◌≡◌, ◌<◌};
+ghost use Rattle.ptg_base.specs.Limits.{IsShardCount};
 ghost use Rattle.dep_iter.specs.Tasks as tasks;
 ghost use Rattle.dep_iter.specs.Tasks.{IsTask};
 ghost use Rattle.shard_meaning.specs.Placing.{shard_of};
@@ -14,7 +14,7 @@ use ptg_base::TaskId;
 pub fn shard_under(m: &Matched, shards: usize, t: &TaskId, env: &[i64]) -> usize
     requires task { IsTask m.now t.now }
     requires locals { env.now ≡ tasks.locals_of m.now t.now }
-    requires shards { (0 < shards) × (shards ≤ most_shards) }
+    requires shards { IsShardCount shards }
     ensures number { result ≡ shard_of m.now shards t.now }
     ensures within { result < shards }
 {
@@ -29,7 +29,7 @@ pub fn shard_under(m: &Matched, shards: usize, t: &TaskId, env: &[i64]) -> usize
 /// The shard of a task, among `shards` shards.
 pub fn shard_at(m: &Matched, shards: usize, t: &TaskId) -> usize
     requires task { IsTask m.now t.now }
-    requires shards { (0 < shards) × (shards ≤ most_shards) }
+    requires shards { IsShardCount shards }
     ensures number { result ≡ shard_of m.now shards t.now }
     ensures within { result < shards }
 {

@@ -8,11 +8,11 @@ ghost use Rattle.ptg_base.specs.declared.edge.WriteBack.{WriteBack};
 ghost use Rattle.plan_core.specs.declared.plan.Plan.{Plan};
 ghost use Rattle.coll_data.specs.Data.{Data};
 ghost use Rattle.dep_iter.specs.Consistent.{IsConsistent};
-ghost use Rattle.dep_shard.specs.Content.{Content, IsReady, IsWaiting, entry_before, entry_of, with_arrival};
+ghost use Rattle.dep_shard.specs.Content.{Content, IsReady, IsWaiting, entry_of};
 ghost use Rattle.flow_meaning.specs.Machine.{MaySend, MayClaim, arrived};
 ghost use Rattle.flow_meaning.specs.Sound.{IsSoundState};
 ghost use Rattle.shard_meaning.specs.Moment.{Moment, IsSoundMoment, opening_moment, run_count, with_claim, with_end, with_send};
-ghost use Rattle.shard_meaning.specs.Share.{IsShardOf, Placement};
+ghost use Rattle.shard_meaning.specs.Share.{IsShardOf, Placement, entry_after, entry_found};
 ghost use Rattle.ptg_base.specs.Task.{Task};
 ghost use Rattle.ptg_base.specs.declared.edge.Item.{Item};
 ghost use Rattle.ptg_base.specs.declared.edge.Edge.{Edge};
@@ -71,19 +71,17 @@ pub fn an_edge_finds_its_target()
         → MaySend P G R.state (item.Edge e) → IsTask P e.to × (e.in_flow < most_flows) × (0 < goal P e.to) }
     ensures waits { (P : Plan) (G : Data) (of : Placement) (k : ℕ) (R : Moment) (e : Edge) (y : Content)
         → IsConsistent P → IsSoundState P G R.state → MaySend P G R.state (item.Edge e) → of e.to ≡ k
-        → IsShardOf P G of k R y → IsWaiting (entry_before y e.to (goal P e.to) (priority P e.to)) }
+        → IsShardOf P G of k R y → IsWaiting (entry_found P e y) }
     ensures fires { (P : Plan) (G : Data) (of : Placement) (k : ℕ) (R : Moment) (e : Edge) (y : Content)
         (x : Option (List ℤ))
         → IsConsistent P → IsSoundState P G R.state → MaySend P G R.state (item.Edge e) → of e.to ≡ k
         → IsShardOf P G of k R y
-        → IsReady (with_arrival (entry_before y e.to (goal P e.to) (priority P e.to)) e.in_flow x)
-        ↔ (arrived P R.state e.to + 1 ≡ goal P e.to) }
+        → IsReady (entry_after P e x y) ↔ (arrived P R.state e.to + 1 ≡ goal P e.to) }
     ensures free { (P : Plan) (G : Data) (of : Placement) (k : ℕ) (R : Moment) (e : Edge) (y : Content) → IsConsistent P
         → IsSoundState P G R.state → MaySend P G R.state (item.Edge e) → of e.to ≡ k → IsShardOf P G of k R y
-        → tile_of (entry_before y e.to (goal P e.to) (priority P e.to)).tiles e.in_flow ≡ None }
+        → tile_of (entry_found P e y).tiles e.in_flow ≡ None }
     ensures entry { (P : Plan) (G : Data) (of : Placement) (k : ℕ) (R : Moment) (e : Edge) (y : Content) (v : Entry)
         → IsConsistent P → IsSoundState P G R.state → MaySend P G R.state (item.Edge e) → of e.to ≡ k
         → IsShardOf P G of k R y → entry_of y e.to ≡ Some v
-        → (v.goal ≡ goal P e.to) × (v.priority ≡ priority P e.to)
-        × (entry_before y e.to (goal P e.to) (priority P e.to) ≡ v) }
+        → (v.goal ≡ goal P e.to) × (v.priority ≡ priority P e.to) × (entry_found P e y ≡ v) }
 {}

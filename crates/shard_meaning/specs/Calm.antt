@@ -1,5 +1,5 @@
 -- Moments at which nothing is under way, and shards that have no work. Source: this project's own choice.
-use Rattle.std.specs.Prelude.{◌≡◌, []}
+use Rattle.std.specs.Prelude.{◌≡◌, ℕ, List, [], Some, slice_get}
 use Rattle.ptg_base.specs.Lists.{IsIn}
 use Rattle.ptg_base.specs.Task.{Task}
 use Rattle.plan_core.specs.declared.plan.Plan.{Plan}
@@ -22,3 +22,7 @@ AreFinished P G R = (t : Task) → IsIn t R.state.claims → run_count R t ≡ 0
 pub record HasNoWork (y : Content) : Type 0 where
   pub ready : HasNoReady y.entries
   pub running : y.running ≡ 0
+
+-- no shard has work
+abbrev pub HaveNoWork : List Content → Type 0
+HaveNoWork ys = (k : ℕ) (y : Content) → slice_get ys k ≡ Some y → HasNoWork y

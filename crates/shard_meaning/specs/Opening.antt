@@ -18,15 +18,19 @@ pub use Rattle.shard_meaning.specs.Reserve.{is_edge_to, is_write_from}
 abbrev pub opening_entry : Plan → Task → Option Entry
 opening_entry P t = if goal P t == 0 then Some (fresh 0 (priority P t)) else None
 
--- the shard k before the first event
-pub record IsOpeningShard (P : Plan) (of : Placement) (k : ℕ) (y : Content) : Type 0 where
-  pub there : (t : Task) → IsTask P t → of t ≡ k → entry_of y t ≡ opening_entry P t
-  pub only : (t : Task) (e : Entry) → entry_of y t ≡ Some e → IsTask P t × (of t ≡ k)
+-- the shard k has, of the tasks of this kind, the entries of its own that no edge goes into, and nothing else
+pub record IsOpenedFor (P : Plan) (of : Placement) (k : ℕ) (Kind : Task → Type 0) (y : Content) : Type 0 where
+  pub there : (t : Task) → Kind t → of t ≡ k → entry_of y t ≡ opening_entry P t
+  pub only : (t : Task) (e : Entry) → entry_of y t ≡ Some e → Kind t × (of t ≡ k)
   pub written : y.written ≡ []
   pub trapped : y.trapped ≡ []
   pub running : y.running ≡ 0
   pub ended : y.ended ≡ 0
   pub elems : y.elems ≡ P.elems
+
+-- the shard k before the first event: it is opened for the tasks of the plan
+abbrev pub IsOpeningShard : Plan → Placement → ℕ → Content → Type 0
+IsOpeningShard P of k y = IsOpenedFor P of k (IsTask P) y
 
 -- whether edges go into a task; if so, it has no entry before the first event
 abbrev pub has_edges : Plan → Task → Bool

@@ -4,14 +4,17 @@
 use Rattle.std.specs.Prelude.{◌≡◌, ℕ, ◌+◌, ℤ, Bool, ◌==◌, List, Option, Some, None, Ok, Err, if◌then◌else◌}
 use Rattle.ptg_base.specs.Entry.{Entry}
 use Rattle.ptg_base.specs.Task.{Task}
+use Rattle.ptg_base.specs.declared.edge.Edge.{Edge}
 use Rattle.ptg_base.specs.declared.edge.WriteBack.{WriteBack}
 use Rattle.ptg_base.specs.declared.edge.Item.{Item}
 use Rattle.ptg_base.specs.declared.edge.Item.TheVariants as item
 use Rattle.term_core.specs.declared.trap.Trap.{Trap}
 use Rattle.plan_core.specs.declared.plan.Plan.{Plan}
 use Rattle.coll_data.specs.Data.{Data}
+use Rattle.dep_iter.specs.Edges.{goal}
+use Rattle.dep_iter.specs.Hints.{priority}
 use Rattle.dep_iter.specs.Tasks.{IsTask}
-use Rattle.dep_shard.specs.Content.{Content, entry_of}
+use Rattle.dep_shard.specs.Content.{Content, entry_before, entry_of, with_arrival}
 use Rattle.list_lemmas.specs.Counting.{count, weigh}
 use Rattle.flow_meaning.specs.Ending.{Ended}
 use Rattle.flow_meaning.specs.Backward.{ended}
@@ -49,7 +52,7 @@ ended_weight f t (Some (Err cause)) = f (t, cause)
 abbrev pub trap_weight : Plan → Data → Placement → ℕ → (Task × Trap → ℕ) → Task → ℕ
 trap_weight P G of k f t = if is_of of k t then ended_weight f t (ended P G t) else 0
 
--- the shard k at rest holds its part of this moment, and nothing else
+-- the shard k holds its part of this moment, and nothing else: so it does while it is in its slot
 pub record IsShardOf (P : Plan) (G : Data) (of : Placement) (k : ℕ) (R : Moment) (y : Content) : Type 0 where
   -- of each of its tasks it has the entry of the table, where the task is ready or waits; it has no other entries
   pub there : (t : Task) → IsTask P t → of t ≡ k → entry_of y t ≡ table_entry P R.state t
@@ -64,3 +67,11 @@ pub record IsShardOf (P : Plan) (G : Data) (of : Placement) (k : ℕ) (R : Momen
   pub ended : y.running + y.ended ≡ count (is_of of k) R.state.claims
   -- how many numbers a tile of each type has
   pub elems : y.elems ≡ P.elems
+
+-- the entry that an edge finds at its target: the one there, or a new one
+abbrev pub entry_found : Plan → Edge → Content → Entry
+entry_found P e y = entry_before y e.to (goal P e.to) (priority P e.to)
+
+-- that entry once the edge has come, with this tile
+abbrev pub entry_after : Plan → Edge → Option (List ℤ) → Content → Entry
+entry_after P e tile y = with_arrival (entry_found P e y) e.in_flow tile

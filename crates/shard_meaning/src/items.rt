@@ -23,14 +23,14 @@ pub fn items_carry_tiles_of_their_types()
     ensures flow { (P : Plan) (G : Data) (S : MachineState) (e : Edge) → IsConsistent P → IsSoundState P G S
         → MaySend P G S (item.Edge e) → (f : FlowPlan) × (flow_of P.classes e.to.class e.in_flow ≡ Some f) }
     ensures tile { (P : Plan) (G : Data) (S : MachineState) (e : Edge) (f : FlowPlan) → IsConsistent P
-        → DataFit P.colls P.elems G → IsWellMade G → IsSoundState P G S → MaySend P G S (item.Edge e)
+        → DataFit P G → IsWellMade G → IsSoundState P G S → MaySend P G S (item.Edge e)
         → flow_of P.classes e.to.class e.in_flow ≡ Some f → IsTrue (is_data (Some f.kind))
         → (x : List ℤ) × (output_tile (ended P G e.from) e.out_flow ≡ Some x) × IsTileOf P.elems f.datatype x }
     ensures order { (P : Plan) (G : Data) (S : MachineState) (e : Edge) (f : FlowPlan) → IsConsistent P
         → IsSoundState P G S → MaySend P G S (item.Edge e) → flow_of P.classes e.to.class e.in_flow ≡ Some f
         → IsFalse (is_data (Some f.kind)) → output_tile (ended P G e.from) e.out_flow ≡ None }
     ensures write { (P : Plan) (G : Data) (S : MachineState) (w : WriteBack) → IsConsistent P
-        → DataFit P.colls P.elems G → IsWellMade G → IsSoundState P G S → MaySend P G S (item.Write w)
+        → DataFit P G → IsWellMade G → IsSoundState P G S → MaySend P G S (item.Write w)
         → (f : FlowPlan) × (x : List ℤ) × (flow_of P.classes w.from.class w.flow ≡ Some f)
         × (output_tile (ended P G w.from) w.flow ≡ Some x) × IsTileOf P.elems f.datatype x }
 {}

@@ -11,7 +11,7 @@ ghost use Rattle.plan_core.specs.Kinds.{flow_of};
 ghost use Rattle.plan_core.specs.declared.plan.Plan.{Plan};
 ghost use Rattle.coll_data.specs.Data.{Data};
 ghost use Rattle.dep_iter.specs.Consistent.{IsConsistent};
-ghost use Rattle.dep_shard.specs.Content.{Content, KeepsAllButWritten, KeepsEntriesAndWritten, Takes, Updates, Uses, entry_of};
+ghost use Rattle.dep_shard.specs.Content.{Content, KeepsAllButWritten, KeepsEntriesAndWritten, KeepsSpares, Takes, Updates, Uses, entry_of};
 ghost use Rattle.flow_meaning.specs.Backward.{ended};
 ghost use Rattle.flow_meaning.specs.Ending.{output_tile};
 ghost use Rattle.flow_meaning.specs.Machine.{MayClaim, MaySend};
@@ -24,7 +24,7 @@ ghost use Rattle.shard_meaning.specs.Share.{Placement};
 /// shard.
 pub fn a_claim_keeps_the_reserve()
     ensures here { (P : Plan) (of : Placement) (k : ℕ) (R : Moment) (t : Task) (y z : Content) (tiles : List FlowTile)
-        → MayClaim P R.state t → Takes y z t tiles → Uses y.spare z.spare 0 None 0 0 → HasReserve P of k R y
+        → MayClaim P R.state t → Takes y z t tiles → KeepsSpares y.spare z.spare → HasReserve P of k R y
         → HasReserve P of k (with_claim R t) z }
     ensures away { (P : Plan) (of : Placement) (k : ℕ) (R : Moment) (t : Task) (y : Content) → MayClaim P R.state t
         → HasReserve P of k R y → HasReserve P of k (with_claim R t) y }
@@ -62,7 +62,7 @@ pub fn a_send_of_a_write_back_keeps_the_reserve()
 /// and of every other shard.
 pub fn an_end_keeps_the_reserve()
     ensures end { (P : Plan) (of : Placement) (k : ℕ) (R : Moment) (t : Task) (y z : Content) → 0 < run_count R t
-        → KeepsEntriesAndWritten y z → Uses y.spare z.spare 0 None 0 0 → HasReserve P of k R y
+        → KeepsEntriesAndWritten y z → KeepsSpares y.spare z.spare → HasReserve P of k R y
         → HasReserve P of k (with_end R t) z }
     ensures trap { (P : Plan) (G : Data) (of : Placement) (k : ℕ) (R : Moment) (t : Task) (y z : Content)
         → IsSoundMoment P G R → 0 < run_count R t → of t ≡ k → KeepsEntriesAndWritten y z

@@ -1,6 +1,6 @@
 //! Laws of what a shard holds: each event changes the shard that it belongs to as the call does, and no other shard.
 
-ghost use Rattle.std.specs.Prelude.{◌≡◌, ◌≢◌, ◌<◌, ◌++◌, ℕ, ℤ, Err, IsTrue, List, None, Some, ◌∷◌, []};
+ghost use Rattle.std.specs.Prelude.{◌≡◌, ◌≢◌, ◌<◌, ◌++◌, ℕ, ℤ, Err, IsTrue, List, Some, ◌∷◌, []};
 ghost use Rattle.ptg_base.specs.Entry.{FlowTile};
 ghost use Rattle.ptg_base.specs.Task.{Task};
 ghost use Rattle.ptg_base.specs.declared.edge.Edge.{Edge};
@@ -10,16 +10,14 @@ ghost use Rattle.term_core.specs.declared.trap.Trap.{Trap};
 ghost use Rattle.plan_core.specs.declared.plan.Plan.{Plan};
 ghost use Rattle.coll_data.specs.Data.{Data};
 ghost use Rattle.dep_iter.specs.Consistent.{IsConsistent};
-ghost use Rattle.dep_iter.specs.Edges.{goal};
-ghost use Rattle.dep_iter.specs.Hints.{priority};
-ghost use Rattle.dep_shard.specs.Content.{Content, Ends, IsUnchanged, KeepsAllButEntries, KeepsAllButWritten, KeepsEntriesAndWritten, Takes, Updates, Uses, entry_before, with_arrival};
+ghost use Rattle.dep_shard.specs.Content.{Content, Ends, IsUnchanged, KeepsAllButEntries, KeepsAllButWritten, KeepsEntriesAndWritten, KeepsSpares, Takes, Updates};
 ghost use Rattle.flow_meaning.specs.Backward.{ended};
 ghost use Rattle.flow_meaning.specs.Ending.{has_outputs, output_tile};
 ghost use Rattle.flow_meaning.specs.Machine.{MaySend};
 ghost use Rattle.flow_meaning.specs.Sound.{IsSoundState};
 ghost use Rattle.shard_meaning.specs.Moment.{Moment, run_count, with_claim, with_end, with_send};
 ghost use Rattle.shard_meaning.specs.Reserve.{HasReserve};
-ghost use Rattle.shard_meaning.specs.Share.{IsShardOf, Placement};
+ghost use Rattle.shard_meaning.specs.Share.{IsShardOf, Placement, entry_after};
 
 /// A law: a claim changes the shard of its task as the call does that takes the ready entry out, and no other shard.
 pub fn a_claim_changes_its_own_shard()
@@ -36,10 +34,7 @@ pub fn a_claim_changes_its_own_shard()
 pub fn a_send_of_an_edge_changes_its_own_shard()
     ensures here { (P : Plan) (G : Data) (of : Placement) (k : ℕ) (R : Moment) (e : Edge) (y z : Content)
         → IsConsistent P → IsSoundState P G R.state → MaySend P G R.state (item.Edge e) → of e.to ≡ k
-        → Updates y.entries z.entries e.to
-        (Some
-        (with_arrival (entry_before y e.to (goal P e.to) (priority P e.to)) e.in_flow
-        (output_tile (ended P G e.from) e.out_flow)))
+        → Updates y.entries z.entries e.to (Some (entry_after P e (output_tile (ended P G e.from) e.out_flow) y))
         → KeepsAllButEntries y z → IsShardOf P G of k R y → IsShardOf P G of k (with_send P G R (item.Edge e)) z }
     ensures away { (P : Plan) (G : Data) (of : Placement) (k : ℕ) (R : Moment) (e : Edge) (y : Content) → IsConsistent P
         → IsSoundState P G R.state → MaySend P G R.state (item.Edge e) → of e.to ≢ k → IsShardOf P G of k R y
@@ -78,5 +73,5 @@ pub fn nothing_changes_without_an_event()
     ensures share { (P : Plan) (G : Data) (of : Placement) (k : ℕ) (R : Moment) (y z : Content) → IsUnchanged y z
         → IsShardOf P G of k R y → IsShardOf P G of k R z }
     ensures reserve { (P : Plan) (of : Placement) (k : ℕ) (R : Moment) (y z : Content) → IsUnchanged y z
-        → Uses y.spare z.spare 0 None 0 0 → HasReserve P of k R y → HasReserve P of k R z }
+        → KeepsSpares y.spare z.spare → HasReserve P of k R y → HasReserve P of k R z }
 {}

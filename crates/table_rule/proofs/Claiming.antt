@@ -32,7 +32,7 @@ use Rattle.table_rule.specs.Changes.{turn_left, with_own_claim}
 use Rattle.table_rule.specs.Live.{OwnsLives}
 use Rattle.table_rule.specs.Owning.{OwnsWork}
 use Rattle.shard_meaning.specs.Placing.{shard_of}
-use Rattle.table_rule.specs.Plays.{HasName, HasTurn, Seated, gave_claim}
+use Rattle.table_rule.specs.Plays.{GivesClaim, HasName, HasTurn, Seated}
 use Rattle.table_rule.specs.Rule.{Parts, Rule, Table}
 use Rattle.table_rule.specs.Words.{live_word, stamp_word, turn_word}
 use Rattle.table_rule.proofs.Giving.{holds_turn}
@@ -74,7 +74,7 @@ nothing_sent j s R id v t tiles k y₀ y r me takes share = let P : Plan = j.mat
 
 -- the turn is given back with a claim, where the shard had a ready entry of the task
 pub claims : (j : TableJob) (n id : ℕ) (m : Seated) (k : ℕ) (t : Task) (y₀ y : Content) (tiles : List FlowTile) → HasTurn m k y₀ y 0 → Takes y₀ y t tiles → Uses y₀.spare y.spare 0 None 0 0
-    → Allows (Rule j) n id m (turn_word k) (λ _. 0) (λ _. gave_claim (Some j) t tiles (step n (turn_word k) 0 0 none) m 0)
+    → Allows (Rule j) n id m (turn_word k) (λ _. 0) (λ _. GivesClaim (Some j) t tiles (step n (turn_word k) 0 0 none) m 0)
 claims j n id m k t y₀ y tiles h takes uses s rule wide me _ = let P : Plan = j.matched in let G : Data = j.given in let of : Placement = shard_of j.matched j.shards in
     let R : Moment = rule.0 in let r = rule.1 in let v : PassRecord = m.0 in let w : PassRecord = turn_left (with_own_claim v t) in
     let held = holds_turn m k y₀ y 0 h in

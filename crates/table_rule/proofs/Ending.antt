@@ -33,7 +33,7 @@ use Rattle.table_rule.specs.Changes.{turn_left, with_own_end}
 use Rattle.table_rule.specs.Live.{OwnsLives, own_claims, own_runs, own_stamps}
 use Rattle.table_rule.specs.Owning.{OwnsWork}
 use Rattle.shard_meaning.specs.Placing.{shard_of}
-use Rattle.table_rule.specs.Plays.{HasName, HasTurn, Seated, gave_end}
+use Rattle.table_rule.specs.Plays.{GivesEnd, HasName, HasTurn, Seated}
 use Rattle.table_rule.specs.Records.{AreRecordsOf}
 use Rattle.table_rule.specs.Rule.{Parts, Reserve, Rule, Share, Table}
 use Rattle.table_rule.specs.Words.{live_word, stamp_word, turn_word}
@@ -93,7 +93,7 @@ record Ending (j : TableJob) (R : Moment) (v : PassRecord) (k : ℕ) (t : Task) 
 -- the turn is given back with the end of the running task
 ends : (j : TableJob) (n id : ℕ) (m : Seated) (k : ℕ) (t : Task) (y₀ y : Content) → HasTurn m k y₀ y 0 → m.0.running ≡ t ∷ [] → shard_of j.matched j.shards t ≡ k → 0 < own_stamps m.0 t
     → ((s : Table) (R : Moment) → Parts j s R → get_elem? s.views id ≡ some m.0 → Ending j R m.0 k t y₀ y)
-    → Allows (Rule j) n id m (turn_word k) (λ _. 0) (λ _. gave_end (step n (turn_word k) 0 0 none) m 0)
+    → Allows (Rule j) n id m (turn_word k) (λ _. 0) (λ _. GivesEnd (step n (turn_word k) 0 0 none) m 0)
 ends j n id m k t y₀ y h runs at stamped does s rule wide me _ = let P : Plan = j.matched in let G : Data = j.given in let of : Placement = shard_of j.matched j.shards in
     let R : Moment = rule.0 in let r = rule.1 in let v : PassRecord = m.0 in let w : PassRecord = turn_left (with_own_end v) in
     let held = holds_turn m k y₀ y 0 h in
@@ -130,7 +130,7 @@ ends j n id m k t y₀ y h runs at stamped does s rule wide me _ = let P : Plan 
 -- after its items
 pub ends_with_items : (j : TableJob) (n id : ℕ) (m : Seated) (k : ℕ) (t : Task) (y₀ y : Content) → HasTurn m k y₀ y 0 → MayEnd j.matched j.given t m.0 → shard_of j.matched j.shards t ≡ k → 0 < own_stamps m.0 t
     → Ends y₀ y → KeepsEntriesAndWritten y₀ y → y.trapped ≡ y₀.trapped → Uses y₀.spare y.spare 0 None 0 0
-    → Allows (Rule j) n id m (turn_word k) (λ _. 0) (λ _. gave_end (step n (turn_word k) 0 0 none) m 0)
+    → Allows (Rule j) n id m (turn_word k) (λ _. 0) (λ _. GivesEnd (step n (turn_word k) 0 0 none) m 0)
 ends_with_items j n id m k t y₀ y h may at stamped ending kept trapped uses = ends j n id m k t y₀ y h may.runs at stamped (λ s R r me. let own = it_runs s.views R r.records id m.0 me t may.runs in record {
   finished = inr (λ i among. lt-ltb 0 (send_count R.state i) (omega (arith, ltb-true 0 (send_count (done_by m.0) i) (may.sent i among), r.records.sends (λ (x : SentItem). as_number (same_item i x.item)), term_le (λ (u : PassRecord). weigh (λ (x : SentItem). as_number (same_item i x.item)) u.sends) s.views id m.0 me)));
   here = λ q. end_here j.matched j.given (shard_of j.matched j.shards) k R t own y₀ y at may.outputs ending kept trapped q;
@@ -140,7 +140,7 @@ ends_with_items j n id m k t y₀ y h may at stamped ending kept trapped uses = 
 -- by a trap
 pub ends_by_trap : (j : TableJob) (n id : ℕ) (m : Seated) (k : ℕ) (t : Task) (cause : Trap) (y₀ y : Content) → HasTurn m k y₀ y 0 → MayTrap j.matched j.given t cause m.0 → shard_of j.matched j.shards t ≡ k → 0 < own_stamps m.0 t
     → Ends y₀ y → KeepsEntriesAndWritten y₀ y → y.trapped ≡ y₀.trapped ++ (t, cause) ∷ [] → Uses y₀.spare y.spare 0 None 0 1
-    → Allows (Rule j) n id m (turn_word k) (λ _. 0) (λ _. gave_end (step n (turn_word k) 0 0 none) m 0)
+    → Allows (Rule j) n id m (turn_word k) (λ _. 0) (λ _. GivesEnd (step n (turn_word k) 0 0 none) m 0)
 ends_by_trap j n id m k t cause y₀ y h may at stamped ending kept trapped uses = ends j n id m k t y₀ y h may.runs at stamped (λ s R r me. let own = it_runs s.views R r.records id m.0 me t may.runs in record {
   finished = inl (ap has_outputs may.traps);
   here = λ q. trap_here j.matched j.given (shard_of j.matched j.shards) k R t own y₀ y cause at may.traps ending kept trapped q;

@@ -11,7 +11,7 @@ use Rattle.work_board.specs.declared.record.PassRecord.{PassRecord}
 use Rattle.table_rule.specs.declared.table_job.TableJob.{TableJob}
 use Rattle.table_rule.specs.Changes.{turn_left}
 use Rattle.shard_meaning.specs.Placing.{shard_of}
-use Rattle.table_rule.specs.Plays.{HasTurn, Seated, left}
+use Rattle.table_rule.specs.Plays.{GivesBack, HasTurn, Seated}
 use Rattle.table_rule.specs.Rule.{Rule}
 use Rattle.table_rule.specs.Words.{turn_word}
 use Rattle.table_rule.proofs.Looking.{live_same}
@@ -25,7 +25,7 @@ pub holds_turn : (m : Seated) (k : ℕ) (y₀ y : Content) (credits : ℕ) → H
 holds_turn m k y₀ y credits h = subst (IsIn (k, y₀)) (sym h.turn) (inl refl)
 
 -- the turn is given back, and of the shard at most spares have grown
-pub leaves : (j : TableJob) (n id : ℕ) (m : Seated) (k : ℕ) (y₀ y : Content) → HasTurn m k y₀ y 0 → IsUnchanged y₀ y → Uses y₀.spare y.spare 0 None 0 0 → Allows (Rule j) n id m (turn_word k) (λ _. 0) (λ _. left (step n (turn_word k) 0 0 none) m 0)
+pub leaves : (j : TableJob) (n id : ℕ) (m : Seated) (k : ℕ) (y₀ y : Content) → HasTurn m k y₀ y 0 → IsUnchanged y₀ y → Uses y₀.spare y.spare 0 None 0 0 → Allows (Rule j) n id m (turn_word k) (λ _. 0) (λ _. GivesBack (step n (turn_word k) 0 0 none) m 0)
 leaves j n id m k y₀ y h same uses s rule wide me _ = let R : Moment = rule.0 in let r = rule.1 in let v : PassRecord = m.0 in let w : PassRecord = turn_left v in let o = r.owned.each id v me in let l = r.live.each id v me in
     let held = holds_turn m k y₀ y 0 h in (
       w,

@@ -17,7 +17,7 @@ use Rattle.table_rule.specs.declared.table_job.TableJob.{TableJob}
 use Rattle.table_rule.specs.Changes.{with_look, with_quiet, with_turn}
 use Rattle.table_rule.specs.Live.{AreLive, OwnsLives}
 use Rattle.table_rule.specs.Owning.{OwnsWork}
-use Rattle.table_rule.specs.Plays.{HasName, Seated, read_halt, took}
+use Rattle.table_rule.specs.Plays.{HasName, ReadsHalt, Seated, TriesTurn}
 use Rattle.table_rule.specs.Quiet.{IsQuieted, raised}
 use Rattle.table_rule.specs.Rule.{Parts, Reserve, Rule, Share, Table}
 use Rattle.table_rule.specs.Words.{halt_word, live_word, stamp_word, turn_word}
@@ -88,13 +88,13 @@ module _ (j : TableJob) (s : Table) (id : ℕ) (v : PassRecord) (R : Moment) (r 
         owns = record { running = o.running; sends = o.sends; nameless = λ e. absurd (named_not_empty v.names named e) };
         names = refl;
         halts = refl;
-        at_rest = λ z. absurd (omega arith);
+        in_slots = λ z. absurd (omega arith);
         others = λ x z ne q. q;
         held = λ x z h. here_or_held (Share j R) x z share (r.held id v me) h;
         calms = λ c. c;
         sees = r.quieted.calm id v me;
         live = live_same (with_turn v k y) refl refl (record { credit = omega (arith, l.credit); stamps = l.stamps; stamped = l.stamped });
-        spare_at_rest = λ pre z. absurd (omega arith);
+        spare_in_slots = λ pre z. absurd (omega arith);
         spare_others = λ pre x z ne q. q;
         spare_held = λ pre x z h. here_or_held (Reserve j R) x z (spare pre) ((r.reserved pre).held id v me) h;
       })
@@ -103,14 +103,14 @@ module _ (j : TableJob) (s : Table) (id : ℕ) (v : PassRecord) (R : Moment) (r 
       here_or_held Q x z q held h = ⊎_elim (λ (e : (x, z) ≡ (k, y)). subst (λ (p : ℕ × Content). Q p.0 p.1) (sym e) q) (λ t. held x z t) h
 
 -- the turn of a shard is taken, or was found taken
-pub takes_turn : (j : TableJob) (n id : ℕ) (m : Seated) (k : ℕ) → k < j.shards → HasName m.0 → Allows (Rule j) n id m (turn_word k) (λ _. 1) (took (Some j) k (step n (turn_word k) 1 0 none) m)
+pub takes_turn : (j : TableJob) (n id : ℕ) (m : Seated) (k : ℕ) → k < j.shards → HasName m.0 → Allows (Rule j) n id m (turn_word k) (λ _. 1) (TriesTurn (Some j) k (step n (turn_word k) 1 0 none) m)
 takes_turn j n id m k near named s rule wide me _ = let R : Moment = rule.0 in let r = rule.1 in let v : PassRecord = m.0 in
     dite (ℕ_discrete (get_or s.words (turn_word k) 0) 0)
-    (λ free. let close : k < length s.homes = omega (arith, r.slots) in let home = r.at_rest k close free in let y : Content = home.0 in (
+    (λ free. let close : k < length s.homes = omega (arith, r.slots) in let home = r.in_slots k close free in let y : Content = home.0 in (
       with_turn v k y,
       takes k y,
       home.1,
-      (R, taken j s id v R r me k y near named free home.2 (λ pre. same_home (Reserve j R k) s.homes y home.1 ((r.reserved pre).at_rest k close free))),
+      (R, taken j s id v R r me k y near named free home.2 (λ pre. same_home (Reserve j R k) s.homes y home.1 ((r.reserved pre).in_slots k close free))),
       (refl, (λ _. (y, refl, record { table = s; rule = rule; id = id; mine = me; home = home.1 })), λ held. absurd (held free)),
     ))
     (λ held. let found : ℕ = get_or s.words (turn_word k) 0 in
@@ -127,7 +127,7 @@ takes_turn j n id m k near named s rule wide me _ = let R : Moment = rule.0 in l
     same_home Q slots y e t = subst Q (some-injective t.0 y (some-injective (some t.0) (some y) (sym t.1 ∙ e))) t.2
 
 -- the halt word is read
-pub reads_halt : (j : TableJob) (n id : ℕ) (m : Seated) → Allows (Rule j) n id m (halt_word j.shards) (λ x. x) (read_halt (Some j) (step n (halt_word j.shards) 0 0 none) m)
+pub reads_halt : (j : TableJob) (n id : ℕ) (m : Seated) → Allows (Rule j) n id m (halt_word j.shards) (λ x. x) (ReadsHalt (Some j) (step n (halt_word j.shards) 0 0 none) m)
 reads_halt j n id m s rule wide me _ = let found : ℕ = get_or s.words (halt_word j.shards) 0 in (
   with_look m.0 Halt found,
   keeps,

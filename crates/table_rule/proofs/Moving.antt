@@ -19,7 +19,7 @@ use Rattle.table_rule.specs.Turns.{AreHeld, holds}
 use Rattle.table_rule.specs.Words.{halt_word, live_word, stamp_word, turn_word}
 use Rattle.table_rule.proofs.Naming.{same_names}
 use Rattle.table_rule.proofs.Passes.{each_kept, each_set, same_records, same_weight}
-use Rattle.table_rule.proofs.Turning.{Retunes, Slots, at_rest_after, giving, held_after, near_held, stay_else, stay_held, turns_after, turns_in}
+use Rattle.table_rule.proofs.Turning.{Retunes, Slots, giving, held_after, in_slots_after, near_held, stay_else, stay_held, turns_after, turns_in}
 
 abbrev pub board : List ℕ → Slots → List PassRecord → Table
 board words slots vs = record { words = words; homes = slots; views = vs }
@@ -39,13 +39,13 @@ pub record Turning (j : TableJob) (s : Table) (id : ℕ) (v w : PassRecord) (k n
   pub owns : OwnsWork w
   pub names : w.names ≡ v.names
   pub halts : w.halts ≡ v.halts
-  pub at_rest : new ≡ 0 → (y : Content) × (slot ≡ some y) × Share j R' k y
+  pub in_slots : new ≡ 0 → (y : Content) × (slot ≡ some y) × Share j R' k y
   pub others : (x : ℕ) (y : Content) → x ≢ k → Share j R x y → Share j R' x y
   pub held : (x : ℕ) (y : Content) → IsIn (x, y) w.turns → Share j R' x y
   pub calms : IsCalm j.matched R → IsCalm j.matched R'
   pub sees : w.quiet ≡ true → IsCalm j.matched R'
   pub live : AreLive j.matched R' (get_or s.words (live_word j.shards) 0) (get_or s.words (stamp_word j.shards) 0) (set s.views id w)
-  pub spare_at_rest : j.preloaded ≡ true → new ≡ 0 → (y : Content) × (slot ≡ some y) × Reserve j R' k y
+  pub spare_in_slots : j.preloaded ≡ true → new ≡ 0 → (y : Content) × (slot ≡ some y) × Reserve j R' k y
   pub spare_others : j.preloaded ≡ true → (x : ℕ) (y : Content) → x ≢ k → Reserve j R x y → Reserve j R' x y
   pub spare_held : j.preloaded ≡ true → (x : ℕ) (y : Content) → IsIn (x, y) w.turns → Reserve j R' x y
 
@@ -70,7 +70,7 @@ module _ (j : TableJob) (s : Table) (id : ℕ) (v w : PassRecord) (k new : ℕ) 
         sound = g.sound;
         owned = owned_kept s.views id v w t.me g.names g.owns r.owned;
         finished = g.finished;
-        at_rest = at_rest_after s.words s.homes s.views id v w k new slot t (Share j R) (Share j R') g.others g.at_rest r.at_rest;
+        in_slots = in_slots_after s.words s.homes s.views id v w k new slot t (Share j R) (Share j R') g.others g.in_slots r.in_slots;
         turns = turns_after s.words s.homes s.views id v w k new slot t r.turns;
         held = held_after s.words s.homes s.views id v w k new slot t (Share j R) (Share j R') g.others g.held r.held;
         quieted = record {
@@ -82,7 +82,7 @@ module _ (j : TableJob) (s : Table) (id : ℕ) (v w : PassRecord) (k new : ℕ) 
             (subst (λ a. AreLive j.matched R' (get_or s.words (live_word j.shards) 0) a (set s.views id w)) (sym stamp) g.live);
         reserved = λ pre. let old = r.reserved pre in record {
           halt = halt ∙ old.halt;
-          at_rest = at_rest_after s.words s.homes s.views id v w k new slot t (Reserve j R) (Reserve j R') (g.spare_others pre) (g.spare_at_rest pre) old.at_rest;
+          in_slots = in_slots_after s.words s.homes s.views id v w k new slot t (Reserve j R) (Reserve j R') (g.spare_others pre) (g.spare_in_slots pre) old.in_slots;
           held = held_after s.words s.homes s.views id v w k new slot t (Reserve j R) (Reserve j R') (g.spare_others pre) (g.spare_held pre) old.held;
         };
       }
@@ -118,13 +118,13 @@ module _ (j : TableJob) (s : Table) (id : ℕ) (v w : PassRecord) (k : ℕ) (y�
         owns = g.owns;
         names = g.names;
         halts = g.halts;
-        at_rest = λ _. (y, refl, g.here);
+        in_slots = λ _. (y, refl, g.here);
         others = g.others;
         held = λ x z h. g.others x z (apart x z h) (r.held id v me x z (kept x z h));
         calms = g.calms;
         sees = g.sees;
         live = g.live;
-        spare_at_rest = λ pre _. (y, refl, g.spare_here pre);
+        spare_in_slots = λ pre _. (y, refl, g.spare_here pre);
         spare_others = g.spare_others;
         spare_held = λ pre x z h. g.spare_others pre x z (apart x z h) ((r.reserved pre).held id v me x z (kept x z h));
       })
@@ -153,7 +153,7 @@ beside j s words vs R r keeps b =
       sound = r.sound;
       owned = b.owned;
       finished = r.finished;
-      at_rest = λ k l z. r.at_rest k l (sym (b.turn_words k (near k l)) ∙ z);
+      in_slots = λ k l z. r.in_slots k l (sym (b.turn_words k (near k l)) ∙ z);
       turns = record {
         counted = λ k l. b.holding k ∙ (r.turns.counted k l ∙ sym (b.turn_words k (near k l)));
         single = λ k l. omega (arith, b.turn_words k (near k l), r.turns.single k l);
@@ -165,7 +165,7 @@ beside j s words vs R r keeps b =
       live = b.live;
       reserved = λ pre. let old = r.reserved pre in record {
         halt = b.halt pre;
-        at_rest = λ k l z. old.at_rest k l (sym (b.turn_words k (near k l)) ∙ z);
+        in_slots = λ k l z. old.in_slots k l (sym (b.turn_words k (near k l)) ∙ z);
         held = keeps (Reserve j R) old.held;
       };
     }

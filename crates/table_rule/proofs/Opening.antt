@@ -56,7 +56,7 @@ opens j words shards o =
           };
         };
         finished = opening_finished j.matched j.given;
-        at_rest = λ k l z. let y = some_shard shards k (near k l) in (y.0, y.2, opening_share j.matched (shard_of j.matched j.shards) k y.0 (o.each k y.0 y.1) j.given);
+        in_slots = λ k l z. let y = some_shard shards k (near k l) in (y.0, y.2, opening_share j.matched (shard_of j.matched j.shards) k y.0 (o.each k y.0 y.1) j.given);
         turns = record {
           counted = λ k l. omega (arith, free k l);
           single = λ k l. omega (arith, free k l);
@@ -84,7 +84,7 @@ opens j words shards o =
         };
         reserved = λ pre. record {
           halt = o.opening_words.zero (halt_word j.shards) (λ e. omega arith);
-          at_rest = λ k l z. let y = some_shard shards k (near k l) in (y.0, y.2, opening_reserve j.matched (shard_of j.matched j.shards) k y.0 (o.each k y.0 y.1) (o.spares pre k y.0 y.1));
+          in_slots = λ k l z. let y = some_shard shards k (near k l) in (y.0, y.2, opening_reserve j.matched (shard_of j.matched j.shards) k y.0 (o.each k y.0 y.1) (o.spares pre k y.0 y.1));
           held = single (λ (u : PassRecord). (k : ℕ) (y : Content) → IsIn (k, y) u.turns → _) first_pass (λ k y h. absurd h);
         };
       },

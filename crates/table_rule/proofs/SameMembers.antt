@@ -75,14 +75,14 @@ module _ (j : TableJob) (s : Table) (R T : Moment) (r : Parts j s R) (same : IsR
         sound = (reordered_moment j.matched R T same j.given sound).state;
         owned = r.owned;
         finished = reordered_finished j.matched R T same j.given r.finished;
-        at_rest = λ k l z. let h = r.at_rest k l z in (h.0, h.1, share k h.0 h.2);
+        in_slots = λ k l z. let h = r.in_slots k l z in (h.0, h.1, share k h.0 h.2);
         turns = r.turns;
         held = λ i v e k y h. share k y (r.held i v e k y h);
         quieted = record { calm = λ i v e q. reordered_calm j.matched R T same j.given sound r.consistent (r.quieted.calm i v e q); low = r.quieted.low; high = r.quieted.high };
         live = live_same _ _ r.live;
         reserved = λ pre. let old = r.reserved pre in record {
           halt = old.halt;
-          at_rest = λ k l z. let h = old.at_rest k l z in (h.0, h.1, spare k h.0 h.2);
+          in_slots = λ k l z. let h = old.in_slots k l z in (h.0, h.1, spare k h.0 h.2);
           held = λ i v e k y h. spare k y (old.held i v e k y h);
         };
       }

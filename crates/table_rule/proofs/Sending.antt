@@ -51,7 +51,7 @@ use Rattle.table_rule.specs.Changes.{turn_left, with_own_send}
 use Rattle.table_rule.specs.Live.{OwnsLives, own_claims, own_stamps}
 use Rattle.table_rule.specs.Owning.{OwnsWork}
 use Rattle.shard_meaning.specs.Placing.{shard_of}
-use Rattle.table_rule.specs.Plays.{HasName, HasTurn, Seated, fires, gave_send}
+use Rattle.table_rule.specs.Plays.{GivesSend, HasName, HasTurn, Seated, fires}
 use Rattle.table_rule.specs.Rule.{Parts, Reserve, Rule, Share, Table}
 use Rattle.table_rule.specs.Words.{live_word, stamp_word, turn_word}
 use Rattle.table_rule.proofs.Ending.{it_runs, own_run, sound_moment}
@@ -126,7 +126,7 @@ record Sending (j : TableJob) (R : Moment) (i : Item) (k credits : ℕ) (y₀ y 
 -- the turn is given back with a send
 sends : (j : TableJob) (n id : ℕ) (m : Seated) (k : ℕ) (i : Item) (tile : Option (List ℤ)) (y₀ y : Content) (credits : ℕ) → HasTurn m k y₀ y credits → IsNext j.matched j.given i tile m.0 → 0 < own_stamps m.0 (sender i)
     → ((R : Moment) → IsSoundState j.matched j.given R.state → IsConsistent j.matched → MaySend j.matched j.given R.state i → Sending j R i k credits y₀ y)
-    → Allows (Rule j) n id m (turn_word k) (λ _. 0) (λ _. gave_send record { item = i; tile = tile } (step n (turn_word k) 0 0 none) m 0)
+    → Allows (Rule j) n id m (turn_word k) (λ _. 0) (λ _. GivesSend record { item = i; tile = tile } (step n (turn_word k) 0 0 none) m 0)
 sends j n id m k i tile y₀ y credits h next stamped does s rule wide me _ = let P : Plan = j.matched in let G : Data = j.given in
     let R : Moment = rule.0 in let r = rule.1 in let v : PassRecord = m.0 in let x : SentItem = record { item = i; tile = tile } in let w : PassRecord = turn_left (with_own_send v x) in
     let held = holds_turn m k y₀ y credits h in
@@ -167,7 +167,7 @@ pub sends_edge : (j : TableJob) (n id : ℕ) (m : Seated) (k : ℕ) (e : Edge) (
     → shard_of j.matched j.shards e.to ≡ k → 0 < own_stamps m.0 e.from
     → Updates y₀.entries y.entries e.to (Some (with_arrival (entry_before y₀ e.to (goal j.matched e.to) (priority j.matched e.to)) e.in_flow tile)) → KeepsAllButEntries y₀ y
     → IsTrue (has_type datatype (flow_of j.matched.classes e.to.class e.in_flow)) → Uses y₀.spare y.spare (if is_some (entry_of y₀ e.to) then 0 else 1) (if is_some tile then Some datatype else None) 0 0
-    → Allows (Rule j) n id m (turn_word k) (λ _. 0) (λ _. gave_send record { item = item.Edge e; tile = tile } (step n (turn_word k) 0 0 none) m 0)
+    → Allows (Rule j) n id m (turn_word k) (λ _. 0) (λ _. GivesSend record { item = item.Edge e; tile = tile } (step n (turn_word k) 0 0 none) m 0)
 sends_edge j n id m k e tile y₀ y datatype h next at stamped updates kept typed uses = let P : Plan = j.matched in let G : Data = j.given in let of : Placement = shard_of P j.shards in
     sends j n id m k (item.Edge e) tile y₀ y (as_number (fires P y₀ e)) h next stamped (λ R sound con may. record {
       here = λ share. edge_here P G con of k R sound e may y₀ y at (subst (λ t. Updates y₀.entries y.entries e.to (Some (with_arrival (entry_before y₀ e.to (goal P e.to) (priority P e.to)) e.in_flow t))) next.tile updates) kept share;
@@ -183,7 +183,7 @@ pub sends_write : (j : TableJob) (n id : ℕ) (m : Seated) (k : ℕ) (b : WriteB
     → shard_of j.matched j.shards b.from ≡ k → 0 < own_stamps m.0 b.from
     → y.written ≡ y₀.written ++ (b, tile) ∷ [] → KeepsAllButWritten y₀ y
     → IsTrue (has_type datatype (flow_of j.matched.classes b.from.class b.flow)) → Uses y₀.spare y.spare 0 (Some datatype) 1 0
-    → Allows (Rule j) n id m (turn_word k) (λ _. 0) (λ _. gave_send record { item = item.Write b; tile = Some tile } (step n (turn_word k) 0 0 none) m 0)
+    → Allows (Rule j) n id m (turn_word k) (λ _. 0) (λ _. GivesSend record { item = item.Write b; tile = Some tile } (step n (turn_word k) 0 0 none) m 0)
 sends_write j n id m k b tile y₀ y datatype h next at stamped written kept typed uses = let P : Plan = j.matched in let G : Data = j.given in let of : Placement = shard_of P j.shards in
     sends j n id m k (item.Write b) (Some tile) y₀ y 0 h next stamped (λ R sound con may. record {
       here = λ share. write_here P G con of k R sound b may y₀ y tile at (sym next.tile) written kept share;

@@ -27,7 +27,7 @@ use Rattle.work_board.specs.declared.record.PassRecord.{PassRecord}
 use Rattle.table_rule.specs.declared.table_job.TableJob.{TableJob}
 use Rattle.table_rule.specs.Changes.{with_stamp}
 use Rattle.table_rule.specs.Live.{AreLive, AreStamps, OwnsLives, own_claims, own_stamps}
-use Rattle.table_rule.specs.Plays.{HasName, Seated, drew_stamp}
+use Rattle.table_rule.specs.Plays.{DrawsStamp, HasName, Seated}
 use Rattle.table_rule.specs.Quiet.{IsQuieted}
 use Rattle.table_rule.specs.Records.{AreRecordsOf}
 use Rattle.table_rule.specs.Rule.{Rule}
@@ -120,7 +120,7 @@ module _ (P : Plan) (G : Data) (R : Moment) (live stamp : ℕ) (vs : List PassRe
       }
 
 -- a stamp is drawn for the running task, which has none yet
-pub draws_stamp : (j : TableJob) (n id : ℕ) (m : Seated) (t : Task) → m.0.running ≡ t ∷ [] → own_stamps m.0 t ≡ 0 → HasName m.0 → Allows (Rule j) n id m (stamp_word j.shards) (λ x. (x + 1) % 2 ^ 64) (drew_stamp t (step n (stamp_word j.shards) 1 0 none) m)
+pub draws_stamp : (j : TableJob) (n id : ℕ) (m : Seated) (t : Task) → m.0.running ≡ t ∷ [] → own_stamps m.0 t ≡ 0 → HasName m.0 → Allows (Rule j) n id m (stamp_word j.shards) (λ x. (x + 1) % 2 ^ 64) (DrawsStamp t (step n (stamp_word j.shards) 1 0 none) m)
 draws_stamp j n id m t runs none_yet named s rule wide me _ = let R : Moment = rule.0 in let r = rule.1 in let v : PassRecord = m.0 in let o = r.owned.each id v me in
     let i : ℕ = stamp_word j.shards in
     let old : ℕ = get_or s.words i 0 in

@@ -9,7 +9,7 @@ use Rattle.ptg_base.specs.Lists.{IsIn}
 use Rattle.dep_shard.specs.Content.{Content}
 use Rattle.list_lemmas.specs.Counting.{as_number, count, weigh}
 use Rattle.work_board.specs.declared.record.PassRecord.{PassRecord}
-use Rattle.table_rule.specs.Turns.{AreHeld, AreTurns, AtRest, holds}
+use Rattle.table_rule.specs.Turns.{AreHeld, AreInSlots, AreTurns, holds}
 use Rattle.table_rule.specs.Words.{turn_word}
 use Rattle.table_rule.proofs.Passes.{each_set}
 use Rattle.table_rule.proofs.Weighing.{term_le, terms_le, weigh-set}
@@ -69,8 +69,8 @@ module _ (words : List ℕ) (slots : Slots) (vs : List PassRecord) (id : ℕ) (v
   }
 
   module _ (Q Q' : ℕ → Content → Type 0) (others : (x : ℕ) (y : Content) → x ≢ k → Q x y → Q' x y) where
-    pub at_rest_after : (new ≡ 0 → (y : Content) × (slot ≡ some y) × Q' k y) → AtRest Q words slots → AtRest Q' (set words (turn_word k) new) (set slots k slot)
-    at_rest_after free r x l z = dite (ℕ_discrete x k)
+    pub in_slots_after : (new ≡ 0 → (y : Content) × (slot ≡ some y) × Q' k y) → AreInSlots Q words slots → AreInSlots Q' (set words (turn_word k) new) (set slots k slot)
+    in_slots_after free r x l z = dite (ℕ_discrete x k)
         (λ e. let f = free (sym word_here ∙ (ap (λ (i : ℕ). get_or (set words (turn_word k) new) (turn_word i) 0) (sym e) ∙ z)) in
         (f.0, subst (λ (i : ℕ). get_elem? (set slots k slot) i ≡ some (some f.0)) (sym e) (set_here slots k slot t.near ∙ ap some f.1), subst (λ (i : ℕ). Q' i f.0) (sym e) f.2))
         (λ ne. let f = r x (subst (λ (m : ℕ). x < m) long l) (sym (word_else x ne) ∙ z) in (f.0, set_else slots k x slot ne ∙ f.1, others x f.0 ne f.2))

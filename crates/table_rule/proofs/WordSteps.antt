@@ -23,7 +23,7 @@ use Rattle.table_rule.specs.declared.table_job.TableJob.{TableJob}
 use Rattle.table_rule.specs.Changes.{with_credit, with_halt, with_look, with_quiet, without_credit}
 use Rattle.table_rule.specs.Live.{AreLive, OwnsLives}
 use Rattle.table_rule.specs.Owning.{OwnsWork}
-use Rattle.table_rule.specs.Plays.{HasName, Seated, lowered_live, raised_halt, raised_live, read_live}
+use Rattle.table_rule.specs.Plays.{HasName, LowersLive, RaisesHalt, RaisesLive, ReadsLive, Seated}
 use Rattle.table_rule.specs.Quiet.{IsQuieted, raised}
 use Rattle.table_rule.specs.Rule.{Parts, Rule, Table}
 use Rattle.table_rule.specs.Words.{halt_word, live_word, stamp_word, turn_word}
@@ -35,7 +35,7 @@ use Rattle.table_rule.proofs.Passes.{each_kept}
 use Rattle.table_rule.proofs.Weighing.{term_le, weigh-set}
 
 -- the halt word of a table that is not preloaded is raised
-pub raises_halt : (j : TableJob) (n id : ℕ) (m : Seated) → j.preloaded ≡ false → Allows (Rule j) n id m (halt_word j.shards) (λ _. 1) (λ _. raised_halt (step n (halt_word j.shards) 1 0 none) m 1)
+pub raises_halt : (j : TableJob) (n id : ℕ) (m : Seated) → j.preloaded ≡ false → Allows (Rule j) n id m (halt_word j.shards) (λ _. 1) (λ _. RaisesHalt (step n (halt_word j.shards) 1 0 none) m 1)
 raises_halt j n id m late s rule wide me _ = let R : Moment = rule.0 in let r = rule.1 in let v : PassRecord = m.0 in let w : PassRecord = with_halt v in let o = r.owned.each id v me in let l = r.live.each id v me in
     let i : ℕ = halt_word j.shards in
     let here : get_or (set s.words i 1) i 0 ≡ 1 = get_or-set_same s.words i 1 0 (omega (arith, r.words)) in
@@ -108,7 +108,7 @@ module _ (j : TableJob) (s : Table) (id : ℕ) (v w : PassRecord) (new : ℕ) (R
       })
 
 -- the live word is raised by a pass that holds more turns than it has credits
-pub raises_live : (j : TableJob) (n id : ℕ) (m : Seated) → m.0.credit < length m.0.turns → HasName m.0 → Allows (Rule j) n id m (live_word j.shards) (λ x. (x + 1) % 2 ^ 64) (raised_live (step n (live_word j.shards) 1 0 none) m)
+pub raises_live : (j : TableJob) (n id : ℕ) (m : Seated) → m.0.credit < length m.0.turns → HasName m.0 → Allows (Rule j) n id m (live_word j.shards) (λ x. (x + 1) % 2 ^ 64) (RaisesLive (step n (live_word j.shards) 1 0 none) m)
 raises_live j n id m room named s rule wide me _ = let R : Moment = rule.0 in let r = rule.1 in let v : PassRecord = m.0 in let o = r.owned.each id v me in let l = r.live.each id v me in
     let old : ℕ = get_or s.words (live_word j.shards) 0 in
     let up : (old + 1) % 2 ^ 64 ≡ old + 1 = mod_up old (omega (arith, live_small j s R r)) in (
@@ -125,7 +125,7 @@ raises_live j n id m room named s rule wide me _ = let R : Moment = rule.0 in le
     )
 
 -- the live word is lowered by a pass that has a credit
-pub lowers_live : (j : TableJob) (n id : ℕ) (m : Seated) → 0 < m.0.credit → HasName m.0 → Allows (Rule j) n id m (live_word j.shards) (λ x. (x + (2 ^ 64 - 1)) % 2 ^ 64) (lowered_live (step n (live_word j.shards) 1 0 none) m)
+pub lowers_live : (j : TableJob) (n id : ℕ) (m : Seated) → 0 < m.0.credit → HasName m.0 → Allows (Rule j) n id m (live_word j.shards) (λ x. (x + (2 ^ 64 - 1)) % 2 ^ 64) (LowersLive (step n (live_word j.shards) 1 0 none) m)
 lowers_live j n id m some_credit named s rule wide me _ = let R : Moment = rule.0 in let r = rule.1 in let v : PassRecord = m.0 in let o = r.owned.each id v me in let l = r.live.each id v me in
     let old : ℕ = get_or s.words (live_word j.shards) 0 in
     let part = term_le (λ (u : PassRecord). u.credit) s.views id v me in
@@ -159,7 +159,7 @@ calm_at_zero P R live stamp vs r zero_word = record {
     some_ready P R t may = omega (arith, length-filter (is_ready P R.state) (all_tasks P), count-some (is_ready P R.state) (all_tasks P) t ((listed P t).0 may.task) (λ i. eq-eqb (claim_count R.state t) 0 may.unclaimed i && eq-eqb (arrived P R.state t) (goal P t) may.all_arrived i))
 
 -- the live word is read, and 0 is quiet
-pub reads_live : (j : TableJob) (n id : ℕ) (m : Seated) → Allows (Rule j) n id m (live_word j.shards) (λ x. x) (read_live (Some j) (step n (live_word j.shards) 0 0 none) m)
+pub reads_live : (j : TableJob) (n id : ℕ) (m : Seated) → Allows (Rule j) n id m (live_word j.shards) (λ x. x) (ReadsLive (Some j) (step n (live_word j.shards) 0 0 none) m)
 reads_live j n id m s rule wide me _ = let R : Moment = rule.0 in let r = rule.1 in let v : PassRecord = m.0 in
     let found : ℕ = get_or s.words (live_word j.shards) 0 in
     let same : set s.words (live_word j.shards) found ≡ s.words = set-get_or s.words (live_word j.shards) 0 in

@@ -25,7 +25,7 @@ own_runs v t = count (same_task t) v.running
 
 -- how often a pass drew a stamp for a task
 abbrev pub own_stamps : PassRecord → Task → ℕ
-own_stamps v t = count (λ (x : StampedTask). same_task t x.0) v.stamps
+own_stamps v t = count (λ ((u, stamp) : StampedTask). same_task t u) v.stamps
 
 -- the credit and the stamps of a pass fit what it did and holds
 pub record OwnsLives (v : PassRecord) : Type 0 where
@@ -40,7 +40,7 @@ pub record AreStamps (P : Plan) (R : Moment) (stamps : List StampedTask) (word :
   -- the stamp word is their number
   pub drawn : length stamps ≡ word
   -- they differ, and are below the stamp word
-  pub differ : (s : ℕ) → count (λ (x : StampedTask). x.1 == s) stamps ≤ 1
+  pub differ : (s : ℕ) → count (λ ((t, stamp) : StampedTask). stamp == s) stamps ≤ 1
   pub below : (t : Task) (s : ℕ) → IsIn (t, s) stamps → s < word
   -- the stamp of a task is above those of its sources
   pub above_sources : (e : Edge) (s r : ℕ) → IsIn e (in_edges P e.to) → IsIn (e.from, s) stamps → IsIn (e.to, r) stamps

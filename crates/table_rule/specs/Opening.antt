@@ -9,7 +9,7 @@ use Rattle.flow_meaning.specs.Machine.{opening_state}
 use Rattle.flow_meaning.specs.Table.{ready_tasks}
 use Rattle.shard_meaning.specs.Opening.{HasOpeningReserve, IsOpeningShard}
 use Rattle.table_rule.specs.declared.table_job.TableJob.{TableJob}
-use Rattle.shard_meaning.specs.Placing.{shard_of}
+use Rattle.table_rule.specs.Rule.{placement_of}
 use Rattle.table_rule.specs.Words.{live_word, word_count}
 
 -- the words of a new table with n shards: the live word is this number, and each other word is 0
@@ -27,6 +27,6 @@ pub record IsOpening (j : TableJob) (words : List ℕ) (shards : List Content) :
   pub shard_count : length shards ≡ j.shards
   pub opening_words : AreOpeningWords j.shards (length (ready_tasks j.matched opening_state)) words
   pub each : (k : ℕ) (y : Content) → get_elem? shards k ≡ some y
-      → IsOpeningShard j.matched (shard_of j.matched j.shards) k y
+      → IsOpeningShard j.matched (placement_of j) k y
   pub spares : j.preloaded ≡ true → (k : ℕ) (y : Content) → get_elem? shards k ≡ some y
-      → HasOpeningReserve j.matched (shard_of j.matched j.shards) k y
+      → HasOpeningReserve j.matched (placement_of j) k y

@@ -8,8 +8,7 @@ use Rattle.ptg_base.specs.Task.{Task}
 use Rattle.ptg_base.specs.declared.edge.Edge.{Edge}
 use Rattle.plan_core.specs.declared.plan.Plan.{Plan}
 use Rattle.dep_iter.specs.Edges.{goal}
-use Rattle.dep_iter.specs.Hints.{priority}
-use Rattle.dep_shard.specs.Content.{Content, entry_before}
+use Rattle.dep_shard.specs.Content.{Content}
 use Rattle.flow_meaning.specs.Machine.{SentItem}
 use Rattle.work_board.specs.Claims.{MayStart}
 use Rattle.work_board.specs.Word.{Halt, Live, Turn}
@@ -18,6 +17,7 @@ use Rattle.table_rule.specs.declared.table_job.TableJob.{TableJob}
 use Rattle.table_rule.specs.Changes.{turn_left, with_credit, with_halt, with_look, with_own_claim, with_own_end, with_own_send, with_quiet, with_stamp, with_turn, without_credit}
 use Rattle.table_rule.specs.Rule.{Rule, Table}
 use Rattle.table_rule.specs.Words.{halt_word, live_word, turn_word}
+use Rattle.shard_meaning.specs.Share.{entry_found}
 
 -- a pass as its seat has it: its record, and the shards whose turns it holds, as they are now
 abbrev pub Seated : Type 0
@@ -34,14 +34,14 @@ pub record HasTurn (m : Seated) (k : ℕ) (y₀ y : Content) (credits : ℕ) : T
   pub named : HasName m.0
   pub credit : m.0.credit ≡ credits
 
--- a table that meets the rule has this record of a pass. No clause can name the table at the step itself
+-- A table that meets the rule has this record of a pass. No clause can name the table at the step itself.
 pub record WasPass (j : TableJob) (v : PassRecord) : Type 0 where
   pub table : Table
   pub rule : Rule j table
   pub id : ℕ
   pub mine : get_elem? table.views id ≡ some v
 
--- a table that meets the rule has this record of a pass, and this content of the shard k, which is at rest
+-- a table that meets the rule has this record of a pass, and this content of the shard k, which is in its slot
 pub record WasSeen (j : TableJob) (k : ℕ) (v : PassRecord) (y : Content) : Type 0 where
   pub table : Table
   pub rule : Rule j table
@@ -51,62 +51,64 @@ pub record WasSeen (j : TableJob) (k : ℕ) (v : PassRecord) (y : Content) : Typ
 
 -- whether an edge is the last one that its target waits for, by the entry that the shard has of it
 abbrev pub fires : Plan → Content → Edge → Bool
-fires P y e =
-    ((entry_before y e.to (goal P e.to) (priority P e.to)).arrived + 1) ==
-    (entry_before y e.to (goal P e.to) (priority P e.to)).goal
+fires P y e = ((entry_found P e y).arrived + 1) == (entry_found P e y).goal
 
 -- a turn is taken, or was found taken: the step is on the turn word of that shard, and what it found there is the
 -- pass's look
-abbrev pub took : Option TableJob → ℕ → Step Content → Seated → ℕ → Seated → Type 0
-took j k st m r n =
+abbrev pub TriesTurn : Option TableJob → ℕ → Step Content → Seated → ℕ → Seated → Type 0
+TriesTurn j k st m r n =
     (st.word ≡ turn_word k)
     × (r ≡ 0 → (y : Content) × (n ≡ (with_turn m.0 k y, (k, y) ∷ m.1)) × IfSome j (λ (i : TableJob). WasSeen i k m.0 y))
     × (r ≢ 0 → n ≡ (with_look m.0 (Turn k) r, m.1))
 
 -- a turn is given back with nothing else
-abbrev pub left : Step Content → Seated → ℕ → Seated → Type 0
-left st m r n = n ≡ (turn_left m.0, rest m.1)
+abbrev pub GivesBack : Step Content → Seated → ℕ → Seated → Type 0
+GivesBack st m r n = n ≡ (turn_left m.0, rest m.1)
 
 -- a turn is given back with the claim of a task that may start
-abbrev pub gave_claim : Option TableJob → Task → List FlowTile → Step Content → Seated → ℕ → Seated → Type 0
-gave_claim j t tiles st m r n =
+abbrev pub GivesClaim : Option TableJob → Task → List FlowTile → Step Content → Seated → ℕ → Seated → Type 0
+GivesClaim j t tiles st m r n =
     (n ≡ (turn_left (with_own_claim m.0 t), rest m.1))
     × IfSome j (λ (i : TableJob). MayStart i.matched i.given t tiles m.0)
 
+-- a pass after it gave back, with a send, the turn that it took last: it has neither that turn nor its shard
+abbrev pub after_send : SentItem → Seated → Seated
+after_send x m = (turn_left (with_own_send m.0 x), rest m.1)
+
 -- a turn is given back with a send
-abbrev pub gave_send : SentItem → Step Content → Seated → ℕ → Seated → Type 0
-gave_send x st m r n = n ≡ (turn_left (with_own_send m.0 x), rest m.1)
+abbrev pub GivesSend : SentItem → Step Content → Seated → ℕ → Seated → Type 0
+GivesSend x st m r n = n ≡ after_send x m
 
 -- a turn is given back with the end of the running task
-abbrev pub gave_end : Step Content → Seated → ℕ → Seated → Type 0
-gave_end st m r n = n ≡ (turn_left (with_own_end m.0), rest m.1)
+abbrev pub GivesEnd : Step Content → Seated → ℕ → Seated → Type 0
+GivesEnd st m r n = n ≡ (turn_left (with_own_end m.0), rest m.1)
 
--- the halt word is raised. The step is on the halt word, which stands after the turn words of the slots
-abbrev pub raised_halt : Step Content → Seated → ℕ → Seated → Type 0
-raised_halt st m r n = (st.word ≡ halt_word st.slots) × (n ≡ (with_halt m.0, m.1))
+-- The halt word is raised. The step is on the halt word, which stands after the turn words of the slots.
+abbrev pub RaisesHalt : Step Content → Seated → ℕ → Seated → Type 0
+RaisesHalt st m r n = (st.word ≡ halt_word st.slots) × (n ≡ (with_halt m.0, m.1))
 
 -- the halt word is read, and becomes the pass's look: in a preloaded table it is 0
-abbrev pub read_halt : Option TableJob → Step Content → Seated → ℕ → Seated → Type 0
-read_halt j st m r n =
+abbrev pub ReadsHalt : Option TableJob → Step Content → Seated → ℕ → Seated → Type 0
+ReadsHalt j st m r n =
     (st.word ≡ halt_word st.slots) × (n ≡ (with_look m.0 Halt r, m.1))
     × IfSome j (λ (i : TableJob). i.preloaded ≡ true → r ≡ 0)
 
 -- the live word is raised
-abbrev pub raised_live : Step Content → Seated → ℕ → Seated → Type 0
-raised_live st m r n = n ≡ (with_credit m.0, m.1)
+abbrev pub RaisesLive : Step Content → Seated → ℕ → Seated → Type 0
+RaisesLive st m r n = n ≡ (with_credit m.0, m.1)
 
 -- the live word is lowered
-abbrev pub lowered_live : Step Content → Seated → ℕ → Seated → Type 0
-lowered_live st m r n = n ≡ (without_credit m.0, m.1)
+abbrev pub LowersLive : Step Content → Seated → ℕ → Seated → Type 0
+LowersLive st m r n = n ≡ (without_credit m.0, m.1)
 
 -- the live word is read, and becomes the pass's look: 0 is quiet
-abbrev pub read_live : Option TableJob → Step Content → Seated → ℕ → Seated → Type 0
-read_live j st m r n =
+abbrev pub ReadsLive : Option TableJob → Step Content → Seated → ℕ → Seated → Type 0
+ReadsLive j st m r n =
     (st.word ≡ live_word st.slots)
     × (r ≡ 0 → (n ≡ (with_quiet (with_look m.0 Live r), m.1))
     × IfSome j (λ (i : TableJob). WasPass i (with_quiet (with_look m.0 Live r))))
     × (r ≢ 0 → n ≡ (with_look m.0 Live r, m.1))
 
 -- a stamp is drawn for a task
-abbrev pub drew_stamp : Task → Step Content → Seated → ℕ → Seated → Type 0
-drew_stamp t st m r n = n ≡ (with_stamp m.0 t r, m.1)
+abbrev pub DrawsStamp : Task → Step Content → Seated → ℕ → Seated → Type 0
+DrawsStamp t st m r n = n ≡ (with_stamp m.0 t r, m.1)

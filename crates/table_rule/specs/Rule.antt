@@ -9,7 +9,7 @@ use Rattle.flow_meaning.specs.Sound.{IsSoundState}
 use Rattle.shard_meaning.specs.Calm.{AreFinished}
 use Rattle.shard_meaning.specs.Moment.{Moment}
 use Rattle.shard_meaning.specs.Reserve.{HasReserve}
-use Rattle.shard_meaning.specs.Share.{IsShardOf}
+use Rattle.shard_meaning.specs.Share.{IsShardOf, Placement}
 use Rattle.work_board.specs.declared.record.PassRecord.{PassRecord}
 use Rattle.table_rule.specs.declared.table_job.TableJob.{TableJob}
 use Rattle.table_rule.specs.Live.{AreLive}
@@ -17,26 +17,30 @@ use Rattle.table_rule.specs.Owning.{AreOwned}
 use Rattle.shard_meaning.specs.Placing.{shard_of}
 use Rattle.table_rule.specs.Quiet.{IsQuieted}
 use Rattle.table_rule.specs.Records.{AreRecordsOf}
-use Rattle.table_rule.specs.Turns.{AreHeld, AreTurns, AtRest}
+use Rattle.table_rule.specs.Turns.{AreHeld, AreInSlots, AreTurns}
 use Rattle.table_rule.specs.Words.{halt_word, live_word, stamp_word, word_count}
 
 -- the table as plain data: its words, the shards in their slots, and the records of its passes
 abbrev pub Table : Type 0
 Table = State Content PassRecord
 
+-- which shard of its table a task of the job belongs to
+abbrev pub placement_of : TableJob → Placement
+placement_of j = shard_of j.matched j.shards
+
 -- the shard k has its part of a moment
 abbrev pub Share : TableJob → Moment → ℕ → Content → Type 0
-Share j R k y = IsShardOf j.matched j.given (shard_of j.matched j.shards) k R y
+Share j R k y = IsShardOf j.matched j.given (placement_of j) k R y
 
 -- the shard k has spares for all that is due there
 abbrev pub Reserve : TableJob → Moment → ℕ → Content → Type 0
-Reserve j R k y = HasReserve j.matched (shard_of j.matched j.shards) k R y
+Reserve j R k y = HasReserve j.matched (placement_of j) k R y
 
--- a preloaded table: no pass has given up, and each shard has its spares, at rest and when a turn was taken
+-- a preloaded table: no pass has given up, and each shard has its spares, in its slot and when a turn was taken
 pub record IsReserved (j : TableJob) (R : Moment) (halted : ℕ)
     (words : List ℕ) (slots : List (Option Content)) (vs : List PassRecord) : Type 0 where
   pub halt : halted ≡ 0
-  pub at_rest : AtRest (Reserve j R) words slots
+  pub in_slots : AreInSlots (Reserve j R) words slots
   pub held : AreHeld (Reserve j R) vs
 
 -- the rule at this moment of the run, part by part
@@ -54,8 +58,8 @@ pub record Parts (j : TableJob) (s : Table) (R : Moment) : Type 0 where
   pub owned : AreOwned s.views
   -- a claimed task that no pass runs has trapped, or all its items were sent
   pub finished : AreFinished j.matched j.given R
-  -- a shard at rest holds its part of the moment
-  pub at_rest : AtRest (Share j R) s.words s.homes
+  -- a shard in its slot holds its part of the moment
+  pub in_slots : AreInSlots (Share j R) s.words s.homes
   -- a turn word is not 0 exactly where one pass holds that turn, which then had the part of its shard
   pub turns : AreTurns s.words s.homes s.views
   pub held : AreHeld (Share j R) s.views

@@ -10,8 +10,8 @@ use Rattle.table_rule.specs.Records.{Each}
 use Rattle.table_rule.specs.Words.{turn_word}
 
 -- a shard whose turn is free is in its slot, and this is true of its number and its content
-abbrev pub AtRest : (ℕ → Content → Type 0) → List ℕ → List (Option Content) → Type 0
-AtRest Q words slots =
+abbrev pub AreInSlots : (ℕ → Content → Type 0) → List ℕ → List (Option Content) → Type 0
+AreInSlots Q words slots =
     (k : ℕ) → k < length slots → slice_index words (turn_word k) ≡ 0
     → (y : Content) × (get_elem? slots k ≡ some (some y)) × Q k y
 
@@ -21,7 +21,7 @@ AreHeld Q vs = Each (λ v. (k : ℕ) (y : Content) → IsIn (k, y) v.turns → Q
 
 -- how many turns of the shard k a pass holds
 abbrev pub holds : ℕ → PassRecord → ℕ
-holds k v = count (λ (x : ℕ × Content). x.0 == k) v.turns
+holds k v = count (λ ((shard, y) : ℕ × Content). shard == k) v.turns
 
 -- the turn words and the slots of a table fit the turns that its passes hold
 pub record AreTurns (words : List ℕ) (slots : List (Option Content)) (vs : List PassRecord) : Type 0 where

@@ -11,17 +11,15 @@ ghost use Rattle.ptg_base.specs.declared.edge.Item.TheVariants as item;
 ghost use Rattle.ptg_base.specs.declared.edge.WriteBack.{WriteBack};
 ghost use Rattle.term_core.specs.declared.trap.Trap.{Trap};
 ghost use Rattle.plan_core.specs.Kinds.{flow_of};
-ghost use Rattle.dep_iter.specs.Edges.{goal};
-ghost use Rattle.dep_iter.specs.Hints.{priority};
-ghost use Rattle.dep_shard.specs.Content.{Content, Ends, KeepsAllButEntries, KeepsAllButWritten, KeepsEntriesAndWritten, Takes, Updates, Uses, entry_before, entry_of, with_arrival};
+ghost use Rattle.dep_shard.specs.Content.{Content, Ends, KeepsAllButEntries, KeepsAllButWritten, KeepsEntriesAndWritten, KeepsSpares, Takes, Updates, Uses, entry_of};
 ghost use Rattle.list_lemmas.specs.Counting.{as_number};
 ghost use Rattle.shard_meaning.specs.Reserve.{has_type};
 ghost use Rattle.work_board.specs.Sends.{IsNext, MayEnd, MayTrap};
 ghost use Rattle.table_rule.specs.declared.table_job.TableJob.{TableJob};
 ghost use Rattle.table_rule.specs.Live.{own_stamps};
-ghost use Rattle.shard_meaning.specs.Placing.{shard_of};
-ghost use Rattle.table_rule.specs.Plays.{HasTurn, Seated, fires, gave_claim, gave_end, gave_send};
-ghost use Rattle.table_rule.specs.Rule.{Rule};
+ghost use Rattle.shard_meaning.specs.Share.{entry_after};
+ghost use Rattle.table_rule.specs.Plays.{GivesClaim, GivesEnd, GivesSend, HasTurn, Seated, fires};
+ghost use Rattle.table_rule.specs.Rule.{Rule, placement_of};
 ghost use Rattle.table_rule.specs.Words.{turn_word};
 
 /// A law: a pass that took the ready entry of a task out of the shard whose turn it holds may give the turn back with a
@@ -29,9 +27,9 @@ ghost use Rattle.table_rule.specs.Words.{turn_word};
 /// no item of it.
 pub fn a_turn_is_given_back_with_a_claim()
     ensures { (j : TableJob) (n id : ℕ) (m : Seated) (k : ℕ) (t : Task) (y z : Content) (tiles : List FlowTile)
-        → HasTurn m k y z 0 → Takes y z t tiles → Uses y.spare z.spare 0 None 0 0
+        → HasTurn m k y z 0 → Takes y z t tiles → KeepsSpares y.spare z.spare
         → Allows (Rule j) n id m (turn_word k) (λ _. 0) (λ _.
-        gave_claim (Some j) t tiles (step n (turn_word k) 0 0 none) m 0) }
+        GivesClaim (Some j) t tiles (step n (turn_word k) 0 0 none) m 0) }
 {}
 
 /// A law: a pass may give a turn back with a send of an item of the task that it runs, which has its stamp, where the
@@ -41,34 +39,33 @@ pub fn a_turn_is_given_back_with_a_send()
     ensures edge { (j : TableJob) (n id : ℕ) (m : Seated) (k : ℕ) (e : Edge) (tile : Option (List ℤ)) (y z : Content)
         (datatype : ℕ)
         → HasTurn m k y z (as_number (fires j.matched y e)) → IsNext j.matched j.given (item.Edge e) tile m.0
-        → shard_of j.matched j.shards e.to ≡ k → 0 < own_stamps m.0 e.from
-        → Updates y.entries z.entries e.to
-        (Some (with_arrival (entry_before y e.to (goal j.matched e.to) (priority j.matched e.to)) e.in_flow tile))
+        → placement_of j e.to ≡ k → 0 < own_stamps m.0 e.from
+        → Updates y.entries z.entries e.to (Some (entry_after j.matched e tile y))
         → KeepsAllButEntries y z → IsTrue (has_type datatype (flow_of j.matched.classes e.to.class e.in_flow))
         → Uses y.spare z.spare (if is_some (entry_of y e.to) then 0 else 1)
         (if is_some tile then Some datatype else None) 0 0
         → Allows (Rule j) n id m (turn_word k) (λ _. 0) (λ _.
-        gave_send record { item = item.Edge e; tile = tile } (step n (turn_word k) 0 0 none) m 0) }
+        GivesSend record { item = item.Edge e; tile = tile } (step n (turn_word k) 0 0 none) m 0) }
     ensures write { (j : TableJob) (n id : ℕ) (m : Seated) (k : ℕ) (w : WriteBack) (tile : List ℤ) (y z : Content)
         (datatype : ℕ)
         → HasTurn m k y z 0 → IsNext j.matched j.given (item.Write w) (Some tile) m.0
-        → shard_of j.matched j.shards w.from ≡ k → 0 < own_stamps m.0 w.from → z.written ≡ y.written ++ (w, tile) ∷ []
+        → placement_of j w.from ≡ k → 0 < own_stamps m.0 w.from → z.written ≡ y.written ++ (w, tile) ∷ []
         → KeepsAllButWritten y z → IsTrue (has_type datatype (flow_of j.matched.classes w.from.class w.flow))
         → Uses y.spare z.spare 0 (Some datatype) 1 0
         → Allows (Rule j) n id m (turn_word k) (λ _. 0) (λ _.
-        gave_send record { item = item.Write w; tile = Some tile } (step n (turn_word k) 0 0 none) m 0) }
+        GivesSend record { item = item.Write w; tile = Some tile } (step n (turn_word k) 0 0 none) m 0) }
 {}
 
 /// A law: a pass may give the turn of its running task's shard back with the end of that task, which has its stamp:
 /// where the task has outputs and the pass has sent all its items, or where it traps and the shard has the row.
 pub fn a_turn_is_given_back_with_an_end()
     ensures end { (j : TableJob) (n id : ℕ) (m : Seated) (k : ℕ) (t : Task) (y z : Content) → HasTurn m k y z 0
-        → MayEnd j.matched j.given t m.0 → shard_of j.matched j.shards t ≡ k → 0 < own_stamps m.0 t → Ends y z
-        → KeepsEntriesAndWritten y z → z.trapped ≡ y.trapped → Uses y.spare z.spare 0 None 0 0
-        → Allows (Rule j) n id m (turn_word k) (λ _. 0) (λ _. gave_end (step n (turn_word k) 0 0 none) m 0) }
+        → MayEnd j.matched j.given t m.0 → placement_of j t ≡ k → 0 < own_stamps m.0 t → Ends y z
+        → KeepsEntriesAndWritten y z → z.trapped ≡ y.trapped → KeepsSpares y.spare z.spare
+        → Allows (Rule j) n id m (turn_word k) (λ _. 0) (λ _. GivesEnd (step n (turn_word k) 0 0 none) m 0) }
     ensures trap { (j : TableJob) (n id : ℕ) (m : Seated) (k : ℕ) (t : Task) (cause : Trap) (y z : Content)
-        → HasTurn m k y z 0 → MayTrap j.matched j.given t cause m.0 → shard_of j.matched j.shards t ≡ k
+        → HasTurn m k y z 0 → MayTrap j.matched j.given t cause m.0 → placement_of j t ≡ k
         → 0 < own_stamps m.0 t → Ends y z → KeepsEntriesAndWritten y z → z.trapped ≡ y.trapped ++ (t, cause) ∷ []
         → Uses y.spare z.spare 0 None 0 1
-        → Allows (Rule j) n id m (turn_word k) (λ _. 0) (λ _. gave_end (step n (turn_word k) 0 0 none) m 0) }
+        → Allows (Rule j) n id m (turn_word k) (λ _. 0) (λ _. GivesEnd (step n (turn_word k) 0 0 none) m 0) }
 {}

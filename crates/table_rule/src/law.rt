@@ -2,7 +2,7 @@
 
 ghost use Rattle.table_rule.specs.Rule.{Rule};
 ghost use Rattle.table_rule.specs.Changes.{after_split, both, first_pass, joined_away, split_off};
-ghost use Rattle.table_rule.specs.Plays.{drew_stamp, gave_claim, gave_end, gave_send, left, lowered_live, raised_halt, raised_live, read_halt, read_live, took};
+ghost use Rattle.table_rule.specs.Plays.{DrawsStamp, GivesBack, GivesClaim, GivesEnd, GivesSend, LowersLive, RaisesHalt, RaisesLive, ReadsHalt, ReadsLive, TriesTurn};
 
 use crate::table_job::TableJob;
 use atomic_table::{Join, Play, Split, TableRule};
@@ -65,14 +65,14 @@ pub struct Take<E> {
 }
 
 impl<E: Event> Play<Shard, PassRecord> for Take<E> {
-    ghost then = { took E.job E.shard };
+    ghost then = { TriesTurn E.job E.shard };
 }
 
 /// A turn is given back, and nothing else happens.
 pub struct Leave;
 
 impl Play<Shard, PassRecord> for Leave {
-    ghost then = { left };
+    ghost then = { GivesBack };
 }
 
 /// A turn is given back with a claim.
@@ -81,7 +81,7 @@ pub struct Claim<E> {
 }
 
 impl<E: Event> Play<Shard, PassRecord> for Claim<E> {
-    ghost then = { gave_claim E.job E.task E.tiles };
+    ghost then = { GivesClaim E.job E.task E.tiles };
 }
 
 /// A turn is given back with a send.
@@ -90,21 +90,21 @@ pub struct Send<E> {
 }
 
 impl<E: Event> Play<Shard, PassRecord> for Send<E> {
-    ghost then = { gave_send E.sent };
+    ghost then = { GivesSend E.sent };
 }
 
 /// A turn is given back with the end of the running task.
 pub struct End;
 
 impl Play<Shard, PassRecord> for End {
-    ghost then = { gave_end };
+    ghost then = { GivesEnd };
 }
 
 /// The halt word is raised.
 pub struct RaiseHalt;
 
 impl Play<Shard, PassRecord> for RaiseHalt {
-    ghost then = { raised_halt };
+    ghost then = { RaisesHalt };
 }
 
 /// The halt word is read.
@@ -113,21 +113,21 @@ pub struct ReadHalt<E> {
 }
 
 impl<E: Event> Play<Shard, PassRecord> for ReadHalt<E> {
-    ghost then = { read_halt E.job };
+    ghost then = { ReadsHalt E.job };
 }
 
 /// The live word is raised.
 pub struct RaiseLive;
 
 impl Play<Shard, PassRecord> for RaiseLive {
-    ghost then = { raised_live };
+    ghost then = { RaisesLive };
 }
 
 /// The live word is lowered.
 pub struct LowerLive;
 
 impl Play<Shard, PassRecord> for LowerLive {
-    ghost then = { lowered_live };
+    ghost then = { LowersLive };
 }
 
 /// The live word is read.
@@ -136,7 +136,7 @@ pub struct ReadLive<E> {
 }
 
 impl<E: Event> Play<Shard, PassRecord> for ReadLive<E> {
-    ghost then = { read_live E.job };
+    ghost then = { ReadsLive E.job };
 }
 
 /// A stamp is drawn for the running task.
@@ -145,7 +145,7 @@ pub struct DrawStamp<E> {
 }
 
 impl<E: Event> Play<Shard, PassRecord> for DrawStamp<E> {
-    ghost then = { drew_stamp E.task };
+    ghost then = { DrawsStamp E.task };
 }
 
 /// A pass is split off another.

@@ -1,15 +1,15 @@
 //! Laws of the steps that are no event of the run: each keeps the rule, whatever the other passes do.
 
-ghost use Rattle.std.specs.Prelude.{◌≡◌, ◌+◌, ◌-◌, ◌%◌, ◌^◌, ◌<◌, ℕ, [], ◌∷◌, false, length, None, Some};
+ghost use Rattle.std.specs.Prelude.{◌≡◌, ◌+◌, ◌-◌, ◌%◌, ◌^◌, ◌<◌, ℕ, [], ◌∷◌, false, length, Some};
 ghost use mathlib.Core.Option.{none};
 ghost use Rattle.atomic_table.specs.Table.{Allows, Joins, Splits, step};
 ghost use Rattle.ptg_base.specs.Task.{Task};
-ghost use Rattle.dep_shard.specs.Content.{Content, IsUnchanged, Uses};
+ghost use Rattle.dep_shard.specs.Content.{Content, IsUnchanged, KeepsSpares};
 ghost use Rattle.work_board.specs.declared.record.PassRecord.{PassRecord};
 ghost use Rattle.table_rule.specs.declared.table_job.TableJob.{TableJob};
 ghost use Rattle.table_rule.specs.Changes.{after_split, both, joined_away, split_off};
 ghost use Rattle.table_rule.specs.Live.{own_stamps};
-ghost use Rattle.table_rule.specs.Plays.{HasName, HasTurn, Seated, drew_stamp, left, lowered_live, raised_halt, raised_live, read_halt, read_live, took};
+ghost use Rattle.table_rule.specs.Plays.{DrawsStamp, GivesBack, HasName, HasTurn, LowersLive, RaisesHalt, RaisesLive, ReadsHalt, ReadsLive, Seated, TriesTurn};
 ghost use Rattle.table_rule.specs.Rule.{Rule};
 ghost use Rattle.table_rule.specs.Words.{halt_word, live_word, stamp_word, turn_word};
 
@@ -17,14 +17,14 @@ ghost use Rattle.table_rule.specs.Words.{halt_word, live_word, stamp_word, turn_
 /// the rule as it was at this step; else it has looked.
 pub fn a_turn_is_taken_or_found_taken()
     ensures { (j : TableJob) (n id : ℕ) (m : Seated) (k : ℕ) → k < j.shards → HasName m.0
-        → Allows (Rule j) n id m (turn_word k) (λ _. 1) (took (Some j) k (step n (turn_word k) 1 0 none) m) }
+        → Allows (Rule j) n id m (turn_word k) (λ _. 1) (TriesTurn (Some j) k (step n (turn_word k) 1 0 none) m) }
 {}
 
 /// A law: a pass without a credit may give back its turn, with nothing changed of the shard but spares that grew.
 pub fn a_turn_is_given_back()
     ensures { (j : TableJob) (n id : ℕ) (m : Seated) (k : ℕ) (y z : Content) → HasTurn m k y z 0 → IsUnchanged y z
-        → Uses y.spare z.spare 0 None 0 0
-        → Allows (Rule j) n id m (turn_word k) (λ _. 0) (λ _. left (step n (turn_word k) 0 0 none) m 0) }
+        → KeepsSpares y.spare z.spare
+        → Allows (Rule j) n id m (turn_word k) (λ _. 0) (λ _. GivesBack (step n (turn_word k) 0 0 none) m 0) }
 {}
 
 /// A law: from a pass with one name another one may be split off.
@@ -43,35 +43,35 @@ pub fn two_passes_are_joined()
 pub fn halt_is_raised()
     ensures { (j : TableJob) (n id : ℕ) (m : Seated) → j.preloaded ≡ false
         → Allows (Rule j) n id m (halt_word j.shards) (λ _. 1) (λ _.
-        raised_halt (step n (halt_word j.shards) 1 0 none) m 1) }
+        RaisesHalt (step n (halt_word j.shards) 1 0 none) m 1) }
 {}
 
 /// A law: a pass may read the halt word. It finds 0 in a preloaded table.
 pub fn halt_is_read()
     ensures { (j : TableJob) (n id : ℕ) (m : Seated)
         → Allows (Rule j) n id m (halt_word j.shards) (λ x. x)
-        (read_halt (Some j) (step n (halt_word j.shards) 0 0 none) m) }
+        (ReadsHalt (Some j) (step n (halt_word j.shards) 0 0 none) m) }
 {}
 
 /// A law: a pass that holds more turns than it has credits may raise the live word. No sum wraps.
 pub fn the_live_word_is_raised()
     ensures { (j : TableJob) (n id : ℕ) (m : Seated) → m.0.credit < length m.0.turns → HasName m.0
         → Allows (Rule j) n id m (live_word j.shards) (λ x. (x + 1) % 2 ^ 64)
-        (raised_live (step n (live_word j.shards) 1 0 none) m) }
+        (RaisesLive (step n (live_word j.shards) 1 0 none) m) }
 {}
 
 /// A law: a pass that has a credit may lower the live word. No difference wraps.
 pub fn the_live_word_is_lowered()
     ensures { (j : TableJob) (n id : ℕ) (m : Seated) → 0 < m.0.credit → HasName m.0
         → Allows (Rule j) n id m (live_word j.shards) (λ x. (x + (2 ^ 64 - 1)) % 2 ^ 64)
-        (lowered_live (step n (live_word j.shards) 1 0 none) m) }
+        (LowersLive (step n (live_word j.shards) 1 0 none) m) }
 {}
 
 /// A law: a pass may read the live word. Where it finds 0 it has seen quiet, and it is told the rule with this mark.
 pub fn the_live_word_is_read()
     ensures { (j : TableJob) (n id : ℕ) (m : Seated)
         → Allows (Rule j) n id m (live_word j.shards) (λ x. x)
-        (read_live (Some j) (step n (live_word j.shards) 0 0 none) m) }
+        (ReadsLive (Some j) (step n (live_word j.shards) 0 0 none) m) }
 {}
 
 /// A law: a pass may draw a stamp for the task that it runs and that has none yet. No sum wraps.
@@ -79,5 +79,5 @@ pub fn a_stamp_is_drawn()
     ensures { (j : TableJob) (n id : ℕ) (m : Seated) (t : Task) → m.0.running ≡ t ∷ [] → own_stamps m.0 t ≡ 0
         → HasName m.0
         → Allows (Rule j) n id m (stamp_word j.shards) (λ x. (x + 1) % 2 ^ 64)
-        (drew_stamp t (step n (stamp_word j.shards) 1 0 none) m) }
+        (DrawsStamp t (step n (stamp_word j.shards) 1 0 none) m) }
 {}

@@ -25,8 +25,9 @@ pub fn table_of(
     texts: &Texts,
     make: Make,
 ) -> Result<Option<(DepTable, Pass)>, OutOfMemory>
-    ensures pass { IfOk result (λ o. IfSome o (λ r. IsPassOf (id_of r.0) r.1 × (shown r.1 ≡ first_pass))) }
-    ensures preloaded { IfOk result (λ o. IfSome o (λ r. (job_in r.0).preloaded ≡ make.preload)) }
+    ensures pass { IfOk result (λ o. IfSome o (λ (table, pass).
+        IsPassOf (id_of table) pass × (shown pass ≡ first_pass))) }
+    ensures preloaded { IfOk result (λ o. IfSome o (λ (table, pass). (job_in table).preloaded ≡ make.preload)) }
 {
     if make.shards == 0 || make.shards > MOST_SHARDS {
         return Ok(None);

@@ -1,7 +1,7 @@
 //! Jobs run by several workers, each in a thread of its own.
 
 ghost use Rattle.std.specs.Prelude.{IsTrue};
-ghost use Rattle.ptg_base.specs.Limits.{AreCounts};
+ghost use Rattle.ptg_base.specs.Limits.{AreRunCounts};
 
 use crate::answer::{Answer, answer_of};
 use crate::jobs::Texts;
@@ -16,7 +16,7 @@ use worker_core::Always;
 
 // Whether the settings are within their limits.
 fn are_settings(settings: Settings) -> bool
-    ensures { IsTrue result → AreCounts settings.workers settings.shards }
+    ensures { IsTrue result → AreRunCounts settings.workers settings.shards }
 {
     if settings.workers == 0 || settings.workers > MOST_WORKERS {
         return false;

@@ -19,7 +19,7 @@ use Rattle.dep_iter.proofs.Once.{once-in_edges}
 use Rattle.list_lemmas.specs.Counting.{as_number}
 use Rattle.flow_meaning.specs.Order.{IsLegalOrder}
 use Rattle.flow_meaning.proofs.Members.{in_edge_to, out_edge_from}
-use Rattle.task_order.specs.Growing.{HaveCome, MayCome, edges_to}
+use Rattle.task_order.specs.Growing.{HaveCome, MayCome, edge_count_to}
 use Rattle.task_order.proofs.Orders.{legal_tasks}
 
 -- edges that have come, and the first of them
@@ -47,7 +47,7 @@ come_next P order es e h may = record {
   out = λ d i. elim (from_append d es (e ∷ []) i) [ inl old ↦ h.out d old | inr new ↦ elim new [ inl q ↦ subst (λ (x : Edge). IsIn x (out_edges P x.from)) (sym q) may.out | inr never ↦ absurd never ] ];
 }
 
-pub to_push : (t : Task) (es : List Edge) (e : Edge) → edges_to t (es ++ e ∷ []) ≡ edges_to t es + as_number (same_task t e.to)
+pub to_push : (t : Task) (es : List Edge) (e : Edge) → edge_count_to t (es ++ e ∷ []) ≡ edge_count_to t es + as_number (same_task t e.to)
 to_push t es e = weigh-push (λ (d : Edge). as_number (same_task t d.to)) es e
 
 module _ (P : Plan) (con : IsConsistent P) where
@@ -70,19 +70,19 @@ module _ (P : Plan) (con : IsConsistent P) where
         subst (λ u. IsIn e (in_edges P u)) (sym to) (goes_into e.from (legal_tasks P [] order legal e.from (h.from e p.0)) e (h.out e p.0))
 
     -- no more have come to a task than go into it
-    pub to_at_most : edges_to t came ≤ goal P t
+    pub to_at_most : edge_count_to t came ≤ goal P t
     to_at_most =
         let few = no_longer (filter (λ (d : Edge). same_task t d.to) came) (in_edges P t) (HasNoRepeats-filter (λ (d : Edge). same_task t d.to) came h.once) these_in in
         omega (arith, few, length-filter (λ (d : Edge). same_task t d.to) came)
 
     -- where as many have come, all have
-    pub all_came : goal P t ≤ edges_to t came → (e : Edge) → IsIn e (in_edges P t) → IsIn e came
+    pub all_came : goal P t ≤ edge_count_to t came → (e : Edge) → IsIn e (in_edges P t) → IsIn e came
     all_came enough e i =
         let j = onto (filter (λ (d : Edge). same_task t d.to) came) (in_edges P t) (HasNoRepeats-filter (λ (d : Edge). same_task t d.to) came h.once) these_in (omega (arith, enough, length-filter (λ (d : Edge). same_task t d.to) came)) e i in
         ((IsIn-filter (λ (d : Edge). same_task t d.to) came e).0 j).0
 
     -- and the other way round
-    pub as_many : IsTask P t → ((e : Edge) → IsIn e (in_edges P t) → IsIn e came) → goal P t ≤ edges_to t came
+    pub as_many : IsTask P t → ((e : Edge) → IsIn e (in_edges P t) → IsIn e came) → goal P t ≤ edge_count_to t came
     as_many job all =
         let few = no_longer (in_edges P t) (filter (λ (d : Edge). same_task t d.to) came) (once-in_edges P con t job)
         (λ e i. (IsIn-filter (λ (d : Edge). same_task t d.to) came e).1 (all e i, (same_task-decides t e.to).1 (sym (in_edge_to P t e i)))) in

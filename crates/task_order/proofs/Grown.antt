@@ -23,7 +23,7 @@ use Rattle.flow_meaning.specs.Order.{IsLegalAfter, MayFollow}
 use Rattle.flow_meaning.proofs.Members.{out_edge_from}
 use Rattle.flow_meaning.proofs.Orders.{legal_push}
 use Rattle.task_order.specs.Greatest.{IsGreatestOrder}
-use Rattle.task_order.specs.Growing.{GrowsBy, HasGrown, HaveCome, IsNext, MayCome, edges_of, edges_to, lacking}
+use Rattle.task_order.specs.Growing.{GrowsBy, HasGrown, HaveCome, IsNext, MayCome, edges_of, edge_count_to, lacking}
 use Rattle.task_order.proofs.Orders.{legal_once, legal_tasks}
 use Rattle.task_order.proofs.Coming.{all_came, as_many, come_first, come_longer, come_next, comes_from, may_come, to_at_most, to_push}
 
@@ -67,7 +67,7 @@ module _ (P : Plan) (con : IsConsistent P) where
           let may = may_come P order came e [] all in
           (con.connected e.from (legal_tasks P [] order g.legal e.from may.from)).to_tasks e may.out
 
-      counted : (t : Task) → IsTask P t → lacking P new t + edges_to t (came ++ e ∷ []) ≡ goal P t
+      counted : (t : Task) → IsTask P t → lacking P new t + edge_count_to t (came ++ e ∷ []) ≡ goal P t
       counted t job = omega (arith, noted.others t, to_push t came e, g.counts t job)
 
       own : lacking P new e.to ≡ left

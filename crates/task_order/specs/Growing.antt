@@ -19,8 +19,8 @@ abbrev pub edges_of : Plan → List Task → List Edge
 edges_of P ts = flat_map (out_edges P) ts
 
 -- how many of these edges go to a task
-abbrev pub edges_to : Task → List Edge → ℕ
-edges_to t es = count (λ (e : Edge). same_task t e.to) es
+abbrev pub edge_count_to : Task → List Edge → ℕ
+edge_count_to t es = count (λ (e : Edge). same_task t e.to) es
 
 -- how many edges into a task are lacking: the number that the table has for it, else all
 abbrev pub lacking : Plan → List (Task × ℕ) → Task → ℕ
@@ -37,7 +37,7 @@ pub record HaveCome (P : Plan) (order : List Task) (came : List Edge) : Type 0 w
 pub record HasGrown (P : Plan) (came : List Edge) (order : List Task) (table : List (Task × ℕ)) : Type 0 where
   pub legal : IsLegalOrder P order
   pub edges : HaveCome P order came
-  pub counts : (t : Task) → IsTask P t → lacking P table t + edges_to t came ≡ goal P t
+  pub counts : (t : Task) → IsTask P t → lacking P table t + edge_count_to t came ≡ goal P t
   pub ready : (t : Task) → IsTask P t → IsIn t order ↔ (lacking P table t ≡ 0)
 
 -- an edge out of a task of the order that has not come

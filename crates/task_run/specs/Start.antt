@@ -14,7 +14,7 @@ use Rattle.flow_meaning.specs.Backward.{ended, inputs, source_tile}
 -- a task of a consistent job with its locals, and the data of the job
 pub record IsStart (P : Plan) (G : Data) (t : Task) (locals : List ℤ) : Type 0 where
   pub consistent : IsConsistent P
-  pub fit : DataFit P.colls P.elems G
+  pub fit : DataFit P G
   pub task : IsTask P t
   pub locals_are : locals ≡ locals_of P t
 

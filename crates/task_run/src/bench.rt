@@ -1,13 +1,13 @@
 //! Where one worker runs tasks.
 
-ghost use Rattle.std.specs.Prelude.{◌≡◌, ◌+◌, ◌<◌, [], ◌∷◌, ◌++◌, Some, Ok, Err, length, slice_get, IfOk, OnOk, IfErr, IsSome};
+ghost use Rattle.std.specs.Prelude.{◌≡◌, ◌+◌, ◌<◌, [], ◌∷◌, ◌++◌, Some, Err, length, slice_get, IfOk, OnOk, IfErr, IsSome};
 ghost use Rattle.std.specs.Option.{option_copied};
 ghost use Rattle.ptg_base.specs.Limits.{most_flows};
 ghost use Rattle.body_eval.specs.Element.{tile_of};
 ghost use Rattle.dep_iter.specs.Tasks as tasks;
 ghost use Rattle.flow_meaning.specs.Starting as starting;
 ghost use Rattle.flow_meaning.specs.Backward.{ended, inputs, MayRun};
-ghost use Rattle.task_run.specs.Bench.{IsBenchOf};
+ghost use Rattle.task_run.specs.Bench.{HoldsOutputs, IsBenchOf};
 ghost use Rattle.task_run.specs.Start.{HasInputsFrom, IsStart, delivered};
 
 use crate::pools::Pools;
@@ -110,7 +110,7 @@ impl Bench {
         requires runs { IsSome (ended start.now.plan.now start.now.given.now start.now.task.now) }
         ensures elems { self.new.elems ≡ self.old.elems }
         ensures ok { OnOk result
-            (ended start.now.plan.now start.now.given.now start.now.task.now ≡ Some (Ok self.new.tiles)) }
+            (HoldsOutputs start.now.plan.now start.now.given.now start.now.task.now self.new) }
         ensures trap { IfErr result (λ cause.
             ended start.now.plan.now start.now.given.now start.now.task.now ≡ Some (Err cause)) }
     {
@@ -132,7 +132,7 @@ impl Bench {
         requires inputs { MayRun start.now.plan.now start.now.given.now start.now.task.now arrivals }
         ensures elems { self.new.elems ≡ self.old.elems }
         ensures ok { OnOk result
-            (ended start.now.plan.now start.now.given.now start.now.task.now ≡ Some (Ok self.new.tiles)) }
+            (HoldsOutputs start.now.plan.now start.now.given.now start.now.task.now self.new) }
         ensures trap { IfErr result (λ cause.
             ended start.now.plan.now start.now.given.now start.now.task.now ≡ Some (Err cause)) }
     {

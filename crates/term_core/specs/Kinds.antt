@@ -41,8 +41,8 @@ takes_tile Write = false
 takes_tile Rw = true
 takes_tile Ctl = false
 
--- whether of its dependences in this direction the first that holds counts alone: of the in dependences of a flow that
--- carries a tile it does
+-- whether, of the dependences of a flow in this direction, only the first one that holds is active: so it is with the
+-- in dependences of a flow that carries a tile
 abbrev pub first_only : Direction → FlowKind → Bool
 first_only In kind = is_data kind
 first_only Out kind = false

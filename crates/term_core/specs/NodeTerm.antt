@@ -1,5 +1,4 @@
 -- The tree of an expression, without its boxes.
-use Rattle.std.specs.Prelude.{ℤ, pos, List, slice_index_or}
 use Rattle.term_core.specs.declared.expr.Leaf.{Leaf}
 use Rattle.term_core.specs.declared.expr.Leaf.TheVariants as leaf
 use Rattle.term_core.specs.declared.expr.Node.{Node}
@@ -10,11 +9,6 @@ use Rattle.term_core.specs.Term.{Term, Num, Local, Elem, Unary, Binary, Choose}
 abbrev pub leaf_term : Leaf → Term
 leaf_term (leaf.Num z) = Num z
 leaf_term (leaf.Local n) = Local n
-
--- the value of a leaf
-abbrev pub leaf_number : Leaf → List ℤ → ℤ
-leaf_number (leaf.Num z) env = z
-leaf_number (leaf.Local n) env = slice_index_or env n (pos 0)
 
 -- the tree of boxed nodes
 abbrev pub term_of : Node → Term

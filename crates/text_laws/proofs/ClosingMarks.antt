@@ -5,7 +5,7 @@ use Rattle.std.specs.Prelude.{◌&&◌}
 use Rattle.std.proofs.lemmas.Bool.{cases_Bool, both_ways, false≢true, and_parts, and_from, eqb-true, eq-eqb, cond-true, cond-false}
 use Rattle.jdf_lex.specs.declared.lexical_unit.LexicalUnit.{LexicalUnit}
 use Rattle.jdf_lex.specs.declared.lexical_unit.LexicalUnit.TheVariants.{BlockComment, TokenOf}
-use Rattle.jdf_alphabet.specs.declared.kind.TokenKind.TheVariants.{Quoted, Raw}
+use Rattle.jdf_lex.specs.declared.kind.TokenKind.TheVariants.{Quoted, Raw}
 use Rattle.jdf_lex.specs.Spelling.{ends_unit, affects_next, is_empty, is_closed}
 use Rattle.text_laws.specs.Forms.{IsFreeOf, IsQuotedItems}
 use Rattle.text_laws.specs.Forms.IsQuotedItems.{none, escaped, plain}

@@ -8,7 +8,7 @@ use Rattle.std.proofs.lemmas.Option.{same_Some}
 use Rattle.list_lemmas.proofs.Joins.{longer_front}
 use Rattle.jdf_lex.specs.declared.lexical_unit.LexicalUnit.{LexicalUnit}
 use Rattle.jdf_lex.specs.declared.lexical_unit.LexicalUnit.TheVariants.{LineComment, BlockComment, TokenOf}
-use Rattle.jdf_alphabet.specs.declared.kind.TokenKind.TheVariants.{Raw, OptionLine}
+use Rattle.jdf_lex.specs.declared.kind.TokenKind.TheVariants.{Raw, OptionLine}
 use Rattle.jdf_lex.specs.Spelling.{is_mark, begins_part, begins_option, plain_unit, first_unit, unit_at, is_spelling}
 use Rattle.jdf_lex.specs.Tokens.{IsUnit, LongestIsTaken}
 use Rattle.jdf_lex.proofs.Fronts.{spelling_is_some}

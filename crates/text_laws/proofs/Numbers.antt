@@ -1,11 +1,11 @@
 -- The numbers of terminals and codes tell them apart.
 use Rattle.std.proofs.Common.{◌≡◌, refl}
-use Rattle.jdf_alphabet.specs.declared.code.GrammarCode.{GrammarCode}
-use Rattle.jdf_alphabet.specs.declared.code.GrammarCode.TheVariants as grammar
-use Rattle.jdf_alphabet.specs.declared.terminal.Terminal.{Terminal}
-use Rattle.jdf_alphabet.specs.declared.terminal.Terminal.TheVariants.{Name, TypeWord, Int, If, Else, For, Trap, Number, Quoted, Raw, OptionLine, Other, Extern, Body, End, Read, Write, Rw, Ctl, New, Null, LeftParen, RightParen, LeftBracket, RightBracket, LeftBrace, RightBrace, Comma, Semicolon, Colon, Question, Assign, Dots, Inward, Outward, Plus, Minus, Star, Slash, Percent, Equal, NotEqual, Less, AtMost, Greater, AtLeast, And, AndAnd, Or, OrOr, Not}
-use Rattle.jdf_alphabet.specs.Codes.{code_at, code_number}
-use Rattle.jdf_alphabet.specs.Terminals.{number_of, terminal_at}
+use Rattle.jdf_lex.specs.declared.code.GrammarCode.{GrammarCode}
+use Rattle.jdf_lex.specs.declared.code.GrammarCode.TheVariants as grammar
+use Rattle.jdf_lex.specs.declared.terminal.Terminal.{Terminal}
+use Rattle.jdf_lex.specs.declared.terminal.Terminal.TheVariants.{Name, TypeWord, Int, If, Else, For, Trap, Number, Quoted, Raw, OptionLine, Other, Extern, Body, End, Read, Write, Rw, Ctl, New, Null, LeftParen, RightParen, LeftBracket, RightBracket, LeftBrace, RightBrace, Comma, Semicolon, Colon, Question, Assign, Dots, Inward, Outward, Plus, Minus, Star, Slash, Percent, Equal, NotEqual, Less, AtMost, Greater, AtLeast, And, AndAnd, Or, OrOr, Not}
+use Rattle.jdf_lex.specs.Codes.{code_at, code_number}
+use Rattle.jdf_lex.specs.Terminals.{number_of, terminal_at}
 
 pub terminal_of_number : (k : Terminal) → terminal_at (number_of k) ≡ k
 unfolding terminal_at

@@ -6,7 +6,7 @@ use Rattle.jdf_lex.specs.declared.fault.JdfCode.TheVariants.{Unclosed, TooManyTo
 use Rattle.jdf_lex.specs.declared.lexical_unit.LexicalUnit.{LexicalUnit}
 use Rattle.jdf_lex.specs.declared.lexical_unit.LexicalUnit.TheVariants.{Blank, LineComment, BlockComment, TokenOf}
 use Rattle.grammar_core.specs.declared.token.Token.{Token}
-use Rattle.jdf_alphabet.specs.declared.kind.TokenKind.{TokenKind}
+use Rattle.jdf_lex.specs.declared.kind.TokenKind.{TokenKind}
 use Rattle.jdf_lex.specs.Tokens.{spot_after, is_dropped, HasTokens, HasFault, TokensOrFault, OneTokenFault, NotBoth}
 use Rattle.jdf_lex.specs.Reading.{front_unit, token_here, IsCursorIn, IsScanned}
 use Rattle.jdf_lex.proofs.Fronts.{Found, found_unit}
@@ -50,12 +50,12 @@ position_next text tokens here None state later within found = inr (record { spo
 position_next text tokens here (Some unit) state later within found = unit_next text tokens here unit.0 unit.1 state later found
 
 either_from : (fuel : ℕ) (text : List ℕ) (tokens : List Token) (here : Cursor) → IsScanned text tokens here → length text ≤ here.index + fuel → HasTokens text ⊎ HasFault text
-either_from zero text tokens here state near = inl (tokens, here.spot, lexed_at_end text tokens here state (omega arith), state.at_most)
+either_from zero text tokens here state near = inl (record { tokens = tokens; end = here.spot }, (lexed_at_end text tokens here state (omega arith), state.at_most))
 either_from (suc fuel) text tokens here state near =
     elim (cases_lt here.index (length text)) [
       | inl within ↦
           position_next text tokens here (front_unit (drop here.index text)) state (λ later next on further. either_from fuel text later next on (omega arith)) within refl
-      | inr past ↦ inl (tokens, here.spot, lexed_at_end text tokens here state past, state.at_most)
+      | inr past ↦ inl (record { tokens = tokens; end = here.spot }, (lexed_at_end text tokens here state past, state.at_most))
     ]
 
 pub either : TokensOrFault
@@ -67,4 +67,4 @@ pub only_fault : OneTokenFault
 only_fault text fault other one two = one_fault text fault other one two
 
 pub not_both : NotBoth
-not_both text tokens fault = no_fault text tokens.0 tokens.1 fault.0 tokens.2 tokens.3 fault.1
+not_both text lexed fault = no_fault text lexed.0.tokens lexed.0.end fault.0 lexed.1.0 lexed.1.1 fault.1

@@ -29,7 +29,7 @@ Either bytes = ((jdf : Jdf) × IsJdf bytes jdf) ⊎ ((fault : JdfFault) × IsJdf
 
 -- ---- UTF-8
 
--- the longest prefix of at most n bytes that is UTF-8
+-- the longest front of at most n bytes that is UTF-8
 record Longest (bytes : List ℕ) (n : ℕ) : Type 0 where
   at : ℕ
   within : at ≤ n
@@ -95,7 +95,7 @@ by_grammar bytes size utf8 tokens end lexed number = go (whole productions file 
 by_tokens : (bytes : List ℕ) → length bytes ≤ 16777216 → IsUtf8 bytes → Either bytes
 by_tokens bytes size utf8 =
     elim (lex.either bytes) [
-      | inl t ↦ by_grammar bytes size utf8 t.0 t.1 t.2 t.3
+      | inl t ↦ by_grammar bytes size utf8 t.0.tokens t.0.end t.1.0 t.1.1
       | inr f ↦ inr (f.0, bad_token bytes f.0 size utf8 f.1)
     ]
 

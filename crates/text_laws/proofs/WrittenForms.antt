@@ -8,7 +8,7 @@ use Rattle.std.proofs.lemmas.Option.{same_Some}
 use Rattle.list_lemmas.proofs.Joins.{longer_front}
 use Rattle.jdf_lex.specs.declared.lexical_unit.LexicalUnit.{LexicalUnit}
 use Rattle.jdf_lex.specs.declared.lexical_unit.LexicalUnit.TheVariants.{Blank, LineComment, BlockComment, TokenOf}
-use Rattle.jdf_alphabet.specs.declared.kind.TokenKind.TheVariants.{Name, Number, Quoted, Raw, OptionLine, Mark, Other}
+use Rattle.jdf_lex.specs.declared.kind.TokenKind.TheVariants.{Name, Number, Quoted, Raw, OptionLine, Mark, Other}
 use Rattle.jdf_lex.specs.Spelling.{is_letter, is_digit, is_blank, is_mark, begins_mark, begins_part, begins_option, first_unit, unit_at, is_closed, is_spelling}
 use Rattle.jdf_lex.specs.Tokens.{IsUnit}
 use Rattle.text_laws.specs.Forms.{HasForm, IsWrittenUnit, UnitsAsWritten}

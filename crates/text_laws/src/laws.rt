@@ -1,10 +1,10 @@
 //! What follows from the definitions of terminals, of lexical units and of the trees of texts.
 
 ghost use Rattle.std.specs.Prelude.{◌≡◌};
-ghost use Rattle.jdf_alphabet.specs.declared.code.GrammarCode.{GrammarCode};
-ghost use Rattle.jdf_alphabet.specs.declared.terminal.Terminal.{Terminal};
-ghost use Rattle.jdf_alphabet.specs.Codes.{code_at, code_number};
-ghost use Rattle.jdf_alphabet.specs.Terminals.{number_of, terminal_at};
+ghost use Rattle.jdf_lex.specs.declared.code.GrammarCode.{GrammarCode};
+ghost use Rattle.jdf_lex.specs.declared.terminal.Terminal.{Terminal};
+ghost use Rattle.jdf_lex.specs.Codes.{code_at, code_number};
+ghost use Rattle.jdf_lex.specs.Terminals.{number_of, terminal_at};
 ghost use Rattle.jdf_lex.specs.Tokens.{LongestIsTaken, NotBoth, OneTokenFault, TokensOrFault};
 ghost use Rattle.jdf_read.specs.Laws as tree;
 ghost use Rattle.jdf_read.specs.Laws.{TreeOrFault};

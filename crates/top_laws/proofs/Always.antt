@@ -15,7 +15,7 @@ use Rattle.ptg_words.specs.Words.{Orders}
 use Rattle.ptg_top.specs.Denotation as verdicts
 use Rattle.ptg_top.specs.Denotation.{Denotation}
 use Rattle.job_gen.specs.Job.{data_text, jdf_text}
-use Rattle.ptg_top.specs.JobFiles.{Entries, ContentsDenote, JobTextsDenote}
+use Rattle.ptg_top.specs.JobFiles.{ContentsDenote, JobTextsDenote, NamedFiles}
 use Rattle.ptg_top.specs.Meaning.{CommandDenotes, ContentShows, IsNoCommand, Shows}
 use Rattle.ptg_top.specs.Headline.{text_of, status_of}
 use Rattle.top_laws.specs.Meanings.{SomeMeaning, SomeOutput}
@@ -27,7 +27,7 @@ use Rattle.chain_cert.specs.Weights.{class_weights}
 use Rattle.chain_exists.proofs.Existing.{some_certificate}
 use Rattle.ptg_top.specs.Certify.{IsCertified, certified}
 use Rattle.trace_core.specs.Text.{trace_text}
-use Rattle.trace_exists.proofs.Either.{fault_or_trace}
+use Rattle.trace_core.proofs.Either.{fault_or_trace}
 use Rattle.trace_laws.proofs.Growing.{some_whole_order}
 use Rattle.ptg_top.specs.Trace.{IsTraced}
 use Rattle.ptg_top.specs.Replay.{IsReplayed}
@@ -84,7 +84,7 @@ certified_some P given con =
     let c = some_certificate P given ws con in
     (verdicts.Ran P (certified ws (answer P given) c.0), (c.0, c.1, refl))
 
-certify_some : (files : Entries) (jdf data_name : List ℕ) → (v : Denotation) × CommandDenotes files (Certify jdf data_name) v
+certify_some : (files : NamedFiles) (jdf data_name : List ℕ) → (v : Denotation) × CommandDenotes files (Certify jdf data_name) v
 certify_some files jdf data_name =
     let a = file_of files jdf in
     let b = file_of files data_name in
@@ -97,7 +97,7 @@ traced_some P given con =
     let order = some_whole_order P given con in
     (verdicts.Ran P (TraceText (trace_text P order.0)), (order.0, order.1, refl))
 
-trace_some : (files : Entries) (jdf data_name : List ℕ) (workers shards : ℕ) → (v : Denotation) × CommandDenotes files (Trace jdf data_name workers shards) v
+trace_some : (files : NamedFiles) (jdf data_name : List ℕ) (workers shards : ℕ) → (v : Denotation) × CommandDenotes files (Trace jdf data_name workers shards) v
 trace_some files jdf data_name workers shards =
     let a = file_of files jdf in
     let b = file_of files data_name in
@@ -108,11 +108,11 @@ trace_some files jdf data_name workers shards =
 replayed_some : (trace : List ℕ) (content : Option (List ℕ)) (P : Plan) (given : Data) → IsConsistent P → (v : Denotation) × IsReplayed trace content P given v
 replayed_some trace None P given con = (verdicts.Unread trace, refl)
 replayed_some trace (Some text) P given con = elim (fault_or_trace P given con text) [
-  | inl p ↦ (verdicts.Trace p.0, inl (p.0, p.1, refl))
+  | inl p ↦ (verdicts.TraceRefused p.0, inl (p.0, p.1, refl))
   | inr found ↦ (verdicts.Ran P (Answer (answer P given)), inr (found, refl))
 ]
 
-replay_some : (files : Entries) (jdf data_name trace : List ℕ) → (v : Denotation) × CommandDenotes files (Replay jdf data_name trace) v
+replay_some : (files : NamedFiles) (jdf data_name trace : List ℕ) → (v : Denotation) × CommandDenotes files (Replay jdf data_name trace) v
 replay_some files jdf data_name trace =
     let a = file_of files jdf in
     let b = file_of files data_name in
@@ -124,17 +124,17 @@ replay_some files jdf data_name trace =
 abbrev ranked : ℕ → Plan → Data → Denotation
 ranked r P given = verdicts.Ran P (Ranked (record { ranks = r; messages = message_count P given r; outcome = answer P given }))
 
-ranks_some : (files : Entries) (jdf data_name : List ℕ) (r seed : ℕ) → (v : Denotation) × CommandDenotes files (Ranks jdf data_name r seed) v
+ranks_some : (files : NamedFiles) (jdf data_name : List ℕ) (r seed : ℕ) → (v : Denotation) × CommandDenotes files (Ranks jdf data_name r seed) v
 ranks_some files jdf data_name r seed =
     let checked = contents_some jdf data_name (file_of files jdf) (file_of files data_name) in
     let found = some_on (IsRanked r) checked.0 (λ P given is. (ranked r P given, refl)) in
     (found.0, (checked.0, checked.1, found.1))
 
-command_some : (files : Entries) (command : Order) → (v : Denotation) × CommandDenotes files command v
+command_some : (files : NamedFiles) (command : Order) → (v : Denotation) × CommandDenotes files command v
 command_some files (Run jdf data_name workers shards preload) =
     let settings : Settings = record { workers = workers; shards = shards; preload = preload } in
     let checked = contents_some jdf data_name (file_of files jdf) (file_of files data_name) in
-    let found = some_on (IsAnswer settings) checked.0 (λ P given is. (if is_too_large settings P then verdicts.Preload else verdicts.Ran P (Answer (answer P given)), refl)) in
+    let found = some_on (IsAnswer settings) checked.0 (λ P given is. (if is_too_large settings P then verdicts.PreloadTooLarge else verdicts.Ran P (Answer (answer P given)), refl)) in
     (found.0, (checked.0, checked.1, found.1))
 command_some files (Show jdf) = content_shows_some jdf (file_of files jdf)
 command_some files (Check jdf data_name) = contents_some jdf data_name (file_of files jdf) (file_of files data_name)

@@ -10,7 +10,7 @@ use Rattle.ptg_words.specs.declared.order.Order.{Order}
 use Rattle.ptg_words.specs.declared.order.Order.TheVariants.{Run, Show, Check, Demo, Trace, Replay, Certify, Ranks}
 use Rattle.ptg_top.specs.Denotation as verdicts
 use Rattle.ptg_top.specs.Denotation.{Denotation}
-use Rattle.ptg_top.specs.JobFiles.{Entries, ContentsDenote, FilesDenote}
+use Rattle.ptg_top.specs.JobFiles.{ContentsDenote, FilesDenote, NamedFiles}
 use Rattle.job_gen.specs.Job.{data_text, jdf_text}
 use Rattle.ptg_top.specs.Meaning.{CommandDenotes, Shows, ContentShows}
 use Rattle.ptg_top.specs.Headline.{text_of, status_of}
@@ -58,7 +58,7 @@ certified_once P given v w con (c, h, e) (d, k, q) =
     let ws = class_weights P given in
     e ∙ (ap (λ (x : Certificate). verdicts.Ran P (certified ws (answer P given) x)) (one P given ws c d con h k) ∙ sym q)
 
-certify_once : (files : Entries) (jdf data_name : List ℕ) (v w : Denotation) → CommandDenotes files (Certify jdf data_name) v → CommandDenotes files (Certify jdf data_name) w → v ≡ w
+certify_once : (files : NamedFiles) (jdf data_name : List ℕ) (v w : Denotation) → CommandDenotes files (Certify jdf data_name) v → CommandDenotes files (Certify jdf data_name) w → v ≡ w
 certify_once files jdf data_name v w (a, h, e) (b, k, d) =
     let a_file = file_of files jdf in
     let b_file = file_of files data_name in
@@ -68,7 +68,7 @@ certify_once files jdf data_name v w (a, h, e) (b, k, d) =
 
 -- a text has one first fault, or is a trace
 replay_of_once : (P : Plan) (given : Data) (text : List ℕ) (v w : Denotation) → IsConsistent P → IsReplayOf text P given v → IsReplayOf text P given w → v ≡ w
-replay_of_once P given text v w con (inl (f, h, e)) (inl (g, k, d)) = e ∙ (ap verdicts.Trace (one_fault P given text f g h k) ∙ sym d)
+replay_of_once P given text v w con (inl (f, h, e)) (inl (g, k, d)) = e ∙ (ap verdicts.TraceRefused (one_fault P given text f g h k) ∙ sym d)
 replay_of_once P given text v w con (inl (f, h, e)) (inr (trace, d)) = absurd (trace_or_fault P given con text trace f h)
 replay_of_once P given text v w con (inr (trace, e)) (inl (g, k, d)) = absurd (trace_or_fault P given con text trace g k)
 replay_of_once P given text v w con (inr (trace, e)) (inr (other, d)) = e ∙ sym d
@@ -77,7 +77,7 @@ replayed_once : (trace : List ℕ) (content : Option (List ℕ)) (P : Plan) (giv
 replayed_once trace None P given v w con h k = h ∙ sym k
 replayed_once trace (Some text) P given v w con h k = replay_of_once P given text v w con h k
 
-replay_once : (files : Entries) (jdf data_name trace : List ℕ) (v w : Denotation) → CommandDenotes files (Replay jdf data_name trace) v → CommandDenotes files (Replay jdf data_name trace) w → v ≡ w
+replay_once : (files : NamedFiles) (jdf data_name trace : List ℕ) (v w : Denotation) → CommandDenotes files (Replay jdf data_name trace) v → CommandDenotes files (Replay jdf data_name trace) w → v ≡ w
 replay_once files jdf data_name trace v w (a, h, e) (b, k, d) =
     let a_file = file_of files jdf in
     let b_file = file_of files data_name in
@@ -87,17 +87,17 @@ replay_once files jdf data_name trace v w (a, h, e) (b, k, d) =
     (subst (λ (c : Denotation). OnConsistent Verb c v) (contents_once jdf data_name a_file b_file a b h k) e) d
 
 -- two verdicts of `trace` are the same refusal, or traces of one job
-traces_on : (files : Entries) (jdf data_name : List ℕ) (checked v w : Denotation) → FilesDenote files jdf data_name checked → OnConsistent IsTraced checked v → OnConsistent IsTraced checked w → (v ≡ w) ⊎ AreTracesOfOneJob files v w
+traces_on : (files : NamedFiles) (jdf data_name : List ℕ) (checked v w : Denotation) → FilesDenote files jdf data_name checked → OnConsistent IsTraced checked v → OnConsistent IsTraced checked w → (v ≡ w) ⊎ AreTracesOfOneJob files v w
 traces_on files jdf data_name (verdicts.Job (jobs.Consistent P given)) v w found h k = inr (jdf, data_name, P, given, found, h, k)
 traces_on files jdf data_name checked v w found h k = inl (h ∙ sym k)
 
-traces_of_one_job : (files : Entries) (jdf data_name : List ℕ) (workers shards : ℕ) (v w : Denotation) → CommandDenotes files (Trace jdf data_name workers shards) v → CommandDenotes files (Trace jdf data_name workers shards) w
+traces_of_one_job : (files : NamedFiles) (jdf data_name : List ℕ) (workers shards : ℕ) (v w : Denotation) → CommandDenotes files (Trace jdf data_name workers shards) v → CommandDenotes files (Trace jdf data_name workers shards) w
     → (v ≡ w) ⊎ AreTracesOfOneJob files v w
 traces_of_one_job files jdf data_name workers shards v w (a, h, e) (b, k, d) =
     traces_on files jdf data_name b v w k (subst (λ (c : Denotation). OnConsistent IsTraced c v) (contents_once jdf data_name (file_of files jdf) (file_of files data_name) a b h k) e) d
 
 -- a command and the files denote one verdict at most, where it is no trace
-command_once : (files : Entries) (command : Order) (v w : Denotation) → IsNoTrace command → CommandDenotes files command v → CommandDenotes files command w → v ≡ w
+command_once : (files : NamedFiles) (command : Order) (v w : Denotation) → IsNoTrace command → CommandDenotes files command v → CommandDenotes files command w → v ≡ w
 command_once files (Trace jdf data_name workers shards) v w free h k = absurd free
 command_once files (Run jdf data_name workers shards preload) v w free (a, h, e) (b, k, d) =
     let settings : Settings = record { workers = workers; shards = shards; preload = preload } in
@@ -121,7 +121,7 @@ one_meaning words files v w free (inr (a, formed, h)) (inr (b, other, k)) =
     command_once files b v w (free b other) (subst (λ (r : Order). CommandDenotes files r v) (one_command words a b formed other) h) k
 
 -- and two of a trace are of one job
-one_or_traces : (files : Entries) (command : Order) (v w : Denotation) → CommandDenotes files command v → CommandDenotes files command w → (v ≡ w) ⊎ AreTracesOfOneJob files v w
+one_or_traces : (files : NamedFiles) (command : Order) (v w : Denotation) → CommandDenotes files command v → CommandDenotes files command w → (v ≡ w) ⊎ AreTracesOfOneJob files v w
 one_or_traces files (Trace jdf data_name workers shards) v w h k = traces_of_one_job files jdf data_name workers shards v w h k
 one_or_traces files (Run jdf data_name workers shards preload) v w h k = inl (command_once files (Run jdf data_name workers shards preload) v w tt h k)
 one_or_traces files (Show jdf) v w h k = inl (command_once files (Show jdf) v w tt h k)

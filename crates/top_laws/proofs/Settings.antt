@@ -11,7 +11,7 @@ use Rattle.ptg_words.specs.declared.order.Order.TheVariants.{Ranks, Run}
 use Rattle.ptg_top.specs.declared.verdict.Finding.TheVariants.{Answer}
 use Rattle.ptg_top.specs.Denotation as verdicts
 use Rattle.ptg_top.specs.Denotation.{Denotation}
-use Rattle.ptg_top.specs.JobFiles.{Entries}
+use Rattle.ptg_top.specs.JobFiles.{NamedFiles}
 use Rattle.ptg_top.specs.Meaning.{CommandDenotes, Denotes}
 use Rattle.top_laws.specs.Settings.{SeedsChangeNothing, ShardsChangeNothing, WorkersChangeNothing}
 use Rattle.ptg_top.specs.Answering.{IsAnswer, OnConsistent}
@@ -26,10 +26,10 @@ alike_on : (a b : Settings) → AreAlike a b → (checked v : Denotation) → On
 alike_on a b same (verdicts.Job (jobs.Consistent P given)) v h = h ∙ ap (λ (large : Bool). answered large) (same P)
   where
     answered : Bool → Denotation
-    answered large = if large then verdicts.Preload else verdicts.Ran P (Answer (answer P given))
+    answered large = if large then verdicts.PreloadTooLarge else verdicts.Ran P (Answer (answer P given))
 alike_on a b same checked v h = h
 
-module _ (one other : List (List ℕ)) (jdf data_name : List ℕ) (a b : Settings) (files : Entries) (v : Denotation) where
+module _ (one other : List (List ℕ)) (jdf data_name : List ℕ) (a b : Settings) (files : NamedFiles) (v : Denotation) where
   same_denoted : AreAlike a b → Orders one (Run jdf data_name a.workers a.shards a.preload) → Orders other (Run jdf data_name b.workers b.shards b.preload)
       → Denotes one files v → Denotes other files v
   same_denoted same first second (inl (none, e)) = absurd (none (Run jdf data_name a.workers a.shards a.preload) first)

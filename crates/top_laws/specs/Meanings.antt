@@ -10,7 +10,7 @@ use Rattle.ptg_top.specs.declared.status.Status.{Status}
 use Rattle.ptg_top.specs.Denotation as verdicts
 use Rattle.ptg_top.specs.Denotation.{Denotation}
 use Rattle.ptg_top.specs.Headline.{Prints}
-use Rattle.ptg_top.specs.JobFiles.{Entries, FilesDenote}
+use Rattle.ptg_top.specs.JobFiles.{FilesDenote, NamedFiles}
 use Rattle.ptg_top.specs.Meaning.{Denotes}
 use Rattle.ptg_top.specs.Trace.{IsTraced}
 
@@ -26,11 +26,11 @@ AskForNoTrace words = (command : Order) → Orders words command → IsNoTrace c
 -- arguments that ask for no trace and files denote one verdict at most
 abbrev pub OneMeaning : Type 0
 OneMeaning =
-    (words : List (List ℕ)) (files : Entries) (v w : Denotation) → AskForNoTrace words → Denotes words files v
+    (words : List (List ℕ)) (files : NamedFiles) (v w : Denotation) → AskForNoTrace words → Denotes words files v
     → Denotes words files w → v ≡ w
 
 -- two verdicts are texts of whole orders of one consistent job, which two of the files denote
-abbrev pub AreTracesOfOneJob : Entries → Denotation → Denotation → Type 0
+abbrev pub AreTracesOfOneJob : NamedFiles → Denotation → Denotation → Type 0
 AreTracesOfOneJob files v w =
     (jdf data_name : List ℕ) × (P : Plan) × (given : Data)
     × FilesDenote files jdf data_name (verdicts.Job (jobs.Consistent P given))
@@ -39,22 +39,22 @@ AreTracesOfOneJob files v w =
 -- two verdicts that any arguments and files denote are the same, or traces of one job
 abbrev pub OneJob : Type 0
 OneJob =
-    (words : List (List ℕ)) (files : Entries) (v w : Denotation) → Denotes words files v → Denotes words files w
+    (words : List (List ℕ)) (files : NamedFiles) (v w : Denotation) → Denotes words files v → Denotes words files w
     → (v ≡ w) ⊎ AreTracesOfOneJob files v w
 
 -- any arguments and files denote a verdict
 abbrev pub SomeMeaning : Type 0
-SomeMeaning = (words : List (List ℕ)) (files : Entries) → (v : Denotation) × Denotes words files v
+SomeMeaning = (words : List (List ℕ)) (files : NamedFiles) → (v : Denotation) × Denotes words files v
 
 -- arguments that ask for no trace and files determine what is printed, and the status
 abbrev pub OneOutput : Type 0
 OneOutput =
-    (words : List (List ℕ)) (files : Entries) (before after other : Option (List ℕ)) (status another : Status)
+    (words : List (List ℕ)) (files : NamedFiles) (before after other : Option (List ℕ)) (status another : Status)
     → AskForNoTrace words → Prints words files before after status → Prints words files before other another
     → (after ≡ other) × (status ≡ another)
 
 -- for any arguments and files something is printed, with a status
 abbrev pub SomeOutput : Type 0
 SomeOutput =
-    (words : List (List ℕ)) (files : Entries) (before : Option (List ℕ))
+    (words : List (List ℕ)) (files : NamedFiles) (before : Option (List ℕ))
     → (after : Option (List ℕ)) × (status : Status) × Prints words files before after status

@@ -7,7 +7,7 @@ use Rattle.std.specs.Cmp.{first_so, second_so}
 use Rattle.trace_core.specs.Cutting.{IsCut, opens_with}
 use Rattle.trace_core.specs.Rows.{AreNumbers, BeginsWithNumber, BeginsWithRow, HasNoNumber, IsOfNumbers, IsRowOf, number_field, number_fields, row_content}
 use Rattle.trace_core.specs.Spelling.{HasNoRow, IsSpelled, is_number, is_name}
-use Rattle.trace_core.specs.Text.{Entry}
+use Rattle.trace_core.specs.Text.{TraceRow}
 use Rattle.trace_core.proofs.Cuts.{cut_once}
 use Rattle.trace_core.proofs.Spelled.{fields_open, name_free, row_free, row_split, same_number, signed_free}
 
@@ -45,21 +45,21 @@ no_numbers text is = ([], record { spelled = is; fit = refl })
 
 -- the parts of a row
 module _ (line fields name numbers : List ℕ) (word : line ≡ codes "ran," ++ fields) (cut : IsCut 44 fields name numbers) where
-  pub parts_some : is_name name ≡ true → IsOfNumbers numbers → (e : Entry) × IsRowOf e name numbers × (line ≡ row_content e)
+  pub parts_some : is_name name ≡ true → IsOfNumbers numbers → (e : TraceRow) × IsRowOf e name numbers × (line ≡ row_content e)
   parts_some named p =
-      let e : Entry = record { name = name; params = p.0 } in (
+      let e : TraceRow = record { name = name; params = p.0 } in (
         e,
         record { spelled = record { name = named; params = p.1.fit }; same_name = refl; same_numbers = p.1.spelled },
         word ∙ ap (λ t. codes "ran," ++ t) (cut.split ∙ ap (λ t. name ++ t) p.1.spelled),
       )
 
-  pub parts_are : (e : Entry) → IsSpelled e → line ≡ row_content e → (name ≡ e.name) × (numbers ≡ number_fields e.params)
+  pub parts_are : (e : TraceRow) → IsSpelled e → line ≡ row_content e → (name ≡ e.name) × (numbers ≡ number_fields e.params)
   parts_are e s is =
       let whole : codes "ran," ++ fields ≡ codes "ran," ++ (e.name ++ number_fields e.params) = sym word ∙ is in
       let same : fields ≡ e.name ++ number_fields e.params = cc in
       cut_once 44 name e.name numbers (number_fields e.params) cut.free (name_free 44 refl e.name s.name) cut.next (fields_open e.params) (sym cut.split ∙ same)
 
-  pub parts_none : (is_name name ≡ true → IsOfNumbers numbers → ⊥) → (e : Entry) → IsSpelled e → line ≡ row_content e → ⊥
+  pub parts_none : (is_name name ≡ true → IsOfNumbers numbers → ⊥) → (e : TraceRow) → IsSpelled e → line ≡ row_content e → ⊥
   parts_none none e s is =
       let r = parts_are e s is in
       none (ap is_name r.0 ∙ s.name) (e.params, record { spelled = r.1; fit = s.params })
@@ -69,11 +69,11 @@ lf_first text line rest b later cut is =
     let lf : b ≡ 10 = eqb-true b 10 (subst (λ l. opens_with 10 l ≡ true) is cut.next) in
     cut.split ∙ ap (λ t. line ++ t) (is ∙ (λ i. lf i ∷ later))
 
-pub no_row : (text line rest : List ℕ) (b : ℕ) (later : List ℕ) → IsCut 10 text line rest → rest ≡ b ∷ later → ((e : Entry) → IsSpelled e → line ≡ row_content e → ⊥) → HasNoRow text
+pub no_row : (text line rest : List ℕ) (b : ℕ) (later : List ℕ) → IsCut 10 text line rest → rest ≡ b ∷ later → ((e : TraceRow) → IsSpelled e → line ≡ row_content e → ⊥) → HasNoRow text
 no_row text line rest b later cut is none e more s h =
     let whole : line ++ rest ≡ row_content e ++ 10 ∷ more = sym cut.split ∙ h ∙ row_split e more in
     none e s (cut_once 10 line (row_content e) rest (10 ∷ more) cut.free (row_free e s) cut.next refl whole).0
 
-pub a_row : (text line rest : List ℕ) (b : ℕ) (later name numbers : List ℕ) → IsCut 10 text line rest → rest ≡ b ∷ later → (e : Entry) × IsRowOf e name numbers × (line ≡ row_content e) → BeginsWithRow text name numbers later
+pub a_row : (text line rest : List ℕ) (b : ℕ) (later name numbers : List ℕ) → IsCut 10 text line rest → rest ≡ b ∷ later → (e : TraceRow) × IsRowOf e name numbers × (line ≡ row_content e) → BeginsWithRow text name numbers later
 a_row text line rest b later name numbers cut is p =
     record { entry = p.0; row = p.1; split = lf_first text line rest b later cut is ∙ ap (λ t. t ++ 10 ∷ later) p.2 ∙ sym (row_split p.0 later) }

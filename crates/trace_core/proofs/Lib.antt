@@ -11,3 +11,10 @@ pub mod Lists
 pub mod OneReading
 pub mod Wholes
 pub mod ReadFaults
+pub mod NoRows
+pub mod Deciding
+pub mod EitherNumbers
+pub mod EitherRows
+pub mod Spellings
+pub mod Running
+pub mod Either

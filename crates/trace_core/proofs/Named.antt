@@ -16,7 +16,7 @@ use Rattle.dep_iter.specs.Tasks.{task}
 use Rattle.flow_meaning.proofs.SourceEdges.{class_of}
 use Rattle.trace_core.specs.Naming.{IsNamed, Names}
 use Rattle.trace_core.specs.Rows.{AreNumbers, IsRowOf}
-use Rattle.trace_core.specs.Text.{Entry}
+use Rattle.trace_core.specs.Text.{TraceRow}
 use Rattle.std.specs.Cmp.{first_so, second_so}
 use Rattle.std.specs.Str.{bytes_eq}
 use Rattle.list_lemmas.proofs.Texts.{equal_bytes}
@@ -84,19 +84,19 @@ pub class_name_at : (P : Plan) (n : ℕ) (c : ClassPlan) → slice_get P.classes
 class_name_at P n c e = ap (λ o. option_map_or (λ (d : ClassPlan). d.name) o []) e
 
 -- the class of a task that a row names has its name
-pub named_class : (P : Plan) (e : Entry) (t : Task) → Names P e t → IsNamed P.classes e.name t.class
+pub named_class : (P : Plan) (e : TraceRow) (t : Task) → Names P e t → IsNamed P.classes e.name t.class
 named_class P e t h =
     let k = class_of P t h.0 in
-    (k.class, k.class_is, sym (ap (λ (x : Entry). x.name) h.1 ∙ class_name_at P t.class k.class k.class_is))
+    (k.class, k.class_is, sym (ap (λ (x : TraceRow). x.name) h.1 ∙ class_name_at P t.class k.class k.class_is))
 
 -- a row names one task at most
-pub one_task : (P : Plan) (e : Entry) (t u : Task) → Names P e t → Names P e u → t ≡ u
+pub one_task : (P : Plan) (e : TraceRow) (t u : Task) → Names P e t → Names P e u → t ≡ u
 one_task P e t u h k =
     let class = one_name P.classes e.name P.well_made.class_names t.class u.class (named_class P e t h) (named_class P e u k) in
-    let params : t.params ≡ u.params = sym (ap (λ (x : Entry). x.params) h.1) ∙ ap (λ (x : Entry). x.params) k.1 in
+    let params : t.params ≡ u.params = sym (ap (λ (x : TraceRow). x.params) h.1) ∙ ap (λ (x : TraceRow). x.params) k.1 in
     λ i. record { class = class i; params = params i }
 
-module _ (P : Plan) (e : Entry) (name numbers : List ℕ) (row : IsRowOf e name numbers) where
+module _ (P : Plan) (e : TraceRow) (name numbers : List ℕ) (row : IsRowOf e name numbers) where
   pub no_such_class : ((k : ℕ) → IsNamed P.classes name k → ⊥) → (t : Task) → Names P e t → ⊥
   no_such_class none t h = none t.class (subst (λ l. IsNamed P.classes l t.class) (sym row.same_name) (named_class P e t h))
 
@@ -112,7 +112,7 @@ module _ (P : Plan) (e : Entry) (name numbers : List ℕ) (row : IsRowOf e name 
     too_many fits more t h =
         let k = class_of P t h.0 in
         let there : IsIn t.params (tasks k.space) = (rw k.space_is at h.0) in
-        let same = ap (λ (x : Entry). length x.params) h.1 in
+        let same = ap (λ (x : TraceRow). length x.params) h.1 in
         let arity = arity_of_task k.space t.params there in
         let sized = fits k.space (ap (slice_get P.spaces) (sym (its_class t h)) ∙ k.space_is) in
         absurd (omega arith)
@@ -120,5 +120,5 @@ module _ (P : Plan) (e : Entry) (name numbers : List ℕ) (row : IsRowOf e name 
     pub it_is : (params : List ℤ) → params ≡ e.params → (t : Task) → Names P e t → t ≡ task n params
     it_is params is t h =
         let class = its_class t h in
-        let same : t.params ≡ params = sym (ap (λ (x : Entry). x.params) h.1) ∙ sym is in
+        let same : t.params ≡ params = sym (ap (λ (x : TraceRow). x.params) h.1) ∙ sym is in
         λ i. record { class = class i; params = same i }

@@ -16,7 +16,7 @@ use Rattle.trace_core.specs.Faults.{IsFaultOfRow, IsMissing, IsRowFault, IsTrace
 use Rattle.trace_core.specs.Orders.{MayAllRunAfter, MayRunAfter}
 use Rattle.trace_core.specs.Reading.{IsSpellingFault, of_a_row, over_length}
 use Rattle.trace_core.specs.Spelling.{IsWellSpelled}
-use Rattle.trace_core.specs.Text.{Entry, entry_of}
+use Rattle.trace_core.specs.Text.{TraceRow, row_of}
 use Rattle.trace_core.proofs.Named.{one_task}
 use Rattle.trace_core.proofs.OneText.{one_bad_row, one_spelling, spelled_or_bad}
 
@@ -30,7 +30,7 @@ one_spelling_fault text f g (over_length l p) (of_a_row le b c) = absurd (omega 
 one_spelling_fault text f g (of_a_row le a c) (over_length m r) = absurd (omega arith)
 one_spelling_fault text f g (of_a_row le a c) (of_a_row ge b d) = same_fault f g (one_bad_row text f.row g.row a b) (c ∙ sym d)
 
-pub no_spelling_fault : (text : List ℕ) (es : List Entry) (f : TraceFault) → length text ≤ 16777216 → IsWellSpelled text es → IsSpellingFault text f → ⊥
+pub no_spelling_fault : (text : List ℕ) (es : List TraceRow) (f : TraceFault) → length text ≤ 16777216 → IsWellSpelled text es → IsSpellingFault text f → ⊥
 no_spelling_fault text es f le w (over_length l p) = absurd (omega arith)
 no_spelling_fault text es f le w (of_a_row ge a c) = spelled_or_bad text es f.row w a
 
@@ -42,7 +42,7 @@ module _ (P : Plan) (G : Data) where
   ]
 
   -- a row has no fault whose task may run
-  fault_or_run : (before : List Task) (e : Entry) (code : TraceCode) (t : Task) → IsRowFault P G before e code → e ≡ entry_of P t → MayRunAfter P G before t → ⊥
+  fault_or_run : (before : List Task) (e : TraceRow) (code : TraceCode) (t : Task) → IsRowFault P G before e code → e ≡ row_of P t → MayRunAfter P G before t → ⊥
   fault_or_run before e TooLong t f is may = f
   fault_or_run before e BadTrace t f is may = f
   fault_or_run before e UnknownTask t f is may = f t (may.follows.task, is)
@@ -55,7 +55,7 @@ module _ (P : Plan) (G : Data) where
   fault_or_run before e Unfinished t f is may = f
 
   -- a row has one code at most
-  one_code : (before : List Task) (e : Entry) (c d : TraceCode) → IsRowFault P G before e c → IsRowFault P G before e d → c ≡ d
+  one_code : (before : List Task) (e : TraceRow) (c d : TraceCode) → IsRowFault P G before e c → IsRowFault P G before e d → c ≡ d
   one_code before e TooLong d f g = absurd f
   one_code before e BadTrace d f g = absurd f
   one_code before e Unfinished d f g = absurd f
@@ -79,60 +79,60 @@ module _ (P : Plan) (G : Data) where
   one_code before e TooEarly Unfinished f g = absurd g
 
   -- rows that all may run have none that fails
-  none_fails : (acc ts front : List Task) (e : Entry) (later : List Entry) (c : TraceCode) → map (entry_of P) ts ≡ map (entry_of P) front ++ e ∷ later → MayAllRunAfter P G acc ts → MayAllRunAfter P G acc front → IsRowFault P G (acc ++ front) e c → ⊥
+  none_fails : (acc ts front : List Task) (e : TraceRow) (later : List TraceRow) (c : TraceCode) → map (row_of P) ts ≡ map (row_of P) front ++ e ∷ later → MayAllRunAfter P G acc ts → MayAllRunAfter P G acc front → IsRowFault P G (acc ++ front) e c → ⊥
   none_fails acc [] [] e later c h may mays f = let never : [] ≡ e ∷ later = h in absurd cc
-  none_fails acc [] (u ∷ us) e later c h may mays f = let never : [] ≡ entry_of P u ∷ (map (entry_of P) us ++ e ∷ later) = h in absurd cc
+  none_fails acc [] (u ∷ us) e later c h may mays f = let never : [] ≡ row_of P u ∷ (map (row_of P) us ++ e ∷ later) = h in absurd cc
   none_fails acc (t ∷ ts) [] e later c h may mays f =
-      let whole : entry_of P t ∷ map (entry_of P) ts ≡ e ∷ later = h in
-      let first : entry_of P t ≡ e = cc in
+      let whole : row_of P t ∷ map (row_of P) ts ≡ e ∷ later = h in
+      let first : row_of P t ≡ e = cc in
       fault_or_run acc e c t (subst (λ b. IsRowFault P G b e c) (append-nil acc) f) (sym first) may.0
   none_fails acc (t ∷ ts) (u ∷ us) e later c h may mays f =
-      let whole : entry_of P t ∷ map (entry_of P) ts ≡ entry_of P u ∷ (map (entry_of P) us ++ e ∷ later) = h in
-      let first : entry_of P t ≡ entry_of P u = cc in
-      let rest : map (entry_of P) ts ≡ map (entry_of P) us ++ e ∷ later = cc in
-      let same = one_task P (entry_of P t) t u (may.0.follows.task, refl) (mays.0.follows.task, first) in
+      let whole : row_of P t ∷ map (row_of P) ts ≡ row_of P u ∷ (map (row_of P) us ++ e ∷ later) = h in
+      let first : row_of P t ≡ row_of P u = cc in
+      let rest : map (row_of P) ts ≡ map (row_of P) us ++ e ∷ later = cc in
+      let same = one_task P (row_of P t) t u (may.0.follows.task, refl) (mays.0.follows.task, first) in
       none_fails (acc ++ t ∷ []) ts us e later c rest may.1 (subst (λ v. MayAllRunAfter P G (acc ++ v ∷ []) us) (sym same) mays.1)
       (subst (λ b. IsRowFault P G b e c) ((λ i. acc ++ sym same i ∷ us) ∙ sym (append_assoc acc (t ∷ []) us)) f)
 
   -- of two rows that fail, after rows that may run, each is the other
-  one_row : (acc front rear : List Task) (d e : Entry) (ds es : List Entry) (b c : TraceCode) → map (entry_of P) front ++ d ∷ ds ≡ map (entry_of P) rear ++ e ∷ es → MayAllRunAfter P G acc front → MayAllRunAfter P G acc rear
+  one_row : (acc front rear : List Task) (d e : TraceRow) (ds es : List TraceRow) (b c : TraceCode) → map (row_of P) front ++ d ∷ ds ≡ map (row_of P) rear ++ e ∷ es → MayAllRunAfter P G acc front → MayAllRunAfter P G acc rear
       → IsRowFault P G (acc ++ front) d b → IsRowFault P G (acc ++ rear) e c → (length front ≡ length rear) × (b ≡ c)
   one_row acc [] [] d e ds es b c h may mays f g =
       let whole : d ∷ ds ≡ e ∷ es = h in
       let first : d ≡ e = cc in
       (refl, one_code (acc ++ []) d b c f (subst (λ x. IsRowFault P G (acc ++ []) x c) (sym first) g))
   one_row acc [] (u ∷ us) d e ds es b c h may mays f g =
-      let whole : d ∷ ds ≡ entry_of P u ∷ (map (entry_of P) us ++ e ∷ es) = h in
-      let first : d ≡ entry_of P u = cc in
+      let whole : d ∷ ds ≡ row_of P u ∷ (map (row_of P) us ++ e ∷ es) = h in
+      let first : d ≡ row_of P u = cc in
       absurd (fault_or_run acc d b u (subst (λ x. IsRowFault P G x d b) (append-nil acc) f) first mays.0)
   one_row acc (t ∷ ts) [] d e ds es b c h may mays f g =
-      let whole : entry_of P t ∷ (map (entry_of P) ts ++ d ∷ ds) ≡ e ∷ es = h in
-      let first : entry_of P t ≡ e = cc in
+      let whole : row_of P t ∷ (map (row_of P) ts ++ d ∷ ds) ≡ e ∷ es = h in
+      let first : row_of P t ≡ e = cc in
       absurd (fault_or_run acc e c t (subst (λ x. IsRowFault P G x e c) (append-nil acc) g) (sym first) may.0)
   one_row acc (t ∷ ts) (u ∷ us) d e ds es b c h may mays f g =
-      let whole : entry_of P t ∷ (map (entry_of P) ts ++ d ∷ ds) ≡ entry_of P u ∷ (map (entry_of P) us ++ e ∷ es) = h in
-      let first : entry_of P t ≡ entry_of P u = cc in
-      let rest : map (entry_of P) ts ++ d ∷ ds ≡ map (entry_of P) us ++ e ∷ es = cc in
-      let same = one_task P (entry_of P t) t u (may.0.follows.task, refl) (mays.0.follows.task, first) in
+      let whole : row_of P t ∷ (map (row_of P) ts ++ d ∷ ds) ≡ row_of P u ∷ (map (row_of P) us ++ e ∷ es) = h in
+      let first : row_of P t ≡ row_of P u = cc in
+      let rest : map (row_of P) ts ++ d ∷ ds ≡ map (row_of P) us ++ e ∷ es = cc in
+      let same = one_task P (row_of P t) t u (may.0.follows.task, refl) (mays.0.follows.task, first) in
       let q = one_row (acc ++ t ∷ []) ts us d e ds es b c rest may.1 (subst (λ v. MayAllRunAfter P G (acc ++ v ∷ []) us) (sym same) mays.1)
       (subst (λ x. IsRowFault P G x d b) (sym (append_assoc acc (t ∷ []) ts)) f)
       (subst (λ x. IsRowFault P G x e c) ((λ i. acc ++ sym same i ∷ us) ∙ sym (append_assoc acc (t ∷ []) us)) g) in
       (omega (arith, q.0), q.1)
 
   -- lists of tasks that may run and have the same rows are the same
-  pub same_tasks : (acc ts us : List Task) → map (entry_of P) ts ≡ map (entry_of P) us → MayAllRunAfter P G acc ts → MayAllRunAfter P G acc us → ts ≡ us
+  pub same_tasks : (acc ts us : List Task) → map (row_of P) ts ≡ map (row_of P) us → MayAllRunAfter P G acc ts → MayAllRunAfter P G acc us → ts ≡ us
   same_tasks acc [] [] h may mays = refl
-  same_tasks acc [] (u ∷ us) h may mays = let never : [] ≡ entry_of P u ∷ map (entry_of P) us = h in absurd cc
-  same_tasks acc (t ∷ ts) [] h may mays = let never : entry_of P t ∷ map (entry_of P) ts ≡ [] = h in absurd cc
+  same_tasks acc [] (u ∷ us) h may mays = let never : [] ≡ row_of P u ∷ map (row_of P) us = h in absurd cc
+  same_tasks acc (t ∷ ts) [] h may mays = let never : row_of P t ∷ map (row_of P) ts ≡ [] = h in absurd cc
   same_tasks acc (t ∷ ts) (u ∷ us) h may mays =
-      let whole : entry_of P t ∷ map (entry_of P) ts ≡ entry_of P u ∷ map (entry_of P) us = h in
-      let first : entry_of P t ≡ entry_of P u = cc in
-      let rest : map (entry_of P) ts ≡ map (entry_of P) us = cc in
-      let same = one_task P (entry_of P t) t u (may.0.follows.task, refl) (mays.0.follows.task, first) in
+      let whole : row_of P t ∷ map (row_of P) ts ≡ row_of P u ∷ map (row_of P) us = h in
+      let first : row_of P t ≡ row_of P u = cc in
+      let rest : map (row_of P) ts ≡ map (row_of P) us = cc in
+      let same = one_task P (row_of P t) t u (may.0.follows.task, refl) (mays.0.follows.task, first) in
       let later = same_tasks (acc ++ t ∷ []) ts us rest may.1 (subst (λ v. MayAllRunAfter P G (acc ++ v ∷ []) us) (sym same) mays.1) in
       λ i. same i ∷ later i
 
-  one_of_tasks : (es : List Entry) (f g : TraceFault) → IsFaultOfRow P G es f ⊎ IsUnfinished P G es f → IsFaultOfRow P G es g ⊎ IsUnfinished P G es g → f ≡ g
+  one_of_tasks : (es : List TraceRow) (f g : TraceFault) → IsFaultOfRow P G es f ⊎ IsUnfinished P G es f → IsFaultOfRow P G es g ⊎ IsUnfinished P G es g → f ≡ g
   one_of_tasks es f g (inl a) (inl b) =
       let q = one_row [] a.before b.before a.failed b.failed a.later b.later f.code g.code (sym a.split ∙ b.split) a.may_run b.may_run a.code b.code in
       same_fault f g (a.row ∙ ap (λ n. n + 2) q.0 ∙ sym b.row) q.1
@@ -148,10 +148,10 @@ module _ (P : Plan) (G : Data) where
       one_of_tasks es f g a (subst (λ l. IsFaultOfRow P G l g ⊎ IsUnfinished P G l g) (sym (one_spelling text es ds w v)) b)
 
   -- a text whose rows are tasks that may run, with each task that runs among them, has no fault
-  pub faultless : (text : List ℕ) (ts : List Task) → length text ≤ 16777216 → IsWellSpelled text (map (entry_of P) ts) → MayAllRunAfter P G [] ts → ((t : Task) → IsIn t (ran P G) → IsIn t ts) → (f : TraceFault) → IsTraceFault P G text f → ⊥
-  faultless text ts le w may all f (of_spelling a) = no_spelling_fault text (map (entry_of P) ts) f le w a
-  faultless text ts le w may all f (of_tasks es ge v a) = by (subst (λ l. IsFaultOfRow P G l f ⊎ IsUnfinished P G l f) (one_spelling text es (map (entry_of P) ts) v w) a)
+  pub faultless : (text : List ℕ) (ts : List Task) → length text ≤ 16777216 → IsWellSpelled text (map (row_of P) ts) → MayAllRunAfter P G [] ts → ((t : Task) → IsIn t (ran P G) → IsIn t ts) → (f : TraceFault) → IsTraceFault P G text f → ⊥
+  faultless text ts le w may all f (of_spelling a) = no_spelling_fault text (map (row_of P) ts) f le w a
+  faultless text ts le w may all f (of_tasks es ge v a) = by (subst (λ l. IsFaultOfRow P G l f ⊎ IsUnfinished P G l f) (one_spelling text es (map (row_of P) ts) v w) a)
     where
-      by : IsFaultOfRow P G (map (entry_of P) ts) f ⊎ IsUnfinished P G (map (entry_of P) ts) f → ⊥
+      by : IsFaultOfRow P G (map (row_of P) ts) f ⊎ IsUnfinished P G (map (row_of P) ts) f → ⊥
       by (inl r) = none_fails [] ts r.before r.failed r.later f.code r.split may r.may_run r.code
       by (inr u) = u.missing.2 (subst (IsIn u.missing.0) (same_tasks [] ts u.tasks u.all may u.may_run) (all u.missing.0 u.missing.1))

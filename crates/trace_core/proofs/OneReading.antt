@@ -16,7 +16,7 @@ use Rattle.trace_core.specs.declared.fault.TraceCode.TheVariants.{TooLong, BadTr
 use Rattle.trace_core.specs.declared.fault.TraceFault.{TraceFault}
 use Rattle.trace_core.specs.Naming.{AreRowsBefore, AreRowsOf, IsNamingFault, Names}
 use Rattle.trace_core.specs.Reading.{IsReadFault, IsReading}
-use Rattle.trace_core.specs.Text.{Entry, entry_of}
+use Rattle.trace_core.specs.Text.{TraceRow, row_of}
 use Rattle.trace_core.proofs.Lists.{same_list}
 use Rattle.trace_core.proofs.Named.{one_task}
 use Rattle.trace_core.proofs.OneFault.{no_spelling_fault, one_spelling_fault, same_fault}
@@ -24,7 +24,7 @@ use Rattle.trace_core.proofs.OneText.{one_spelling}
 
 module _ (P : Plan) where
   -- a row that names a task which is new has no fault
-  no_fault : (before : List Task) (e : Entry) (t : Task) (c : TraceCode) → Names P e t → (IsIn t before → ⊥) → IsNamingFault P before e c → ⊥
+  no_fault : (before : List Task) (e : TraceRow) (t : Task) (c : TraceCode) → Names P e t → (IsIn t before → ⊥) → IsNamingFault P before e c → ⊥
   no_fault before e t TooLong names new f = f
   no_fault before e t BadTrace names new f = f
   no_fault before e t UnknownTask names new f = f t names
@@ -33,7 +33,7 @@ module _ (P : Plan) where
   no_fault before e t Unfinished names new f = f
 
   -- a row has one code at most
-  one_code : (before : List Task) (e : Entry) (c d : TraceCode) → IsNamingFault P before e c → IsNamingFault P before e d → c ≡ d
+  one_code : (before : List Task) (e : TraceRow) (c d : TraceCode) → IsNamingFault P before e c → IsNamingFault P before e d → c ≡ d
   one_code before e TooLong d f g = absurd f
   one_code before e BadTrace d f g = absurd f
   one_code before e TooEarly d f g = absurd f
@@ -56,24 +56,24 @@ module _ (P : Plan) where
   is_new acc ts t once i = HasNoRepeats-apart acc (t ∷ ts) once t i (inl refl)
 
   -- rows of different tasks have none that fails
-  none_fails : (acc ts us : List Task) (e : Entry) (later : List Entry) (c : TraceCode) → map (entry_of P) ts ≡ map (entry_of P) us ++ e ∷ later
+  none_fails : (acc ts us : List Task) (e : TraceRow) (later : List TraceRow) (c : TraceCode) → map (row_of P) ts ≡ map (row_of P) us ++ e ∷ later
       → AllByRecursion (IsTask P) ts → AllByRecursion (IsTask P) us → HasNoRepeats (acc ++ ts) → IsNamingFault P (acc ++ us) e c → ⊥
   none_fails acc [] [] e later c h job jobs once f = let never : [] ≡ e ∷ later = h in absurd cc
-  none_fails acc [] (u ∷ us) e later c h job jobs once f = let never : [] ≡ entry_of P u ∷ (map (entry_of P) us ++ e ∷ later) = h in absurd cc
+  none_fails acc [] (u ∷ us) e later c h job jobs once f = let never : [] ≡ row_of P u ∷ (map (row_of P) us ++ e ∷ later) = h in absurd cc
   none_fails acc (t ∷ ts) [] e later c h job jobs once f =
-      let whole : entry_of P t ∷ map (entry_of P) ts ≡ e ∷ later = h in
-      let first : entry_of P t ≡ e = cc in
+      let whole : row_of P t ∷ map (row_of P) ts ≡ e ∷ later = h in
+      let first : row_of P t ≡ e = cc in
       no_fault acc e t c (job.0, sym first) (is_new acc ts t once) (subst (λ b. IsNamingFault P b e c) (append-nil acc) f)
   none_fails acc (t ∷ ts) (u ∷ us) e later c h job jobs once f =
-      let whole : entry_of P t ∷ map (entry_of P) ts ≡ entry_of P u ∷ (map (entry_of P) us ++ e ∷ later) = h in
-      let first : entry_of P t ≡ entry_of P u = cc in
-      let rest : map (entry_of P) ts ≡ map (entry_of P) us ++ e ∷ later = cc in
-      let same = one_task P (entry_of P t) t u (job.0, refl) (jobs.0, first) in
+      let whole : row_of P t ∷ map (row_of P) ts ≡ row_of P u ∷ (map (row_of P) us ++ e ∷ later) = h in
+      let first : row_of P t ≡ row_of P u = cc in
+      let rest : map (row_of P) ts ≡ map (row_of P) us ++ e ∷ later = cc in
+      let same = one_task P (row_of P t) t u (job.0, refl) (jobs.0, first) in
       none_fails (acc ++ t ∷ []) ts us e later c rest job.1 jobs.1 (subst HasNoRepeats (sym (append_assoc acc (t ∷ []) ts)) once)
       (subst (λ b. IsNamingFault P b e c) ((λ i. acc ++ sym same i ∷ us) ∙ sym (append_assoc acc (t ∷ []) us)) f)
 
   -- of two rows that fail, after rows of different tasks, each is the other
-  one_row : (acc ts us : List Task) (d e : Entry) (ds es : List Entry) (b c : TraceCode) → map (entry_of P) ts ++ d ∷ ds ≡ map (entry_of P) us ++ e ∷ es
+  one_row : (acc ts us : List Task) (d e : TraceRow) (ds es : List TraceRow) (b c : TraceCode) → map (row_of P) ts ++ d ∷ ds ≡ map (row_of P) us ++ e ∷ es
       → AllByRecursion (IsTask P) ts → AllByRecursion (IsTask P) us → HasNoRepeats (acc ++ ts) → HasNoRepeats (acc ++ us)
       → IsNamingFault P (acc ++ ts) d b → IsNamingFault P (acc ++ us) e c → (length ts ≡ length us) × (b ≡ c)
   one_row acc [] [] d e ds es b c h job jobs once twice f g =
@@ -81,18 +81,18 @@ module _ (P : Plan) where
       let first : d ≡ e = cc in
       (refl, one_code (acc ++ []) d b c f (subst (λ x. IsNamingFault P (acc ++ []) x c) (sym first) g))
   one_row acc [] (u ∷ us) d e ds es b c h job jobs once twice f g =
-      let whole : d ∷ ds ≡ entry_of P u ∷ (map (entry_of P) us ++ e ∷ es) = h in
-      let first : d ≡ entry_of P u = cc in
+      let whole : d ∷ ds ≡ row_of P u ∷ (map (row_of P) us ++ e ∷ es) = h in
+      let first : d ≡ row_of P u = cc in
       absurd (no_fault acc d u b (jobs.0, first) (is_new acc us u twice) (subst (λ x. IsNamingFault P x d b) (append-nil acc) f))
   one_row acc (t ∷ ts) [] d e ds es b c h job jobs once twice f g =
-      let whole : entry_of P t ∷ (map (entry_of P) ts ++ d ∷ ds) ≡ e ∷ es = h in
-      let first : entry_of P t ≡ e = cc in
+      let whole : row_of P t ∷ (map (row_of P) ts ++ d ∷ ds) ≡ e ∷ es = h in
+      let first : row_of P t ≡ e = cc in
       absurd (no_fault acc e t c (job.0, sym first) (is_new acc ts t once) (subst (λ x. IsNamingFault P x e c) (append-nil acc) g))
   one_row acc (t ∷ ts) (u ∷ us) d e ds es b c h job jobs once twice f g =
-      let whole : entry_of P t ∷ (map (entry_of P) ts ++ d ∷ ds) ≡ entry_of P u ∷ (map (entry_of P) us ++ e ∷ es) = h in
-      let first : entry_of P t ≡ entry_of P u = cc in
-      let rest : map (entry_of P) ts ++ d ∷ ds ≡ map (entry_of P) us ++ e ∷ es = cc in
-      let same = one_task P (entry_of P t) t u (job.0, refl) (jobs.0, first) in
+      let whole : row_of P t ∷ (map (row_of P) ts ++ d ∷ ds) ≡ row_of P u ∷ (map (row_of P) us ++ e ∷ es) = h in
+      let first : row_of P t ≡ row_of P u = cc in
+      let rest : map (row_of P) ts ++ d ∷ ds ≡ map (row_of P) us ++ e ∷ es = cc in
+      let same = one_task P (row_of P t) t u (job.0, refl) (jobs.0, first) in
       let other : acc ++ u ∷ us ≡ acc ++ t ∷ us = λ i. acc ++ sym same i ∷ us in
       let q = one_row (acc ++ t ∷ []) ts us d e ds es b c rest job.1 jobs.1
       (subst HasNoRepeats (sym (append_assoc acc (t ∷ []) ts)) once)

@@ -3,18 +3,18 @@ use Rattle.std.proofs.Common.{◌≡◌, ℕ, ◌+◌, ◌<◌, ◌≤◌, List,
 use Rattle.std.specs.List.{AllByRecursion}
 use Rattle.std.proofs.lemmas.List.{append-nil}
 use Rattle.trace_core.specs.Spelling.{BeginsWith, HasNoHead, HasNoRow, IsBadRow, bad_head, bad_row, row_too_many, IsSpelled, IsWellSpelled}
-use Rattle.trace_core.specs.Text.{Entry, row_line, rows_text}
+use Rattle.trace_core.specs.Text.{TraceRow, row_line, rows_text}
 use Rattle.trace_core.proofs.Spelled.{same_head, same_row}
 
 -- where the rest of a text, behind the rows `es`, goes on with rows to those of `ds` and its rest
-pub record GoesOn (es : List Entry) (rest : List ℕ) (ds : List Entry) (later : List ℕ) : Type 0 where
-  pub more : List Entry
+pub record GoesOn (es : List TraceRow) (rest : List ℕ) (ds : List TraceRow) (later : List ℕ) : Type 0 where
+  pub more : List TraceRow
   pub all : ds ≡ es ++ more
   pub spelled : AllByRecursion IsSpelled more
   pub text : rest ≡ rows_text more ++ later
 
 -- of two lists of rows that a text begins with, one goes on with the other
-pub one_goes_on : (es ds : List Entry) (r s : List ℕ) → AllByRecursion IsSpelled es → AllByRecursion IsSpelled ds → rows_text es ++ r ≡ rows_text ds ++ s → GoesOn es r ds s ⊎ GoesOn ds s es r
+pub one_goes_on : (es ds : List TraceRow) (r s : List ℕ) → AllByRecursion IsSpelled es → AllByRecursion IsSpelled ds → rows_text es ++ r ≡ rows_text ds ++ s → GoesOn es r ds s ⊎ GoesOn ds s es r
 one_goes_on [] ds r s h k e = inl (record { more = ds; all = refl; spelled = k; text = e })
 one_goes_on (x ∷ es) [] r s h k e = inr (record { more = x ∷ es; all = refl; spelled = h; text = sym e })
 one_goes_on (x ∷ es) (y ∷ ds) r s h k e =
@@ -24,26 +24,26 @@ one_goes_on (x ∷ es) (y ∷ ds) r s h k e =
       | inr g ↦ inr (record { more = g.more; all = (λ i. first.0 i ∷ g.all i); spelled = g.spelled; text = g.text })
     ]
 
-longer : (es : List Entry) (rest : List ℕ) (ds : List Entry) (later : List ℕ) (g : GoesOn es rest ds later) → length ds ≡ length es + length g.more
+longer : (es : List TraceRow) (rest : List ℕ) (ds : List TraceRow) (later : List ℕ) (g : GoesOn es rest ds later) → length ds ≡ length es + length g.more
 longer es rest ds later g = ap length g.all ∙ length-append es g.more
 
 -- no row follows: then nothing goes on
-stops : (es : List Entry) (rest : List ℕ) (ds : List Entry) (later : List ℕ) → HasNoRow rest → GoesOn es rest ds later → (ds ≡ es)
+stops : (es : List TraceRow) (rest : List ℕ) (ds : List TraceRow) (later : List ℕ) → HasNoRow rest → GoesOn es rest ds later → (ds ≡ es)
 stops es rest ds later none g = by g.more g.all g.spelled g.text
   where
-    by : (more : List Entry) → ds ≡ es ++ more → AllByRecursion IsSpelled more → rest ≡ rows_text more ++ later → ds ≡ es
+    by : (more : List TraceRow) → ds ≡ es ++ more → AllByRecursion IsSpelled more → rest ≡ rows_text more ++ later → ds ≡ es
     by [] all s t = all ∙ append-nil es
     by (x ∷ xs) all s t = absurd (none x (rows_text xs ++ later) s.0 (t ∙ append_assoc (row_line x) (rows_text xs) later))
 
 -- as many rows: then they are the same, and so is what follows
-as_many : (es : List Entry) (rest : List ℕ) (ds : List Entry) (later : List ℕ) → length ds ≤ length es → GoesOn es rest ds later → (ds ≡ es) × (rest ≡ later)
+as_many : (es : List TraceRow) (rest : List ℕ) (ds : List TraceRow) (later : List ℕ) → length ds ≤ length es → GoesOn es rest ds later → (ds ≡ es) × (rest ≡ later)
 as_many es rest ds later le g = by g.more g.all g.text
   where
-    by : (more : List Entry) → ds ≡ es ++ more → rest ≡ rows_text more ++ later → (ds ≡ es) × (rest ≡ later)
+    by : (more : List TraceRow) → ds ≡ es ++ more → rest ≡ rows_text more ++ later → (ds ≡ es) × (rest ≡ later)
     by [] all t = (all ∙ append-nil es, t)
     by (x ∷ xs) all t = let l = ap length all in absurd (omega (arith, l, length-append es (x ∷ xs)))
 
-module _ (text : List ℕ) (n m : ℕ) (es ds : List Entry) (r s : List ℕ) (w : BeginsWith text n es r) (v : BeginsWith text m ds s) where
+module _ (text : List ℕ) (n m : ℕ) (es ds : List TraceRow) (r s : List ℕ) (w : BeginsWith text n es r) (v : BeginsWith text m ds s) where
   both_heads : (n ≡ m) × (rows_text es ++ r ≡ rows_text ds ++ s)
   both_heads = same_head n m (rows_text es ++ r) (rows_text ds ++ s) w.at_most v.at_most (sym w.split ∙ v.split)
 
@@ -53,18 +53,18 @@ module _ (text : List ℕ) (n m : ℕ) (es ds : List Entry) (r s : List ℕ) (w 
   pub goes_on : GoesOn es r ds s ⊎ GoesOn ds s es r
   goes_on = one_goes_on es ds r s w.spelled v.spelled both_heads.1
 
-pub not_without_head : (text : List ℕ) (n : ℕ) (es : List Entry) (r : List ℕ) → BeginsWith text n es r → HasNoHead text → ⊥
+pub not_without_head : (text : List ℕ) (n : ℕ) (es : List TraceRow) (r : List ℕ) → BeginsWith text n es r → HasNoHead text → ⊥
 not_without_head text n es r w none = none n (rows_text es ++ r) w.at_most w.split
 
 -- two rows that are not there come at one place
-two_bad : (text : List ℕ) (n m : ℕ) (es ds : List Entry) (r s : List ℕ) → BeginsWith text n es r → BeginsWith text m ds s → HasNoRow r → HasNoRow s → length es ≡ length ds
+two_bad : (text : List ℕ) (n m : ℕ) (es ds : List TraceRow) (r s : List ℕ) → BeginsWith text n es r → BeginsWith text m ds s → HasNoRow r → HasNoRow s → length es ≡ length ds
 two_bad text n m es ds r s w v fails ne = elim (goes_on text n m es ds r s w v) [
   | inl g ↦ sym (ap length (stops es r ds s fails g))
   | inr g ↦ ap length (stops ds s es r ne g)
 ]
 
 -- a row that is not there leaves fails room for as many as the head says
-bad_before : (text : List ℕ) (n m : ℕ) (es ds : List Entry) (r s : List ℕ) → BeginsWith text n es r → BeginsWith text m ds s → HasNoRow r → length es < n → length ds ≡ m → ⊥
+bad_before : (text : List ℕ) (n m : ℕ) (es ds : List TraceRow) (r s : List ℕ) → BeginsWith text n es r → BeginsWith text m ds s → HasNoRow r → length es < n → length ds ≡ m → ⊥
 bad_before text n m es ds r s w v fails lt all =
     let same = head_number text n m es ds r s w v in
     elim (goes_on text n m es ds r s w v) [
@@ -73,7 +73,7 @@ bad_before text n m es ds r s w v fails lt all =
     ]
 
 -- as many rows as the head says are one list, with one rest
-all_rows : (text : List ℕ) (n m : ℕ) (es ds : List Entry) (r s : List ℕ) → BeginsWith text n es r → BeginsWith text m ds s → length es ≡ n → length ds ≡ m → (es ≡ ds) × (r ≡ s)
+all_rows : (text : List ℕ) (n m : ℕ) (es ds : List TraceRow) (r s : List ℕ) → BeginsWith text n es r → BeginsWith text m ds s → length es ≡ n → length ds ≡ m → (es ≡ ds) × (r ≡ s)
 all_rows text n m es ds r s w v here there =
     let same = head_number text n m es ds r s w v in
     elim (goes_on text n m es ds r s w v) [
@@ -81,7 +81,7 @@ all_rows text n m es ds r s w v here there =
       | inr g ↦ let a = as_many ds s es r (omega arith) g in (a.0, sym a.1)
     ]
 
-pub one_spelling : (text : List ℕ) (es ds : List Entry) → IsWellSpelled text es → IsWellSpelled text ds → es ≡ ds
+pub one_spelling : (text : List ℕ) (es ds : List TraceRow) → IsWellSpelled text es → IsWellSpelled text ds → es ≡ ds
 one_spelling text es ds w v = (all_rows text (length es) (length ds) es ds [] [] w v refl refl).0
 
 pub one_bad_row : (text : List ℕ) (j k : ℕ) → IsBadRow text j → IsBadRow text k → j ≡ k
@@ -96,7 +96,7 @@ one_bad_row text j k (row_too_many n es r w all some p) (bad_row m ds s v less n
 one_bad_row text j k (row_too_many n es r w all some p) (row_too_many m ds s v every more q) =
     let e = ap length (all_rows text n m es ds r s w v all every).0 in p ∙ ap (λ l. l + 2) e ∙ sym q
 
-pub spelled_or_bad : (text : List ℕ) (es : List Entry) (j : ℕ) → IsWellSpelled text es → IsBadRow text j → ⊥
+pub spelled_or_bad : (text : List ℕ) (es : List TraceRow) (j : ℕ) → IsWellSpelled text es → IsBadRow text j → ⊥
 spelled_or_bad text es j w (bad_head h p) = not_without_head text (length es) es [] w h
 spelled_or_bad text es j w (bad_row m ds s v lt fails p) = bad_before text m (length es) ds es s [] v w fails lt refl
 spelled_or_bad text es j w (row_too_many m ds s v all some p) = some (sym (all_rows text (length es) m es ds [] s w v refl all).1)

@@ -16,7 +16,7 @@ use Rattle.ptg_base.specs.Names.{is_letter, is_part}
 use Rattle.trace_core.specs.Cutting.{is_free_of, opens_with}
 use Rattle.trace_core.specs.Rows.{number_field, number_fields, row_content}
 use Rattle.trace_core.specs.Spelling.{IsSpelled, is_number, is_name}
-use Rattle.trace_core.specs.Text.{Entry, head_line, row_line}
+use Rattle.trace_core.specs.Text.{TraceRow, head_line, row_line}
 use Rattle.trace_core.proofs.Cuts.{cut_once, free_append, free_by}
 
 -- a number that fits 64 bits
@@ -69,14 +69,14 @@ joined_numbers : (text : List ℕ) (ns : List ℤ) → join_with_byte 44 (text �
 joined_numbers text [] = sym (append-nil text)
 joined_numbers text (n ∷ ns) = ap (λ t. text ++ 44 ∷ t) (joined_numbers (signed_decimal n) ns)
 
-pub row_line_is : (e : Entry) → row_line e ≡ row_content e ++ 10 ∷ []
+pub row_line_is : (e : TraceRow) → row_line e ≡ row_content e ++ 10 ∷ []
 row_line_is e = ap (λ t. (codes "ran," ++ t) ++ 10 ∷ []) (joined_numbers e.name e.params)
 
-pub row_free : (e : Entry) → IsSpelled e → is_free_of 10 (row_content e) ≡ true
+pub row_free : (e : TraceRow) → IsSpelled e → is_free_of 10 (row_content e) ≡ true
 row_free e s = free_append 10 (codes "ran,") (e.name ++ number_fields e.params) refl (free_append 10 e.name (number_fields e.params) (name_free 10 refl e.name s.name) (fields_free e.params s.params))
 
 -- a text that begins with a row
-pub row_split : (e : Entry) (rest : List ℕ) → row_line e ++ rest ≡ row_content e ++ 10 ∷ rest
+pub row_split : (e : TraceRow) (rest : List ℕ) → row_line e ++ rest ≡ row_content e ++ 10 ∷ rest
 row_split e rest = ap (λ t. t ++ rest) (row_line_is e) ∙ append_assoc (row_content e) (10 ∷ []) rest
 
 -- numbers are printed alike only where they are the same
@@ -94,7 +94,7 @@ same_numbers (m ∷ ms) (n ∷ ns) h k e =
     λ i. first i ∷ later i
 
 -- rows are printed alike only where they say the same
-pub same_content : (d e : Entry) → IsSpelled d → IsSpelled e → row_content d ≡ row_content e → d ≡ e
+pub same_content : (d e : TraceRow) → IsSpelled d → IsSpelled e → row_content d ≡ row_content e → d ≡ e
 same_content d e s t h =
     let tail : d.name ++ number_fields d.params ≡ e.name ++ number_fields e.params = cc in
     let r = cut_once 44 d.name e.name (number_fields d.params) (number_fields e.params) (name_free 44 refl d.name s.name) (name_free 44 refl e.name t.name) (fields_open d.params) (fields_open e.params) tail in
@@ -102,7 +102,7 @@ same_content d e s t h =
     λ i. record { name = r.0 i; params = params i }
 
 -- a text begins with one row at most
-pub same_row : (d e : Entry) (rd re : List ℕ) → IsSpelled d → IsSpelled e → row_line d ++ rd ≡ row_line e ++ re → (d ≡ e) × (rd ≡ re)
+pub same_row : (d e : TraceRow) (rd re : List ℕ) → IsSpelled d → IsSpelled e → row_line d ++ rd ≡ row_line e ++ re → (d ≡ e) × (rd ≡ re)
 same_row d e rd re s t h =
     let r = cut_once 10 (row_content d) (row_content e) (10 ∷ rd) (10 ∷ re) (row_free d s) (row_free e t) refl refl (sym (row_split d rd) ∙ h ∙ row_split e re) in
     (same_content d e s t r.0, cc)

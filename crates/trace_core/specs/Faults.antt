@@ -18,14 +18,14 @@ use Rattle.trace_core.specs.Naming.{IsNamingFault, Names}
 use Rattle.trace_core.specs.Orders.{MayAllRunAfter}
 use Rattle.trace_core.specs.Reading.{IsSpellingFault}
 use Rattle.trace_core.specs.Spelling.{IsWellSpelled}
-use Rattle.trace_core.specs.Text.{Entry, entry_of}
+use Rattle.trace_core.specs.Text.{TraceRow, row_of}
 
 -- the source of an edge is none of these tasks, or traps
 abbrev pub IsMissing : Plan → Data → List Task → Edge → Type 0
 IsMissing P G before e = (IsIn e.from before → ⊥) ⊎ IsFalse (has_outputs (ended P G e.from))
 
 -- the code of a row whose task may not run after those of the rows before it
-abbrev pub IsRowFault : Plan → Data → List Task → Entry → TraceCode → Type 0
+abbrev pub IsRowFault : Plan → Data → List Task → TraceRow → TraceCode → Type 0
 IsRowFault P G before e UnknownTask = IsNamingFault P before e UnknownTask
 IsRowFault P G before e RanTwice = IsNamingFault P before e RanTwice
 IsRowFault P G before e TooEarly =
@@ -35,19 +35,19 @@ IsRowFault P G before e BadTrace = ⊥
 IsRowFault P G before e Unfinished = ⊥
 
 -- the rows before this one are those of tasks that may run in their order, and the fault is that of this row
-pub record IsFaultOfRow (P : Plan) (G : Data) (es : List Entry) (f : TraceFault) : Type 0 where
+pub record IsFaultOfRow (P : Plan) (G : Data) (es : List TraceRow) (f : TraceFault) : Type 0 where
   pub before : List Task
-  pub failed : Entry
-  pub later : List Entry
-  pub split : es ≡ map (entry_of P) before ++ failed ∷ later
+  pub failed : TraceRow
+  pub later : List TraceRow
+  pub split : es ≡ map (row_of P) before ++ failed ∷ later
   pub may_run : MayAllRunAfter P G [] before
   pub code : IsRowFault P G before failed f.code
   pub row : f.row ≡ length before + 2
 
 -- all rows are those of tasks that may run in their order, and a task that runs has none
-pub record IsUnfinished (P : Plan) (G : Data) (es : List Entry) (f : TraceFault) : Type 0 where
+pub record IsUnfinished (P : Plan) (G : Data) (es : List TraceRow) (f : TraceFault) : Type 0 where
   pub tasks : List Task
-  pub all : es ≡ map (entry_of P) tasks
+  pub all : es ≡ map (row_of P) tasks
   pub may_run : MayAllRunAfter P G [] tasks
   pub missing : (t : Task) × IsIn t (ran P G) × (IsIn t tasks → ⊥)
   pub code : f.code ≡ Unfinished
@@ -56,5 +56,5 @@ pub record IsUnfinished (P : Plan) (G : Data) (es : List Entry) (f : TraceFault)
 -- the first fault of a text: of its length or its spelling, else of its rows
 pub data IsTraceFault (P : Plan) (G : Data) (text : List ℕ) (f : TraceFault) : Type 0 where
   of_spelling : IsSpellingFault text f → IsTraceFault P G text f
-  of_tasks : (es : List Entry) → length text ≤ most_bytes → IsWellSpelled text es
+  of_tasks : (es : List TraceRow) → length text ≤ most_bytes → IsWellSpelled text es
       → IsFaultOfRow P G es f ⊎ IsUnfinished P G es f → IsTraceFault P G text f

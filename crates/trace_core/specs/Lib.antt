@@ -6,3 +6,4 @@ pub mod Naming
 pub mod Reading
 pub mod Orders
 pub mod Faults
+pub mod Traces

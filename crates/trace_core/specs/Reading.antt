@@ -11,7 +11,7 @@ use Rattle.trace_core.specs.declared.fault.TraceCode.TheVariants.{TooLong, BadTr
 use Rattle.trace_core.specs.declared.fault.TraceFault.{TraceFault}
 use Rattle.trace_core.specs.Naming.{AreRowsBefore, AreRowsOf}
 use Rattle.trace_core.specs.Spelling.{IsBadRow, IsWellSpelled}
-use Rattle.trace_core.specs.Text.{Entry, trace_text}
+use Rattle.trace_core.specs.Text.{TraceRow, trace_text}
 
 -- the fault of a text that is longer than 16 MiB
 abbrev pub too_long : TraceFault
@@ -27,14 +27,14 @@ abbrev pub fault_after : List Task → Option TraceCode → Option TraceFault
 fault_after ts code = option_map (λ c. record { row = length ts + 2; code = c }) code
 
 -- these tasks are those of all rows, or of the rows before one with this fault
-abbrev pub IsReadAs : Plan → List Entry → List Task → Option TraceFault → Type 0
+abbrev pub IsReadAs : Plan → List TraceRow → List Task → Option TraceFault → Type 0
 IsReadAs P es ts None = AreRowsOf P es ts
 IsReadAs P es ts (Some f) = AreRowsBefore P es ts f.code × (f.row ≡ length ts + 2)
 
 -- what is read of a text that is well spelled
 pub record IsReading (P : Plan) (text : List ℕ) (ts : List Task) (fault : Option TraceFault) : Type 0 where
   pub at_most : length text ≤ most_bytes
-  pub entries : List Entry
+  pub entries : List TraceRow
   pub spelled : IsWellSpelled text entries
   pub read : IsReadAs P entries ts fault
 

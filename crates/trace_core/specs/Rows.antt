@@ -4,7 +4,7 @@ use Rattle.std.specs.List.{list_all}
 use Rattle.std.specs.Fmt.{signed_decimal}
 use Rattle.trace_core.specs.Cutting.{opens_with}
 use Rattle.trace_core.specs.Spelling.{IsSpelled, is_number}
-use Rattle.trace_core.specs.Text.{Entry, row_line}
+use Rattle.trace_core.specs.Text.{TraceRow, row_line}
 
 -- a number with a comma before it
 abbrev pub number_field : ℤ → List ℕ
@@ -15,7 +15,7 @@ abbrev pub number_fields : List ℤ → List ℕ
 number_fields ns = flat_map number_field ns
 
 -- a row without its LF
-abbrev pub row_content : Entry → List ℕ
+abbrev pub row_content : TraceRow → List ℕ
 row_content e = codes "ran," ++ (e.name ++ number_fields e.params)
 
 -- a text begins with this number and its comma, and the next field is at `rest`
@@ -38,13 +38,13 @@ abbrev pub IsOfNumbers : List ℕ → Type 0
 IsOfNumbers text = (ns : List ℤ) × AreNumbers text ns
 
 -- the parts of a row that says this
-pub record IsRowOf (e : Entry) (name numbers : List ℕ) : Type 0 where
+pub record IsRowOf (e : TraceRow) (name numbers : List ℕ) : Type 0 where
   pub spelled : IsSpelled e
   pub same_name : name ≡ e.name
   pub same_numbers : numbers ≡ number_fields e.params
 
 -- a text begins with a row of these parts, and `rest` follows it
 pub record BeginsWithRow (text name numbers rest : List ℕ) : Type 0 where
-  pub entry : Entry
+  pub entry : TraceRow
   pub row : IsRowOf entry name numbers
   pub split : text ≡ row_line entry ++ rest

@@ -8,7 +8,7 @@ use Rattle.plan_core.specs.NamesByNumber.{class_name}
 use Rattle.plan_core.specs.declared.plan.Plan.{Plan}
 
 -- what a row says: the name of a class, and numbers, whatever task they name
-pub record Entry : Type 0 where
+pub record TraceRow : Type 0 where
   pub name : List ℕ
   pub params : List ℤ
 
@@ -17,17 +17,17 @@ abbrev pub head_line : ℕ → List ℕ
 head_line n = line (codes "trace" ∷ decimal n ∷ [])
 
 -- the line of a row
-abbrev pub row_line : Entry → List ℕ
+abbrev pub row_line : TraceRow → List ℕ
 row_line e = line (codes "ran" ∷ e.name ∷ map signed_decimal e.params)
 
 -- the lines of rows, one after another
-abbrev pub rows_text : List Entry → List ℕ
+abbrev pub rows_text : List TraceRow → List ℕ
 rows_text es = flat_map row_line es
 
 -- what the row of a task says: the name of its class, and its parameters
-abbrev pub entry_of : Plan → Task → Entry
-entry_of P t = record { name = class_name P t.class; params = t.params }
+abbrev pub row_of : Plan → Task → TraceRow
+row_of P t = record { name = class_name P t.class; params = t.params }
 
 -- the text of tasks in this order
 unfoldable pub trace_text : Plan → List Task → List ℕ
-trace_text P ts = head_line (length ts) ++ rows_text (map (entry_of P) ts)
+trace_text P ts = head_line (length ts) ++ rows_text (map (row_of P) ts)

@@ -1,4 +1,5 @@
-//! Traces: the text of the tasks of a job in an order in which they ran, how it is read, and its first fault.
+//! Traces: the text of the tasks of a job in an order in which they ran, how it is read, and its first fault. Its
+//! proofs have the lemmas by which every text has a first fault as a trace of a job, or is a trace of it.
 #![tactic(auto)]
 
 mod cutting;

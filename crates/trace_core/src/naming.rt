@@ -6,7 +6,7 @@ ghost use Rattle.ptg_base.specs.Task.{Task};
 ghost use Rattle.term_core.specs.declared.space.ClassSpace.{ClassSpace};
 ghost use Rattle.trace_core.specs.Naming.{IsNamed, Names};
 ghost use Rattle.trace_core.specs.Rows.{IsRowOf};
-ghost use Rattle.trace_core.specs.Text.{Entry};
+ghost use Rattle.trace_core.specs.Text.{TraceRow};
 
 use crate::numbers::push_numbers;
 use crate::rows::Row;
@@ -48,7 +48,7 @@ fn parameters_fit(plan: &Plan, class: u32)
 
 // The task that a row names, if the job has it.
 pub(crate) fn task_of(plan: &Plan, row: &Row) -> Option<TaskId>
-    ensures { (e : Entry) → IsRowOf e row.now.name.now row.now.numbers.now
+    ensures { (e : TraceRow) → IsRowOf e row.now.name.now row.now.numbers.now
         → MatchOption result ((t : Task) → Names plan.now e t → ⊥) (λ t. Names plan.now e t) }
 {
     let Some(class) = class_named(plan, row.name) else {

@@ -41,7 +41,7 @@ pub(crate) fn number(field: &[u8]) -> Option<i64>
 
 // The number with which fields begin, and the fields after it.
 fn next_number(fields: &[u8]) -> Option<(i64, &[u8])>
-    ensures { MatchOption result (HasNoNumber fields.now) (λ found. BeginsWithNumber fields.now found.0 found.1.now) }
+    ensures { MatchOption result (HasNoNumber fields.now) (λ (n, rest). BeginsWithNumber fields.now n rest.now) }
 {
     let Some((first, rest)) = fields.split_first() else {
         return None;

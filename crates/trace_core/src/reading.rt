@@ -7,7 +7,7 @@ ghost use Rattle.ptg_base.specs.declared.refusal.Refusal.TheVariants.{Fault};
 ghost use Rattle.trace_core.specs.Reading.{IsListOf, IsReadAs, IsReadFault, IsReading, IsSpellingFault};
 ghost use Rattle.trace_core.specs.Reading as reading;
 ghost use Rattle.trace_core.specs.Spelling.{IsSpelled};
-ghost use Rattle.trace_core.specs.Text.{Entry, rows_text};
+ghost use Rattle.trace_core.specs.Text.{TraceRow, rows_text};
 ghost use Rattle.trace_core.specs.declared.fault.TraceFault.{TraceFault as TraceFaultValue};
 
 use crate::fault::{TraceCode, TraceFault, TraceRefusal, trace_too_long};
@@ -28,7 +28,7 @@ pub(crate) fn add_tasks(
 ) -> Result<Option<TraceCode>, OutOfMemory>
     requires { tasks.old.keys ≡ [] }
     ensures { IfOk result (λ code.
-        (es : List Entry) → AllByRecursion IsSpelled es → rows.now ≡ rows_text es
+        (es : List TraceRow) → AllByRecursion IsSpelled es → rows.now ≡ rows_text es
         → IsReadAs plan.now es tasks.new.keys (reading.fault_after tasks.new.keys code)) }
 {
     let mut left = rows;
@@ -79,7 +79,7 @@ fn fault_after(tasks: &Seq<TaskId>, code: Option<TraceCode>) -> Option<TraceFaul
 // The tasks of the rows of a text that is well spelled.
 fn read_tasks(alloc: Global, plan: &Plan, rows: &[u8]) -> Result<Reading, OutOfMemory>
     ensures { IfOk result (λ r.
-        (es : List Entry) → AllByRecursion IsSpelled es → rows.now ≡ rows_text es
+        (es : List TraceRow) → AllByRecursion IsSpelled es → rows.now ≡ rows_text es
         → IsReadAs plan.now es r.tasks r.fault) }
 {
     let mut set = IndexSet::new(alloc);

@@ -5,7 +5,7 @@ ghost use Rattle.std.specs.Fmt.{decimal};
 ghost use Rattle.ptg_base.specs.Limits.{most_tasks};
 ghost use Rattle.trace_core.specs.Rows.{BeginsWithRow, IsRowOf, row_content};
 ghost use Rattle.trace_core.specs.Spelling.{HasNoHead, HasNoRow, IsSpelled};
-ghost use Rattle.trace_core.specs.Text.{Entry, head_line};
+ghost use Rattle.trace_core.specs.Text.{TraceRow, head_line};
 
 use crate::cutting::{after_word, cut};
 use crate::numbers::{are_numbers, number};
@@ -20,8 +20,8 @@ pub(crate) struct Row<'a> {
 
 // The parts of a row without its LF.
 fn row_of(line: &[u8]) -> Option<Row<'_>>
-    ensures { MatchOption result ((e : Entry) → IsSpelled e → line.now ≡ row_content e → ⊥) (λ row.
-        (e : Entry) × IsRowOf e row.name.now row.numbers.now × (line.now ≡ row_content e)) }
+    ensures { MatchOption result ((e : TraceRow) → IsSpelled e → line.now ≡ row_content e → ⊥) (λ row.
+        (e : TraceRow) × IsRowOf e row.name.now row.numbers.now × (line.now ≡ row_content e)) }
 {
     let Some(fields) = after_word(line, b"ran,") else {
         return None;

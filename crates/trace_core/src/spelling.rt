@@ -2,13 +2,13 @@
 
 ghost use Rattle.std.specs.Prelude.{◌≡◌, List, IfErr, IfOk};
 ghost use Rattle.trace_core.specs.Spelling.{IsBadRow, IsWellSpelled};
-ghost use Rattle.trace_core.specs.Text.{Entry, rows_text};
+ghost use Rattle.trace_core.specs.Text.{TraceRow, rows_text};
 
 use crate::rows::{head, next_row};
 
 // The rows of a text that is spelled as a trace, after its head, or the number of the first row that is not.
 pub(crate) fn spelled_rows(text: &[u8]) -> Result<&[u8], u64>
-    ensures ok { IfOk result (λ rows. (es : List Entry) × IsWellSpelled text.now es × (rows.now ≡ rows_text es)) }
+    ensures ok { IfOk result (λ rows. (es : List TraceRow) × IsWellSpelled text.now es × (rows.now ≡ rows_text es)) }
     ensures err { IfErr result (λ row. IsBadRow text.now row) }
 {
     let Some((rows, first)) = head(text) else {

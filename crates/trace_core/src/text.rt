@@ -5,7 +5,7 @@ ghost use Rattle.std.specs.List.{AllByRecursion};
 ghost use Rattle.std.specs.Fmt.{signed_decimal};
 ghost use Rattle.dep_iter.specs.Tasks.{IsTask};
 ghost use Rattle.trace_core.specs.Text as spelling;
-ghost use Rattle.trace_core.specs.Text.{entry_of, head_line, row_line};
+ghost use Rattle.trace_core.specs.Text.{row_of, head_line, row_line};
 
 use itoa::Buffer;
 use plan_core::Plan;
@@ -44,7 +44,7 @@ fn put_head(out: &mut Seq<u8>, rows: usize) -> Result<(), OutOfMemory>
 // Appends the row of a task of the job.
 fn put_row(out: &mut Seq<u8>, plan: &Plan, t: &TaskId) -> Result<(), OutOfMemory>
     requires { IsTask plan.now t.now }
-    ensures { OnOk result (out.new ≡ out.old ++ row_line (entry_of plan.now t.now)) }
+    ensures { OnOk result (out.new ≡ out.old ++ row_line (row_of plan.now t.now)) }
 {
     out.append(b"ran,")?;
     out.append(plan.class(t.class()).name.bytes())?;

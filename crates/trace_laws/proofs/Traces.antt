@@ -8,12 +8,12 @@ use Rattle.task_order.proofs.Orders.{legal_once}
 use Rattle.trace_core.specs.declared.fault.TraceFault.{TraceFault}
 use Rattle.trace_core.specs.Faults.{IsTraceFault}
 use Rattle.trace_core.specs.Reading.{IsListOf}
-use Rattle.trace_core.specs.Text.{entry_of}
+use Rattle.trace_core.specs.Text.{row_of}
 use Rattle.trace_core.proofs.Lists.{is_list}
 use Rattle.trace_core.proofs.OneFault.{faultless}
 use Rattle.trace_core.proofs.Wholes.{whole_all, whole_may}
-use Rattle.trace_exists.specs.Traces.{IsSomeTrace, IsTrace}
-use Rattle.trace_exists.proofs.Either.{fault_or_trace, order_tasks}
+use Rattle.trace_core.specs.Traces.{IsSomeTrace, IsTrace}
+use Rattle.trace_core.proofs.Either.{fault_or_trace, order_tasks}
 
 module _ (P : Plan) (G : Data) (con : IsConsistent P) (text : List ℕ) where
   -- never both
@@ -36,5 +36,5 @@ module _ (P : Plan) (G : Data) (con : IsConsistent P) (text : List ℕ) where
 -- a trace of tasks is their text
 pub trace_is_list : (P : Plan) (G : Data) (text : List ℕ) (ts : List Task) → IsTrace P G text ts → IsListOf P text ts
 trace_is_list P G text ts t =
-    is_list P text (map (entry_of P) ts) ts t.at_most t.spelled
+    is_list P text (map (row_of P) ts) ts t.at_most t.spelled
     (record { named = refl; tasks = order_tasks P ts t.whole.legal; once = legal_once P [] ts t.whole.legal })

@@ -17,10 +17,10 @@ ghost use Rattle.flow_meaning.specs.Order.{IsWholeOrder};
 ghost use Rattle.std.specs.List.{AllByRecursion};
 ghost use Rattle.ptg_base.specs.Limits.{most_tasks, most_bytes};
 ghost use Rattle.trace_core.specs.Spelling.{IsSpelled};
-ghost use Rattle.trace_core.specs.Text.{entry_of, trace_text};
+ghost use Rattle.trace_core.specs.Text.{row_of, trace_text};
 ghost use Rattle.trace_core.specs.declared.fault.TraceFault.{TraceFault};
 ghost use Rattle.trace_core.specs.Faults.{IsTraceFault};
-ghost use Rattle.trace_exists.specs.Traces.{IsSomeTrace, IsTrace};
+ghost use Rattle.trace_core.specs.Traces.{IsSomeTrace, IsTrace};
 ghost use Rattle.trace_core.specs.Reading.{IsListOf};
 
 /// A law: a job has a whole order, whatever its data are.
@@ -42,7 +42,7 @@ pub fn a_task_may_follow_finished_ones()
 /// A law: a text whose rows are well spelled is that of one list of tasks at most, so that it reads back to its list.
 pub fn a_text_is_that_of_one_list()
     ensures { (P : Plan) (ts us : List Task) → AllByRecursion (IsTask P) ts → AllByRecursion (IsTask P) us
-        → AllByRecursion IsSpelled (map (entry_of P) ts) → AllByRecursion IsSpelled (map (entry_of P) us)
+        → AllByRecursion IsSpelled (map (row_of P) ts) → AllByRecursion IsSpelled (map (row_of P) us)
         → length ts ≤ most_tasks → length us ≤ most_tasks → trace_text P ts ≡ trace_text P us → ts ≡ us }
 {}
 
@@ -50,7 +50,7 @@ pub fn a_text_is_that_of_one_list()
 /// job with the names of a JDF are.
 pub fn the_text_of_a_whole_order_has_no_fault()
     ensures { (P : Plan) (G : Data) (ts : List Task) (f : TraceFault) → IsConsistent P → IsWholeOrder P G ts
-        → AllByRecursion IsSpelled (map (entry_of P) ts) → length (trace_text P ts) ≤ most_bytes
+        → AllByRecursion IsSpelled (map (row_of P) ts) → length (trace_text P ts) ≤ most_bytes
         → IsTraceFault P G (trace_text P ts) f → ⊥ }
 {}
 

@@ -28,23 +28,23 @@ use Rattle.flow_meaning.specs.Order.{IsWholeOrder}
 use Rattle.trace_core.specs.Orders.{MayAllRunAfter}
 use Rattle.trace_core.specs.Reading.{IsListOf, IsReadAs, IsReading, IsSpellingFault}
 use Rattle.trace_core.specs.Spelling.{IsWellSpelled}
-use Rattle.trace_core.specs.Text.{Entry, entry_of}
+use Rattle.trace_core.specs.Text.{TraceRow, row_of}
 use Rattle.trace_core.proofs.Lists.{is_list}
 use Rattle.trace_core.proofs.OneFault.{faultless, one_fault}
 use Rattle.trace_core.proofs.Wholes.{all_or_missing, whole, whole_all, whole_may}
 use Rattle.trace_replay.specs.Replaying.{HasRunInOrder, IsEndOf, IsVerdictOn, StopsAt}
 
 -- the tasks that were read are tasks of the job, and differ
-pub read_tasks : (P : Plan) (es : List Entry) (ts : List Task) (fault : Option TraceFault) → IsReadAs P es ts fault → AllByRecursion (IsTask P) ts × HasNoRepeats ts
+pub read_tasks : (P : Plan) (es : List TraceRow) (ts : List Task) (fault : Option TraceFault) → IsReadAs P es ts fault → AllByRecursion (IsTask P) ts × HasNoRepeats ts
 read_tasks P es ts None r = (r.tasks, r.once)
 read_tasks P es ts (Some f) r = (r.0.rows.tasks, r.0.rows.once)
 
 -- the rows go on after those of the tasks that were read
-rows_go_on : (P : Plan) (es : List Entry) (ts : List Task) (fault : Option TraceFault) → IsReadAs P es ts fault → (more : List Entry) × (es ≡ map (entry_of P) ts ++ more)
-rows_go_on P es ts None r = ([], r.named ∙ sym (append-nil (map (entry_of P) ts)))
+rows_go_on : (P : Plan) (es : List TraceRow) (ts : List Task) (fault : Option TraceFault) → IsReadAs P es ts fault → (more : List TraceRow) × (es ≡ map (row_of P) ts ++ more)
+rows_go_on P es ts None r = ([], r.named ∙ sym (append-nil (map (row_of P) ts)))
 rows_go_on P es ts (Some f) r = (r.0.failed ∷ r.0.later, r.0.split ∙ ap (λ l. l ++ r.0.failed ∷ r.0.later) r.0.rows.named)
 
-naming_row : (P : Plan) (G : Data) (before : List Task) (e : Entry) (code : TraceCode) → IsNamingFault P before e code → IsRowFault P G before e code
+naming_row : (P : Plan) (G : Data) (before : List Task) (e : TraceRow) (code : TraceCode) → IsNamingFault P before e code → IsRowFault P G before e code
 naming_row P G before e TooLong h = h
 naming_row P G before e BadTrace h = h
 naming_row P G before e UnknownTask h = h
@@ -57,7 +57,7 @@ middle_task : (P : Plan) (before later : List Task) (t : Task) → AllByRecursio
 middle_task P [] later t h = h.0
 middle_task P (u ∷ us) later t h = middle_task P us later t h.1
 
-module _ (P : Plan) (G : Data) (es : List Entry) (ts : List Task) (jobs : AllByRecursion (IsTask P) ts) (once : HasNoRepeats ts) (fault : Option TraceFault) (read : IsReadAs P es ts fault) where
+module _ (P : Plan) (G : Data) (es : List TraceRow) (ts : List Task) (jobs : AllByRecursion (IsTask P) ts) (once : HasNoRepeats ts) (fault : Option TraceFault) (read : IsReadAs P es ts fault) where
   -- a task that may not run is the fault
   pub stopped_early : (index : ℕ) → StopsAt P G ts index → (f : TraceFault) → f ≡ record { row = index + 2; code = TooEarly } → IsVerdictOn P G es ts (Err f)
   stopped_early index s f is =
@@ -65,14 +65,14 @@ module _ (P : Plan) (G : Data) (es : List Entry) (ts : List Task) (jobs : AllByR
       let new : IsIn s.stopped s.before → ⊥ = λ i. HasNoRepeats-apart s.before (s.stopped ∷ s.later) (subst HasNoRepeats s.split once) s.stopped i (inl refl) in
       let x = edge_missing s job new in
       let more = rows_go_on P es ts fault read in
-      let e = entry_of P s.stopped in
+      let e = row_of P s.stopped in
       inl (record {
         before = s.before;
         failed = e;
-        later = map (entry_of P) s.later ++ more.0;
+        later = map (row_of P) s.later ++ more.0;
         split =
-            more.1 ∙ ap (λ l. map (entry_of P) l ++ more.0) s.split ∙ ap (λ l. l ++ more.0) (map-append (entry_of P) s.before (s.stopped ∷ s.later))
-            ∙ append_assoc (map (entry_of P) s.before) (e ∷ map (entry_of P) s.later) more.0;
+            more.1 ∙ ap (λ l. map (row_of P) l ++ more.0) s.split ∙ ap (λ l. l ++ more.0) (map-append (row_of P) s.before (s.stopped ∷ s.later))
+            ∙ append_assoc (map (row_of P) s.before) (e ∷ map (row_of P) s.later) more.0;
         may_run = s.may_run;
         code = subst (IsRowFault P G s.before e) (sym (ap (λ (g : TraceFault). g.code) is)) (s.stopped, (job, refl), new, x.0, x.1, x.2);
         row = ap (λ (g : TraceFault). g.row) is ∙ ap (λ n. n + 2) s.is_index;
@@ -111,7 +111,7 @@ module _ (P : Plan) (G : Data) (es : List Entry) (ts : List Task) (jobs : AllByR
         row = ap (λ (g : TraceFault). g.row) same ∙ ap (λ n. n + 2) (sym (ap length r.named ∙ entries_length ts));
       })
     where
-      entries_length : (us : List Task) → length (map (entry_of P) us) ≡ length us
+      entries_length : (us : List Task) → length (map (row_of P) us) ≡ length us
       entries_length [] = refl
       entries_length (u ∷ us) = omega (arith, entries_length us)
 
@@ -144,7 +144,7 @@ module _ (P : Plan) (G : Data) (con : IsConsistent P) (text : List ℕ) (ts : Li
   verdict_whole (Err f) v = tt
   verdict_whole (Ok o) v = (ts, list_of_text o v, v.2)
 
-pub verdict_answer : (P : Plan) (G : Data) (es : List Entry) (ts : List Task) (v : Result Outcome TraceFault) → IsVerdictOn P G es ts v → IfOk v (λ o. o ≡ answer P G)
+pub verdict_answer : (P : Plan) (G : Data) (es : List TraceRow) (ts : List Task) (v : Result Outcome TraceFault) → IsVerdictOn P G es ts v → IfOk v (λ o. o ≡ answer P G)
 verdict_answer P G es ts (Err f) v = tt
 verdict_answer P G es ts (Ok o) v = v.0
 

@@ -13,7 +13,7 @@ use Rattle.trace_core.specs.Faults.{IsFaultOfRow, IsUnfinished}
 use Rattle.trace_core.specs.Naming.{AreRowsOf}
 use Rattle.flow_meaning.specs.Order.{IsWholeOrder}
 use Rattle.trace_core.specs.Orders.{MayAllRunAfter, MayRunAfter}
-use Rattle.trace_core.specs.Text.{Entry}
+use Rattle.trace_core.specs.Text.{TraceRow}
 
 -- a world of one rank that runs this job
 pub record IsOfOneRank (P : Plan) (G : Data) (w : WorldView) : Type 0 where
@@ -45,6 +45,6 @@ IsEndOf P G ts unfinished (Err f) = (f ≡ unfinished) × ((t : Task) × IsIn t 
 
 -- the verdict on rows, of which these tasks were read: their first fault; or the answer, where the tasks are those of
 -- all rows and a whole order
-abbrev pub IsVerdictOn : Plan → Data → List Entry → List Task → Result Outcome TraceFault → Type 0
+abbrev pub IsVerdictOn : Plan → Data → List TraceRow → List Task → Result Outcome TraceFault → Type 0
 IsVerdictOn P G es ts (Err f) = IsFaultOfRow P G es f ⊎ IsUnfinished P G es f
 IsVerdictOn P G es ts (Ok o) = (o ≡ answer P G) × AreRowsOf P es ts × IsWholeOrder P G ts

@@ -12,7 +12,7 @@ ghost use Rattle.flow_meaning.specs.Answer as meaning;
 ghost use Rattle.trace_core.specs.Faults.{IsFaultOfRow, IsTraceFault, IsUnfinished};
 ghost use Rattle.flow_meaning.specs.Order.{IsWholeOrder};
 ghost use Rattle.trace_core.specs.Reading.{IsListOf, IsReadAs};
-ghost use Rattle.trace_core.specs.Text.{Entry, entry_of};
+ghost use Rattle.trace_core.specs.Text.{TraceRow, row_of};
 ghost use Rattle.trace_core.specs.declared.fault.TraceFault.{TraceFault as TraceFaultValue};
 ghost use Rattle.trace_replay.specs.Replaying.{IsVerdictOn};
 
@@ -34,9 +34,9 @@ fn judge_tasks(
 ) -> Result<Result<Outcome, TraceFault>, OutOfMemory>
     requires tasks { AllByRecursion (IsTask m.now) tasks.now }
     requires once { HasNoRepeats tasks.now }
-    requires known { DataFit m.now.colls m.now.elems given }
+    requires fit { DataFit m.now given }
     ensures { IfOk result (λ v.
-        (es : List Entry) → IsReadAs m.now es tasks.now fault → IsVerdictOn m.now given es tasks.now v) }
+        (es : List TraceRow) → IsReadAs m.now es tasks.now fault → IsVerdictOn m.now given es tasks.now v) }
 {
     m.plan_is_consistent();
     let (world, early) = run_in_order(alloc, m, given, tasks)?;
@@ -78,12 +78,12 @@ pub fn replay(
 ) -> Result<Outcome, TraceRefusal>
     requires tasks { AllByRecursion (IsTask m.now) list.now }
     requires once { HasNoRepeats list.now }
-    requires known { DataFit m.now.colls m.now.elems given }
+    requires fit { DataFit m.now given }
     ensures answer { IfOk result (λ outcome. outcome ≡ meaning.answer m.now given) }
     ensures whole { OnOk result (IsWholeOrder m.now given list.now) }
     ensures fault { (f : TraceFaultValue) → result ≡ Err (Fault f)
-        → IsFaultOfRow m.now given (map (entry_of m.now) list.now) f
-        ⊎ IsUnfinished m.now given (map (entry_of m.now) list.now) f }
+        → IsFaultOfRow m.now given (map (row_of m.now) list.now) f
+        ⊎ IsUnfinished m.now given (map (row_of m.now) list.now) f }
 {
     let verdict = judge_tasks(alloc, m, given, list, None)?;
     match verdict {
@@ -100,7 +100,7 @@ pub fn judge_trace(
     given: Given,
     bytes: &[u8],
 ) -> Result<Result<Outcome, TraceFault>, OutOfMemory>
-    requires { DataFit m.now.colls m.now.elems given }
+    requires { DataFit m.now given }
     // A fault that is named is the first one of the text.
     ensures fault { IfOk result (λ v. IfErr v (λ f. IsTraceFault m.now given bytes.now f)) }
     // A text with a fault is refused with its first one, unless memory runs out.

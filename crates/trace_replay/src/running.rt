@@ -16,7 +16,7 @@ use trace_core::TraceFault;
 
 // A world of one rank in which nothing has happened. It has no messages.
 fn opened<'m>(alloc: Global, m: &'m Matched, given: Given) -> Result<World<'m>, OutOfMemory>
-    requires { DataFit m.now.colls m.now.elems given }
+    requires { DataFit m.now given }
     ensures { IfOk result (HasRunInOrder m.now given []) }
 {
     m.plan_is_consistent();
@@ -31,7 +31,7 @@ pub(crate) fn run_in_order<'m>(
     list: &[TaskId],
 ) -> Result<(World<'m>, Option<usize>), OutOfMemory>
     requires tasks { AllByRecursion (IsTask m.now) list.now }
-    requires known { DataFit m.now.colls m.now.elems given }
+    requires fit { DataFit m.now given }
     ensures { IfOk result (λ r.
         MatchOption r.1 (HasRunInOrder m.now given list.now r.0) (λ index. StopsAt m.now given list.now index)) }
 {

@@ -9,7 +9,7 @@ use Rattle.word_laws.specs.Forms.{HasForm, IsPreload, IsShards, IsTextOfShards, 
 
 -- the words that are neither options nor values, in their order
 abbrev pub other_words : Verb → List (List ℕ) → List (List ℕ)
-other_words verb words = map (λ (p : List ℕ × List ℕ). p.1) (filter (is_other verb) (with_previous words))
+other_words verb words = map (λ ((before, word) : List ℕ × List ℕ). word) (filter (is_other verb) (with_previous words))
 
 -- The words after a verb break a rule: one of them is no text, is empty, or is `-` or `--`; one has a form that the
 -- verb does not have; an option lacks its value; an option occurs twice; the other words are more or fewer than the

@@ -37,7 +37,7 @@ pub fn a_value_is_lacking_where_none_follows()
 pub fn the_other_words_are_the_operands()
     ensures which { (verb : Verb) (words : List (List ℕ))
         → operands (parts (options_of verb) words)
-        ≡ map (λ (p : List ℕ × List ℕ). p.1) (filter (is_other verb) (with_previous words)) }
+        ≡ map (λ ((before, word) : List ℕ × List ℕ). word) (filter (is_other verb) (with_previous words)) }
     ensures count { (verb : Verb) (words : List (List ℕ))
         → length (operands (parts (options_of verb) words))
         + (length (filter begins_with_dash words) + length (filter (is_value verb) (with_previous words)))

@@ -53,10 +53,10 @@ pub record FoundGone (k : ℕ) (t : Task) (v w : PassRecord) : Type 0 where
   pub still : IsStill v w
 
 -- what the answer of a claim of task t, which belongs to shard k, says
-abbrev pub Claimed : Plan → Data → ℕ → Task → Claim → PassRecord → PassRecord → Type 0
-Claimed P G k t (claim.Got tiles) v w = HasClaimed P G k t tiles v w
-Claimed P G k t claim.Gone v w = FoundGone k t v w
-Claimed P G k t claim.Busy v w = FoundBusy (Turn k) v w
+abbrev pub ClaimAnswers : Plan → Data → ℕ → Task → Claim → PassRecord → PassRecord → Type 0
+ClaimAnswers P G k t (claim.Got tiles) v w = HasClaimed P G k t tiles v w
+ClaimAnswers P G k t claim.Gone v w = FoundGone k t v w
+ClaimAnswers P G k t claim.Busy v w = FoundBusy (Turn k) v w
 
 -- The pass claimed the best ready task of shard k.
 pub record HasClaimedBest (P : Plan) (G : Data) (k : ℕ) (t : Task) (tiles : List FlowTile)
@@ -72,7 +72,7 @@ pub record FoundNoReady (k : ℕ) (v w : PassRecord) : Type 0 where
   pub still : IsStill v w
 
 -- what the answer of a scan of shard k says, where `of` is the shard of each task
-abbrev pub Scanned : Plan → Data → (Task → ℕ) → ℕ → Scan → PassRecord → PassRecord → Type 0
-Scanned P G of k (scan.Got t tiles) v w = (of t ≡ k) × HasClaimedBest P G k t tiles v w
-Scanned P G of k scan.Empty v w = FoundNoReady k v w
-Scanned P G of k scan.Busy v w = FoundBusy (Turn k) v w
+abbrev pub ScanAnswers : Plan → Data → (Task → ℕ) → ℕ → Scan → PassRecord → PassRecord → Type 0
+ScanAnswers P G of k (scan.Got t tiles) v w = (of t ≡ k) × HasClaimedBest P G k t tiles v w
+ScanAnswers P G of k scan.Empty v w = FoundNoReady k v w
+ScanAnswers P G of k scan.Busy v w = FoundBusy (Turn k) v w

@@ -24,9 +24,9 @@ pub record HasSeenQuiet (v w : PassRecord) : Type 0 where
   pub done : KeepsDone v w
 
 -- what the answer of a look for quiet says: false is a live word that was not 0
-abbrev pub QuietIf : Bool → PassRecord → PassRecord → Type 0
-QuietIf true v w = HasSeenQuiet v w
-QuietIf false v w = FoundBusy Live v w
+abbrev pub QuietAnswers : Bool → PassRecord → PassRecord → Type 0
+QuietAnswers true v w = HasSeenQuiet v w
+QuietAnswers false v w = FoundBusy Live v w
 
 -- The pass found 0 in the halt word, and nothing else changed.
 pub record FoundRunning (v w : PassRecord) : Type 0 where
@@ -34,9 +34,9 @@ pub record FoundRunning (v w : PassRecord) : Type 0 where
   pub still : IsStill v w
 
 -- what the answer of a look at the halt word says: true exactly where it was not 0
-abbrev pub HaltedIf : Bool → PassRecord → PassRecord → Type 0
-HaltedIf true v w = FoundBusy Halt v w
-HaltedIf false v w = FoundRunning v w
+abbrev pub HaltAnswers : Bool → PassRecord → PassRecord → Type 0
+HaltAnswers true v w = FoundBusy Halt v w
+HaltAnswers false v w = FoundRunning v w
 
 -- The pass raised the halt word. All else stays, its looks among it.
 pub record HasHalted (v w : PassRecord) : Type 0 where

@@ -70,11 +70,11 @@ pub record HasSent (P : Plan) (k : ℕ) (i : Item) (tile : Option (List ℤ)) (a
   pub added : AddsSend i tile v w
 
 -- what the answer of a send says, where the item belongs to shard k
-abbrev pub SentAs : Plan → ℕ → Item → Option (List ℤ) → Sent → PassRecord → PassRecord → Type 0
-SentAs P k i tile answer.Waits v w = HasSent P k i tile answer.Waits v w
-SentAs P k i tile answer.Fired v w = HasSent P k i tile answer.Fired v w
-SentAs P k i tile answer.Kept v w = HasSent P k i tile answer.Kept v w
-SentAs P k i tile answer.Busy v w = FoundBusy (Turn k) v w
+abbrev pub SendAnswers : Plan → ℕ → Item → Option (List ℤ) → Sent → PassRecord → PassRecord → Type 0
+SendAnswers P k i tile answer.Waits v w = HasSent P k i tile answer.Waits v w
+SendAnswers P k i tile answer.Fired v w = HasSent P k i tile answer.Fired v w
+SendAnswers P k i tile answer.Kept v w = HasSent P k i tile answer.Kept v w
+SendAnswers P k i tile answer.Busy v w = FoundBusy (Turn k) v w
 
 -- A task that may end: the pass runs it, it has outputs, and the pass has sent all its items.
 pub record MayEnd (P : Plan) (G : Data) (t : Task) (v : PassRecord) : Type 0 where
@@ -100,6 +100,6 @@ pub record HasEnded (k : ℕ) (v w : PassRecord) : Type 0 where
   pub end : HasEndedOnly v w
 
 -- what the answer of an end or of a trap says, where the task belongs to shard k: false is a turn that was taken
-abbrev pub EndedIf : Bool → ℕ → PassRecord → PassRecord → Type 0
-EndedIf true k v w = HasEnded k v w
-EndedIf false k v w = FoundBusy (Turn k) v w
+abbrev pub EndAnswers : Bool → ℕ → PassRecord → PassRecord → Type 0
+EndAnswers true k v w = HasEnded k v w
+EndAnswers false k v w = FoundBusy (Turn k) v w

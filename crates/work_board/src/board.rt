@@ -6,9 +6,9 @@ ghost use Rattle.ptg_base.specs.Task.{Task};
 ghost use Rattle.plan_data.specs.Fit.{DataFit};
 ghost use Rattle.dep_iter.specs.Tasks.{IsTask};
 ghost use Rattle.work_board.specs.Records.{IsClean, OnlyTook};
-ghost use Rattle.work_board.specs.Claims.{Claimed, Scanned};
-ghost use Rattle.work_board.specs.Sends.{EndedIf, IsNext, MayEnd, MayTrap, SentAs, shard_of_item};
-ghost use Rattle.work_board.specs.Looks.{HaltedIf, HasHalted, HasStamp, QuietIf};
+ghost use Rattle.work_board.specs.Claims.{ClaimAnswers, ScanAnswers};
+ghost use Rattle.work_board.specs.Sends.{EndAnswers, IsNext, MayEnd, MayTrap, SendAnswers, shard_of_item};
+ghost use Rattle.work_board.specs.Looks.{HaltAnswers, HasHalted, HasStamp, QuietAnswers};
 
 use crate::answers::{Claim, Scan, Sent};
 use coll_data::Given;
@@ -61,7 +61,7 @@ pub trait Board: Sync {
     /// The job's data.
     fn given(&self) -> &Given
         ensures same { result.now ≡ job_data self.now }
-        ensures fit { DataFit (plan self.now).colls (plan self.now).elems (job_data self.now) };
+        ensures fit { DataFit (plan self.now) (job_data self.now) };
 
     /// How many shards can be scanned.
     fn shards(&self) -> u32
@@ -77,7 +77,7 @@ pub trait Board: Sync {
         requires task { IsTask (plan self.now) t.now }
         requires idle { (shown pass.old).running ≡ [] }
         ensures pass { is_pass self.now pass.new }
-        ensures claim { Claimed (plan self.now) (job_data self.now) (placement self.now t.now) t.now result
+        ensures claim { ClaimAnswers (plan self.now) (job_data self.now) (placement self.now t.now) t.now result
             (shown pass.old) (shown pass.new) };
 
     /// Claims the best ready task of a shard: `Empty` exactly where none is ready.
@@ -86,8 +86,8 @@ pub trait Board: Sync {
         requires shard { shard < shard_count self.now }
         requires idle { (shown pass.old).running ≡ [] }
         ensures pass { is_pass self.now pass.new }
-        ensures scan { Scanned (plan self.now) (job_data self.now) (placement self.now) shard result (shown pass.old)
-            (shown pass.new) };
+        ensures scan { ScanAnswers (plan self.now) (job_data self.now) (placement self.now) shard result
+            (shown pass.old) (shown pass.new) };
 
     /// Sends an item of the task that the pass runs, with the tile that the task leaves in its flow.
     fn try_send(
@@ -100,8 +100,8 @@ pub trait Board: Sync {
         requires item { IsNext (plan self.now) (job_data self.now) item.now (option_copied tile) (shown pass.old) }
         ensures pass { is_pass self.now pass.new }
         ensures sent { IfOk result (λ a.
-            SentAs (plan self.now) (shard_of_item (placement self.now) item.now) item.now (option_copied tile.entry) a
-            (shown pass.old) (shown pass.new)) }
+            SendAnswers (plan self.now) (shard_of_item (placement self.now) item.now) item.now
+            (option_copied tile.entry) a (shown pass.old) (shown pass.new)) }
         ensures err { OnErr result
             (OnlyTook (shard_of_item (placement self.now) item.now) (shown pass.old) (shown pass.new)) }
         ensures preloaded { preloaded self.now ≡ true → IsOk result };
@@ -112,14 +112,14 @@ pub trait Board: Sync {
         requires pass { is_pass self.now pass.old }
         requires task { MayEnd (plan self.now) (job_data self.now) t.now (shown pass.old) }
         ensures pass { is_pass self.now pass.new }
-        ensures ended { EndedIf result (placement self.now t.now) (shown pass.old) (shown pass.new) };
+        ensures ended { EndAnswers result (placement self.now t.now) (shown pass.old) (shown pass.new) };
 
     /// Notes that the task that the pass runs trapped with this cause. False only where the turn was taken.
     fn try_trap(&self, pass: &mut Self::Pass, t: &TaskId, cause: Trap) -> Result<bool, OutOfMemory>
         requires pass { is_pass self.now pass.old }
         requires task { MayTrap (plan self.now) (job_data self.now) t.now cause (shown pass.old) }
         ensures pass { is_pass self.now pass.new }
-        ensures ended { IfOk result (λ a. EndedIf a (placement self.now t.now) (shown pass.old) (shown pass.new)) }
+        ensures ended { IfOk result (λ a. EndAnswers a (placement self.now t.now) (shown pass.old) (shown pass.new)) }
         ensures err { OnErr result (OnlyTook (placement self.now t.now) (shown pass.old) (shown pass.new)) }
         ensures preloaded { preloaded self.now ≡ true → IsOk result };
 
@@ -127,7 +127,7 @@ pub trait Board: Sync {
     fn see_quiet(&self, pass: &mut Self::Pass) -> bool
         requires { is_pass self.now pass.old }
         ensures pass { is_pass self.now pass.new }
-        ensures quiet { QuietIf result (shown pass.old) (shown pass.new) };
+        ensures quiet { QuietAnswers result (shown pass.old) (shown pass.new) };
 
     /// Raises the halt word. A preloaded board is never halted.
     fn halt(&self, pass: &mut Self::Pass)
@@ -140,7 +140,7 @@ pub trait Board: Sync {
     fn halted(&self, pass: &mut Self::Pass) -> bool
         requires { is_pass self.now pass.old }
         ensures pass { is_pass self.now pass.new }
-        ensures halted { HaltedIf result (shown pass.old) (shown pass.new) }
+        ensures halted { HaltAnswers result (shown pass.old) (shown pass.new) }
         ensures preloaded { preloaded self.now ≡ true → result ≡ false };
 
     /// The stamp of the task that the pass runs.

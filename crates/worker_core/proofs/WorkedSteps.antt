@@ -20,7 +20,7 @@ use Rattle.work_board.specs.Records.{done_by}
 use Rattle.worker_core.specs.declared.claiming.Found.{Found}
 use Rattle.worker_core.specs.Claiming.{HasGotLogged}
 use Rattle.worker_core.specs.Sending.{HasSentSome}
-use Rattle.worker_core.specs.Working.{AreFollowed, HasClaimedMore, HasGrown, HasRun, logged}
+use Rattle.worker_core.specs.Working.{AreFollowed, HasClaimedMore, HasLogged, HasRun, logged}
 use Rattle.work_board.specs.Stamps.{StampedTask}
 
 more_positive : (m n : ℕ) → nat_lt 0 m ≡ true → nat_lt 0 (m + n) ≡ true
@@ -94,8 +94,8 @@ module _ (P : Plan) (G : Data) (lets : Task → Type 0) (keeps : Bool) where
       }
 
   -- a claim that was refused memory afterwards is a claim
-  pub grown_claimed : (ran : ℕ) (f : Found) (v w x y : PassRecord) (old mid new : List (ℕ × Task)) → IsWorked P G lets keeps ran v w old mid → HasGotLogged P G keeps f w x mid new → HasSentSome x y → HasGrown keeps v y old new
-  grown_claimed ran f v w x y old mid new far got some = record {
+  pub logged_claims : (ran : ℕ) (f : Found) (v w x y : PassRecord) (old mid new : List (ℕ × Task)) → IsWorked P G lets keeps ran v w old mid → HasGotLogged P G keeps f w x mid new → HasSentSome x y → HasLogged keeps v y old new
+  logged_claims ran f v w x y old mid new far got some = record {
     more = far.more ++ (f.task, got.got.added.stamp) ∷ [];
     claimed = claimed_more far.more f v w x y old mid new far.claimed got some;
     gained = gained_more far.more f w x old mid new far.gained got;

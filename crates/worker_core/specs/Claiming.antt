@@ -25,10 +25,10 @@ pub record IsQuietAfter (v w : PassRecord) : Type 0 where
   pub done : KeepsDone v w
 
 -- what one search for a task found
-abbrev pub Searched : Plan → Data → Search → PassRecord → PassRecord → Type 0
-Searched P G (search.Task f) v w = HasGot P G f v w
-Searched P G search.Quiet v w = IsQuietAfter v w
-Searched P G search.Nothing v w = IsStill v w
+abbrev pub SearchAnswers : Plan → Data → Search → PassRecord → PassRecord → Type 0
+SearchAnswers P G (search.Task f) v w = HasGot P G f v w
+SearchAnswers P G search.Quiet v w = IsQuietAfter v w
+SearchAnswers P G search.Nothing v w = IsStill v w
 
 -- The pass has got the found task, and where the log keeps what is noted, it has gained the claim with its stamp.
 pub record HasGotLogged (P : Plan) (G : Data) (keeps : Bool) (f : Found)

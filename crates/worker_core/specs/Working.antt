@@ -41,16 +41,10 @@ pub record HasRun (P : Plan) (G : Data) (t : Task) (v w : PassRecord) : Type 0 w
 
 -- entries of a log: the stamp before the task
 abbrev pub logged : List StampedTask → List (ℕ × Task)
-logged claims = map (λ (c : StampedTask). (c.1, c.0)) claims
-
--- The log has gained exactly the new claims of the pass, each with its stamp.
-pub record HasLogged (v w : PassRecord) (old new : List (ℕ × Task)) : Type 0 where
-  pub more : List StampedTask
-  pub claimed : HasClaimedMore more v w
-  pub gained : new ≡ old ++ logged more
+logged claims = map (λ ((t, stamp) : StampedTask). (stamp, t)) claims
 
 -- The pass has new claims, and where the log keeps what is noted, it has gained exactly these, each with its stamp.
-pub record HasGrown (keeps : Bool) (v w : PassRecord) (old new : List (ℕ × Task)) : Type 0 where
+pub record HasLogged (keeps : Bool) (v w : PassRecord) (old new : List (ℕ × Task)) : Type 0 where
   pub more : List StampedTask
   pub claimed : HasClaimedMore more v w
   pub gained : keeps ≡ true → new ≡ old ++ logged more

@@ -3,7 +3,7 @@
 ghost use Rattle.std.specs.Prelude.{◌≡◌, [], false, OnErr, IfOk, MatchOption};
 ghost use Rattle.ready_deques.specs.Hands.{SameWorker};
 ghost use Rattle.work_board.specs.Records.{IsStill};
-ghost use Rattle.worker_core.specs.Claiming.{HasGot, IsQuietAfter, Searched};
+ghost use Rattle.worker_core.specs.Claiming.{HasGot, IsQuietAfter, SearchAnswers};
 
 use crate::claiming::{Found, claim_id, scan};
 use crate::post::Post;
@@ -33,7 +33,7 @@ fn see_quiet<R: Threads + Wait + Sync, B: Board, G>(
 ) -> Search
     requires { B.is_pass post.now.board.now pass.old }
     ensures pass { B.is_pass post.now.board.now pass.new }
-    ensures looked { Searched (B.plan post.now.board.now) (B.job_data post.now.board.now) result (B.shown pass.old)
+    ensures looked { SearchAnswers (B.plan post.now.board.now) (B.job_data post.now.board.now) result (B.shown pass.old)
         (B.shown pass.new) }
 {
     if post.board.see_quiet(pass) {
@@ -53,7 +53,7 @@ fn look_once<R: Threads + Wait + Sync, B: Board, G>(
     requires idle { (B.shown pass.old).running ≡ [] }
     ensures pass { B.is_pass post.now.board.now pass.new }
     ensures hands { SameWorker hands.old hands.new }
-    ensures looked { Searched (B.plan post.now.board.now) (B.job_data post.now.board.now) result (B.shown pass.old)
+    ensures looked { SearchAnswers (B.plan post.now.board.now) (B.job_data post.now.board.now) result (B.shown pass.old)
         (B.shown pass.new) }
 {
     if let Some(id) = take_id(post.rt, hands) {

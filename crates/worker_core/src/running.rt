@@ -1,10 +1,10 @@
 //! One claimed task, from the gate to its end.
 
-ghost use Rattle.std.specs.Prelude.{◌≡◌, false, Ok, Err, Some, OnOk, OnErr, IfErr};
+ghost use Rattle.std.specs.Prelude.{◌≡◌, false, Err, Some, OnOk, OnErr, IfErr};
 ghost use Rattle.dep_iter.specs.Tasks.{IsTask, locals_of};
 ghost use Rattle.flow_meaning.specs.Backward.{ended, MayRun};
 ghost use Rattle.ready_deques.specs.Hands.{SameWorker};
-ghost use Rattle.task_run.specs.Bench.{IsBenchOf};
+ghost use Rattle.task_run.specs.Bench.{HoldsOutputs, IsBenchOf};
 ghost use Rattle.work_board.specs.Sends.{MayTrap};
 ghost use Rattle.worker_core.specs.Sending.{HasSentSome, RunsUnsent};
 ghost use Rattle.worker_core.specs.Starting.{HasStarted};
@@ -38,8 +38,7 @@ fn run_body<R: Threads + Wait + Sync, B: Board, G: Gate>(
     requires inputs { MayRun (B.plan post.now.board.now) (B.job_data post.now.board.now) at.now.task.now arrivals }
     ensures elems { bench.new.elems ≡ bench.old.elems }
     ensures ok { OnOk result
-        (ended (B.plan post.now.board.now) (B.job_data post.now.board.now) at.now.task.now
-        ≡ Some (Ok bench.new.tiles)) }
+        (HoldsOutputs (B.plan post.now.board.now) (B.job_data post.now.board.now) at.now.task.now bench.new) }
     ensures trap { IfErr result (λ cause.
         ended (B.plan post.now.board.now) (B.job_data post.now.board.now) at.now.task.now ≡ Some (Err cause)) }
 {
@@ -63,8 +62,8 @@ fn send_and_end<R: Threads + Wait + Sync, B: Board, G>(
     requires pass { B.is_pass post.now.board.now pass.old }
     requires task { IsTask (B.plan post.now.board.now) at.now.task.now }
     requires locals { at.now.locals.now ≡ locals_of (B.plan post.now.board.now) at.now.task.now }
-    requires tiles { ended (B.plan post.now.board.now) (B.job_data post.now.board.now) at.now.task.now
-        ≡ Some (Ok bench.old.tiles) }
+    requires tiles { HoldsOutputs (B.plan post.now.board.now) (B.job_data post.now.board.now) at.now.task.now
+        bench.old }
     requires unsent { RunsUnsent (B.plan post.now.board.now) at.now.task.now (B.shown pass.old) }
     ensures pass { B.is_pass post.now.board.now pass.new }
     ensures hands { SameWorker hands.old hands.new }

@@ -1,18 +1,15 @@
 //! Sends of what a task leaves.
 
-ghost use Rattle.std.specs.Prelude.{◌≡◌, ◌∷◌, [], false, Ok, Some, map, OnOk, OnErr};
+ghost use Rattle.std.specs.Prelude.{◌≡◌, ◌∷◌, [], false, OnOk, OnErr};
 ghost use Rattle.std.specs.Option.{option_copied};
-ghost use Rattle.ptg_base.specs.declared.edge.Edge.{Edge as EdgeValue};
-ghost use Rattle.ptg_base.specs.declared.edge.WriteBack.{WriteBack as WriteBackValue};
 ghost use Rattle.ptg_base.specs.declared.edge.Item.TheVariants as item;
-ghost use Rattle.dep_iter.specs.Items as items;
 ghost use Rattle.dep_iter.specs.Tasks.{IsTask, locals_of};
-ghost use Rattle.flow_meaning.specs.Backward.{ended};
 ghost use Rattle.ready_deques.specs.Hands.{SameWorker};
 ghost use Rattle.flow_meaning.specs.Sound.{with_its_tile};
+ghost use Rattle.task_run.specs.Bench.{HoldsOutputs};
 ghost use Rattle.work_board.specs.Records.{IsStill};
 ghost use Rattle.work_board.specs.Sends.{AddsSend, IsNext, MayEnd};
-ghost use Rattle.worker_core.specs.Sending.{HasSentAll, HasSentSome, MaySendAll, RunsUnsent};
+ghost use Rattle.worker_core.specs.Sending.{HasSentAll, HasSentSome, MaySendAll, RunsUnsent, edge_items, write_items};
 
 use crate::post::{ClaimedTask, Post};
 use crossbeam_utils::Backoff;
@@ -68,8 +65,7 @@ fn send_edge<R: Threads + Wait + Sync, B: Board, G>(
     edge: Edge,
 ) -> Result<(), OutOfMemory>
     requires pass { B.is_pass post.now.board.now pass.old }
-    requires tiles { ended (B.plan post.now.board.now) (B.job_data post.now.board.now) edge.from
-        ≡ Some (Ok bench.now.tiles) }
+    requires tiles { HoldsOutputs (B.plan post.now.board.now) (B.job_data post.now.board.now) edge.from bench.now }
     requires next { IsNext (B.plan post.now.board.now) (B.job_data post.now.board.now) (item.Edge edge)
         (with_its_tile (B.plan post.now.board.now) (B.job_data post.now.board.now) (item.Edge edge)).tile
         (B.shown pass.old) }
@@ -100,17 +96,15 @@ fn send_edges<R: Threads + Wait + Sync, B: Board, G>(
     requires pass { B.is_pass post.now.board.now pass.old }
     requires task { IsTask (B.plan post.now.board.now) at.now.task.now }
     requires locals { at.now.locals.now ≡ locals_of (B.plan post.now.board.now) at.now.task.now }
-    requires tiles { ended (B.plan post.now.board.now) (B.job_data post.now.board.now) at.now.task.now
-        ≡ Some (Ok bench.now.tiles) }
+    requires tiles { HoldsOutputs (B.plan post.now.board.now) (B.job_data post.now.board.now) at.now.task.now
+        bench.now }
     requires edges { MaySendAll (B.plan post.now.board.now) (B.job_data post.now.board.now) at.now.task.now
-        (map (λ (e : EdgeValue). item.Edge e) (items.out_edges (B.plan post.now.board.now) at.now.task.now))
-        (B.shown pass.old) }
+        (edge_items (B.plan post.now.board.now) at.now.task.now) (B.shown pass.old) }
     ensures pass { B.is_pass post.now.board.now pass.new }
     ensures hands { SameWorker hands.old hands.new }
     ensures sent { OnOk result
         (HasSentAll (B.plan post.now.board.now) (B.job_data post.now.board.now)
-        (map (λ (e : EdgeValue). item.Edge e) (items.out_edges (B.plan post.now.board.now) at.now.task.now))
-        (B.shown pass.old) (B.shown pass.new)) }
+        (edge_items (B.plan post.now.board.now) at.now.task.now) (B.shown pass.old) (B.shown pass.new)) }
     ensures some { OnErr result (HasSentSome (B.shown pass.old) (B.shown pass.new)) }
     ensures err { OnErr result (B.preloaded post.now.board.now ≡ false) }
 {
@@ -128,8 +122,7 @@ fn send_write<R: Threads + Wait + Sync, B: Board, G>(
     write: WriteBack,
 ) -> Result<(), OutOfMemory>
     requires pass { B.is_pass post.now.board.now pass.old }
-    requires tiles { ended (B.plan post.now.board.now) (B.job_data post.now.board.now) write.from
-        ≡ Some (Ok bench.now.tiles) }
+    requires tiles { HoldsOutputs (B.plan post.now.board.now) (B.job_data post.now.board.now) write.from bench.now }
     requires next { IsNext (B.plan post.now.board.now) (B.job_data post.now.board.now) (item.Write write)
         (with_its_tile (B.plan post.now.board.now) (B.job_data post.now.board.now) (item.Write write)).tile
         (B.shown pass.old) }
@@ -155,16 +148,14 @@ fn send_writes<R: Threads + Wait + Sync, B: Board, G>(
     requires pass { B.is_pass post.now.board.now pass.old }
     requires task { IsTask (B.plan post.now.board.now) at.now.task.now }
     requires locals { at.now.locals.now ≡ locals_of (B.plan post.now.board.now) at.now.task.now }
-    requires tiles { ended (B.plan post.now.board.now) (B.job_data post.now.board.now) at.now.task.now
-        ≡ Some (Ok bench.now.tiles) }
+    requires tiles { HoldsOutputs (B.plan post.now.board.now) (B.job_data post.now.board.now) at.now.task.now
+        bench.now }
     requires writes { MaySendAll (B.plan post.now.board.now) (B.job_data post.now.board.now) at.now.task.now
-        (map (λ (w : WriteBackValue). item.Write w) (items.write_backs (B.plan post.now.board.now) at.now.task.now))
-        (B.shown pass.old) }
+        (write_items (B.plan post.now.board.now) at.now.task.now) (B.shown pass.old) }
     ensures pass { B.is_pass post.now.board.now pass.new }
     ensures sent { OnOk result
         (HasSentAll (B.plan post.now.board.now) (B.job_data post.now.board.now)
-        (map (λ (w : WriteBackValue). item.Write w) (items.write_backs (B.plan post.now.board.now) at.now.task.now))
-        (B.shown pass.old) (B.shown pass.new)) }
+        (write_items (B.plan post.now.board.now) at.now.task.now) (B.shown pass.old) (B.shown pass.new)) }
     ensures some { OnErr result (HasSentSome (B.shown pass.old) (B.shown pass.new)) }
     ensures err { OnErr result (B.preloaded post.now.board.now ≡ false) }
 {
@@ -185,8 +176,8 @@ pub(crate) fn send_all<R: Threads + Wait + Sync, B: Board, G>(
     requires pass { B.is_pass post.now.board.now pass.old }
     requires task { IsTask (B.plan post.now.board.now) at.now.task.now }
     requires locals { at.now.locals.now ≡ locals_of (B.plan post.now.board.now) at.now.task.now }
-    requires tiles { ended (B.plan post.now.board.now) (B.job_data post.now.board.now) at.now.task.now
-        ≡ Some (Ok bench.now.tiles) }
+    requires tiles { HoldsOutputs (B.plan post.now.board.now) (B.job_data post.now.board.now) at.now.task.now
+        bench.now }
     requires unsent { RunsUnsent (B.plan post.now.board.now) at.now.task.now (B.shown pass.old) }
     ensures pass { B.is_pass post.now.board.now pass.new }
     ensures hands { SameWorker hands.old hands.new }

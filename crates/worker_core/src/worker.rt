@@ -6,7 +6,7 @@ ghost use Rattle.task_run.specs.Bench.{IsBenchOf};
 ghost use Rattle.work_board.specs.Looks.{KnowsHalted};
 ghost use Rattle.work_board.specs.Records.{IsLaterRecord, IsStill};
 ghost use Rattle.worker_core.specs.Claiming.{HasGotLogged, IsQuietAfter};
-ghost use Rattle.worker_core.specs.Working.{HasGrown, HasLogged, HasWorked};
+ghost use Rattle.worker_core.specs.Working.{HasLogged, HasWorked};
 
 use crate::claiming::Found;
 use crate::gate::Gate;
@@ -77,7 +77,7 @@ fn run_all<R: Threads + Wait + Sync, B: Board, G: Gate, L: Log>(
         HasWorked (B.plan post.now.board.now) (B.job_data post.now.board.now) (G.lets post.now.gate.now post.now.worker)
         worked.ran (B.shown pass.old) (B.shown pass.new)) }
     ensures quiet { OnOk result ((B.shown pass.new).quiet ≡ true) }
-    ensures grown { HasGrown L.keeps (B.shown pass.old) (B.shown pass.new) (L.entries log.old) (L.entries log.new) }
+    ensures logged { HasLogged L.keeps (B.shown pass.old) (B.shown pass.new) (L.entries log.old) (L.entries log.new) }
     ensures err { OnErr result (B.preloaded post.now.board.now ≡ false) }
 {
     let mut next = post.worker;
@@ -111,7 +111,7 @@ fn work_with<R: Threads + Wait + Sync, B: Board, G: Gate, L: Log>(
         HasWorked (B.plan post.now.board.now) (B.job_data post.now.board.now) (G.lets post.now.gate.now post.now.worker)
         worked.ran (B.shown pass.old) (B.shown pass.new)) }
     ensures quiet { OnOk result ((B.shown pass.new).quiet ≡ true) }
-    ensures grown { HasGrown L.keeps (B.shown pass.old) (B.shown pass.new) (L.entries log.old) (L.entries log.new) }
+    ensures logged { HasLogged L.keeps (B.shown pass.old) (B.shown pass.new) (L.entries log.old) (L.entries log.new) }
     ensures halted { OnErr result (KnowsHalted (B.shown pass.new)) }
     ensures err { OnErr result (B.preloaded post.now.board.now ≡ false) }
 {
@@ -183,7 +183,7 @@ pub fn work_logged<R: Threads + Wait + Sync, B: Board, G: Gate>(
         HasWorked (B.plan board.now) (B.job_data board.now) (G.lets gate.now worker) worked.ran (B.shown pass.old)
         (B.shown pass.new)) }
     ensures quiet { OnOk result ((B.shown pass.new).quiet ≡ true) }
-    ensures logged { HasLogged (B.shown pass.old) (B.shown pass.new) log.old.items log.new.items }
+    ensures logged { HasLogged true (B.shown pass.old) (B.shown pass.new) log.old.items log.new.items }
     ensures halted { OnErr result (KnowsHalted (B.shown pass.new)) }
 {
     let post = Post {

@@ -20,7 +20,7 @@ ghost use Rattle.flow_meaning.specs.Machine.{IsQuiescent};
 ghost use Rattle.flow_meaning.specs.StateAnswer.{state_answer, state_answer_by, state_data};
 ghost use Rattle.flow_meaning.specs.Table.{waiting_rows};
 ghost use Rattle.flow_core.specs.RunState.{IsRunning, machine};
-ghost use Rattle.flow_core.specs.Fits.{Fits};
+ghost use Rattle.flow_core.specs.Fits.{Fits, FitsSome};
 ghost use Rattle.flow_core.specs.Rows.{claim_traps, waits_among, writes_among};
 
 use crate::arrivals::number_at;
@@ -71,7 +71,7 @@ impl State {
         requires idle { (t : Task) → IsRunning self t → ⊥ }
         requires fits { Fits m.now given self }
         requires quiet { IsQuiescent m.now given (machine self) }
-        requires known { DataFit m.now.colls m.now.elems given }
+        requires known { DataFit m.now given }
         ensures { IfOk result (λ outcome. outcome ≡ meaning.answer m.now given) }
     {
         a_quiescent_state_has_the_meaning();
@@ -99,7 +99,7 @@ impl State {
         found: Result<Option<Outcome>, OutOfMemory>,
     ) -> Result<Outcome, OutOfMemory>
         requires fits { Fits m.now given self }
-        requires known { DataFit m.now.colls m.now.elems given }
+        requires known { DataFit m.now given }
         ensures { (all : OutcomeValue)
             → IfOk found (λ o.
             unwrap_or o (Complete (length (tasks.all_tasks m.now)) (state_data given (machine self))) ≡ all)
@@ -115,7 +115,7 @@ impl State {
     // The answer of a run that is not complete: its traps, or its stall. `None` where all tasks ran without a trap.
     fn incomplete(&self, m: &Matched) -> Result<Option<Outcome>, OutOfMemory>
         requires idle { (t : Task) → IsRunning self.now t → ⊥ }
-        requires fits { (G : Data) × Fits m.now G self.now }
+        requires fits { FitsSome m.now self.now }
         requires consistent { IsConsistent m.now }
         ensures { IfOk result (λ found.
             (G : Data) → Fits m.now G self.now
@@ -131,7 +131,7 @@ impl State {
 
     // The answer of a run without traps that has stalled. `None` where all tasks ran.
     fn stall(&self, m: &Matched) -> Result<Option<Outcome>, OutOfMemory>
-        requires { (G : Data) × Fits m.now G self.now }
+        requires { FitsSome m.now self.now }
         ensures { IfOk result (λ found.
             (G : Data)
             → unwrap_or found (Complete (length (tasks.all_tasks m.now)) (state_data G (machine self.now)))
@@ -148,7 +148,7 @@ impl State {
     // The answer of a run in which all tasks ran without a trap.
     fn complete(self, m: &Matched, given: Given) -> Result<Outcome, OutOfMemory>
         requires fits { Fits m.now given self }
-        requires known { DataFit m.now.colls m.now.elems given }
+        requires known { DataFit m.now given }
         ensures { IfOk result (λ outcome.
             outcome ≡ Complete (length (tasks.all_tasks m.now)) (state_data given (machine self))) }
     {
@@ -171,7 +171,7 @@ impl State {
 
     // The rows of the tasks that wait, in task order.
     fn waits(&self, m: &Matched) -> Result<Seq<WaitRow>, OutOfMemory>
-        requires { (G : Data) × Fits m.now G self.now }
+        requires { FitsSome m.now self.now }
         ensures { IfOk result (λ rows. rows ≡ waiting_rows m.now (machine self.now)) }
     {
         let mut rows = Vec::new(self.alloc);
@@ -183,7 +183,7 @@ impl State {
 
     // Adds the row of a task if it waits.
     fn push_wait(&self, m: &Matched, t: &TaskId, rows: &mut Vec<WaitRow>) -> Result<(), OutOfMemory>
-        requires fits { (G : Data) × Fits m.now G self.now }
+        requires fits { FitsSome m.now self.now }
         requires task { IsTask m.now t.now }
         requires consistent { IsConsistent m.now }
         ensures { OnOk result (rows.new.items ≡ rows.old.items ++ waits_among m.now (machine self.now) (t.now ∷ [])) }
@@ -210,7 +210,7 @@ impl State {
     // The data with each place replaced to which a tile was written back.
     fn final_data(self, m: &Matched, given: Given) -> Result<Given, OutOfMemory>
         requires fits { Fits m.now given self }
-        requires known { DataFit m.now.colls m.now.elems given }
+        requires known { DataFit m.now given }
         ensures { IfOk result (λ end. end ≡ state_data given (machine self)) }
     {
         m.plan_is_consistent();

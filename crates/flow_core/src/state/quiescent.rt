@@ -12,7 +12,7 @@ ghost use Rattle.dep_iter.specs.Tasks.{IsTask};
 ghost use Rattle.flow_meaning.specs.Machine.{IsQuiescent, MayClaim};
 ghost use Rattle.flow_meaning.specs.Ending as ending;
 ghost use Rattle.flow_core.specs.RunState.{IsRunning, end_of, machine};
-ghost use Rattle.flow_core.specs.Fits.{Fits};
+ghost use Rattle.flow_core.specs.Fits.{Fits, FitsSome};
 ghost use Rattle.flow_core.specs.Quiet.{HasOne, Owes};
 ghost use Rattle.flow_core.specs.SentItems.{IsUnsent};
 
@@ -25,7 +25,7 @@ impl State {
     /// Whether nothing more can happen in a run in which no task runs: no task may be claimed, and no item may be sent.
     pub fn quiescent(&self, m: &Matched) -> bool
         requires idle { (t : Task) → IsRunning self.now t → ⊥ }
-        requires fits { (G : Data) × Fits m.now G self.now }
+        requires fits { FitsSome m.now self.now }
         ensures { (G : Data) → Fits m.now G self.now → IsTrue result ↔ IsQuiescent m.now G (machine self.now) }
     {
         m.plan_is_consistent();
@@ -37,7 +37,7 @@ impl State {
 
     // Whether a task may be claimed.
     fn has_ready(&self, m: &Matched) -> bool
-        requires { (G : Data) × Fits m.now G self.now }
+        requires { FitsSome m.now self.now }
         ensures { IsTrue result ↔ HasOne (MayClaim m.now (machine self.now)) (tasks.all_tasks m.now) }
     {
         for t in all_tasks(m.plan()) {
@@ -50,7 +50,7 @@ impl State {
 
     // Whether an item of a task that has ended without a trap was not sent.
     fn has_owing(&self, m: &Matched) -> bool
-        requires { (G : Data) × Fits m.now G self.now }
+        requires { FitsSome m.now self.now }
         ensures { IsTrue result ↔ HasOne (Owes m.now self.now.sends) self.now.claims }
     {
         for (t, end) in self.claims.iter() {
@@ -65,7 +65,7 @@ impl State {
     fn owes(&self, m: &Matched, t: &TaskId, end: &Option<End>) -> bool
         requires task { IsTask m.now t.now }
         requires end { end_of self.now t.now ≡ end.now }
-        requires fits { (G : Data) × Fits m.now G self.now }
+        requires fits { FitsSome m.now self.now }
         ensures { IsTrue result ↔ Owes m.now self.now.sends (t.now, end.now) }
     {
         if !has_outputs(end) {
@@ -81,7 +81,7 @@ impl State {
     fn owes_edge(&self, m: &Matched, t: &TaskId) -> bool
         requires task { IsTask m.now t.now }
         requires outputs { IsTrue (ending.has_outputs (end_of self.now t.now)) }
-        requires fits { (G : Data) × Fits m.now G self.now }
+        requires fits { FitsSome m.now self.now }
         ensures { IsTrue result
             ↔ HasOne (λ (e : EdgeValue). IsUnsent self.now.sends (item.Edge e)) (items.out_edges m.now t.now) }
     {
@@ -97,7 +97,7 @@ impl State {
     fn owes_write(&self, m: &Matched, t: &TaskId) -> bool
         requires task { IsTask m.now t.now }
         requires outputs { IsTrue (ending.has_outputs (end_of self.now t.now)) }
-        requires fits { (G : Data) × Fits m.now G self.now }
+        requires fits { FitsSome m.now self.now }
         ensures { IsTrue result
             ↔ HasOne (λ (w : WriteBackValue). IsUnsent self.now.sends (item.Write w)) (items.write_backs m.now t.now) }
     {

@@ -2,9 +2,9 @@ use Rattle.std.proofs.Common.{◌≡◌, ℕ, ◌+◌, ◌-◌, ◌<◌, ◌≤�
 use Rattle.std.specs.Prelude.{nat_le, ◌&&◌}
 use Rattle.std.proofs.lemmas.Bool.Decides.{nat_tests}
 use Rattle.std.proofs.lemmas.List.{take_rest}
-use Rattle.jdf_alphabet.specs.declared.terminal.Terminal.TheVariants.{LeftBrace, RightBrace}
-use Rattle.jdf_alphabet.specs.Sets.{starts}
-use Rattle.jdf_alphabet.specs.Terminals.{is}
+use Rattle.jdf_lex.specs.declared.terminal.Terminal.TheVariants.{LeftBrace, RightBrace}
+use Rattle.jdf_lex.specs.Sets.{starts}
+use Rattle.jdf_lex.specs.Terminals.{is}
 use Rattle.jdf_tree.specs.BodyLimits.{most_blocks}
 use Rattle.body_read.proofs.LimitSearch.{blocks_begin, blocks_end, blocks_stop, blocks_go_on}
 use Rattle.body_read.proofs.limits.block_limit.Goals as goal

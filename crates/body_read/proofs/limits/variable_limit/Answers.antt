@@ -2,7 +2,7 @@ use Rattle.std.proofs.Common.{◌≡◌, ℕ, ◌+◌, ◌<◌, true, false, len
 use Rattle.std.specs.Prelude.{nat_le, ◌&&◌}
 use Rattle.std.proofs.lemmas.Bool.Decides.{nat_tests}
 use Rattle.std.proofs.lemmas.List.{take_rest}
-use Rattle.jdf_alphabet.specs.Sets.{starts}
+use Rattle.jdf_lex.specs.Sets.{starts}
 use Rattle.jdf_tree.specs.BodyLimits.{declares}
 use Rattle.body_read.proofs.LimitSearch.{variables_begin, variables_end, variables_stop, variables_go_on}
 use Rattle.body_read.proofs.limits.variable_limit.Goals as goal

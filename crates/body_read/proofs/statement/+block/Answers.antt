@@ -1,12 +1,13 @@
 use Rattle.std.proofs.Common.{sym, ◌∙◌, arith}
-use Rattle.jdf_alphabet.specs.declared.terminal.Terminal.TheVariants as terminal
-use Rattle.jdf_alphabet.specs.Terminals.{is}
+use Rattle.std.proofs.lemmas.Result.{err_from_is_err_and}
+use Rattle.jdf_lex.specs.declared.terminal.Terminal.TheVariants as terminal
+use Rattle.jdf_lex.specs.Terminals.{is}
 use Rattle.jdf_tree.specs.declared.part.Part.TheVariants.{Body}
 use Rattle.jdf_tree.specs.GrammarParts.{name}
 use Rattle.jdf_tree.specs.ExpressionGrammar.{outer}
 use Rattle.jdf_tree.specs.BodyGrammar.{statement}
 use Rattle.jdf_tree.proofs.Lists.{list_moves}
-use Rattle.body_read.proofs.Begins.{statements_listed, statements_go_on}
+use Rattle.body_read.proofs.Begins.{statements_fail, statements_go_on, statements_listed}
 use Rattle.body_read.proofs.statement.+block.Goals as goal
 use Rattle.expr_read.proofs.Loops.{reading_shrinks, token_shrinks}
 
@@ -30,3 +31,8 @@ statements-more-preserved t c =
       reads = statements_go_on c.more.list c.more.rest.now c.in_ok-next.next c.in_ok-next.after.now _ c.push.new.self c.in_ok-push.ensures.ok (sym c.is_statement_next.ensures ∙ c.more-test.true) c.in_ok-next.ensures c.more.invariant.reads;
       shorter = omega (arith, moved, c.more.invariant.shorter);
     }
+
+pub statements-returns-in_err-next : goal.statements-returns-in_err-next
+statements-returns-in_err-next t c =
+    let p = err_from_is_err_and c.from_residual.result c.from_residual.ensures.1 in
+    rw (p.1, p.2) (statements_fail _ c.more.list c.more.rest.now c.args.tokens.now (sym c.is_statement_next.ensures ∙ c.more-test.true) c.in_err-next.ensures c.more.invariant.reads)

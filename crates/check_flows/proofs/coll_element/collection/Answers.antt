@@ -1,7 +1,7 @@
 use Rattle.std.proofs.Common.{sym, ◌∙◌, subst}
 use Rattle.check_names.specs.Contexts.{job_of}
 use Rattle.check_names.specs.Returns.{ReturnsChecked}
-use Rattle.check_flows.specs.Places.{collection_faults}
+use Rattle.check_flows.specs.Elements.{collection_faults}
 use Rattle.check_flows.proofs.coll_element.collection.Goals as goal
 
 pub returns-in-Some : goal.returns-in-Some

@@ -1,5 +1,5 @@
 use Rattle.std.proofs.Common.{[], not, ◌==◌, Some, refl, subst}
-use Rattle.check_names.specs.Alphabet.{Arity}
+use Rattle.check_names.specs.TreesAndFaults.{Arity}
 use Rattle.check_names.specs.Faults.{fault_if}
 use Rattle.check_names.specs.Returns.{ReturnsChecked}
 use Rattle.check_flows.proofs.coll_element.dimensioned.Goals as goal

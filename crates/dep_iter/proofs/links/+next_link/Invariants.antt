@@ -4,4 +4,4 @@ use Rattle.dep_iter.proofs.links.+next_link.Given as goal
 
 -- how many targets are left
 abbrev pub decreases-next_link : goal.decreases-next_link
-decreases-next_link l = length (targets_left l.way l.env.now l.p.now)
+decreases-next_link l = length (targets_left l.direction l.env.now l.p.now)

@@ -4,7 +4,7 @@ use Rattle.dep_iter.proofs.membership.has_edge_before.Goals as goal
 
 pub returns : goal.returns
 returns c = λ P t locals near.
-    let d = c.args.way in
+    let d = c.args.direction in
     let e = c.args.edge.now in
     let is = before-by P t e c.args.flow.now c.args.k d near in
     let found = c.any_leads_to.ensures (near_flow d e) in

@@ -5,12 +5,12 @@ use Rattle.dep_iter.proofs.membership.has_edge_under.Goals as goal
 
 pub returns-in_default : goal.returns-in_default
 returns-in_default c =
-    let none = edge-none c.args.way c.args.plan.now c.args.t.now c.args.edge.now c.in_default.ensures in
+    let none = edge-none c.args.direction c.args.plan.now c.args.t.now c.args.edge.now c.in_default.ensures in
     (λ q. absurd (false≢true q), λ h. absurd (none h))
 
 pub returns : goal.returns
 returns c =
-    let d = c.args.way in
+    let d = c.args.direction in
     let e = c.args.edge.now in
     let is = edge-by d c.args.plan.now c.args.t.now e c.in-Some.flow.now c.in-Some.ensures in
     let found = c.any_leads_to.ensures (near_flow d e) in

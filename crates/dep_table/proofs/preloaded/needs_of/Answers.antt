@@ -2,7 +2,7 @@ use Rattle.std.proofs.Common.{rules, ◌≡◌, ◌∙◌, [], ◌∷◌, ap, sy
 use Rattle.plan_core.specs.declared.plan.Plan.{Plan}
 use Rattle.dep_iter.specs.Tasks.{all_tasks}
 use Rattle.shard_meaning.specs.Placing.{shard_of}
-use Rattle.dep_table.specs.Needs.{AreNeedsOf, HaveRoomFor}
+use Rattle.dep_table.specs.Needs.{AreNeedsOf, CanCountEach}
 use Rattle.dep_table.proofs.NeedsRoom.{room_all, room_first}
 use Rattle.dep_table.proofs.NeedsSteps.{needs_more, no_task}
 use Rattle.shard_calls.proofs.TaskWalks.{IsSoFar, begun, next_task, whole}
@@ -19,7 +19,7 @@ loop-t-init c =
       is_finite = search rules;
       count = none.count;
       types = λ k n at. (none.each k n at).types_count;
-      room = subst (λ ts. HaveRoomFor P ts ns) (sym all) (room_all P c.plan_is_consistent.ensures c.args.shards (length P.elems) ns none);
+      room = subst (λ ts. CanCountEach P ts ns) (sym all) (room_all P c.plan_is_consistent.ensures c.args.shards (length P.elems) ns none);
       so_far = subst (IsSoFar P (λ ts. AreNeedsOf P (shard_of P c.args.shards) ts ns)) (sym all) (begun P (λ ts. AreNeedsOf P (shard_of P c.args.shards) ts ns) (no_task P (shard_of P c.args.shards) c.args.shards ns none));
     }
 
@@ -32,7 +32,7 @@ need_task-requires-clause-task c =
 pub need_task-requires-clause-room : goal.need_task-requires-clause-room
 need_task-requires-clause-room c = λ k n at.
     let P = c.args.m.now in
-    room_first P (c.in-Some.t ∷ []) c.next.new.self n (subst (λ ts. HaveRoomFor P ts c.loop-t.needs.items) c.in-Some.ensures.steps c.loop-t.invariant.room k n at)
+    room_first P (c.in-Some.t ∷ []) c.next.new.self n (subst (λ ts. CanCountEach P ts c.loop-t.needs.items) c.in-Some.ensures.steps c.loop-t.invariant.room k n at)
 
 pub loop-t-preserved : goal.loop-t-preserved
 loop-t-preserved c =
@@ -46,7 +46,7 @@ loop-t-preserved c =
       is_finite = tt;
       count = adds.count ∙ w.count;
       types = adds.types w.types;
-      room = adds.room c.next.new.self (subst (λ ts. HaveRoomFor P ts old) c.in-Some.ensures.steps w.room);
+      room = adds.room c.next.new.self (subst (λ ts. CanCountEach P ts old) c.in-Some.ensures.steps w.room);
       so_far = needs_more P c.args.shards c.in-Some.t c.next.new.self old c.need_task.new.needs.items w.count adds before;
     }
 

@@ -1,6 +1,6 @@
 use Rattle.std.proofs.Common.{◌≡◌, length}
 use Rattle.shard_meaning.specs.Placing.{shard_of}
-use Rattle.dep_table.specs.Needs.{AreNeedsOf, HaveRoomFor, HaveTypes}
+use Rattle.dep_table.specs.Needs.{AreNeedsOf, CanCountEach, HaveTypes}
 use Rattle.shard_calls.proofs.TaskWalks.{IsSoFar}
 use Rattle.dep_table.proofs.preloaded.needs_of.Given as goal
 
@@ -10,6 +10,6 @@ invariant-loop-t l = record {
   is_finite : (goal.iterator-loop-t).is_finite l.t-iterator;
   count : length l.needs.items ≡ l.shards;
   types : HaveTypes (length l.m.elems) l.needs.items;
-  room : HaveRoomFor l.m l.t-iterator l.needs.items;
+  room : CanCountEach l.m l.t-iterator l.needs.items;
   so_far : IsSoFar l.m (λ ts. AreNeedsOf l.m (shard_of l.m l.shards) ts l.needs.items) l.t-iterator;
 }

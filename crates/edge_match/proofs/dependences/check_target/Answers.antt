@@ -7,7 +7,7 @@ use Rattle.edge_match.proofs.dependences.check_target.Goals as goal
 pub loop-values-preserved : goal.loop-values-preserved
 loop-values-preserved c =
     let at = c.args.at.now in
-    let way = c.args.way in
+    let way = c.args.direction in
     let named = edges_named at c.in-Task.class c.in-Task.flow way in
     let before = before_at way at c.args.k in
     let s = c.loop-values.counted in
@@ -21,7 +21,7 @@ loop-values-preserved c =
 pub returns-in_err-check_edge-in-Task : goal.returns-in_err-check_edge-in-Task
 returns-in_err-check_edge-in-Task c =
     let at = c.args.at.now in
-    let way = c.args.way in
+    let way = c.args.direction in
     let named = edges_named at c.in-Task.class c.in-Task.flow way in
     let before = before_at way at c.args.k in
     let one = rw (c.between-edge.ensures, c.new-far.ensures, c.as_slice.ensures.same) at c.in_err-check_edge-in-Task.ensures in
@@ -35,7 +35,7 @@ returns-in_err-check_edge-in-Task c =
 pub returns-in_default : goal.returns-in_default
 returns-in_default c =
     let at = c.args.at.now in
-    let way = c.args.way in
+    let way = c.args.direction in
     let named = edges_named at c.in-Task.class c.in-Task.flow way in
     let before = before_at way at c.args.k in
     let s = c.loop-values.counted in

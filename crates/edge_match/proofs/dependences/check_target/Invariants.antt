@@ -7,8 +7,8 @@ use Rattle.edge_match.proofs.dependences.check_target.Given as goal
 
 abbrev pub invariant-loop-values : goal.invariant-loop-values
 invariant-loop-values l =
-    let named = edges_named l.at l.class l.flow l.way in
-    let left = Rest l.at l.way (before_at l.way l.at l.k) in
+    let named = edges_named l.at l.class l.flow l.direction in
+    let left = Rest l.at l.direction (before_at l.direction l.at l.k) in
     record {
       rest : (v : Counted) (r : Result (Unit {0}) MatchFault) → left l.counted v r (named l.params)
           → left l.initial.counted v r (named l.initial.params);

@@ -7,12 +7,12 @@ returns-in_err-start_flow c =
     let start = c.in_err-start_flow.ensures c.args.counted.now in
     stop _ c.from_residual.ensures.1 (stop {v = c.args.counted.now} {r = Err _} _ refl start)
 
-pub returns-in_err-check_way : goal.returns-in_err-check_way
-returns-in_err-check_way c =
+pub returns-in_err-check_direction : goal.returns-in_err-check_direction
+returns-in_err-check_direction c =
     let start = c.in_ok-start_flow.ensures c.args.counted.now in
-    stop _ c.from_residual-in_err-check_way.ensures.1 (followed start c.in_err-check_way.ensures)
+    stop _ c.from_residual-in_err-check_direction.ensures.1 (followed start c.in_err-check_direction.ensures)
 
 pub returns : goal.returns
 returns c =
     let start = c.in_ok-start_flow.ensures c.args.counted.now in
-    followed (followed start c.in_ok-check_way.ensures) c.check_way-2.ensures
+    followed (followed start c.in_ok-check_direction.ensures) c.check_direction-2.ensures

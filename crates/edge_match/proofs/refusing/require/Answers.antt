@@ -8,7 +8,7 @@ use Rattle.edge_match.proofs.refusing.require.Goals as goal
 pub returns-else-holds-clause-checked : goal.returns-else-holds-clause-checked
 returns-else-holds-clause-checked c = λ P k s u d code.
     let t = c.args.t.now in
-    let named = c.fault_of.ensures ∙ ap (λ x. fault_at x t c.args.flow) (sym code) in
+    let named = c.fault_at.ensures ∙ ap (λ x. fault_at x t c.args.flow) (sym code) in
     record {
       after = λ b w.
           fails_at_once P b (mark t c.args.flow k) _ (λ p. false≢true (sym c.if-holds.false ∙ (d.passes b w).1 p), named);

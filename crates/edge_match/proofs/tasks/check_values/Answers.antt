@@ -11,5 +11,5 @@ returns-in-Err c = λ s.
     let t = c.args.task.now.task.now in
     let ill = c.in-Err.ensures.ill in
     let same : c.in-Err.ill.flow ≡ ill_flow P t = sym (ap (λ (o : Option (Option ℕ)). unwrap_or o None) ill) in
-    let named = c.fault_of.ensures ∙ ap (fault_at code.BadExpr t) same in
+    let named = c.fault_at.ensures ∙ ap (fault_at code.BadExpr t) same in
     record { after = λ b k. fails_at_once P b (mark t (ill_flow P t) (Is (HasValues t))) _ (λ h. let e = sym ill ∙ h in cc, named) }

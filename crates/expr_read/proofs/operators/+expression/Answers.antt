@@ -3,8 +3,8 @@ use Rattle.std.proofs.lemmas.Result.{err_from_is_err_and}
 use Rattle.ptg_base.specs.Returns.{ReturnsRefusal}
 use Rattle.grammar_core.specs.Reading.{reading}
 use Rattle.grammar_core.proofs.Loops.{fails_before}
-use Rattle.jdf_alphabet.specs.declared.terminal.Terminal.TheVariants as terminal
-use Rattle.jdf_alphabet.specs.Terminals.{is}
+use Rattle.jdf_lex.specs.declared.terminal.Terminal.TheVariants as terminal
+use Rattle.jdf_lex.specs.Terminals.{is}
 use Rattle.jdf_tree.specs.declared.part.Part.TheVariants.{Body}
 use Rattle.jdf_tree.specs.ExpressionGrammar.{parens, index, reference, disjunction, branches, expr}
 use Rattle.jdf_tree.specs.Grammar.{productions}

@@ -1,7 +1,7 @@
 use Rattle.std.proofs.Common.{◌≤◌, ◌<◌, length, rules}
 use Rattle.grammar_core.specs.Reading.{reading}
 use Rattle.grammar_core.proofs.Refusals.{fault_is}
-use Rattle.jdf_alphabet.specs.Counted.{expression_limit}
+use Rattle.jdf_lex.specs.Counted.{expression_limit}
 use Rattle.jdf_tree.specs.Grammar.{productions}
 use Rattle.expr_read.specs.Precedences.{form_of}
 use Rattle.expr_read.proofs.InWindow.{short, slice, fault}

@@ -1,6 +1,6 @@
 use Rattle.std.proofs.Common.{◌∷◌, [], ◌++◌, not, refl, ◌∙◌}
 use Rattle.name_table.specs.Names.{has_name}
-use Rattle.check_names.specs.Alphabet.{Word}
+use Rattle.check_names.specs.TreesAndFaults.{Word}
 use Rattle.check_names.proofs.GivenTwice.{next_names}
 use Rattle.flow_check.proofs.GlobalTables.{by_not}
 use Rattle.flow_check.proofs.globals.declared_names.Goals as goal

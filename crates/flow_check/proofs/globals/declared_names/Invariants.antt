@@ -1,6 +1,6 @@
 use Rattle.std.proofs.Common.{◌≡◌, take, List, ℕ}
 use Rattle.name_table.specs.Names.{has_name}
-use Rattle.check_names.specs.Alphabet.{Word}
+use Rattle.check_names.specs.TreesAndFaults.{Word}
 use Rattle.check_names.specs.Repeats.{is_taken}
 use Rattle.flow_check.proofs.globals.declared_names.Given as goal
 

@@ -1,6 +1,6 @@
 use Rattle.std.proofs.Common.{List, arith, flat_map, subst}
 use Rattle.std.proofs.lemmas.List.{take_all}
-use Rattle.check_names.specs.Alphabet.{FlowTree}
+use Rattle.check_names.specs.TreesAndFaults.{FlowTree}
 use Rattle.check_names.specs.Contexts.{job_of}
 use Rattle.check_names.specs.Returns.{ReturnsChecked}
 use Rattle.check_names.proofs.Parts.{next_part}

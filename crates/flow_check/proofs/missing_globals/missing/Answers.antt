@@ -1,6 +1,6 @@
 use Rattle.std.proofs.Common.{◌∙◌, ap}
 use Rattle.std.specs.List.{list_any}
-use Rattle.check_names.specs.Alphabet.{Word}
+use Rattle.check_names.specs.TreesAndFaults.{Word}
 use Rattle.flow_check.specs.Globals.{is_missing_here}
 use Rattle.flow_check.proofs.DeclaredGlobals.{missing_is}
 use Rattle.flow_check.proofs.missing_globals.missing.Goals as goal

@@ -1,5 +1,5 @@
 use Rattle.std.proofs.Common.{◌++◌, ap, ◌∙◌, subst}
-use Rattle.check_names.specs.Alphabet.{Word, ClassTree, NameTwice}
+use Rattle.check_names.specs.TreesAndFaults.{Word, ClassTree, NameTwice}
 use Rattle.check_names.specs.Contexts.{job_of}
 use Rattle.check_names.specs.Repeats.{repeats}
 use Rattle.flow_check.specs.Check.{AreRead}

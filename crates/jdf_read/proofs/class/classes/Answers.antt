@@ -1,6 +1,6 @@
 use Rattle.std.proofs.Common.{◌≡◌, ◌-◌, length, true, sym, ap, ◌∙◌, subst, arith, rules}
-use Rattle.jdf_alphabet.specs.Codes.{TooManyClasses}
-use Rattle.jdf_alphabet.specs.Sets.{starts}
+use Rattle.jdf_lex.specs.Codes.{TooManyClasses}
+use Rattle.jdf_lex.specs.Sets.{starts}
 use Rattle.jdf_tree.specs.declared.part.Part.TheVariants.{Class}
 use Rattle.jdf_tree.specs.GrammarParts.{names}
 use Rattle.ptg_base.specs.Returns.{ReturnsRefusal}

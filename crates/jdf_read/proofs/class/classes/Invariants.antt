@@ -1,5 +1,5 @@
 use Rattle.std.proofs.Common.{◌≡◌, ◌-◌, ◌≤◌, length}
-use Rattle.jdf_alphabet.specs.Codes.{TooManyClasses}
+use Rattle.jdf_lex.specs.Codes.{TooManyClasses}
 use Rattle.grammar_core.specs.Reading.{reading}
 use Rattle.grammar_core.proofs.Loops.{so_far}
 use Rattle.jdf_tree.specs.Grammar.{productions, class_and_skips, classes}

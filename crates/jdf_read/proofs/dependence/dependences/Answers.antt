@@ -1,5 +1,5 @@
 use Rattle.std.proofs.Common.{sym, ap, ◌∙◌, subst, length, rules}
-use Rattle.jdf_alphabet.specs.Codes.{TooManyDeps}
+use Rattle.jdf_lex.specs.Codes.{TooManyDeps}
 use Rattle.ptg_base.specs.Returns.{ReturnsRefusal}
 use Rattle.grammar_core.specs.declared.code.Code.{Code}
 use Rattle.grammar_core.specs.Reading.{reading}

@@ -1,5 +1,5 @@
 use Rattle.std.proofs.Common.{◌≡◌, ◌≤◌, length}
-use Rattle.jdf_alphabet.specs.Codes.{TooManyFlows}
+use Rattle.jdf_lex.specs.Codes.{TooManyFlows}
 use Rattle.grammar_core.specs.Reading.{reading}
 use Rattle.grammar_core.proofs.Loops.{so_far}
 use Rattle.jdf_tree.specs.ClassGrammar.{flow, flows}

@@ -1,11 +1,9 @@
-use Rattle.std.proofs.Common.{◌≡◌, ap, subst, sym, ◌∙◌}
+use Rattle.std.proofs.Common.{◌≡◌, ap, ◌∙◌}
 use Rattle.plan_core.specs.declared.plan.Plan.{Plan}
 use Rattle.chain_cert.specs.Weights.{class_weights}
 use Rattle.ptg_top.specs.Denotation.{plan_of}
-use Rattle.ptg_top.specs.Findings.{IsFindingOf}
 use Rattle.ptg_top.specs.Tables.{usual_settings}
-use Rattle.ptg_top.proofs.Certified.{certified_is_finding, certified_of_run}
-use Rattle.ptg_top.proofs.TableRuns.{run_is_answered}
+use Rattle.ptg_top.proofs.Certified.{certified_of_run}
 use Rattle.ptg_top.proofs.certifying.certificate_found.Goals as goal
 
 -- what the run and its certificate make
@@ -17,11 +15,3 @@ returns-clause-certified g c =
     let is = c.certified.ensures P ws c.in_ok-certificate.ensures.accepted in
     certified_of_run usual_settings c.args.matched c.args.given c.in_ok-by.by c.in_ok-by.outcome c.in_ok-by.ensures
     ws c.in_ok-certificate.certificate c.certified.result weights c.in_ok-certificate.ensures.certificate is
-
-pub returns-clause-fit : goal.returns-clause-fit
-returns-clause-fit g c =
-    let P = plan_of c.in_ok-by.by in
-    let ws = c.as_slice.result.now in
-    let is = c.certified.ensures P ws c.in_ok-certificate.ensures.accepted in
-    let answered = run_is_answered usual_settings c.args.matched c.args.given c.in_ok-by.by c.in_ok-by.outcome c.in_ok-by.ensures in
-    subst (IsFindingOf P) (sym is) (certified_is_finding ws P c.in_ok-by.outcome c.in_ok-certificate.certificate c.in_ok-certificate.ensures.accepted answered)

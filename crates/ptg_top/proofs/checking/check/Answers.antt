@@ -4,7 +4,7 @@ use Rattle.jdf_tree.specs.declared.tree.Jdf.{Jdf}
 use Rattle.jdf_tree.specs.Jdf.{IsJdf}
 use Rattle.ptg_top.specs.declared.verdict.Verdict.{Verdict}
 use Rattle.ptg_top.specs.Denotation.{denoted}
-use Rattle.ptg_top.specs.JobFiles.{Entries}
+use Rattle.ptg_top.specs.JobFiles.{NamedFiles}
 use Rattle.ptg_top.specs.Steps.{CheckOfDataEndsWith, IsTreeRead, TreeIsRefused}
 use Rattle.ptg_top.proofs.Checked.{tree_result_ends, refusal_ends}
 use Rattle.ptg_top.proofs.checking.check.Goals as goal
@@ -16,7 +16,7 @@ returns-in-Ok-clause-verdict g c =
     let data_name = c.args.data_name.now in
     let mid = g.F.Files.faults c.tree_of_file.new.files data_name in
     let new = g.F.Files.faults c.check_data.new.files in
-    let Ends : Option Entries → Type 0 = λ t. (text : List ℕ) → IsJdf text c.in-Ok.tree
+    let Ends : Option NamedFiles → Type 0 = λ t. (text : List ℕ) → IsJdf text c.in-Ok.tree
     → IfOk c.check_data.result (λ v. CheckOfDataEndsWith t mid (new data_name) text data_name (denoted v)) in
     let Tree : Result Jdf Verdict → Type 0 = λ r. IfOk r (IsTreeRead (g.F.Files.contents c.args.files.now) jdf) in
     tree_result_ends (g.F.Files.contents c.args.files.now) (g.F.Files.faults c.args.files.now) new jdf data_name mid c.in-Ok.tree c.check_data.result

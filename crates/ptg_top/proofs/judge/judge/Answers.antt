@@ -1,4 +1,4 @@
-use Rattle.ptg_top.proofs.Carried.{command_ends}
+use Rattle.ptg_top.proofs.Carried.{command_ends, command_runs}
 use Rattle.ptg_top.proofs.judge.judge.Goals as goal
 
 -- the names in the command are UTF-8
@@ -14,3 +14,7 @@ pub returns-in-Ok-clause-judged : goal.returns-in-Ok-clause-judged
 returns-in-Ok-clause-judged g c =
     command_ends c.args.list.now (g.F.Files.contents c.args.files.now) (g.F.Files.faults c.args.files.now) (g.F.Files.faults c.carry_out.new.files)
     c.in-Ok.order c.carry_out.result c.in-Ok.ensures.found c.carry_out.ensures.judged
+
+-- and so is the verdict for it
+pub returns-in-Ok-clause-ran : goal.returns-in-Ok-clause-ran
+returns-in-Ok-clause-ran g c = command_runs c.args.list.now c.in-Ok.order c.carry_out.result c.in-Ok.ensures.found c.carry_out.ensures.ran

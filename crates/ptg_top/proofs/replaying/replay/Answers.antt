@@ -1,7 +1,7 @@
 use Rattle.std.proofs.Common.{subst}
 use Rattle.std.specs.Prelude.{Option, IfOk}
 use Rattle.ptg_top.specs.Denotation.{denoted}
-use Rattle.ptg_top.specs.JobFiles.{Entries}
+use Rattle.ptg_top.specs.JobFiles.{NamedFiles}
 use Rattle.ptg_top.specs.Steps.{ReplayEndsWith}
 use Rattle.ptg_top.proofs.Replayed.{replay_finds, replay_refuses}
 use Rattle.ptg_top.proofs.replaying.replay.Goals as goal
@@ -14,7 +14,7 @@ returns-in-Ok-clause-verdict g c =
     let mid = g.F.Files.faults c.check.new.files in
     let new = g.F.Files.faults c.replayed.new.files in
     let trace = c.args.trace.now in
-    let Ends : Option Entries → Type 0 = λ t. IfOk c.replayed.result (λ v. ReplayEndsWith t (mid trace) (new trace) trace c.in-Ok.matched c.in-Ok.given (denoted v)) in
+    let Ends : Option NamedFiles → Type 0 = λ t. IfOk c.replayed.result (λ v. ReplayEndsWith t (mid trace) (new trace) trace c.in-Ok.matched c.in-Ok.given (denoted v)) in
     replay_finds contents c.args.jdf.now c.args.data_name.now trace old mid new c.in-Ok.matched c.in-Ok.given
     (denoted c.in_ok-checked.checked) c.replayed.result c.in-Ok.ensures.found (c.in_ok-checked.ensures.grows trace) c.in_ok-checked.ensures.verdict
     (subst Ends c.in_ok-checked.ensures.stays c.replayed.ensures.verdict)

@@ -1,7 +1,7 @@
 use Rattle.std.proofs.Common.{Err, ap, refl}
 use Rattle.ptg_top.specs.declared.verdict.Finding.TheVariants.{Answer}
 use Rattle.ptg_top.proofs.Preloads.{fitting_is_answer, refused_is_answer}
-use Rattle.ptg_top.proofs.TableRuns.{found_of_run, run_is_answered}
+use Rattle.ptg_top.proofs.TableRuns.{found_of_run}
 use Rattle.ptg_top.proofs.running.answered.Goals as goal
 
 -- the answer of the table, whose preload was not refused
@@ -10,11 +10,6 @@ returns-in_ok-by-in-Ok-clause-answer g c =
     let ran = c.in_ok-by-in-Ok.ensures c.args.matched c.args.given c.args.settings c.in-Ok.ensures.run in
     fitting_is_answer c.args.matched c.args.settings c.args.given _ (λ bytes large. let e = (c.in-Ok.ensures.too_large bytes).1 large in absurd cc)
     (found_of_run c.args.settings c.args.matched c.args.given c.in_ok-by-in-Ok.by c.in_ok-by-in-Ok.outcome ran Answer (Answer c.in_ok-by-in-Ok.outcome) refl)
-
-pub returns-in_ok-by-in-Ok-clause-fit : goal.returns-in_ok-by-in-Ok-clause-fit
-returns-in_ok-by-in-Ok-clause-fit g c =
-    let ran = c.in_ok-by-in-Ok.ensures c.args.matched c.args.given c.args.settings c.in-Ok.ensures.run in
-    run_is_answered c.args.settings c.args.matched c.args.given c.in_ok-by-in-Ok.by c.in_ok-by-in-Ok.outcome ran
 
 pub returns-in_ok-by-in-Ok-clause-ran : goal.returns-in_ok-by-in-Ok-clause-ran
 returns-in_ok-by-in-Ok-clause-ran g c = (c.in_ok-by-in-Ok.ensures c.args.matched c.args.given c.args.settings c.in-Ok.ensures.run).settings

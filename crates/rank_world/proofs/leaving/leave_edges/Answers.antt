@@ -5,8 +5,9 @@ use Rattle.dep_iter.specs.Items.{out_edges}
 use Rattle.flow_meaning.specs.Backward.{ended}
 use Rattle.flow_meaning.specs.Ending.{has_outputs}
 use Rattle.rank_world.specs.RankRoom.{HasRoomFor}
-use Rattle.rank_world.specs.RunningTasks.{data_of, plan_of, within_among}
+use Rattle.rank_world.specs.RunningTasks.{data_of, plan_of}
 use Rattle.rank_world.proofs.LeftWithin.{EdgesLeft, edge_from, edge_may, edge_next, edge_room, edge_to, edges_first, edges_last}
+use Rattle.rank_world.proofs.Parts.{within_among}
 use Rattle.rank_world.proofs.leaving.leave_edges.Goals as goal
 
 pub loop-edge-init : goal.loop-edge-init

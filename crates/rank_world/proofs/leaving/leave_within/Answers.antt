@@ -1,15 +1,15 @@
 use Rattle.std.proofs.Common.{length, arith}
-use Rattle.dep_iter.specs.Items.{out_edges, write_backs}
-use Rattle.rank_world.specs.RunningTasks.{plan_of, within_among}
+use Rattle.dep_iter.specs.Items.{write_backs}
+use Rattle.rank_world.specs.RunningTasks.{its_edges_within, plan_of}
 use Rattle.rank_world.proofs.LeftWithin.{less_room}
 use Rattle.rank_world.proofs.leaving.leave_within.Goals as goal
 
 pub leave_writes-requires-clause-room : goal.leave_writes-requires-clause-room
 leave_writes-requires-clause-room c =
     let v = c.args.at.now in
-    less_room (length (within_among v (out_edges (plan_of v) v.task.now))) (length (write_backs (plan_of v) v.task.now)) 0 (length (write_backs (plan_of v) v.task.now)) c.args.shard.now c.requires.room (omega arith) (omega arith)
+    less_room (length (its_edges_within v)) (length (write_backs (plan_of v) v.task.now)) 0 (length (write_backs (plan_of v) v.task.now)) c.args.shard.now c.requires.room (omega arith) (omega arith)
 
 pub leave_edges-requires-clause-room : goal.leave_edges-requires-clause-room
 leave_edges-requires-clause-room c =
     let v = c.args.at.now in
-    c.leave_writes.ensures.room (length (within_among v (out_edges (plan_of v) v.task.now))) c.requires.room
+    c.leave_writes.ensures.room (length (its_edges_within v)) c.requires.room

@@ -1,9 +1,8 @@
 use Rattle.std.proofs.Common.{◌≤◌, List, length, sym, ◌∙◌, subst}
 use Rattle.indexmap.specs.IndexMap.{spare}
-use Rattle.dep_iter.specs.Items.{out_edges}
 use Rattle.std.proofs.lemmas.List.{nil_from_length}
 use Rattle.rank_core.specs.declared.message.Message.{Message}
-use Rattle.rank_world.specs.RunningTasks.{AreBlank, between_among, plan_of}
+use Rattle.rank_world.specs.RunningTasks.{AreBlank, its_edges_between, plan_of}
 use Rattle.rank_world.proofs.Outgoings.{PostedSoFar, post_few, post_room, post_shape, post_then, posted_first, posted_last}
 use Rattle.rank_world.proofs.posting.post_all.Goals as goal
 
@@ -14,7 +13,7 @@ loop-message-init c =
       can_next = tt;
       is_finite = tt;
       so_far = posted_first v c.requires.runs c.args.bench.now.tiles c.requires.tiles c.into_iter-message-iterator.result.rest.items c.args.mail.now
-          (subst (λ ms. AreBlank (plan_of v) (between_among v (out_edges (plan_of v) v.task.now)) ms) (sym c.into_iter-message-iterator.ensures.into_iter_gives.0) c.requires.blank)
+          (subst (λ ms. AreBlank (plan_of v) (its_edges_between v) ms) (sym c.into_iter-message-iterator.ensures.into_iter_gives.0) c.requires.blank)
           c.requires.mail (subst (λ ms. length ms ≤ spare c.args.mail.now.under_way) (sym c.into_iter-message-iterator.ensures.into_iter_gives.0) c.requires.room);
     }
 

@@ -4,7 +4,7 @@ use Rattle.flow_meaning.proofs.Events.{it_ends}
 use Rattle.shard_meaning.proofs.Holding.{claim_inputs}
 use Rattle.rank_core.proofs.Running.{fed}
 use Rattle.rank_core.specs.World.{rank_of}
-use Rattle.rank_world.specs.Keeping.{at_rest}
+use Rattle.rank_world.specs.Keeping.{idle_moment}
 use Rattle.rank_world.specs.RunningTasks.{before, data_of, plan_of}
 use Rattle.rank_world.proofs.Parts.{claim_holds}
 use Rattle.rank_world.proofs.running.begin.Goals as goal
@@ -17,7 +17,7 @@ run-requires-clause-inputs c =
     let takes = subst (λ o. IfSome o (λ tiles. Takes c.args.shard.now c.take_ready.new.self v.task.now tiles)) c.unwrap-arrivals.ensures c.take_ready.ensures.some in
     subst (λ p. MayRun p c.args.at.now.given.now c.args.at.now.task.now c.unwrap-arrivals.result) (sym c.plan.ensures.same) (record {
       runs = it_ends (plan_of v) (data_of v) h.consistent (before v).machine h.sound.state v.task.now (fed (plan_of v) (data_of v) h.consistent v.ranks (before v) h.sound v.task.now h.may);
-      inputs = claim_inputs (plan_of v) (data_of v) (rank_of (plan_of v) v.ranks) v.rank (at_rest (before v).machine) c.args.shard.now c.requires.holds h.consistent h.sound.state c.take_ready.new.self v.task.now c.unwrap-arrivals.result takes;
+      inputs = claim_inputs (plan_of v) (data_of v) (rank_of (plan_of v) v.ranks) v.rank (idle_moment (before v).machine) c.args.shard.now c.requires.holds h.consistent h.sound.state c.take_ready.new.self v.task.now c.unwrap-arrivals.result takes;
     })
 
 pub returns-clause-holds : goal.returns-clause-holds

@@ -19,7 +19,7 @@ pub judge_tasks-requires : goal.judge_tasks-requires
 judge_tasks-requires c =
     let r = subst (λ ts. IsReading c.args.m.now c.args.bytes.now ts c.in-Ok.reading.fault) (sym c.as_slice.ensures) c.in-Ok.ensures.read in
     let p = read_tasks c.args.m.now r.entries c.as_slice.result.now c.in-Ok.reading.fault r.read in
-    record { tasks = p.0; once = p.1; known = c.requires }
+    record { tasks = p.0; once = p.1; fit = c.requires }
 
 pub returns-clause-fault : goal.returns-clause-fault
 returns-clause-fault c =

@@ -1,7 +1,7 @@
 use Rattle.std.proofs.Common.{refl, subst, ◌∙◌}
 use Rattle.std.specs.Prelude.{MatchOption}
 use Rattle.worker_core.specs.Claiming.{HasGotLogged, IsQuietAfter}
-use Rattle.worker_core.proofs.WorkedSteps.{grown_claimed, nothing_done, one_task_more}
+use Rattle.worker_core.proofs.WorkedSteps.{logged_claims, nothing_done, one_task_more}
 use Rattle.worker_core.proofs.worker.run_all.Goals as goal
 
 pub loop-ran-init : goal.loop-ran-init
@@ -36,8 +36,8 @@ loop-ran-preserved g c =
       worked = one_task_more P G (g.G.Gate.lets c.args.post.now.gate.now c.args.post.now.worker) keeps c.loop-ran.ran c.in-Some.found v w x y old mid new c.loop-ran.invariant.worked got c.in_ok-run_found-in-Some.ensures.some c.in_ok-run_found-in-Some.ensures.run c.in_ok-run_found-in-Some.ensures.gate;
     }
 
-pub returns-in_err-run_found-in-Some-clause-grown : goal.returns-in_err-run_found-in-Some-clause-grown
-returns-in_err-run_found-in-Some-clause-grown g c =
+pub returns-in_err-run_found-in-Some-clause-logged : goal.returns-in_err-run_found-in-Some-clause-logged
+returns-in_err-run_found-in-Some-clause-logged g c =
     let P = g.B.Board.plan c.args.post.now.board.now in
     let G = g.B.Board.job_data c.args.post.now.board.now in
     let keeps = g.L.Log.keeps in
@@ -50,4 +50,4 @@ returns-in_err-run_found-in-Some-clause-grown g c =
     let new = g.L.Log.entries c.claim_next.new.log in
     let got : HasGotLogged P G keeps c.in-Some.found w x mid new =
     subst (λ o. MatchOption o (IsQuietAfter w x) (λ f. HasGotLogged P G keeps f w x mid new)) c.in-Some.is c.in_ok-found.ensures.found in
-    grown_claimed P G (g.G.Gate.lets c.args.post.now.gate.now c.args.post.now.worker) keeps c.loop-ran.ran c.in-Some.found v w x y old mid new c.loop-ran.invariant.worked got c.run_found.ensures.some
+    logged_claims P G (g.G.Gate.lets c.args.post.now.gate.now c.args.post.now.worker) keeps c.loop-ran.ran c.in-Some.found v w x y old mid new c.loop-ran.invariant.worked got c.run_found.ensures.some

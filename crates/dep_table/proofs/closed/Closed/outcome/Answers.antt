@@ -1,6 +1,6 @@
 use Rattle.std.proofs.Common.{sym, subst}
 use Rattle.dep_table.specs.ClosedTables.{ClosedView}
-use Rattle.dep_table.specs.Closing.{HaveNoWork}
+use Rattle.shard_meaning.specs.Calm.{HaveNoWork}
 use Rattle.dep_table.proofs.Quiets.{holds_an_end}
 use Rattle.dep_table.proofs.closed.Closed.outcome.Goals as goal
 

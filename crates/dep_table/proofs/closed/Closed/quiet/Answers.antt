@@ -1,6 +1,6 @@
 use Rattle.std.proofs.Common.{◌↔◌, IsTrue, ap, ◌∙◌, subst}
 use Rattle.dep_table.specs.ClosedTables.{ClosedView}
-use Rattle.dep_table.specs.Closing.{HaveNoWork}
+use Rattle.shard_meaning.specs.Calm.{HaveNoWork}
 use Rattle.dep_table.proofs.closed.Closed.quiet.Goals as goal
 
 pub returns : goal.returns

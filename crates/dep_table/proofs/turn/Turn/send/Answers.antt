@@ -5,8 +5,7 @@ use Rattle.std.specs.Result.{IfOk}
 use Rattle.atomic_table.specs.Table.{rest}
 use Rattle.ptg_base.specs.declared.edge.Item.{Item}
 use Rattle.dep_shard.specs.Content.{Content}
-use Rattle.table_rule.specs.Changes.{turn_left, with_own_send}
-use Rattle.table_rule.specs.Plays.{Seated}
+use Rattle.table_rule.specs.Plays.{Seated, after_send}
 use Rattle.work_board.specs.Records.{OnlyTook}
 use Rattle.work_board.specs.Sends.{HasSent}
 use Rattle.work_board.specs.declared.answers.Sent.{Sent as Answer}
@@ -40,7 +39,7 @@ give-requires-clause-leaves c = let h = c.requires.turn in refused _ _ _ _ h.3 _
 pub returns-clause-pass : goal.returns-clause-pass
 returns-clause-pass c = let h = c.requires.turn in elim c.match-take_item.branch [
   | in-Ok w ↦ subst (IsPassOf _) (sym w.pass-is) (send_pass _ _ _ _ h.3 _ _ c.requires.item c.requires.shard _ c.pass.view_is w.in-Ok.answer _ _
-      (w.give_send.ensures.me ∙ (λ k. (turn_left (with_own_send (w.raise_for.ensures.me k).0 record { item = c.args.item.now; tile = option_copied c.args.tile }), rest (w.raise_for.ensures.me k).1)))
+      (w.give_send.ensures.me ∙ ap (after_send record { item = c.args.item.now; tile = option_copied c.args.tile }) w.raise_for.ensures.me)
       (w.give_send.ensures.of ∙ w.raise_for.ensures.of) refl (ap (λ (p : PassView). rest p.me.1) c.pass.view_is ∙ ap (λ (m : Seated). rest m.1) h.3.me))
   | in-Err w ↦ subst (IsPassOf _) (sym w.pass-is) (left_pass _ _ _ _ h.3 _ _ c.pass.view_is w.give.ensures.of refl w.give.ensures.me)
 ]
@@ -55,7 +54,7 @@ LeftAs t q = (v : PassRecord) → (y z : Content) → IsTurnOf t v y z → OnlyT
 pub returns-clause-sent : goal.returns-clause-sent
 returns-clause-sent c = elim c.match-take_item.branch [
   | in-Ok w ↦ subst (λ o. IfOk o (SentBy c.args.self c.args.item.now (option_copied c.args.tile) c.match-take_item.pass)) (sym w.result-is) (λ v y z h. has_sent _ v y z h _ _ c.requires.item c.requires.shard _ c.pass.view_is w.in-Ok.answer c.match-take_item.pass _
-      (ap (λ (p : PassView). p.me) w.pass-is ∙ w.give_send.ensures.me ∙ (λ k. (turn_left (with_own_send (w.raise_for.ensures.me k).0 record { item = c.args.item.now; tile = option_copied c.args.tile }), rest (w.raise_for.ensures.me k).1)))
+      (ap (λ (p : PassView). p.me) w.pass-is ∙ w.give_send.ensures.me ∙ ap (after_send record { item = c.args.item.now; tile = option_copied c.args.tile }) w.raise_for.ensures.me)
       _ (held_is _ _ _ _ h _ c.pass.view_is _ _ _ c.slot_mut-held.ensures.value) w.in-Ok.ensures.answer)
   | in-Err w ↦ subst (λ o. IfOk o (SentBy c.args.self c.args.item.now (option_copied c.args.tile) c.match-take_item.pass)) (sym w.result-is) tt
 ]
@@ -75,6 +74,6 @@ returns-clause-preloaded c = λ pre. let h = c.requires.turn in elim c.match-tak
 pub returns-clause-last : goal.returns-clause-last
 returns-clause-last c = λ v y z h. elim c.match-take_item.branch [
   | in-Ok w ↦ send_last _ v y z h _ _ c.requires.item c.requires.shard _ c.pass.view_is w.in-Ok.answer c.match-take_item.pass _
-      (ap (λ (p : PassView). p.me) w.pass-is ∙ w.give_send.ensures.me ∙ (λ k. (turn_left (with_own_send (w.raise_for.ensures.me k).0 record { item = c.args.item.now; tile = option_copied c.args.tile }), rest (w.raise_for.ensures.me k).1)))
+      (ap (λ (p : PassView). p.me) w.pass-is ∙ w.give_send.ensures.me ∙ ap (after_send record { item = c.args.item.now; tile = option_copied c.args.tile }) w.raise_for.ensures.me)
   | in-Err w ↦ left_last _ v y z h _ c.match-take_item.pass c.pass.view_is (ap (λ (p : PassView). p.table) w.pass-is ∙ w.give.ensures.of) (ap (λ (p : PassView). p.stamp) w.pass-is) (ap (λ (p : PassView). p.me) w.pass-is ∙ w.give.ensures.me)
 ]

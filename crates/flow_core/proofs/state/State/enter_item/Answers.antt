@@ -1,7 +1,7 @@
 use Rattle.std.proofs.Common.{◌≡◌, ◌+◌, None, ap, subst, sym, ◌∙◌}
 use Rattle.list_lemmas.specs.Counting.{as_number}
 use Rattle.flow_meaning.specs.Machine.{SentItem}
-use Rattle.flow_core.specs.Arrivals.{edges_to, is_edge_to}
+use Rattle.flow_core.specs.Arrivals.{edge_count_to, is_edge_to}
 use Rattle.flow_core.specs.Kept.{AreKept, SentAndKept, kept_with, sent_as}
 use Rattle.flow_core.specs.RunState.{RunState, mark_of}
 use Rattle.flow_core.specs.SentItems.{IsUnsent}
@@ -27,6 +27,6 @@ invariant_of-self-2 c =
       counts = λ t none.
           counts_push c.self.inside.arrived.entries c.count_item.new.table.entries c.self.inside.claims.entries sent.sends x c.self.invariant.counts
           (λ u. c.count_item.ensures u ∙ (λ i. number_for (c.in_ok-reserve.ensures.entries i) u + as_number (is_edge_to u (sym c.copy_of_item.ensures i)))) t none
-          ∙ ap (λ (s : SentAndKept). edges_to t s.sends) (sym c.in_ok-add.ensures.ok);
+          ∙ ap (λ (s : SentAndKept). edge_count_to t s.sends) (sym c.in_ok-add.ensures.ok);
       tiles = subst (AreKept c.self.inside.claims.entries) (sym c.in_ok-add.ensures.ok) (kept_push c.self.inside.claims.entries sent x c.self.invariant.tiles);
     }

@@ -9,7 +9,7 @@ use Rattle.flow_meaning.specs.Backward.{ended}
 use Rattle.flow_meaning.specs.Machine.{first_tile, sent_tile}
 use Rattle.flow_meaning.specs.Starting.{starting_tiles, nothing_delivered}
 use Rattle.flow_meaning.proofs.Starting.{length-starting_tiles}
-use Rattle.flow_core.specs.Arrivals.{edges_to}
+use Rattle.flow_core.specs.Arrivals.{edge_count_to}
 use Rattle.flow_core.specs.Fits.{Fits}
 use Rattle.flow_core.specs.Kept.{AreKept}
 use Rattle.flow_core.specs.RunState.{RunState, mark_of, with_tiles}
@@ -61,7 +61,7 @@ invariant_of-self-2 c =
     let ends = kept_end claims t end running sent c.take_tiles.new.sent c.self.invariant.tiles (c.take_tiles.ensures.kept P t (flows_of P t) edges) c.take_tiles.ensures.sends c.take_tiles.ensures.writes in
     record {
       counts = λ u none.
-          counts_end c.self.inside.arrived.entries claims sent.sends t end c.self.invariant.counts u (ap (lookup (same_task u)) (sym marks) ∙ none) ∙ ap (edges_to u) (sym c.take_tiles.ensures.sends);
+          counts_end c.self.inside.arrived.entries claims sent.sends t end c.self.invariant.counts u (ap (lookup (same_task u)) (sym marks) ∙ none) ∙ ap (edge_count_to u) (sym c.take_tiles.ensures.sends);
       tiles = subst (λ cs. AreKept cs c.take_tiles.new.sent) (sym marks) ends;
     }
 

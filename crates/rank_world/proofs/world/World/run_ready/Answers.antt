@@ -5,7 +5,7 @@ use Rattle.shard_meaning.specs.Share.{IsShardOf}
 use Rattle.rank_core.specs.Sound.{IsSoundWorld}
 use Rattle.rank_core.specs.World.{after_run, rank_of}
 use Rattle.rank_world.specs.declared.running_task.RunningTask.{RunningTask}
-use Rattle.rank_world.specs.Keeping.{at_rest}
+use Rattle.rank_world.specs.Keeping.{idle_moment}
 use Rattle.rank_world.specs.Views.{WorldView}
 use Rattle.rank_world.specs.RunningTasks.{IsRunningTask}
 use Rattle.shard_meaning.proofs.Placing.{shard_below}
@@ -26,7 +26,7 @@ run_at-requires-clause-holds c = λ y at.
     let k = c.self.invariant in
     let count : c.len.result ≡ length i.ranks.items = c.len.ensures ∙ i.ranks.ok.0 in
     let is : c.args.rank ≡ rank_of i.matched.now (length i.ranks.items) c.args.t.now = subst (λ (w : WorldView). c.args.rank ≡ rank_of w.plan w.ranks c.args.t.now) (sym c.self.view_is) c.requires.rank in
-    subst (λ r. IsShardOf i.matched.now i.given (rank_of i.matched.now r) c.args.rank (at_rest i.history.state.machine) y) (sym count) (k.shares c.args.rank y at)
+    subst (λ r. IsShardOf i.matched.now i.given (rank_of i.matched.now r) c.args.rank (idle_moment i.history.state.machine) y) (sym count) (k.shares c.args.rank y at)
 
 pub invariant_of-self : goal.invariant_of-self
 invariant_of-self c =

@@ -1,7 +1,0 @@
-use Rattle.edge_match.proofs.Directed.{nothing_before}
-use Rattle.edge_match.proofs.flows.check_way.Goals as goal
-
-pub returns : goal.returns
-returns c =
-    let at = c.args.at.now in
-    rw (nothing_before at c.args.way, at.locals) at c.check_dependences.ensures

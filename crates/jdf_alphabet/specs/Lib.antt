@@ -1,4 +1,0 @@
-pub mod Terminals
-pub mod Codes
-pub mod Sets
-pub mod Counted
