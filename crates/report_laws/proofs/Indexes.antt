@@ -10,7 +10,7 @@ use Rattle.coll_data.specs.Tiles.{tile_count, IsRow, IsColumn, tile_index}
 use Rattle.coll_data.proofs.OneIndex.{index_in_is}
 use Rattle.coll_data.proofs.TileIndex.{row_and_column}
 use Rattle.report_text.specs.Places.{place_after}
-use Rattle.place_laws.specs.Listed.{listed_index}
+use Rattle.report_laws.specs.Listed.{listed_index}
 
 -- a number below a limit
 pub index_in-pos : (limit n : ℕ) → n < limit → index_in limit (pos n) ≡ Some n

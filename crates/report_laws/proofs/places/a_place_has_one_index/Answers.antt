@@ -1,6 +1,6 @@
 use Rattle.coll_data.proofs.OneIndex.{one_index}
-use Rattle.place_laws.proofs.Indexes.{found_from, has_index}
-use Rattle.place_laws.proofs.laws.a_place_has_one_index.Goals as goal
+use Rattle.report_laws.proofs.Indexes.{found_from, has_index}
+use Rattle.report_laws.proofs.places.a_place_has_one_index.Goals as goal
 
 pub returns : goal.returns
 returns c = record {

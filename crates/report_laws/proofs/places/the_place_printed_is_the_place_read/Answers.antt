@@ -1,7 +1,7 @@
 use Rattle.report_text.proofs.Placing.{length_placed}
 use Rattle.report_text.proofs.Placing.{length_places}
-use Rattle.place_laws.proofs.Listing.{nth_index, beside_place}
-use Rattle.place_laws.proofs.laws.the_place_printed_is_the_place_read.Goals as goal
+use Rattle.report_laws.proofs.Listing.{nth_index, beside_place}
+use Rattle.report_laws.proofs.places.the_place_printed_is_the_place_read.Goals as goal
 
 pub returns : goal.returns
 returns c = record {

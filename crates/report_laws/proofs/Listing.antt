@@ -7,9 +7,9 @@ use Rattle.ptg_base.specs.Lists.{IsIn}
 use Rattle.coll_data.specs.declared.coll.Coll.{Coll}
 use Rattle.coll_data.specs.Tiles.{tile_count}
 use Rattle.report_text.specs.Places.{places, place_after}
-use Rattle.place_laws.specs.Listed.{listed_index}
+use Rattle.report_laws.specs.Listed.{listed_index}
 use Rattle.report_text.proofs.Placing.{length_places, place_at}
-use Rattle.place_laws.proofs.Indexes.{index_after, after_index}
+use Rattle.report_laws.proofs.Indexes.{index_after, after_index}
 
 -- elements that are paired have the same index in both lists
 pub paired : {A B : Type 0} (xs : List A) (ys : List B) (x : A) (y : B) → IsIn (x, y) (zip xs ys) → (n : ℕ) × (slice_get xs n ≡ Some x) × (slice_get ys n ≡ Some y)

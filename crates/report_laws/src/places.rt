@@ -7,7 +7,7 @@ ghost use Rattle.coll_data.specs.declared.coll.Coll.{Coll};
 ghost use Rattle.coll_data.specs.Tiles.{IsColumn, IsRow, tile_count, tile_index};
 ghost use Rattle.coll_data.specs.WellMade.{IsWhole};
 ghost use Rattle.report_text.specs.Places.{places};
-ghost use Rattle.place_laws.specs.Listed.{listed_index};
+ghost use Rattle.report_laws.specs.Listed.{listed_index};
 
 /// A law: each row and column has an index, which is below the number of tiles; nothing else has one, and no two places
 /// have the same.

@@ -28,8 +28,8 @@ use Rattle.flow_meaning.specs.Final.{final_data}
 use Rattle.flow_meaning.specs.Answer.{answer, answer_by, ran, satisfied, trap_rows as rows_of_end, trapped, wait_rows, waiting}
 use Rattle.flow_meaning.proofs.SourceEdges.{class_of}
 use Rattle.report_text.specs.Rows.{trap_words}
-use Rattle.place_laws.specs.RowNames.{HasClass, HasRowsOf, HasWord, IsTrapOf}
-use Rattle.place_laws.proofs.TrapWords.{Allows, IsAllowed, allows-body}
+use Rattle.report_laws.specs.RowNames.{HasClass, HasRowsOf, HasWord, IsTrapOf}
+use Rattle.report_laws.proofs.TrapWords.{Allows, IsAllowed, allows-body}
 
 module _ {A : Type 0} (key : A → Task) where
   -- rows in task order are rows
