@@ -3,6 +3,7 @@ use Rattle.std.proofs.Common.{◌≡◌, ℕ, ℤ, List, [], ◌∷◌, map, ref
 use Rattle.std.specs.List.{filter_map, flat_map}
 use Rattle.ptg_base.specs.Task.{Task}
 use Rattle.ptg_base.specs.declared.edge.Item.TheVariants as item
+use Rattle.term_core.specs.declared.direction.Direction.{Direction}
 use Rattle.term_core.specs.declared.direction.Direction.TheVariants.{In, Out}
 use Rattle.plan_core.specs.declared.plan.Plan.{Plan}
 use Rattle.plan_core.specs.declared.target.Target.{Target}
@@ -10,6 +11,7 @@ use Rattle.plan_core.specs.declared.target.Target.TheVariants as target
 use Rattle.dep_iter.specs.Tasks.{locals_of, task}
 use Rattle.dep_iter.specs.Active.{active_ins, active_outs}
 use Rattle.dep_iter.specs.Arguments.{combinations}
+use Rattle.dep_iter.specs.Directions.{edges_of}
 use Rattle.dep_iter.specs.Edges.{edge, edges_into, in_edges}
 use Rattle.dep_iter.specs.Items.{edge_of, items, items_to, out_edges, write_backs, write_of}
 use Rattle.dep_iter.specs.Links.{edge_of_link, link, links_to, task_links}
@@ -56,6 +58,11 @@ out_edges-links P t =
     map-flat_map (edge_of_link Out t) (λ (a : ℕ × Target). links_to env a.0 a.1) (active_outs P t)
     ∙ flat_map-same (λ (a : ℕ × Target). map (edge_of_link Out t) (links_to env a.0 a.1)) (λ a. filter_map edge_of (items_to t env a.0 a.1)) (λ a. sym (items_to-links t env a.0 a.1)) (active_outs P t)
     ∙ sym (filter_map-flat_map edge_of (λ (a : ℕ × Target). items_to t env a.0 a.1) (active_outs P t))
+
+pub edges_of-links : (d : Direction) (P : Plan) (t : Task)
+    → map (edge_of_link d t) (task_links P t d) ≡ edges_of d P t
+edges_of-links In P t = in_edges-links P t
+edges_of-links Out P t = out_edges-links P t
 
 pub write_backs-targets : (P : Plan) (t : Task) → all_writes_to t (locals_of P t) (active_outs P t) ≡ write_backs P t
 unfolding items

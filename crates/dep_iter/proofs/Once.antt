@@ -1,7 +1,6 @@
 -- No task is listed twice, and in a consistent job no edge and no write-back of a task.
 use Rattle.std.proofs.Common.{◌≡◌, ℕ, suc, ◌≤◌, List, [], ◌∷◌, map, refl, ap, Some, slice_get, inl, inr, arith}
 use Rattle.std.specs.List.{flat_map}
-use Rattle.std.proofs.lemmas.Option.{slice_get_within}
 use Rattle.ptg_base.specs.Lists.{HasNoRepeats, IsIn}
 use Rattle.ptg_base.specs.Task.{Task}
 use Rattle.ptg_base.specs.declared.edge.WriteBack.{WriteBack}
@@ -11,12 +10,12 @@ use Rattle.range_space.specs.Tasks.{tasks}
 use Rattle.range_space.proofs.Distinct.{distinct_tasks}
 use Rattle.list_lemmas.proofs.Members.{from_append, from_map}
 use Rattle.list_lemmas.proofs.Distinct.{HasNoRepeats-append, HasNoRepeats-from_map, HasNoRepeats-map, HasNoRepeats-part}
-use Rattle.list_lemmas.proofs.Places.{slice_get_there}
 use Rattle.plan_core.specs.declared.plan.Plan.{Plan}
 use Rattle.dep_iter.specs.Consistent.{IsConsistent}
 use Rattle.dep_iter.specs.Edges.{in_edges}
 use Rattle.dep_iter.specs.Items.{out_edges, write_backs}
 use Rattle.dep_iter.specs.Tasks.{IsTask, all_tasks, task, tasks_from}
+pub use Rattle.dep_iter.specs.OneTask.{well_space}
 use Rattle.dep_iter.proofs.Listing.{listed}
 
 class_from : (n : ℕ) (ss : List ClassSpace) (t : Task) → IsIn t (tasks_from n ss) → n ≤ t.class
@@ -34,14 +33,6 @@ once-tasks_from n (s ∷ ss) well =
     let e : t.class ≡ n = ap (λ (t : Task). t.class) p.2 in
     let b = class_from (suc n) ss t k in
     omega arith)
-
--- each space of a plan is well made
-pub well_space : (P : Plan) (k : ℕ) (s : ClassSpace) → slice_get P.spaces k ≡ Some s → IsWellSpace s
-well_space P k s h =
-    let n = P.well_made.one_space_each in
-    let l = slice_get_within P.spaces k s h in
-    let c = slice_get_there P.classes k (omega arith) in
-    (P.well_made.fit k c.0 s c.1 h).space
 
 -- no task of a plan is listed twice
 pub once-all_tasks : (P : Plan) → HasNoRepeats (all_tasks P)

@@ -11,3 +11,4 @@ pub mod Combining
 pub mod Links
 pub mod Walking
 pub mod WalkLocals
+pub mod OneTask

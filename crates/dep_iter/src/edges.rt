@@ -4,14 +4,17 @@ ghost use Rattle.std.specs.Prelude.{◌≡◌};
 ghost use Rattle.std.specs.Iterator.{YieldsFirst, item_count};
 ghost use Rattle.dep_iter.specs.Tasks as tasks;
 ghost use Rattle.dep_iter.specs.Tasks.{IsTask};
+ghost use Rattle.dep_iter.specs.Directions.{edges_of};
 ghost use Rattle.dep_iter.specs.Edges as edges;
 ghost use Rattle.dep_iter.specs.Items as items;
 ghost use Rattle.dep_iter.specs.Links.{edge_of_link};
+ghost use Rattle.dep_iter.specs.WalkLocals.{walk_locals};
 
 use crate::link::Link;
 use crate::links::Links;
 use crate::locals::Locals;
 use crate::task::locals_of;
+use crate::task_at::TaskAt;
 use plan_core::Plan;
 use ptg_base::{Edge, TaskId};
 use std::marker::Model;
@@ -42,17 +45,31 @@ pub type InEdges<'a> = TaskEdges<'a>;
 /// The edges out of a task.
 pub type OutEdges<'a> = TaskEdges<'a>;
 
+// The edges of a task with these locals in one direction.
+fn task_edges<'a>(
+    plan: &'a Plan,
+    t: &TaskId,
+    locals: Locals<'a>,
+    direction: Direction,
+) -> TaskEdges<'a>
+    requires task { IsTask plan.now t.now }
+    requires locals { walk_locals locals ≡ tasks.locals_of plan.now t.now }
+    ensures { result ≡ edges_of direction plan.now t.now }
+{
+    TaskEdges {
+        task: t.copy(),
+        direction,
+        links: Links::new(plan, t, locals, direction),
+    }
+}
+
 /// The edges into a task, by flow in the text's order; of a gather, the first argument outermost. They are evaluated as
 /// they are asked for.
 pub fn in_edges<'a>(plan: &'a Plan, t: &TaskId) -> InEdges<'a>
     requires { IsTask plan.now t.now }
     ensures { result ≡ edges.in_edges plan.now t.now }
 {
-    TaskEdges {
-        task: t.copy(),
-        direction: Direction::In,
-        links: Links::new(plan, t, Locals::Own(locals_of(plan, t)), Direction::In),
-    }
+    task_edges(plan, t, Locals::Own(locals_of(plan, t)), Direction::In)
 }
 
 /// The edges into a task with these locals.
@@ -61,11 +78,7 @@ pub fn in_edges_under<'a>(plan: &'a Plan, t: &TaskId, env: &'a [i64]) -> InEdges
     requires locals { env.now ≡ tasks.locals_of plan.now t.now }
     ensures { result ≡ edges.in_edges plan.now t.now }
 {
-    TaskEdges {
-        task: t.copy(),
-        direction: Direction::In,
-        links: Links::new(plan, t, Locals::Lent(env), Direction::In),
-    }
+    task_edges(plan, t, Locals::Lent(env), Direction::In)
 }
 
 /// The edges out of a task, by flow and dependence in the text's order; of a broadcast, the first argument outermost.
@@ -74,11 +87,7 @@ pub fn out_edges<'a>(plan: &'a Plan, t: &TaskId) -> OutEdges<'a>
     requires { IsTask plan.now t.now }
     ensures { result ≡ items.out_edges plan.now t.now }
 {
-    TaskEdges {
-        task: t.copy(),
-        direction: Direction::Out,
-        links: Links::new(plan, t, Locals::Own(locals_of(plan, t)), Direction::Out),
-    }
+    task_edges(plan, t, Locals::Own(locals_of(plan, t)), Direction::Out)
 }
 
 /// The edges out of a task with these locals.
@@ -87,10 +96,32 @@ pub fn out_edges_under<'a>(plan: &'a Plan, t: &TaskId, env: &'a [i64]) -> OutEdg
     requires locals { env.now ≡ tasks.locals_of plan.now t.now }
     ensures { result ≡ items.out_edges plan.now t.now }
 {
-    TaskEdges {
-        task: t.copy(),
-        direction: Direction::Out,
-        links: Links::new(plan, t, Locals::Lent(env), Direction::Out),
+    task_edges(plan, t, Locals::Lent(env), Direction::Out)
+}
+
+impl<'a> TaskAt<'a> {
+    /// The edges into the task, in the order of `in_edges`.
+    pub fn in_edges(&self) -> InEdges<'a>
+        ensures { result ≡ edges.in_edges self.now.plan.now self.now.task.now }
+    {
+        task_edges(
+            self.plan,
+            self.task,
+            Locals::Lent(self.locals),
+            Direction::In,
+        )
+    }
+
+    /// The edges out of the task, in the order of `out_edges`.
+    pub fn out_edges(&self) -> OutEdges<'a>
+        ensures { result ≡ items.out_edges self.now.plan.now self.now.task.now }
+    {
+        task_edges(
+            self.plan,
+            self.task,
+            Locals::Lent(self.locals),
+            Direction::Out,
+        )
     }
 }
 

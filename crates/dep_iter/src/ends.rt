@@ -4,9 +4,9 @@ ghost use Rattle.std.specs.Prelude.{◌↔◌, IsTrue};
 ghost use Rattle.dep_iter.specs.Directions.{HasOtherEnd};
 
 use crate::lent::LentEdge;
-use crate::membership::has_edge_under;
-use crate::task::task_locals;
+use crate::task_at::TaskAt;
 use plan_core::Plan;
+use range_space::Numbers;
 use term_core::Direction;
 
 /// Whether an edge of a task is one of the task at its other end too: an edge into a task is one out of the task that
@@ -14,9 +14,9 @@ use term_core::Direction;
 pub fn has_other_end(plan: &Plan, direction: Direction, edge: &LentEdge) -> bool
     ensures { IsTrue result ↔ HasOtherEnd direction plan.now edge.now }
 {
-    let far = edge.far_task(direction);
-    let Some(locals) = task_locals(plan, far) else {
-        return false;
-    };
-    has_edge_under(plan, direction.opposite(), far, locals.as_slice(), edge)
+    let mut room = Numbers::new();
+    match TaskAt::find(plan, edge.far_task(direction), &mut room) {
+        Some(far) => far.has_edge(direction.opposite(), edge),
+        None => false,
+    }
 }

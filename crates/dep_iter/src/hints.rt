@@ -8,29 +8,55 @@ ghost use Rattle.dep_iter.specs.Tasks.{IsTask};
 ghost use Rattle.dep_iter.specs.Hints as hints;
 
 use crate::place::{place_of, value_or_zero};
-use crate::task::locals_of;
+use crate::task_at::TaskAt;
 use plan_core::{Plan, Shape};
 use ptg_base::{Place, TaskId};
+use range_space::Numbers;
 use term_core::Expr;
+
+impl TaskAt<'_> {
+    /// The place of the affinity of the task, a hint where it would best run.
+    #[tactic(auto, unfolding(crate::specs::Hints::affinity))]
+    pub fn affinity(&self) -> Place
+        ensures { result ≡ hints.affinity self.now.plan.now self.now.task.now }
+    {
+        let class = self.plan.class(self.task.class());
+        place_of(
+            class.affinity.coll,
+            class.affinity.indices.as_slice(),
+            self.locals,
+        )
+    }
+
+    /// The priority of the task, 0 where none is written.
+    #[tactic(auto, unfolding(crate::specs::Hints::priority))]
+    pub fn priority(&self) -> i64
+        ensures { result ≡ hints.priority self.now.plan.now self.now.task.now }
+    {
+        priority_value(self.locals, &self.plan.class(self.task.class()).priority)
+    }
+}
 
 /// The place of the affinity of a task, a hint where it would best run.
 pub fn affinity(plan: &Plan, t: &TaskId) -> Place
     requires { IsTask plan.now t.now }
     ensures { result ≡ hints.affinity plan.now t.now }
 {
-    let env = locals_of(plan, t);
-    affinity_under(plan, t, env.as_slice())
+    TaskAt::of(plan, t, &mut Numbers::new()).affinity()
 }
 
 /// The place of the affinity of a task with these locals.
-#[tactic(auto, unfolding(crate::specs::Hints::affinity))]
 pub fn affinity_under(plan: &Plan, t: &TaskId, env: &[i64]) -> Place
     requires task { IsTask plan.now t.now }
     requires locals { env.now ≡ tasks.locals_of plan.now t.now }
     ensures { result ≡ hints.affinity plan.now t.now }
 {
-    let class = plan.class(t.class());
-    place_of(class.affinity.coll, class.affinity.indices.as_slice(), env)
+    let at = TaskAt {
+        plan,
+        task: t,
+        locals: env,
+    };
+    at.affinity()
 }
 
 // The number of a row and a column among the places of a collection with this many columns.
@@ -77,16 +103,19 @@ pub fn priority(plan: &Plan, t: &TaskId) -> i64
     requires { IsTask plan.now t.now }
     ensures { result ≡ hints.priority plan.now t.now }
 {
-    let env = locals_of(plan, t);
-    priority_under(plan, t, env.as_slice())
+    TaskAt::of(plan, t, &mut Numbers::new()).priority()
 }
 
 /// The priority of a task with these locals.
-#[tactic(auto, unfolding(crate::specs::Hints::priority))]
 pub fn priority_under(plan: &Plan, t: &TaskId, env: &[i64]) -> i64
     requires task { IsTask plan.now t.now }
     requires locals { env.now ≡ tasks.locals_of plan.now t.now }
     ensures { result ≡ hints.priority plan.now t.now }
 {
-    priority_value(env, &plan.class(t.class()).priority)
+    let at = TaskAt {
+        plan,
+        task: t,
+        locals: env,
+    };
+    at.priority()
 }

@@ -16,6 +16,7 @@ use crate::argument::takes_value;
 use crate::guard::held_target;
 use crate::lent::LentEdge;
 use crate::task::flows_of;
+use crate::task_at::TaskAt;
 use plan_core::{Arg, DepPlan, FlowPlan, Plan, Target};
 use ptg_base::TaskId;
 use term_core::Direction;
@@ -97,8 +98,26 @@ fn named_flow<'a>(
     Some(&flows[number])
 }
 
-/// Whether the edge is one of those of the task with these locals, into it or out of it. Takes time according to the
-/// dependences of one flow, however many edges they give.
+impl TaskAt<'_> {
+    /// Whether the edge is one of those of the task, into it or out of it. Takes time according to the dependences of
+    /// one flow, however many edges they give.
+    pub fn has_edge(&self, direction: Direction, edge: &LentEdge) -> bool
+        ensures { IsTrue result ↔ IsIn edge.now (edges_of direction self.now.plan.now self.now.task.now) }
+    {
+        let Some(flow) = named_flow(self.plan, direction, self.task, edge) else {
+            return false;
+        };
+        any_leads_to(
+            flow.kind.first_only(direction),
+            flow.dependences(direction),
+            self.locals,
+            edge.far_task(direction),
+            edge.far_flow(direction),
+        )
+    }
+}
+
+/// Whether the edge is one of those of the task with these locals, into it or out of it.
 pub fn has_edge_under(
     plan: &Plan,
     direction: Direction,
@@ -110,16 +129,12 @@ pub fn has_edge_under(
     requires locals { env.now ≡ tasks.locals_of plan.now t.now }
     ensures { IsTrue result ↔ IsIn edge.now (edges_of direction plan.now t.now) }
 {
-    let Some(flow) = named_flow(plan, direction, t, edge) else {
-        return false;
+    let at = TaskAt {
+        plan,
+        task: t,
+        locals: env,
     };
-    any_leads_to(
-        flow.kind.first_only(direction),
-        flow.dependences(direction),
-        env,
-        edge.far_task(direction),
-        edge.far_flow(direction),
-    )
+    at.has_edge(direction, edge)
 }
 
 // The first k of these dependences, or all where there are no more.

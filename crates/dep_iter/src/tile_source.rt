@@ -14,7 +14,7 @@ use crate::links::arguments_at_most;
 use crate::place::{place_of, value_or_zero};
 use crate::position::next_held;
 use crate::source::Source;
-use crate::task::{flows_of, locals_of};
+use crate::task_at::TaskAt;
 use plan_core::{Arg, FlowPlan, Plan, Target};
 use ptg_base::{Edge, MOST_PARAMS, TaskId};
 use range_space::Numbers;
@@ -83,14 +83,27 @@ fn flow_source(plan: &Plan, t: &TaskId, env: &[i64], number: u8, flow: &FlowPlan
     }
 }
 
-/// Where the tile of a data flow of a task comes from, by the first in dependence that holds: `Source::Nothing` exactly
-/// where none holds.
+impl TaskAt<'_> {
+    /// Where the tile of a data flow of the task comes from, by the first in dependence that holds: `Source::Nothing`
+    /// exactly where none holds.
+    pub fn data_source(&self, flow: u8) -> Source
+        ensures { result ≡ edges.data_source self.now.plan.now self.now.task.now flow }
+    {
+        let flows = self.flows();
+        let number = flow as usize;
+        if number >= flows.len() {
+            return Source::Nothing;
+        }
+        flow_source(self.plan, self.task, self.locals, flow, &flows[number])
+    }
+}
+
+/// Where the tile of a data flow of a task comes from: `Source::Nothing` exactly where no in dependence holds.
 pub fn data_source(plan: &Plan, t: &TaskId, flow: u8) -> Source
     requires { IsTask plan.now t.now }
     ensures { result ≡ edges.data_source plan.now t.now flow }
 {
-    let env = locals_of(plan, t);
-    data_source_under(plan, t, env.as_slice(), flow)
+    TaskAt::of(plan, t, &mut Numbers::new()).data_source(flow)
 }
 
 /// Where the tile of a data flow of a task with these locals comes from.
@@ -99,10 +112,10 @@ pub fn data_source_under(plan: &Plan, t: &TaskId, env: &[i64], flow: u8) -> Sour
     requires locals { env.now ≡ tasks.locals_of plan.now t.now }
     ensures { result ≡ edges.data_source plan.now t.now flow }
 {
-    let flows = flows_of(plan, t);
-    let number = flow as usize;
-    if number >= flows.len() {
-        return Source::Nothing;
-    }
-    flow_source(plan, t, env, flow, &flows[number])
+    let at = TaskAt {
+        plan,
+        task: t,
+        locals: env,
+    };
+    at.data_source(flow)
 }

@@ -9,9 +9,10 @@ ghost use Rattle.dep_iter.specs.Well as well;
 
 use crate::argument::arg_steps;
 use crate::guard::{guard_value, target_by};
-use crate::task::{flows_of, locals_of};
+use crate::task_at::TaskAt;
 use plan_core::{Arg, ClassPlan, DepPlan, FlowPlan, Plan, Target};
 use ptg_base::TaskId;
+use range_space::Numbers;
 use term_core::{Expr, eval};
 
 /// A task needs an expression that has no value, or a range of step 0.
@@ -115,32 +116,45 @@ fn has_hints(env: &[i64], class: &ClassPlan) -> bool
     have_values(env, class.affinity.indices.as_slice()) && has_priority(env, &class.priority)
 }
 
-/// Whether each expression that a task needs has a value and no range that it needs has step 0: those of its affinity,
-/// its priority and its active dependences.
-/// An `Err` names what is ill first: the affinity or the priority, or a flow.
+impl TaskAt<'_> {
+    /// Whether each expression that the task needs has a value and no range that it needs has step 0: those of its
+    /// affinity, its priority and its active dependences.
+    /// An `Err` names what is ill first: the affinity or the priority, or a flow.
+    #[tactic(auto, unfolding(crate::specs::Well::ill_part))]
+    pub fn well(&self) -> Result<(), IllTask>
+        ensures well { IfOk result (λ _. well.ill_part self.now.plan.now self.now.task.now ≡ None) }
+        ensures ill { IfErr result (λ e. well.ill_part self.now.plan.now self.now.task.now ≡ Some e.flow) }
+    {
+        if !has_hints(self.locals, self.plan.class(self.task.class())) {
+            return Err(IllTask { flow: None });
+        }
+        match first_ill_flow(self.locals, 0, self.flows()) {
+            Some(flow) => Err(IllTask { flow: Some(flow) }),
+            None => Ok(()),
+        }
+    }
+}
+
+/// Whether a task is well; an `Err` names what is ill first.
 pub fn well_task(plan: &Plan, t: &TaskId) -> Result<(), IllTask>
     requires { IsTask plan.now t.now }
     ensures well { IfOk result (λ _. well.ill_part plan.now t.now ≡ None) }
     ensures ill { IfErr result (λ e. well.ill_part plan.now t.now ≡ Some e.flow) }
 {
-    let env = locals_of(plan, t);
-    well_task_under(plan, t, env.as_slice())
+    TaskAt::of(plan, t, &mut Numbers::new()).well()
 }
 
 /// Whether a task with these locals is well; an `Err` names what is ill first.
-#[tactic(auto, unfolding(crate::specs::Well::ill_part))]
 pub fn well_task_under(plan: &Plan, t: &TaskId, env: &[i64]) -> Result<(), IllTask>
     requires task { IsTask plan.now t.now }
     requires locals { env.now ≡ tasks.locals_of plan.now t.now }
     ensures well { IfOk result (λ _. well.ill_part plan.now t.now ≡ None) }
     ensures ill { IfErr result (λ e. well.ill_part plan.now t.now ≡ Some e.flow) }
 {
-    let class = plan.class(t.class());
-    if !has_hints(env, class) {
-        return Err(IllTask { flow: None });
-    }
-    match first_ill_flow(env, 0, flows_of(plan, t)) {
-        Some(flow) => Err(IllTask { flow: Some(flow) }),
-        None => Ok(()),
-    }
+    let at = TaskAt {
+        plan,
+        task: t,
+        locals: env,
+    };
+    at.well()
 }

@@ -9,11 +9,13 @@ ghost use Rattle.dep_iter.specs.Tasks as tasks;
 ghost use Rattle.dep_iter.specs.Tasks.{IsTask};
 ghost use Rattle.dep_iter.specs.Items as items;
 ghost use Rattle.dep_iter.specs.Walking.{all_writes_to, targets_left};
+ghost use Rattle.dep_iter.specs.WalkLocals.{walk_locals};
 
 use crate::locals::Locals;
 use crate::place::place_of;
 use crate::position::{Position, next_target, start};
 use crate::task::{flows_of, locals_of};
+use crate::task_at::TaskAt;
 use plan_core::{Plan, Target};
 use ptg_base::{TaskId, WriteBack};
 use std::marker::Model;
@@ -63,16 +65,25 @@ fn next_write<'a>(t: &TaskId, env: &[i64], p: &mut Position<'a>) -> Option<Write
     next_write(t, env, p)
 }
 
+// The write-backs of a task with these locals.
+fn task_writes<'a>(plan: &'a Plan, t: &TaskId, locals: Locals<'a>) -> WriteBacks<'a>
+    requires task { IsTask plan.now t.now }
+    requires locals { walk_locals locals ≡ tasks.locals_of plan.now t.now }
+    ensures { result ≡ items.write_backs plan.now t.now }
+{
+    WriteBacks {
+        task: t.copy(),
+        env: locals,
+        position: start(flows_of(plan, t)),
+    }
+}
+
 /// The write-backs of a task, by flow and dependence in the text's order. They are evaluated as they are asked for.
 pub fn write_backs<'a>(plan: &'a Plan, t: &TaskId) -> WriteBacks<'a>
     requires { IsTask plan.now t.now }
     ensures { result ≡ items.write_backs plan.now t.now }
 {
-    WriteBacks {
-        task: t.copy(),
-        env: Locals::Own(locals_of(plan, t)),
-        position: start(flows_of(plan, t)),
-    }
+    task_writes(plan, t, Locals::Own(locals_of(plan, t)))
 }
 
 /// The write-backs of a task with these locals.
@@ -81,10 +92,15 @@ pub fn write_backs_under<'a>(plan: &'a Plan, t: &TaskId, env: &'a [i64]) -> Writ
     requires locals { env.now ≡ tasks.locals_of plan.now t.now }
     ensures { result ≡ items.write_backs plan.now t.now }
 {
-    WriteBacks {
-        task: t.copy(),
-        env: Locals::Lent(env),
-        position: start(flows_of(plan, t)),
+    task_writes(plan, t, Locals::Lent(env))
+}
+
+impl<'a> TaskAt<'a> {
+    /// The write-backs of the task, in the order of `write_backs`.
+    pub fn write_backs(&self) -> WriteBacks<'a>
+        ensures { result ≡ items.write_backs self.now.plan.now self.now.task.now }
+    {
+        task_writes(self.plan, self.task, Locals::Lent(self.locals))
     }
 }
 

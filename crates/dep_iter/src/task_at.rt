@@ -1,0 +1,68 @@
+//! Tasks with their locals.
+
+ghost use Rattle.std.specs.Prelude.{◌≡◌, ◌≤◌, IfNone, IfSome, IsTrue, length};
+ghost use Rattle.ptg_base.specs.Limits.{most_flows};
+ghost use Rattle.dep_iter.specs.Tasks as tasks;
+ghost use Rattle.dep_iter.specs.Tasks.{IsTask};
+ghost use Rattle.dep_iter.specs.Links.{flows_fit};
+ghost use Rattle.dep_iter.specs.OneTask.{IsTask-prop};
+
+use crate::task::{flows_of, locals_of, task_locals};
+use plan_core::{FlowPlan, Plan};
+use ptg_base::{MOST_LOCALS, TaskId};
+use range_space::Numbers;
+
+/// A task of a plan with its locals, under which all that its class says of it is evaluated.
+#[derive(Drop)]
+pub struct TaskAt<'a> {
+    /// The plan.
+    pub plan: &'a Plan,
+    /// The task, which is one of the plan's.
+    pub task: &'a TaskId,
+    /// Its locals.
+    pub locals: &'a [i64],
+    pub ghost of_job: { IsTask plan.now task.now } by { IsTask-prop plan.now task.now },
+    pub ghost are_locals: { locals.now ≡ tasks.locals_of plan.now task.now },
+}
+
+impl<'a> TaskAt<'a> {
+    /// The task with its locals, which are filled in over what `room` holds.
+    pub fn of(plan: &'a Plan, task: &'a TaskId, room: &'a mut Numbers<MOST_LOCALS>) -> TaskAt<'a>
+        requires { IsTask plan.now task.now }
+        ensures plan { result.plan.now ≡ plan.now }
+        ensures task { result.task.now ≡ task.now }
+    {
+        *room = locals_of(plan, task);
+        TaskAt {
+            plan,
+            task,
+            locals: room.as_slice(),
+        }
+    }
+
+    /// The task with its locals, which are filled in over what `room` holds; or None where the job has no such task.
+    pub fn find(
+        plan: &'a Plan,
+        task: &'a TaskId,
+        room: &'a mut Numbers<MOST_LOCALS>,
+    ) -> Option<TaskAt<'a>>
+        ensures none { IfNone result (IsTask plan.now task.now → ⊥) }
+        ensures some { IfSome result (λ at. (at.plan.now ≡ plan.now) × (at.task.now ≡ task.now)) }
+    {
+        *room = task_locals(plan, task)?;
+        Some(TaskAt {
+            plan,
+            task,
+            locals: room.as_slice(),
+        })
+    }
+
+    /// The flows of the class of the task.
+    pub fn flows(&self) -> &'a [FlowPlan]
+        ensures flows { result.now ≡ tasks.flows_of self.now.plan.now self.now.task.now }
+        ensures at_most { length result.now ≤ most_flows }
+        ensures fit { IsTrue (flows_fit self.now.plan.now result.now) }
+    {
+        flows_of(self.plan, self.task)
+    }
+}
