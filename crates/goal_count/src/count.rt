@@ -6,6 +6,7 @@ ghost use Rattle.std.specs.List.{list_all};
 ghost use Rattle.std.specs.Result.{result_unwrap_or};
 ghost use Rattle.range_space.specs.Fault.{range_values};
 ghost use Rattle.dep_iter.specs.Arguments.{arg_values, combinations};
+ghost use Rattle.dep_iter.specs.Consistent.{IsConsistent};
 ghost use Rattle.dep_iter.specs.Edges as edges;
 ghost use Rattle.dep_iter.specs.Tasks as tasks;
 ghost use Rattle.dep_iter.specs.Tasks.{IsTask};
@@ -14,12 +15,11 @@ ghost use Rattle.goal_count.specs.Counting as counting;
 ghost use Rattle.goal_count.specs.Counting.{IsCount};
 
 use dep_iter::{
-    Matched, a_task_has_no_more_edges_than_the_job, edges_are_links, flows_of, held_target,
-    locals_of,
+    Matched, TaskAt, a_task_has_no_more_edges_than_the_job, edges_are_links, held_target,
 };
 use plan_core::{Arg, DepPlan, FlowPlan, Target};
 use ptg_base::TaskId;
-use range_space::steps_of;
+use range_space::{Numbers, steps_of};
 use term_core::Range;
 
 // How many values a range has.
@@ -100,12 +100,21 @@ fn flows_count(flows: &[FlowPlan], env: &[i64]) -> u64
 }
 
 /// How many edges go into a task of a consistent plan. No edge is walked.
+pub fn goal_of(at: &TaskAt) -> u32
+    requires { IsConsistent at.now.plan.now }
+    ensures { result ≡ edges.goal at.now.plan.now at.now.task.now }
+{
+    a_task_has_no_more_edges_than_the_job();
+    edges_are_links();
+    flows_count(at.flows(), at.locals) as u32
+}
+
+/// How many edges go into a task of a consistent plan. No edge is walked.
 pub fn goal(m: &Matched, t: &TaskId) -> u32
     requires { IsTask m.now t.now }
     ensures { result ≡ edges.goal m.now t.now }
 {
-    let env = locals_of(m.plan(), t);
-    goal_under(m, t, env.as_slice())
+    goal_of(&TaskAt::of(m.plan(), t, &mut Numbers::new()))
 }
 
 /// How many edges go into a task with these locals. No edge is walked.
@@ -114,8 +123,10 @@ pub fn goal_under(m: &Matched, t: &TaskId, env: &[i64]) -> u32
     requires locals { env.now ≡ tasks.locals_of m.now t.now }
     ensures { result ≡ edges.goal m.now t.now }
 {
-    a_task_has_no_more_edges_than_the_job();
-    edges_are_links();
-    let plan = m.plan();
-    flows_count(flows_of(plan, t), env) as u32
+    let at = TaskAt {
+        plan: m.plan(),
+        task: t,
+        locals: env,
+    };
+    goal_of(&at)
 }
