@@ -25,10 +25,10 @@ use Rattle.term_core.specs.Kinds.{is_data}
 use Rattle.dep_iter.specs.Active.{held_target, held_targets, held_then}
 use Rattle.dep_iter.specs.Consistent.{is_data_edge, takes_tile}
 use Rattle.dep_iter.specs.Edges.{edges_into, in_edges_before}
-use Rattle.edge_accept.specs.declared.at.FlowAt.{FlowAt}
+use Rattle.edge_accept.specs.declared.flow_at.FlowAt.{FlowAt}
 use Rattle.edge_accept.specs.declared.ins.Ins.{Ins}
 use Rattle.edge_accept.specs.Flows.{AreTaken, AreTakenOnce, IsSent}
-use Rattle.edge_accept.specs.Tallies.{Takes, TakesFrom}
+use Rattle.edge_accept.specs.Tallies.{Takes, TakesFrom, plan_of, task_of, env_of}
 
 -- whether an edge carries a tile is said by the kind of the flow that it goes into
 kind_here : (o : Option ClassPlan) (n : ℕ) (f : FlowPlan) → slice_get (option_map_or (λ (c : ClassPlan). c.flows) o []) n ≡ Some f → option_map (λ (f : FlowPlan). f.kind) (option_and_then (λ (c : ClassPlan). slice_get c.flows n) o) ≡ Some f.kind
@@ -111,34 +111,37 @@ held-next_some (c ∷ ds) (suc k) d env x e holds =
 -- the edges that the first dependences of a flow give
 module _ (at : FlowAt) where
   abbrev given : List DepPlan → List Edge
-  given ds = flat_map (edges_into at.task.now at.env.now at.number) (held_targets (is_data at.flow.now.kind) ds at.env.now)
+  given ds = flat_map (edges_into (task_of at) (env_of at) at.number) (held_targets (is_data at.flow.now.kind) ds (env_of at))
 
-  before-is : (k : ℕ) → in_edges_before at.plan.now at.task.now at.number k ≡ given (take k at.flow.now.ins)
+  before-is : (k : ℕ) → in_edges_before (plan_of at) (task_of at) at.number k ≡ given (take k at.flow.now.ins)
   unfolding in_edges_before
-  before-is k = rw (at.here, at.locals) refl
+  before-is k =
+      let edges = λ (env : List ℤ). flat_map (edges_into (task_of at) env at.number)
+      (held_targets (is_data at.flow.now.kind) (take k at.flow.now.ins) env) in
+      rw at.here (ap edges (sym at.task.now.are_locals))
 
   -- where none is left
   pub takes_nothing : (k : ℕ) (s : Ins) → length at.flow.now.ins ≤ k → (IsTrue (takes_tile at.flow.now.kind) → ⊥) → TakesFrom at k s s
   takes_nothing k s past none =
       rw (drop_of_length-le at.flow.now.ins past)
-      (record { source = none; taken = once_nil at.plan.now (in_edges_before at.plan.now at.task.now at.number k) s })
+      (record { source = none; taken = once_nil (plan_of at) (in_edges_before (plan_of at) (task_of at) at.number k) s })
 
   -- the dependence at hand, by whether it holds
   module _ (k : ℕ) (d : DepPlan) (this : slice_get at.flow.now.ins k ≡ Some d) where
     abbrev later : Bool → List Target
-    later first_only = held_targets first_only (drop (suc k) at.flow.now.ins) at.env.now
+    later first_only = held_targets first_only (drop (suc k) at.flow.now.ins) (env_of at)
 
     abbrev E : Target → List Edge
-    E = edges_into at.task.now at.env.now at.number
+    E = edges_into (task_of at) (env_of at) at.number
 
-    pub takes_none : (s u : Ins) → held_target d at.env.now ≡ None → TakesFrom at (suc k) s u → TakesFrom at k s u
+    pub takes_none : (s u : Ins) → held_target d (env_of at) ≡ None → TakesFrom at (suc k) s u → TakesFrom at k s u
     takes_none s u none h =
         let first_only = is_data at.flow.now.kind in
-        let same = before-is (suc k) ∙ ap (flat_map E) (held-next_none first_only at.flow.now.ins k d at.env.now this none) ∙ sym (before-is k) in
+        let same = before-is (suc k) ∙ ap (flat_map E) (held-next_none first_only at.flow.now.ins k d (env_of at) this none) ∙ sym (before-is k) in
         rw (drop_from at.flow.now.ins k d this, none)
-        (record { source = h.source; taken = subst (λ es. AreTakenOnce at.plan.now es s u (flat_map E (later first_only))) same h.taken })
+        (record { source = h.source; taken = subst (λ es. AreTakenOnce (plan_of at) es s u (flat_map E (later first_only))) same h.taken })
 
-    module _ (x : Target) (holds : held_target d at.env.now ≡ Some x) where
+    module _ (x : Target) (holds : held_target d (env_of at) ≡ Some x) where
       -- the first that holds counts alone
       pub takes_alone : (s u : Ins) → is_data at.flow.now.kind ≡ true → Takes at k s u (x ∷ []) → TakesFrom at k s u
       takes_alone s u alone first = rw (drop_from at.flow.now.ins k d this, alone, holds) first
@@ -146,19 +149,19 @@ module _ (at : FlowAt) where
       -- all that hold count
       pub takes_more : (s u v : Ins) → is_data at.flow.now.kind ≡ false → Takes at k s u (x ∷ []) → TakesFrom at (suc k) u v → TakesFrom at k s v
       takes_more s u v all first rest =
-          let before = in_edges_before at.plan.now at.task.now at.number k in
+          let before = in_edges_before (plan_of at) (task_of at) at.number k in
           let ins = at.flow.now.ins in
-          let targets = λ (b : Bool). held_targets b (take (suc k) ins) at.env.now ≡ held_targets b (take k ins) at.env.now ++ x ∷ [] in
-          let longer = subst targets (sym all) (held-next_some ins k d at.env.now x this holds) in
-          let earlier = held_targets (is_data at.flow.now.kind) (take k ins) at.env.now in
-          let same : in_edges_before at.plan.now at.task.now at.number (suc k) ≡ before ++ E x =
+          let targets = λ (b : Bool). held_targets b (take (suc k) ins) (env_of at) ≡ held_targets b (take k ins) (env_of at) ++ x ∷ [] in
+          let longer = subst targets (sym all) (held-next_some ins k d (env_of at) x this holds) in
+          let earlier = held_targets (is_data at.flow.now.kind) (take k ins) (env_of at) in
+          let same : in_edges_before (plan_of at) (task_of at) at.number (suc k) ≡ before ++ E x =
           before-is (suc k) ∙ ap (flat_map E) longer ∙ flat_map-append E earlier (x ∷ [])
           ∙ ap (λ l. l ++ flat_map E (x ∷ [])) (sym (before-is k)) ∙ ap (λ l. before ++ l) (append-nil (E x)) in
           let after = subst (λ b. Takes at (suc k) u v (later b)) all rest in
           let both : Takes at k s v (x ∷ later false) = record {
             source = first.source;
             taken =
-                once_after at.plan.now before s u v (E x) (flat_map E (later false)) (rw append-nil at first.taken)
-                (subst (λ es. AreTakenOnce at.plan.now es u v (flat_map E (later false))) same after.taken);
+                once_after (plan_of at) before s u v (E x) (flat_map E (later false)) (rw append-nil at first.taken)
+                (subst (λ es. AreTakenOnce (plan_of at) es u v (flat_map E (later false))) same after.taken);
           } in
-          subst (λ b. Takes at k s v (held_targets b (drop k ins) at.env.now)) (sym all) (rw (drop_from ins k d this, held-more d _ at.env.now x holds) both)
+          subst (λ b. Takes at k s v (held_targets b (drop k ins) (env_of at))) (sym all) (rw (drop_from ins k d this, held-more d _ (env_of at) x holds) both)

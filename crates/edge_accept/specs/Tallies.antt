@@ -16,26 +16,38 @@ use Rattle.dep_iter.specs.Edges.{edges_into, in_edges, in_edges_before, source_a
 use Rattle.dep_iter.specs.Items.{edge_of, items, write_of}
 use Rattle.place_set.specs.declared.PlaceSet.{PlaceSet}
 use Rattle.place_set.specs.Sets.{IsSetOf}
-use Rattle.edge_accept.specs.declared.at.FlowAt.{FlowAt}
+use Rattle.edge_accept.specs.declared.flow_at.FlowAt.{FlowAt}
 use Rattle.edge_accept.specs.declared.ins.Ins.{Ins}
 use Rattle.edge_accept.specs.declared.outs.Outs.{Outs}
 use Rattle.edge_accept.specs.declared.tally.Tally.{Tally}
 use Rattle.edge_accept.specs.Flows.{AreTaken, AreTakenOnce, IsSoundFlow, IsSoundSource, IsSoundTask}
 use Rattle.edge_accept.specs.Flows.{edges_into_flow, items_of_flow}
 
+-- the plan of the task of a flow
+abbrev pub plan_of : FlowAt → Plan
+plan_of at = at.task.now.plan.now
+
+-- the task of a flow
+abbrev pub task_of : FlowAt → Task
+task_of at = at.task.now.task.now
+
+-- its locals
+abbrev pub env_of : FlowAt → List ℤ
+env_of at = at.task.now.locals.now
+
 -- the flow may start from the first of these targets, which dependences from number k on give, and the edges that they
 -- stand for were counted
 pub record Takes (at : FlowAt) (k : ℕ) (old new : Ins) (xs : List Target) : Type 0 where
-  pub source : IsSoundSource at.plan.now at.flow.now (items_of_flow at.task.now at.env.now at.number at.flow.now)
-      (source_among at.task.now at.env.now at.number xs)
-  pub taken : AreTakenOnce at.plan.now (in_edges_before at.plan.now at.task.now at.number k) old new
-      (flat_map (edges_into at.task.now at.env.now at.number) xs)
+  pub source : IsSoundSource (plan_of at) at.flow.now (items_of_flow (task_of at) (env_of at) at.number at.flow.now)
+      (source_among (task_of at) (env_of at) at.number xs)
+  pub taken : AreTakenOnce (plan_of at) (in_edges_before (plan_of at) (task_of at) at.number k) old new
+      (flat_map (edges_into (task_of at) (env_of at) at.number) xs)
 
 -- the flow may start from the first of all targets that count of the in dependences from number k on, and the edges
 -- that they stand for were counted
 abbrev pub TakesFrom : FlowAt → ℕ → Ins → Ins → Type 0
 TakesFrom at k old new =
-    Takes at k old new (held_targets (is_data at.flow.now.kind) (drop k at.flow.now.ins) at.env.now)
+    Takes at k old new (held_targets (is_data at.flow.now.kind) (drop k at.flow.now.ins) (env_of at))
 
 -- the set has these places of the collections, and none of them was added twice
 pub record IsOnceIn (colls : List Shape) (w : PlaceSet) (ps : List Place) : Type 0 where

@@ -2,8 +2,8 @@
 #![tactic(auto)]
 
 mod accepting;
-mod at;
 mod counting;
+mod flow_at;
 mod flows;
 mod ins;
 mod outs;

@@ -6,9 +6,9 @@ ghost use Rattle.std.specs.Bool.{OnTrue};
 ghost use Rattle.dep_iter.specs.Edges.{in_edges_before};
 ghost use Rattle.dep_iter.specs.Links.{fits};
 ghost use Rattle.edge_accept.specs.Flows.{AreTaken};
-ghost use Rattle.edge_accept.specs.Tallies.{Takes, TakesFrom};
+ghost use Rattle.edge_accept.specs.Tallies.{Takes, TakesFrom, plan_of, task_of};
 
-use crate::at::FlowAt;
+use crate::flow_at::FlowAt;
 use crate::ins::Ins;
 use dep_iter::{
     Combinations, LentEdge, arguments_at_most, edges_of_a_dependence_differ, has_edge_before,
@@ -21,16 +21,16 @@ use term_core::Direction;
 // Counts an edge into the flow, which dependence `k` gives, if it is one out of the task that it comes from and no
 // earlier dependence gives it.
 fn take_edge(at: &FlowAt, k: usize, edge: &LentEdge, ins: &mut Ins) -> bool
-    requires task { edge.now.to ≡ at.now.task.now }
+    requires task { edge.now.to ≡ task_of at.now }
     requires flow { edge.now.in_flow ≡ at.now.number }
     ensures { OnTrue result
-        (AreTaken at.now.plan.now (in_edges_before at.now.plan.now at.now.task.now at.now.number k) ins.old ins.new
+        (AreTaken (plan_of at.now) (in_edges_before (plan_of at.now) (task_of at.now) at.now.number k) ins.old ins.new
         (edge.now ∷ [])) }
 {
-    if !has_other_end(at.plan, Direction::In, edge) {
+    if !has_other_end(at.task.plan, Direction::In, edge) {
         return false;
     }
-    if has_edge_before(at.flow, Direction::In, at.env, edge, k) {
+    if has_edge_before(at.flow, Direction::In, at.task.locals, edge, k) {
         return false;
     }
     ins.add(at.flow.kind.is_data())
@@ -38,18 +38,18 @@ fn take_edge(at: &FlowAt, k: usize, edge: &LentEdge, ins: &mut Ins) -> bool
 
 // Whether the flow may start from a target of dependence `k`; the edges that the target stands for are counted.
 fn take_target(at: &FlowAt, k: usize, target: &Target, ins: &mut Ins) -> bool
-    requires { IsTrue (fits at.now.plan.now target.now) }
+    requires { IsTrue (fits (plan_of at.now) target.now) }
     ensures { OnTrue result (Takes at.now k ins.old ins.new (target.now ∷ [])) }
 {
     match target {
         Target::Task(class, flow, args) => {
             edges_of_a_dependence_differ();
             let args = args.as_slice();
-            arguments_at_most(at.plan, *class, *flow, args);
-            let mut params = Combinations::new(args, at.env);
+            arguments_at_most(at.task.plan, *class, *flow, args);
+            let mut params = Combinations::new(args, at.task.locals);
             while let Some(values) = params.next() {
                 let from = TaskId::new(*class, values.as_slice());
-                let edge = LentEdge::between(Direction::In, at.task, at.number, &from, *flow);
+                let edge = LentEdge::between(Direction::In, at.task.task, at.number, &from, *flow);
                 if !take_edge(at, k, &edge, ins) {
                     return false;
                 }
@@ -57,8 +57,9 @@ fn take_target(at: &FlowAt, k: usize, target: &Target, ins: &mut Ins) -> bool
             true
         }
         Target::Element(coll, indices) => {
-            at.plan
-                .has_place(&place_of(*coll, indices.as_slice(), at.env))
+            at.task
+                .plan
+                .has_place(&place_of(*coll, indices.as_slice(), at.task.locals))
         }
         Target::New => true,
         Target::Null => at.sends_nothing,
@@ -73,7 +74,7 @@ pub(crate) fn take_from(at: &FlowAt, k: usize, ins: &mut Ins) -> bool
     let Some(d) = at.flow.ins.as_slice().get(k) else {
         return !at.flow.kind.takes_tile();
     };
-    let Some(target) = held_target(d, at.env) else {
+    let Some(target) = held_target(d, at.task.locals) else {
         return take_from(at, k + 1, ins);
     };
     if !take_target(at, k, target, ins) {

@@ -6,60 +6,45 @@ ghost use Rattle.plan_core.specs.Place.{HasPlace};
 ghost use Rattle.dep_iter.specs.Consistent.{roots};
 ghost use Rattle.dep_iter.specs.Edges.{goal};
 ghost use Rattle.dep_iter.specs.Hints as hints;
-ghost use Rattle.dep_iter.specs.Tasks as of_plan;
-ghost use Rattle.dep_iter.specs.Tasks.{IsTask, all_tasks};
+ghost use Rattle.dep_iter.specs.Tasks.{all_tasks};
 ghost use Rattle.dep_iter.specs.Well.{IsWellTask};
 ghost use Rattle.edge_accept.specs.Tallies.{WentOver};
 
-use crate::at::TaskAt;
 use crate::flows::accept_flows;
 use crate::tally::Tally;
-use dep_iter::{
-    affinity_under, all_tasks, all_tasks_are_listed, flows_of, locals_of, well_task_under,
-};
+use dep_iter::{TaskAt, all_tasks, all_tasks_are_listed};
 use plan_core::Plan;
-use ptg_base::TaskId;
+use range_space::Numbers;
 
 // Whether each expression that the task needs has a value, and the place of its affinity exists.
-fn is_sound(plan: &Plan, t: &TaskId, env: &[i64]) -> bool
-    requires of_job { IsTask plan.now t.now }
-    requires locals { env.now ≡ of_plan.locals_of plan.now t.now }
-    ensures well { OnTrue result (IsWellTask plan.now t.now) }
-    ensures place { OnTrue result (HasPlace plan.now.colls (hints.affinity plan.now t.now)) }
+fn is_sound(task: &TaskAt) -> bool
+    ensures well { OnTrue result (IsWellTask task.now.plan.now task.now.task.now) }
+    ensures place { OnTrue result (HasPlace task.now.plan.now.colls
+        (hints.affinity task.now.plan.now task.now.task.now)) }
 {
-    if well_task_under(plan, t, env).is_err() {
+    if task.well().is_err() {
         return false;
     }
-    plan.has_place(&affinity_under(plan, t, env))
+    task.plan.has_place(&task.affinity())
 }
 
 // Whether the task is sound; its edges and write-backs are counted.
-fn accept_task(plan: &Plan, t: &TaskId, tally: &mut Tally) -> bool
-    requires { IsTask plan.now t.now }
-    ensures { OnTrue result (WentOver plan.now tally.old tally.new (t.now ∷ [])) }
+fn accept_task(task: &TaskAt, tally: &mut Tally) -> bool
+    ensures { OnTrue result (WentOver task.now.plan.now tally.old tally.new (task.now.task.now ∷ [])) }
 {
-    let locals = locals_of(plan, t);
-    let env = locals.as_slice();
-    if !is_sound(plan, t, env) {
+    if !is_sound(task) {
         return false;
     }
-    let task = TaskAt {
-        plan,
-        task: t,
-        env,
-        flows: flows_of(plan, t),
-    };
-    accept_flows(&task, 0, tally)
+    accept_flows(task, 0, tally)
 }
 
 // Accepts a task, and says whether no edge goes into it.
-fn accept_next(plan: &Plan, t: &TaskId, tally: &mut Tally) -> Option<bool>
-    requires { IsTask plan.now t.now }
-    ensures walk { IfSome result (λ _. WentOver plan.now tally.old tally.new (t.now ∷ [])) }
-    ensures root { IfSome result (λ root. root ≡ (goal plan.now t.now == 0)) }
+fn accept_next(task: &TaskAt, tally: &mut Tally) -> Option<bool>
+    ensures walk { IfSome result (λ _. WentOver task.now.plan.now tally.old tally.new (task.now.task.now ∷ [])) }
+    ensures root { IfSome result (λ root. root ≡ (goal task.now.plan.now task.now.task.now == 0)) }
 {
     let before = tally.ins.edges;
-    if !accept_task(plan, t, tally) {
+    if !accept_task(task, tally) {
         return None;
     }
     Some(tally.ins.edges == before)
@@ -78,7 +63,9 @@ pub(crate) fn accept_all(plan: &Plan, tasks: u64, tally: &mut Tally) -> Option<u
     all_tasks_are_listed();
     let mut count = 0;
     for t in all_tasks(plan) {
-        let root = accept_next(plan, &t, tally)?;
+        let mut room = Numbers::new();
+        let task = TaskAt::of(plan, &t, &mut room);
+        let root = accept_next(&task, tally)?;
         count += u64::from(root);
     }
     Some(count)

@@ -42,8 +42,8 @@ use Rattle.edge_accept.proofs.TaskFlows.{each_more, in_edges-flows, into_flow_is
 use Rattle.edge_match.specs.declared.counted.Counted.{Counted}
 use Rattle.edge_match.specs.declared.fault.MatchFault.{MatchFault}
 use Rattle.edge_match.specs.declared.phase.Phase.{Phase}
-use Rattle.edge_match.specs.declared.task_at.FlowAt.{FlowAt}
-use Rattle.edge_match.specs.FlowParts.{CheckedAt, FlowMarks, before_at, marks_from}
+use Rattle.edge_match.specs.declared.flow_at.FlowAt.{FlowAt}
+use Rattle.edge_match.specs.FlowParts.{CheckedAt, FlowMarks, before_at, marks_from, plan_of, task_of, env_of}
 use Rattle.edge_match.specs.Marks.{Mark, edge_marks, flow_items, held_items, item_marks, items_at, write_marks}
 use Rattle.edge_match.proofs.Parts.{stop, followed, unchecked}
 
@@ -139,13 +139,13 @@ held-some true d ds env x e = rw e refl
 held-some false d ds env x e = rw e refl
 
 -- the edges that the first dependences of a flow give
-first_edges : (at : FlowAt) (d : Direction) (k : ℕ) → before_at d at k ≡ filter_map edge_of (held_items d at.task.now
-    (locals_of at.plan.now at.task.now) at.number at.flow.now.kind (take k (dependences d at.flow.now)))
+first_edges : (at : FlowAt) (d : Direction) (k : ℕ) → before_at d at k ≡ filter_map edge_of (held_items d (task_of at)
+    (locals_of (plan_of at) (task_of at)) at.number at.flow.now.kind (take k (dependences d at.flow.now)))
 unfolding in_edges_before out_edges_before
 first_edges at In k =
-    let env = locals_of at.plan.now at.task.now in
+    let env = locals_of (plan_of at) (task_of at) in
     let held = held_targets (is_data at.flow.now.kind) (take k at.flow.now.ins) env in
-    rw at.here (sym (ap (filter_map edge_of) (in_items at.task.now env at.number held) ∙ edges_only _))
+    rw at.here (sym (ap (filter_map edge_of) (in_items (task_of at) env at.number held) ∙ edges_only _))
 first_edges at Out k = rw at.here refl
 
 module _ (at : FlowAt) (d : Direction) where
@@ -153,16 +153,19 @@ module _ (at : FlowAt) (d : Direction) where
   alone = first_only d at.flow.now.kind
 
   abbrev pub held : List DepPlan → List Target
-  held ds = held_targets alone ds at.env.now
+  held ds = held_targets alone ds (env_of at)
 
   abbrev pub given : List Target → List Item
-  given xs = flat_map (items_at d at.task.now at.env.now at.number) xs
+  given xs = flat_map (items_at d (task_of at) (env_of at) at.number) xs
 
   abbrev pub all : FlowMarks → List Mark
-  all ms = ms at.phase (data_source at.plan.now at.task.now at.number) at.task.now at.number
+  all ms = ms at.phase (data_source (plan_of at) (task_of at) at.number) (task_of at) at.number
 
   before-is : (k : ℕ) → before_at d at k ≡ filter_map edge_of (given (held (take k (dependences d at.flow.now))))
-  before-is k = rw (sym at.locals) at (first_edges at d k)
+  before-is k =
+      let held_by = λ (env : List ℤ). held_targets alone (take k (dependences d at.flow.now)) env in
+      let edges = λ (env : List ℤ). filter_map edge_of (flat_map (items_at d (task_of at) env at.number) (held_by env)) in
+      first_edges at d k ∙ ap edges (sym at.task.now.are_locals)
 
   pub nothing_before : before_at d at 0 ≡ []
   nothing_before = before-is 0
@@ -172,17 +175,17 @@ module _ (at : FlowAt) (d : Direction) where
     abbrev pub later : List DepPlan
     later = drop (suc k) (dependences d at.flow.now)
 
-    pub skip : {s v : Counted} {r : Result (Unit {0}) MatchFault} → held_target dep at.env.now ≡ None
+    pub skip : {s v : Counted} {r : Result (Unit {0}) MatchFault} → held_target dep (env_of at) ≡ None
         → CheckedAt at.phase at s v r (marks_from d at (suc k)) → CheckedAt at.phase at s v r (marks_from d at k)
     skip {s} {v} {r} none h =
         let edges = λ (xs : List Target). filter_map edge_of (given xs) in
-        let same = before-is (suc k) ∙ ap edges (held-next_none alone (dependences d at.flow.now) k dep at.env.now this none) ∙ sym (before-is k) in
-        rw (drop_from (dependences d at.flow.now) k dep this, held-none alone dep later at.env.now none)
+        let same = before-is (suc k) ∙ ap edges (held-next_none alone (dependences d at.flow.now) k dep (env_of at) this none) ∙ sym (before-is k) in
+        rw (drop_from (dependences d at.flow.now) k dep this, held-none alone dep later (env_of at) none)
         (subst (λ es. CheckedAt at.phase at s v r (item_marks d es (given (held later)))) same h)
 
-    module _ (x : Target) (holds : held_target dep at.env.now ≡ Some x) where
+    module _ (x : Target) (holds : held_target dep (env_of at) ≡ Some x) where
       abbrev pub here : List Item
-      here = items_at d at.task.now at.env.now at.number x
+      here = items_at d (task_of at) (env_of at) at.number x
 
       abbrev pub others : Bool → List Mark
       others b = all (item_marks d (before_at d at k ++ filter_map edge_of here) (given (targets_after b (held later))))
@@ -192,8 +195,8 @@ module _ (at : FlowAt) (d : Direction) where
           let marks = λ (xs : List Target). all (item_marks d (before_at d at k) (given xs)) in
           let deps = dependences d at.flow.now in
           ap (λ (ds : List DepPlan). marks (held ds)) (drop_from deps k dep this)
-          ∙ ap marks (held-some alone dep later at.env.now x holds)
-          ∙ marks-append d at.phase _ at.task.now at.number (before_at d at k) here (given (targets_after alone (held later)))
+          ∙ ap marks (held-some alone dep later (env_of at) x holds)
+          ∙ marks-append d at.phase _ (task_of at) at.number (before_at d at k) here (given (targets_after alone (held later)))
 
       pub stop_at : {s u v : Counted} {r : Result (Unit {0}) MatchFault} {g : MatchFault} → IsErrAnd r (λ e. e ≡ g)
           → CheckedAt at.phase at s u (Err g) (item_marks d (before_at d at k) here) → CheckedAt at.phase at s v r (marks_from d at k)
@@ -204,11 +207,11 @@ module _ (at : FlowAt) (d : Direction) where
           → CheckedAt at.phase at u v r (marks_from d at (suc k)) → CheckedAt at.phase at s v r (marks_from d at k)
       pass_at {s} {u} {v} {r} any h more =
           let deps = dependences d at.flow.now in
-          let longer = λ (b : Bool). held_targets b (take (suc k) deps) at.env.now ≡ held_targets b (take k deps) at.env.now ++ x ∷ [] in
+          let longer = λ (b : Bool). held_targets b (take (suc k) deps) (env_of at) ≡ held_targets b (take k deps) (env_of at) ++ x ∷ [] in
           let first = held (take k deps) in
           let same : before_at d at (suc k) ≡ before_at d at k ++ filter_map edge_of here =
-          before-is (suc k) ∙ ap (λ xs. filter_map edge_of (given xs)) (subst longer (sym any) (held-next_some deps k dep at.env.now x this holds))
-          ∙ ap (filter_map edge_of) (flat_map_push (items_at d at.task.now at.env.now at.number) first x)
+          before-is (suc k) ∙ ap (λ xs. filter_map edge_of (given xs)) (subst longer (sym any) (held-next_some deps k dep (env_of at) x this holds))
+          ∙ ap (filter_map edge_of) (flat_map_push (items_at d (task_of at) (env_of at) at.number) first x)
           ∙ filter_map-append edge_of (given first) here ∙ ap (λ l. l ++ filter_map edge_of here) (sym (before-is k)) in
           let rest_is : others alone ≡ all (marks_from d at (suc k)) = ap others any ∙ ap (λ es. all (item_marks d es (given (held later)))) (sym same) in
           rw split (followed h (rw rest_is more))
@@ -216,16 +219,16 @@ module _ (at : FlowAt) (d : Direction) where
 -- the edges of a flow with the tasks of a class that a dependence names, and that no two of them are the same
 module _ (at : FlowAt) (class flow : ℕ) where
   abbrev pub edges_named : Direction → List (List ℤ) → List Edge
-  edges_named d ps = map (λ (p : List ℤ). edge_at d at.task.now at.number (task class p) flow) ps
+  edges_named d ps = map (λ (p : List ℤ). edge_at d (task_of at) at.number (task class p) flow) ps
 
-  pub named_items : (args : List Arg) (d : Direction) → items_at d at.task.now at.env.now at.number (target.Task class flow args)
-      ≡ map item.Edge (edges_named d (combinations args at.env.now))
+  pub named_items : (args : List Arg) (d : Direction) → items_at d (task_of at) (env_of at) at.number (target.Task class flow args)
+      ≡ map item.Edge (edges_named d (combinations args (env_of at)))
   named_items args In = refl
-  named_items args Out = sym (map-map item.Edge (λ (p : List ℤ). edge_at Out at.task.now at.number (task class p) flow) (combinations args at.env.now))
+  named_items args Out = sym (map-map item.Edge (λ (p : List ℤ). edge_at Out (task_of at) at.number (task class p) flow) (combinations args (env_of at)))
 
-  pub differ : (args : List Arg) (d : Direction) → HasNoRepeats (edges_named d (combinations args at.env.now))
-  differ args In = distinct_in at.task.now at.env.now at.number (target.Task class flow args)
-  differ args Out = rw (named_items args Out, edges_only _) at (distinct_out at.task.now at.env.now at.number (target.Task class flow args))
+  pub differ : (args : List Arg) (d : Direction) → HasNoRepeats (edges_named d (combinations args (env_of at)))
+  differ args In = distinct_in (task_of at) (env_of at) at.number (target.Task class flow args)
+  differ args Out = rw (named_items args Out, edges_only _) at (distinct_out (task_of at) (env_of at) at.number (target.Task class flow args))
 
 by_number-same : {X : Type 0} (g h : ℕ → FlowPlan → List X) → ((n : ℕ) (f : FlowPlan) → g n f ≡ h n f) → (n : ℕ) (fs : List FlowPlan)
     → by_number g n fs ≡ by_number h n fs

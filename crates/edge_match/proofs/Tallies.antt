@@ -15,9 +15,10 @@ use Rattle.place_set.specs.Sets.{IsSetOf}
 use Rattle.edge_accept.proofs.TakenEdges.{kind_of-here}
 use Rattle.edge_match.specs.declared.counted.Counted.{Counted}
 use Rattle.edge_match.specs.declared.fault.MatchCode.TheVariants as code
-use Rattle.edge_match.specs.declared.task_at.FlowAt.{FlowAt}
+use Rattle.edge_match.specs.declared.flow_at.FlowAt.{FlowAt}
 use Rattle.edge_match.specs.Counted.{Decides}
 use Rattle.edge_match.specs.FirstFault.{code_of}
+use Rattle.edge_match.specs.FlowParts.{plan_of, task_of}
 use Rattle.edge_match.specs.Marks.{IsNewPlace, counts}
 
 module _ (P : Plan) (s u : Counted) where
@@ -47,10 +48,10 @@ counts_code In e = refl
 counts_code Out e = refl
 
 -- whether an edge into a flow carries a tile
-pub is_data-here : (at : FlowAt) (e : Edge) (d : Direction) → near_task d e ≡ at.task.now → near_flow d e ≡ at.number → d ≡ In
-    → is_data_edge at.plan.now e ≡ is_data (Some at.flow.now.kind)
+pub is_data-here : (at : FlowAt) (e : Edge) (d : Direction) → near_task d e ≡ (task_of at) → near_flow d e ≡ at.number → d ≡ In
+    → is_data_edge (plan_of at) e ≡ is_data (Some at.flow.now.kind)
 is_data-here at e Out task flow h = absurd cc
 is_data-here at e In task flow h =
-    let here = kind_of-here at.plan.now at.task.now at.number at.flow.now at.here in
-    let kind : kind_of at.plan.now.classes e.to.class e.in_flow ≡ Some at.flow.now.kind = rw (task, flow) here in
+    let here = kind_of-here (plan_of at) (task_of at) at.number at.flow.now at.here in
+    let kind : kind_of (plan_of at).classes e.to.class e.in_flow ≡ Some at.flow.now.kind = rw (task, flow) here in
     ap is_data kind

@@ -9,7 +9,7 @@ ghost use Rattle.plan_core.specs.declared.plan.Plan.{Plan as PlanValue};
 ghost use Rattle.dep_iter.specs.Consistent.{is_data_edge};
 ghost use Rattle.dep_iter.specs.Directions.{near_flow, near_task};
 ghost use Rattle.edge_match.specs.Counted.{Decides};
-ghost use Rattle.edge_match.specs.FlowParts.{CheckedAt, before_at};
+ghost use Rattle.edge_match.specs.FlowParts.{CheckedAt, before_at, task_of};
 ghost use Rattle.edge_match.specs.FirstFault.{fact_code};
 ghost use Rattle.edge_match.specs.Marks.{HasOther, counts, edge_marks, tile_marks, write_marks};
 ghost use Rattle.edge_match.specs.declared.counted.Counted.{Counted as CountedValue};
@@ -18,8 +18,8 @@ ghost use Rattle.edge_match.specs.declared.phase.Phase.TheVariants as phase;
 
 use crate::counted::Counted;
 use crate::fault::{MatchCode, MatchFault};
+use crate::flow_at::FlowAt;
 use crate::phase::Phase;
-use crate::task_at::FlowAt;
 use dep_iter::{LentEdge, has_edge_before, has_other_end, is_task};
 use ptg_base::Place;
 use term_core::Direction;
@@ -62,14 +62,14 @@ fn connect_edge(
     edge: &LentEdge,
     counted: &mut Counted,
 ) -> Result<(), MatchFault>
-    requires task { near_task direction edge.now ≡ at.now.task.now }
+    requires task { near_task direction edge.now ≡ (task_of at.now) }
     requires flow { near_flow direction edge.now ≡ at.now.number }
     ensures { (earlier : List EdgeValue)
         → CheckedAt phase.Connecting at.now counted.old counted.new result (edge_marks direction earlier edge.now) }
 {
     check_tile(at, direction)?;
     at.require(
-        is_task(at.plan, edge.far_task(direction)),
+        is_task(at.task.plan, edge.far_task(direction)),
         MatchCode::OutOfSpace,
     )?;
     let fits = count_edge(direction, at.flow.kind.is_data(), counted);
@@ -83,17 +83,17 @@ fn match_edge(
     k: usize,
     edge: &LentEdge,
 ) -> Result<(), MatchFault>
-    requires task { near_task direction edge.now ≡ at.now.task.now }
+    requires task { near_task direction edge.now ≡ (task_of at.now) }
     requires flow { near_flow direction edge.now ≡ at.now.number }
     ensures { (earlier : List EdgeValue) (s : CountedValue)
         → IsIn edge.now earlier ↔ IsIn edge.now (before_at direction at.now k)
         → CheckedAt phase.Matching at.now s s result (edge_marks direction earlier edge.now) }
 {
     at.require(
-        has_other_end(at.plan, direction, edge),
+        has_other_end(at.task.plan, direction, edge),
         unmatched(direction),
     )?;
-    let double = has_edge_before(at.flow, direction, at.env, edge, k);
+    let double = has_edge_before(at.flow, direction, at.task.locals, edge, k);
     at.require(!double, MatchCode::DoubleEdge)
 }
 
@@ -105,7 +105,7 @@ pub(crate) fn check_edge(
     edge: &LentEdge,
     counted: &mut Counted,
 ) -> Result<(), MatchFault>
-    requires task { near_task direction edge.now ≡ at.now.task.now }
+    requires task { near_task direction edge.now ≡ (task_of at.now) }
     requires flow { near_flow direction edge.now ≡ at.now.number }
     ensures { (earlier : List EdgeValue) → IsIn edge.now earlier ↔ IsIn edge.now (before_at direction at.now k)
         → CheckedAt at.now.phase at.now counted.old counted.new result (edge_marks direction earlier edge.now) }
@@ -122,7 +122,7 @@ fn connect_write(at: &FlowAt, place: Place, counted: &mut Counted) -> Result<(),
         → CheckedAt phase.Connecting at.now counted.old counted.new result (write_marks w) }
 {
     check_tile(at, Direction::Out)?;
-    at.require(at.plan.has_place(&place), MatchCode::BadPlace)?;
+    at.require(at.task.plan.has_place(&place), MatchCode::BadPlace)?;
     let fits = counted.add_item();
     at.require(fits, MatchCode::TooManyEdges)?;
     let new = counted.add_place(place);

@@ -6,18 +6,19 @@ ghost use Rattle.plan_core.specs.Place.{HasPlace};
 ghost use Rattle.dep_iter.specs.declared.source.Source.TheVariants as source_variant;
 ghost use Rattle.dep_iter.specs.Consistent as consistent;
 ghost use Rattle.dep_iter.specs.Edges.{data_source};
-ghost use Rattle.dep_iter.specs.Tasks.{IsTask};
+ghost use Rattle.dep_iter.specs.Tasks.{flows_of};
 ghost use Rattle.dep_iter.specs.Active.{by_number};
 ghost use Rattle.edge_match.specs.Counted.{Checked};
 ghost use Rattle.edge_match.specs.Marks.{direction_marks, flow_marks, flow_start};
 ghost use Rattle.edge_match.specs.declared.counted.Counted.{Counted as CountedValue};
+ghost use Rattle.edge_match.specs.FlowParts.{plan_of, task_of};
 
 use crate::counted::Counted;
 use crate::dependences::check_dependences;
 use crate::fault::{MatchCode, MatchFault};
+use crate::flow_at::FlowAt;
 use crate::phase::Phase;
-use crate::task_at::{FlowAt, TaskAt};
-use dep_iter::{Source, data_source_under};
+use dep_iter::{Source, TaskAt};
 use plan_core::Plan;
 use term_core::{Direction, FlowKind};
 
@@ -50,14 +51,14 @@ fn has_place(plan: &Plan, source: &Source) -> bool
 
 // Whether the flow has a source, if it must, and the place of its source exists. It is checked in the first phase.
 fn start_flow(at: &FlowAt, source: &Source) -> Result<(), MatchFault>
-    requires { source.now ≡ data_source at.now.plan.now at.now.task.now at.now.number }
-    ensures { (s : CountedValue) → Checked at.now.plan.now s s result
-        (flow_start at.now.phase at.now.plan.now at.now.task.now at.now.number at.now.flow.now) }
+    requires { source.now ≡ data_source (plan_of at.now) (task_of at.now) at.now.number }
+    ensures { (s : CountedValue) → Checked (plan_of at.now) s s result
+        (flow_start at.now.phase (plan_of at.now) (task_of at.now) at.now.number at.now.flow.now) }
 {
     match at.phase {
         Phase::Connecting => {
             at.require(has_input(at.flow.kind, source), MatchCode::NoInput)?;
-            at.require(has_place(at.plan, source), MatchCode::BadPlace)
+            at.require(has_place(at.task.plan, source), MatchCode::BadPlace)
         }
         Phase::Matching => Ok(()),
     }
@@ -69,17 +70,17 @@ fn check_direction(
     direction: Direction,
     counted: &mut Counted,
 ) -> Result<(), MatchFault>
-    ensures { Checked at.now.plan.now counted.old counted.new result
-        (direction_marks direction at.now.phase at.now.plan.now at.now.task.now at.now.number at.now.flow.now) }
+    ensures { Checked (plan_of at.now) counted.old counted.new result
+        (direction_marks direction at.now.phase (plan_of at.now) (task_of at.now) at.now.number at.now.flow.now) }
 {
     check_dependences(at, direction, 0, counted)
 }
 
 // Checks the flow, the edges into it and what it sends.
 fn check_flow(at: &FlowAt, source: &Source, counted: &mut Counted) -> Result<(), MatchFault>
-    requires { source.now ≡ data_source at.now.plan.now at.now.task.now at.now.number }
-    ensures { Checked at.now.plan.now counted.old counted.new result
-        (flow_marks at.now.phase at.now.plan.now at.now.task.now at.now.number at.now.flow.now) }
+    requires { source.now ≡ data_source (plan_of at.now) (task_of at.now) at.now.number }
+    ensures { Checked (plan_of at.now) counted.old counted.new result
+        (flow_marks at.now.phase (plan_of at.now) (task_of at.now) at.now.number at.now.flow.now) }
 {
     start_flow(at, source)?;
     check_direction(at, Direction::In, counted)?;
@@ -88,28 +89,26 @@ fn check_flow(at: &FlowAt, source: &Source, counted: &mut Counted) -> Result<(),
 
 // Checks the flows of a task from this number on.
 pub(crate) fn check_flows(
+    phase: Phase,
     task: &TaskAt,
     number: u8,
     counted: &mut Counted,
 ) -> Result<(), MatchFault>
-    requires { IsTask task.now.plan.now task.now.task.now }
     ensures { Checked task.now.plan.now counted.old counted.new result
-        (by_number (flow_marks task.now.phase task.now.plan.now task.now.task.now) number
-        (drop number task.now.flows.now)) }
+        (by_number (flow_marks phase task.now.plan.now task.now.task.now) number
+        (drop number (flows_of task.now.plan.now task.now.task.now))) }
 {
-    let Some(flow) = task.flows.get(number as usize) else {
+    let Some(flow) = task.flows().get(number as usize) else {
         return Ok(());
     };
-    let source = data_source_under(task.plan, task.task, task.env, number);
+    let source = task.data_source(number);
     let at = FlowAt {
-        phase: task.phase,
-        plan: task.plan,
-        task: task.task,
-        env: task.env,
+        phase,
+        task: &*task,
         number,
         flow,
         has_tile: has_tile(&source),
     };
     check_flow(&at, &source, counted)?;
-    check_flows(task, number + 1, counted)
+    check_flows(phase, task, number + 1, counted)
 }

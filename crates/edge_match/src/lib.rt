@@ -7,12 +7,12 @@ mod counting;
 mod dependences;
 mod edges;
 mod fault;
+mod flow_at;
 mod flows;
 mod laws;
 mod matching;
 mod phase;
 mod refusing;
-mod task_at;
 mod tasks;
 
 pub use fault::{MatchCode, MatchFault, MatchRefusal};

@@ -5,6 +5,7 @@ use Rattle.list_lemmas.proofs.Places.{slice_get_at, drop_from, passes_at}
 use Rattle.term_core.specs.declared.direction.Direction.TheVariants.{In}
 use Rattle.plan_core.specs.declared.flow.FlowPlan.{FlowPlan}
 use Rattle.dep_iter.specs.Links.{dependences_fit}
+use Rattle.dep_iter.specs.Tasks.{flows_of}
 use Rattle.dep_iter.proofs.Belonging.{before-no_dependences}
 use Rattle.edge_accept.specs.Flows.{HasSoundSource}
 use Rattle.edge_accept.proofs.SentItems.{sent_nothing}
@@ -14,16 +15,18 @@ use Rattle.edge_accept.proofs.flows.+accept_flows.Goals as goal
 
 pub invariant_of-at-clause-here : goal.invariant_of-at-clause-here
 invariant_of-at-clause-here m c =
-    let task = c.args.task.now in
+    let flows = c.flows.result.now in
     let l = c.in-Some.ensures.lookup in
-    rw (sym task.flows_are) (slice_get_at task.flows.now c.args.number c.in-Some.flow.now l.3.0 l.1)
+    rw (sym c.flows.ensures.flows) (slice_get_at flows c.args.number c.in-Some.flow.now l.3.0 l.1)
 
 pub invariant_of-at-clause-fit : goal.invariant_of-at-clause-fit
 invariant_of-at-clause-fit m c =
-    let task = c.args.task.now in
+    let P = c.args.task.now.plan.now in
+    let flows = c.flows.result.now in
     let l = c.in-Some.ensures.lookup in
-    let fits = λ (f : FlowPlan). dependences_fit task.plan.now f.ins && dependences_fit task.plan.now f.outs in
-    passes_at fits task.flows.now c.args.number c.in-Some.flow.now task.fit (slice_get_at task.flows.now c.args.number c.in-Some.flow.now l.3.0 l.1)
+    let fits = λ (f : FlowPlan). dependences_fit P f.ins && dependences_fit P f.outs in
+    let this = slice_get_at flows c.args.number c.in-Some.flow.now l.3.0 l.1 in
+    passes_at fits flows c.args.number c.in-Some.flow.now c.flows.ensures.fit this
 
 pub invariant_of-at-clause-nothing : goal.invariant_of-at-clause-nothing
 invariant_of-at-clause-nothing m c = λ same.
@@ -39,17 +42,18 @@ returns m c =
     let task = c.args.task.now in
     let P = task.plan.now in
     let t = task.task.now in
-    let env = task.env.now in
+    let env = task.locals.now in
     let n = c.args.number in
     let f = c.in-Some.flow.now in
     let l = c.in-Some.ensures.lookup in
-    let this = slice_get_at task.flows.now n f l.3.0 l.1 in
-    let here = rw task.flows_are at this in
+    let here = rw c.flows.ensures.flows at (slice_get_at c.flows.result.now n f l.3.0 l.1) in
     let took = c.if-not-take_from.ensures in
-    let source : HasSoundSource P t env n f = rw (source-is P t n f env task.locals here) took.source in
+    let source : HasSoundSource P t env n f = rw (source-is P t n f env task.are_locals here) took.source in
     let taken = rw (before-no_dependences In P t n) at took.taken in
     let sent = rw c.as_slice.ensures at (c.if-not-send_all.ensures t n) in
-    rw (drop_from task.flows.now n f this)
+    let tally = c.accept_flows.new.tally in
+    let others = drop (suc n) (flows_of P t) in
+    rw (drop_from (flows_of P t) n f here)
     (on_true_weaker c.accept_flows.result
-    (accepts_more P t env c.args.tally.now _ c.accept_flows.new.tally n f (drop (suc n) task.flows.now) source taken sent)
+    (accepts_more P t env c.args.tally.now _ tally n f others source taken sent)
     (rw add-one at c.accept_flows.ensures))

@@ -3,15 +3,16 @@ use Rattle.dep_iter.specs.Edges.{edge, in_edges_before}
 use Rattle.dep_iter.specs.Tasks.{task}
 use Rattle.edge_accept.specs.declared.ins.Ins.{Ins}
 use Rattle.edge_accept.specs.Flows.{AreTaken}
+use Rattle.edge_accept.specs.Tallies.{plan_of, task_of}
 use Rattle.edge_accept.proofs.taking.take_target.Given as goal
 
 abbrev pub invariant-loop-values : goal.invariant-loop-values
 invariant-loop-values l =
-    let before = in_edges_before l.at.plan.now l.at.task.now l.at.number l.k in
-    let mk = λ (ps : List ℤ). edge (task l.class ps) l.flow l.at.task.now l.at.number in
+    let before = in_edges_before (plan_of l.at) (task_of l.at) l.at.number l.k in
+    let mk = λ (ps : List ℤ). edge (task l.class ps) l.flow (task_of l.at) l.at.number in
     record {
-      then : (u : Ins) → AreTaken l.at.plan.now before l.ins u (map mk l.params)
-          → AreTaken l.at.plan.now before l.initial.ins u (map mk l.initial.params);
+      then : (u : Ins) → AreTaken (plan_of l.at) before l.ins u (map mk l.params)
+          → AreTaken (plan_of l.at) before l.initial.ins u (map mk l.initial.params);
     }
 
 abbrev pub decreases-loop-values : goal.decreases-loop-values

@@ -7,8 +7,8 @@ use Rattle.edge_accept.proofs.RootCount.{first_root, root_total}
 use Rattle.edge_accept.proofs.Walking.{went_nil, went_then}
 use Rattle.edge_accept.proofs.tasks.accept_all.Goals as goal
 
-pub accept_next-requires : goal.accept_next-requires
-accept_next-requires c =
+pub of-task-requires : goal.of-task-requires
+of-task-requires c =
     let all = c.into_iter-t-iterator.ensures.into_iter_gives ∙ c.all_tasks-t-items.ensures in
     let among = c.loop-t.invariant.among c.in-Some.t (rw c.in-Some.ensures.steps (inl refl)) in
     (c.all_tasks_are_listed.ensures.members c.args.plan.now c.in-Some.t).1 (rw all at among)
@@ -17,7 +17,8 @@ pub overflow_add-count : goal.overflow_add-count
 overflow_add-count c =
     let P = c.args.plan.now in
     let all = ap (root_total P) (c.into_iter-t-iterator.ensures.into_iter_gives ∙ c.all_tasks-t-items.ensures) in
-    let step = ap (root_total P) c.in-Some.ensures.steps ∙ first_root P c.in-Some.t c.next.new.self c.in_ok-root.root c.in_ok-root.ensures.root in
+    let root = rw (c.of-task.ensures.plan, c.of-task.ensures.task) at c.in_ok-root.ensures.root in
+    let step = ap (root_total P) c.in-Some.ensures.steps ∙ first_root P c.in-Some.t c.next.new.self c.in_ok-root.root root in
     let one = c.from-count.ensures in
     let so_far = c.loop-t.invariant.roots in
     let at_most = length-filter_le (λ t. goal_of P t == 0) (all_tasks P) in
@@ -28,7 +29,9 @@ pub loop-t-preserved : goal.loop-t-preserved
 loop-t-preserved c =
     let P = c.args.plan.now in
     let s = c.loop-t.tally in
-    let step = ap (root_total P) c.in-Some.ensures.steps ∙ first_root P c.in-Some.t c.next.new.self c.in_ok-root.root c.in_ok-root.ensures.root in
+    let walk = rw (c.of-task.ensures.plan, c.of-task.ensures.task) at c.in_ok-root.ensures.walk in
+    let root = rw (c.of-task.ensures.plan, c.of-task.ensures.task) at c.in_ok-root.ensures.root in
+    let step = ap (root_total P) c.in-Some.ensures.steps ∙ first_root P c.in-Some.t c.next.new.self c.in_ok-root.root root in
     let one = c.from-count.ensures in
     let so_far = c.loop-t.invariant.roots in
     record {
@@ -37,7 +40,7 @@ loop-t-preserved c =
       among = λ x h. c.loop-t.invariant.among x (rw c.in-Some.ensures.steps (inr h));
       then = λ u h. c.loop-t.invariant.then u (
           subst (WentOver P s u) (sym c.in-Some.ensures.steps)
-          (went_then P s c.accept_next.new.tally u (c.in-Some.t ∷ []) c.next.new.self c.in_ok-root.ensures.walk h));
+          (went_then P s c.accept_next.new.tally u (c.in-Some.t ∷ []) c.next.new.self walk h));
       roots = omega arith;
     }
 

@@ -4,6 +4,7 @@ use Rattle.edge_match.specs.Marks.{Is, IsOfJob, counts}
 use Rattle.edge_match.specs.declared.phase.Phase.TheVariants.{Connecting}
 use Rattle.edge_match.proofs.Parts.{decides, followed, stop}
 use Rattle.edge_match.proofs.Tallies.{counts_code, is_data-here}
+use Rattle.edge_match.specs.FlowParts.{plan_of}
 use Rattle.edge_match.proofs.edges.connect_edge.Goals as goal
 
 pub returns-in_err-check_tile : goal.returns-in_err-check_tile
@@ -20,7 +21,7 @@ returns-in_err-require c = λ earlier.
 pub returns : goal.returns
 returns c = λ earlier.
     let at = c.args.at.now in
-    let P = at.plan.now in
+    let P = plan_of at in
     let way = c.args.direction in
     let e = c.args.edge.now in
     let s = c.args.counted.now in

@@ -3,6 +3,7 @@ use Rattle.ptg_base.specs.declared.edge.Item.TheVariants as item
 use Rattle.edge_match.specs.Marks.{CountsItem, Is, IsNewPlace, IsPlace}
 use Rattle.edge_match.specs.declared.phase.Phase.TheVariants.{Connecting}
 use Rattle.edge_match.proofs.Parts.{decides, followed, stop}
+use Rattle.edge_match.specs.FlowParts.{plan_of}
 use Rattle.edge_match.proofs.edges.connect_write.Goals as goal
 
 pub returns-in_err-check_tile : goal.returns-in_err-check_tile
@@ -20,14 +21,14 @@ returns-in_err-require-2 c = λ w same.
     let s = c.args.counted.now in
     let i = item.Write w in
     let exists = c.in_ok-require.ensures.checked (Is (IsPlace w.place)) s s (decides (IsPlace w.place) (rw (sym same) at c.has_place.ensures)) refl in
-    let counted = c.add_item-fits.ensures.counted c.args.at.now.plan.now i in
+    let counted = c.add_item-fits.ensures.counted (plan_of c.args.at.now) i in
     let fits = c.in_err-require-2.ensures.checked (CountsItem i) s c.add_item-fits.new.self counted refl in
     followed (c.in_ok-check_tile.ensures Connecting s)
     (followed exists (stop _ c.from_residual-in_err-require-2.ensures.1 fits))
 
 pub returns : goal.returns
 returns c = λ w same.
-    let P = c.args.at.now.plan.now in
+    let P = plan_of c.args.at.now in
     let s = c.args.counted.now in
     let u = c.add_item-fits.new.self in
     let i = item.Write w in

@@ -5,4 +5,4 @@ pub returns-in_err-start_task : goal.returns-in_err-start_task
 returns-in_err-start_task c = stop _ c.from_residual.ensures.1 (c.in_err-start_task.ensures c.args.counted.now)
 
 pub returns : goal.returns
-returns c = followed (c.in_ok-start_task.ensures c.args.counted.now) (rw c.flows_of.ensures.flows at c.check_flows.ensures)
+returns c = followed (c.in_ok-start_task.ensures c.args.counted.now) c.check_flows.ensures

@@ -12,6 +12,6 @@ pub returns-in_ok-check_values-in-Connecting : goal.returns-in_ok-check_values-i
 returns-in_ok-check_values-in-Connecting c = λ s.
     let P = c.args.task.now.plan.now in
     let t = c.args.task.now.task.now in
-    let exists = rw c.affinity_under-place.ensures at c.has_place-exists.ensures in
+    let exists = rw c.affinity-place.ensures at c.has_place-exists.ensures in
     let place = c.require.ensures.checked P (Is (IsPlace (affinity P t))) s s (decides (IsPlace (affinity P t)) exists) refl in
     rw c.in-Connecting.is (followed (c.in_ok-check_values-in-Connecting.ensures s) place)
