@@ -1,5 +1,5 @@
 -- What a thread does between two tasks, and where it ends.
-use Rattle.std.proofs.Common.{◌≡◌, ◌+◌, ◌<◌, ℤ, Bool, true, false, cond, is_some, List, [], ◌∷◌, ◌++◌, length, map, refl, ap, sym, ◌∙◌, subst, ◌⊎◌, Option, Some, None, Ok, Err, IsTrue, ◌↔◌, ◌≢◌, inl, inr, arith, append_assoc, length-append, lt-ltb}
+use Rattle.std.proofs.Common.{◌≡◌, ◌+◌, ◌<◌, ℤ, Bool, true, false, cond, is_some, List, [], ◌∷◌, ◌++◌, length, refl, ap, sym, ◌∙◌, subst, ◌⊎◌, Option, Some, None, Ok, Err, IsTrue, ◌↔◌, ◌≢◌, inl, inr, arith, append_assoc, length-append, lt-ltb}
 use Rattle.std.proofs.lemmas.Bool.{false≢true}
 use Rattle.std.proofs.lemmas.List.{append-nil, map-append}
 use Rattle.std.specs.Prelude.{unwrap_or}
@@ -16,16 +16,16 @@ use Rattle.ptg_base.specs.declared.edge.Item.TheVariants as item
 use Rattle.term_core.specs.declared.trap.Trap.{Trap}
 use Rattle.plan_core.specs.declared.plan.Plan.{Plan}
 use Rattle.coll_data.specs.Data.{Data}
-use Rattle.list_lemmas.proofs.Members.{IsIn-append_left, IsIn-append_right, IsIn-map, from_append, from_map}
+use Rattle.list_lemmas.proofs.Members.{IsIn-append_left, IsIn-append_right, from_append}
 use Rattle.list_lemmas.proofs.Truth.{by_test}
 use Rattle.list_lemmas.proofs.Lookups.{apart, set_other, set_same}
 use Rattle.list_lemmas.proofs.Counts.{weigh-push}
 use Rattle.range_space.specs.Tasks.{tasks}
 use Rattle.dep_iter.specs.Tasks.{IsTask, all_tasks}
-use Rattle.dep_iter.specs.Items.{items, out_edges, write_backs}
+use Rattle.dep_iter.specs.Items.{edges_then_writes, items}
 use Rattle.dep_iter.specs.Consistent.{IsConsistent}
 use Rattle.dep_iter.proofs.Listing.{listed}
-use Rattle.dep_iter.proofs.Items.{edge_item, item_edge, item_write, write_item}
+use Rattle.dep_iter.proofs.Items.{item_edge, items-in_order}
 use Rattle.list_lemmas.specs.Counting.{as_number}
 use Rattle.flow_meaning.specs.Ending.{Ended, has_outputs}
 use Rattle.flow_meaning.specs.Machine.{IsQuiescent, MayClaim, MachineState, claim_count, is_sent, send_count, sender, state_after, Send}
@@ -189,15 +189,6 @@ module _ (P : Plan) (G : Data) (con : IsConsistent P) (r : RunState) (fits : Fit
     fits = λ H h. subst (Fits P H) is (keeps H h);
   })
 
--- the items of a task are its edges and its write-backs
-pub items_parts : (P : Plan) (t : Task) (i : Item) → IsIn i (items P t) → IsIn i (map (λ (e : Edge). item.Edge e) (out_edges P t) ++ map (λ (w : WriteBack). item.Write w) (write_backs P t))
-items_parts P t (item.Edge e) mine =
-    let there = item_edge (items P t) e mine in
-    IsIn-append_left (item.Edge e) (map (λ (e : Edge). item.Edge e) (out_edges P t)) (map (λ (w : WriteBack). item.Write w) (write_backs P t)) (IsIn-map (λ (e : Edge). item.Edge e) (out_edges P t) e there)
-items_parts P t (item.Write w) mine =
-    let there = item_write (items P t) w mine in
-    IsIn-append_right (item.Write w) (map (λ (e : Edge). item.Edge e) (out_edges P t)) (map (λ (w : WriteBack). item.Write w) (write_backs P t)) (IsIn-map (λ (w : WriteBack). item.Write w) (write_backs P t) w there)
-
 -- a run in which the task that was claimed last has ended
 pub record HasEnded (P : Plan) (G : Data) (t : Task) (tasks : List Task) (old new : RunState) (trap : Option Trap) : Type 0 where
   pub running : tasks ≡ running_tasks new
@@ -344,26 +335,18 @@ between_sent P G t running old new trap e fits last now d is = record {
 pub idle : (r : RunState) → [] ≡ running_tasks r → (t : Task) → IsRunning r t → ⊥
 idle r none t h = subst (IsIn t) (sym none) (marked_running r.claims t h)
 
--- the edges of a task that are left are outputs, and so are its write-backs that are left
+-- the items of a task that are left are outputs
 module _ (P : Plan) (t : Task) (a b : RunState) (outputs : has_outputs (end_of a t) ≡ true) where
   pub output : (i : Item) → IsIn i (items P t) → ((u : Task) → end_of b u ≡ end_of a u) → IsOutputItem P b i
   output i mine ends =
       let from : sender i ≡ t = item_sender P t i mine in
       record { outputs = ap (λ u. has_outputs (end_of b u)) from ∙ ap has_outputs (ends t) ∙ outputs; is_item = subst (λ u. IsIn i (items P u)) (sym from) mine }
 
-  pub edge_output : (all left : List Edge) (e : Edge) → all ≡ out_edges P t → IsSoFar P [] [] (map (λ (x : Edge). item.Edge x) all) (map (λ (x : Edge). item.Edge x) (e ∷ left)) a b → IsOutputItem P b (item.Edge e)
-  edge_output all left e is w =
-      let among : IsIn (item.Edge e) (map (λ (x : Edge). item.Edge x) all) = subst (IsIn (item.Edge e)) (sym w.split_items) (IsIn-append_right (item.Edge e) w.sent (map (λ (x : Edge). item.Edge x) (e ∷ left)) (inl refl)) in
-      let there = from_map (λ (x : Edge). item.Edge x) all (item.Edge e) among in
-      let mine = edge_item (items P t) there.0 (subst (IsIn there.0) is there.1) in
-      output (item.Edge e) (subst (λ i. IsIn i (items P t)) (sym there.2) mine) w.done.ends
-
-  pub write_output : (all left : List WriteBack) (e : WriteBack) → all ≡ write_backs P t → IsSoFar P [] [] (map (λ (x : WriteBack). item.Write x) all) (map (λ (x : WriteBack). item.Write x) (e ∷ left)) a b → IsOutputItem P b (item.Write e)
-  write_output all left e is w =
-      let among : IsIn (item.Write e) (map (λ (x : WriteBack). item.Write x) all) = subst (IsIn (item.Write e)) (sym w.split_items) (IsIn-append_right (item.Write e) w.sent (map (λ (x : WriteBack). item.Write x) (e ∷ left)) (inl refl)) in
-      let there = from_map (λ (x : WriteBack). item.Write x) all (item.Write e) among in
-      let mine = write_item (items P t) there.0 (subst (IsIn there.0) is there.1) in
-      output (item.Write e) (subst (λ i. IsIn i (items P t)) (sym there.2) mine) w.done.ends
+  pub item_output : (all left : List Item) (i : Item) → all ≡ edges_then_writes P t → IsSoFar P [] [] all (i ∷ left) a b
+      → IsOutputItem P b i
+  item_output all left i is w =
+      let among : IsIn i all = subst (IsIn i) (sym w.split_items) (IsIn-append_right i w.sent (i ∷ left) (inl refl)) in
+      output i ((items-in_order P t i).1 (subst (IsIn i) is among)) w.done.ends
 
 -- the next task of a walk over all tasks is one of the job
 pub next_task : (P : Plan) (t : Task) (left : List Task) (a b : RunState) → IsSoFar P (all_tasks P) (t ∷ left) [] [] a b → IsTask P t

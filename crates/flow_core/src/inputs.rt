@@ -3,7 +3,6 @@
 ghost use Rattle.std.specs.Prelude.{◌≡◌, ◌≢◌, ℤ, ◌+◌, ◌<◌, ◌≤◌, [], ◌∷◌, ◌++◌, length, option_map, slice_set, IfOk, OnOk, IsTrue, List, Option, Some};
 ghost use Rattle.std.specs.Option.{option_copied};
 ghost use Rattle.ptg_base.specs.Limits.{most_flows};
-ghost use Rattle.dep_iter.specs.Tasks.{IsTask};
 ghost use Rattle.flow_meaning.specs.Starting as starting;
 ghost use Rattle.flow_core.specs.Inputs as inputs;
 ghost use Rattle.flow_core.specs.Inputs.{edge_into, edge_of_source, edges_from, has_datatype, have_datatypes};
@@ -20,21 +19,11 @@ ghost use Rattle.flow_meaning.specs.Machine.{sent_tile};
 
 use crate::sent_items::SentItems;
 use coll_data::Given;
-use dep_iter::{Source, data_source_under, flows_of};
+use dep_iter::{Source, TaskAt};
 use plan_core::{FlowPlan, Plan};
-use ptg_base::{Item, OutOfMemory, TaskId, Tile};
+use ptg_base::{Item, OutOfMemory, Tile};
 use std::alloc::Global;
 use term_core::FlowKind;
-
-// A task and its locals with what its tiles come from, besides the items that were sent: the plan and the data.
-#[derive(Drop)]
-pub(crate) struct TaskStart<'a> {
-    pub(crate) plan: &'a Plan,
-    pub(crate) given: &'a Given,
-    pub(crate) task: &'a TaskId,
-    pub(crate) locals: &'a [i64],
-    pub(crate) ghost are_locals: { locals.now ≡ tasks.locals_of plan.now task.now },
-}
 
 // A copy of a tile, if there is one.
 pub(crate) fn copy_if_any(alloc: Global, tile: Option<&Tile>) -> Result<Option<Tile>, OutOfMemory>
@@ -70,32 +59,32 @@ fn unsourced_tile(alloc: Global, plan: &Plan, flow: &FlowPlan) -> Result<Option<
 // The tile that a source gives a flow, but for one that comes by an edge.
 fn tile_from(
     alloc: Global,
-    start: &TaskStart,
+    plan: &Plan,
+    given: &Given,
     flow: &FlowPlan,
     source: &Source,
 ) -> Result<Option<Tile>, OutOfMemory>
-    requires { IsTrue (has_datatype start.now.plan.now flow.now) }
+    requires { IsTrue (has_datatype plan.now flow.now) }
     ensures { IfOk result (λ tile.
-        tile ≡ starting.tile_from start.now.plan.now start.now.given.now nothing_delivered flow.now source.now) }
+        tile ≡ starting.tile_from plan.now given.now nothing_delivered flow.now source.now) }
 {
     match source {
         Source::Task(_) => Ok(None),
-        Source::Place(place) => copy_if_any(alloc, start.given.tile(place)),
-        Source::New => Ok(Some(new_tile(alloc, start.plan, flow)?)),
+        Source::Place(place) => copy_if_any(alloc, given.tile(place)),
+        Source::New => Ok(Some(new_tile(alloc, plan, flow)?)),
         Source::Null => Ok(None),
-        Source::Nothing => unsourced_tile(alloc, start.plan, flow),
+        Source::Nothing => unsourced_tile(alloc, plan, flow),
     }
 }
 
 // The source of a flow of a task; a CTL flow has none.
-fn source_of(start: &TaskStart, number: u8, flow: &FlowPlan) -> Source
-    requires { IsTask start.now.plan.now start.now.task.now }
-    ensures { result ≡ inputs.source_of start.now.plan.now start.now.task.now number flow.now }
+fn source_of(at: &TaskAt, number: u8, flow: &FlowPlan) -> Source
+    ensures { result ≡ inputs.source_of at.now.plan.now at.now.task.now number flow.now }
 {
     if !flow.kind.is_data() {
         return Source::Null;
     }
-    data_source_under(start.plan, start.task, start.locals, number)
+    at.data_source(number)
 }
 
 // The edge that a source is.
@@ -122,50 +111,48 @@ pub(crate) struct Inputs {
 // Adds what each of these flows starts on, which are numbered from `number` on.
 fn push_inputs(
     alloc: Global,
-    start: &TaskStart,
+    given: &Given,
+    at: &TaskAt,
     number: u8,
     flows: &[FlowPlan],
     inputs: &mut Inputs,
 ) -> Result<(), OutOfMemory>
-    requires task { IsTask start.now.plan.now start.now.task.now }
     requires at_most { number + length flows.now ≤ most_flows }
-    requires datatypes { IsTrue (have_datatypes start.now.plan.now flows.now) }
+    requires datatypes { IsTrue (have_datatypes at.now.plan.now flows.now) }
     ensures tiles { OnOk result
         (inputs.new.tiles.items
         ≡ inputs.old.tiles.items
-        ++ starting.tiles_from start.now.plan.now start.now.given.now nothing_delivered start.now.task.now
+        ++ starting.tiles_from at.now.plan.now given.now nothing_delivered at.now.task.now
         number flows.now) }
     ensures edges { OnOk result
         (inputs.new.edges.items
-        ≡ inputs.old.edges.items ++ edges_from start.now.plan.now start.now.task.now number flows.now) }
+        ≡ inputs.old.edges.items ++ edges_from at.now.plan.now at.now.task.now number flows.now) }
 {
     let Some((flow, others)) = flows.split_first() else {
         return Ok(());
     };
-    let source = source_of(start, number, flow);
-    let tile = tile_from(alloc, start, flow, &source)?;
+    let source = source_of(at, number, flow);
+    let tile = tile_from(alloc, at.plan, given, flow, &source)?;
     inputs.tiles.push(tile)?;
     inputs.edges.push(edge_of(source))?;
-    push_inputs(alloc, start, number + 1, others, inputs)
+    push_inputs(alloc, given, at, number + 1, others, inputs)
 }
 
 // What a task starts on. Where each of its flows comes from is asked once.
-pub(crate) fn inputs_of(alloc: Global, start: &TaskStart) -> Result<Inputs, OutOfMemory>
-    requires { IsTask start.now.plan.now start.now.task.now }
+pub(crate) fn inputs_of(alloc: Global, given: &Given, at: &TaskAt) -> Result<Inputs, OutOfMemory>
     ensures tiles { IfOk result (λ found.
         found.tiles.items
-        ≡ starting.starting_tiles start.now.plan.now start.now.given.now nothing_delivered start.now.task.now) }
+        ≡ starting.starting_tiles at.now.plan.now given.now nothing_delivered at.now.task.now) }
     ensures edges { IfOk result (λ found.
         found.edges.items
-        ≡ edges_from start.now.plan.now start.now.task.now 0 (tasks.flows_of start.now.plan.now start.now.task.now)) }
+        ≡ edges_from at.now.plan.now at.now.task.now 0 (tasks.flows_of at.now.plan.now at.now.task.now)) }
     ensures at_most { IfOk result (λ found. length found.edges.items ≤ most_flows) }
 {
     let mut found = Inputs {
         tiles: Vec::new(alloc),
         edges: Vec::new(alloc),
     };
-    let flows = flows_of(start.plan, start.task);
-    push_inputs(alloc, start, 0, flows, &mut found)?;
+    push_inputs(alloc, given, at, 0, at.flows(), &mut found)?;
     Ok(found)
 }
 

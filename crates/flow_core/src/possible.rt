@@ -6,9 +6,10 @@ ghost use Rattle.dep_iter.specs.Items as items;
 ghost use Rattle.dep_iter.specs.Tasks.{IsTask};
 ghost use Rattle.flow_meaning.specs.Machine as machine;
 
-use dep_iter::{LentEdge, WriteBacks, has_edge_under, locals_of, write_backs};
+use dep_iter::{LentEdge, TaskAt, WriteBacks, write_backs};
 use plan_core::Plan;
 use ptg_base::{Edge, Item, Place, TaskId, WriteBack, items_compare_field_by_field};
+use range_space::Numbers;
 use term_core::Direction;
 
 // A copy of an item.
@@ -75,9 +76,9 @@ pub(crate) fn is_item(plan: &Plan, item: &Item) -> bool
 {
     match item {
         Item::Edge(e) => {
-            let env = locals_of(plan, &e.from);
-            let edge = LentEdge::of(e);
-            has_edge_under(plan, Direction::Out, &e.from, env.as_slice(), &edge)
+            let mut room = Numbers::new();
+            let from = TaskAt::of(plan, &e.from, &mut room);
+            from.has_edge(Direction::Out, &LentEdge::of(e))
         }
         Item::Write(w) => is_left(&mut write_backs(plan, &w.from), w),
     }

@@ -25,12 +25,12 @@ mod quiescent;
 use crate::arrivals::{count_item, number_at};
 use crate::body::run_task;
 use crate::end::{End, has_outputs};
-use crate::inputs::{TaskStart, copy_if_any, inputs_of, take_tiles};
+use crate::inputs::{copy_if_any, inputs_of, take_tiles};
 use crate::outputs::{keep_tiles, tile_at};
 use crate::possible::{copy_of_item, is_item, item_flow, sender};
 use crate::sent_items::SentItems;
 use coll_data::Given;
-use dep_iter::{Matched, is_task, locals_of};
+use dep_iter::{Matched, TaskAt, is_task, locals_of};
 use goal_count::goal;
 use indexmap::IndexMap;
 use ptg_base::{Item, OutOfMemory, Seq, TaskId, Tile};
@@ -221,18 +221,16 @@ impl State {
     {
         let plan = m.plan();
         let locals = locals_of(plan, t);
-        let env = locals.as_slice();
-        let start = TaskStart {
+        let at = TaskAt {
             plan,
-            given,
             task: t,
-            locals: env,
+            locals: locals.as_slice(),
         };
-        let found = inputs_of(self.alloc, &start)?;
+        let found = inputs_of(self.alloc, given, &at)?;
         self.outputs.reserve(1)?;
         let mut tiles = found.tiles;
         take_tiles(found.edges.as_slice(), 0, &mut self.sent, &mut tiles);
-        let ran = run_task(plan, t, env, tiles);
+        let ran = run_task(&at, tiles);
         let end = End::of(&ran);
         let trap = end.trap();
         mark(&mut self.claims, t, end);

@@ -11,9 +11,9 @@ use Rattle.flow_core.proofs.inputs.+push_inputs.Goals as goal
 
 pub returns-clause-tiles : goal.returns-clause-tiles
 returns-clause-tiles m c =
-    let P = c.args.start.now.plan.now in
-    let G = c.args.start.now.given.now in
-    let t = c.args.start.now.task.now in
+    let P = c.args.at.now.plan.now in
+    let G = c.args.given.now in
+    let t = c.args.at.now.task.now in
     let n = c.args.number in
     let f = c.in-Some.flow.now in
     let fs = c.in-Some.others.now in
@@ -25,8 +25,8 @@ returns-clause-tiles m c =
 
 pub returns-clause-edges : goal.returns-clause-edges
 returns-clause-edges m c =
-    let P = c.args.start.now.plan.now in
-    let t = c.args.start.now.task.now in
+    let P = c.args.at.now.plan.now in
+    let t = c.args.at.now.task.now in
     let n = c.args.number in
     let f = c.in-Some.flow.now in
     let fs = c.in-Some.others.now in
