@@ -5,17 +5,19 @@ ghost use Rattle.dep_iter.specs.Tasks.{IsTask};
 ghost use Rattle.chain_cert.specs.Chains.{IsChain, IsSourceOf};
 ghost use Rattle.cert_check.specs.Checking.{IsLinked};
 
-use crate::sources::has_source_under;
-use dep_iter::{is_task, task_locals};
+use crate::sources::has_source;
+use dep_iter::{TaskAt, is_task};
 use plan_core::Plan;
 use ptg_base::TaskId;
+use range_space::Numbers;
 
 // Whether t is a task of the job, and s the source of an edge into it.
 pub(crate) fn is_link(plan: &Plan, s: &TaskId, t: &TaskId) -> bool
     ensures { IsTrue result ↔ (IsTask plan.now t.now × IsSourceOf plan.now s.now t.now) }
 {
-    match task_locals(plan, t) {
-        Some(locals) => has_source_under(plan, t, locals.as_slice(), s),
+    let mut room = Numbers::new();
+    match TaskAt::find(plan, t, &mut room) {
+        Some(at) => has_source(&at, s),
         None => false,
     }
 }

@@ -7,11 +7,9 @@ ghost use Rattle.dep_iter.specs.declared.link.Link.{Link as LinkValue};
 ghost use Rattle.dep_iter.specs.Active.{by_flow, flow_targets, held_targets};
 ghost use Rattle.dep_iter.specs.Edges as edges;
 ghost use Rattle.dep_iter.specs.Links.{all_links, links_to};
-ghost use Rattle.dep_iter.specs.Tasks as tasks;
-ghost use Rattle.dep_iter.specs.Tasks.{IsTask};
 
-use dep_iter::{flows_of, has_combination, held_target};
-use plan_core::{DepPlan, FlowPlan, Plan, Target};
+use dep_iter::{TaskAt, has_combination, held_target};
+use plan_core::{DepPlan, FlowPlan, Target};
 use ptg_base::TaskId;
 
 // Whether a target stands for a link with this task.
@@ -66,12 +64,10 @@ fn any_flow_names(flows: &[FlowPlan], env: &[i64], far: &TaskId) -> bool
     any_flow_names(others, env, far)
 }
 
-// Whether an edge into a task with these locals comes from another task. Takes time according to the in dependences of
-// the task, however many edges they give.
-pub(crate) fn has_source_under(plan: &Plan, t: &TaskId, env: &[i64], source: &TaskId) -> bool
-    requires task { IsTask plan.now t.now }
-    requires locals { env.now ≡ tasks.locals_of plan.now t.now }
-    ensures { IsTrue result ↔ IsIn source.now (edges.sources plan.now t.now) }
+// Whether an edge into a task comes from another task. Takes time according to the in dependences of the task, however
+// many edges they give.
+pub(crate) fn has_source(at: &TaskAt, source: &TaskId) -> bool
+    ensures { IsTrue result ↔ IsIn source.now (edges.sources at.now.plan.now at.now.task.now) }
 {
-    any_flow_names(flows_of(plan, t), env, source)
+    any_flow_names(at.flows(), at.locals, source)
 }

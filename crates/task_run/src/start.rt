@@ -14,7 +14,7 @@ ghost use Rattle.flow_meaning.specs.Starting.{nothing_delivered};
 
 use crate::pools::Pools;
 use coll_data::Given;
-use dep_iter::{Source, data_source_under};
+use dep_iter::{Source, TaskAt};
 use dep_shard::Arrivals;
 use plan_core::{FlowPlan, Plan};
 use plan_data::opening_tile;
@@ -104,7 +104,12 @@ fn lend_source(pools: &mut Pools, start: &Start, flow: &FlowPlan) -> Option<Tile
         pools.lend_none();
         return None;
     }
-    let source = data_source_under(start.plan, start.task, start.locals, pools.flows() as u8);
+    let at = TaskAt {
+        plan: start.plan,
+        task: start.task,
+        locals: start.locals,
+    };
+    let source = at.data_source(pools.flows() as u8);
     lend_from(pools, start, flow, &source)
 }
 
