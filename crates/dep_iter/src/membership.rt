@@ -117,26 +117,6 @@ impl TaskAt<'_> {
     }
 }
 
-/// Whether the edge is one of those of the task with these locals, into it or out of it.
-pub fn has_edge_under(
-    plan: &Plan,
-    direction: Direction,
-    t: &TaskId,
-    env: &[i64],
-    edge: &LentEdge,
-) -> bool
-    requires task { IsTask plan.now t.now }
-    requires locals { env.now ≡ tasks.locals_of plan.now t.now }
-    ensures { IsTrue result ↔ IsIn edge.now (edges_of direction plan.now t.now) }
-{
-    let at = TaskAt {
-        plan,
-        task: t,
-        locals: env,
-    };
-    at.has_edge(direction, edge)
-}
-
 // The first k of these dependences, or all where there are no more.
 fn first_dependences<'a>(deps: &'a [DepPlan], k: usize) -> &'a [DepPlan]
     ensures { result.now ≡ take k deps.now }

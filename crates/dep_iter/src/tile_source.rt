@@ -105,17 +105,3 @@ pub fn data_source(plan: &Plan, t: &TaskId, flow: u8) -> Source
 {
     TaskAt::of(plan, t, &mut Numbers::new()).data_source(flow)
 }
-
-/// Where the tile of a data flow of a task with these locals comes from.
-pub fn data_source_under(plan: &Plan, t: &TaskId, env: &[i64], flow: u8) -> Source
-    requires task { IsTask plan.now t.now }
-    requires locals { env.now ≡ tasks.locals_of plan.now t.now }
-    ensures { result ≡ edges.data_source plan.now t.now flow }
-{
-    let at = TaskAt {
-        plan,
-        task: t,
-        locals: env,
-    };
-    at.data_source(flow)
-}

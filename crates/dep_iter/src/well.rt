@@ -143,18 +143,3 @@ pub fn well_task(plan: &Plan, t: &TaskId) -> Result<(), IllTask>
 {
     TaskAt::of(plan, t, &mut Numbers::new()).well()
 }
-
-/// Whether a task with these locals is well; an `Err` names what is ill first.
-pub fn well_task_under(plan: &Plan, t: &TaskId, env: &[i64]) -> Result<(), IllTask>
-    requires task { IsTask plan.now t.now }
-    requires locals { env.now ≡ tasks.locals_of plan.now t.now }
-    ensures well { IfOk result (λ _. well.ill_part plan.now t.now ≡ None) }
-    ensures ill { IfErr result (λ e. well.ill_part plan.now t.now ≡ Some e.flow) }
-{
-    let at = TaskAt {
-        plan,
-        task: t,
-        locals: env,
-    };
-    at.well()
-}
