@@ -24,7 +24,7 @@ use Rattle.rank_core.proofs.Items.{out_from}
 use Rattle.rank_world.specs.declared.running_task.RunningTask.{RunningTask}
 use Rattle.shard_calls.specs.Taken.{HasSpareForEdge, HasSpareForWrite, MayTakeEdge, MayTakeWrite, TakesEdge, TakesWrite}
 use Rattle.rank_world.specs.RankRoom.{HasRoomFor}
-use Rattle.rank_world.specs.RunningTasks.{HoldsAt, IsRunningTask, data_of, its_writes, part_way, plan_of}
+use Rattle.rank_world.specs.RunningTasks.{HoldsAt, IsRunningTask, data_of, its_writes, part_way, plan_of, task_of}
 use Rattle.rank_world.proofs.Parts.{by_task, edge_holds, may_edge, may_write, within_among, write_holds}
 
 one_tile : (d k : ℕ) → tiles_used (Some d) k ≤ 1
@@ -111,52 +111,52 @@ pub record EdgesLeft (v : RunningTask) (whole left : List Edge) (y : Content) : 
   pub holds : HoldsAt v (part_way v (its_writes v ++ map item.Edge (within_among v done))) y
   pub room : HasRoomFor (length (within_among v left)) 0 y
 
-module _ (v : RunningTask) (h : IsRunningTask v) (outputs : has_outputs (ended (plan_of v) (data_of v) v.task.now) ≡ true) where
+module _ (v : RunningTask) (h : IsRunningTask v) (outputs : has_outputs (ended (plan_of v) (data_of v) (task_of v)) ≡ true) where
   pub writes_first : (whole : List WriteBack) (a : Content) → HoldsAt v (part_way v []) a → WritesLeft v whole whole a a
   writes_first whole a holds = record { done = []; split = refl; holds = holds; room = λ n r. r }
 
-  module _ (whole : List WriteBack) (are : whole ≡ write_backs (plan_of v) v.task.now) (w : WriteBack) (left : List WriteBack) (a y : Content) (l : WritesLeft v whole (w ∷ left) a y) where
-    write_split : map item.Write l.done ++ item.Write w ∷ (map item.Write left ++ map item.Edge (within_among v (out_edges (plan_of v) v.task.now))) ≡ its_writes v ++ map item.Edge (within_among v (out_edges (plan_of v) v.task.now))
+  module _ (whole : List WriteBack) (are : whole ≡ write_backs (plan_of v) (task_of v)) (w : WriteBack) (left : List WriteBack) (a y : Content) (l : WritesLeft v whole (w ∷ left) a y) where
+    write_split : map item.Write l.done ++ item.Write w ∷ (map item.Write left ++ map item.Edge (within_among v (out_edges (plan_of v) (task_of v)))) ≡ its_writes v ++ map item.Edge (within_among v (out_edges (plan_of v) (task_of v)))
     write_split =
-        sym (append_assoc (map item.Write l.done) (item.Write w ∷ map item.Write left) (map item.Edge (within_among v (out_edges (plan_of v) v.task.now))))
-        ∙ ap (λ is. is ++ map item.Edge (within_among v (out_edges (plan_of v) v.task.now))) (sym (map-append (λ (x : WriteBack). item.Write x) l.done (w ∷ left)) ∙ ap (map (λ (x : WriteBack). item.Write x)) (sym l.split ∙ are))
+        sym (append_assoc (map item.Write l.done) (item.Write w ∷ map item.Write left) (map item.Edge (within_among v (out_edges (plan_of v) (task_of v)))))
+        ∙ ap (λ is. is ++ map item.Edge (within_among v (out_edges (plan_of v) (task_of v)))) (sym (map-append (λ (x : WriteBack). item.Write x) l.done (w ∷ left)) ∙ ap (map (λ (x : WriteBack). item.Write x)) (sym l.split ∙ are))
 
-    pub write_from : w.from ≡ v.task.now
-    write_from = by_task v h outputs (map item.Write l.done) (item.Write w) (map item.Write left ++ map item.Edge (within_among v (out_edges (plan_of v) v.task.now))) write_split
+    pub write_from : w.from ≡ (task_of v)
+    write_from = by_task v h outputs (map item.Write l.done) (item.Write w) (map item.Write left ++ map item.Edge (within_among v (out_edges (plan_of v) (task_of v)))) write_split
 
     pub write_may : MayTakeWrite (plan_of v) w (output_tile (ended (plan_of v) (data_of v) w.from) w.flow) y
-    write_may = may_write v h outputs (map item.Write l.done) w (map item.Write left ++ map item.Edge (within_among v (out_edges (plan_of v) v.task.now))) write_split y l.holds
+    write_may = may_write v h outputs (map item.Write l.done) w (map item.Write left ++ map item.Edge (within_among v (out_edges (plan_of v) (task_of v)))) write_split y l.holds
 
     pub write_then : (z : Content) → TakesWrite (plan_of v) w (output_tile (ended (plan_of v) (data_of v) w.from) w.flow) y z → WritesLeft v whole left a z
     write_then z takes = record {
       done = l.done ++ w ∷ [];
       split = l.split ∙ sym (append_assoc l.done (w ∷ []) left);
       holds = subst (λ is. HoldsAt v (part_way v is) z) (sym (map-append (λ (x : WriteBack). item.Write x) l.done (w ∷ [])))
-          (write_holds v h outputs (map item.Write l.done) w (map item.Write left ++ map item.Edge (within_among v (out_edges (plan_of v) v.task.now))) write_split y z l.holds takes);
+          (write_holds v h outputs (map item.Write l.done) w (map item.Write left ++ map item.Edge (within_among v (out_edges (plan_of v) (task_of v)))) write_split y z l.holds takes);
       room = λ n r. room_write (plan_of v) n (length left) w (output_tile (ended (plan_of v) (data_of v) w.from) w.flow) y z (l.room n r) takes;
     }
 
-  pub writes_last : (whole : List WriteBack) → whole ≡ write_backs (plan_of v) v.task.now → (a y : Content) → WritesLeft v whole [] a y → HoldsAt v (part_way v (its_writes v)) y
+  pub writes_last : (whole : List WriteBack) → whole ≡ write_backs (plan_of v) (task_of v) → (a y : Content) → WritesLeft v whole [] a y → HoldsAt v (part_way v (its_writes v)) y
   writes_last whole are a y l = subst (λ ws. HoldsAt v (part_way v (map item.Write ws)) y) (sym (append-nil l.done) ∙ sym l.split ∙ are) l.holds
 
   pub edges_first : (whole : List Edge) (y : Content) → HoldsAt v (part_way v (its_writes v)) y → HasRoomFor (length (within_among v whole)) 0 y → EdgesLeft v whole whole y
   edges_first whole y holds room = record { done = []; split = refl; holds = subst (λ is. HoldsAt v (part_way v is) y) (sym (append-nil (its_writes v))) holds; room = room }
 
-  module _ (whole : List Edge) (are : whole ≡ out_edges (plan_of v) v.task.now) (e : Edge) (left : List Edge) (y : Content) (l : EdgesLeft v whole (e ∷ left) y) where
-    pub edge_among : IsIn e (out_edges (plan_of v) v.task.now)
+  module _ (whole : List Edge) (are : whole ≡ out_edges (plan_of v) (task_of v)) (e : Edge) (left : List Edge) (y : Content) (l : EdgesLeft v whole (e ∷ left) y) where
+    pub edge_among : IsIn e (out_edges (plan_of v) (task_of v))
     edge_among = subst (IsIn e) (sym l.split ∙ are) (IsIn-append_right e l.done (e ∷ left) (inl refl))
 
-    pub edge_from : e.from ≡ v.task.now
-    edge_from = out_from (plan_of v) v.task.now e edge_among
+    pub edge_from : e.from ≡ (task_of v)
+    edge_from = out_from (plan_of v) (task_of v) e edge_among
 
     pub edge_to : IsTask (plan_of v) e.to
-    edge_to = (h.consistent.connected v.task.now h.may.task).to_tasks e edge_among
+    edge_to = (h.consistent.connected (task_of v) h.may.task).to_tasks e edge_among
 
     module _ (within : is_between (plan_of v) v.ranks e ≡ false) where
       kept : within_among v (e ∷ left) ≡ e ∷ within_among v left
       kept = ap (λ b. cond (not b) (e ∷ within_among v left) (within_among v left)) within
 
-      edge_split : (its_writes v ++ map item.Edge (within_among v l.done)) ++ item.Edge e ∷ map item.Edge (within_among v left) ≡ its_writes v ++ map item.Edge (within_among v (out_edges (plan_of v) v.task.now))
+      edge_split : (its_writes v ++ map item.Edge (within_among v l.done)) ++ item.Edge e ∷ map item.Edge (within_among v left) ≡ its_writes v ++ map item.Edge (within_among v (out_edges (plan_of v) (task_of v)))
       edge_split =
           append_assoc (its_writes v) (map item.Edge (within_among v l.done)) (item.Edge e ∷ map item.Edge (within_among v left))
           ∙ ap (λ is. its_writes v ++ is) (
@@ -209,6 +209,6 @@ module _ (v : RunningTask) (h : IsRunningTask v) (outputs : has_outputs (ended (
     edge_next z takes same =
         by_test (is_between (plan_of v) v.ranks e) (λ k. subst (EdgesLeft v whole left) (sym (same k)) (edge_passed k)) (λ k. edge_then k z (takes k))
 
-  pub edges_last : (whole : List Edge) → whole ≡ out_edges (plan_of v) v.task.now → (y : Content) → EdgesLeft v whole [] y
-      → HoldsAt v (part_way v (its_writes v ++ map item.Edge (within_among v (out_edges (plan_of v) v.task.now)))) y
+  pub edges_last : (whole : List Edge) → whole ≡ out_edges (plan_of v) (task_of v) → (y : Content) → EdgesLeft v whole [] y
+      → HoldsAt v (part_way v (its_writes v ++ map item.Edge (within_among v (out_edges (plan_of v) (task_of v))))) y
   edges_last whole are y l = subst (λ es. HoldsAt v (part_way v (its_writes v ++ map item.Edge (within_among v es))) y) (sym (append-nil l.done) ∙ sym l.split ∙ are) l.holds

@@ -34,7 +34,7 @@ use Rattle.rank_world.specs.declared.running_task.RunningTask.{RunningTask}
 use Rattle.indexmap.specs.IndexMap.{spare}
 use Rattle.rank_world.specs.Keeping.{IsMailOf, IsUnderWay}
 use Rattle.rank_world.specs.Outgoings.{AddsBlank, AddsWithin}
-use Rattle.rank_world.specs.RunningTasks.{AreBlank, HasShape, IsRunningTask, after, before, data_of, part_way, plan_of}
+use Rattle.rank_world.specs.RunningTasks.{AreBlank, HasShape, IsRunningTask, after, before, data_of, part_way, plan_of, task_of}
 use Rattle.rank_world.proofs.Parts.{between_among, ends_so, part_sound, within_among}
 use Rattle.rank_world.proofs.Posted.{between_waits, mail_kept, one_posted}
 
@@ -55,22 +55,22 @@ pub record OutgoingSoFar (v : RunningTask) (whole left : List Edge) (o : Outgoin
 pub record PostedSoFar (v : RunningTask) (tiles : List (Option (List ℤ))) (left : List Message) (m : Mail) : Type 0 where
   pub done : List Edge
   pub rest : List Edge
-  pub split : edges_between (plan_of v) v.ranks v.task.now ≡ done ++ rest
+  pub split : edges_between (plan_of v) v.ranks (task_of v) ≡ done ++ rest
   pub blank : AreBlank (plan_of v) rest left
   pub under_way : IsUnderWay (after v).machine ((before v).messages ++ map (message_from (Some (Ok tiles))) done) m.under_way.entries
   pub sent : m.sent ≡ length ((before v).messages ++ map (message_from (Some (Ok tiles))) done)
   pub room : length left ≤ spare m.under_way
 
 module _ (v : RunningTask) (h : IsRunningTask v) where
-  module _ (whole : List Edge) (are : whole ≡ out_edges (plan_of v) v.task.now) (e : Edge) (left : List Edge) (o : Outgoing) (l : OutgoingSoFar v whole (e ∷ left) o) where
-    pub outgoing_among : IsIn e (out_edges (plan_of v) v.task.now)
+  module _ (whole : List Edge) (are : whole ≡ out_edges (plan_of v) (task_of v)) (e : Edge) (left : List Edge) (o : Outgoing) (l : OutgoingSoFar v whole (e ∷ left) o) where
+    pub outgoing_among : IsIn e (out_edges (plan_of v) (task_of v))
     outgoing_among = subst (IsIn e) (sym l.split ∙ are) (IsIn-append_right e l.done (e ∷ left) (inl refl))
 
-    pub outgoing_from : e.from ≡ v.task.now
-    outgoing_from = out_from (plan_of v) v.task.now e outgoing_among
+    pub outgoing_from : e.from ≡ (task_of v)
+    outgoing_from = out_from (plan_of v) (task_of v) e outgoing_among
 
     pub outgoing_to : IsTask (plan_of v) e.to
-    outgoing_to = (h.consistent.connected v.task.now h.may.task).to_tasks e outgoing_among
+    outgoing_to = (h.consistent.connected (task_of v) h.may.task).to_tasks e outgoing_among
 
     between_more : between_among v (l.done ++ e ∷ []) ≡ between_among v l.done ++ cond (is_between (plan_of v) v.ranks e) (e ∷ []) []
     between_more = filter-append (is_between (plan_of v) v.ranks) l.done (e ∷ [])
@@ -100,13 +100,13 @@ module _ (v : RunningTask) (h : IsRunningTask v) where
           within = omega (arith, a.within, l.within, ap length (within_more ∙ ap (λ b. within_among v l.done ++ cond (not b) (e ∷ []) []) k), length-append (within_among v l.done) (e ∷ []));
         })
 
-  outgoing_all : (whole : List Edge) → whole ≡ out_edges (plan_of v) v.task.now → (o : Outgoing) (l : OutgoingSoFar v whole [] o) → l.done ≡ out_edges (plan_of v) v.task.now
+  outgoing_all : (whole : List Edge) → whole ≡ out_edges (plan_of v) (task_of v) → (o : Outgoing) (l : OutgoingSoFar v whole [] o) → l.done ≡ out_edges (plan_of v) (task_of v)
   outgoing_all whole are o l = sym (append-nil l.done) ∙ sym l.split ∙ are
 
-  pub outgoing_blank : (whole : List Edge) → whole ≡ out_edges (plan_of v) v.task.now → (o : Outgoing) → OutgoingSoFar v whole [] o → AreBlank (plan_of v) (between_among v (out_edges (plan_of v) v.task.now)) o.messages.items
+  pub outgoing_blank : (whole : List Edge) → whole ≡ out_edges (plan_of v) (task_of v) → (o : Outgoing) → OutgoingSoFar v whole [] o → AreBlank (plan_of v) (between_among v (out_edges (plan_of v) (task_of v))) o.messages.items
   outgoing_blank whole are o l = subst (λ es. AreBlank (plan_of v) (between_among v es) o.messages.items) (outgoing_all whole are o l) l.blank
 
-  pub outgoing_within : (whole : List Edge) → whole ≡ out_edges (plan_of v) v.task.now → (o : Outgoing) → OutgoingSoFar v whole [] o → o.within ≡ length (within_among v (out_edges (plan_of v) v.task.now))
+  pub outgoing_within : (whole : List Edge) → whole ≡ out_edges (plan_of v) (task_of v) → (o : Outgoing) → OutgoingSoFar v whole [] o → o.within ≡ length (within_among v (out_edges (plan_of v) (task_of v)))
   outgoing_within whole are o l = l.within ∙ ap (λ es. length (within_among v es)) (outgoing_all whole are o l)
 
 -- no more messages are sent than a job may have edges
@@ -122,14 +122,14 @@ messages_at_most P G r w con sound =
     (con.same_edges e).1 (subst (λ d. IsIn d (all_out P)) (sym p.2) (IsIn-flat_map (out_edges P) (all_tasks P) p.0.edge.from p.0.edge ((listed P p.0.edge.from).0 job) out))) in
     omega (arith, few, con.in_edges_at_most, length-map w.messages (λ (m : Message). m.edge))
 
-module _ (v : RunningTask) (h : IsRunningTask v) (tiles : List (Option (List ℤ))) (ends : ended (plan_of v) (data_of v) v.task.now ≡ Some (Ok tiles)) where
-  outputs : has_outputs (ended (plan_of v) (data_of v) v.task.now) ≡ true
+module _ (v : RunningTask) (h : IsRunningTask v) (tiles : List (Option (List ℤ))) (ends : ended (plan_of v) (data_of v) (task_of v) ≡ Some (Ok tiles)) where
+  outputs : has_outputs (ended (plan_of v) (data_of v) (task_of v)) ≡ true
   outputs = ap has_outputs ends
 
-  pub posted_first : (left : List Message) (m : Mail) → AreBlank (plan_of v) (edges_between (plan_of v) v.ranks v.task.now) left → IsMailOf (before v) m → length left ≤ spare m.under_way → PostedSoFar v tiles left m
+  pub posted_first : (left : List Message) (m : Mail) → AreBlank (plan_of v) (edges_between (plan_of v) v.ranks (task_of v)) left → IsMailOf (before v) m → length left ≤ spare m.under_way → PostedSoFar v tiles left m
   posted_first left m blank mail room = record {
     done = [];
-    rest = edges_between (plan_of v) v.ranks v.task.now;
+    rest = edges_between (plan_of v) v.ranks (task_of v);
     split = refl;
     blank = blank;
     under_way = subst (λ ms. IsUnderWay (after v).machine ms m.under_way.entries) (sym (append-nil (before v).messages)) (mail_kept v h m.under_way.entries mail.under_way);
@@ -138,34 +138,34 @@ module _ (v : RunningTask) (h : IsRunningTask v) (tiles : List (Option (List ℤ
   }
 
   -- the messages after the run
-  messages_then : (after v).messages ≡ (before v).messages ++ map (message_from (Some (Ok tiles))) (edges_between (plan_of v) v.ranks v.task.now)
-  messages_then = ap (λ ms. (before v).messages ++ ms) (ap (messages_by (plan_of v) v.ranks v.task.now) (sym (ends_so v h) ∙ ends) ∙ messages_with (plan_of v) v.ranks v.task.now (Some (Ok tiles)) refl)
+  messages_then : (after v).messages ≡ (before v).messages ++ map (message_from (Some (Ok tiles))) (edges_between (plan_of v) v.ranks (task_of v))
+  messages_then = ap (λ ms. (before v).messages ++ ms) (ap (messages_by (plan_of v) v.ranks (task_of v)) (sym (ends_so v h) ∙ ends) ∙ messages_with (plan_of v) v.ranks (task_of v) (Some (Ok tiles)) refl)
 
   sound_then : IsSoundWorld (plan_of v) (data_of v) v.ranks (after v)
-  sound_then = event_sound (plan_of v) (data_of v) h.consistent v.ranks (before v) h.sound (Run v.task.now) h.may
+  sound_then = event_sound (plan_of v) (data_of v) h.consistent v.ranks (before v) h.sound (Run (task_of v)) h.may
 
   -- an edge to another rank may be sent once its task is claimed
-  between_may : (e : Edge) → IsIn e (edges_between (plan_of v) v.ranks v.task.now) → MaySend (plan_of v) (data_of v) (part_way v []).state (item.Edge e)
+  between_may : (e : Edge) → IsIn e (edges_between (plan_of v) v.ranks (task_of v)) → MaySend (plan_of v) (data_of v) (part_way v []).state (item.Edge e)
   between_may e i =
-      let out = between_is_out (plan_of v) v.task.now v.ranks e i in
-      let from : e.from ≡ v.task.now = out_from (plan_of v) v.task.now e out in
+      let out = between_is_out (plan_of v) (task_of v) v.ranks e i in
+      let from : e.from ≡ (task_of v) = out_from (plan_of v) (task_of v) e out in
       let none = unclaimed_unsent (plan_of v) (data_of v) (before v).machine h.sound.state (item.Edge e) (ap (claim_count (before v).machine) from ∙ h.may.unclaimed) in
       record {
-        unsent = ap (λ xs. send_count record { claims = (before v).machine.claims ++ v.task.now ∷ []; sends = xs } (item.Edge e)) (append-nil (before v).machine.sends) ∙ none;
-        claimed = subst (λ u. IsIn u ((before v).machine.claims ++ v.task.now ∷ [])) (sym from) (IsIn-append_right v.task.now (before v).machine.claims (v.task.now ∷ []) (inl refl));
-        is_item = subst (λ u. IsIn (item.Edge e) (items (plan_of v) u)) (sym from) (out_is_item (plan_of v) v.task.now e out);
-        outputs = ap (λ S. has_outputs (end_in (plan_of v) (data_of v) S e.from)) (λ k. record { claims = (before v).machine.claims ++ v.task.now ∷ []; sends = append-nil (before v).machine.sends k })
+        unsent = ap (λ xs. send_count record { claims = (before v).machine.claims ++ (task_of v) ∷ []; sends = xs } (item.Edge e)) (append-nil (before v).machine.sends) ∙ none;
+        claimed = subst (λ u. IsIn u ((before v).machine.claims ++ (task_of v) ∷ [])) (sym from) (IsIn-append_right (task_of v) (before v).machine.claims ((task_of v) ∷ []) (inl refl));
+        is_item = subst (λ u. IsIn (item.Edge e) (items (plan_of v) u)) (sym from) (out_is_item (plan_of v) (task_of v) e out);
+        outputs = ap (λ S. has_outputs (end_in (plan_of v) (data_of v) S e.from)) (λ k. record { claims = (before v).machine.claims ++ (task_of v) ∷ []; sends = append-nil (before v).machine.sends k })
             ∙ ap (λ u. has_outputs (end_in (plan_of v) (data_of v) (before v).machine u)) from ∙ ap has_outputs (sym (ends_so v h)) ∙ outputs;
       }
 
   -- its tile has the size of the blank one
-  shape_fits : (e : Edge) → IsIn e (edges_between (plan_of v) v.ranks v.task.now) → (m : Message) → m.edge ≡ e → HasShape (plan_of v) m → option_map length m.tile ≡ option_map length (output_tile (Some (Ok tiles)) m.edge.out_flow)
+  shape_fits : (e : Edge) → IsIn e (edges_between (plan_of v) v.ranks (task_of v)) → (m : Message) → m.edge ≡ e → HasShape (plan_of v) m → option_map length m.tile ≡ option_map length (output_tile (Some (Ok tiles)) m.edge.out_flow)
   shape_fits e i m same shape =
-      let among : IsIn m.edge (edges_between (plan_of v) v.ranks v.task.now) = subst (λ d. IsIn d (edges_between (plan_of v) v.ranks v.task.now)) (sym same) i in
+      let among : IsIn m.edge (edges_between (plan_of v) v.ranks (task_of v)) = subst (λ d. IsIn d (edges_between (plan_of v) v.ranks (task_of v))) (sym same) i in
       let may = between_may m.edge among in
-      let sound = part_sound v h outputs [] (items_within (plan_of v) v.ranks v.task.now) refl in
+      let sound = part_sound v h outputs [] (items_within (plan_of v) v.ranks (task_of v)) refl in
       let f = edge_flow (plan_of v) (data_of v) h.consistent (part_way v []).state sound m.edge may in
-      let out : ended (plan_of v) (data_of v) m.edge.from ≡ Some (Ok tiles) = ap (ended (plan_of v) (data_of v)) (out_from (plan_of v) v.task.now m.edge (between_is_out (plan_of v) v.task.now v.ranks m.edge among)) ∙ ends in
+      let out : ended (plan_of v) (data_of v) m.edge.from ≡ Some (Ok tiles) = ap (ended (plan_of v) (data_of v)) (out_from (plan_of v) (task_of v) m.edge (between_is_out (plan_of v) (task_of v) v.ranks m.edge among)) ∙ ends in
       let sized = shape f.0 f.1 in
       by_test (is_data (Some f.0.kind))
       (λ d.
@@ -194,10 +194,10 @@ module _ (v : RunningTask) (h : IsRunningTask v) (tiles : List (Option (List ℤ
     the_edge : IsNextEdge
     the_edge = next_edge l.rest refl l.blank
 
-    split_at : (n : IsNextEdge) → edges_between (plan_of v) v.ranks v.task.now ≡ l.done ++ n.edge ∷ n.later
+    split_at : (n : IsNextEdge) → edges_between (plan_of v) v.ranks (task_of v) ≡ l.done ++ n.edge ∷ n.later
     split_at n = l.split ∙ ap (λ es. l.done ++ es) n.rest_is
 
-    among_at : (n : IsNextEdge) → IsIn n.edge (edges_between (plan_of v) v.ranks v.task.now)
+    among_at : (n : IsNextEdge) → IsIn n.edge (edges_between (plan_of v) v.ranks (task_of v))
     among_at n = subst (IsIn n.edge) (sym (split_at n)) (IsIn-append_right n.edge l.done (n.edge ∷ n.later) (inl refl))
 
     pub post_shape : option_map length m.tile ≡ option_map length (output_tile (Some (Ok tiles)) m.edge.out_flow)
@@ -249,12 +249,12 @@ module _ (v : RunningTask) (h : IsRunningTask v) (tiles : List (Option (List ℤ
 
   pub posted_last : (m : Mail) → PostedSoFar v tiles [] m → IsMailOf (after v) m
   posted_last m l =
-      let all : edges_between (plan_of v) v.ranks v.task.now ≡ l.done = l.split ∙ ap (λ es. l.done ++ es) (none_blank l.rest l.blank) ∙ append-nil l.done in
+      let all : edges_between (plan_of v) v.ranks (task_of v) ≡ l.done = l.split ∙ ap (λ es. l.done ++ es) (none_blank l.rest l.blank) ∙ append-nil l.done in
       let same : (after v).messages ≡ (before v).messages ++ map (message_from (Some (Ok tiles))) l.done = messages_then ∙ ap (λ es. (before v).messages ++ map (message_from (Some (Ok tiles))) es) all in
       record { under_way = subst (λ ms. IsUnderWay (after v).machine ms m.under_way.entries) (sym same) l.under_way; sent = l.sent ∙ ap length (sym same) }
 
 -- a trap sends nothing
-pub trap_mail : (v : RunningTask) (h : IsRunningTask v) → has_outputs (ended (plan_of v) (data_of v) v.task.now) ≡ false → (m : Mail) → IsMailOf (before v) m → IsMailOf (after v) m
+pub trap_mail : (v : RunningTask) (h : IsRunningTask v) → has_outputs (ended (plan_of v) (data_of v) (task_of v)) ≡ false → (m : Mail) → IsMailOf (before v) m → IsMailOf (after v) m
 trap_mail v h none m mail =
-    let same : (after v).messages ≡ (before v).messages = ap (λ ms. (before v).messages ++ ms) (ap (messages_by (plan_of v) v.ranks v.task.now) (sym (ends_so v h)) ∙ messages_without (plan_of v) v.ranks v.task.now (ended (plan_of v) (data_of v) v.task.now) none) ∙ append-nil (before v).messages in
+    let same : (after v).messages ≡ (before v).messages = ap (λ ms. (before v).messages ++ ms) (ap (messages_by (plan_of v) v.ranks (task_of v)) (sym (ends_so v h)) ∙ messages_without (plan_of v) v.ranks (task_of v) (ended (plan_of v) (data_of v) (task_of v)) none) ∙ append-nil (before v).messages in
     record { under_way = subst (λ ms. IsUnderWay (after v).machine ms m.under_way.entries) (sym same) (mail_kept v h m.under_way.entries mail.under_way); sent = mail.sent ∙ ap length (sym same) }

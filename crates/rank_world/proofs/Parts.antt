@@ -38,7 +38,7 @@ use Rattle.rank_core.proofs.Running.{items_with, items_without, part_happens, ru
 use Rattle.rank_world.specs.declared.running_task.RunningTask.{RunningTask}
 use Rattle.rank_world.specs.Keeping.{idle_moment}
 use Rattle.shard_calls.specs.Taken.{MayTakeEdge, MayTakeWrite, TakesEdge, TakesWrite}
-use Rattle.rank_world.specs.RunningTasks.{HoldsAt, IsRunningTask, after, before, data_of, its_writes, part_way, plan_of}
+use Rattle.rank_world.specs.RunningTasks.{HoldsAt, IsRunningTask, after, before, data_of, its_writes, part_way, plan_of, task_of}
 use Rattle.rank_world.proofs.Delivering.{may_take_edge}
 
 happen-last : (P : Plan) (G : Data) (es : List Event) (e : Event) (S T U : MachineState) → Happen P G (es ++ e ∷ []) S U → Happen P G es S T → IsPossible P G T e
@@ -60,24 +60,24 @@ get_ok (Err e) k q = absurd (false≢true k)
 
 module _ (v : RunningTask) (h : IsRunningTask v) where
   -- the task ends as its body says
-  pub ends_so : ended (plan_of v) (data_of v) v.task.now ≡ end_in (plan_of v) (data_of v) (before v).machine v.task.now
-  ends_so = run_ends (plan_of v) (data_of v) h.consistent v.ranks (before v) h.sound v.task.now h.may
+  pub ends_so : ended (plan_of v) (data_of v) (task_of v) ≡ end_in (plan_of v) (data_of v) (before v).machine (task_of v)
+  ends_so = run_ends (plan_of v) (data_of v) h.consistent v.ranks (before v) h.sound (task_of v) h.may
 
   -- the claim
-  pub claimed_part : with_claim (idle_moment (before v).machine) v.task.now ≡ part_way v []
-  claimed_part = λ k. record { state = record { claims = (before v).machine.claims ++ v.task.now ∷ []; sends = sym (append-nil (before v).machine.sends) k }; running = v.task.now ∷ [] }
+  pub claimed_part : with_claim (idle_moment (before v).machine) (task_of v) ≡ part_way v []
+  claimed_part = λ k. record { state = record { claims = (before v).machine.claims ++ (task_of v) ∷ []; sends = sym (append-nil (before v).machine.sends) k }; running = (task_of v) ∷ [] }
 
-  pub claim_holds : (y z : Content) (tiles : List FlowTile) → HoldsAt v (idle_moment (before v).machine) y → Takes y z v.task.now tiles → HoldsAt v (part_way v []) z
+  pub claim_holds : (y z : Content) (tiles : List FlowTile) → HoldsAt v (idle_moment (before v).machine) y → Takes y z (task_of v) tiles → HoldsAt v (part_way v []) z
   claim_holds y z tiles holds takes =
       subst (λ R. HoldsAt v R z) claimed_part
-      (claim_here (plan_of v) (data_of v) h.consistent (rank_of (plan_of v) v.ranks) v.rank (idle_moment (before v).machine) h.sound.state v.task.now y z tiles (sym h.rank_is) takes holds)
+      (claim_here (plan_of v) (data_of v) h.consistent (rank_of (plan_of v) v.ranks) v.rank (idle_moment (before v).machine) h.sound.state (task_of v) y z tiles (sym h.rank_is) takes holds)
 
   -- the state after the claim is sound
   pub claimed_sound : IsSoundState (plan_of v) (data_of v) (part_way v []).state
-  claimed_sound = subst (λ (R : Moment). IsSoundState (plan_of v) (data_of v) R.state) claimed_part (claim_sound (plan_of v) (data_of v) h.consistent (before v).machine h.sound.state v.task.now h.may)
+  claimed_sound = subst (λ (R : Moment). IsSoundState (plan_of v) (data_of v) R.state) claimed_part (claim_sound (plan_of v) (data_of v) h.consistent (before v).machine h.sound.state (task_of v) h.may)
 
-  runs_one : (is : List Item) → 0 < run_count (part_way v is) v.task.now
-  runs_one is = omega (arith, ap as_number ((same_task-decides v.task.now v.task.now).1 refl))
+  runs_one : (is : List Item) → 0 < run_count (part_way v is) (task_of v)
+  runs_one is = omega (arith, ap as_number ((same_task-decides (task_of v) (task_of v)).1 refl))
 
   -- one of the tasks of its rank runs, so fewer have ended than a job may have
   pub ended_fewer : (y : Content) → HoldsAt v (part_way v []) y → y.ended < 1000000
@@ -85,75 +85,75 @@ module _ (v : RunningTask) (h : IsRunningTask v) where
       omega (
         arith,
         numbers_at_most (plan_of v) (data_of v) (rank_of (plan_of v) v.ranks) v.rank (part_way v []) y holds h.consistent claimed_sound,
-        some_runs (plan_of v) (data_of v) (rank_of (plan_of v) v.ranks) v.rank (part_way v []) y holds v.task.now (sym h.rank_is) (runs_one []),
+        some_runs (plan_of v) (data_of v) (rank_of (plan_of v) v.ranks) v.rank (part_way v []) y holds (task_of v) (sym h.rank_is) (runs_one []),
       )
 
-  none_left : without_task v.task.now (v.task.now ∷ []) ≡ []
-  none_left = ap (λ b. cond b [] (v.task.now ∷ [])) ((same_task-decides v.task.now v.task.now).1 refl)
+  none_left : without_task (task_of v) ((task_of v) ∷ []) ≡ []
+  none_left = ap (λ b. cond b [] ((task_of v) ∷ [])) ((same_task-decides (task_of v) (task_of v)).1 refl)
 
   -- the end by a trap
-  module _ (cause : Trap) (traps : ended (plan_of v) (data_of v) v.task.now ≡ Some (Err cause)) where
-    no_outputs : has_outputs (ended (plan_of v) (data_of v) v.task.now) ≡ false
+  module _ (cause : Trap) (traps : ended (plan_of v) (data_of v) (task_of v) ≡ Some (Err cause)) where
+    no_outputs : has_outputs (ended (plan_of v) (data_of v) (task_of v)) ≡ false
     no_outputs = ap has_outputs traps
 
-    pub trap_after : with_end (part_way v []) v.task.now ≡ idle_moment (after v).machine
+    pub trap_after : with_end (part_way v []) (task_of v) ≡ idle_moment (after v).machine
     trap_after =
-        let none : items_by (plan_of v) v.ranks v.task.now (end_in (plan_of v) (data_of v) (before v).machine v.task.now) ≡ [] = ap (items_by (plan_of v) v.ranks v.task.now) (sym ends_so) ∙ items_without (plan_of v) v.ranks v.task.now (ended (plan_of v) (data_of v) v.task.now) no_outputs in
-        λ k. record { state = record { claims = (before v).machine.claims ++ v.task.now ∷ []; sends = (before v).machine.sends ++ sym none k }; running = none_left k }
+        let none : items_by (plan_of v) v.ranks (task_of v) (end_in (plan_of v) (data_of v) (before v).machine (task_of v)) ≡ [] = ap (items_by (plan_of v) v.ranks (task_of v)) (sym ends_so) ∙ items_without (plan_of v) v.ranks (task_of v) (ended (plan_of v) (data_of v) (task_of v)) no_outputs in
+        λ k. record { state = record { claims = (before v).machine.claims ++ (task_of v) ∷ []; sends = (before v).machine.sends ++ sym none k }; running = none_left k }
 
-    pub trap_holds : (y z : Content) → HoldsAt v (part_way v []) y → Ends y z → KeepsEntriesAndWritten y z → z.trapped ≡ y.trapped ++ (v.task.now, cause) ∷ [] → HoldsAt v (idle_moment (after v).machine) z
+    pub trap_holds : (y z : Content) → HoldsAt v (part_way v []) y → Ends y z → KeepsEntriesAndWritten y z → z.trapped ≡ y.trapped ++ ((task_of v), cause) ∷ [] → HoldsAt v (idle_moment (after v).machine) z
     trap_holds y z holds ends kept trapped =
         subst (λ R. HoldsAt v R z) trap_after
-        (trap_here (plan_of v) (data_of v) (rank_of (plan_of v) v.ranks) v.rank (part_way v []) v.task.now (runs_one []) y z cause (sym h.rank_is) traps ends kept trapped holds)
+        (trap_here (plan_of v) (data_of v) (rank_of (plan_of v) v.ranks) v.rank (part_way v []) (task_of v) (runs_one []) y z cause (sym h.rank_is) traps ends kept trapped holds)
 
     pub trap_away : (j : ℕ) (y : Content) → v.rank ≢ j → IsShardOf (plan_of v) (data_of v) (rank_of (plan_of v) v.ranks) j (idle_moment (before v).machine) y → IsShardOf (plan_of v) (data_of v) (rank_of (plan_of v) v.ranks) j (idle_moment (after v).machine) y
     trap_away j y other share =
-        let away : rank_of (plan_of v) v.ranks v.task.now ≢ j = λ e. other (h.rank_is ∙ e) in
+        let away : rank_of (plan_of v) v.ranks (task_of v) ≢ j = λ e. other (h.rank_is ∙ e) in
         subst (λ R. IsShardOf (plan_of v) (data_of v) (rank_of (plan_of v) v.ranks) j R y) trap_after
-        (end_away (plan_of v) (data_of v) (rank_of (plan_of v) v.ranks) j (part_way v []) v.task.now (runs_one []) y away
+        (end_away (plan_of v) (data_of v) (rank_of (plan_of v) v.ranks) j (part_way v []) (task_of v) (runs_one []) y away
         (subst (λ R. IsShardOf (plan_of v) (data_of v) (rank_of (plan_of v) v.ranks) j R y) claimed_part
-        (claim_away (plan_of v) (data_of v) h.consistent (rank_of (plan_of v) v.ranks) j (idle_moment (before v).machine) h.sound.state v.task.now y away share)))
+        (claim_away (plan_of v) (data_of v) h.consistent (rank_of (plan_of v) v.ranks) j (idle_moment (before v).machine) h.sound.state (task_of v) y away share)))
 
   -- the items of a task that has outputs
-  module _ (outputs : has_outputs (ended (plan_of v) (data_of v) v.task.now) ≡ true) where
+  module _ (outputs : has_outputs (ended (plan_of v) (data_of v) (task_of v)) ≡ true) where
     abbrev all : List Item
-    all = items_within (plan_of v) v.ranks v.task.now
+    all = items_within (plan_of v) v.ranks (task_of v)
 
-    is_item : (i : Item) → IsIn i all → IsIn i (items (plan_of v) v.task.now)
-    is_item i m = within_is_item (plan_of v) v.task.now v.ranks i m
+    is_item : (i : Item) → IsIn i all → IsIn i (items (plan_of v) (task_of v))
+    is_item i m = within_is_item (plan_of v) (task_of v) v.ranks i m
 
-    happens : (is rest : List Item) → is ++ rest ≡ all → Happen (plan_of v) (data_of v) (Claim v.task.now ∷ map Send is) (before v).machine (part_way v is).state
+    happens : (is rest : List Item) → is ++ rest ≡ all → Happen (plan_of v) (data_of v) (Claim (task_of v) ∷ map Send is) (before v).machine (part_way v is).state
     happens is rest split =
-        part_happens (plan_of v) (data_of v) h.consistent v.ranks (before v) h.sound v.task.now h.may outputs is
+        part_happens (plan_of v) (data_of v) h.consistent v.ranks (before v) h.sound (task_of v) h.may outputs is
         (λ i m. is_item i (subst (IsIn i) split (IsIn-append_left i is rest m)))
-        (HasNoRepeats-left is rest (subst HasNoRepeats (sym split) (within_once (plan_of v) h.consistent v.task.now h.may.task v.ranks)))
+        (HasNoRepeats-left is rest (subst HasNoRepeats (sym split) (within_once (plan_of v) h.consistent (task_of v) h.may.task v.ranks)))
 
     pub part_sound : (is rest : List Item) → is ++ rest ≡ all → IsSoundState (plan_of v) (data_of v) (part_way v is).state
-    part_sound is rest split = happen_sound (plan_of v) (data_of v) h.consistent (Claim v.task.now ∷ map Send is) (before v).machine (part_way v is).state h.sound.state (happens is rest split)
+    part_sound is rest split = happen_sound (plan_of v) (data_of v) h.consistent (Claim (task_of v) ∷ map Send is) (before v).machine (part_way v is).state h.sound.state (happens is rest split)
 
     longer : (is : List Item) (i : Item) (rest : List Item) → is ++ i ∷ rest ≡ all → (is ++ i ∷ []) ++ rest ≡ all
     longer is i rest split = append_assoc is (i ∷ []) rest ∙ split
 
     pub next_may : (is : List Item) (i : Item) (rest : List Item) → is ++ i ∷ rest ≡ all → MaySend (plan_of v) (data_of v) (part_way v is).state i
     next_may is i rest split =
-        happen-last (plan_of v) (data_of v) (Claim v.task.now ∷ map Send is) (Send i) (before v).machine (part_way v is).state (part_way v (is ++ i ∷ [])).state
-        (subst (λ es. Happen (plan_of v) (data_of v) (Claim v.task.now ∷ es) (before v).machine (part_way v (is ++ i ∷ [])).state) (map-append Send is (i ∷ [])) (happens (is ++ i ∷ []) rest (longer is i rest split)))
+        happen-last (plan_of v) (data_of v) (Claim (task_of v) ∷ map Send is) (Send i) (before v).machine (part_way v is).state (part_way v (is ++ i ∷ [])).state
+        (subst (λ es. Happen (plan_of v) (data_of v) (Claim (task_of v) ∷ es) (before v).machine (part_way v (is ++ i ∷ [])).state) (map-append Send is (i ∷ [])) (happens (is ++ i ∷ []) rest (longer is i rest split)))
         (happens is (i ∷ rest) split)
 
-    pub by_task : (is : List Item) (i : Item) (rest : List Item) → is ++ i ∷ rest ≡ all → sender i ≡ v.task.now
-    by_task is i rest split = item_sender (plan_of v) v.task.now i (is_item i (subst (IsIn i) split (IsIn-append_right i is (i ∷ rest) (inl refl))))
+    pub by_task : (is : List Item) (i : Item) (rest : List Item) → is ++ i ∷ rest ≡ all → sender i ≡ (task_of v)
+    by_task is i rest split = item_sender (plan_of v) (task_of v) i (is_item i (subst (IsIn i) split (IsIn-append_right i is (i ∷ rest) (inl refl))))
 
     pub next_part : (is : List Item) (i : Item) (rest : List Item) → is ++ i ∷ rest ≡ all → with_send (plan_of v) (data_of v) (part_way v is) i ≡ part_way v (is ++ i ∷ [])
     next_part is i rest split =
-        let f : Item → SentItem = item_from (ended (plan_of v) (data_of v) v.task.now) in
-        let here : sent_with (plan_of v) (data_of v) (part_way v is).state i ≡ item_from (ended (plan_of v) (data_of v) v.task.now) i =
+        let f : Item → SentItem = item_from (ended (plan_of v) (data_of v) (task_of v)) in
+        let here : sent_with (plan_of v) (data_of v) (part_way v is).state i ≡ item_from (ended (plan_of v) (data_of v) (task_of v)) i =
         sent_is (plan_of v) (data_of v) h.consistent (part_way v is).state (part_sound is (i ∷ rest) split) i (next_may is i rest split)
         ∙ (λ k. item_from (ended (plan_of v) (data_of v) (by_task is i rest split k)) i) in
-        let sends : ((before v).machine.sends ++ map (item_from (ended (plan_of v) (data_of v) v.task.now)) is) ++ sent_with (plan_of v) (data_of v) (part_way v is).state i ∷ [] ≡ (before v).machine.sends ++ map (item_from (ended (plan_of v) (data_of v) v.task.now)) (is ++ i ∷ []) =
-        append_assoc (before v).machine.sends (map (item_from (ended (plan_of v) (data_of v) v.task.now)) is) (sent_with (plan_of v) (data_of v) (part_way v is).state i ∷ [])
-        ∙ ap (λ x. (before v).machine.sends ++ (map (item_from (ended (plan_of v) (data_of v) v.task.now)) is ++ x ∷ [])) here
-        ∙ ap (λ xs. (before v).machine.sends ++ xs) (sym (map-append (item_from (ended (plan_of v) (data_of v) v.task.now)) is (i ∷ []))) in
-        λ k. record { state = record { claims = (before v).machine.claims ++ v.task.now ∷ []; sends = sends k }; running = v.task.now ∷ [] }
+        let sends : ((before v).machine.sends ++ map (item_from (ended (plan_of v) (data_of v) (task_of v))) is) ++ sent_with (plan_of v) (data_of v) (part_way v is).state i ∷ [] ≡ (before v).machine.sends ++ map (item_from (ended (plan_of v) (data_of v) (task_of v))) (is ++ i ∷ []) =
+        append_assoc (before v).machine.sends (map (item_from (ended (plan_of v) (data_of v) (task_of v))) is) (sent_with (plan_of v) (data_of v) (part_way v is).state i ∷ [])
+        ∙ ap (λ x. (before v).machine.sends ++ (map (item_from (ended (plan_of v) (data_of v) (task_of v))) is ++ x ∷ [])) here
+        ∙ ap (λ xs. (before v).machine.sends ++ xs) (sym (map-append (item_from (ended (plan_of v) (data_of v) (task_of v))) is (i ∷ []))) in
+        λ k. record { state = record { claims = (before v).machine.claims ++ (task_of v) ∷ []; sends = sends k }; running = (task_of v) ∷ [] }
 
     -- a write-back
     module _ (is : List Item) (w : WriteBack) (rest : List Item) (split : is ++ item.Write w ∷ rest ≡ all) where
@@ -198,22 +198,22 @@ module _ (v : RunningTask) (h : IsRunningTask v) where
           (edge_here (plan_of v) (data_of v) h.consistent (rank_of (plan_of v) v.ranks) v.rank (part_way v is) (part_sound is (item.Edge e ∷ rest) split) e (next_may is (item.Edge e) rest split) y z same_rank takes.entries takes.rest holds)
 
     -- the end after all items
-    pub end_after : with_end (part_way v all) v.task.now ≡ idle_moment (after v).machine
+    pub end_after : with_end (part_way v all) (task_of v) ≡ idle_moment (after v).machine
     end_after =
-        let sent = sym (items_with (plan_of v) v.ranks v.task.now (ended (plan_of v) (data_of v) v.task.now) outputs) ∙ ap (items_by (plan_of v) v.ranks v.task.now) ends_so in
-        λ k. record { state = record { claims = (before v).machine.claims ++ v.task.now ∷ []; sends = (before v).machine.sends ++ sent k }; running = none_left k }
+        let sent = sym (items_with (plan_of v) v.ranks (task_of v) (ended (plan_of v) (data_of v) (task_of v)) outputs) ∙ ap (items_by (plan_of v) v.ranks (task_of v)) ends_so in
+        λ k. record { state = record { claims = (before v).machine.claims ++ (task_of v) ∷ []; sends = (before v).machine.sends ++ sent k }; running = none_left k }
 
     pub end_holds : (y z : Content) → HoldsAt v (part_way v all) y → Ends y z → KeepsEntriesAndWritten y z → z.trapped ≡ y.trapped → HoldsAt v (idle_moment (after v).machine) z
     end_holds y z holds ends kept trapped =
         subst (λ R. HoldsAt v R z) end_after
-        (end_here (plan_of v) (data_of v) (rank_of (plan_of v) v.ranks) v.rank (part_way v all) v.task.now (runs_one all) y z (sym h.rank_is) outputs ends kept trapped holds)
+        (end_here (plan_of v) (data_of v) (rank_of (plan_of v) v.ranks) v.rank (part_way v all) (task_of v) (runs_one all) y z (sym h.rank_is) outputs ends kept trapped holds)
 
     -- its rank, before the end
     all_sound : IsSoundState (plan_of v) (data_of v) (part_way v all).state
     all_sound = part_sound all [] (append-nil all)
 
     pub last_runs : (y : Content) → HoldsAt v (part_way v all) y → 0 < y.running
-    last_runs y holds = some_runs (plan_of v) (data_of v) (rank_of (plan_of v) v.ranks) v.rank (part_way v all) y holds v.task.now (sym h.rank_is) (runs_one all)
+    last_runs y holds = some_runs (plan_of v) (data_of v) (rank_of (plan_of v) v.ranks) v.rank (part_way v all) y holds (task_of v) (sym h.rank_is) (runs_one all)
 
     pub last_fewer : (y : Content) → HoldsAt v (part_way v all) y → y.ended < 1000000
     last_fewer y holds = omega (arith, numbers_at_most (plan_of v) (data_of v) (rank_of (plan_of v) v.ranks) v.rank (part_way v all) y holds h.consistent all_sound, last_runs y holds)
@@ -223,10 +223,10 @@ module _ (v : RunningTask) (h : IsRunningTask v) where
       abbrev Holds : Moment → Type 0
       Holds R = IsShardOf (plan_of v) (data_of v) (rank_of (plan_of v) v.ranks) j R y
 
-      within_of : (i : Item) → IsIn i (map item.Edge (edges_within (plan_of v) v.ranks v.task.now)) → (e : Edge) × (i ≡ item.Edge e) × (is_between (plan_of v) v.ranks e ≡ false)
+      within_of : (i : Item) → IsIn i (map item.Edge (edges_within (plan_of v) v.ranks (task_of v))) → (e : Edge) × (i ≡ item.Edge e) × (is_between (plan_of v) v.ranks e ≡ false)
       within_of i m =
-          let p = from_map (λ (e : Edge). item.Edge e) (edges_within (plan_of v) v.ranks v.task.now) i m in
-          let k = ((IsIn-filter (λ e. not (is_between (plan_of v) v.ranks e)) (out_edges (plan_of v) v.task.now) p.0).0 p.1).1 in
+          let p = from_map (λ (e : Edge). item.Edge e) (edges_within (plan_of v) v.ranks (task_of v)) i m in
+          let k = ((IsIn-filter (λ e. not (is_between (plan_of v) v.ranks e)) (out_edges (plan_of v) (task_of v)) p.0).0 p.1).1 in
           (p.0, p.2, flipped (is_between (plan_of v) v.ranks p.0) k)
         where
           flipped : (b : Bool) → not b ≡ true → b ≡ false
@@ -236,9 +236,9 @@ module _ (v : RunningTask) (h : IsRunningTask v) where
       send_away : (is : List Item) (i : Item) (rest : List Item) → is ++ i ∷ rest ≡ all → Holds (part_way v is) → Holds (part_way v (is ++ i ∷ []))
       send_away is i rest split share =
           let among : IsIn i all = subst (IsIn i) split (IsIn-append_right i is (i ∷ rest) (inl refl)) in
-          elim (from_append i (its_writes v) (map item.Edge (edges_within (plan_of v) v.ranks v.task.now)) among) [
+          elim (from_append i (its_writes v) (map item.Edge (edges_within (plan_of v) v.ranks (task_of v))) among) [
             | inl written ↦
-                let p = from_map (λ (w : WriteBack). item.Write w) (write_backs (plan_of v) v.task.now) i written in
+                let p = from_map (λ (w : WriteBack). item.Write w) (write_backs (plan_of v) (task_of v)) i written in
                 write_by is i rest split share p.0 p.2
             | inr edge ↦
                 let p = within_of i edge in
@@ -267,7 +267,7 @@ module _ (v : RunningTask) (h : IsRunningTask v) where
 
       pub run_away : Holds (idle_moment (before v).machine) → Holds (idle_moment (after v).machine)
       run_away share =
-          let away : rank_of (plan_of v) v.ranks v.task.now ≢ j = λ e. other (h.rank_is ∙ e) in
-          let claimed : Holds (part_way v []) = subst Holds claimed_part (claim_away (plan_of v) (data_of v) h.consistent (rank_of (plan_of v) v.ranks) j (idle_moment (before v).machine) h.sound.state v.task.now y away share) in
+          let away : rank_of (plan_of v) v.ranks (task_of v) ≢ j = λ e. other (h.rank_is ∙ e) in
+          let claimed : Holds (part_way v []) = subst Holds claimed_part (claim_away (plan_of v) (data_of v) h.consistent (rank_of (plan_of v) v.ranks) j (idle_moment (before v).machine) h.sound.state (task_of v) y away share) in
           subst Holds end_after
-          (end_away (plan_of v) (data_of v) (rank_of (plan_of v) v.ranks) j (part_way v all) v.task.now (runs_one all) y away (sends_away [] all refl claimed))
+          (end_away (plan_of v) (data_of v) (rank_of (plan_of v) v.ranks) j (part_way v all) (task_of v) (runs_one all) y away (sends_away [] all refl claimed))

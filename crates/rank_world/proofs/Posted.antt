@@ -27,7 +27,7 @@ use Rattle.rank_core.proofs.Items.{out_from, within_is_item}
 use Rattle.rank_core.proofs.Running.{items_with, items_without, message_is, unclaimed_unsent}
 use Rattle.rank_world.specs.declared.running_task.RunningTask.{RunningTask}
 use Rattle.rank_world.specs.Keeping.{IsUnderWay, unless_delivered}
-use Rattle.rank_world.specs.RunningTasks.{IsRunningTask, after, before, data_of, plan_of}
+use Rattle.rank_world.specs.RunningTasks.{IsRunningTask, after, before, data_of, plan_of, task_of}
 
 -- a longer list, at its end and elsewhere
 last_at : {A : Type 0} (xs : List A) (x : A) → slice_get (xs ++ x ∷ []) (length xs) ≡ Some x
@@ -62,30 +62,30 @@ none_sent i xs none = elim (cases_eq (weigh (λ (x : SentItem). as_number (same_
 
 module _ (v : RunningTask) (h : IsRunningTask v) where
   -- an item that the run does not send was sent as often as before
-  as_before : (i : Item) → ((x : SentItem) → IsIn x (items_by (plan_of v) v.ranks v.task.now (end_in (plan_of v) (data_of v) (before v).machine v.task.now)) → x.item ≡ i → ⊥) → send_count (after v).machine i ≡ send_count (before v).machine i
+  as_before : (i : Item) → ((x : SentItem) → IsIn x (items_by (plan_of v) v.ranks (task_of v) (end_in (plan_of v) (data_of v) (before v).machine (task_of v))) → x.item ≡ i → ⊥) → send_count (after v).machine i ≡ send_count (before v).machine i
   as_before i none =
       omega (
         arith,
-        weigh-append (λ (x : SentItem). as_number (same_item i x.item)) (before v).machine.sends (items_by (plan_of v) v.ranks v.task.now (end_in (plan_of v) (data_of v) (before v).machine v.task.now)),
-        none_sent i (items_by (plan_of v) v.ranks v.task.now (end_in (plan_of v) (data_of v) (before v).machine v.task.now)) none,
+        weigh-append (λ (x : SentItem). as_number (same_item i x.item)) (before v).machine.sends (items_by (plan_of v) v.ranks (task_of v) (end_in (plan_of v) (data_of v) (before v).machine (task_of v))),
+        none_sent i (items_by (plan_of v) v.ranks (task_of v) (end_in (plan_of v) (data_of v) (before v).machine (task_of v))) none,
       )
 
   -- what the run sends are items of its task within the rank
-  sent_within : (end : Option Ended) (x : SentItem) → IsIn x (items_by (plan_of v) v.ranks v.task.now end) → IsIn x.item (items_within (plan_of v) v.ranks v.task.now)
+  sent_within : (end : Option Ended) (x : SentItem) → IsIn x (items_by (plan_of v) v.ranks (task_of v) end) → IsIn x.item (items_within (plan_of v) v.ranks (task_of v))
   sent_within end x i =
       by_test (has_outputs end)
       (λ o.
-      let p = from_map (item_from end) (items_within (plan_of v) v.ranks v.task.now) x (subst (IsIn x) (items_with (plan_of v) v.ranks v.task.now end o) i) in
-      subst (λ j. IsIn j (items_within (plan_of v) v.ranks v.task.now)) (sym (ap (λ (y : SentItem). y.item) p.2)) p.1)
-      (λ o. let never : IsIn x [] = subst (IsIn x) (items_without (plan_of v) v.ranks v.task.now end o) i in absurd never)
+      let p = from_map (item_from end) (items_within (plan_of v) v.ranks (task_of v)) x (subst (IsIn x) (items_with (plan_of v) v.ranks (task_of v) end o) i) in
+      subst (λ j. IsIn j (items_within (plan_of v) v.ranks (task_of v))) (sym (ap (λ (y : SentItem). y.item) p.2)) p.1)
+      (λ o. let never : IsIn x [] = subst (IsIn x) (items_without (plan_of v) v.ranks (task_of v) end o) i in absurd never)
 
   -- of the messages that were sent before, those are delivered that were
   earlier : (m : Message) → IsIn m (before v).messages → send_count (after v).machine (item.Edge m.edge) ≡ send_count (before v).machine (item.Edge m.edge)
   earlier m i = as_before (item.Edge m.edge) (λ x j same.
-      let within = sent_within (end_in (plan_of v) (data_of v) (before v).machine v.task.now) x j in
-      let by : sender x.item ≡ v.task.now = item_sender (plan_of v) v.task.now x.item (within_is_item (plan_of v) v.task.now v.ranks x.item within) in
-      let from : m.edge.from ≡ v.task.now = ap sender (sym same) ∙ by in
-      let claimed = member_claim (before v).machine v.task.now (subst (λ u. IsIn u (before v).machine.claims) from (message_is (plan_of v) (data_of v) h.consistent v.ranks (before v) h.sound m i).claimed) in
+      let within = sent_within (end_in (plan_of v) (data_of v) (before v).machine (task_of v)) x j in
+      let by : sender x.item ≡ (task_of v) = item_sender (plan_of v) (task_of v) x.item (within_is_item (plan_of v) (task_of v) v.ranks x.item within) in
+      let from : m.edge.from ≡ (task_of v) = ap sender (sym same) ∙ by in
+      let claimed = member_claim (before v).machine (task_of v) (subst (λ u. IsIn u (before v).machine.claims) from (message_is (plan_of v) (data_of v) h.consistent v.ranks (before v) h.sound m i).claimed) in
       absurd (omega (arith, claimed, h.may.unclaimed)))
 
   pub mail_kept : (table : List (ℕ × Message)) → IsUnderWay (before v).machine (before v).messages table → IsUnderWay (after v).machine (before v).messages table
@@ -96,21 +96,21 @@ module _ (v : RunningTask) (h : IsRunningTask v) where
       same (Some m) e = ap (λ c. cond (nat_lt 0 c) None (Some m)) (sym (earlier m (IsIn-slice_get (before v).messages q m e)))
 
   -- the message of an edge to another rank is not delivered after the run
-  pub between_waits : (end : Option Ended) (e : Edge) → IsIn e (edges_between (plan_of v) v.ranks v.task.now) → is_delivered (after v).machine (message_from end e) ≡ false
+  pub between_waits : (end : Option Ended) (e : Edge) → IsIn e (edges_between (plan_of v) v.ranks (task_of v)) → is_delivered (after v).machine (message_from end e) ≡ false
   between_waits end e i =
-      let p = (IsIn-filter (is_between (plan_of v) v.ranks) (out_edges (plan_of v) v.task.now) e).0 i in
-      let from : e.from ≡ v.task.now = out_from (plan_of v) v.task.now e p.0 in
+      let p = (IsIn-filter (is_between (plan_of v) v.ranks) (out_edges (plan_of v) (task_of v)) e).0 i in
+      let from : e.from ≡ (task_of v) = out_from (plan_of v) (task_of v) e p.0 in
       let none = unclaimed_unsent (plan_of v) (data_of v) (before v).machine h.sound.state (item.Edge e) (ap (claim_count (before v).machine) from ∙ h.may.unclaimed) in
-      let kept = as_before (item.Edge e) (λ x j same. not_within e p.1 (subst (λ k. IsIn k (items_within (plan_of v) v.ranks v.task.now)) same (sent_within (end_in (plan_of v) (data_of v) (before v).machine v.task.now) x j))) in
+      let kept = as_before (item.Edge e) (λ x j same. not_within e p.1 (subst (λ k. IsIn k (items_within (plan_of v) v.ranks (task_of v))) same (sent_within (end_in (plan_of v) (data_of v) (before v).machine (task_of v)) x j))) in
       ap (nat_lt 0) (kept ∙ none)
     where
-      not_within : (d : Edge) → is_between (plan_of v) v.ranks d ≡ true → IsIn (item.Edge d) (items_within (plan_of v) v.ranks v.task.now) → ⊥
-      not_within d between m = elim (from_append (item.Edge d) (map item.Write (write_backs (plan_of v) v.task.now)) (map item.Edge (edges_within (plan_of v) v.ranks v.task.now)) m) [
-        | inl left ↦ let w = from_map (λ (w : WriteBack). item.Write w) (write_backs (plan_of v) v.task.now) (item.Edge d) left in absurd cc
+      not_within : (d : Edge) → is_between (plan_of v) v.ranks d ≡ true → IsIn (item.Edge d) (items_within (plan_of v) v.ranks (task_of v)) → ⊥
+      not_within d between m = elim (from_append (item.Edge d) (map item.Write (write_backs (plan_of v) (task_of v))) (map item.Edge (edges_within (plan_of v) v.ranks (task_of v))) m) [
+        | inl left ↦ let w = from_map (λ (w : WriteBack). item.Write w) (write_backs (plan_of v) (task_of v)) (item.Edge d) left in absurd cc
         | inr right ↦
-            let q = from_map (λ (e : Edge). item.Edge e) (edges_within (plan_of v) v.ranks v.task.now) (item.Edge d) right in
+            let q = from_map (λ (e : Edge). item.Edge e) (edges_within (plan_of v) v.ranks (task_of v)) (item.Edge d) right in
             let same : d ≡ q.0 = one d q.0 q.2 in
-            let stays : not (is_between (plan_of v) v.ranks q.0) ≡ true = ((IsIn-filter (λ e. not (is_between (plan_of v) v.ranks e)) (out_edges (plan_of v) v.task.now) q.0).0 q.1).1 in
+            let stays : not (is_between (plan_of v) v.ranks q.0) ≡ true = ((IsIn-filter (λ e. not (is_between (plan_of v) v.ranks e)) (out_edges (plan_of v) (task_of v)) q.0).0 q.1).1 in
             let flips : not true ≡ true = ap not (sym between) ∙ ap (λ x. not (is_between (plan_of v) v.ranks x)) same ∙ stays in
             false≢true flips
       ]

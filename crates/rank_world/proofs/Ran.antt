@@ -14,22 +14,22 @@ use Rattle.rank_core.proofs.Worlds.{event_sound}
 use Rattle.rank_world.specs.declared.mail.Mail.{Mail}
 use Rattle.rank_world.specs.declared.running_task.RunningTask.{RunningTask}
 use Rattle.rank_world.specs.Keeping.{IsMailOf, Keeps, idle_moment}
-use Rattle.rank_world.specs.RunningTasks.{HoldsAt, IsRunningTask, after, before, data_of, plan_of}
+use Rattle.rank_world.specs.RunningTasks.{HoldsAt, IsRunningTask, after, before, data_of, plan_of, task_of}
 use Rattle.rank_world.proofs.Parts.{run_away, trap_away}
 
 module _ (v : RunningTask) (h : IsRunningTask v) where
-  ends : is_some (ended (plan_of v) (data_of v) v.task.now) ≡ true
-  ends = it_ends (plan_of v) (data_of v) h.consistent (before v).machine h.sound.state v.task.now (fed (plan_of v) (data_of v) h.consistent v.ranks (before v) h.sound v.task.now h.may)
+  ends : is_some (ended (plan_of v) (data_of v) (task_of v)) ≡ true
+  ends = it_ends (plan_of v) (data_of v) h.consistent (before v).machine h.sound.state (task_of v) (fed (plan_of v) (data_of v) h.consistent v.ranks (before v) h.sound (task_of v) h.may)
 
   -- another rank stays as it is, however the task ends
-  stays_by : (j : ℕ) (y : Content) → v.rank ≢ j → (end : Option Ended) → ended (plan_of v) (data_of v) v.task.now ≡ end → is_some end ≡ true
+  stays_by : (j : ℕ) (y : Content) → v.rank ≢ j → (end : Option Ended) → ended (plan_of v) (data_of v) (task_of v) ≡ end → is_some end ≡ true
       → IsShardOf (plan_of v) (data_of v) (rank_of (plan_of v) v.ranks) j (idle_moment (before v).machine) y → IsShardOf (plan_of v) (data_of v) (rank_of (plan_of v) v.ranks) j (idle_moment (after v).machine) y
   stays_by j y other None is some share = absurd (false≢true some)
   stays_by j y other (Some (Ok tiles)) is some share = run_away v h (ap has_outputs is) j y other share
   stays_by j y other (Some (Err cause)) is some share = trap_away v h cause is j y other share
 
   other_rank : (j : ℕ) (y : Content) → v.rank ≢ j → IsShardOf (plan_of v) (data_of v) (rank_of (plan_of v) v.ranks) j (idle_moment (before v).machine) y → IsShardOf (plan_of v) (data_of v) (rank_of (plan_of v) v.ranks) j (idle_moment (after v).machine) y
-  other_rank j y other share = stays_by j y other (ended (plan_of v) (data_of v) v.task.now) refl ends share
+  other_rank j y other share = stays_by j y other (ended (plan_of v) (data_of v) (task_of v)) refl ends share
 
   module _ (old : List Content) (same : v.ranks ≡ length old) (laid : Laid) (mail : Mail) (k : Keeps (plan_of v) (data_of v) (before v) old laid mail) where
     module _ (new : List Content) (count : length new ≡ length old) (others : (i : ℕ) → i ≢ v.rank → slice_get new i ≡ slice_get old i) (bench : Laid) (laid_is : IsBenchOf (plan_of v) bench) (letters : Mail) where
@@ -39,7 +39,7 @@ module _ (v : RunningTask) (h : IsRunningTask v) where
         fit = k.fit;
         some_ranks = omega (arith, count, k.some_ranks);
         ranks_at_most = omega (arith, count, k.ranks_at_most);
-        sound = subst (λ r. IsSoundWorld (plan_of v) (data_of v) r (after v)) (same ∙ sym count) (event_sound (plan_of v) (data_of v) h.consistent v.ranks (before v) h.sound (Run v.task.now) h.may);
+        sound = subst (λ r. IsSoundWorld (plan_of v) (data_of v) r (after v)) (same ∙ sym count) (event_sound (plan_of v) (data_of v) h.consistent v.ranks (before v) h.sound (Run (task_of v)) h.may);
         shares = λ j z at. subst (λ r. IsShardOf (plan_of v) (data_of v) (rank_of (plan_of v) r) j (idle_moment (after v).machine) z) (same ∙ sym count) (share j z at);
         bench = laid_is;
         mail = mail_is;

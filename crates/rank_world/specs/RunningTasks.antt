@@ -3,6 +3,7 @@
 -- successors.
 use Rattle.std.specs.Prelude.{◌≡◌, ◌<◌, ◌≤◌, ◌++◌, ℤ, List, [], ◌∷◌, map, length, option_map, slice_index, Option, Some, None, if◌then◌else◌}
 use Rattle.ptg_base.specs.Limits.{most_ranks}
+use Rattle.ptg_base.specs.Task.{Task}
 use Rattle.ptg_base.specs.declared.edge.Edge.{Edge}
 use Rattle.ptg_base.specs.declared.edge.Item.{Item}
 use Rattle.ptg_base.specs.declared.edge.Item.TheVariants as item
@@ -14,7 +15,6 @@ use Rattle.coll_data.specs.WellMade.{IsWellMade}
 use Rattle.plan_data.specs.Fit.{DataFit}
 use Rattle.dep_iter.specs.Consistent.{IsConsistent}
 use Rattle.dep_iter.specs.Items.{write_backs}
-use Rattle.dep_iter.specs.Tasks.{locals_of}
 use Rattle.dep_shard.specs.Content.{Content}
 use Rattle.flow_meaning.specs.Backward.{ended}
 use Rattle.flow_meaning.specs.Machine.{MayClaim, item_from}
@@ -29,6 +29,10 @@ use Rattle.rank_world.specs.declared.running_task.RunningTask.{RunningTask}
 abbrev pub plan_of : RunningTask → Plan
 plan_of v = v.matched.now
 
+-- the task itself
+abbrev pub task_of : RunningTask → Task
+task_of v = v.task.now.task.now
+
 -- the data of a running task
 abbrev pub data_of : RunningTask → Data
 data_of v = v.given.now
@@ -39,9 +43,9 @@ before v = v.history.now.state
 
 -- the world after a running task
 abbrev pub after : RunningTask → WorldState
-after v = after_run (plan_of v) (data_of v) v.ranks (before v) v.task.now
+after v = after_run (plan_of v) (data_of v) v.ranks (before v) (task_of v)
 
--- a task that may run, with its locals and its rank, in a sound world of a consistent job and its data
+-- a task of the job that may run, with its rank, in a sound world of a consistent job and its data
 pub record IsRunningTask (v : RunningTask) : Type 0 where
   pub consistent : IsConsistent (plan_of v)
   pub fit : DataFit (plan_of v) (data_of v)
@@ -49,18 +53,18 @@ pub record IsRunningTask (v : RunningTask) : Type 0 where
   pub some_ranks : 0 < v.ranks
   pub ranks_at_most : v.ranks ≤ most_ranks
   pub sound : IsSoundWorld (plan_of v) (data_of v) v.ranks (before v)
-  pub may : MayClaim (plan_of v) (before v).machine v.task.now
-  pub locals_are : v.locals.now ≡ locals_of (plan_of v) v.task.now
-  pub rank_is : v.rank ≡ rank_of (plan_of v) v.ranks v.task.now
+  pub may : MayClaim (plan_of v) (before v).machine (task_of v)
+  pub plan_is : v.task.now.plan.now ≡ plan_of v
+  pub rank_is : v.rank ≡ rank_of (plan_of v) v.ranks (task_of v)
 
 -- the moment at which the task runs and these of its items were sent
 abbrev pub part_way : RunningTask → List Item → Moment
 part_way v is = record {
   state = record {
-    claims = (before v).machine.claims ++ v.task.now ∷ [];
-    sends = (before v).machine.sends ++ map (item_from (ended (plan_of v) (data_of v) v.task.now)) is;
+    claims = (before v).machine.claims ++ (task_of v) ∷ [];
+    sends = (before v).machine.sends ++ map (item_from (ended (plan_of v) (data_of v) (task_of v))) is;
   };
-  running = v.task.now ∷ [];
+  running = (task_of v) ∷ [];
 }
 
 -- the rank of the task holds its share of a moment
@@ -69,19 +73,19 @@ HoldsAt v R y = IsShardOf (plan_of v) (data_of v) (rank_of (plan_of v) v.ranks) 
 
 -- the write-backs of the task as items
 abbrev pub its_writes : RunningTask → List Item
-its_writes v = map item.Write (write_backs (plan_of v) v.task.now)
+its_writes v = map item.Write (write_backs (plan_of v) (task_of v))
 
 -- the edges of the task to its own rank
 abbrev pub its_edges_within : RunningTask → List Edge
-its_edges_within v = edges_within (plan_of v) v.ranks v.task.now
+its_edges_within v = edges_within (plan_of v) v.ranks (task_of v)
 
 -- the edges of the task to other ranks
 abbrev pub its_edges_between : RunningTask → List Edge
-its_edges_between v = edges_between (plan_of v) v.ranks v.task.now
+its_edges_between v = edges_between (plan_of v) v.ranks (task_of v)
 
 -- the items of the task that need no message
 abbrev pub its_items_within : RunningTask → List Item
-its_items_within v = items_within (plan_of v) v.ranks v.task.now
+its_items_within v = items_within (plan_of v) v.ranks (task_of v)
 
 -- whether there is a tile, and how many numbers it has, is as the flow says that the edge goes to
 abbrev pub IsShapeOf : Plan → Edge → Option (List ℤ) → Type 0

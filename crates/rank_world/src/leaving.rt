@@ -9,11 +9,10 @@ ghost use Rattle.rank_core.specs.World.{is_between};
 ghost use Rattle.shard_calls.specs.Taken.{MayTakeEdge, MayTakeWrite, TakesEdge, TakesWrite};
 ghost use Rattle.task_run.specs.Bench.{HoldsOutputs};
 ghost use Rattle.rank_world.specs.RankRoom.{HasRoomFor};
-ghost use Rattle.rank_world.specs.RunningTasks.{HoldsAt, IsRunningTask, data_of, its_edges_within, its_items_within, its_writes, part_way, plan_of};
+ghost use Rattle.rank_world.specs.RunningTasks.{HoldsAt, IsRunningTask, data_of, its_edges_within, its_items_within, its_writes, part_way, plan_of, task_of};
 
 use crate::room::goes_away;
 use crate::running_task::RunningTask;
-use dep_iter::{out_edges_under, write_backs_under};
 use dep_shard::Shard;
 use ptg_base::{Edge, WriteBack};
 use shard_calls::{take_edge, take_write};
@@ -35,14 +34,14 @@ fn leave_write(at: &RunningTask, shard: &mut Shard, bench: &Bench, write: &Write
 // Keeps the write-backs of a running task in its rank.
 fn leave_writes(at: &RunningTask, shard: &mut Shard, bench: &Bench)
     requires runs { IsRunningTask at.now }
-    requires tiles { HoldsOutputs (plan_of at.now) (data_of at.now) at.now.task.now bench.now }
+    requires tiles { HoldsOutputs (plan_of at.now) (data_of at.now) (task_of at.now) bench.now }
     requires holds { HoldsAt at.now (part_way at.now []) shard.old }
-    requires room { HasRoomFor 0 (length (items.write_backs (plan_of at.now) at.now.task.now)) shard.old }
+    requires room { HasRoomFor 0 (length (items.write_backs (plan_of at.now) (task_of at.now))) shard.old }
     ensures holds { HoldsAt at.now (part_way at.now (its_writes at.now)) shard.new }
-    ensures room { (n : ℕ) → HasRoomFor n (length (items.write_backs (plan_of at.now) at.now.task.now)) shard.old
+    ensures room { (n : ℕ) → HasRoomFor n (length (items.write_backs (plan_of at.now) (task_of at.now))) shard.old
         → HasRoomFor n 0 shard.new }
 {
-    for write in write_backs_under(at.matched.plan(), at.task, at.locals) {
+    for write in at.task.write_backs() {
         leave_write(at, shard, bench, &write);
     }
 }
@@ -51,7 +50,7 @@ fn leave_writes(at: &RunningTask, shard: &mut Shard, bench: &Bench)
 #[tactic(auto, using(crate::proofs::LeftWithin::room_is_spare_edge))]
 fn leave_edge(at: &RunningTask, shard: &mut Shard, bench: &Bench, edge: &Edge)
     requires runs { IsRunningTask at.now }
-    requires from { edge.now.from ≡ at.now.task.now }
+    requires from { edge.now.from ≡ task_of at.now }
     requires to { IsTask (plan_of at.now) edge.now.to }
     requires tiles { HoldsOutputs (plan_of at.now) (data_of at.now) edge.now.from bench.now }
     requires may { is_between (plan_of at.now) at.now.ranks edge.now ≡ false
@@ -72,12 +71,12 @@ fn leave_edge(at: &RunningTask, shard: &mut Shard, bench: &Bench, edge: &Edge)
 // Brings the edges of a running task that stay within its rank to their targets.
 fn leave_edges(at: &RunningTask, shard: &mut Shard, bench: &Bench)
     requires runs { IsRunningTask at.now }
-    requires tiles { HoldsOutputs (plan_of at.now) (data_of at.now) at.now.task.now bench.now }
+    requires tiles { HoldsOutputs (plan_of at.now) (data_of at.now) (task_of at.now) bench.now }
     requires holds { HoldsAt at.now (part_way at.now (its_writes at.now)) shard.old }
     requires room { HasRoomFor (length (its_edges_within at.now)) 0 shard.old }
     ensures { HoldsAt at.now (part_way at.now (its_items_within at.now)) shard.new }
 {
-    for edge in out_edges_under(at.matched.plan(), at.task, at.locals) {
+    for edge in at.task.out_edges() {
         leave_edge(at, shard, bench, &edge);
     }
 }
@@ -85,10 +84,10 @@ fn leave_edges(at: &RunningTask, shard: &mut Shard, bench: &Bench)
 // Leaves what stays within its rank of a running task: its write-backs, and then its edges.
 pub(crate) fn leave_within(at: &RunningTask, shard: &mut Shard, bench: &Bench)
     requires runs { IsRunningTask at.now }
-    requires tiles { HoldsOutputs (plan_of at.now) (data_of at.now) at.now.task.now bench.now }
+    requires tiles { HoldsOutputs (plan_of at.now) (data_of at.now) (task_of at.now) bench.now }
     requires holds { HoldsAt at.now (part_way at.now []) shard.old }
     requires room { HasRoomFor (length (its_edges_within at.now))
-        (length (items.write_backs (plan_of at.now) at.now.task.now)) shard.old }
+        (length (items.write_backs (plan_of at.now) (task_of at.now))) shard.old }
     ensures { HoldsAt at.now (part_way at.now (its_items_within at.now)) shard.new }
 {
     leave_writes(at, shard, bench);

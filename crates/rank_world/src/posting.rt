@@ -8,7 +8,7 @@ ghost use Rattle.indexmap.specs.IndexMap.{spare};
 ghost use Rattle.flow_meaning.specs.Ending.{output_tile};
 ghost use Rattle.task_run.specs.Bench.{HoldsOutputs};
 ghost use Rattle.rank_world.specs.Keeping.{IsMailOf};
-ghost use Rattle.rank_world.specs.RunningTasks.{AreBlank, IsRunningTask, after, before, data_of, its_edges_between, plan_of};
+ghost use Rattle.rank_world.specs.RunningTasks.{AreBlank, IsRunningTask, after, before, data_of, its_edges_between, plan_of, task_of};
 
 use crate::mail::Mail;
 use crate::running_task::RunningTask;
@@ -59,7 +59,7 @@ fn post(mail: &mut Mail, bench: &Bench, message: Message)
 // Posts the messages of a running task, which has outputs. There is room for them.
 pub(crate) fn post_all(at: &RunningTask, mail: &mut Mail, bench: &Bench, messages: Vec<Message>)
     requires runs { IsRunningTask at.now }
-    requires tiles { HoldsOutputs (plan_of at.now) (data_of at.now) at.now.task.now bench.now }
+    requires tiles { HoldsOutputs (plan_of at.now) (data_of at.now) (task_of at.now) bench.now }
     requires blank { AreBlank (plan_of at.now) (its_edges_between at.now) messages.items }
     requires mail { IsMailOf (before at.now) mail.old }
     requires room { length messages.items ≤ spare mail.old.under_way }

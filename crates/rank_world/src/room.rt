@@ -8,10 +8,10 @@ ghost use Rattle.dep_shard.specs.Content.{IsUnchanged};
 ghost use Rattle.rank_core.specs.World.{is_between};
 ghost use Rattle.rank_world.specs.Outgoings.{AddsBlank, AddsWithin};
 ghost use Rattle.rank_world.specs.RankRoom.{HasRoomFor};
-ghost use Rattle.rank_world.specs.RunningTasks.{AreBlank, IsShapeOf, IsRunningTask, its_edges_between, its_edges_within, plan_of};
+ghost use Rattle.rank_world.specs.RunningTasks.{AreBlank, IsShapeOf, IsRunningTask, its_edges_between, its_edges_within, plan_of, task_of};
 
 use crate::running_task::RunningTask;
-use dep_iter::{Matched, out_edges_under, write_backs_under};
+use dep_iter::Matched;
 use dep_shard::Shard;
 use plan_core::FlowPlan;
 use ptg_base::{Edge, OutOfMemory, Tile};
@@ -75,7 +75,7 @@ fn blank(alloc: Global, m: &Matched, edge: Edge) -> Result<Message, OutOfMemory>
 // Whether an edge out of a running task goes to another rank.
 pub(crate) fn goes_away(at: &RunningTask, edge: &Edge) -> bool
     requires runs { IsRunningTask at.now }
-    requires from { edge.now.from ≡ at.now.task.now }
+    requires from { edge.now.from ≡ task_of at.now }
     requires to { IsTask (plan_of at.now) edge.now.to }
     ensures { result ≡ is_between (plan_of at.now) at.now.ranks edge.now }
 {
@@ -90,7 +90,7 @@ fn add_edge(
     edge: Edge,
 ) -> Result<(), OutOfMemory>
     requires runs { IsRunningTask at.now }
-    requires from { edge.from ≡ at.now.task.now }
+    requires from { edge.from ≡ task_of at.now }
     requires to { IsTask (plan_of at.now) edge.to }
     ensures between { OnOk result
         (is_between (plan_of at.now) at.now.ranks edge ≡ true
@@ -116,7 +116,7 @@ pub(crate) fn outgoing_of(alloc: Global, at: &RunningTask) -> Result<Outgoing, O
         messages: Vec::new(alloc),
         within: 0,
     };
-    for edge in out_edges_under(at.matched.plan(), at.task, at.locals) {
+    for edge in at.task.out_edges() {
         add_edge(alloc, at, &mut outgoing, edge)?;
     }
     Ok(outgoing)
@@ -125,10 +125,10 @@ pub(crate) fn outgoing_of(alloc: Global, at: &RunningTask) -> Result<Outgoing, O
 // How many write-backs a running task has.
 pub(crate) fn count_writes(at: &RunningTask) -> Result<u64, OutOfMemory>
     requires { IsRunningTask at.now }
-    ensures { IfOk result (λ n. n ≡ length (items.write_backs (plan_of at.now) at.now.task.now)) }
+    ensures { IfOk result (λ n. n ≡ length (items.write_backs (plan_of at.now) (task_of at.now))) }
 {
     let mut count = 0;
-    for _write in write_backs_under(at.matched.plan(), at.task, at.locals) {
+    for _write in at.task.write_backs() {
         count = one_more(count)?;
     }
     Ok(count)

@@ -3,7 +3,6 @@
 ghost use Rattle.std.specs.Prelude.{◌≡◌, ◌≢◌, ◌<◌, ◌≤◌, ◌↔◌, [], Err, IfErr, IfOk, IsTrue, OnErr, OnOk, Some, false, if◌then◌else◌, length, slice_get, ℕ};
 ghost use Rattle.indexmap.specs.IndexMap.{spare};
 ghost use Rattle.dep_iter.specs.Items as items;
-ghost use Rattle.dep_iter.specs.Tasks as tasks;
 ghost use Rattle.rank_core.specs.Sound.{IsSoundWorld};
 ghost use Rattle.rank_core.specs.World as world;
 ghost use Rattle.dep_shard.specs.Content.{Content};
@@ -13,7 +12,7 @@ ghost use Rattle.task_run.specs.Bench.{HoldsOutputs, IsBenchOf};
 ghost use Rattle.rank_world.specs.Keeping.{IsMailOf, idle_moment};
 ghost use Rattle.rank_world.specs.RankRoom.{HasRoomFor};
 ghost use Rattle.rank_world.specs.Views.{with_run};
-ghost use Rattle.rank_world.specs.RunningTasks.{AreBlank, HoldsAt, IsRunningTask, after, before, data_of, its_edges_between, its_edges_within, part_way, plan_of};
+ghost use Rattle.rank_world.specs.RunningTasks.{AreBlank, HoldsAt, IsRunningTask, after, before, data_of, its_edges_between, its_edges_within, part_way, plan_of, task_of};
 
 use crate::history::{History, Number};
 use crate::leaving::leave_within;
@@ -22,9 +21,10 @@ use crate::posting::post_all;
 use crate::room::{Outgoing, count_writes, make_room, outgoing_of};
 use crate::running_task::RunningTask;
 use crate::world::World;
-use dep_iter::task_locals;
+use dep_iter::TaskAt;
 use dep_shard::Shard;
 use ptg_base::{OutOfMemory, TaskId};
+use range_space::Numbers;
 use rank_core::Message;
 use shard_calls::shard_under;
 use std::alloc::Global;
@@ -46,15 +46,15 @@ fn begin(at: &RunningTask, shard: &mut Shard, bench: &mut Bench) -> Result<(), T
     ensures holds { HoldsAt at.now (part_way at.now []) shard.new }
     ensures room { (n m : ℕ) → HasRoomFor n m shard.old → HasRoomFor n m shard.new }
     ensures elems { bench.new.elems ≡ bench.old.elems }
-    ensures ok { OnOk result (HoldsOutputs (plan_of at.now) (data_of at.now) at.now.task.now bench.new) }
-    ensures trap { IfErr result (λ cause. ended (plan_of at.now) (data_of at.now) at.now.task.now ≡ Some (Err cause)) }
+    ensures ok { OnOk result (HoldsOutputs (plan_of at.now) (data_of at.now) (task_of at.now) bench.new) }
+    ensures trap { IfErr result (λ cause. ended (plan_of at.now) (data_of at.now) (task_of at.now) ≡ Some (Err cause)) }
 {
-    let arrivals = shard.take_ready(at.task).unwrap();
+    let arrivals = shard.take_ready(at.task.task).unwrap();
     let start = Start {
         plan: at.matched.plan(),
         given: at.given,
-        task: at.task,
-        locals: at.locals,
+        task: at.task.task,
+        locals: at.task.locals,
     };
     bench.run(&start, arrivals)
 }
@@ -68,10 +68,10 @@ fn end_with_outputs(
     messages: Vec<Message>,
 )
     requires runs { IsRunningTask at.now }
-    requires tiles { HoldsOutputs (plan_of at.now) (data_of at.now) at.now.task.now bench.now }
+    requires tiles { HoldsOutputs (plan_of at.now) (data_of at.now) (task_of at.now) bench.now }
     requires holds { HoldsAt at.now (part_way at.now []) shard.old }
     requires room { HasRoomFor (length (its_edges_within at.now))
-        (length (items.write_backs (plan_of at.now) at.now.task.now)) shard.old }
+        (length (items.write_backs (plan_of at.now) (task_of at.now))) shard.old }
     requires blank { AreBlank (plan_of at.now) (its_edges_between at.now) messages.items }
     requires mail { IsMailOf (before at.now) mail.old }
     requires mail_room { length messages.items ≤ spare mail.old.under_way }
@@ -86,24 +86,24 @@ fn end_with_outputs(
 // Ends a running task by a trap.
 fn end_by_trap(at: &RunningTask, shard: &mut Shard, cause: Trap)
     requires runs { IsRunningTask at.now }
-    requires trap { ended (plan_of at.now) (data_of at.now) at.now.task.now ≡ Some (Err cause) }
+    requires trap { ended (plan_of at.now) (data_of at.now) (task_of at.now) ≡ Some (Err cause) }
     requires holds { HoldsAt at.now (part_way at.now []) shard.old }
     requires room { (n : ℕ) × (m : ℕ) × HasRoomFor n m shard.old }
     ensures { HoldsAt at.now (idle_moment (after at.now).machine) shard.new }
 {
-    shard.trap(at.task, cause).unwrap();
+    shard.trap(at.task.task, cause).unwrap();
 }
 
 // Ends a running task, whose body has ended so.
 fn end_run(at: &RunningTask, shard: &mut Shard, mail: &mut Mail, bench: &Bench, ending: Ending)
     requires runs { IsRunningTask at.now }
     requires ok { OnOk ending.body
-        (HoldsOutputs (plan_of at.now) (data_of at.now) at.now.task.now bench.now) }
+        (HoldsOutputs (plan_of at.now) (data_of at.now) (task_of at.now) bench.now) }
     requires trap { IfErr ending.body (λ cause.
-        ended (plan_of at.now) (data_of at.now) at.now.task.now ≡ Some (Err cause)) }
+        ended (plan_of at.now) (data_of at.now) (task_of at.now) ≡ Some (Err cause)) }
     requires holds { HoldsAt at.now (part_way at.now []) shard.old }
     requires room { HasRoomFor (length (its_edges_within at.now))
-        (length (items.write_backs (plan_of at.now) at.now.task.now)) shard.old }
+        (length (items.write_backs (plan_of at.now) (task_of at.now))) shard.old }
     requires blank { AreBlank (plan_of at.now) (its_edges_between at.now) ending.messages.items }
     requires mail { IsMailOf (before at.now) mail.old }
     requires mail_room { length ending.messages.items ≤ spare mail.old.under_way }
@@ -130,7 +130,7 @@ fn run_task(
     requires bench { IsBenchOf (plan_of at.now) bench.old }
     requires holds { HoldsAt at.now (idle_moment (before at.now).machine) shard.old }
     requires room { HasRoomFor (length (its_edges_within at.now))
-        (length (items.write_backs (plan_of at.now) at.now.task.now)) shard.old }
+        (length (items.write_backs (plan_of at.now) (task_of at.now))) shard.old }
     requires blank { AreBlank (plan_of at.now) (its_edges_between at.now) messages.items }
     requires mail { IsMailOf (before at.now) mail.old }
     requires mail_room { length messages.items ≤ spare mail.old.under_way }
@@ -202,12 +202,12 @@ fn run_at(
 }
 
 impl<'m> World<'m> {
-    // Runs a task that may run, with these locals and of this rank. All memory is taken first.
-    fn run_ready(&mut self, t: &TaskId, locals: &[i64], rank: usize) -> Result<(), OutOfMemory>
-        requires may { MayClaim self.old.plan self.old.state.machine t.now }
-        requires locals { locals.now ≡ tasks.locals_of self.old.plan t.now }
-        requires rank { rank ≡ world.rank_of self.old.plan self.old.ranks t.now }
-        ensures ok { OnOk result (self.new ≡ with_run t.now self.old) }
+    // Runs a task that may run, of this rank. All memory is taken first.
+    fn run_ready(&mut self, task: &TaskAt, rank: usize) -> Result<(), OutOfMemory>
+        requires plan { task.now.plan.now ≡ self.old.plan }
+        requires may { MayClaim self.old.plan self.old.state.machine task.now.task.now }
+        requires rank { rank ≡ world.rank_of self.old.plan self.old.ranks task.now.task.now }
+        ensures ok { OnOk result (self.new ≡ with_run task.now.task.now self.old) }
         ensures err { OnErr result (self.new ≡ self.old) }
         ensures sound { IsSoundWorld self.new.plan self.new.given self.new.ranks self.new.state }
     {
@@ -217,8 +217,7 @@ impl<'m> World<'m> {
             given: &self.given,
             history: &self.history,
             ranks: self.ranks.len(),
-            task: t,
-            locals,
+            task: &*task,
             rank,
         };
         run_at(
@@ -231,8 +230,31 @@ impl<'m> World<'m> {
         let ranks = Number {
             value: self.ranks.len() as u64,
         };
-        self.history = History::with_run(&self.history, self.matched, &self.given, &ranks, t);
+        self.history = History::with_run(
+            &self.history,
+            self.matched,
+            &self.given,
+            &ranks,
+            task.task,
+        );
         Ok(())
+    }
+
+    // Runs a task of the job if it may run.
+    fn run_found(&mut self, task: &TaskAt) -> Result<bool, OutOfMemory>
+        requires { task.now.plan.now ≡ self.old.plan }
+        ensures exact { IfOk result (λ ran. IsTrue ran ↔ MayClaim self.old.plan self.old.state.machine task.now.task.now) }
+        ensures state { IfOk result (λ ran.
+            self.new ≡ (if ran then with_run task.now.task.now self.old else self.old)) }
+        ensures err { OnErr result (self.new ≡ self.old) }
+        ensures sound { IsSoundWorld self.new.plan self.new.given self.new.ranks self.new.state }
+    {
+        let rank = shard_under(self.matched, self.ranks.len(), task.task, task.locals);
+        if !self.ranks[rank].is_ready(task.task) {
+            return Ok(false);
+        }
+        self.run_ready(task, rank)?;
+        Ok(true)
     }
 
     /// Runs a task: true exactly if it is a task of the job, has not run, and all edges into it were sent within its
@@ -245,15 +267,11 @@ impl<'m> World<'m> {
         ensures err { OnErr result (self.new ≡ self.old) }
         ensures sound { IsSoundWorld self.new.plan self.new.given self.new.ranks self.new.state }
     {
-        let plan = self.matched.plan();
-        let Some(locals) = task_locals(plan, t) else {
-            return Ok(false);
-        };
-        let rank = shard_under(self.matched, self.ranks.len(), t, locals.as_slice());
-        if !self.ranks[rank].is_ready(t) {
-            return Ok(false);
+        let matched = self.matched;
+        let mut room = Numbers::new();
+        match TaskAt::find(matched.plan(), t, &mut room) {
+            Some(task) => self.run_found(&task),
+            None => Ok(false),
         }
-        self.run_ready(t, locals.as_slice(), rank)?;
-        Ok(true)
     }
 }

@@ -2,18 +2,15 @@
 
 use crate::history::History;
 use coll_data::Given;
-use dep_iter::Matched;
-use ptg_base::TaskId;
+use dep_iter::{Matched, TaskAt};
 
-// A task that runs, with its locals and its rank, and the world that it began in: its job, its number of ranks, and
-// what had happened.
+// A task that runs, with its rank, and the world that it began in: its job, its number of ranks, and what had happened.
 #[derive(Drop)]
 pub struct RunningTask<'a> {
     pub(crate) matched: &'a Matched,
     pub(crate) given: &'a Given,
     pub(crate) history: &'a History,
     pub(crate) ranks: usize,
-    pub(crate) task: &'a TaskId,
-    pub(crate) locals: &'a [i64],
+    pub(crate) task: &'a TaskAt<'a>,
     pub(crate) rank: usize,
 }

@@ -5,7 +5,7 @@ use Rattle.dep_iter.specs.Items.{write_backs}
 use Rattle.flow_meaning.specs.Backward.{ended}
 use Rattle.flow_meaning.specs.Ending.{has_outputs}
 use Rattle.rank_world.specs.RankRoom.{HasRoomFor}
-use Rattle.rank_world.specs.RunningTasks.{data_of, plan_of}
+use Rattle.rank_world.specs.RunningTasks.{data_of, plan_of, task_of}
 use Rattle.rank_world.proofs.LeftWithin.{WritesLeft, less_room, write_from, write_may, write_then, writes_first, writes_last}
 use Rattle.rank_world.proofs.leaving.leave_writes.Goals as goal
 
@@ -18,7 +18,7 @@ leave_write-requires c =
     let h = c.requires.runs in
     let o = ap has_outputs c.requires.tiles in
     let all = c.into_iter-write-iterator.result in
-    let are : all ≡ write_backs (plan_of v) v.task.now = c.into_iter-write-iterator.ensures.into_iter_gives ∙ c.write_backs_under-write-items.ensures ∙ ap (λ (p : Plan). write_backs p v.task.now) c.plan.ensures.same in
+    let are : all ≡ write_backs (plan_of v) (task_of v) = c.into_iter-write-iterator.ensures.into_iter_gives ∙ c.write_backs-write-items.ensures ∙ ap (λ (p : Plan). write_backs p (task_of v)) c.requires.runs.plan_is in
     let l = subst (λ (ws : List WriteBack). WritesLeft v all ws c.args.shard.now c.loop-write.shard) c.in-Some.ensures.steps c.loop-write.invariant.left in
     record {
       tiles = ap (ended (plan_of v) (data_of v)) (write_from v h o all are c.in-Some.write c.next.new.self c.args.shard.now c.loop-write.shard l) ∙ c.requires.tiles;
@@ -32,7 +32,7 @@ loop-write-preserved c =
     let h = c.requires.runs in
     let o = ap has_outputs c.requires.tiles in
     let all = c.into_iter-write-iterator.result in
-    let are : all ≡ write_backs (plan_of v) v.task.now = c.into_iter-write-iterator.ensures.into_iter_gives ∙ c.write_backs_under-write-items.ensures ∙ ap (λ (p : Plan). write_backs p v.task.now) c.plan.ensures.same in
+    let are : all ≡ write_backs (plan_of v) (task_of v) = c.into_iter-write-iterator.ensures.into_iter_gives ∙ c.write_backs-write-items.ensures ∙ ap (λ (p : Plan). write_backs p (task_of v)) c.requires.runs.plan_is in
     let l = subst (λ (ws : List WriteBack). WritesLeft v all ws c.args.shard.now c.loop-write.shard) c.in-Some.ensures.steps c.loop-write.invariant.left in
     record { can_next = tt; is_finite = tt; left = write_then v h o all are c.in-Some.write c.next.new.self c.args.shard.now c.loop-write.shard l c.leave_write.new.shard c.leave_write.ensures }
 
@@ -42,7 +42,7 @@ returns c =
     let h = c.requires.runs in
     let o = ap has_outputs c.requires.tiles in
     let all = c.into_iter-write-iterator.result in
-    let are : all ≡ write_backs (plan_of v) v.task.now = c.into_iter-write-iterator.ensures.into_iter_gives ∙ c.write_backs_under-write-items.ensures ∙ ap (λ (p : Plan). write_backs p v.task.now) c.plan.ensures.same in
+    let are : all ≡ write_backs (plan_of v) (task_of v) = c.into_iter-write-iterator.ensures.into_iter_gives ∙ c.write_backs-write-items.ensures ∙ ap (λ (p : Plan). write_backs p (task_of v)) c.requires.runs.plan_is in
     let l = subst (λ (ws : List WriteBack). WritesLeft v all ws c.args.shard.now c.loop-write.shard) c.in-None.ensures.steps.0 c.loop-write.invariant.left in
     record {
       holds = writes_last v h o all are c.args.shard.now c.loop-write.shard l;

@@ -1,7 +1,7 @@
 use Rattle.std.proofs.Common.{◌≡◌, length, ap, ◌∙◌, arith}
 use Rattle.plan_core.specs.declared.plan.Plan.{Plan}
 use Rattle.dep_iter.specs.Items.{write_backs}
-use Rattle.rank_world.specs.RunningTasks.{plan_of}
+use Rattle.rank_world.specs.RunningTasks.{plan_of, task_of}
 use Rattle.rank_world.proofs.room.count_writes.Goals as goal
 
 pub loop-write-init : goal.loop-write-init
@@ -13,5 +13,5 @@ loop-write-preserved c = record { can_next = tt; is_finite = tt; counted = omega
 pub returns : goal.returns
 returns c =
     let v = c.args.at.now in
-    let are : c.into_iter-write-iterator.result ≡ write_backs (plan_of v) v.task.now = c.into_iter-write-iterator.ensures.into_iter_gives ∙ c.write_backs_under-write-items.ensures ∙ ap (λ (p : Plan). write_backs p v.task.now) c.plan.ensures.same in
+    let are : c.into_iter-write-iterator.result ≡ write_backs (plan_of v) (task_of v) = c.into_iter-write-iterator.ensures.into_iter_gives ∙ c.write_backs-write-items.ensures ∙ ap (λ (p : Plan). write_backs p (task_of v)) c.requires.plan_is in
     omega (arith, c.loop-write.invariant.counted, ap length c.in-None.ensures.steps.0, ap length are)
