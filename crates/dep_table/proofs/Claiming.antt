@@ -59,20 +59,20 @@ module _ (t : Turn) (v : PassRecord) (y z : Content) (h : IsTurnOf t v y z) (i q
     shard = y;
     took = record { look = refl; looks = refl; last = refl };
     gone = λ e at ready. none e (ap (λ l. entry_in l u) (ap (λ (c : Content). c.entries) same ∙ h.same.entries) ∙ at) ready;
-    still = record { kept = record { names = refl; turns = refl; quiet = refl; halts = refl; credit = refl }; done = record { claims = refl; stamps = refl; sends = refl }; running = refl };
+    still = record { kept = record { names = refl; turns = refl; quiet = refl; halts = refl; credit = refl }; done = record { claims = refl; stamps = refl; handed = refl; sends = refl }; running = refl };
   })
 
   pub gone_last : (r : List (ℕ × Content)) → q.me ≡ (turn_left i.me.0, r) → (shown q).last ≡ (t.shard, y) ∷ []
   gone_last r me = ap (λ (m : Seated). m.0.last) me ∙ ap (λ (p : PassRecord). p.last) me0
 
-  module _ (u : Task) (s : ℕ) (r : List (ℕ × Content)) (me : q.me ≡ (with_stamp (turn_left (with_own_claim i.me.0 u)) u s, r)) (idle : v.running ≡ []) where
-    is_final : shown q ≡ with_stamp (turn_left (with_own_claim (with_turn v t.shard y) u)) u s
-    is_final = ap (λ (m : Seated). m.0) me ∙ ap (λ (p : PassRecord). with_stamp (turn_left (with_own_claim p u)) u s) me0
+  module _ (u : Task) (tiles : List FlowTile) (s : ℕ) (r : List (ℕ × Content)) (me : q.me ≡ (with_stamp (turn_left (with_own_claim i.me.0 u tiles)) u s, r)) (idle : v.running ≡ []) where
+    is_final : shown q ≡ with_stamp (turn_left (with_own_claim (with_turn v t.shard y) u tiles)) u s
+    is_final = ap (λ (m : Seated). m.0) me ∙ ap (λ (p : PassRecord). with_stamp (turn_left (with_own_claim p u tiles)) u s) me0
 
     runs_it : v.running ++ u ∷ [] ≡ u ∷ []
     runs_it = ap (λ l. l ++ u ∷ []) idle
 
-    clean : IsClean (with_stamp (turn_left (with_own_claim (with_turn v t.shard y) u)) u s)
+    clean : IsClean (with_stamp (turn_left (with_own_claim (with_turn v t.shard y) u tiles)) u s)
     clean = record {
       no_turn = h.clean.no_turn;
       no_credit = h.clean.no_credit;
@@ -97,13 +97,13 @@ module _ (t : Turn) (v : PassRecord) (y z : Content) (h : IsTurnOf t v y z) (i q
         head x [] = x
         head x (a ∷ rest_of) = a
 
-    pub claim_done : (d w : Content) (tiles : List FlowTile) → d ≡ z → Takes d w u tiles → MayStart (job_of t.table.now).matched (job_of t.table.now).given u tiles i.me.0 → HasClaimed (job_of t.table.now).matched (job_of t.table.now).given t.shard u tiles v (shown q)
-    claim_done d w tiles same takes starts = subst (λ (p : PassRecord). HasClaimed (job_of t.table.now).matched (job_of t.table.now).given t.shard u tiles v p) (sym is_final) (record {
+    pub claim_done : (d w : Content) → d ≡ z → Takes d w u tiles → MayStart (job_of t.table.now).matched (job_of t.table.now).given u tiles i.me.0 → HasClaimed (job_of t.table.now).matched (job_of t.table.now).given t.shard u tiles v (shown q)
+    claim_done d w same takes starts = subst (λ (p : PassRecord). HasClaimed (job_of t.table.now).matched (job_of t.table.now).given t.shard u tiles v p) (sym is_final) (record {
       shard = y;
       took = record { look = refl; looks = refl; last = refl };
       ready = record { entry = takes.had.entry; is = ap (λ l. entry_in l u) (sym h.same.entries ∙ ap (λ (c : Content). c.entries) (sym same)) ∙ takes.had.is; ready = takes.had.ready; handed = takes.had.handed };
       may_start = let m = subst (MayStart (job_of t.table.now).matched (job_of t.table.now).given u tiles) me0 starts in record { task = m.task; run = m.run; unsent = m.unsent };
-      added = record { stamp = s; claims = refl; stamps = refl; running = runs_it; sends = refl; kept = record { names = refl; turns = refl; quiet = refl; halts = refl; credit = refl } };
+      added = record { stamp = s; claims = refl; handed = refl; stamps = refl; running = runs_it; sends = refl; kept = record { names = refl; turns = refl; quiet = refl; halts = refl; credit = refl } };
     })
 
     pub claim_last : (shown q).last ≡ (t.shard, y) ∷ []

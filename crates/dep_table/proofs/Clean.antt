@@ -58,5 +58,5 @@ found_busy p i n word r is me held = subst (λ (m : Seated). FoundBusy word (sho
   taken = held;
   looks = refl;
   last = refl;
-  still = record { kept = record { names = refl; turns = refl; quiet = refl; halts = refl; credit = refl }; done = record { claims = refl; stamps = refl; sends = refl }; running = refl };
+  still = record { kept = record { names = refl; turns = refl; quiet = refl; halts = refl; credit = refl }; done = record { claims = refl; stamps = refl; handed = refl; sends = refl }; running = refl };
 }))

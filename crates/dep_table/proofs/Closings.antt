@@ -15,13 +15,16 @@ use Rattle.std.proofs.lemmas.Option.{slice_get_within}
 use Rattle.dep_shard.specs.Content.{Content}
 use Rattle.list_lemmas.specs.Counting.{HasSameMembers, weigh}
 use Rattle.shard_meaning.specs.Calm.{HaveNoWork}
+use Rattle.shard_meaning.specs.Moment.{Moment}
+use Rattle.work_board.specs.Stamps.{StampedTask}
 use Rattle.work_board.specs.declared.record.PassRecord.{PassRecord}
 use Rattle.table_rule.specs.declared.table_job.TableJob.{TableJob}
 use Rattle.table_rule.specs.Changes.{both}
 use Rattle.table_rule.specs.Names.{AreAll}
 use Rattle.table_rule.specs.Plays.{HasName}
-use Rattle.table_rule.specs.Records.{joined, moment_of}
-use Rattle.table_rule.specs.Rule.{Rule, Share}
+use Rattle.table_rule.specs.Records.{joined, joined_handed, moment_of}
+use Rattle.table_rule.specs.Rule.{Parts, Rule, Share}
+use Rattle.table_rule.proofs.Handing.{handed_same}
 use Rattle.table_rule.proofs.AllNames.{join_all, order_all}
 use Rattle.table_rule.proofs.Alone.{alone_free, alone_parts, alone_stamps}
 use Rattle.dep_table.specs.Closing.{AreAllPasses, IsClosedAt}
@@ -58,6 +61,10 @@ both_stamped v w a b t i = elim (from_append t v.claims w.claims i) [
 both_drew : (l : List PassRecord) (v w : PassRecord) → joined_stamps ((l ++ v ∷ []) ++ w ∷ []) ≡ joined_stamps (l ++ both v w ∷ [])
 both_drew l v w = joined_two (λ (u : PassRecord). u.stamps) l v w (both v w) refl
 
+both_handed : (l : List PassRecord) (v w : PassRecord)
+    → joined_handed ((l ++ v ∷ []) ++ w ∷ []) ≡ joined_handed (l ++ both v w ∷ [])
+both_handed l v w = joined_two (λ (u : PassRecord). u.handed) l v w (both v w) refl
+
 -- some passes that are left, and one that has taken over the others
 pub record IsJoinedSoFar (table : TableId) (ps left : List PassView) (last : PassView) : Type 0 where
   pub of : last.table ≡ table
@@ -66,6 +73,7 @@ pub record IsJoinedSoFar (table : TableId) (ps left : List PassView) (last : Pas
   pub each : (p : PassView) → IsIn p left → IsPassOf table p
   pub all : AreAll (shown last ∷ map shown left)
   pub did : joined (map shown left ++ shown last ∷ []) ≡ joined (map shown ps)
+  pub handed : joined_handed (map shown left ++ shown last ∷ []) ≡ joined_handed (map shown ps)
   pub drew : joined_stamps (map shown left ++ shown last ∷ []) ≡ joined_stamps (map shown ps)
   pub stamped : HasStamps (shown last)
   pub quiet : (p : PassView) → IsIn p ps → (shown p).quiet ≡ true → IsIn p left ⊎ ((shown last).quiet ≡ true)
@@ -93,6 +101,8 @@ joined_first table ps left p is a =
       each = λ q i. a.each q (subst (IsIn q) (sym is) (IsIn-append_left q left (p ∷ []) i));
       all = order_all (map shown (left ++ p ∷ [])) (shown p ∷ map shown left) (last_first left p) (subst (λ l. AreAll (map shown l)) is a.all);
       did = ap joined (sym (map-append shown left (p ∷ []))) ∙ ap (λ l. joined (map shown l)) (sym is);
+      handed = ap joined_handed (sym (map-append shown left (p ∷ [])))
+          ∙ ap (λ l. joined_handed (map shown l)) (sym is);
       drew = ap joined_stamps (sym (map-append shown left (p ∷ []))) ∙ ap (λ l. joined_stamps (map shown l)) (sym is);
       stamped = w.clean.clean.stamped;
       quiet = λ q i k. left_or_last q left p k (subst (IsIn q) is i);
@@ -113,6 +123,10 @@ joined_next table ps before left p last new is of me a =
       did = ap (λ v. joined (map shown left ++ v ∷ [])) now
           ∙ (sym (both_joined (map shown left) (shown p) (shown last))
           ∙ (ap (λ l. joined (l ++ shown last ∷ [])) (sym (map-append shown left (p ∷ []))) ∙ (ap (λ l. joined (map shown l ++ shown last ∷ [])) (sym is) ∙ a.did)));
+      handed = ap (λ v. joined_handed (map shown left ++ v ∷ [])) now
+          ∙ (sym (both_handed (map shown left) (shown p) (shown last))
+          ∙ (ap (λ l. joined_handed (l ++ shown last ∷ [])) (sym (map-append shown left (p ∷ [])))
+          ∙ (ap (λ l. joined_handed (map shown l ++ shown last ∷ [])) (sym is) ∙ a.handed)));
       drew = ap (λ v. joined_stamps (map shown left ++ v ∷ [])) now
           ∙ (sym (both_drew (map shown left) (shown p) (shown last))
           ∙ (ap (λ l. joined_stamps (l ++ shown last ∷ [])) (sym (map-append shown left (p ∷ []))) ∙ (ap (λ l. joined_stamps (map shown l ++ shown last ∷ [])) (sym is) ∙ a.drew)));
@@ -146,31 +160,42 @@ joined_quiet table ps left last none a p i k = elim (a.quiet p i k) [
   | inr is ↦ is
 ]
 
-pub closes : (j : TableJob) (id : ℕ) (v : PassRecord) (ws : List ℕ) (xs ys : List Content) → AreAll (v ∷ []) → v.turns ≡ [] → Final (Seen (Rule j) id v) ws xs → ys ≡ xs → IsClosedAt j (moment_of v) ys
-closes j id v ws xs ys all none f same =
-    let p = alone_parts j f.0 id v f.1.0 f.1.1 all in
+pub closes : (j : TableJob) (id : ℕ) (v : PassRecord) (vs : List PassRecord) (ws : List ℕ) (xs ys : List Content)
+    → AreAll (v ∷ []) → v.turns ≡ [] → moment_of v ≡ joined vs → v.handed ≡ joined_handed vs
+    → Final (Seen (Rule j) id v) ws xs → ys ≡ xs → IsClosedAt j vs ys
+closes j id v vs ws xs ys all none did handed f same =
+    let p : Parts j f.0 (joined vs) = subst (Parts j f.0) did (alone_parts j f.0 id v f.1.0 f.1.1 all) in
     let count : length ys ≡ j.shards = ap length same ∙ (sym f.3 ∙ p.slots) in record {
       consistent = p.consistent;
       some_shards = p.some_shards;
       count = count;
       sound = p.sound;
+      handed = handed_same j.matched j.given v.claims (joined vs).state.claims v.handed (joined_handed vs)
+          (ap (λ (R : Moment). R.state.claims) (sym did)) (sym handed) (p.handed id v f.1.1);
       finished = p.finished;
       shares = λ k y e.
           let e' : slice_get xs k ≡ Some y = subst (λ l. slice_get l k ≡ Some y) same e in
           let near : k < length xs = slice_get_within xs k y e' in
           let home = p.in_slots k (omega (arith, f.3)) (alone_free j f.0 id v f.1.0 f.1.1 all none k (omega (arith, f.3, p.slots))) in
-          subst (Share j (moment_of v) k) (same_get xs k y home.0 e' (f.4 k home.0 home.1)) home.2;
+          subst (Share j (joined vs) k) (same_get xs k y home.0 e' (f.4 k home.0 home.1)) home.2;
     }
 
 -- its claims in the order of their stamps are a legal order
-pub closes_order : (j : TableJob) (id : ℕ) (v : PassRecord) (ws : List ℕ) (xs : List Content) → AreAll (v ∷ []) → HasStamps v → Final (Seen (Rule j) id v) ws xs → (ts : List Task) → AreInStampOrder v.stamps ts → IsClaimOrder j.matched (moment_of v).state ts
-closes_order j id v ws xs all stamped f ts o =
-    stamp_order j.matched j.given (moment_of v) v.stamps _ (alone_parts j f.0 id v f.1.0 f.1.1 all).sound (alone_stamps j f.0 id v f.1.0 f.1.1 all) (λ t. (f.1.0.1.live.each id v f.1.1).stamps t) stamped ts o
+pub closes_order : (j : TableJob) (id : ℕ) (v : PassRecord) (vs : List PassRecord) (ws : List ℕ) (xs : List Content)
+    → AreAll (v ∷ []) → HasStamps v → moment_of v ≡ joined vs → v.stamps ≡ joined_stamps vs
+    → Final (Seen (Rule j) id v) ws xs → (ts : List Task) → AreInStampOrder (joined_stamps vs) ts
+    → IsClaimOrder j.matched (joined vs).state ts
+closes_order j id v vs ws xs all stamped did drew f ts o =
+    let mine : AreInStampOrder v.stamps ts = subst (λ (s : List StampedTask). AreInStampOrder s ts) (sym drew) o in
+    subst (λ (R : Moment). IsClaimOrder j.matched R.state ts) did (stamp_order j.matched j.given (moment_of v) v.stamps _ (alone_parts j f.0 id v f.1.0 f.1.1 all).sound (alone_stamps j f.0 id v f.1.0 f.1.1 all) (λ t. (f.1.0.1.live.each id v f.1.1).stamps t) stamped ts mine)
 
 -- where the last pass has seen quiet, no shard has work
-pub closes_quiet : (j : TableJob) (id : ℕ) (v : PassRecord) (ws : List ℕ) (xs ys : List Content) → AreAll (v ∷ []) → v.turns ≡ [] → Final (Seen (Rule j) id v) ws xs → ys ≡ xs → v.quiet ≡ true → HaveNoWork ys
-closes_quiet j id v ws xs ys all none f same q =
-    calm_closed j (moment_of v) ys (closes j id v ws xs ys all none f same) ((alone_parts j f.0 id v f.1.0 f.1.1 all).quieted.calm id v f.1.1 q)
+pub closes_quiet : (j : TableJob) (id : ℕ) (v : PassRecord) (vs : List PassRecord) (ws : List ℕ) (xs ys : List Content)
+    → AreAll (v ∷ []) → v.turns ≡ [] → moment_of v ≡ joined vs → v.handed ≡ joined_handed vs
+    → Final (Seen (Rule j) id v) ws xs → ys ≡ xs → v.quiet ≡ true → HaveNoWork ys
+closes_quiet j id v vs ws xs ys all none did handed f same q =
+    let p : Parts j f.0 (joined vs) = subst (Parts j f.0) did (alone_parts j f.0 id v f.1.0 f.1.1 all) in
+    calm_closed j vs ys (closes j id v vs ws xs ys all none did handed f same) (p.quieted.calm id v f.1.1 q)
 
 -- a pass that is taken is a clean one
 pub taken_pass : (table : TableId) (ps before left : List PassView) (p last : PassView) → before ≡ left ++ p ∷ [] → IsJoinedSoFar table ps before last → IsPassOf table p

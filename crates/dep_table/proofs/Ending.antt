@@ -126,7 +126,7 @@ module _ (t : Turn) (v : PassRecord) (y z : Content) (h : IsTurnOf t v y z) (u :
         took = record { look = refl; looks = refl; last = refl };
         end = record {
           running = refl;
-          done = record { claims = refl; stamps = refl; sends = refl };
+          done = record { claims = refl; stamps = refl; handed = refl; sends = refl };
           kept = record { names = refl; turns = refl; quiet = refl; halts = refl; credit = same_credit };
         };
       })

@@ -34,8 +34,9 @@ use Rattle.flow_meaning.proofs.Quiet.{sent_are_items}
 use Rattle.flow_meaning.proofs.Reordering.{same_sent_item-decides}
 use Rattle.flow_meaning.proofs.Rest.{item_sender}
 use Rattle.shard_meaning.specs.Calm.{HaveNoWork}
-use Rattle.shard_meaning.specs.Moment.{Moment}
+use Rattle.work_board.specs.declared.record.PassRecord.{PassRecord}
 use Rattle.table_rule.specs.declared.table_job.TableJob.{TableJob}
+use Rattle.table_rule.specs.Records.{joined}
 use Rattle.dep_table.specs.ClosedMeaning.{HasTheMeaning, all_sent, sent_by}
 use Rattle.dep_table.specs.Closing.{IsClosedAt}
 use Rattle.dep_table.proofs.Quiets.{closed_calm, closed_quiescent}
@@ -186,5 +187,5 @@ module _ (P : Plan) where
       }
 
 -- so it is of the passes of a table that was closed after the run had ended
-pub closed_meaning : (j : TableJob) (R : Moment) (ys : List Content) → IsClosedAt j R ys → HaveNoWork ys → HasTheMeaning j.matched j.given R.state
-closed_meaning j R ys c none = quiescent_meaning j.matched j.given c.consistent R.state c.sound (closed_quiescent j R ys c (closed_calm j R ys c none))
+pub closed_meaning : (j : TableJob) (vs : List PassRecord) (ys : List Content) → IsClosedAt j vs ys → HaveNoWork ys → HasTheMeaning j.matched j.given (joined vs).state
+closed_meaning j vs ys c none = quiescent_meaning j.matched j.given c.consistent (joined vs).state c.sound (closed_quiescent j vs ys c (closed_calm j vs ys c none))

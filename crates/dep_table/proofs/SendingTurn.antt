@@ -276,7 +276,7 @@ module _ (t : Turn) (v : PassRecord) (y z : Content) (h : IsTurnOf t v y z) wher
           shard = y;
           took = record { look = refl; looks = refl; last = refl };
           answer = answers_along job.matched i a y d (ap (λ (c : Content). c.entries) here ∙ h.same.entries) answers;
-          added = record { sends = refl; claims = refl; stamps = refl; running = refl; kept = record { names = refl; turns = refl; quiet = refl; halts = refl; credit = sym h.clean.no_credit } };
+          added = record { sends = refl; claims = refl; stamps = refl; handed = refl; running = refl; kept = record { names = refl; turns = refl; quiet = refl; halts = refl; credit = sym h.clean.no_credit } };
         })
 
         pub send_last : (shown q).last ≡ (t.shard, y) ∷ []

@@ -63,7 +63,7 @@ module _ (t : Turn) (v : PassRecord) (y z : Content) (h : IsTurnOf t v y z) (i q
   only_took = subst (λ (m : Seated). OnlyTook t.shard v m.0) (sym left_me) (record {
     shard = y;
     took = record { look = refl; looks = refl; last = refl };
-    still = record { kept = record { names = refl; turns = refl; quiet = refl; halts = refl; credit = refl }; done = record { claims = refl; stamps = refl; sends = refl }; running = refl };
+    still = record { kept = record { names = refl; turns = refl; quiet = refl; halts = refl; credit = refl }; done = record { claims = refl; stamps = refl; handed = refl; sends = refl }; running = refl };
   })
 
   pub left_last : (shown q).last ≡ (t.shard, y) ∷ []

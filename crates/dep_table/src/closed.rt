@@ -6,13 +6,14 @@ ghost use Rattle.ptg_base.specs.Task.{Task};
 ghost use Rattle.shard_meaning.specs.Calm.{HaveNoWork};
 ghost use Rattle.table_rule.specs.Changes.{both};
 ghost use Rattle.table_rule.specs.Plays.{HasName};
-ghost use Rattle.table_rule.specs.Records.{joined, moment_of};
-ghost use Rattle.dep_table.specs.ClosedTables.{shards_of};
+ghost use Rattle.table_rule.specs.Records.{joined};
+ghost use Rattle.dep_table.specs.ClosedTables.{records_of, shards_of};
 ghost use Rattle.dep_table.specs.Closing.{AreAllPasses, IsClosedAt, IsLastPass};
 ghost use Rattle.dep_table.specs.StampOrders.{AreInStampOrder, IsClaimOrder, joined_stamps};
 ghost use Rattle.dep_table.specs.Tables.{id_of, job_of};
 ghost use Rattle.dep_table.specs.Views.{PassView, shown};
 
+use crate::closed_records::ClosedRecords;
 use crate::closing_room::ClosingRoom;
 use crate::pass::Pass;
 use crate::table::DepTable;
@@ -23,12 +24,14 @@ use table_rule::{
     JoinTo, TableJob, a_pass_with_all_names_is_alone, all_passes_stay_all, two_passes_are_joined,
 };
 
-/// A table that no pass shares any more: its shards hold their parts of a sound moment. Contracts see its job, its
-/// shards, and how many passes were closed with it. `DepTable::close` alone makes one.
+/// A table that no pass shares any more: its shards hold their parts of what its passes did together. Contracts see its
+/// job, the records of its passes, its shards, and how many passes were closed with it. `DepTable::close` alone makes
+/// one.
 #[derive(Drop)]
 pub struct Closed {
     pub(crate) shards: Vec<Shard>,
     pub(crate) job: TableJob,
+    pub(crate) records: ClosedRecords,
     pub(crate) passes: usize,
     pub(crate) rows: Room,
 }
@@ -44,9 +47,10 @@ impl Model for Closed {
 
     ghost coded = { Prim.hlevel (codes, expr.the_row.coded, block.the_row.coded) };
 
-    ghost view = { λ c. record { job = c.job; shards = c.shards.items; passes = c.passes } };
+    ghost view = { λ c.
+        record { job = c.job; records = c.records.records; shards = c.shards.items; passes = c.passes } };
 
-    ghost invariant = { λ c. IsClosedTable c.job c.shards.items c.rows };
+    ghost invariant = { λ c. IsClosedTable c.job c.records.records c.shards.items c.rows };
 }
 
 impl DepTable {
@@ -71,8 +75,7 @@ impl DepTable {
     // All passes as one, which has seen quiet where one of them has.
     fn join_all(&self, mut passes: Vec<Pass>) -> Pass
         requires { AreAllPasses (id_of self.now) passes.items }
-        ensures last { IsLastPass (id_of self.now) result (joined (map shown passes.items))
-            (joined_stamps (map shown passes.items)) }
+        ensures last { IsLastPass (id_of self.now) result (map shown passes.items) }
         ensures quiet { (p : PassView) → IsIn p passes.items → (shown p).quiet ≡ true → (shown result).quiet ≡ true }
     {
         all_passes_stay_all();
@@ -83,14 +86,15 @@ impl DepTable {
         last
     }
 
-    // The shards of a table that its last pass gives up, which was made of this many passes.
-    fn end(self, pass: Pass, passes: usize) -> Closed
-        requires { IsLastPass (id_of self) pass (moment_of (shown pass)) (shown pass).stamps }
+    // The shards of a table that its last pass gives up, which was made of this many passes with these records.
+    fn end(self, pass: Pass, passes: usize, records: ClosedRecords) -> Closed
+        requires { IsLastPass (id_of self) pass records.records }
         ensures job { result.job ≡ job_of self }
+        ensures records { records_of result ≡ records.records }
         ensures passes { result.passes ≡ passes }
-        ensures at { IsClosedAt (job_of self) (moment_of (shown pass)) (shards_of result) }
-        ensures order { (ts : List Task) → AreInStampOrder (shown pass).stamps ts
-            → IsClaimOrder (job_of self).matched (moment_of (shown pass)).state ts }
+        ensures at { IsClosedAt (job_of self) records.records (shards_of result) }
+        ensures order { (ts : List Task) → AreInStampOrder (joined_stamps records.records) ts
+            → IsClaimOrder (job_of self).matched (joined records.records).state ts }
         ensures quiet { (shown pass).quiet ≡ true → HaveNoWork (shards_of result) }
     {
         a_pass_with_all_names_is_alone();
@@ -115,25 +119,29 @@ impl DepTable {
         Closed {
             shards: taken,
             job,
+            records,
             passes,
             rows,
         }
     }
 
-    /// Closes the table, where these are all its passes. It takes no memory. What the shards then hold is what the
-    /// passes did together. All their claims, in the order of their stamps, are a legal order of the plan. Where one of
-    /// the passes has seen quiet, no shard has work.
+    /// Closes the table, where these are all its passes. It takes no memory. The closed table shows their records, and
+    /// what its shards hold is what they did together: a sound state, in which each claimed task was handed its inputs.
+    /// All their claims, in the order of their stamps, are a legal order of the plan. Where one of the passes has seen
+    /// quiet, no shard has work.
     pub fn close(self, passes: Vec<Pass>) -> Closed
         requires { AreAllPasses (id_of self) passes.items }
         ensures job { result.job ≡ job_of self }
+        ensures records { records_of result ≡ map shown passes.items }
         ensures passes { result.passes ≡ length passes.items }
-        ensures at { IsClosedAt (job_of self) (joined (map shown passes.items)) (shards_of result) }
-        ensures order { (ts : List Task) → AreInStampOrder (joined_stamps (map shown passes.items)) ts
-            → IsClaimOrder (job_of self).matched (joined (map shown passes.items)).state ts }
+        ensures at { IsClosedAt (job_of self) (records_of result) (shards_of result) }
+        ensures order { (ts : List Task) → AreInStampOrder (joined_stamps (records_of result)) ts
+            → IsClaimOrder (job_of self).matched (joined (records_of result)).state ts }
         ensures quiet { (p : PassView) → IsIn p passes.items → (shown p).quiet ≡ true → HaveNoWork (shards_of result) }
     {
         let count = passes.len();
+        let records = ClosedRecords::of(passes.as_slice());
         let last = self.join_all(passes);
-        self.end(last, count)
+        self.end(last, count, records)
     }
 }

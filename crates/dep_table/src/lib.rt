@@ -1,9 +1,11 @@
 //! The dependency table that workers share: its shards and its words under one rule, and the passes that workers hold.
 #![tactic(auto)]
 
+mod answered;
 mod board;
 mod calls;
 mod closed;
+mod closed_records;
 mod closing_room;
 mod delivery;
 mod job;

@@ -6,6 +6,7 @@ ghost use Rattle.dep_table.specs.ClosedTables.{shards_of};
 ghost use Rattle.shard_meaning.specs.Calm.{HaveNoWork};
 ghost use Rattle.dep_table.specs.Receipts.{receipt_of};
 
+use crate::answered::{RunAnswer, RunData};
 use crate::closed::Closed;
 use crate::receipt::Receipt;
 use flow_meaning::Outcome;
@@ -14,17 +15,18 @@ use shard_answer::outcome_of;
 use table_rule::TableJob;
 
 impl Closed {
-    /// The answer of the job, where the table was closed after the run had ended, and the receipt. No tile is copied. A
-    /// preloaded table has the memory.
+    /// The answer of the job, where the table was closed after the run had ended, and the receipt, which shows that
+    /// answer. No tile is copied. A preloaded table has the memory.
     pub fn outcome(self) -> Result<(Outcome, Receipt), OutOfMemory>
         requires { HaveNoWork (shards_of self) }
         ensures answer { IfOk result (λ (outcome, receipt). outcome ≡ answer self.job.matched self.job.given) }
-        ensures receipt { IfOk result (λ (outcome, receipt). receipt ≡ receipt_of self) }
+        ensures receipt { IfOk result (λ (outcome, receipt). receipt ≡ receipt_of self outcome) }
         ensures preloaded { self.job.preloaded ≡ true → IsOk result }
     {
         let Closed {
             shards,
             job,
+            records: _records,
             passes,
             rows,
         } = self;
@@ -34,12 +36,16 @@ impl Closed {
             shards: count,
             preloaded,
         } = job;
+        let data = RunData::of(&given);
         let outcome = outcome_of(&matched, given, shards, rows)?;
+        let answer = RunAnswer::of(&outcome);
         let receipt = Receipt {
             matched,
             shards: count,
             passes,
             preloaded,
+            data,
+            answer,
         };
         Ok((outcome, receipt))
     }

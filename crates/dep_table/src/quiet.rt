@@ -5,8 +5,9 @@ ghost use Rattle.ptg_base.specs.Task.{Task};
 ghost use Rattle.dep_shard.specs.Content.{Content};
 ghost use Rattle.flow_meaning.specs.Machine.{IsQuiescent};
 ghost use Rattle.shard_meaning.specs.Calm.{HaveNoWork, IsCalm};
-ghost use Rattle.shard_meaning.specs.Moment.{Moment};
+ghost use Rattle.work_board.specs.declared.record.PassRecord.{PassRecord};
 ghost use Rattle.table_rule.specs.declared.table_job.TableJob.{TableJob};
+ghost use Rattle.table_rule.specs.Records.{joined};
 ghost use Rattle.dep_table.specs.ClosedMeaning.{HasTheMeaning};
 ghost use Rattle.dep_table.specs.ClosedTables.{shards_of};
 ghost use Rattle.dep_table.specs.Closing.{IsClosedAt};
@@ -28,23 +29,23 @@ impl Closed {
 /// A law: where no shard of a closed table has work, what its passes did together is calm, and no event is possible;
 /// and then only.
 pub fn a_closed_table_without_work_is_quiescent()
-    ensures calm { (j : TableJob) (R : Moment) (ys : List Content) → IsClosedAt j R ys → HaveNoWork ys
-        → IsCalm j.matched R × IsQuiescent j.matched j.given R.state }
-    ensures work { (j : TableJob) (R : Moment) (ys : List Content) → IsClosedAt j R ys → IsCalm j.matched R
-        → HaveNoWork ys }
+    ensures calm { (j : TableJob) (vs : List PassRecord) (ys : List Content) → IsClosedAt j vs ys → HaveNoWork ys
+        → IsCalm j.matched (joined vs) × IsQuiescent j.matched j.given (joined vs).state }
+    ensures work { (j : TableJob) (vs : List PassRecord) (ys : List Content) → IsClosedAt j vs ys
+        → IsCalm j.matched (joined vs) → HaveNoWork ys }
 {}
 
 /// A law: where no shard of a closed table has work, its passes have done what the job means. They have claimed the
 /// tasks that run, each once, and sent the items of the tasks that have outputs, each once and with the tile that its
 /// task leaves; and each claimed task was sent its inputs.
 pub fn a_quiet_close_has_the_meaning()
-    ensures { (j : TableJob) (R : Moment) (ys : List Content) → IsClosedAt j R ys → HaveNoWork ys
-        → HasTheMeaning j.matched j.given R.state }
+    ensures { (j : TableJob) (vs : List PassRecord) (ys : List Content) → IsClosedAt j vs ys → HaveNoWork ys
+        → HasTheMeaning j.matched j.given (joined vs).state }
 {}
 
 /// A law: where no shard of a closed table has work, a legal order of the claims of its passes is one of the tasks that
 /// run.
 pub fn a_quiet_close_has_an_order_of_what_ran()
-    ensures { (j : TableJob) (R : Moment) (ys : List Content) (ts : List Task) → IsClosedAt j R ys → HaveNoWork ys
-        → IsClaimOrder j.matched R.state ts → IsWholeOrder j.matched j.given ts }
+    ensures { (j : TableJob) (vs : List PassRecord) (ys : List Content) (ts : List Task) → IsClosedAt j vs ys
+        → HaveNoWork ys → IsClaimOrder j.matched (joined vs).state ts → IsWholeOrder j.matched j.given ts }
 {}

@@ -2,18 +2,21 @@
 
 ghost use Rattle.std.specs.Prelude.{◌≡◌};
 
+use crate::answered::{RunAnswer, RunData};
 use dep_iter::Matched;
 use std::marker::Model;
 
-/// Shows that a table of a job was closed when it was quiet. Contracts see the plan, the numbers of shards and of
-/// passes, and whether all memory was taken before the first step. `Closed::outcome` alone makes one, and it can't be
-/// copied.
+/// Shows that a table of a job was closed when it was quiet, and its answer read. Contracts see the plan, the data, the
+/// numbers of shards and of passes, whether all memory was taken before the first step, and the answer.
+/// `Closed::outcome` alone makes one, and it can't be copied.
 #[derive(Drop)]
 pub struct Receipt {
     pub(crate) matched: Matched,
     pub(crate) shards: u32,
     pub(crate) passes: usize,
     pub(crate) preloaded: bool,
+    pub(crate) data: RunData,
+    pub(crate) answer: RunAnswer,
 }
 
 impl Model for Receipt {
@@ -26,7 +29,15 @@ impl Model for Receipt {
 
     ghost coded = { Prim.hlevel (codes, expr.the_row.coded, block.the_row.coded) };
 
-    ghost view = { λ r. record { plan = r.matched; shards = r.shards; passes = r.passes; preloaded = r.preloaded } };
+    ghost view = { λ r.
+        record {
+          plan = r.matched;
+          given = r.data.given;
+          shards = r.shards;
+          passes = r.passes;
+          preloaded = r.preloaded;
+          outcome = r.answer.outcome;
+        } };
 }
 
 impl Receipt {

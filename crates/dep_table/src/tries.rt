@@ -8,7 +8,7 @@ ghost use Rattle.dep_iter.specs.Tasks.{IsTask};
 ghost use Rattle.flow_meaning.specs.Machine.{sender};
 ghost use Rattle.work_board.specs.Claims.{ClaimAnswers, ScanAnswers};
 ghost use Rattle.work_board.specs.Records.{OnlyTook};
-ghost use Rattle.work_board.specs.Sends.{EndAnswers, IsNext, MayEnd, MayTrap, SendAnswers, shard_of_item};
+ghost use Rattle.work_board.specs.Sends.{EndAnswers, IsNext, MayEnd, MayTrap, SendAnswers, SpentAfter, shard_of_item};
 ghost use Rattle.dep_table.specs.Passes.{IsPassOf};
 ghost use Rattle.dep_table.specs.Tables.{id_of, job_of};
 ghost use Rattle.dep_table.specs.Views.{shown};
@@ -106,14 +106,15 @@ impl DepTable {
         }
     }
 
-    // Ends the task that the pass runs, whose items were all sent, and keeps the tiles that came with it. False only
-    // where the turn was taken.
+    // Ends the task that the pass runs, whose items were all sent. Of the tiles that came with it none is left. False
+    // only where the turn was taken; then they stay.
     pub(crate) fn end_once(&self, pass: &mut Pass, t: &TaskId, spent: &mut Arrivals) -> bool
         requires pass { IsPassOf (id_of self.now) pass.old }
         requires is_task { IsTask (job_of self.now).matched t.now }
         requires task { MayEnd (job_of self.now).matched (job_of self.now).given t.now (shown pass.old) }
         ensures pass { IsPassOf (id_of self.now) pass.new }
         ensures ended { EndAnswers result (placement_of (job_of self.now) t.now) (shown pass.old) (shown pass.new) }
+        ensures spent { SpentAfter result spent.old spent.new }
     {
         let shard = self.shard_of(t);
         match self.try_turn(pass, shard) {

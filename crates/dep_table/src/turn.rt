@@ -106,8 +106,8 @@ impl<'a> Turn<'a> {
 }
 
 impl<'a> Turn<'a> {
-    /// Ends the running task, all of whose items the pass has sent, and gives the turn back. The shard may keep the
-    /// tiles that came with the task, for what is sent later.
+    /// Ends the running task, all of whose items the pass has sent, and gives the turn back. None of the tiles that came
+    /// with the task is left: the shard keeps them for what is sent later, or they are dropped.
     pub fn end(self, t: &TaskId, spent: &mut Arrivals)
         requires turn { IsTurn self }
         requires task { MayEnd (job_of self.table.now).matched (job_of self.table.now).given t.now
@@ -118,6 +118,7 @@ impl<'a> Turn<'a> {
             → HasEnded self.entry.shard v (shown self.exit.1.0.now) }
         ensures last { (v : PassRecord) (y z : Content) → IsTurnOf self.entry v y z
             → (shown self.exit.1.0.now).last ≡ (self.entry.shard, y) ∷ [] }
+        ensures spent { spent.new ≡ [] }
     {
         let _task = t;
         let Turn { table, pass, shard } = self;

@@ -78,10 +78,12 @@ pub(crate) fn take_ready(shard: &mut Shard, t: &TaskId) -> Option<Arrivals>
     shard.take_ready(t)
 }
 
-// A running task of a shard ends, and the tiles that came with it are kept.
+// A running task of a shard ends. The shard keeps tiles that came with it, as far as it has room for them; the others
+// are dropped.
 pub(crate) fn end_task(shard: &mut Shard, spent: &mut Arrivals)
     requires running { 0 < shard.old.running }
     requires bound { shard.old.ended < most_tasks }
+    ensures spent { spent.new ≡ [] }
     ensures ends { Ends shard.old shard.new }
     ensures rest { KeepsEntriesAndWritten shard.old shard.new }
     ensures trapped { shard.new.trapped ≡ shard.old.trapped }
@@ -89,6 +91,7 @@ pub(crate) fn end_task(shard: &mut Shard, spent: &mut Arrivals)
 {
     shard.end();
     shard.reuse(spent);
+    *spent = Arrivals::new();
 }
 
 impl DepTable {
@@ -99,7 +102,7 @@ impl DepTable {
         requires within { shard < self.now.job.shards }
         requires claims { MayGiveClaim shard t.now tiles.now seat.old.me }
         ensures of { seat.new.table_id ≡ seat.old.table_id }
-        ensures me { seat.new.me ≡ (turn_left (with_own_claim seat.old.me.0 t.now), rest seat.old.me.1) }
+        ensures me { seat.new.me ≡ (turn_left (with_own_claim seat.old.me.0 t.now tiles.now), rest seat.old.me.1) }
         ensures starts { MayStart self.now.job.matched self.now.job.given t.now tiles.now seat.old.me.0 }
     {
         let _task = t;
@@ -114,7 +117,7 @@ impl DepTable {
         requires within { shard < self.now.job.shards }
         requires claims { MayGiveClaim shard t.now tiles.now seat.old.me }
         ensures of { seat.new.table_id ≡ seat.old.table_id }
-        ensures me { seat.new.me ≡ (turn_left (with_own_claim seat.old.me.0 t.now), rest seat.old.me.1) }
+        ensures me { seat.new.me ≡ (turn_left (with_own_claim seat.old.me.0 t.now tiles.now), rest seat.old.me.1) }
         ensures starts { MayStart self.now.job.matched self.now.job.given t.now tiles.now seat.old.me.0 }
     {
         self.give_claim_of::<Brand>(seat, shard, t, tiles);

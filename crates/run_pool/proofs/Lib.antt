@@ -3,4 +3,5 @@ pub mod OneType
 pub mod Places
 pub mod Gathered
 pub mod SeatedAll
+pub mod Closed
 pub mod Traced

@@ -14,7 +14,6 @@ use Rattle.list_lemmas.proofs.Counts.{weigh-map, weigh-sum}
 use Rattle.dep_shard.specs.Content.{Content}
 use Rattle.list_lemmas.specs.Counting.{weigh}
 use Rattle.shard_meaning.specs.Calm.{HaveNoWork}
-use Rattle.shard_meaning.specs.Moment.{Moment}
 use Rattle.worker_core.specs.Working.{HasLogged, logged}
 use Rattle.work_board.specs.declared.record.PassRecord.{PassRecord}
 use Rattle.table_rule.specs.declared.table_job.TableJob.{TableJob}
@@ -27,6 +26,7 @@ use Rattle.dep_table.specs.Views.{PassView, shown}
 use Rattle.run_pool.specs.Desks.{HaveLogged}
 use Rattle.run_pool.specs.Seated.{IsFresh, PaddedDesk, log_on, pass_on, record_on}
 use Rattle.run_pool.specs.Traces.{IsTraceOf}
+use Rattle.run_pool.proofs.Closed.{seen_records}
 use Rattle.run_pool.proofs.Places.{has_both}
 use Rattle.work_board.specs.Stamps.{StampedTask}
 
@@ -84,19 +84,24 @@ module _ (ds es : List PaddedDesk) (count : length es ≡ length ds) (w : HaveLo
   logs_are = logged_all es its_log
 
 -- what a traced run gives beside its closed table
-pub trace_of : (j : TableJob) (t : ClosedView) (ps : List PassView) (es : List PaddedDesk) (ts : List Task) → t.job ≡ j → ps ≡ map pass_on es → IsClosedAt j (joined (map shown ps)) t.shards
-    → ((us : List Task) → AreInStampOrder (joined_stamps (map shown ps)) us → IsClaimOrder j.matched (joined (map shown ps)).state us) → AreInStampOrder (joined_stamps (map record_on es)) ts → IsTraceOf t ts
-trace_of j t ps es ts job passes at order sorted =
-    let records : map shown ps ≡ map record_on es = ap (map shown) passes ∙ map-map shown pass_on es in
-    let here : AreInStampOrder (joined_stamps (map shown ps)) ts = subst (λ (vs : List PassRecord). AreInStampOrder (joined_stamps vs) ts) (sym records) sorted in
+pub trace_of : (j : TableJob) (t : ClosedView) (ps : List PassView) (es : List PaddedDesk) (ts : List Task) → t.job ≡ j
+    → ps ≡ map pass_on es → t.records ≡ map shown ps
+    → ((us : List Task) → AreInStampOrder (joined_stamps t.records) us
+    → IsClaimOrder j.matched (joined t.records).state us)
+    → AreInStampOrder (joined_stamps (map record_on es)) ts → IsTraceOf t ts
+trace_of j t ps es ts job passes records order sorted =
+    let are : t.records ≡ map record_on es = seen_records ps es t.records passes records in
+    let here : AreInStampOrder (joined_stamps t.records) ts =
+    subst (λ (vs : List PassRecord). AreInStampOrder (joined_stamps vs) ts) (sym are) sorted in
     record {
-      records = map shown ps;
-      at = subst (λ (i : TableJob). IsClosedAt i (joined (map shown ps)) t.shards) (sym job) at;
       order = here;
-      legal = subst (λ (i : TableJob). IsClaimOrder i.matched (joined (map shown ps)).state ts) (sym job) (order ts here);
+      legal = subst (λ (i : TableJob). IsClaimOrder i.matched (joined t.records).state ts) (sym job) (order ts here);
     }
 
 -- the same list is one of what ran
-pub ran_order : ((j : TableJob) (R : Moment) (ys : List Content) (ts : List Task) → IsClosedAt j R ys → HaveNoWork ys → IsClaimOrder j.matched R.state ts → IsWholeOrder j.matched j.given ts)
-    → (j : TableJob) (t : ClosedView) (ts : List Task) → t.job ≡ j → IsTraceOf t ts → HaveNoWork t.shards → IsWholeOrder j.matched j.given ts
-ran_order law j t ts job trace none = subst (λ (i : TableJob). IsWholeOrder i.matched i.given ts) job (law t.job (joined trace.records) t.shards ts trace.at none trace.legal)
+pub ran_order : ((j : TableJob) (vs : List PassRecord) (ys : List Content) (ts : List Task) → IsClosedAt j vs ys
+    → HaveNoWork ys → IsClaimOrder j.matched (joined vs).state ts → IsWholeOrder j.matched j.given ts)
+    → (j : TableJob) (t : ClosedView) (ts : List Task) → t.job ≡ j → IsClosedAt t.job t.records t.shards
+    → IsTraceOf t ts → HaveNoWork t.shards → IsWholeOrder j.matched j.given ts
+ran_order law j t ts job at trace none =
+    subst (λ (i : TableJob). IsWholeOrder i.matched i.given ts) job (law t.job t.records t.shards ts at none trace.legal)

@@ -2,14 +2,16 @@
 use Rattle.std.specs.Prelude.{◌≡◌, ℕ, ◌<◌, Bool, true, false, List, [], length, slice_get, slice_index_or, Option, Some, None, Result, Ok, Err}
 use Rattle.crossbeam_utils.specs.declared.cache_padded.CachePadded.{CachePadded}
 use Rattle.crossbeam_utils.specs.Padded.{padded_value}
+use Rattle.ptg_base.specs.Task.{Task}
 use Rattle.ptg_base.specs.declared.memory.OutOfMemory.{OutOfMemory}
 use Rattle.plan_core.specs.declared.plan.Plan.{Plan}
+use Rattle.coll_data.specs.Data.{Data}
 use Rattle.task_run.specs.Bench.{IsBenchOf}
 use Rattle.work_board.specs.Looks.{KnowsHalted}
 use Rattle.work_board.specs.Records.{IsLaterRecord}
 use Rattle.work_board.specs.declared.record.PassRecord.{PassRecord}
 use Rattle.worker_core.specs.declared.worker.Worked.{Worked}
-use Rattle.worker_core.specs.Working.{HasLogged}
+use Rattle.worker_core.specs.Working.{HasLogged, HasWorked}
 use Rattle.run_pool.specs.declared.desk.Desk.{Desk}
 
 module _ {P : Type 0} (is_pass : P → Type 0) (shown : P → PassRecord) where
@@ -19,28 +21,33 @@ module _ {P : Type 0} (is_pass : P → Type 0) (shown : P → PassRecord) where
     pub idle : (shown d.pass).running ≡ []
     pub bench : IsBenchOf plan d.bench
 
-  -- a worker with this pass has answered so: where it has worked to the end, the pass has seen quiet and runs
-  -- nothing; else the board is halted, which a preloaded board never is
-  abbrev pub IsAnswerOfPass : Bool → PassRecord → Option (Result Worked OutOfMemory) → Type 0
-  IsAnswerOfPass preloaded w None = ⊥
-  IsAnswerOfPass preloaded w (Some (Ok worked)) = (w.quiet ≡ true) × (w.running ≡ [])
-  IsAnswerOfPass preloaded w (Some (Err refused)) = KnowsHalted w × (preloaded ≡ false)
-
-  -- a worker has worked: its pass is clean and has what it had and maybe more, and its answer is on the desk
-  pub record HasWorkedAt (preloaded : Bool) (d e : Desk P) : Type 0 where
-    pub pass : is_pass e.pass
-    pub later : IsLaterRecord (shown d.pass) (shown e.pass)
-    pub answer : IsAnswerOfPass preloaded (shown e.pass) e.answer
-
   -- each desk is ready
   abbrev pub AreReady : Plan → List (CachePadded (Desk P)) → Type 0
   AreReady plan ds = (k : ℕ) (d : CachePadded (Desk P)) → slice_get ds k ≡ Some d → IsReady plan (padded_value d)
 
+-- the board is of this job, its gate has let a worker with this number run a task where `lets` says so, and it is
+-- preloaded or not
+module _ {P : Type 0} (is_pass : P → Type 0) (shown : P → PassRecord) (plan : Plan) (given : Data)
+    (lets : ℕ → Task → Type 0) (preloaded : Bool) where
+  -- a worker with this number and this pass has answered so: where it has worked to the end, the pass has seen quiet,
+  -- the gate has let the worker run each task that it claimed, and each was followed by its end; else the board is
+  -- halted, which a preloaded board never is
+  abbrev pub IsAnswerOfPass : ℕ → PassRecord → PassRecord → Option (Result Worked OutOfMemory) → Type 0
+  IsAnswerOfPass worker v w None = ⊥
+  IsAnswerOfPass worker v w (Some (Ok worked)) = (w.quiet ≡ true) × HasWorked plan given (lets worker) worked.ran v w
+  IsAnswerOfPass worker v w (Some (Err refused)) = KnowsHalted w × (preloaded ≡ false)
+
+  -- a worker has worked: its pass is clean and has what it had and maybe more, and its answer is on the desk
+  pub record HasWorkedAt (d e : Desk P) : Type 0 where
+    pub pass : is_pass e.pass
+    pub later : IsLaterRecord (shown d.pass) (shown e.pass)
+    pub answer : IsAnswerOfPass d.hands.number (shown d.pass) (shown e.pass) e.answer
+
   -- each worker has worked
-  abbrev pub HaveWorked : Bool → List (CachePadded (Desk P)) → List (CachePadded (Desk P)) → Type 0
-  HaveWorked preloaded ds es =
+  abbrev pub HaveWorked : List (CachePadded (Desk P)) → List (CachePadded (Desk P)) → Type 0
+  HaveWorked ds es =
       (k : ℕ) (d : CachePadded (Desk P)) → k < length ds
-      → HasWorkedAt preloaded (padded_value (slice_index_or ds k d)) (padded_value (slice_index_or es k d))
+      → HasWorkedAt (padded_value (slice_index_or ds k d)) (padded_value (slice_index_or es k d))
 
 module _ {P : Type 0} (shown : P → PassRecord) where
   -- the log on a worker's desk has gained the claims of its pass, each with its stamp

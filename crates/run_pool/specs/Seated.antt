@@ -31,8 +31,9 @@ record_on d = shown (pass_on d)
 abbrev pub log_on : PaddedDesk → List (ℕ × Task)
 log_on d = (padded_value d).log.items
 
--- the pass on a desk has drawn no stamp, and the log has nothing
+-- the pass on a desk has claimed nothing and drawn no stamp, and the log has nothing
 pub record IsFresh (d : PaddedDesk) : Type 0 where
+  pub no_claim : (record_on d).claims ≡ []
   pub no_stamp : (record_on d).stamps ≡ []
   pub no_log : log_on d ≡ []
 

@@ -7,6 +7,10 @@ ghost use Rattle.worker_core.specs.Working.{logged};
 ghost use Rattle.shard_meaning.specs.Calm.{HaveNoWork};
 ghost use Rattle.flow_meaning.specs.Order.{IsWholeOrder};
 ghost use Rattle.dep_table.specs.StampOrders.{AreInStampOrder};
+ghost use Rattle.work_board.specs.Handed.{WereHandedInputs};
+ghost use Rattle.table_rule.specs.Records.{joined, joined_handed};
+ghost use Rattle.dep_table.specs.ClosedMeaning.{HasTheMeaning};
+ghost use Rattle.run_pool.specs.Gates.{AreLetThrough};
 ghost use Rattle.run_pool.specs.Seated.{log_on};
 ghost use Rattle.run_pool.specs.Traces.{IsTraceOf};
 ghost use Rattle.work_board.specs.Stamps.{StampedTask};
@@ -15,7 +19,10 @@ use crate::prepared::Prepared;
 use crate::running::passes_of;
 use crate::seating::PaddedDesk;
 use crate::workers::team;
-use dep_table::{Closed, a_quiet_close_has_an_order_of_what_ran, an_idle_pass_is_a_workers_pass};
+use dep_table::{
+    Closed, a_quiet_close_has_an_order_of_what_ran, a_quiet_close_has_the_meaning,
+    an_idle_pass_is_a_workers_pass,
+};
 use ptg_base::{OutOfMemory, TaskId};
 use std::alloc::Global;
 use std::sync::Wait;
@@ -70,8 +77,8 @@ fn in_stamp_order(alloc: Global, log: Vec<(u64, TaskId)>) -> Result<Vec<TaskId>,
     tasks_of(alloc, log)
 }
 
-/// Runs a job as `run` does, without a preload, and gives all claims of its passes in the order of their stamps: a
-/// legal order of the tasks that run. It may wait.
+/// Runs a job as `run` does, without a preload, and gives all claims of the passes of its closed table in the order of
+/// their stamps: a legal order of the tasks that run. It may wait.
 pub fn run_traced<R: Threads + Wait + Sync, G: Gate>(
     alloc: Global,
     rt: &R,
@@ -82,11 +89,18 @@ pub fn run_traced<R: Threads + Wait + Sync, G: Gate>(
     ensures job { IfOk result (λ (trace, closed). closed.job ≡ prepared.job) }
     ensures passes { IfOk result (λ (trace, closed). closed.passes ≡ prepared.workers) }
     ensures quiet { IfOk result (λ (trace, closed). HaveNoWork closed.shards) }
+    ensures ran { IfOk result (λ (trace, closed).
+        HasTheMeaning closed.job.matched closed.job.given (joined closed.records).state) }
+    ensures handed { IfOk result (λ (trace, closed).
+        WereHandedInputs closed.job.matched closed.job.given (joined closed.records).state.claims
+        (joined_handed closed.records)) }
+    ensures gate { IfOk result (λ (trace, closed). AreLetThrough (G.lets gate.now) (joined closed.records).state.claims) }
     ensures trace { IfOk result (λ (trace, closed). IsTraceOf closed trace.items) }
     ensures order { IfOk result (λ (trace, closed). IsWholeOrder prepared.job.matched prepared.job.given trace.items) }
 {
     all_passes_stay_all();
     an_idle_pass_is_a_workers_pass();
+    a_quiet_close_has_the_meaning();
     a_quiet_close_has_an_order_of_what_ran();
     let Prepared {
         table,

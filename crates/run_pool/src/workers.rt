@@ -20,7 +20,8 @@ fn work_untraced<R: Threads + Wait + Sync, B: Board, G: Gate>(
     gate: &G,
 )
     requires { IsReady (B.is_pass board.now) B.shown (B.plan board.now) desk.old }
-    ensures { HasWorkedAt (B.is_pass board.now) B.shown (B.preloaded board.now) desk.old desk.new }
+    ensures { HasWorkedAt (B.is_pass board.now) B.shown (B.plan board.now) (B.job_data board.now) (G.lets gate.now)
+        (B.preloaded board.now) desk.old desk.new }
 {
     let worker = desk.hands.number();
     let answer = work(
@@ -44,7 +45,8 @@ fn work_traced<R: Threads + Wait + Sync, B: Board, G: Gate>(
 )
     requires ready { IsReady (B.is_pass board.now) B.shown (B.plan board.now) desk.old }
     requires not_preloaded { B.preloaded board.now ≡ false }
-    ensures worked { HasWorkedAt (B.is_pass board.now) B.shown (B.preloaded board.now) desk.old desk.new }
+    ensures worked { HasWorkedAt (B.is_pass board.now) B.shown (B.plan board.now) (B.job_data board.now) (G.lets gate.now)
+        (B.preloaded board.now) desk.old desk.new }
     ensures logged { HasLoggedAt B.shown desk.old desk.new }
 {
     let worker = desk.hands.number();
@@ -71,7 +73,8 @@ fn work_at<R: Threads + Wait + Sync, B: Board, G: Gate>(
 )
     requires ready { IsReady (B.is_pass board.now) B.shown (B.plan board.now) desk.old }
     requires traced { traced ≡ true → B.preloaded board.now ≡ false }
-    ensures worked { HasWorkedAt (B.is_pass board.now) B.shown (B.preloaded board.now) desk.old desk.new }
+    ensures worked { HasWorkedAt (B.is_pass board.now) B.shown (B.plan board.now) (B.job_data board.now) (G.lets gate.now)
+        (B.preloaded board.now) desk.old desk.new }
     ensures logged { traced ≡ true → HasLoggedAt B.shown desk.old desk.new }
 {
     if traced {
@@ -81,8 +84,8 @@ fn work_at<R: Threads + Wait + Sync, B: Board, G: Gate>(
     }
 }
 
-/// Lets a worker work at each desk until all is quiet, in as many threads as desks where that many can be made. In a
-/// traced run, which is not preloaded, each log gains the claims of its worker.
+/// Lets a worker work at each desk until all is quiet, in as many threads as desks where that many can be made. The gate
+/// lets each worker run what it claims. In a traced run, which is not preloaded, each log gains the claims of its worker.
 pub fn team<R: Threads + Wait + Sync, B: Board, G: Gate>(
     rt: &R,
     board: &B,
@@ -96,7 +99,8 @@ where
     requires ready { AreReady (B.is_pass board.now) B.shown (B.plan board.now) desks.old.items }
     requires traced { traced ≡ true → B.preloaded board.now ≡ false }
     ensures count { length desks.new.items ≡ length desks.old.items }
-    ensures worked { HaveWorked (B.is_pass board.now) B.shown (B.preloaded board.now) desks.old.items desks.new.items }
+    ensures worked { HaveWorked (B.is_pass board.now) B.shown (B.plan board.now) (B.job_data board.now) (G.lets gate.now)
+        (B.preloaded board.now) desks.old.items desks.new.items }
     ensures logged { traced ≡ true → HaveLogged B.shown desks.old.items desks.new.items }
 {
     let threads = desks.len();
@@ -107,7 +111,8 @@ where
         &|_at: usize, desk: &mut CachePadded<Desk<B::Pass>>|
             requires ready { IsReady (B.is_pass board.now) B.shown (B.plan board.now) (padded_value desk.old) }
             requires traced { traced ≡ true → B.preloaded board.now ≡ false }
-            ensures worked { HasWorkedAt (B.is_pass board.entry.now) B.shown (B.preloaded board.entry.now)
+            ensures worked { HasWorkedAt (B.is_pass board.entry.now) B.shown (B.plan board.entry.now)
+                (B.job_data board.entry.now) (G.lets gate.entry.now) (B.preloaded board.entry.now)
                 (padded_value desk.old) (padded_value desk.new) }
             ensures logged { traced ≡ true → HasLoggedAt B.shown (padded_value desk.old) (padded_value desk.new) }
         {

@@ -36,6 +36,7 @@ use Rattle.table_rule.specs.Plays.{GivesClaim, HasName, HasTurn, Seated}
 use Rattle.table_rule.specs.Rule.{Parts, Rule, Table}
 use Rattle.table_rule.specs.Words.{live_word, stamp_word, turn_word}
 use Rattle.table_rule.proofs.Giving.{holds_turn}
+use Rattle.table_rule.proofs.Handing.{handed_more}
 use Rattle.table_rule.proofs.Living.{live_kept}
 use Rattle.table_rule.proofs.Moving.{given_back}
 use Rattle.table_rule.proofs.Naming.{named_not_empty}
@@ -43,15 +44,17 @@ use Rattle.table_rule.proofs.Passes.{claim_records}
 use Rattle.table_rule.proofs.Weighing.{term_le}
 
 -- the pass after the claim
-claim_owns : (v : PassRecord) (t : Task) → HasName v → OwnsWork v → OwnsWork (turn_left (with_own_claim v t))
-claim_owns v t named o = record {
+claim_owns : (v : PassRecord) (t : Task) (tiles : List FlowTile) → HasName v → OwnsWork v
+    → OwnsWork (turn_left (with_own_claim v t tiles))
+claim_owns v t tiles named o = record {
   running = λ f. omega (arith, o.running f, weigh-push f v.running t, weigh-push f v.claims t);
   sends = λ x i. IsIn-append_left (sender x.item) v.claims (t ∷ []) (o.sends x i);
   nameless = λ e. absurd (named_not_empty v.names named e);
 }
 
-claim_lives : (v : PassRecord) (t : Task) (k : ℕ) (y₀ : Content) → v.credit ≡ 0 → v.turns ≡ (k, y₀) ∷ [] → OwnsWork v → OwnsLives v → OwnsLives (turn_left (with_own_claim v t))
-claim_lives v t k y₀ none_left turn o l = record {
+claim_lives : (v : PassRecord) (t : Task) (tiles : List FlowTile) (k : ℕ) (y₀ : Content) → v.credit ≡ 0
+    → v.turns ≡ (k, y₀) ∷ [] → OwnsWork v → OwnsLives v → OwnsLives (turn_left (with_own_claim v t tiles))
+claim_lives v t tiles k y₀ none_left turn o l = record {
   credit = omega (arith, none_left, o.running (λ _. 1), weigh-one v.running, weigh-one v.claims, length-append v.running (t ∷ []), length-append v.claims (t ∷ []));
   stamps = λ u. omega (arith, l.stamps u, weigh-push (λ z. as_number (same_task u z)) v.claims t);
   stamped = λ u. omega (arith, l.stamped u, weigh-push (λ z. as_number (same_task u z)) v.claims t, weigh-push (λ z. as_number (same_task u z)) v.running t);
@@ -76,10 +79,11 @@ nothing_sent j s R id v t tiles k y₀ y r me takes share = let P : Plan = j.mat
 pub claims : (j : TableJob) (n id : ℕ) (m : Seated) (k : ℕ) (t : Task) (y₀ y : Content) (tiles : List FlowTile) → HasTurn m k y₀ y 0 → Takes y₀ y t tiles → Uses y₀.spare y.spare 0 None 0 0
     → Allows (Rule j) n id m (turn_word k) (λ _. 0) (λ _. GivesClaim (Some j) t tiles (step n (turn_word k) 0 0 none) m 0)
 claims j n id m k t y₀ y tiles h takes uses s rule wide me _ = let P : Plan = j.matched in let G : Data = j.given in let of : Placement = shard_of j.matched j.shards in
-    let R : Moment = rule.0 in let r = rule.1 in let v : PassRecord = m.0 in let w : PassRecord = turn_left (with_own_claim v t) in
+    let R : Moment = rule.0 in let r = rule.1 in let v : PassRecord = m.0 in let w : PassRecord = turn_left (with_own_claim v t tiles) in
     let held = holds_turn m k y₀ y 0 h in
     let share = r.held id v me k y₀ held in
     let may : MayClaim P R.state t = ready_may P G of k R y₀ share t takes.had.entry takes.had.is takes.had.ready in
+    let starts = nothing_sent j s R id v t tiles k y₀ y r me takes share in
     let at : of t ≡ k = (share.only t takes.had.entry takes.had.is).1 in (
       w,
       gives,
@@ -90,7 +94,8 @@ claims j n id m k t y₀ y tiles h takes uses s rule wide me _ = let P : Plan = 
           records = claim_records s.views id v w me R t refl refl refl r.records;
           sound = claim_sound P G r.consistent R.state r.sound t may;
           finished = finished-claim P G R r.finished t;
-          owns = claim_owns v t h.named (r.owned.each id v me);
+          owns = claim_owns v t tiles h.named (r.owned.each id v me);
+          handed = handed_more P G v.claims v.handed t tiles starts.run.inputs (r.handed id v me);
           names = refl;
           halts = refl;
           here = claim_here P G r.consistent of k R r.sound t y₀ y tiles at takes share;
@@ -99,10 +104,10 @@ claims j n id m k t y₀ y tiles h takes uses s rule wide me _ = let P : Plan = 
           sees = λ q. absurd ((r.quieted.calm id v me q).none_ready t may);
           live = live_kept P R (with_claim R t) (get_or s.words (live_word j.shards) 0) (get_or s.words (stamp_word j.shards) 0) s.views id v w me
               (omega (arith, ready_count P R.state, ready_count P (with_claim R t).state, ready-claim P R t may, length-append R.running (t ∷ [])))
-              (claim_lives v t k y₀ h.credit h.turn (r.owned.each id v me) (r.live.each id v me)) refl (λ x i. inl i) r.live;
+              (claim_lives v t tiles k y₀ h.credit h.turn (r.owned.each id v me) (r.live.each id v me)) refl (λ x i. inl i) r.live;
           spare_here = λ pre. reserve-claim P of k R t may y₀ y tiles takes uses ((r.reserved pre).held id v me k y₀ held);
           spare_others = λ pre x z ne q. reserve-claim_away P of x R t may z q;
         }),
       ),
-      (refl, nothing_sent j s R id v t tiles k y₀ y r me takes share),
+      (refl, starts),
     )

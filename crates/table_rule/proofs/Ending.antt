@@ -111,6 +111,7 @@ ends j n id m k t y₀ y h runs at stamped does s rule wide me _ = let P : Plan 
           sound = r.sound;
           finished = finished-end P G R r.finished t own d.finished;
           owns = end_owns v h.named (r.owned.each id v me);
+          handed = let g = r.handed id v me in record { tasks = g.tasks; inputs = g.inputs };
           names = refl;
           halts = refl;
           here = d.here (r.held id v me k y₀ held);

@@ -38,6 +38,7 @@ leaves j n id m k y₀ y h same uses s rule wide me _ = let R : Moment = rule.0 
           sound = r.sound;
           finished = r.finished;
           owns = record { running = o.running; sends = o.sends; nameless = λ e. absurd (named_not_empty v.names h.named e) };
+          handed = let g = r.handed id v me in record { tasks = g.tasks; inputs = g.inputs };
           names = refl;
           halts = refl;
           here = unchanged j.matched j.given (shard_of j.matched j.shards) k R y₀ y same (r.held id v me k y₀ held);

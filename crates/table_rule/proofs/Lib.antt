@@ -1,5 +1,6 @@
 pub mod Weighing
 pub mod Passes
+pub mod Handing
 pub mod Naming
 pub mod Turning
 pub mod Living

@@ -51,6 +51,7 @@ module _ (j : TableJob) (s : Table) (id : ℕ) (v : PassRecord) (R : Moment) (r 
     claims = refl;
     sends = refl;
     running = refl;
+    handed = refl;
     names = refl;
     turns = refl;
     owns = record { running = o.running; sends = o.sends; nameless = λ e. let n = o.nameless e in record { claims = n.claims; sends = n.sends; running = n.running; turns = n.turns; credit = n.credit; stamps = n.stamps } };
@@ -67,6 +68,7 @@ module _ (j : TableJob) (s : Table) (id : ℕ) (v : PassRecord) (R : Moment) (r 
     claims = refl;
     sends = refl;
     running = refl;
+    handed = refl;
     names = refl;
     turns = refl;
     owns = record { running = o.running; sends = o.sends; nameless = λ e. let n = o.nameless e in record { claims = n.claims; sends = n.sends; running = n.running; turns = n.turns; credit = n.credit; stamps = n.stamps } };
@@ -86,6 +88,7 @@ module _ (j : TableJob) (s : Table) (id : ℕ) (v : PassRecord) (R : Moment) (r 
         sound = r.sound;
         finished = r.finished;
         owns = record { running = o.running; sends = o.sends; nameless = λ e. absurd (named_not_empty v.names named e) };
+        handed = let h = r.handed id v me in record { tasks = h.tasks; inputs = h.inputs };
         names = refl;
         halts = refl;
         in_slots = λ z. absurd (omega arith);

@@ -13,10 +13,11 @@ use Rattle.table_rule.specs.declared.table_job.TableJob.{TableJob}
 use Rattle.table_rule.specs.Live.{AreLive}
 use Rattle.table_rule.specs.Owning.{AreOwned, OwnsWork}
 use Rattle.table_rule.specs.Quiet.{IsQuieted, raised}
-use Rattle.table_rule.specs.Records.{AreRecordsOf}
-use Rattle.table_rule.specs.Rule.{Parts, Reserve, Share, Table}
+use Rattle.table_rule.specs.Records.{AreRecordsOf, Each}
+use Rattle.table_rule.specs.Rule.{Parts, Reserve, Share, Table, WasHandedInputs}
 use Rattle.table_rule.specs.Turns.{AreHeld, holds}
 use Rattle.table_rule.specs.Words.{halt_word, live_word, stamp_word, turn_word}
+use Rattle.table_rule.proofs.Handing.{handed_same}
 use Rattle.table_rule.proofs.Naming.{same_names}
 use Rattle.table_rule.proofs.Passes.{each_kept, each_set, same_records, same_weight}
 use Rattle.table_rule.proofs.Turning.{Retunes, Slots, giving, held_after, in_slots_after, near_held, stay_else, stay_held, turns_after, turns_in}
@@ -37,6 +38,7 @@ pub record Turning (j : TableJob) (s : Table) (id : ℕ) (v w : PassRecord) (k n
   pub sound : IsSoundState j.matched j.given R'.state
   pub finished : AreFinished j.matched j.given R'
   pub owns : OwnsWork w
+  pub handed : WasHandedInputs j w
   pub names : w.names ≡ v.names
   pub halts : w.halts ≡ v.halts
   pub in_slots : new ≡ 0 → (y : Content) × (slot ≡ some y) × Share j R' k y
@@ -69,6 +71,7 @@ module _ (j : TableJob) (s : Table) (id : ℕ) (v w : PassRecord) (k new : ℕ) 
         records = g.records;
         sound = g.sound;
         owned = owned_kept s.views id v w t.me g.names g.owns r.owned;
+        handed = each_kept (WasHandedInputs j) s.views id w g.handed r.handed;
         finished = g.finished;
         in_slots = in_slots_after s.words s.homes s.views id v w k new slot t (Share j R) (Share j R') g.others g.in_slots r.in_slots;
         turns = turns_after s.words s.homes s.views id v w k new slot t r.turns;
@@ -93,6 +96,7 @@ pub record Giving (j : TableJob) (s : Table) (id : ℕ) (v w : PassRecord) (k : 
   pub sound : IsSoundState j.matched j.given R'.state
   pub finished : AreFinished j.matched j.given R'
   pub owns : OwnsWork w
+  pub handed : WasHandedInputs j w
   pub names : w.names ≡ v.names
   pub halts : w.halts ≡ v.halts
   pub here : Share j R' k y
@@ -116,6 +120,7 @@ module _ (j : TableJob) (s : Table) (id : ℕ) (v w : PassRecord) (k : ℕ) (y�
         sound = g.sound;
         finished = g.finished;
         owns = g.owns;
+        handed = g.handed;
         names = g.names;
         halts = g.halts;
         in_slots = λ _. (y, refl, g.here);
@@ -135,6 +140,7 @@ pub record Besides (j : TableJob) (s : Table) (words : List ℕ) (vs : List Pass
   pub turn_words : (k : ℕ) → k < j.shards → get_or words (turn_word k) 0 ≡ get_or s.words (turn_word k) 0
   pub records : AreRecordsOf R vs
   pub owned : AreOwned vs
+  pub handed : Each (WasHandedInputs j) vs
   pub holding : (k : ℕ) → weigh (holds k) vs ≡ weigh (holds k) s.views
   pub quieted : IsQuieted j.matched R (get_or words (halt_word j.shards) 0) vs
   pub live : AreLive j.matched R (get_or words (live_word j.shards) 0) (get_or words (stamp_word j.shards) 0) vs
@@ -152,6 +158,7 @@ beside j s words vs R r keeps b =
       records = b.records;
       sound = r.sound;
       owned = b.owned;
+      handed = b.handed;
       finished = r.finished;
       in_slots = λ k l z. r.in_slots k l (sym (b.turn_words k (near k l)) ∙ z);
       turns = record {
@@ -176,6 +183,7 @@ pub record Aside (j : TableJob) (s : Table) (id : ℕ) (v w : PassRecord) (words
   pub claims : w.claims ≡ v.claims
   pub sends : w.sends ≡ v.sends
   pub running : w.running ≡ v.running
+  pub handed : w.handed ≡ v.handed
   pub names : w.names ≡ v.names
   pub turns : w.turns ≡ v.turns
   pub owns : OwnsWork w
@@ -193,6 +201,8 @@ aside j s id v w words R r a = beside j s words (set s.views id w) R r
       turn_words = a.turn_words;
       records = same_records s.views id v w a.me R a.claims a.sends a.running r.records;
       owned = owned_kept s.views id v w a.me a.names a.owns r.owned;
+      handed = each_kept (WasHandedInputs j) s.views id w
+          (handed_same j.matched j.given v.claims w.claims v.handed w.handed a.claims a.handed (r.handed id v a.me)) r.handed;
       holding = λ k. same_weight s.views id v w a.me (holds k) (ap (turns_in k) a.turns);
       quieted = a.quieted;
       live = a.live;

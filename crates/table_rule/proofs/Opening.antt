@@ -19,8 +19,9 @@ use Rattle.table_rule.specs.Opening.{IsOpening}
 use Rattle.table_rule.specs.Owning.{OwnsWork}
 use Rattle.shard_meaning.specs.Placing.{shard_of}
 use Rattle.table_rule.specs.Records.{Each}
-use Rattle.table_rule.specs.Rule.{Rule}
+use Rattle.table_rule.specs.Rule.{Rule, WasHandedInputs}
 use Rattle.table_rule.specs.Words.{halt_word, stamp_word, turn_word}
+use Rattle.table_rule.proofs.Handing.{handed_none}
 use Rattle.table_rule.proofs.Naming.{named-at, snoc_some}
 use Rattle.table_rule.proofs.Splitting.{new_lives, new_owns}
 
@@ -55,6 +56,7 @@ opens j words shards o =
             parent = λ p k h. absurd (snoc_some p k (named-at (p ++ k ∷ []) ([], 0) (omega arith)));
           };
         };
+        handed = single (WasHandedInputs j) first_pass (handed_none j.matched j.given);
         finished = opening_finished j.matched j.given;
         in_slots = λ k l z. let y = some_shard shards k (near k l) in (y.0, y.2, opening_share j.matched (shard_of j.matched j.shards) k y.0 (o.each k y.0 y.1) j.given);
         turns = record {

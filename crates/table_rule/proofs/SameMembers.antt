@@ -74,6 +74,7 @@ module _ (j : TableJob) (s : Table) (R T : Moment) (r : Parts j s R) (same : IsR
         };
         sound = (reordered_moment j.matched R T same j.given sound).state;
         owned = r.owned;
+        handed = r.handed;
         finished = reordered_finished j.matched R T same j.given r.finished;
         in_slots = λ k l z. let h = r.in_slots k l z in (h.0, h.1, share k h.0 h.2);
         turns = r.turns;

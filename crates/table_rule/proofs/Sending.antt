@@ -146,6 +146,7 @@ sends j n id m k i tile y₀ y credits h next stamped does s rule wide me _ = le
           sound = send_sound P G r.consistent R.state r.sound i may;
           finished = finished-send P G R r.finished i may;
           owns = send_owns v x h.named next.runs (r.owned.each id v me);
+          handed = let g = r.handed id v me in record { tasks = g.tasks; inputs = g.inputs };
           names = refl;
           halts = refl;
           here = d.here share;

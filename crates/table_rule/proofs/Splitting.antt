@@ -25,9 +25,10 @@ use Rattle.table_rule.specs.Owning.{OwnsWork}
 use Rattle.table_rule.specs.Plays.{HasName}
 use Rattle.table_rule.specs.Quiet.{raised}
 use Rattle.table_rule.specs.Records.{AreRecordsOf, Each}
-use Rattle.table_rule.specs.Rule.{Rule}
+use Rattle.table_rule.specs.Rule.{Rule, WasHandedInputs}
 use Rattle.table_rule.specs.Turns.{holds}
 use Rattle.table_rule.specs.Words.{live_word, stamp_word}
+use Rattle.table_rule.proofs.Handing.{handed_both, handed_none}
 use Rattle.table_rule.proofs.Moving.{beside}
 use Rattle.table_rule.proofs.Naming.{exact_mine, named_not_empty, same_names, split_names}
 use Rattle.table_rule.proofs.Passes.{each_kept, each_snoc}
@@ -73,6 +74,8 @@ splits j id v x names s rule me = let R : Moment = rule.0 in let r = rule.1 in
                   (λ f. let a : weigh f w.names ≡ f (x.0, x.1 + 1) + 0 = ap (λ (l : List Name). weigh f (names_after_split l)) names in let b : weigh f v.names ≡ f x + 0 = ap (weigh f) names in let c : weigh f u.names ≡ f (x.0 ++ x.1 ∷ [], 0) + 0 = ap (λ (l : List Name). weigh f (names_split_off l)) names in
                   omega (arith, weigh-append (λ (z : PassRecord). weigh f z.names) vs (u ∷ []), weigh-set (λ (z : PassRecord). weigh f z.names) s.views id v w me));
             };
+            handed = each_snoc (WasHandedInputs j) vs u (handed_none j.matched j.given)
+                (each_kept (WasHandedInputs j) s.views id w (let h = r.handed id v me in record { tasks = h.tasks; inputs = h.inputs }) r.handed);
             holding = λ k. same (holds k) refl refl;
             quieted = record {
               calm = each_snoc (λ (z : PassRecord). z.quiet ≡ true → IsCalm j.matched R) vs u (λ q. cc) (each_kept (λ (z : PassRecord). z.quiet ≡ true → IsCalm j.matched R) s.views id w (r.quieted.calm id v me) r.quieted.calm);
@@ -133,6 +136,8 @@ joins j id v other u named s rule me apart them = let R : Moment = rule.0 in let
               }) r.owned.each;
               names = same_names s.views vs' (λ f. same (λ (z : PassRecord). weigh f z.names) (weigh-append f v.names u.names) refl) r.owned.names;
             };
+            handed = twice (WasHandedInputs j) (handed_none j.matched j.given)
+                (handed_both j.matched j.given v.claims u.claims v.handed u.handed (r.handed id v me) (r.handed other u there)) r.handed;
             holding = λ k. same (holds k) (weigh-append (λ (x : ℕ × Content). as_number (eqb x.0 k)) v.turns u.turns) refl;
             quieted = record {
               calm = twice (λ (z : PassRecord). z.quiet ≡ true → IsCalm j.matched R) (λ q. cc) (λ q. ⊎_elim (r.quieted.calm id v me) (r.quieted.calm other u there) (or_cases v.quiet u.quiet q)) r.quieted.calm;

@@ -142,6 +142,7 @@ draws_stamp j n id m t runs none_yet named s rule wide me _ = let R : Moment = r
           claims = refl;
           sends = refl;
           running = refl;
+          handed = refl;
           names = refl;
           turns = refl;
           owns = record { running = o.running; sends = o.sends; nameless = λ e. absurd (named_not_empty v.names named e) };

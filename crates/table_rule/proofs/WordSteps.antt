@@ -51,6 +51,7 @@ raises_halt j n id m late s rule wide me _ = let R : Moment = rule.0 in let r = 
           claims = refl;
           sends = refl;
           running = refl;
+          handed = refl;
           names = refl;
           turns = refl;
           owns = record { running = o.running; sends = o.sends; nameless = λ e. let q = o.nameless e in record { claims = q.claims; sends = q.sends; running = q.running; turns = q.turns; credit = q.credit; stamps = q.stamps } };
@@ -84,9 +85,9 @@ live_small j s R r = omega (arith, live_at_most j s R r, r.consistent.tasks_at_m
 
 -- a step on the live word: the credit of the pass changes as the word does
 module _ (j : TableJob) (s : Table) (id : ℕ) (v w : PassRecord) (new : ℕ) (R : Moment) (r : Parts j s R) (me : get_elem? s.views id ≡ some v) where
-  pub live_changed : new + v.credit ≡ get_or s.words (live_word j.shards) 0 + w.credit → w.claims ≡ v.claims → w.sends ≡ v.sends → w.running ≡ v.running → w.names ≡ v.names → w.turns ≡ v.turns → w.halts ≡ v.halts → w.quiet ≡ v.quiet → w.stamps ≡ v.stamps → OwnsWork w → OwnsLives w
+  pub live_changed : new + v.credit ≡ get_or s.words (live_word j.shards) 0 + w.credit → w.claims ≡ v.claims → w.sends ≡ v.sends → w.running ≡ v.running → w.names ≡ v.names → w.turns ≡ v.turns → w.halts ≡ v.halts → w.quiet ≡ v.quiet → w.stamps ≡ v.stamps → w.handed ≡ v.handed → OwnsWork w → OwnsLives w
       → Parts j (board (set s.words (live_word j.shards) new) s.homes (set s.views id w)) R
-  live_changed sum claims sends running names turns halts quiet stamps owns lives =
+  live_changed sum claims sends running names turns halts quiet stamps handed owns lives =
       let i : ℕ = live_word j.shards in
       let here : get_or (set s.words i new) i 0 ≡ new = get_or-set_same s.words i new 0 (omega (arith, r.words)) in
       let halt : get_or (set s.words i new) (halt_word j.shards) 0 ≡ get_or s.words (halt_word j.shards) 0 = get_or-set_other s.words i (halt_word j.shards) new 0 (λ e. absurd (omega arith)) in
@@ -96,6 +97,7 @@ module _ (j : TableJob) (s : Table) (id : ℕ) (v w : PassRecord) (new : ℕ) (R
         claims = claims;
         sends = sends;
         running = running;
+        handed = handed;
         names = names;
         turns = turns;
         owns = owns;
@@ -117,7 +119,7 @@ raises_live j n id m room named s rule wide me _ = let R : Moment = rule.0 in le
       tt,
       (
         R,
-        live_changed j s id v (with_credit v) ((old + 1) % 2 ^ 64) R r me (omega (arith, up)) refl refl refl refl refl refl refl refl
+        live_changed j s id v (with_credit v) ((old + 1) % 2 ^ 64) R r me (omega (arith, up)) refl refl refl refl refl refl refl refl refl
             (record { running = o.running; sends = o.sends; nameless = λ e. absurd (named_not_empty v.names named e) })
             (record { credit = omega (arith, o.running (λ _. 1), weigh-one v.running, weigh-one v.claims); stamps = l.stamps; stamped = l.stamped }),
       ),
@@ -136,7 +138,7 @@ lowers_live j n id m some_credit named s rule wide me _ = let R : Moment = rule.
       tt,
       (
         R,
-        live_changed j s id v (without_credit v) ((old + (2 ^ 64 - 1)) % 2 ^ 64) R r me (omega (arith, down)) refl refl refl refl refl refl refl refl
+        live_changed j s id v (without_credit v) ((old + (2 ^ 64 - 1)) % 2 ^ 64) R r me (omega (arith, down)) refl refl refl refl refl refl refl refl refl
             (record { running = o.running; sends = o.sends; nameless = λ e. absurd (named_not_empty v.names named e) })
             (record { credit = omega (arith, l.credit); stamps = l.stamps; stamped = l.stamped }),
       ),

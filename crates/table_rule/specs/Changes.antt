@@ -1,6 +1,7 @@
 -- How each kind of step changes the record of the pass that makes it. Source: this project's own choice.
 use Rattle.std.specs.Prelude.{ℕ, ◌+◌, ◌-◌, true, false, ◌||◌, List, [], ◌∷◌, ◌++◌}
 use Rattle.atomic_table.specs.Table.{rest}
+use Rattle.ptg_base.specs.Entry.{FlowTile}
 use Rattle.ptg_base.specs.Task.{Task}
 use Rattle.dep_shard.specs.Content.{Content}
 use Rattle.flow_meaning.specs.Machine.{SentItem}
@@ -24,6 +25,7 @@ new_pass names =
       looks = 0;
       credit = 0;
       stamps = [];
+      handed = [];
     }
 
 -- the first pass of a table
@@ -42,9 +44,14 @@ with_turn v k y = record v { look = (Turn k, 0); looks = v.looks + 1; turns = (k
 abbrev pub turn_left : PassRecord → PassRecord
 turn_left v = record v { turns = rest v.turns }
 
--- a pass that claimed a task, which it runs
-abbrev pub with_own_claim : PassRecord → Task → PassRecord
-with_own_claim v t = record v { claims = v.claims ++ t ∷ []; running = v.running ++ t ∷ [] }
+-- a pass that claimed a task, which it runs, and was handed these tiles with it
+abbrev pub with_own_claim : PassRecord → Task → List FlowTile → PassRecord
+with_own_claim v t tiles =
+    record v {
+      claims = v.claims ++ t ∷ [];
+      running = v.running ++ t ∷ [];
+      handed = v.handed ++ (t, tiles) ∷ [];
+    }
 
 -- a pass that sent an item; a task that fired thereby is ready in place of its credit
 abbrev pub with_own_send : PassRecord → SentItem → PassRecord
@@ -95,6 +102,7 @@ both v w =
       halts = v.halts || w.halts;
       credit = v.credit + w.credit;
       stamps = v.stamps ++ w.stamps;
+      handed = v.handed ++ w.handed;
     }
 
 -- the pass whose part another one has taken over

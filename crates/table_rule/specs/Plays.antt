@@ -65,10 +65,10 @@ TriesTurn j k st m r n =
 abbrev pub GivesBack : Step Content → Seated → ℕ → Seated → Type 0
 GivesBack st m r n = n ≡ (turn_left m.0, rest m.1)
 
--- a turn is given back with the claim of a task that may start
+-- a turn is given back with the claim of a task that may start, on the tiles that are handed out with it
 abbrev pub GivesClaim : Option TableJob → Task → List FlowTile → Step Content → Seated → ℕ → Seated → Type 0
 GivesClaim j t tiles st m r n =
-    (n ≡ (turn_left (with_own_claim m.0 t), rest m.1))
+    (n ≡ (turn_left (with_own_claim m.0 t tiles), rest m.1))
     × IfSome j (λ (i : TableJob). MayStart i.matched i.given t tiles m.0)
 
 -- a pass after it gave back, with a send, the turn that it took last: it has neither that turn nor its shard

@@ -7,6 +7,7 @@ use Rattle.ptg_base.specs.Task.{Task}
 use Rattle.list_lemmas.specs.Counting.{weigh}
 use Rattle.flow_meaning.specs.Machine.{SentItem}
 use Rattle.shard_meaning.specs.Moment.{Moment}
+use Rattle.work_board.specs.Handed.{HandedTask}
 use Rattle.work_board.specs.Records.{done_by}
 use Rattle.work_board.specs.declared.record.PassRecord.{PassRecord}
 
@@ -27,6 +28,10 @@ joined vs = record {
       record { claims = flat_map (λ (v : PassRecord). v.claims) vs; sends = flat_map (λ (v : PassRecord). v.sends) vs };
   running = flat_map (λ (v : PassRecord). v.running) vs;
 }
+
+-- what was handed out to all passes, one pass after the other
+abbrev pub joined_handed : List PassRecord → List HandedTask
+joined_handed vs = flat_map (λ (v : PassRecord). v.handed) vs
 
 -- what one pass did, as a moment
 abbrev pub moment_of : PassRecord → Moment

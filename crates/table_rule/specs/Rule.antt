@@ -10,13 +10,14 @@ use Rattle.shard_meaning.specs.Calm.{AreFinished}
 use Rattle.shard_meaning.specs.Moment.{Moment}
 use Rattle.shard_meaning.specs.Reserve.{HasReserve}
 use Rattle.shard_meaning.specs.Share.{IsShardOf, Placement}
+use Rattle.work_board.specs.Handed.{WereHandedInputs}
 use Rattle.work_board.specs.declared.record.PassRecord.{PassRecord}
 use Rattle.table_rule.specs.declared.table_job.TableJob.{TableJob}
 use Rattle.table_rule.specs.Live.{AreLive}
 use Rattle.table_rule.specs.Owning.{AreOwned}
 use Rattle.shard_meaning.specs.Placing.{shard_of}
 use Rattle.table_rule.specs.Quiet.{IsQuieted}
-use Rattle.table_rule.specs.Records.{AreRecordsOf}
+use Rattle.table_rule.specs.Records.{AreRecordsOf, Each}
 use Rattle.table_rule.specs.Turns.{AreHeld, AreInSlots, AreTurns}
 use Rattle.table_rule.specs.Words.{halt_word, live_word, stamp_word, word_count}
 
@@ -35,6 +36,10 @@ Share j R k y = IsShardOf j.matched j.given (placement_of j) k R y
 -- the shard k has spares for all that is due there
 abbrev pub Reserve : TableJob → Moment → ℕ → Content → Type 0
 Reserve j R k y = HasReserve j.matched (placement_of j) k R y
+
+-- a pass was handed the inputs of each task that it claimed
+abbrev pub WasHandedInputs : TableJob → PassRecord → Type 0
+WasHandedInputs j v = WereHandedInputs j.matched j.given v.claims v.handed
 
 -- a preloaded table: no pass has given up, and each shard has its spares, in its slot and when a turn was taken
 pub record IsReserved (j : TableJob) (R : Moment) (halted : ℕ)
@@ -56,6 +61,8 @@ pub record Parts (j : TableJob) (s : Table) (R : Moment) : Type 0 where
   pub sound : IsSoundState j.matched j.given R.state
   -- each pass works for its own claims, and the names of the passes are in order
   pub owned : AreOwned s.views
+  -- each pass was handed the inputs of each task that it claimed
+  pub handed : Each (WasHandedInputs j) s.views
   -- a claimed task that no pass runs has trapped, or all its items were sent
   pub finished : AreFinished j.matched j.given R
   -- a shard in its slot holds its part of the moment

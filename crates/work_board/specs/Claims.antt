@@ -27,11 +27,12 @@ pub record MayStart (P : Plan) (G : Data) (t : Task) (tiles : List FlowTile) (v 
   pub run : MayRun P G t tiles
   pub unsent : (i : Item) → IsIn i (items P t) → send_count (done_by v) i ≡ 0
 
--- The claim is added to the record with its stamp, and its task runs. All else stays but the looks and the shard taken
--- last.
-pub record AddsClaim (t : Task) (v w : PassRecord) : Type 0 where
+-- The claim is added to the record with its stamp and with the tiles that were handed out, and its task runs. All else
+-- stays but the looks and the shard taken last.
+pub record AddsClaim (t : Task) (tiles : List FlowTile) (v w : PassRecord) : Type 0 where
   pub stamp : ℕ
   pub claims : w.claims ≡ v.claims ++ t ∷ []
+  pub handed : w.handed ≡ v.handed ++ (t, tiles) ∷ []
   pub stamps : w.stamps ≡ v.stamps ++ (t, stamp) ∷ []
   pub running : w.running ≡ t ∷ []
   pub sends : w.sends ≡ v.sends
@@ -43,7 +44,7 @@ pub record HasClaimed (P : Plan) (G : Data) (k : ℕ) (t : Task) (tiles : List F
   pub took : TookShard k shard v w
   pub ready : HasReady shard t tiles
   pub may_start : MayStart P G t tiles v
-  pub added : AddsClaim t v w
+  pub added : AddsClaim t tiles v w
 
 -- The task had no ready entry in shard k, and nothing changed but the looks and the shard taken last.
 pub record FoundGone (k : ℕ) (t : Task) (v w : PassRecord) : Type 0 where

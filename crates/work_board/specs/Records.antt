@@ -7,6 +7,7 @@ use Rattle.flow_meaning.specs.Machine.{IsLater, MachineState}
 use Rattle.work_board.specs.declared.record.PassRecord.{PassRecord}
 use Rattle.work_board.specs.Word.{Word, Turn}
 use Rattle.work_board.specs.Stamps.{StampedTask}
+use Rattle.work_board.specs.Handed.{HandedTask}
 
 -- what a pass alone did, as a state of the event machine: its claims and its sends
 abbrev pub done_by : PassRecord → MachineState
@@ -26,10 +27,11 @@ pub record KeepsNamesAndMarks (v w : PassRecord) : Type 0 where
   pub halts : w.halts ≡ v.halts
   pub credit : w.credit ≡ v.credit
 
--- All that the pass did stays: its claims with their stamps, and its sends.
+-- All that the pass did stays: its claims with their stamps and what was handed out with them, and its sends.
 pub record KeepsDone (v w : PassRecord) : Type 0 where
   pub claims : w.claims ≡ v.claims
   pub stamps : w.stamps ≡ v.stamps
+  pub handed : w.handed ≡ v.handed
   pub sends : w.sends ≡ v.sends
 
 -- Nothing changes but the looks and the shard taken last.
@@ -61,6 +63,8 @@ pub record OnlyTook (k : ℕ) (v w : PassRecord) : Type 0 where
 -- Nothing that the pass did is undone, and its names stay: it has what it had, and maybe more after it.
 pub record IsLaterRecord (v w : PassRecord) : Type 0 where
   pub more_stamps : List StampedTask
+  pub more_handed : List HandedTask
   pub names : w.names ≡ v.names
   pub done : IsLater (done_by v) (done_by w)
   pub stamps : w.stamps ≡ v.stamps ++ more_stamps
+  pub handed : w.handed ≡ v.handed ++ more_handed

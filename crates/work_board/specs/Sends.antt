@@ -3,7 +3,7 @@
 -- answers are this project's own choice.
 use Rattle.std.specs.Prelude.{◌≡◌, ℕ, ◌+◌, ◌<◌, ℤ, true, false, Bool, List, [], ◌∷◌, ◌++◌, Option, Err, Some, IsTrue}
 use Rattle.std.specs.Option.{option_map_or}
-use Rattle.ptg_base.specs.Entry.{Entry}
+use Rattle.ptg_base.specs.Entry.{Entry, FlowTile}
 use Rattle.ptg_base.specs.Lists.{IsIn}
 use Rattle.ptg_base.specs.Task.{Task}
 use Rattle.ptg_base.specs.declared.edge.Item.{Item}
@@ -43,6 +43,7 @@ pub record AddsSend (i : Item) (tile : Option (List ℤ)) (v w : PassRecord) : T
   pub sends : w.sends ≡ v.sends ++ record { item = i; tile = tile } ∷ []
   pub claims : w.claims ≡ v.claims
   pub stamps : w.stamps ≡ v.stamps
+  pub handed : w.handed ≡ v.handed
   pub running : w.running ≡ v.running
   pub kept : KeepsNamesAndMarks v w
 
@@ -103,3 +104,9 @@ pub record HasEnded (k : ℕ) (v w : PassRecord) : Type 0 where
 abbrev pub EndAnswers : Bool → ℕ → PassRecord → PassRecord → Type 0
 EndAnswers true k v w = HasEnded k v w
 EndAnswers false k v w = FoundBusy (Turn k) v w
+
+-- What becomes of the tiles that came with a task when it ends: where the turn was taken, they stay. Else the board may
+-- have kept or dropped some or all of them, and each that is left is one of them.
+abbrev pub SpentAfter : Bool → List FlowTile → List FlowTile → Type 0
+SpentAfter true old new = (x : FlowTile) → IsIn x new → IsIn x old
+SpentAfter false old new = new ≡ old

@@ -7,7 +7,7 @@ ghost use Rattle.plan_data.specs.Fit.{DataFit};
 ghost use Rattle.dep_iter.specs.Tasks.{IsTask};
 ghost use Rattle.work_board.specs.Records.{IsClean, OnlyTook};
 ghost use Rattle.work_board.specs.Claims.{ClaimAnswers, ScanAnswers};
-ghost use Rattle.work_board.specs.Sends.{EndAnswers, IsNext, MayEnd, MayTrap, SendAnswers, shard_of_item};
+ghost use Rattle.work_board.specs.Sends.{EndAnswers, IsNext, MayEnd, MayTrap, SendAnswers, SpentAfter, shard_of_item};
 ghost use Rattle.work_board.specs.Looks.{HaltAnswers, HasHalted, HasStamp, QuietAnswers};
 
 use crate::answers::{Claim, Scan, Sent};
@@ -107,12 +107,13 @@ pub trait Board: Sync {
         ensures preloaded { preloaded self.now ≡ true → IsOk result };
 
     /// Ends the task that the pass runs, whose items were all sent. False only where the turn was taken. The board may
-    /// keep the tiles that came with the task, for what is sent later.
+    /// keep tiles that came with the task, for what is sent later; with false they stay.
     fn try_end(&self, pass: &mut Self::Pass, t: &TaskId, spent: &mut Arrivals) -> bool
         requires pass { is_pass self.now pass.old }
         requires task { MayEnd (plan self.now) (job_data self.now) t.now (shown pass.old) }
         ensures pass { is_pass self.now pass.new }
-        ensures ended { EndAnswers result (placement self.now t.now) (shown pass.old) (shown pass.new) };
+        ensures ended { EndAnswers result (placement self.now t.now) (shown pass.old) (shown pass.new) }
+        ensures spent { SpentAfter result spent.old spent.new };
 
     /// Notes that the task that the pass runs trapped with this cause. False only where the turn was taken.
     fn try_trap(&self, pass: &mut Self::Pass, t: &TaskId, cause: Trap) -> Result<bool, OutOfMemory>

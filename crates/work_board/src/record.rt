@@ -6,6 +6,7 @@ ghost use Rattle.dep_shard.specs.Content.{Content};
 ghost use Rattle.flow_meaning.specs.Machine.{SentItem};
 ghost use Rattle.work_board.specs.Word.{Word};
 ghost use Rattle.work_board.specs.Stamps.{StampedTask};
+ghost use Rattle.work_board.specs.Handed.{HandedTask};
 
 use std::marker::Model;
 
@@ -36,6 +37,8 @@ pub struct PassRecord {
     pub ghost credit: { ℕ },
     /// The stamps of its claims, each with its task.
     pub ghost stamps: { List StampedTask },
+    /// Its claims, each with the tiles that were handed out with it.
+    pub ghost handed: { List HandedTask },
 }
 
 impl Model for PassRecord {

@@ -88,6 +88,7 @@ module _ (P : Plan) (G : Data) where
       sends = sym (append-nil v.sends);
       claims = refl;
       stamps = refl;
+      handed = refl;
       running = refl;
       kept = record { names = refl; turns = refl; quiet = refl; halts = refl; credit = refl };
     };
@@ -102,6 +103,7 @@ module _ (P : Plan) (G : Data) where
           ∙ ap (λ l. v.sends ++ l) (sym (map-append (with_its_tile P G) far.before (i ∷ [])));
       claims = one.claims ∙ far.sent.claims;
       stamps = one.stamps ∙ far.sent.stamps;
+      handed = one.handed ∙ far.sent.handed;
       running = one.running ∙ far.sent.running;
       kept = kept_then far.sent.kept one.kept;
     };

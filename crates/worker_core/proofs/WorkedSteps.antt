@@ -49,7 +49,15 @@ module _ (P : Plan) (G : Data) (lets : Task → Type 0) (keeps : Bool) where
   pub nothing_done : (v : PassRecord) (log : List (ℕ × Task)) → v.running ≡ [] → IsWorked P G lets keeps 0 v v log log
   nothing_done v log idle = record {
     more = [];
-    claimed = record { more_sends = []; names = refl; claims = sym (append-nil v.claims); stamps = sym (append-nil v.stamps); sends = sym (append-nil v.sends) };
+    claimed = record {
+      more_handed = [];
+      more_sends = [];
+      names = refl;
+      claims = sym (append-nil v.claims);
+      stamps = sym (append-nil v.stamps);
+      handed = sym (append-nil v.handed);
+      sends = sym (append-nil v.sends);
+    };
     counted = refl;
     followed = record { ends = λ t h. absurd h; let_through = λ t h. absurd h; finished = λ t h. absurd h };
     idle = idle;
@@ -59,11 +67,14 @@ module _ (P : Plan) (G : Data) (lets : Task → Type 0) (keeps : Bool) where
   -- one claim more, and some sends after it
   claimed_more : (more : List StampedTask) (f : Found) (v w x y : PassRecord) (old mid new : List (ℕ × Task)) → HasClaimedMore more v w → (got : HasGotLogged P G keeps f w x mid new) → HasSentSome x y → HasClaimedMore (more ++ (f.task, got.got.added.stamp) ∷ []) v y
   claimed_more more f v w x y old mid new far got some = record {
+    more_handed = far.more_handed ++ (f.task, f.arrivals) ∷ [];
     more_sends = far.more_sends ++ some.more_sends;
     names = some.names ∙ got.got.added.kept.names ∙ far.names;
     claims = some.claims ∙ got.got.added.claims ∙ ap (λ l. l ++ f.task ∷ []) far.claims ∙ append_assoc v.claims (keys_of more) (f.task ∷ [])
         ∙ ap (λ l. v.claims ++ l) (sym (map-append (λ (c : StampedTask). c.0) more ((f.task, got.got.added.stamp) ∷ [])));
     stamps = some.stamps ∙ got.got.added.stamps ∙ ap (λ l. l ++ (f.task, got.got.added.stamp) ∷ []) far.stamps ∙ append_assoc v.stamps more ((f.task, got.got.added.stamp) ∷ []);
+    handed = some.handed ∙ got.got.added.handed ∙ ap (λ l. l ++ (f.task, f.arrivals) ∷ []) far.handed
+        ∙ append_assoc v.handed far.more_handed ((f.task, f.arrivals) ∷ []);
     sends = some.sends ∙ ap (λ l. l ++ some.more_sends) (got.got.added.sends ∙ far.sends) ∙ append_assoc v.sends far.more_sends some.more_sends;
   }
 

@@ -15,7 +15,7 @@ use Rattle.worker_core.specs.declared.next.Search.TheVariants as search
 pub record HasGot (P : Plan) (G : Data) (f : Found) (v w : PassRecord) : Type 0 where
   pub locals_are : f.locals ≡ locals_of P f.task
   pub may_start : MayStart P G f.task f.arrivals v
-  pub added : AddsClaim f.task v w
+  pub added : AddsClaim f.task f.arrivals v w
 
 -- The pass has seen quiet, and nothing else changed but its looks.
 pub record IsQuietAfter (v w : PassRecord) : Type 0 where

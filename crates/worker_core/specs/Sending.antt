@@ -32,6 +32,7 @@ pub record HasSentAll (P : Plan) (G : Data) (is : List Item) (v w : PassRecord) 
   pub sends : w.sends ≡ v.sends ++ map (with_its_tile P G) is
   pub claims : w.claims ≡ v.claims
   pub stamps : w.stamps ≡ v.stamps
+  pub handed : w.handed ≡ v.handed
   pub running : w.running ≡ v.running
   pub kept : KeepsNamesAndMarks v w
 
@@ -56,4 +57,5 @@ pub record HasSentSome (v w : PassRecord) : Type 0 where
   pub names : w.names ≡ v.names
   pub claims : w.claims ≡ v.claims
   pub stamps : w.stamps ≡ v.stamps
+  pub handed : w.handed ≡ v.handed
   pub sends : w.sends ≡ v.sends ++ more_sends

@@ -10,14 +10,18 @@ use Rattle.flow_meaning.specs.Machine.{SentItem}
 use Rattle.flow_meaning.specs.Sound.{IsFinished}
 use Rattle.work_board.specs.declared.record.PassRecord.{PassRecord}
 use Rattle.work_board.specs.Records.{done_by}
+use Rattle.work_board.specs.Handed.{HandedTask}
 use Rattle.work_board.specs.Stamps.{StampedTask}
 
--- The pass has these claims more, with their stamps, and maybe more sends; its names stay.
+-- The pass has these claims more, with their stamps and what was handed out with them, and maybe more sends; its names
+-- stay.
 pub record HasClaimedMore (more : List StampedTask) (v w : PassRecord) : Type 0 where
+  pub more_handed : List HandedTask
   pub more_sends : List SentItem
   pub names : w.names ≡ v.names
   pub claims : w.claims ≡ v.claims ++ keys_of more
   pub stamps : w.stamps ≡ v.stamps ++ more
+  pub handed : w.handed ≡ v.handed ++ more_handed
   pub sends : w.sends ≡ v.sends ++ more_sends
 
 -- Each of these tasks ends in this job, it was let through the gate, and the pass has sent all its items, or it traps.

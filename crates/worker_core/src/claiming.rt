@@ -1,6 +1,6 @@
 //! Claims of tasks.
 
-ghost use Rattle.std.specs.Prelude.{◌≡◌, [], MatchOption, IfNone, IfSome, OnSome};
+ghost use Rattle.std.specs.Prelude.{◌≡◌, [], MatchOption, IfNone, IfSome};
 ghost use Rattle.dep_iter.specs.Tasks as tasks;
 ghost use Rattle.dep_iter.specs.Tasks.{IsTask};
 ghost use Rattle.work_board.specs.Claims.{AddsClaim, MayStart};
@@ -38,7 +38,7 @@ fn claim<R: Threads + Wait + Sync, B: Board, G>(
     ensures gone { IfNone result (IsStill (B.shown pass.old) (B.shown pass.new)) }
     ensures start { IfSome result (λ tiles.
         MayStart (B.plan post.now.board.now) (B.job_data post.now.board.now) t.now tiles (B.shown pass.old)) }
-    ensures added { OnSome result (AddsClaim t.now (B.shown pass.old) (B.shown pass.new)) }
+    ensures added { IfSome result (λ tiles. AddsClaim t.now tiles (B.shown pass.old) (B.shown pass.new)) }
 {
     let backoff = Backoff::new();
     for _ in post.rt.forever() {

@@ -3,6 +3,6 @@ use Rattle.dep_table.proofs.quiet.a_closed_table_without_work_is_quiescent.Goals
 
 pub returns : goal.returns
 returns c = record {
-  calm = λ j R ys is none. (closed_calm j R ys is none, closed_quiescent j R ys is (closed_calm j R ys is none));
-  work = λ j R ys is calm. calm_closed j R ys is calm;
+  calm = λ j vs ys is none. (closed_calm j vs ys is none, closed_quiescent j vs ys is (closed_calm j vs ys is none));
+  work = λ j vs ys is calm. calm_closed j vs ys is calm;
 }

@@ -33,8 +33,13 @@ loop-hands-preserved c =
       pass = c.split-pass.ensures.pass;
       idle = ap (λ (w : PassRecord). w.running) now ∙ c.loop-hands.invariant.idle;
       ready = ready_more table plan ds d es c.loop-hands.invariant.ready one pushed;
+      unclaimed = ap (λ (w : PassRecord). w.claims) now ∙ c.loop-hands.invariant.unclaimed;
       unused = ap (λ (w : PassRecord). w.stamps) now ∙ c.loop-hands.invariant.unused;
-      fresh = fresh_more ds d es c.loop-hands.invariant.fresh (record { no_stamp = ap (λ (q : PassView). (shown q).stamps) on ∙ ap (λ (w : PassRecord). w.stamps) off; no_log = c.in_ok-new_desk.ensures.log }) pushed;
+      fresh = fresh_more ds d es c.loop-hands.invariant.fresh (record {
+        no_claim = ap (λ (q : PassView). (shown q).claims) on ∙ ap (λ (w : PassRecord). w.claims) off;
+        no_stamp = ap (λ (q : PassView). (shown q).stamps) on ∙ ap (λ (w : PassRecord). w.stamps) off;
+        no_log = c.in_ok-new_desk.ensures.log;
+      }) pushed;
       all = subst (λ (w : PassRecord). AreAll (w ∷ map record_on es)) (sym now) (all_more c.all_passes_stay_all.ensures.order (after_split v) (split_off v) ds d es both (ap shown on ∙ off) pushed);
       count = omega (arith, steps, longer, c.loop-hands.invariant.count);
     }
@@ -51,6 +56,10 @@ returns-clause-seated c =
     let one = ready_desk table plan d c.loop-hands.first on c.loop-hands.invariant.pass c.loop-hands.invariant.idle (subst (λ (P : Plan). IsBenchOf P (padded_value d).bench) c.matched-2.ensures c.in_ok-new_desk-2.ensures.bench) in
     record {
       ready = ready_more table plan ds d es c.loop-hands.invariant.ready one pushed;
-      fresh = fresh_more ds d es c.loop-hands.invariant.fresh (record { no_stamp = ap (λ (q : PassView). (shown q).stamps) on ∙ c.loop-hands.invariant.unused; no_log = c.in_ok-new_desk-2.ensures.log }) pushed;
+      fresh = fresh_more ds d es c.loop-hands.invariant.fresh (record {
+        no_claim = ap (λ (q : PassView). (shown q).claims) on ∙ c.loop-hands.invariant.unclaimed;
+        no_stamp = ap (λ (q : PassView). (shown q).stamps) on ∙ c.loop-hands.invariant.unused;
+        no_log = c.in_ok-new_desk-2.ensures.log;
+      }) pushed;
       all = all_seated c.all_passes_stay_all.ensures.order (shown c.loop-hands.first) ds d es c.loop-hands.invariant.all (ap shown on) pushed;
     }

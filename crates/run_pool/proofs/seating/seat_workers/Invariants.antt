@@ -15,6 +15,7 @@ invariant-loop-hands l = record {
   pass : IsPassOf (id_of l.table) l.first;
   idle : (shown l.first).running ≡ [];
   ready : AreReady (IsPassOf (id_of l.table)) shown (job_of l.table).matched l.desks.items;
+  unclaimed : (shown l.first).claims ≡ [];
   unused : (shown l.first).stamps ≡ [];
   fresh : (d : PaddedDesk) → IsIn d l.desks.items → IsFresh d;
   all : AreAll (shown l.first ∷ map record_on l.desks.items);

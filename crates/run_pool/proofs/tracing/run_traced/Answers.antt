@@ -8,7 +8,8 @@ use Rattle.dep_table.specs.Tables.{id_of, job_of}
 use Rattle.dep_table.proofs.Sharing.{pass_send, table_sync}
 use Rattle.run_pool.specs.Runs.{Run}
 use Rattle.run_pool.specs.Seated.{log_on, record_on}
-use Rattle.run_pool.proofs.Gathered.{all_passes, have_answered, one_saw_quiet}
+use Rattle.run_pool.proofs.Closed.{closed_at, ran_job, through_gate}
+use Rattle.run_pool.proofs.Gathered.{all_passes, have_answered, let_through, one_saw_quiet}
 use Rattle.run_pool.proofs.Traced.{logs_are, ran_order, trace_of}
 use Rattle.run_pool.proofs.tracing.run_traced.Goals as goal
 
@@ -29,19 +30,40 @@ team-requires-clause-traced g c κs within = λ _. ap (λ (r : Run). r.job.prelo
 pub passes_of-requires-clause-answered : goal.passes_of-requires-clause-answered
 passes_of-requires-clause-answered g c =
     let job = job_of c.prepared.inside.table in
-    have_answered c.prepared.inside.table job.matched job.preloaded c.prepared.inside.desks.items c.team.new.desks.items c.team.ensures.count c.team.ensures.worked
+    have_answered c.prepared.inside.table job.matched job.given (g.G.Gate.lets c.args.gate.now) job.preloaded c.prepared.inside.desks.items
+    c.team.new.desks.items c.team.ensures.count c.team.ensures.worked
 
 pub close-requires : goal.close-requires
 close-requires g c =
     let job = job_of c.prepared.inside.table in
     subst (AreAllPasses (id_of c.prepared.inside.table)) (sym c.in_ok-passes.ensures.passes)
-    (all_passes c.prepared.inside.table job.matched job.preloaded c.prepared.inside.desks.items c.team.new.desks.items c.team.ensures.count c.team.ensures.worked c.all_passes_stay_all.ensures.names c.prepared.invariant.0)
+    (all_passes c.prepared.inside.table job.matched job.given (g.G.Gate.lets c.args.gate.now) job.preloaded c.prepared.inside.desks.items
+    c.team.new.desks.items c.team.ensures.count c.team.ensures.worked c.all_passes_stay_all.ensures.names c.prepared.invariant.0)
 
 pub returns-clause-quiet : goal.returns-clause-quiet
 returns-clause-quiet g c =
     let job = job_of c.prepared.inside.table in
-    let one = one_saw_quiet c.prepared.inside.table job.matched job.preloaded c.prepared.inside.desks.items c.team.new.desks.items c.team.ensures.count c.team.ensures.worked c.prepared.invariant.1 c.in_ok-passes.ensures.done in
+    let one = one_saw_quiet c.prepared.inside.table job.matched job.given (g.G.Gate.lets c.args.gate.now) job.preloaded c.prepared.inside.desks.items
+    c.team.new.desks.items c.team.ensures.count c.team.ensures.worked c.prepared.invariant.1 c.in_ok-passes.ensures.done in
     c.close.ensures.quiet one.pass (subst (IsIn one.pass) (sym c.in_ok-passes.ensures.passes) one.among) one.quiet
+
+pub returns-clause-ran : goal.returns-clause-ran
+returns-clause-ran g c =
+    let at = closed_at (job_of c.prepared.inside.table) c.close.result c.close.ensures.job c.close.ensures.at in
+    ran_job c.a_quiet_close_has_the_meaning.ensures c.close.result at (returns-clause-quiet g c)
+
+pub returns-clause-handed : goal.returns-clause-handed
+returns-clause-handed g c =
+    (closed_at (job_of c.prepared.inside.table) c.close.result c.close.ensures.job c.close.ensures.at).handed
+
+pub returns-clause-gate : goal.returns-clause-gate
+returns-clause-gate g c =
+    let job = job_of c.prepared.inside.table in
+    let es = c.team.new.desks.items in
+    let lets = g.G.Gate.lets c.args.gate.now in
+    through_gate lets _ es c.close.result.records c.in_ok-passes.ensures.passes c.close.ensures.records
+    (let_through c.prepared.inside.table job.matched job.given lets job.preloaded c.prepared.inside.desks.items es
+    c.team.ensures.count c.team.ensures.worked c.prepared.invariant.0.fresh c.in_ok-passes.ensures.done)
 
 pub returns-clause-trace : goal.returns-clause-trace
 returns-clause-trace g c =
@@ -49,8 +71,12 @@ returns-clause-trace g c =
     let es = c.team.new.desks.items in
     let l = logs_are ds es c.team.ensures.count (c.team.ensures.logged refl) c.prepared.invariant.0.fresh in
     let sorted : AreInStampOrder (joined_stamps (map record_on es)) c.in_ok-tasks.tasks.items = c.in_ok-tasks.ensures (joined_stamps (map record_on es)) (c.in_ok-log.ensures ∙ (ap (flat_map log_on) c.as_slice.ensures.value ∙ l)) in
-    trace_of (job_of c.prepared.inside.table) c.close.result _ es c.in_ok-tasks.tasks.items c.close.ensures.job c.in_ok-passes.ensures.passes c.close.ensures.at c.close.ensures.order sorted
+    trace_of (job_of c.prepared.inside.table) c.close.result _ es c.in_ok-tasks.tasks.items c.close.ensures.job
+    c.in_ok-passes.ensures.passes c.close.ensures.records c.close.ensures.order sorted
 
 pub returns-clause-order : goal.returns-clause-order
 returns-clause-order g c =
-    ran_order c.a_quiet_close_has_an_order_of_what_ran.ensures _ c.close.result c.in_ok-tasks.tasks.items (c.close.ensures.job ∙ ap (λ (r : Run). r.job) c.prepared.view_is) (returns-clause-trace g c) (returns-clause-quiet g c)
+    let at = closed_at (job_of c.prepared.inside.table) c.close.result c.close.ensures.job c.close.ensures.at in
+    ran_order c.a_quiet_close_has_an_order_of_what_ran.ensures _ c.close.result c.in_ok-tasks.tasks.items
+    (c.close.ensures.job ∙ ap (λ (r : Run). r.job) c.prepared.view_is) at (returns-clause-trace g c)
+    (returns-clause-quiet g c)

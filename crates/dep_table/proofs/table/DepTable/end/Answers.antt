@@ -4,7 +4,6 @@ use mathlib.Core.Logic.{dite}
 use native.Mathlib.Decide.{ℕ_discrete}
 use Rattle.std.specs.Mem.Slots.{slots_counts, slots_filled, slots_items}
 use Rattle.dep_shard.specs.Content.{Content}
-use Rattle.table_rule.specs.Records.{moment_of}
 use Rattle.dep_table.specs.Views.{shown}
 use Rattle.dep_table.proofs.Closings.{closes, closes_order, closes_quiet, take_next}
 use Rattle.dep_table.proofs.table.DepTable.end.Goals as goal
@@ -36,11 +35,8 @@ invariant_of-result c =
     let items : List Content = slots_items c.loop-k.closed.slots in
     let counts = slots_counts c.loop-k.closed.slots in
     record {
-      ends = (
-        moment_of (shown c.args.pass),
-        closes c.args.self.job i.6 (shown c.args.pass) _ items c.loop-k.taken.items c.requires.all c.requires.no_turn i.7
-            (i.5 ∙ (ap (λ n. take n items) (omega (arith, c.loop-k-test.false, c.loop-k.auto.k-end, counts.0, i.2)) ∙ take-length items)),
-      );
+      ends = closes c.args.self.job i.6 (shown c.args.pass) c.args.records.records _ items c.loop-k.taken.items c.requires.all c.requires.no_turn c.requires.did c.requires.handed i.7
+          (i.5 ∙ (ap (λ n. take n items) (omega (arith, c.loop-k-test.false, c.loop-k.auto.k-end, counts.0, i.2)) ∙ take-length items));
       fit = c.args.self.fit;
       room = c.args.self.room.rows;
     }
@@ -50,7 +46,7 @@ returns-clause-at c =
     let i = c.loop-k.invariant in
     let items : List Content = slots_items c.loop-k.closed.slots in
     let counts = slots_counts c.loop-k.closed.slots in
-    closes c.args.self.job i.6 (shown c.args.pass) _ items c.loop-k.taken.items c.requires.all c.requires.no_turn i.7
+    closes c.args.self.job i.6 (shown c.args.pass) c.args.records.records _ items c.loop-k.taken.items c.requires.all c.requires.no_turn c.requires.did c.requires.handed i.7
     (i.5 ∙ (ap (λ n. take n items) (omega (arith, c.loop-k-test.false, c.loop-k.auto.k-end, counts.0, i.2)) ∙ take-length items))
 
 pub returns-clause-quiet : goal.returns-clause-quiet
@@ -58,8 +54,9 @@ returns-clause-quiet c =
     let i = c.loop-k.invariant in
     let items : List Content = slots_items c.loop-k.closed.slots in
     let counts = slots_counts c.loop-k.closed.slots in
-    closes_quiet c.args.self.job i.6 (shown c.args.pass) _ items c.loop-k.taken.items c.requires.all c.requires.no_turn i.7
+    closes_quiet c.args.self.job i.6 (shown c.args.pass) c.args.records.records _ items c.loop-k.taken.items c.requires.all c.requires.no_turn c.requires.did c.requires.handed i.7
     (i.5 ∙ (ap (λ n. take n items) (omega (arith, c.loop-k-test.false, c.loop-k.auto.k-end, counts.0, i.2)) ∙ take-length items))
 
 pub returns-clause-order : goal.returns-clause-order
-returns-clause-order c = let i = c.loop-k.invariant in closes_order c.args.self.job i.6 (shown c.args.pass) _ _ c.requires.all c.requires.stamped i.7
+returns-clause-order c = let i = c.loop-k.invariant in
+    closes_order c.args.self.job i.6 (shown c.args.pass) c.args.records.records _ _ c.requires.all c.requires.stamped c.requires.did c.requires.drew i.7

@@ -29,7 +29,7 @@ draw_stamp-pass-inside-requires-clause-none_yet c = let h = c.requires.turn in
 
 pub returns-clause-pass : goal.returns-clause-pass
 returns-clause-pass c = let h = c.requires.turn in elim c.match-take_ready.branch [
-  | in-Some w ↦ subst (IsPassOf _) (sym w.pass-is) (claim_pass _ _ _ _ h.3 _ _ c.pass.view_is _ _ _
+  | in-Some w ↦ subst (IsPassOf _) (sym w.pass-is) (claim_pass _ _ _ _ h.3 _ _ c.pass.view_is _ _ _ _
       (w.draw_stamp-pass-inside.ensures.me ∙ (λ k. (with_stamp (w.give_claim.ensures.me k).0 c.args.t.now w.draw_stamp-pass-inside.result, (w.give_claim.ensures.me k).1)))
       (sym (ap (λ (m : Seated). m.0.running) h.3.me) ∙ c.requires.idle) (w.draw_stamp-pass-inside.ensures.of ∙ w.give_claim.ensures.of) refl (ap (λ (p : PassView). rest p.me.1) c.pass.view_is ∙ ap (λ (m : Seated). rest m.1) h.3.me))
   | in-None w ↦ subst (IsPassOf _) (sym w.pass-is) (left_pass _ _ _ _ h.3 _ _ c.pass.view_is w.give.ensures.of refl w.give.ensures.me)
@@ -44,9 +44,9 @@ Gone t u q = (v : PassRecord) → (y z : Content) → IsTurnOf t v y z → Found
 
 pub returns-clause-some : goal.returns-clause-some
 returns-clause-some c = elim c.match-take_ready.branch [
-  | in-Some w ↦ subst (λ o. IfSome o (Claimed c.args.self c.args.t.now c.match-take_ready.pass)) (sym w.result-is) (λ v y z h. claim_done _ v y z h _ c.match-take_ready.pass c.pass.view_is _ _ _
+  | in-Some w ↦ subst (λ o. IfSome o (Claimed c.args.self c.args.t.now c.match-take_ready.pass)) (sym w.result-is) (λ v y z h. claim_done _ v y z h _ c.match-take_ready.pass c.pass.view_is _ _ _ _
       (ap (λ (p : PassView). p.me) w.pass-is ∙ w.draw_stamp-pass-inside.ensures.me ∙ (λ k. (with_stamp (w.give_claim.ensures.me k).0 c.args.t.now w.draw_stamp-pass-inside.result, (w.give_claim.ensures.me k).1)))
-      (sym (ap (λ (m : Seated). m.0.running) h.me) ∙ c.requires.idle) _ _ _ (held_is _ _ _ _ h _ c.pass.view_is _ _ _ c.slot_mut-held.ensures.value) w.in-Some.ensures.some w.give_claim.ensures.starts)
+      (sym (ap (λ (m : Seated). m.0.running) h.me) ∙ c.requires.idle) _ _ (held_is _ _ _ _ h _ c.pass.view_is _ _ _ c.slot_mut-held.ensures.value) w.in-Some.ensures.some w.give_claim.ensures.starts)
   | in-None w ↦ subst (λ o. IfSome o (Claimed c.args.self c.args.t.now c.match-take_ready.pass)) (sym w.result-is) tt
 ]
 
@@ -59,7 +59,7 @@ returns-clause-none c = elim c.match-take_ready.branch [
 
 pub returns-clause-last : goal.returns-clause-last
 returns-clause-last c = λ v y z h. elim c.match-take_ready.branch [
-  | in-Some w ↦ claim_last _ v y z h _ c.match-take_ready.pass c.pass.view_is _ _ _
+  | in-Some w ↦ claim_last _ v y z h _ c.match-take_ready.pass c.pass.view_is _ _ _ _
       (ap (λ (p : PassView). p.me) w.pass-is ∙ w.draw_stamp-pass-inside.ensures.me ∙ (λ k. (with_stamp (w.give_claim.ensures.me k).0 c.args.t.now w.draw_stamp-pass-inside.result, (w.give_claim.ensures.me k).1)))
       (sym (ap (λ (m : Seated). m.0.running) h.me) ∙ c.requires.idle)
   | in-None w ↦ gone_last _ v y z h _ c.match-take_ready.pass c.pass.view_is _ (ap (λ (p : PassView). p.me) w.pass-is ∙ w.give.ensures.me)
