@@ -18,7 +18,7 @@ use Rattle.ptg_top.specs.Tables.{IsTableAnswer}
 
 module _ (s : Settings) (P : Plan) (G : Data) where
   -- a table that was closed when it was quiet ran the job that was made ready
-  pub closed_is_run : (p : Run) (t : ClosedView) (r : ReceiptView) (outcome : Outcome) → p ≡ run_of P G s → t.job ≡ p.job → t.passes ≡ p.workers → r ≡ receipt_of t
+  pub closed_is_run : (p : Run) (t : ClosedView) (r : ReceiptView) (outcome : Outcome) → p ≡ run_of P G s → t.job ≡ p.job → t.passes ≡ p.workers → r ≡ receipt_of t outcome
       → outcome ≡ answer t.job.matched t.job.given → IsTableAnswer s P G (Table r) outcome
   closed_is_run p t r outcome run job passes receipt ended =
       let same : t.job ≡ (run_of P G s).job = job ∙ ap (λ (q : Run). q.job) run in

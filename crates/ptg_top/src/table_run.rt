@@ -1,6 +1,6 @@
 //! The run of a consistent job by the workers of a table.
 
-ghost use Rattle.std.specs.Prelude.{◌≡◌, IfOk};
+ghost use Rattle.std.specs.Prelude.{◌≡◌, true, IfOk, IsOk};
 ghost use Rattle.coll_data.specs.Data.{Data};
 ghost use Rattle.plan_core.specs.declared.plan.Plan.{Plan};
 ghost use Rattle.plan_data.specs.Fit.{DataFit};
@@ -19,13 +19,15 @@ use std::sync::Wait;
 use std::thread::Threads;
 use worker_core::Gate;
 
-/// Runs a job that was made ready, and gives its answer with the receipt of its table.
+/// Runs a job that was made ready, and gives its answer with the receipt of its table. A preloaded run is never refused
+/// memory.
 pub fn run_prepared<R: Threads + Wait + Sync, G: Gate>(
     host: &Host<R, G>,
     prepared: Prepared,
 ) -> Result<(RanBy, Outcome), OutOfMemory>
-    ensures { (P : Plan) (given : Data) (settings : SettingsValue) → prepared ≡ run_of P given settings
+    ensures ran { (P : Plan) (given : Data) (settings : SettingsValue) → prepared ≡ run_of P given settings
         → IfOk result (λ (by, outcome). IsTableAnswer settings P given by outcome) }
+    ensures preloaded { prepared.job.preloaded ≡ true → IsOk result }
 {
     let closed = run(host.rt, prepared, host.gate)?;
     let (outcome, receipt) = closed.outcome()?;

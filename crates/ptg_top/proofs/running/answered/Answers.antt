@@ -7,12 +7,12 @@ use Rattle.ptg_top.proofs.running.answered.Goals as goal
 -- the answer of the table, whose preload was not refused
 pub returns-in_ok-by-in-Ok-clause-answer : goal.returns-in_ok-by-in-Ok-clause-answer
 returns-in_ok-by-in-Ok-clause-answer g c =
-    let ran = c.in_ok-by-in-Ok.ensures c.args.matched c.args.given c.args.settings c.in-Ok.ensures.run in
+    let ran = c.in_ok-by-in-Ok.ensures.ran c.args.matched c.args.given c.args.settings c.in-Ok.ensures.run in
     fitting_is_answer c.args.matched c.args.settings c.args.given _ (λ bytes large. let e = (c.in-Ok.ensures.too_large bytes).1 large in absurd cc)
     (found_of_run c.args.settings c.args.matched c.args.given c.in_ok-by-in-Ok.by c.in_ok-by-in-Ok.outcome ran Answer (Answer c.in_ok-by-in-Ok.outcome) refl)
 
 pub returns-in_ok-by-in-Ok-clause-ran : goal.returns-in_ok-by-in-Ok-clause-ran
-returns-in_ok-by-in-Ok-clause-ran g c = (c.in_ok-by-in-Ok.ensures c.args.matched c.args.given c.args.settings c.in-Ok.ensures.run).settings
+returns-in_ok-by-in-Ok-clause-ran g c = (c.in_ok-by-in-Ok.ensures.ran c.args.matched c.args.given c.args.settings c.in-Ok.ensures.run).settings
 
 -- a preload that is too large
 pub returns-in-Err-PreloadTooLarge-clause-answer : goal.returns-in-Err-PreloadTooLarge-clause-answer

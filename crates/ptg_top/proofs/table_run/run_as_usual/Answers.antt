@@ -6,5 +6,5 @@ use Rattle.ptg_top.proofs.table_run.run_as_usual.Goals as goal
 
 pub returns : goal.returns
 returns g c =
-    c.run_prepared.ensures c.args.matched c.args.given usual_settings
+    c.run_prepared.ensures.ran c.args.matched c.args.given usual_settings
     (c.in_ok-prepared.ensures ∙ ap (λ (s : Settings). run_of c.args.matched c.args.given s) c.usual_settings.ensures)
