@@ -1,8 +1,7 @@
 -- Lists that grow piece by piece towards a whole one.
-use Rattle.std.proofs.Common.{◌≡◌, ℕ, ◌+◌, ◌≤◌, List, ◌++◌, length, take, drop, Option, None, Some, sym, ap, subst, ◌∙◌, refl, arith, append_assoc, length-append}
+use Rattle.std.proofs.Common.{◌≡◌, ℕ, ◌+◌, ◌≤◌, List, ◌++◌, length, take, drop, sym, ap, subst, ◌∙◌, arith, append_assoc, length-append}
 use Rattle.std.proofs.lemmas.List.{take_all, take-take, length-take}
 use Rattle.std.proofs.Math.Seq.{take-add}
-use Rattle.ptg_io.specs.Sink.{appended}
 
 -- the first bytes of a file are all of it, if it has no more
 pub whole_at_end : (bytes file : List ℕ) → bytes ≡ take (length bytes) file → length file ≤ length bytes → bytes ≡ file
@@ -20,16 +19,11 @@ more_so_far bytes new file piece from n grown from_is so_far within piece_is =
     let both : new ≡ take (length bytes + n) file = grown ∙ ap (λ b. b ++ take n piece) so_far ∙ ap (λ t. take (length bytes) file ++ t) rest ∙ sym split in
     both ∙ ap (λ k. take k file) (sym size)
 
--- two pieces are appended as one
-pub appended_twice : (old : Option (List ℕ)) (xs ys : List ℕ) → appended (appended old xs) ys ≡ appended old (xs ++ ys)
-appended_twice None xs ys = refl
-appended_twice (Some bytes) xs ys = ap Some (append_assoc bytes xs ys)
-
 -- a sink that took the first k bytes, and then n of a piece that follows them, has taken k + n bytes
-pub appended_more : (old before now : Option (List ℕ)) (bytes : List ℕ) (k n m : ℕ) → n ≤ m → before ≡ appended old (take k bytes) → now ≡ appended before (take n (take m (drop k bytes))) → now ≡ appended old (take (k + n) bytes)
+pub appended_more : (old before now bytes : List ℕ) (k n m : ℕ) → n ≤ m → before ≡ old ++ take k bytes → now ≡ before ++ take n (take m (drop k bytes)) → now ≡ old ++ take (k + n) bytes
 appended_more old before now bytes k n m within first then =
     then
-    ∙ ap (λ b. appended b (take n (take m (drop k bytes)))) first
-    ∙ appended_twice old (take k bytes) (take n (take m (drop k bytes)))
-    ∙ ap (λ t. appended old (take k bytes ++ t)) (take-take n m (drop k bytes) within)
-    ∙ ap (λ t. appended old t) (sym (take-add k n bytes))
+    ∙ ap (λ b. b ++ take n (take m (drop k bytes))) first
+    ∙ append_assoc old (take k bytes) (take n (take m (drop k bytes)))
+    ∙ ap (λ t. old ++ (take k bytes ++ t)) (take-take n m (drop k bytes) within)
+    ∙ ap (λ t. old ++ t) (sym (take-add k n bytes))

@@ -1,5 +1,5 @@
 pub mod Faults
 pub mod Files
 pub mod Load
+pub mod Reads
 pub mod Memory
-pub mod Sink

@@ -3,6 +3,7 @@ use Rattle.std.specs.Prelude.{◌≡◌, ◌≢◌, ◌⊎◌, ℕ, List, Option
 use Rattle.std.specs.Str.{bytes_eq}
 use Rattle.ptg_io.specs.Faults.{one_more}
 use Rattle.ptg_io.specs.Files.{NamedFiles}
+use Rattle.ptg_io.specs.Reads.{Read}
 
 -- the index of the first file with this name, counted from 0
 abbrev pub index_of : NamedFiles → List ℕ → Option ℕ
@@ -14,13 +15,15 @@ fault_count failed missing None = missing
 fault_count failed missing (Some index) = slice_index failed index
 
 -- what files in memory are: the files as names and bytes; for each, how many of its reads failed, and how many of a
--- name that is missing; the number of the reads so far; and the numbers of the reads that fail, from 1
+-- name that is missing; the number of the reads so far; the numbers of the reads that fail, from 1; and the reads that
+-- did not fail
 pub record MemoryFiles : Type 0 where
   pub files : NamedFiles
   pub failed : List ℕ
   pub missing : ℕ
   pub reads : ℕ
   pub fails : List ℕ
+  pub history : List Read
 
 -- how many reads of this name failed
 abbrev pub failed_reads : MemoryFiles → List ℕ → ℕ
@@ -34,7 +37,7 @@ pub record CountsFault (old new : MemoryFiles) (name : List ℕ) : Type 0 where
   pub others : (other : List ℕ) → index_of old.files other ≢ index_of old.files name
       → failed_reads new other ≡ failed_reads old other
 
--- a read that gives bytes has the next number, which is none of those that fail, and changes nothing else
+-- a read that does not fail has the next number, which is none of those that fail; besides, it adds itself to the reads
 pub record CountsRead (old new : MemoryFiles) : Type 0 where
   pub allowed : ¬ Contains old.fails new.reads
   pub next : new
@@ -44,6 +47,7 @@ pub record CountsRead (old new : MemoryFiles) : Type 0 where
         missing = old.missing;
         reads = one_more old.reads;
         fails = old.fails;
+        history = new.history;
       }
 
 -- A read of a name that fails has the next number, which is one of those that fail, or its name is missing. Besides, it
@@ -54,6 +58,7 @@ pub record CountsFailedRead (old new : MemoryFiles) (name : List ℕ) : Type 0 w
   pub faults : CountsFault old new name
   pub files : new.files ≡ old.files
   pub fails : new.fails ≡ old.fails
+  pub history : new.history ≡ old.history
 
 -- what a sink in memory is: the bytes written; how many writes failed; the number of the writes so far; and the numbers
 -- of the writes that fail, from 1

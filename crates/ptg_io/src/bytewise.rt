@@ -1,6 +1,6 @@
 //! Files that give one byte a read, and a sink that takes one byte a write.
 
-ghost use Rattle.std.specs.Prelude.{None};
+ghost use Rattle.std.specs.Prelude.{Some};
 ghost use Rattle.ptg_io.specs.Memory.{failed_reads};
 
 use crate::files::{Failed, Files};
@@ -15,7 +15,9 @@ pub struct ByteFiles {
 }
 
 impl Files for ByteFiles {
-    ghost contents = { λ _. None };
+    ghost contents = { λ f. Some f.files.files };
+
+    ghost reads = { λ f. f.files.history };
 
     ghost faults = { λ f. failed_reads f.files };
 
@@ -31,7 +33,7 @@ pub struct ByteSink {
 }
 
 impl Sink for ByteSink {
-    ghost bytes = { λ _. None };
+    ghost bytes = { λ s. s.sink.bytes };
 
     ghost faults = { λ s. s.sink.failed };
 

@@ -1,8 +1,9 @@
 //! Files that are read by name.
 
-ghost use Rattle.std.specs.Prelude.{◌≡◌, ◌<◌, ◌≤◌, ⊤, List, ℕ, Option, length, IfOk, OnOk, OnErr};
+ghost use Rattle.std.specs.Prelude.{◌≡◌, ◌<◌, ◌≤◌, ⊤, List, [], ◌∷◌, ◌++◌, ℕ, Option, length, take, IfOk, OnOk, OnErr};
 ghost use Rattle.ptg_io.specs.Faults.{Rose};
 ghost use Rattle.ptg_io.specs.Files.{NamedFiles, ReadsPiece};
+ghost use Rattle.ptg_io.specs.Reads.{Read};
 
 /// A read or a write failed.
 #[derive(Clone, Copy, Debug, PartialEq, Eq)]
@@ -12,6 +13,9 @@ pub struct Failed;
 pub trait Files {
     /// The files as names and bytes, where that is known.
     ghost contents: { Self → Option NamedFiles };
+
+    /// The reads so far that did not fail, in order: what each gave.
+    ghost reads: { Self → List Read };
 
     /// How many reads of a name failed so far.
     ghost faults: { Self → List ℕ → ℕ };
@@ -29,6 +33,9 @@ pub trait Files {
         ensures within { IfOk result (λ n. n ≤ length into.new) }
         ensures given { (files : NamedFiles) → contents self.old ≡ Some files →
             IfOk result (λ n. ReadsPiece files name.now from n into.new) }
+        ensures noted { IfOk result (λ n. reads self.new
+            ≡ reads self.old ++ record { name = name.now; from = from; piece = take n into.new } ∷ []) }
+        ensures not_noted { OnErr result (reads self.new ≡ reads self.old) }
         ensures gives { IfOk result (λ n. read_gives self.old name.now from n self.new) }
         ensures read_fails { OnErr result (read_fails self.old name.now from self.new) }
         ensures grows { (other : List ℕ) → faults self.old other ≤ faults self.new other }

@@ -4,6 +4,7 @@
 mod bytewise;
 mod file;
 mod files;
+mod history;
 mod loading;
 mod memory_files;
 mod memory_sink;
@@ -15,6 +16,7 @@ mod writing;
 pub use bytewise::{ByteFiles, ByteSink};
 pub use file::File;
 pub use files::{Failed, Files};
+pub use history::{Offset, ReadHistory, WriteHistory};
 pub use loading::{LoadFault, load};
 pub use memory_files::MemFiles;
 pub use memory_sink::MemSink;

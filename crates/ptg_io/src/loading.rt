@@ -1,10 +1,11 @@
 //! Reading a whole file.
 
-ghost use Rattle.std.specs.Prelude.{◌≡◌, ◌<◌, ◌≤◌, ◌+◌, List, ℕ, length, vec_len, IfOk, OnOk, IsErrOf, IsTrue, IsFalse};
+ghost use Rattle.std.specs.Prelude.{◌≡◌, ◌<◌, ◌≤◌, ◌+◌, ◌++◌, List, ℕ, length, vec_len, IfOk, OnOk, OnErr, IsErrOf, IsTrue, IsFalse};
 ghost use Rattle.ptg_base.specs.Limits.{most_bytes};
 ghost use Rattle.ptg_io.specs.Faults.{Rose};
 ghost use Rattle.ptg_io.specs.Files.{file_of, IsLonger, NamedFiles};
 ghost use Rattle.ptg_io.specs.Load.{FailsWithin, IsReadSoFar, StopsPast};
+ghost use Rattle.ptg_io.specs.Reads.{AddsAtMostOne, AddsPieces, AddsRead, HaveBegun, IsLoaded};
 ghost use Rattle.ptg_io.specs.declared.loading.LoadFault.TheVariants.{Failed, OutOfMemory};
 
 use crate::files::{self, Files};
@@ -55,6 +56,13 @@ pub fn load<F: Files>(alloc: Global, files: &mut F, name: &str) -> Result<Seq<u8
     ensures grows { (other : List ℕ) → F.faults files.old other ≤ F.faults files.new other }
     ensures given { (entries : NamedFiles) → F.contents files.old ≡ Some entries →
         IfOk result (λ bytes. file_of entries name.now ≡ Some bytes) }
+    ensures loaded { IfOk result (λ bytes.
+        IsLoaded (record { name = name.now; text = bytes }) (F.reads files.old) (F.reads files.new)) }
+    ensures long { IsErrOf result LoadFault.TooLong → (text : List ℕ) × (most_bytes < length text) ×
+        IsLoaded (record { name = name.now; text = text }) (F.reads files.old) (F.reads files.new) }
+    ensures begun { ¬ IsErrOf result LoadFault.TooLong →
+        OnErr result (HaveBegun name.now (F.reads files.old) (F.reads files.new)) }
+    ensures pieces { AddsPieces (F.contents files.old) (F.reads files.old) (F.reads files.new) }
     ensures bounded { IfOk result (λ bytes. length bytes ≤ most_bytes) }
     ensures failed { IsErrOf result LoadFault.Failed →
         Rose (F.faults files.old name.now) (F.faults files.new name.now) }
@@ -93,6 +101,13 @@ fn read_all<F: Files>(
     ensures grows { (other : List ℕ) → F.faults files.old other ≤ F.faults files.new other }
     ensures given { (entries : NamedFiles) → F.contents files.old ≡ Some entries →
         IfOk result (λ bytes. file_of entries name.now ≡ Some bytes.items) }
+    ensures loaded { IfOk result (λ bytes.
+        IsLoaded (record { name = name.now; text = bytes.items }) (F.reads files.old) (F.reads files.new)) }
+    ensures long { IsErrOf result LoadFault.TooLong → (text : List ℕ) × (most_bytes < length text) ×
+        IsLoaded (record { name = name.now; text = text }) (F.reads files.old) (F.reads files.new) }
+    ensures begun { ¬ IsErrOf result LoadFault.TooLong →
+        OnErr result (HaveBegun name.now (F.reads files.old) (F.reads files.new)) }
+    ensures pieces { AddsPieces (F.contents files.old) (F.reads files.old) (F.reads files.new) }
     ensures bounded { IfOk result (λ bytes. vec_len bytes ≤ most_bytes) }
     ensures failed { IsErrOf result LoadFault.Failed →
         Rose (F.faults files.old name.now) (F.faults files.new name.now) }
@@ -131,6 +146,15 @@ fn read_piece<F: Files>(
     ensures more { IfOk result (λ more. IsTrue more → vec_len bytes.old < vec_len bytes.new) }
     ensures read { OnOk result ((n : ℕ) × F.read_gives files.old name.now (vec_len bytes.old) n files.new ×
         (vec_len bytes.new ≡ vec_len bytes.old + n)) }
+    ensures adds { OnOk result ((given : List ℕ) × (bytes.new.items ≡ bytes.old.items ++ given) ×
+        AddsRead name.now (length bytes.old.items) given (F.reads files.old) (F.reads files.new)) }
+    ensures none_more { IfOk result (λ more. IsFalse more → bytes.new.items ≡ bytes.old.items) }
+    ensures too_many { IsErrOf result LoadFault.TooLong → (given : List ℕ) ×
+        AddsRead name.now (length bytes.old.items) given (F.reads files.old) (F.reads files.new) ×
+        (most_bytes < length bytes.old.items + length given) }
+    ensures begun { ¬ IsErrOf result LoadFault.TooLong →
+        OnErr result (AddsAtMostOne name.now bytes.old.items (F.reads files.old) (F.reads files.new)) }
+    ensures pieces { AddsPieces (F.contents files.old) (F.reads files.old) (F.reads files.new) }
     ensures end { IfOk result (λ more. IsFalse more →
         (entries : NamedFiles) → F.contents files.old ≡ Some entries →
         file_of entries name.now ≡ Some bytes.new.items) }

@@ -1,12 +1,13 @@
 //! Files in memory, some of whose reads fail.
 
-ghost use Rattle.std.specs.Prelude.{◌≡◌, ◌≢◌, ◌<◌, ◌≤◌, ◌-◌, ◌⊎◌, ◌↔◌, min, List, ℕ, Option, Some, None, length, Contains, IfOk, IfSome, OnOk, OnErr, IsErr};
+ghost use Rattle.std.specs.Prelude.{◌≡◌, ◌≢◌, ◌<◌, ◌≤◌, ◌-◌, ◌⊎◌, ◌↔◌, min, List, [], ◌∷◌, ◌++◌, ℕ, Option, Some, None, length, take, Contains, IfOk, IfSome, OnOk, OnErr, IsErr};
 ghost use Rattle.ptg_io.specs.Faults.{Rose, one_more};
 ghost use Rattle.ptg_io.specs.Files.{file_of, IsPiece, NamedFiles, ReadsPiece};
 ghost use Rattle.ptg_io.specs.Memory.{index_of, fault_count, failed_reads, CountsFailedRead, CountsFault, CountsRead};
 
 use crate::file::File;
 use crate::files::{Failed, Files};
+use crate::history::{Offset, ReadHistory};
 use ptg_base::{OutOfMemory, Seq};
 use std::alloc::Global;
 use std::marker::Model;
@@ -19,6 +20,7 @@ pub struct MemFiles {
     missing: u64,
     reads: u64,
     failing: Seq<u64>,
+    history: ReadHistory,
 }
 
 impl Model for MemFiles {
@@ -28,7 +30,9 @@ impl Model for MemFiles {
     ghost Value = { MemoryFiles };
 
     ghost view = { λ m.
-        record { files = m.all; failed = m.failed; missing = m.missing; reads = m.reads; fails = m.failing } };
+        record {
+            files = m.all; failed = m.failed; missing = m.missing; reads = m.reads; fails = m.failing;
+            history = m.history.reads } };
 
     ghost invariant = { λ m. length m.failed ≡ length m.all };
 }
@@ -40,6 +44,7 @@ impl MemFiles {
         ensures no_faults { IfOk result (λ held. (name : List ℕ) → ⟦<MemFiles as Files>⟧.faults held name ≡ 0) }
         ensures start { IfOk result (λ held. held.reads ≡ 0) }
         ensures fails { IfOk result (λ held. held.fails ≡ fails) }
+        ensures no_reads { IfOk result (λ held. held.history ≡ []) }
     {
         let failed = vec![in alloc; 0u64; files.len()]?;
         Ok(MemFiles {
@@ -48,12 +53,15 @@ impl MemFiles {
             missing: 0,
             reads: 0,
             failing: fails,
+            history: ReadHistory::new(),
         })
     }
 }
 
 impl Files for MemFiles {
     ghost contents = { λ m. Some m.files };
+
+    ghost reads = { λ m. m.history };
 
     ghost faults = { failed_reads };
 
@@ -67,6 +75,9 @@ impl Files for MemFiles {
         ensures within { IfOk result (λ n. n ≤ length into.new) }
         ensures given { (files : NamedFiles) → Some self.old.files ≡ Some files →
             IfOk result (λ n. ReadsPiece files name.now from n into.new) }
+        ensures noted { IfOk result (λ n. self.new.history
+            ≡ self.old.history ++ record { name = name.now; from = from; piece = take n into.new } ∷ []) }
+        ensures not_noted { OnErr result (self.new.history ≡ self.old.history) }
         ensures gives { IfOk result (λ n. CountsRead self.old self.new) }
         ensures read_fails { OnErr result (CountsFailedRead self.old self.new name.now) }
         ensures grows { (other : List ℕ) → failed_reads self.old other ≤ failed_reads self.new other }
@@ -88,7 +99,11 @@ impl Files for MemFiles {
         let index = index_of(self.all.as_slice(), name.as_bytes());
         let fails = self.failing.as_slice().contains(&self.reads);
         match index {
-            Some(at) if !fails => Ok(copy_piece(self.all.get(at).bytes(), from, into)),
+            Some(at) if !fails => {
+                let n = copy_piece(self.all.get(at).bytes(), from, into);
+                self.history.note(name.as_bytes(), &Offset { value: from }, &into[..n]);
+                Ok(n)
+            }
             _ => {
                 count_fault(&mut self.failed, &mut self.missing, index);
                 Err(Failed)

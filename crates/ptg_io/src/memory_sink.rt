@@ -1,8 +1,7 @@
 //! A sink in memory, some of whose writes fail.
 
-ghost use Rattle.std.specs.Prelude.{◌≡◌, ◌<◌, ◌≤◌, [], Some, length, take, Contains, IfOk, OnOk, OnErr, IsErr};
+ghost use Rattle.std.specs.Prelude.{◌≡◌, ◌<◌, ◌≤◌, [], ◌++◌, length, take, Contains, IfOk, OnOk, OnErr, IsErr};
 ghost use Rattle.ptg_io.specs.Faults.{Rose, one_more};
-ghost use Rattle.ptg_io.specs.Sink.{appended};
 
 use crate::files::Failed;
 use crate::sink::Sink;
@@ -42,14 +41,14 @@ impl MemSink {
 
     /// The bytes written so far.
     pub fn bytes(&self) -> &[u8]
-        ensures { ⟦<MemSink as Sink>⟧.bytes self.now ≡ Some result.now }
+        ensures { ⟦<MemSink as Sink>⟧.bytes self.now ≡ result.now }
     {
         self.content.as_slice()
     }
 }
 
 impl Sink for MemSink {
-    ghost bytes = { λ m. Some m.bytes };
+    ghost bytes = { λ m. m.bytes };
 
     ghost faults = { λ m. m.failed };
 
@@ -57,8 +56,8 @@ impl Sink for MemSink {
         requires { 0 < length piece.now }
         ensures some { IfOk result (λ n. 1 ≤ n) }
         ensures within { IfOk result (λ n. n ≤ length piece.now) }
-        ensures ok { IfOk result (λ n. Some self.new.bytes ≡ appended (Some self.old.bytes) (take n piece.now)) }
-        ensures kept { OnErr result (Some self.new.bytes ≡ Some self.old.bytes) }
+        ensures ok { IfOk result (λ n. self.new.bytes ≡ self.old.bytes ++ take n piece.now) }
+        ensures kept { OnErr result (self.new.bytes ≡ self.old.bytes) }
         ensures grows { self.old.failed ≤ self.new.failed }
         ensures failed { OnErr result (Rose self.old.failed self.new.failed) }
 

@@ -1,15 +1,14 @@
 //! Where bytes are written to.
 
-ghost use Rattle.std.specs.Prelude.{◌≡◌, ◌<◌, ◌≤◌, List, ℕ, Option, length, take, IfOk, OnOk, OnErr};
+ghost use Rattle.std.specs.Prelude.{◌≡◌, ◌<◌, ◌≤◌, ◌++◌, List, ℕ, length, take, IfOk, OnOk, OnErr};
 ghost use Rattle.ptg_io.specs.Faults.{Rose};
-ghost use Rattle.ptg_io.specs.Sink.{appended};
 
 use crate::files::Failed;
 
 /// Where bytes are written to.
 pub trait Sink {
-    /// The bytes written so far, where that is known.
-    ghost bytes: { Self → Option (List ℕ) };
+    /// The bytes that writes took so far, in order.
+    ghost bytes: { Self → List ℕ };
 
     /// How many writes failed so far.
     ghost faults: { Self → ℕ };
@@ -19,7 +18,7 @@ pub trait Sink {
         requires { 0 < length piece.now }
         ensures some { IfOk result (λ n. 1 ≤ n) }
         ensures within { IfOk result (λ n. n ≤ length piece.now) }
-        ensures ok { IfOk result (λ n. bytes self.new ≡ appended (bytes self.old) (take n piece.now)) }
+        ensures ok { IfOk result (λ n. bytes self.new ≡ bytes self.old ++ take n piece.now) }
         ensures kept { OnErr result (bytes self.new ≡ bytes self.old) }
         ensures grows { faults self.old ≤ faults self.new }
         ensures failed { OnErr result (Rose (faults self.old) (faults self.new)) }

@@ -1,8 +1,7 @@
 //! Writing all bytes.
 
-ghost use Rattle.std.specs.Prelude.{◌≡◌, ◌<◌, ◌≤◌, ℕ, length, take, OnOk, OnErr};
+ghost use Rattle.std.specs.Prelude.{◌≡◌, ◌<◌, ◌≤◌, ◌++◌, ℕ, length, take, OnOk, OnErr};
 ghost use Rattle.ptg_io.specs.Faults.{Rose};
-ghost use Rattle.ptg_io.specs.Sink.{appended};
 
 use crate::files::Failed;
 use crate::sink::Sink;
@@ -12,9 +11,9 @@ const WRITE_SIZE: usize = 4096;
 
 /// Appends all of the bytes, piece by piece. On `Err` a proper prefix was written.
 pub fn write_all<O: Sink>(sink: &mut O, bytes: &[u8]) -> Result<(), Failed>
-    ensures ok { OnOk result (O.bytes sink.new ≡ appended (O.bytes sink.old) bytes.now) }
+    ensures ok { OnOk result (O.bytes sink.new ≡ O.bytes sink.old ++ bytes.now) }
     ensures prefix { OnErr result ((n : ℕ) × (n < length bytes.now) ×
-        (O.bytes sink.new ≡ appended (O.bytes sink.old) (take n bytes.now))) }
+        (O.bytes sink.new ≡ O.bytes sink.old ++ take n bytes.now)) }
     ensures grows { O.faults sink.old ≤ O.faults sink.new }
     ensures failed { OnErr result (Rose (O.faults sink.old) (O.faults sink.new)) }
     ensures no_fault { OnOk result (O.faults sink.new ≡ O.faults sink.old) }

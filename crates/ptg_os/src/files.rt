@@ -1,14 +1,17 @@
 //! The files of the system.
 
-ghost use Rattle.std.specs.Prelude.{IfSome, ◌≤◌, length};
+ghost use Rattle.std.specs.Prelude.{◌≡◌, ◌<◌, ◌≤◌, ⊤, List, [], ◌∷◌, ◌++◌, ℕ, Option, length, take, IfOk, IfSome, OnErr, OnOk};
+ghost use Rattle.ptg_io.specs.Faults.{Rose};
+ghost use Rattle.ptg_io.specs.Files.{NamedFiles, ReadsPiece};
+ghost use Rattle.ptg_os.specs.Adapters.{Gave, GaveAndIsKept, kept_open};
 
 use ptg_base::Text;
-use ptg_io::{Failed, Files};
+use ptg_io::{Failed, Files, Offset, ReadHistory};
 use std::alloc::Global;
 use std::io::{Read, Seek, SeekFrom};
 use std::{fs, rt};
 
-/// The files of the system. Their contents are not known to contracts.
+/// The files of the system. What they hold is not known to contracts; what reads of them gave is.
 ///
 /// The file read last stays open with a copy of its name. Where there is no memory for that copy, the next read opens
 /// it anew.
@@ -20,6 +23,8 @@ pub struct OsFiles<'a, R: rt::Files> {
     last: Option<Opened<R::File>>,
     // How many reads failed, of any name.
     faults: u64,
+    // The reads that did not fail.
+    history: ReadHistory,
 }
 
 // An open file, and the offset up to which it was read.
@@ -32,13 +37,17 @@ struct Opened<F> {
 }
 
 impl<'a, R: rt::Files> OsFiles<'a, R> {
-    /// The files of this system. No read has failed yet.
-    pub fn new(system: &'a R, alloc: Global) -> Self {
+    /// The files of this system. No read was made yet.
+    pub fn new(system: &'a R, alloc: Global) -> Self
+        ensures no_reads { ⟦<OsFiles<'a, R> as Files>⟧.reads result ≡ [] }
+        ensures no_faults { (name : List ℕ) → ⟦<OsFiles<'a, R> as Files>⟧.faults result name ≡ 0 }
+    {
         OsFiles {
             system,
             alloc,
             last: None,
             faults: 0,
+            history: ReadHistory::new(),
         }
     }
 }
@@ -48,9 +57,27 @@ impl<'a, R: rt::Files> Files for OsFiles<'a, R> {
 
     ghost contents = { λ _. None };
 
+    ghost reads = { λ files. files.history.reads };
+
     ghost faults = { λ files _. files.faults };
 
-    fn read(&mut self, name: &str, from: u64, into: &mut [u8]) -> Result<usize, Failed> {
+    fn read(&mut self, name: &str, from: u64, into: &mut [u8]) -> Result<usize, Failed>
+        requires { 0 < length into.old }
+        ensures within { IfOk result (λ n. n ≤ length into.new) }
+        ensures given { (files : NamedFiles) → ◌≡◌ {A = Option NamedFiles} None (Some files) →
+            IfOk result (λ n. ReadsPiece files name.now from n into.new) }
+        ensures noted { IfOk result (λ n. self.new.history.reads
+            ≡ self.old.history.reads ++ record { name = name.now; from = from; piece = take n into.new } ∷ []) }
+        ensures not_noted { OnErr result (self.new.history.reads ≡ self.old.history.reads) }
+        ensures gives { IfOk result (λ n. ⊤) }
+        ensures read_fails { OnErr result ⊤ }
+        ensures grows { (other : List ℕ) → self.old.faults ≤ self.new.faults }
+        ensures failed { OnErr result (Rose self.old.faults self.new.faults) }
+        ensures no_fault { OnOk result ((other : List ℕ) → self.new.faults ≡ self.old.faults) }
+
+        // Some open file gave the bytes, and stays open.
+        ensures gave { IfOk result (λ n. GaveAndIsKept R.File.remaining (kept_open self.new) n into.new) }
+    {
         let last = self.last.take();
         let read = match opened_at(self.system, self.alloc, last, name, from) {
             Some(opened) => read_next::<R>(opened, into),
@@ -58,6 +85,7 @@ impl<'a, R: rt::Files> Files for OsFiles<'a, R> {
         };
         match read {
             Some((n, opened)) => {
+                self.history.note(name.as_bytes(), &Offset { value: from }, &into[..n]);
                 self.last = Some(opened);
                 Ok(n)
             }
@@ -74,7 +102,8 @@ fn read_next<R: rt::Files>(
     mut opened: Opened<R::File>,
     into: &mut [u8],
 ) -> Option<(usize, Opened<R::File>)>
-    ensures { IfSome result (λ (count, more). count ≤ length into.new) }
+    ensures within { IfSome result (λ (count, more). count ≤ length into.new) }
+    ensures gave { IfSome result (λ (count, more). Gave R.File.remaining opened.file more.file count into.new) }
 {
     let n = opened.file.read(into).ok()?;
     opened.offset = opened.offset.saturating_add(n as u64);

@@ -1,34 +1,62 @@
 //! Standard output.
 
-use ptg_io::{Failed, Sink};
+ghost use Rattle.std.specs.Prelude.{◌≡◌, ◌<◌, ◌≤◌, [], ◌++◌, length, take, IfOk, OnErr, OnOk};
+ghost use Rattle.std.specs.Io.KnownBytes.{WriteAppends};
+ghost use Rattle.ptg_io.specs.Faults.{Rose};
+ghost use Rattle.ptg_os.specs.Adapters.{writer_of};
+
+use ptg_io::{Failed, Sink, WriteHistory};
 use std::io::Write;
 
-/// Standard output, or any other writer. What it holds is not known to contracts.
+/// Standard output, or any other writer. What it holds is not known to contracts; what its writes took is.
 #[derive(Drop)]
 pub struct OsSink<W: Write + Drop> {
     writer: W,
     // How many writes failed.
     faults: u64,
+    // The bytes that writes took.
+    history: WriteHistory,
 }
 
 impl<W: Write + Drop> OsSink<W> {
-    /// A sink over this writer. No write has failed yet.
-    pub fn new(writer: W) -> Self {
-        OsSink { writer, faults: 0 }
+    /// A sink over this writer. No write was made yet.
+    pub fn new(writer: W) -> Self
+        ensures no_bytes { ⟦<OsSink<W> as Sink>⟧.bytes result ≡ [] }
+        ensures no_faults { ⟦<OsSink<W> as Sink>⟧.faults result ≡ 0 }
+    {
+        OsSink {
+            writer,
+            faults: 0,
+            history: WriteHistory::new(),
+        }
     }
 }
 
 impl<W: Write + Drop> Sink for OsSink<W> {
-    ghost use Rattle.std.specs.Prelude.{None};
-
-    ghost bytes = { λ _. None };
+    ghost bytes = { λ sink. sink.history.bytes };
 
     ghost faults = { λ sink. sink.faults };
 
-    fn write(&mut self, piece: &[u8]) -> Result<usize, Failed> {
+    fn write(&mut self, piece: &[u8]) -> Result<usize, Failed>
+        requires { 0 < length piece.now }
+        ensures some { IfOk result (λ n. 1 ≤ n) }
+        ensures within { IfOk result (λ n. n ≤ length piece.now) }
+        ensures ok { IfOk result (λ n. self.new.history.bytes ≡ self.old.history.bytes ++ take n piece.now) }
+        ensures kept { OnErr result (self.new.history.bytes ≡ self.old.history.bytes) }
+        ensures grows { self.old.faults ≤ self.new.faults }
+        ensures failed { OnErr result (Rose self.old.faults self.new.faults) }
+        ensures no_fault { OnOk result (self.new.faults ≡ self.old.faults) }
+
+        // The writer took the bytes.
+        ensures took { OnOk result
+            (WriteAppends (W.contents (writer_of self.old)) (W.contents (writer_of self.new)) result piece.now) }
+    {
         match self.writer.write(piece) {
             // A writer that takes nothing would be tried for ever.
-            Ok(n) if n > 0 => Ok(n),
+            Ok(n) if n > 0 => {
+                self.history.note(&piece[..n]);
+                Ok(n)
+            }
             _ => {
                 self.faults = self.faults.saturating_add(1);
                 Err(Failed)

@@ -1,35 +1,36 @@
 -- What a call adds to a sink, some of it kept back until there is a whole piece. Source: this project's own choice.
-use Rattle.std.specs.Prelude.{◌≡◌, ℕ, ◌≤◌, List, length, take, Option, Result, OnOk, OnErr}
+use Rattle.std.specs.Prelude.{◌≡◌, ℕ, ◌≤◌, List, ◌++◌, length, take, Result, OnOk, OnErr}
 use Rattle.ptg_io.specs.Faults.{Rose}
-use Rattle.ptg_io.specs.Sink.{appended}
 
 -- how many bytes go out at once
 abbrev pub piece_size : ℕ
 piece_size = 4096
 
--- the first are the first bytes of the second, or neither is known
-abbrev pub Precedes : Option (List ℕ) → Option (List ℕ) → Type 0
-Precedes front whole = (rest : List ℕ) × (appended front rest ≡ whole)
+-- the first are the first bytes of the second
+abbrev pub Precedes : List ℕ → List ℕ → Type 0
+Precedes front whole = (rest : List ℕ) × (front ++ rest ≡ whole)
 
 -- a call put a text: the sink's bytes, with those after them that are kept back, grew by the text;
--- where the call failed, the sink has a prefix of all that, and no other bytes
-pub record Puts {S T E : Type 0} (bytes : S → Option (List ℕ)) (faults : S → ℕ) (result : Result T E)
+-- where the call failed, the sink has a prefix of all that, and no other bytes, and a write failed; else none did
+pub record Puts {S T E : Type 0} (bytes : S → List ℕ) (faults : S → ℕ) (result : Result T E)
     (sink : S) (kept : List ℕ) (sink_after : S) (kept_after : List ℕ) (text : List ℕ) : Type 0 where
-  pub ok : OnOk result (appended (bytes sink_after) kept_after ≡ appended (appended (bytes sink) kept) text)
-  pub cut : OnErr result (Precedes (bytes sink_after) (appended (appended (bytes sink) kept) text))
+  pub ok : OnOk result (bytes sink_after ++ kept_after ≡ bytes sink ++ kept ++ text)
+  pub cut : OnErr result (Precedes (bytes sink_after) (bytes sink ++ kept ++ text))
   pub onward : Precedes (bytes sink) (bytes sink_after)
   pub grows : faults sink ≤ faults sink_after
   pub failed : OnErr result (Rose (faults sink) (faults sink_after))
+  pub no_fault : OnOk result (faults sink_after ≡ faults sink)
 
 -- the second is the first and then a prefix of a text
-abbrev pub HasPrefix : Option (List ℕ) → Option (List ℕ) → List ℕ → Type 0
-HasPrefix before after text = (n : ℕ) × (n ≤ length text) × (after ≡ appended before (take n text))
+abbrev pub HasPrefix : List ℕ → List ℕ → List ℕ → Type 0
+HasPrefix before after text = (n : ℕ) × (n ≤ length text) × (after ≡ before ++ take n text)
 
 -- a call printed a text: the sink's bytes grew by the whole of it, or by a prefix where the call failed, and that only
--- where a write failed
-pub record PrintsText {S T E : Type 0} (bytes : S → Option (List ℕ)) (faults : S → ℕ) (result : Result T E)
+-- where a write failed; else no write failed
+pub record PrintsText {S T E : Type 0} (bytes : S → List ℕ) (faults : S → ℕ) (result : Result T E)
     (sink sink_after : S) (text : List ℕ) : Type 0 where
-  pub ok : OnOk result (bytes sink_after ≡ appended (bytes sink) text)
+  pub ok : OnOk result (bytes sink_after ≡ bytes sink ++ text)
   pub prefix : OnErr result (HasPrefix (bytes sink) (bytes sink_after) text)
   pub grows : faults sink ≤ faults sink_after
   pub failed : OnErr result (Rose (faults sink) (faults sink_after))
+  pub no_fault : OnOk result (faults sink_after ≡ faults sink)

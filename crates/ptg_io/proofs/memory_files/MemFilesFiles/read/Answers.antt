@@ -13,7 +13,7 @@ returns-in-Some-clause-given c files contents =
     let found = file_at_index all c.args.name.now c.in-Some.at c.get.result.now index in
     let item : c.get.result.now ≡ get_or all c.in-Some.at c.get.result.now = cc (c.get.ensures.item c.get.result.now) in
     let bytes : (get_or all c.in-Some.at c.get.result.now).1 ≡ c.bytes.result.now = ap (λ (f : List ℕ × List ℕ). f.1) (sym item) ∙ sym c.bytes.ensures in
-    (c.bytes.result.now, cc, c.copy_piece.ensures.given)
+    (c.bytes.result.now, cc, c.copy_piece-n.ensures.given)
 
 pub returns-in-Some-clause-whole : goal.returns-in-Some-clause-whole
 returns-in-Some-clause-whole c bytes named =
@@ -26,4 +26,4 @@ returns-in-Some-clause-whole c bytes named =
     let both : Some c.bytes.result.now ≡ Some bytes =
     sym (ap Some read) ∙ sym found ∙ ap (λ (files : List (List ℕ × List ℕ)). file_of files c.args.name.now) held ∙ named in
     let same : c.bytes.result.now ≡ bytes = cc in
-    c.copy_piece.ensures.whole ∙ ap (λ (xs : List ℕ). min (length c.copy_piece.new.into) (length xs - c.args.from)) same
+    c.copy_piece-n.ensures.whole ∙ ap (λ (xs : List ℕ). min (length c.copy_piece-n.new.into) (length xs - c.args.from)) same
