@@ -1,8 +1,7 @@
 -- A verdict that was printed whole.
-use Rattle.std.proofs.Common.{◌≡◌, ℕ, List, Some, subst, sym, ap, ◌∙◌, inl, inr}
+use Rattle.std.proofs.Common.{◌≡◌, ℕ, List, ◌++◌, Some, subst, sym, ap, ◌∙◌, inl, inr}
 use Rattle.std.specs.Prelude.{Option, ◌⊎◌}
 use Rattle.ptg_io.specs.Faults.{Rose}
-use Rattle.ptg_io.specs.Sink.{appended}
 use Rattle.flow_meaning.specs.declared.outcome.Outcome.{Outcome}
 use Rattle.flow_meaning.specs.declared.outcome.Outcome.TheVariants as outcome
 use Rattle.job_stages.specs.declared.verdict.JobVerdict.TheVariants as jobs
@@ -24,8 +23,8 @@ is_denoted words files contents old new v (inl h) t read = inl h
 is_denoted words files contents old new v (inr (command, formed, inl (name, rose, may, e))) t read = absurd (read name e rose)
 is_denoted words files contents old new v (inr (command, formed, inr (of, known))) t read = inr (command, formed, known files t)
 
-pub exact_prints : (words : List (List ℕ)) (files : NamedFiles) (contents : Option NamedFiles) (old new : List ℕ → ℕ) (before after : Option (List ℕ)) (v : Denotation) (s : Status)
-    → IsVerdictOnWords words contents old new v → contents ≡ Some files → after ≡ appended before (text_of v) → s ≡ status_of v → IsExact s → Prints words files before after s
+pub exact_prints : (words : List (List ℕ)) (files : NamedFiles) (contents : Option NamedFiles) (old new : List ℕ → ℕ) (before after : List ℕ) (v : Denotation) (s : Status)
+    → IsVerdictOnWords words contents old new v → contents ≡ Some files → after ≡ before ++ text_of v → s ≡ status_of v → IsExact s → Prints words files before after s
 exact_prints words files contents old new before after v s h t text ends exact =
     record {
       verdict = v;
@@ -34,8 +33,8 @@ exact_prints words files contents old new before after v s h t text ends exact =
       ends = ends;
     }
 
-pub complete_prints : (words : List (List ℕ)) (files : NamedFiles) (contents : Option NamedFiles) (old new : List ℕ → ℕ) (before after : Option (List ℕ)) (v : Denotation) (s : Status)
-    → IsVerdictOnWords words contents old new v → contents ≡ Some files → after ≡ appended before (text_of v) → s ≡ status_of v → ((name : List ℕ) → Rose (old name) (new name) → ⊥)
+pub complete_prints : (words : List (List ℕ)) (files : NamedFiles) (contents : Option NamedFiles) (old new : List ℕ → ℕ) (before after : List ℕ) (v : Denotation) (s : Status)
+    → IsVerdictOnWords words contents old new v → contents ≡ Some files → after ≡ before ++ text_of v → s ≡ status_of v → ((name : List ℕ) → Rose (old name) (new name) → ⊥)
     → Prints words files before after s ⊎ (s ≡ status.OutOfMemory)
 complete_prints words files contents old new before after v s h t text ends none =
     inl (record { verdict = v; denoted = is_denoted words files contents old new v h t (λ name e rose. none name rose); text = text; ends = ends })

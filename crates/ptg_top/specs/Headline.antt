@@ -1,7 +1,6 @@
 -- What is printed for a verdict, and what a run of the program promises. Source: this project's own choice of lines and
 -- statuses.
-use Rattle.std.specs.Prelude.{◌≡◌, ℕ, List, Option}
-use Rattle.ptg_io.specs.Sink.{appended}
+use Rattle.std.specs.Prelude.{◌≡◌, ℕ, List, ◌++◌, Option}
 use Rattle.report_text.specs.Puts.{HasPrefix}
 use Rattle.report_text.specs.Refusal.{preload_line, refusal_text, unread_line, usage_line}
 use Rattle.report_text.specs.declared.refusal_line.Line.TheVariants as line_of
@@ -52,17 +51,17 @@ IsExact TraceRefused = Unit {0}
 
 -- the sink grew by exactly the text of a verdict that the arguments and the files denote (one at most, but for traces),
 -- and this is its status
-pub record Prints (words : List (List ℕ)) (files : NamedFiles) (before after : Option (List ℕ))
+pub record Prints (words : List (List ℕ)) (files : NamedFiles) (before after : List ℕ)
     (status : Status) : Type 0 where
   pub verdict : Denotation
   pub denoted : Denotes words files verdict
-  pub text : after ≡ appended before (text_of verdict)
+  pub text : after ≡ before ++ text_of verdict
   pub ends : status ≡ status_of verdict
 
 -- a failed write cut the text of a verdict short: the one that the arguments and the files denote, or the name of a
 -- file that could not be read
 pub record IsCut (words : List (List ℕ)) (contents : Option NamedFiles) (old new : List ℕ → ℕ)
-    (before after : Option (List ℕ)) : Type 0 where
+    (before after : List ℕ) : Type 0 where
   pub verdict : Denotation
   pub due : IsVerdictOnWords words contents old new verdict
   pub prefix : HasPrefix before after (text_of verdict)

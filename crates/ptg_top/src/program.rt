@@ -1,8 +1,7 @@
 //! The program.
 
-ghost use Rattle.std.specs.Prelude.{◌≡◌, ◌⊎◌, ◌≤◌, ℕ, List, Some, IfSome, IfNone};
+ghost use Rattle.std.specs.Prelude.{◌≡◌, ◌⊎◌, ◌≤◌, ◌++◌, ℕ, List, Some, IfSome, IfNone};
 ghost use Rattle.ptg_io.specs.Faults.{Rose};
-ghost use Rattle.ptg_io.specs.Sink.{appended};
 ghost use Rattle.report_text.specs.Refusal.{unread_line, usage_line};
 ghost use Rattle.ptg_top.specs.JobFiles.{NamedFiles};
 ghost use Rattle.ptg_top.specs.Meaning.{IsNoCommand, MayBeUnread};
@@ -60,7 +59,7 @@ pub fn ptg_main<R: Threads + Wait + Sync, F: Files, O: Sink, G: Gate>(
     ensures unread { result.status ≡ Status.ReadFault → (name : List ℕ)
         × Rose (F.faults files.old name) (F.faults files.new name)
         × MayBeUnread words.now (F.contents files.old) name
-        × (O.bytes out.new ≡ appended (O.bytes out.old) (unread_line name)) }
+        × (O.bytes out.new ≡ O.bytes out.old ++ unread_line name) }
     // A write fault comes only where a write failed, and then a prefix of what was due was written.
     ensures cut { result.status ≡ Status.WriteFault → Rose (O.faults out.old) (O.faults out.new)
         × IsCut words.now (F.contents files.old) (F.faults files.old) (F.faults files.new)
@@ -76,7 +75,7 @@ pub fn ptg_main<R: Threads + Wait + Sync, F: Files, O: Sink, G: Gate>(
     // Whatever the files: usage, with its line, is the answer only to arguments that form no command, and to those
     // nothing else is, unless a write failed or memory ran out.
     ensures usage_only { result.status ≡ Status.Usage → IsNoCommand words.now }
-    ensures usage_line { result.status ≡ Status.Usage → O.bytes out.new ≡ appended (O.bytes out.old) usage_line }
+    ensures usage_line { result.status ≡ Status.Usage → O.bytes out.new ≡ O.bytes out.old ++ usage_line }
     ensures usage { IsNoCommand words.now
         → (result.status ≡ Status.Usage)
         ⊎ ((result.status ≡ Status.WriteFault) ⊎ (result.status ≡ Status.OutOfMemory)) }

@@ -1,8 +1,7 @@
 -- Arguments and files denote a verdict.
-use Rattle.std.proofs.Common.{ℕ, List, Some, refl, subst, ◌⊎◌, inl, inr}
+use Rattle.std.proofs.Common.{ℕ, List, ◌++◌, Some, refl, subst, ◌⊎◌, inl, inr}
 use Rattle.std.specs.Prelude.{Option, None, if◌then◌else◌}
 use Rattle.ptg_io.specs.Files.{file_of}
-use Rattle.ptg_io.specs.Sink.{appended}
 use Rattle.word_laws.specs.Commands.{CommandOrUsage}
 use Rattle.jdf_print.specs.Spelling.{spelling}
 use Rattle.flow_meaning.specs.Answer.{answer}
@@ -155,4 +154,4 @@ some_meaning either words files = elim (formed_or_none either words) [
 pub some_output : CommandOrUsage → SomeOutput
 some_output either words files before =
     let found = some_meaning either words files in
-    (appended before (text_of found.0), status_of found.0, record { verdict = found.0; denoted = found.1; text = refl; ends = refl })
+    (before ++ text_of found.0, status_of found.0, record { verdict = found.0; denoted = found.1; text = refl; ends = refl })

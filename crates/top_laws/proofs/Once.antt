@@ -1,8 +1,7 @@
 -- Arguments and files denote one verdict at most.
-use Rattle.std.proofs.Common.{◌≡◌, ℕ, List, Some, sym, ◌∙◌, ap, subst, ◌⊎◌, inl, inr}
+use Rattle.std.proofs.Common.{◌≡◌, ℕ, List, ◌++◌, Some, sym, ◌∙◌, ap, subst, ◌⊎◌, inl, inr}
 use Rattle.std.specs.Prelude.{Option, None}
 use Rattle.ptg_io.specs.Files.{file_of}
-use Rattle.ptg_io.specs.Sink.{appended}
 use Rattle.jdf_tree.specs.declared.tree.Jdf.{Jdf}
 use Rattle.jdf_print.specs.Spelling.{spelling}
 use Rattle.jdf_read.proofs.Once.{one_tree}
@@ -141,4 +140,4 @@ one_job words files v w (inr (a, formed, h)) (inr (b, other, k)) =
 pub one_output : OneOutput
 one_output words files before after other status another free first second =
     let same = one_meaning words files first.verdict second.verdict free first.denoted second.denoted in
-    (first.text ∙ (ap (λ v. appended before (text_of v)) same ∙ sym second.text), first.ends ∙ (ap status_of same ∙ sym second.ends))
+    (first.text ∙ (ap (λ v. before ++ text_of v) same ∙ sym second.text), first.ends ∙ (ap status_of same ∙ sym second.ends))

@@ -1,5 +1,5 @@
 -- That arguments and files denote one verdict, so that one text is printed for them. Source: this project's own choice.
-use Rattle.std.specs.Prelude.{◌≡◌, ◌⊎◌, ℕ, List, Option}
+use Rattle.std.specs.Prelude.{◌≡◌, ◌⊎◌, ℕ, List}
 use Rattle.coll_data.specs.Data.{Data}
 use Rattle.plan_core.specs.declared.plan.Plan.{Plan}
 use Rattle.job_stages.specs.declared.verdict.JobVerdict.TheVariants as jobs
@@ -49,12 +49,12 @@ SomeMeaning = (words : List (List ℕ)) (files : NamedFiles) → (v : Denotation
 -- arguments that ask for no trace and files determine what is printed, and the status
 abbrev pub OneOutput : Type 0
 OneOutput =
-    (words : List (List ℕ)) (files : NamedFiles) (before after other : Option (List ℕ)) (status another : Status)
+    (words : List (List ℕ)) (files : NamedFiles) (before after other : List ℕ) (status another : Status)
     → AskForNoTrace words → Prints words files before after status → Prints words files before other another
     → (after ≡ other) × (status ≡ another)
 
 -- for any arguments and files something is printed, with a status
 abbrev pub SomeOutput : Type 0
 SomeOutput =
-    (words : List (List ℕ)) (files : NamedFiles) (before : Option (List ℕ))
-    → (after : Option (List ℕ)) × (status : Status) × Prints words files before after status
+    (words : List (List ℕ)) (files : NamedFiles) (before : List ℕ)
+    → (after : List ℕ) × (status : Status) × Prints words files before after status

@@ -1,5 +1,4 @@
-use Rattle.std.proofs.Common.{ap, sym, ◌∙◌, inl}
-use Rattle.ptg_io.specs.Sink.{appended}
+use Rattle.std.proofs.Common.{ap, sym, ◌∙◌, ◌++◌, inl}
 use Rattle.ptg_top.specs.Denotation.{denoted}
 use Rattle.ptg_top.proofs.Ending.{exact_prints, complete_prints, usage_is_its_line, usage_is_no_command, no_command_is_usage, read_fault_names, no_write_fault}
 use Rattle.ptg_top.proofs.Receipts.{receipt_is_asked, no_receipt_no_answer, receipt_has_plan}
@@ -26,7 +25,7 @@ returns-in-Ok-print_verdict-clause-unread g c fault =
     read_fault_names c.args.words.now (g.F.Files.contents c.args.files.now) (g.F.Files.faults c.args.files.now) (g.F.Files.faults c.judge.new.files)
     (denoted c.in-Ok.verdict) c.in-Ok.ensures.judged (sym c.status.ensures ∙ fault)
     in
-    (h.0, h.1, h.2, c.in-Ok-print_verdict.ensures.ok ∙ ap (appended (g.O.Sink.bytes c.args.out.now)) h.3)
+    (h.0, h.1, h.2, c.in-Ok-print_verdict.ensures.ok ∙ ap (λ t. g.O.Sink.bytes c.args.out.now ++ t) h.3)
 
 -- no verdict has the status of a write fault
 pub returns-in-Ok-print_verdict-clause-cut : goal.returns-in-Ok-print_verdict-clause-cut
@@ -39,7 +38,7 @@ returns-in-Ok-print_verdict-clause-cut g c fault =
 -- the status of usage comes with its line
 pub returns-in-Ok-print_verdict-clause-usage_line : goal.returns-in-Ok-print_verdict-clause-usage_line
 returns-in-Ok-print_verdict-clause-usage_line g c usage =
-    c.in-Ok-print_verdict.ensures.ok ∙ ap (appended (g.O.Sink.bytes c.args.out.now)) (
+    c.in-Ok-print_verdict.ensures.ok ∙ ap (λ t. g.O.Sink.bytes c.args.out.now ++ t) (
     usage_is_its_line c.args.words.now (g.F.Files.contents c.args.files.now) (g.F.Files.faults c.args.files.now) (g.F.Files.faults c.judge.new.files)
     (denoted c.in-Ok.verdict) c.in-Ok.ensures.judged (sym c.status.ensures ∙ usage)
     )
