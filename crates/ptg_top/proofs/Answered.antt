@@ -1,7 +1,7 @@
 -- A verb that goes on from a consistent job: it has one verdict at most, and one, and what `check` says of unread files
 -- it says too.
-use Rattle.std.proofs.Common.{◌≡◌, ℕ, List, Result, Ok, Err, refl, sym, ◌∙◌, subst, inl, inr}
-use Rattle.std.specs.Prelude.{Option, IfOk, Bool, true, false, if◌then◌else◌}
+use Rattle.std.proofs.Common.{◌≡◌, ℕ, List, [], ◌∷◌, Result, Ok, Err, refl, sym, ◌∙◌, subst, inl, inr}
+use Rattle.std.specs.Prelude.{IfOk, Bool, true, false, if◌then◌else◌}
 use Rattle.ptg_base.specs.declared.memory.OutOfMemory.{OutOfMemory}
 use Rattle.coll_data.specs.Data.{Data}
 use Rattle.plan_core.specs.declared.plan.Plan.{Plan}
@@ -19,9 +19,11 @@ use Rattle.ptg_top.specs.Answering.{IsAnswer, IsRefusedByCheck, OnConsistent}
 use Rattle.ptg_top.specs.Certify.{IsCertified}
 use Rattle.ptg_top.specs.Trace.{IsTraced}
 use Rattle.ptg_top.specs.Ranks.{IsRanked}
-use Rattle.ptg_top.specs.JobFiles.{FilesDenote, NamedFiles}
-use Rattle.ptg_top.specs.Meaning.{CommandDenotes, IsUnreadOf, MayBeUnreadFor}
-use Rattle.ptg_top.specs.Reports.{IsOfTexts, IsVerdictOnCommand}
+use Rattle.ptg_words.specs.Laws.{files_of}
+use Rattle.ptg_top.specs.Operands.{AreOf, Load, Operands, Read, in_loads}
+use Rattle.ptg_top.specs.JobFiles.{FilesDenote}
+use Rattle.ptg_top.specs.Meaning.{CommandDenotes}
+use Rattle.ptg_top.specs.Reports.{EndsAfter, IsOfTexts, IsVerdictOnCommand}
 
 module _ (Verb : Plan → Data → Denotation → Type 0) where
   pub once_on : (checked v w : Denotation) → ((P : Plan) (given : Data) → checked ≡ verdicts.Job (jobs.Consistent P given) → Verb P given v → Verb P given w → v ≡ w)
@@ -57,41 +59,51 @@ answer_of_texts settings P given v h = subst IsOfTexts (sym h) (either (is_too_l
 
 -- the command is of a verb that goes on from the check of two files
 pub record GoesOn (command : Order) (jdf data_name : List ℕ) (Verb : Plan → Data → Denotation → Type 0) : Type 0 where
-  pub unread : (contents : Option NamedFiles) (name : List ℕ) → IsUnreadOf contents jdf data_name name → MayBeUnreadFor contents command name
-  pub denotes : (files : NamedFiles) (checked v : Denotation) → FilesDenote files jdf data_name checked → OnConsistent Verb checked v → CommandDenotes files command v
+  pub names : (loads : List Load) → AreOf loads (jdf ∷ data_name ∷ []) → AreOf loads (files_of command)
+  pub denotes : (operands : Operands) (checked v : Denotation) → FilesDenote operands jdf data_name checked → OnConsistent Verb checked v → CommandDenotes operands command v
   pub of_texts : IsVerbOfTexts Verb
 
 pub run_goes_on : (jdf data_name : List ℕ) (settings : Settings) → GoesOn (Run jdf data_name settings.workers settings.shards settings.preload) jdf data_name (IsAnswer settings)
 run_goes_on jdf data_name settings =
-    record { unread = λ contents name h. h; denotes = λ files checked v h k. (checked, h, k); of_texts = answer_of_texts settings }
+    record { names = λ loads h. h; denotes = λ operands checked v h k. (checked, h, k); of_texts = answer_of_texts settings }
 
 pub trace_goes_on : (jdf data_name : List ℕ) (workers shards : ℕ) → GoesOn (Trace jdf data_name workers shards) jdf data_name IsTraced
 trace_goes_on jdf data_name workers shards =
-    record { unread = λ contents name h. h; denotes = λ files checked v h k. (checked, h, k); of_texts = λ P given v h. subst IsOfTexts (sym h.2) tt }
+    record { names = λ loads h. h; denotes = λ operands checked v h k. (checked, h, k); of_texts = λ P given v h. subst IsOfTexts (sym h.2) tt }
 
 pub certify_goes_on : (jdf data_name : List ℕ) → GoesOn (Certify jdf data_name) jdf data_name IsCertified
 certify_goes_on jdf data_name =
-    record { unread = λ contents name h. h; denotes = λ files checked v h k. (checked, h, k); of_texts = λ P given v h. subst IsOfTexts (sym h.2) tt }
+    record { names = λ loads h. h; denotes = λ operands checked v h k. (checked, h, k); of_texts = λ P given v h. subst IsOfTexts (sym h.2) tt }
 
 pub ranks_goes_on : (jdf data_name : List ℕ) (ranks seed : ℕ) → GoesOn (Ranks jdf data_name ranks seed) jdf data_name (IsRanked ranks)
 ranks_goes_on jdf data_name ranks seed =
-    record { unread = λ contents name h. h; denotes = λ files checked v h k. (checked, h, k); of_texts = λ P given v h. subst IsOfTexts (sym h) tt }
+    record { names = λ loads h. h; denotes = λ operands checked v h k. (checked, h, k); of_texts = λ P given v h. subst IsOfTexts (sym h) tt }
 
-module _ (contents : Option NamedFiles) (old new : List ℕ → ℕ) {jdf data_name : List ℕ} {command : Order} {Verb : Plan → Data → Denotation → Type 0} (on : GoesOn command jdf data_name Verb) where
+module _ (old new : List Read) (failed failed_since : List ℕ → ℕ) {jdf data_name : List ℕ} {command : Order} {Verb : Plan → Data → Denotation → Type 0} (on : GoesOn command jdf data_name Verb) where
+  -- what was read is as it was for `check`
+  reads_end : (loads : List Load) (checked v : Denotation) → EndsAfter old new loads failed failed_since checked → OnConsistent Verb checked v → EndsAfter old new loads failed failed_since v
+  reads_end loads checked v (inl (name, e, after)) h = inl (name, subst (λ (c : Denotation). OnConsistent Verb c v) e h, after)
+  reads_end loads checked v (inr (of, gave, none)) h = inr (on_texts Verb on.of_texts checked v of h, gave, none)
+
   -- the verdict of a verb, from that of `check`
-  verb_ends : (checked v : Denotation) → IsVerdictOnCommand contents old new (Check jdf data_name) checked → OnConsistent Verb checked v → IsVerdictOnCommand contents old new command v
-  verb_ends checked v (inl (name, rose, may, e)) h = inl (name, rose, on.unread contents name may, subst (λ (c : Denotation). OnConsistent Verb c v) e h)
-  verb_ends checked v (inr (of, known)) h = inr (on_texts Verb on.of_texts checked v of h, λ files t. on.denotes files checked v (known files t) h)
+  verb_ends : (checked v : Denotation) → IsVerdictOnCommand old new failed failed_since (Check jdf data_name) checked → OnConsistent Verb checked v → IsVerdictOnCommand old new failed failed_since command v
+  verb_ends checked v h k =
+      record {
+        loads = h.loads;
+        operands = on.names h.loads h.operands;
+        denoted = on.denotes (in_loads h.loads) checked v h.denoted k;
+        reads = reads_end h.loads checked v h.reads k;
+      }
 
   -- a refusal of `check` stays
-  pub verb_refuses : (checked refused : Verdict) → refused ≡ checked → IsVerdictOnCommand contents old new (Check jdf data_name) (denoted checked) → IsRefusedByCheck (denoted refused)
-      → IsVerdictOnCommand contents old new command (denoted refused)
+  pub verb_refuses : (checked refused : Verdict) → refused ≡ checked → IsVerdictOnCommand old new failed failed_since (Check jdf data_name) (denoted checked) → IsRefusedByCheck (denoted refused)
+      → IsVerdictOnCommand old new failed failed_since command (denoted refused)
   verb_refuses checked refused e h r =
-      let found = subst (λ (v : Verdict). IsVerdictOnCommand contents old new (Check jdf data_name) (denoted v)) (sym e) h in
+      let found = subst (λ (v : Verdict). IsVerdictOnCommand old new failed failed_since (Check jdf data_name) (denoted v)) (sym e) h in
       verb_ends (denoted refused) (denoted refused) found (kept Verb (denoted refused) r)
 
   -- what the verb makes of the consistent job that `check` found
   pub verb_finds : (checked : Denotation) (P : Plan) (given : Data) (r : Result Verdict OutOfMemory) → checked ≡ verdicts.Job (jobs.Consistent P given)
-      → IsVerdictOnCommand contents old new (Check jdf data_name) checked → IfOk r (λ v. Verb P given (denoted v)) → IfOk r (λ v. IsVerdictOnCommand contents old new command (denoted v))
+      → IsVerdictOnCommand old new failed failed_since (Check jdf data_name) checked → IfOk r (λ v. Verb P given (denoted v)) → IfOk r (λ v. IsVerdictOnCommand old new failed failed_since command (denoted v))
   verb_finds checked P given (Ok v) e h a = verb_ends checked (denoted v) h (subst (λ (c : Denotation). OnConsistent Verb c (denoted v)) (sym e) a)
   verb_finds checked P given (Err x) e h a = tt

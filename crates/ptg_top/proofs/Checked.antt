@@ -1,8 +1,9 @@
 -- The check of a job's two files: how its steps make the verdict that the files denote, and that there is one.
-use Rattle.std.proofs.Common.{◌≡◌, ℕ, ◌≤◌, List, Some, Result, Ok, Err, refl, sym, ◌∙◌, ap, subst, inl, inr}
+use Rattle.std.proofs.Common.{◌≡◌, ℕ, ◌<◌, List, [], ◌∷◌, length, Some, Result, Ok, Err, refl, sym, ◌∙◌, ap, subst, inl, inr}
 use Rattle.std.specs.Prelude.{Option, None, IfOk}
 use Rattle.ptg_base.specs.declared.memory.OutOfMemory.{OutOfMemory}
-use Rattle.ptg_io.specs.Files.{file_of, IsLonger}
+use Rattle.ptg_io.specs.Faults.{Rose}
+use Rattle.ptg_io.specs.Reads.{IsLoaded}
 use Rattle.jdf_tree.specs.declared.tree.Jdf.{Jdf}
 use Rattle.jdf_tree.specs.Jdf.{IsJdf}
 use Rattle.coll_data.specs.Data.{Data}
@@ -19,69 +20,55 @@ use Rattle.ptg_words.specs.declared.order.Order.TheVariants.{Check}
 use Rattle.ptg_top.specs.Denotation as verdicts
 use Rattle.ptg_top.specs.declared.verdict.Verdict.{Verdict}
 use Rattle.ptg_top.specs.Denotation.{Denotation, denoted}
-use Rattle.ptg_top.specs.JobFiles.{ContentsDenote, FilesDenote, JobTextsDenote, NamedFiles, RefusesText}
-use Rattle.ptg_top.specs.Steps.{CheckOfDataEndsWith, IsTreeRead, TreeIsRefused}
-use Rattle.ptg_top.specs.Reports.{IsVerdictOnCommand}
+use Rattle.ptg_top.specs.Operands.{Read, load_of}
+use Rattle.ptg_top.specs.JobFiles.{ContentsDenote, JobTextsDenote, RefusesText}
+use Rattle.ptg_top.specs.Steps.{CheckOfDataEndsWith, IsTreeRead, LoadedAs, TreeIsRefused}
+use Rattle.ptg_top.specs.Reports.{IsVerdictOnCommand, NoneFailed}
 use Rattle.ptg_top.proofs.JdfFiles.{job_is_of_texts}
-use Rattle.report_text.proofs.Putting.{rose_from}
 
-module _ (contents : Option NamedFiles) (old new : ℕ) (text data_name : List ℕ) where
+module _ (old new : List Read) (failed failed_since : List ℕ → ℕ) (text data_name : List ℕ) where
   -- a data file that was loaded
-  pub data_ends : (data_text : List ℕ) (job : JobVerdict) → ((files : NamedFiles) → contents ≡ Some files → file_of files data_name ≡ Some data_text) → TextsDenote text data_text job
-      → CheckOfDataEndsWith contents old new text data_name (verdicts.Job job)
-  data_ends data_text job there h = inr (job, refl, λ files t. (data_text, there files t, h))
+  pub data_ends : (data_text : List ℕ) (job : JobVerdict) → LoadedAs old new failed failed_since data_name data_text → TextsDenote text data_text job
+      → CheckOfDataEndsWith old new failed failed_since text data_name (verdicts.Job job)
+  data_ends data_text job loaded h = inr (job, refl, data_text, h, loaded)
 
   -- a data file that is too long
-  pub long_data_ends : (J : Jdf) (fault : DataFault) → IsJdf text J → fault ≡ too_long → ((files : NamedFiles) → contents ≡ Some files → IsLonger files data_name 16777216)
-      → CheckOfDataEndsWith contents old new text data_name (verdicts.Job (jobs.Data fault))
-  long_data_ends J fault tree e long =
-      inr (
-        jobs.Data fault,
-        refl,
-        λ files t.
-            let at = long files t in
-            (at.0, at.1, inr (inl (J, fault, tree, inl (record { long = at.2; fault_is = e }), refl))),
-      )
+  pub long_data_ends : (J : Jdf) (fault : DataFault) → IsJdf text J → fault ≡ too_long → (data_text : List ℕ) × (16777216 < length data_text) × IsLoaded (load_of data_name data_text) old new → NoneFailed failed failed_since
+      → CheckOfDataEndsWith old new failed failed_since text data_name (verdicts.Job (jobs.Data fault))
+  long_data_ends J fault tree e long none =
+      inr (jobs.Data fault, refl, long.0, inr (inl (J, fault, tree, inl (record { long = long.1; fault_is = e }), refl)), (long.2, none))
 
--- a fault of the JDF's text is denoted whatever the data file is, and whether it is there or not
-refused_whatever : (jdf data_name text : List ℕ) (other : Option (List ℕ)) (v : Denotation) → RefusesText text v → ContentsDenote jdf data_name (Some text) other v
-refused_whatever jdf data_name text None v h = inl h
-refused_whatever jdf data_name text (Some data_text) v h = (h.0, inl h.1, h.2)
-
--- what the contents of a JDF file that is there denote, the files denote
-files_denote : (files : NamedFiles) (jdf data_name text : List ℕ) (v : Denotation) → file_of files jdf ≡ Some text → ContentsDenote jdf data_name (Some text) (file_of files data_name) v → FilesDenote files jdf data_name v
-files_denote files jdf data_name text v there h = subst (λ (o : Option (List ℕ)). ContentsDenote jdf data_name o (file_of files data_name) v) (sym there) h
-
-module _ (contents : Option NamedFiles) (old new : List ℕ → ℕ) (jdf data_name : List ℕ) where
+module _ (old middle new : List Read) (failed failed_between failed_since : List ℕ → ℕ) (jdf data_name : List ℕ) where
   -- the check of the data file is the check of the files, where the tree of the JDF file was read
-  tree_ends : (mid : ℕ) (J : Jdf) (v : Denotation) (read : IsTreeRead contents jdf J) → old data_name ≤ mid
-      → CheckOfDataEndsWith contents mid (new data_name) read.0 data_name v → IsVerdictOnCommand contents old new (Check jdf data_name) v
-  tree_ends mid J v read le (inl (e, rose)) =
-      inl (data_name, rose_from (old data_name) mid (new data_name) le rose, inr (refl, λ files t. (J, (read.0, read.2 files t, read.1))), e)
-  tree_ends mid J v read le (inr (job, e, known)) =
-      inr (
-        job_is_of_texts v job e,
-        λ files t.
-            let at = known files t in
-            files_denote files jdf data_name read.0 v (read.2 files t) (subst (λ (o : Option (List ℕ)). ContentsDenote jdf data_name (Some read.0) o v) (sym at.1) (job, at.2, e)),
-      )
+  tree_ends : (J : Jdf) (v : Denotation) (read : IsTreeRead old middle failed failed_between jdf J)
+      → CheckOfDataEndsWith middle new failed_between failed_since read.0 data_name v → IsVerdictOnCommand old new failed failed_since (Check jdf data_name) v
+  tree_ends J v read (inl (e, begun, rose)) =
+      record {
+        loads = load_of jdf read.0 ∷ [];
+        operands = (refl, tt);
+        denoted = inr (J, read.1, e);
+        reads = inl (data_name, e, (middle, (middle, read.2.0, refl), begun, subst (λ (k : ℕ). Rose k (failed_since data_name)) (read.2.1 data_name) rose));
+      }
+  tree_ends J v read (inr (job, e, data_text, h, loaded)) =
+      record {
+        loads = load_of jdf read.0 ∷ load_of data_name data_text ∷ [];
+        operands = (refl, (refl, tt));
+        denoted = (job, h, e);
+        reads = inr (job_is_of_texts v job e, (middle, read.2.0, (new, loaded.0, refl)), λ name. loaded.1 name ∙ read.2.1 name);
+      }
 
-  pub tree_result_ends : (mid : ℕ) (J : Jdf) (r : Result Verdict OutOfMemory) → IsTreeRead contents jdf J → old data_name ≤ mid
-      → ((text : List ℕ) → IsJdf text J → IfOk r (λ v. CheckOfDataEndsWith contents mid (new data_name) text data_name (denoted v)))
-      → IfOk r (λ v. IsVerdictOnCommand contents old new (Check jdf data_name) (denoted v))
-  tree_result_ends mid J (Ok v) read le h = tree_ends mid J (denoted v) read le (h read.0 read.1)
-  tree_result_ends mid J (Err x) read le h = tt
+  pub tree_result_ends : (J : Jdf) (r : Result Verdict OutOfMemory) → IsTreeRead old middle failed failed_between jdf J
+      → ((text : List ℕ) → IsJdf text J → IfOk r (λ v. CheckOfDataEndsWith middle new failed_between failed_since text data_name (denoted v)))
+      → IfOk r (λ v. IsVerdictOnCommand old new failed failed_since (Check jdf data_name) (denoted v))
+  tree_result_ends J (Ok v) read h = tree_ends J (denoted v) read (h read.0 read.1)
+  tree_result_ends J (Err x) read h = tt
 
+module _ (old new : List Read) (failed failed_since : List ℕ → ℕ) (jdf data_name : List ℕ) where
   -- a JDF file without a tree
-  pub refusal_ends : (v : Denotation) → TreeIsRefused contents (old jdf) (new jdf) jdf v → IsVerdictOnCommand contents old new (Check jdf data_name) v
-  refusal_ends v (inl (e, rose)) = inl (jdf, rose, inl refl, e)
-  refusal_ends v (inr (is, known)) =
-      inr (
-        is,
-        λ files t.
-            let at = known files t in
-            files_denote files jdf data_name at.0 v at.1 (refused_whatever jdf data_name at.0 (file_of files data_name) v at.2),
-      )
+  pub refusal_ends : (v : Denotation) → TreeIsRefused old new failed failed_since jdf v → IsVerdictOnCommand old new failed failed_since (Check jdf data_name) v
+  refusal_ends v (inl (e, begun, rose)) = record { loads = []; operands = tt; denoted = e; reads = inl (jdf, e, (old, refl, begun, rose)) }
+  refusal_ends v (inr (of, text, h, loaded)) =
+      record { loads = load_of jdf text ∷ []; operands = (refl, tt); denoted = inl h; reads = inr (of, (new, loaded.0, refl), loaded.1) }
 
 -- ---- two files denote one verdict at most
 pub refused_once : (text : List ℕ) (v w : Denotation) → RefusesText text v → RefusesText text w → v ≡ w

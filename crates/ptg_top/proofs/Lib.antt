@@ -1,3 +1,4 @@
+pub mod Loading
 pub mod JdfFiles
 pub mod Checked
 pub mod Answered

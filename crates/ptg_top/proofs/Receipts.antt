@@ -4,7 +4,6 @@ use Rattle.std.specs.Prelude.{Option, None, IfSome, IfNone, Bool, true, false, i
 use Rattle.std.proofs.lemmas.Bool.{false≢true}
 use Rattle.coll_data.specs.Data.{Data}
 use Rattle.plan_core.specs.declared.plan.Plan.{Plan}
-use Rattle.ptg_io.specs.Files.{file_of}
 use Rattle.flow_meaning.specs.Answer.{answer}
 use Rattle.flow_meaning.specs.declared.outcome.Outcome.{Outcome}
 use Rattle.flow_meaning.specs.declared.outcome.Outcome.TheVariants as outcomes
@@ -25,9 +24,10 @@ use Rattle.ptg_top.specs.Answering.{IsAnswer, OnConsistent}
 use Rattle.ptg_top.specs.Denotation as verdicts
 use Rattle.ptg_top.specs.Denotation.{Denotation, denoted}
 use Rattle.job_gen.specs.Job.{data_text, jdf_text}
-use Rattle.ptg_top.specs.JobFiles.{ContentsDenote, FilesDenote, JobTextsDenote, NamedFiles}
+use Rattle.ptg_top.specs.Operands.{Load, Operands, Read, in_loads}
+use Rattle.ptg_top.specs.JobFiles.{ContentsDenote, FilesDenote, JobTextsDenote}
 use Rattle.ptg_top.specs.Meaning.{CommandDenotes, ContentShows, Denotes}
-use Rattle.ptg_top.specs.Reports.{IsVerdictOnWords}
+use Rattle.ptg_top.specs.Reports.{HasLoaded, IsVerdictOnWords}
 use Rattle.ptg_top.specs.Certify.{IsCertified}
 use Rattle.ptg_top.specs.Demo.{IsSummary, MadeTextsDenote}
 use Rattle.ptg_top.specs.Replay.{IsReplayed}
@@ -68,14 +68,14 @@ module _ (r : ReceiptView) (finding : Finding) where
   receipt_of_order (order.Certify j t) h = h
   receipt_of_order (order.Ranks j t k s) h = absurd (some_is_not_none r h)
 
-module _ (words : List (List ℕ)) (contents : Option NamedFiles) (old new : List ℕ → ℕ) where
-  answer_receipt : (r : ReceiptView) (finding : Finding) → IsVerdictOnWords words contents old new (verdicts.Ran r.plan finding) → IsVerdictForWords words (Ran (Table r) finding)
+module _ (words : List (List ℕ)) (old new : List Read) (failed failed_since : List ℕ → ℕ) where
+  answer_receipt : (r : ReceiptView) (finding : Finding) → IsVerdictOnWords words old new failed failed_since (verdicts.Ran r.plan finding) → IsVerdictForWords words (Ran (Table r) finding)
       → (o : Order) × Orders words o × IsReceiptFor o r
-  answer_receipt r finding (inl (none, e)) ran = absurd cc
+  answer_receipt r finding (inl (none, e, same, faults)) ran = absurd cc
   answer_receipt r finding (inr (command, formed, h)) ran =
       (command, formed, receipt_of_order r finding command (ran command formed))
 
-  asked_receipt : (v : Verdict) (s : Status) → IsVerdictOnWords words contents old new (denoted v) → IsVerdictForWords words v → s ≡ status_of (denoted v)
+  asked_receipt : (v : Verdict) (s : Status) → IsVerdictOnWords words old new failed failed_since (denoted v) → IsVerdictForWords words v → s ≡ status_of (denoted v)
       → IfSome (receipt_of v) (λ r. (o : Order) × Orders words o × IsReceiptFor o r × IsAnswerStatus s)
   asked_receipt (Ran (Table r) finding) s judged ran e =
       let at = answer_receipt r finding judged ran in
@@ -88,7 +88,7 @@ module _ (words : List (List ℕ)) (contents : Option NamedFiles) (old new : Lis
   asked_receipt (Ran (OneThread matched) finding) s judged ran e = tt
   asked_receipt (TraceRefused fault) s judged ran e = tt
 
-  pub receipt_is_asked : (v : Verdict) (s : Status) (found : Option ReceiptView) → IsVerdictOnWords words contents old new (denoted v) → IsVerdictForWords words v → s ≡ status_of (denoted v) → found ≡ receipt_of v
+  pub receipt_is_asked : (v : Verdict) (s : Status) (found : Option ReceiptView) → IsVerdictOnWords words old new failed failed_since (denoted v) → IsVerdictForWords words v → s ≡ status_of (denoted v) → found ≡ receipt_of v
       → IfSome found (λ r. (o : Order) × Orders words o × IsReceiptFor o r × IsAnswerStatus s)
   receipt_is_asked v s found judged ran e is =
       subst (λ (x : Option ReceiptView). IfSome x (λ r. (o : Order) × Orders words o × IsReceiptFor o r × IsAnswerStatus s)) (sym is) (asked_receipt v s judged ran e)
@@ -169,45 +169,49 @@ module _ (P : Plan) (finding : Finding) where
   of_certified : (Q : Plan) (given : Data) → IsCertified Q given (verdicts.Ran P finding) → Q ≡ P
   of_certified Q given (c, h, e) = cc
 
-  module _ (files : NamedFiles) where
-    order_finds : (o : Order) → CommandDenotes files o (verdicts.Ran P finding) → FindsPlan files o P
+  module _ (operands : Operands) where
+    order_finds : (o : Order) → CommandDenotes operands o (verdicts.Ran P finding) → FindsPlan operands o P
     order_finds (order.Run j t w s p) h =
         let settings : Settings = record { workers = w; shards = s; preload = p } in
-        plan_is_found (FilesDenote files j t) (IsAnswer settings) (no_contents_are_run j t (file_of files j) (file_of files t))
+        plan_is_found (FilesDenote operands j t) (IsAnswer settings) (no_contents_are_run j t (operands 0 j) (operands 1 t))
         (λ Q given a. of_answer (is_too_large settings Q) Q (findings.Answer (answer Q given)) a) h.0 h.1 h.2
-    order_finds (order.Show j) h = absurd (no_text_is_run j (file_of files j) h)
-    order_finds (order.Check j t) h = absurd (no_contents_are_run j t (file_of files j) (file_of files t) h)
+    order_finds (order.Show j) h = absurd (no_text_is_run j (operands 0 j) h)
+    order_finds (order.Check j t) h = absurd (no_contents_are_run j t (operands 0 j) (operands 1 t) h)
     order_finds (order.Demo rows) h =
         plan_is_found (MadeTextsDenote rows) (IsSummary rows) (no_texts_are_run jdf_text (data_text rows)) (of_summary rows) h.0 h.1 h.2
     order_finds (order.Trace j t w s) h =
-        plan_is_found (FilesDenote files j t) IsTraced (no_contents_are_run j t (file_of files j) (file_of files t)) of_traced h.0 h.1 h.2
+        plan_is_found (FilesDenote operands j t) IsTraced (no_contents_are_run j t (operands 0 j) (operands 1 t)) of_traced h.0 h.1 h.2
     order_finds (order.Replay j t l) h =
-        plan_is_found (FilesDenote files j t) (IsReplayed l (file_of files l)) (no_contents_are_run j t (file_of files j) (file_of files t)) (of_replayed l (file_of files l)) h.0 h.1 h.2
+        plan_is_found (FilesDenote operands j t) (IsReplayed l (operands 2 l)) (no_contents_are_run j t (operands 0 j) (operands 1 t)) (of_replayed l (operands 2 l)) h.0 h.1 h.2
     order_finds (order.Certify j t) h =
-        plan_is_found (FilesDenote files j t) IsCertified (no_contents_are_run j t (file_of files j) (file_of files t)) of_certified h.0 h.1 h.2
+        plan_is_found (FilesDenote operands j t) IsCertified (no_contents_are_run j t (operands 0 j) (operands 1 t)) of_certified h.0 h.1 h.2
     order_finds (order.Ranks j t k s) h =
-        plan_is_found (FilesDenote files j t) (IsRanked k) (no_contents_are_run j t (file_of files j) (file_of files t)) (of_ranked k) h.0 h.1 h.2
+        plan_is_found (FilesDenote operands j t) (IsRanked k) (no_contents_are_run j t (operands 0 j) (operands 1 t)) (of_ranked k) h.0 h.1 h.2
 
-    answer_has_plan : (words : List (List ℕ)) → Denotes words files (verdicts.Ran P finding) → HasConsistentPlan words files P
+    answer_has_plan : (words : List (List ℕ)) → Denotes words operands (verdicts.Ran P finding) → HasConsistentPlan words operands P
     answer_has_plan words (inl (none, e)) = absurd cc
     answer_has_plan words (inr (command, formed, h)) = (command, formed, order_finds command h)
 
 run_is_read : (P : Plan) (finding : Finding) (name : List ℕ) → verdicts.Ran P finding ≡ verdicts.Unread name → ⊥
 run_is_read P finding name e = absurd cc
 
-module _ (words : List (List ℕ)) (files : NamedFiles) (contents : Option NamedFiles) (old new : List ℕ → ℕ) where
-  has_plan : (v : Verdict) → IsVerdictOnWords words contents old new (denoted v) → contents ≡ Some files → IfSome (receipt_of v) (λ r. HasConsistentPlan words files r.plan)
-  has_plan (Ran (Table r) finding) judged known =
-      answer_has_plan r.plan finding files words
-      (is_denoted words files contents old new (verdicts.Ran r.plan finding) judged known (λ name e rose. run_is_read r.plan finding name e))
-  has_plan Usage judged known = tt
-  has_plan (Unread name) judged known = tt
-  has_plan (Job job) judged known = tt
-  has_plan (Spelling text) judged known = tt
-  has_plan PreloadTooLarge judged known = tt
-  has_plan (Ran (OneThread matched) finding) judged known = tt
-  has_plan (TraceRefused fault) judged known = tt
+module _ (words : List (List ℕ)) (old new : List Read) (failed failed_since : List ℕ → ℕ) where
+  -- loads with which the arguments denote a consistent job with this plan
+  abbrev HasPlanOfLoads : Plan → Type 0
+  HasPlanOfLoads P = (loads : List Load) × HasLoaded words old new loads × HasConsistentPlan words (in_loads loads) P
 
-  pub receipt_has_plan : (v : Verdict) (found : Option ReceiptView) → IsVerdictOnWords words contents old new (denoted v) → contents ≡ Some files → found ≡ receipt_of v
-      → IfSome found (λ r. HasConsistentPlan words files r.plan)
-  receipt_has_plan v found judged known is = subst (λ (x : Option ReceiptView). IfSome x (λ r. HasConsistentPlan words files r.plan)) (sym is) (has_plan v judged known)
+  has_plan : (v : Verdict) → IsVerdictOnWords words old new failed failed_since (denoted v) → IfSome (receipt_of v) (λ r. HasPlanOfLoads r.plan)
+  has_plan (Ran (Table r) finding) judged =
+      let on = is_denoted words old new failed failed_since (verdicts.Ran r.plan finding) judged (λ name e rose. run_is_read r.plan finding name e) in
+      (on.0, on.1, answer_has_plan r.plan finding (in_loads on.0) words on.2)
+  has_plan Usage judged = tt
+  has_plan (Unread name) judged = tt
+  has_plan (Job job) judged = tt
+  has_plan (Spelling text) judged = tt
+  has_plan PreloadTooLarge judged = tt
+  has_plan (Ran (OneThread matched) finding) judged = tt
+  has_plan (TraceRefused fault) judged = tt
+
+  pub receipt_has_plan : (v : Verdict) (found : Option ReceiptView) → IsVerdictOnWords words old new failed failed_since (denoted v) → found ≡ receipt_of v
+      → IfSome found (λ r. HasPlanOfLoads r.plan)
+  receipt_has_plan v found judged is = subst (λ (x : Option ReceiptView). IfSome x (λ r. HasPlanOfLoads r.plan)) (sym is) (has_plan v judged)

@@ -1,8 +1,9 @@
 -- The verdict of `replay`: how its steps make what it denotes.
-use Rattle.std.proofs.Common.{◌≡◌, ℕ, ◌≤◌, List, Some, Result, Ok, Err, refl, sym, ◌∙◌, ap, subst, inl, inr}
-use Rattle.std.specs.Prelude.{Option, IfOk}
+use Rattle.std.proofs.Common.{◌≡◌, ℕ, ◌<◌, List, [], ◌∷◌, ◌++◌, length, None, Some, Result, Ok, Err, refl, sym, ◌∙◌, ap, subst, inl, inr}
+use Rattle.std.specs.Prelude.{IfOk}
 use Rattle.ptg_base.specs.declared.memory.OutOfMemory.{OutOfMemory}
-use Rattle.ptg_io.specs.Files.{file_of, IsLonger}
+use Rattle.ptg_io.specs.Faults.{Rose}
+use Rattle.ptg_io.specs.Reads.{Gave, IsLoaded}
 use Rattle.coll_data.specs.Data.{Data}
 use Rattle.plan_core.specs.declared.plan.Plan.{Plan}
 use Rattle.dep_iter.specs.Consistent.{IsConsistent}
@@ -19,12 +20,12 @@ use Rattle.ptg_top.specs.declared.verdict.Verdict.{Verdict}
 use Rattle.ptg_top.specs.Denotation as verdicts
 use Rattle.ptg_top.specs.Denotation.{Denotation, denoted}
 use Rattle.ptg_top.specs.Answering.{IsRefusedByCheck}
-use Rattle.ptg_top.specs.JobFiles.{FilesDenote, NamedFiles}
+use Rattle.ptg_top.specs.Operands.{AreOf, Load, Read, in_loads, load_of, text_at}
+use Rattle.ptg_top.specs.JobFiles.{ContentsDenote}
 use Rattle.ptg_top.specs.Replay.{IsReplayed, IsReplayOf}
-use Rattle.ptg_top.specs.Reports.{IsOfTexts, IsVerdictOnCommand}
-use Rattle.ptg_top.specs.Steps.{ReplayEndsWith}
+use Rattle.ptg_top.specs.Reports.{IsOfTexts, EndsAfter, IsVerdictOnCommand, NoneFailed}
+use Rattle.ptg_top.specs.Steps.{LoadedAs, ReplayEndsWith}
 use Rattle.ptg_top.proofs.Answered.{kept}
-use Rattle.report_text.proofs.Putting.{rose_from}
 
 -- a text that is accepted has no fault, and so it is a trace
 pub accepted : (P : Plan) (given : Data) → IsConsistent P → (text : List ℕ) (r : Result Outcome TraceFault) (o : Outcome) → r ≡ Ok o → ((f : TraceFault) → IsTraceFault P given text f → r ≡ Err f)
@@ -34,51 +35,84 @@ accepted P given con text r o is refused answered = elim (fault_or_trace P given
   | inr found ↦ inr (found, ap (λ (x : Outcome). verdicts.Ran P (Answer x)) (subst (λ (q : Result Outcome TraceFault). IfOk q (λ x. x ≡ answer P given)) is answered))
 ]
 
-module _ (contents : Option NamedFiles) (old new : ℕ) (trace : List ℕ) (P : Plan) (given : Data) where
+module _ (old new : List Read) (failed failed_since : List ℕ → ℕ) (trace : List ℕ) (P : Plan) (given : Data) where
   -- a trace file that was loaded
-  pub read_ends : (text : List ℕ) (r : Result Verdict OutOfMemory) → ((files : NamedFiles) → contents ≡ Some files → file_of files trace ≡ Some text)
-      → IfOk r (λ v. IsReplayOf text P given (denoted v)) → IfOk r (λ v. IsOfTexts (denoted v)) → IfOk r (λ v. ReplayEndsWith contents old new trace P given (denoted v))
-  read_ends text (Ok v) there h of = inr (of, λ files t. (text, there files t, h))
-  read_ends text (Err x) there h of = tt
+  pub read_ends : (text : List ℕ) (r : Result Verdict OutOfMemory) → LoadedAs old new failed failed_since trace text
+      → IfOk r (λ v. IsReplayOf text P given (denoted v)) → IfOk r (λ v. IsOfTexts (denoted v)) → IfOk r (λ v. ReplayEndsWith old new failed failed_since trace P given (denoted v))
+  read_ends text (Ok v) loaded h of = inr (of, text, h, loaded)
+  read_ends text (Err x) loaded h of = tt
 
   -- a trace file that is too long
-  pub long_ends : (f : TraceFault) → f ≡ too_long → ((files : NamedFiles) → contents ≡ Some files → IsLonger files trace 16777216)
-      → ReplayEndsWith contents old new trace P given (verdicts.TraceRefused f)
-  long_ends f is long = inr (tt, λ files t. let at = long files t in (at.0, at.1, inl (f, of_spelling (over_length at.2 is), refl)))
+  pub long_ends : (f : TraceFault) → f ≡ too_long → (text : List ℕ) × (16777216 < length text) × IsLoaded (load_of trace text) old new → NoneFailed failed failed_since
+      → ReplayEndsWith old new failed failed_since trace P given (verdicts.TraceRefused f)
+  long_ends f is long none = inr (tt, long.0, inl (f, of_spelling (over_length long.1 is), refl), (long.2, none))
 
-module _ (contents : Option NamedFiles) (jdf data_name trace : List ℕ) where
-  module _ (old mid new : List ℕ → ℕ) (P : Plan) (given : Data) where
-    -- the files denote the job that was found consistent
-    job_known : (checked : Denotation) → checked ≡ verdicts.Job (jobs.Consistent P given) → IsVerdictOnCommand contents old mid (Check jdf data_name) checked
-        → (files : NamedFiles) → contents ≡ Some files → FilesDenote files jdf data_name (verdicts.Job (jobs.Consistent P given))
-    job_known checked is (inl (name, rose, may, e)) files t = let d : verdicts.Job (jobs.Consistent P given) ≡ verdicts.Unread name = sym is ∙ e in absurd cc
-    job_known checked is (inr (of, known)) files t = subst (FilesDenote files jdf data_name) is (known files t)
+-- loads of the first names are loads of the first of more names
+more_names : (loads : List Load) (names more : List (List ℕ)) → AreOf loads names → AreOf loads (names ++ more)
+more_names [] names more h = tt
+more_names (load ∷ loads) [] more h = absurd h
+more_names (load ∷ loads) (name ∷ names) more h = (h.0, more_names loads names more h.1)
 
-    trace_ends : (v : Denotation) → old trace ≤ mid trace → ((files : NamedFiles) → contents ≡ Some files → FilesDenote files jdf data_name (verdicts.Job (jobs.Consistent P given)))
-        → ReplayEndsWith contents (mid trace) (new trace) trace P given v → IsVerdictOnCommand contents old new (Replay jdf data_name trace) v
-    trace_ends v le job (inl (e, rose)) = inl (trace, rose_from (old trace) (mid trace) (new trace) le rose, inr (refl, λ files t. (P, given, job files t)), e)
-    trace_ends v le job (inr (of, known)) =
-        inr (
-          of,
-          λ files t.
-              let at = known files t in
-              (verdicts.Job (jobs.Consistent P given), job files t, subst (λ (o : Option (List ℕ)). IsReplayed trace o P given v) (sym at.1) at.2),
-        )
+module _ (jdf data_name trace : List ℕ) where
+  module _ (old middle new : List Read) (failed failed_between failed_since : List ℕ → ℕ) (P : Plan) (given : Data) where
+    -- a JDF file alone has no consistent job
+    two_are_needed : (text : List ℕ) → ContentsDenote jdf data_name (Some text) None (verdicts.Job (jobs.Consistent P given)) → ⊥
+    two_are_needed text (inl (job, (fault, h, is), e)) = absurd cc
+    two_are_needed text (inr (J, tree, e)) = absurd cc
+
+    -- the trace file comes after the two files of the consistent job
+    trace_ends : (loads : List Load) → AreOf loads (jdf ∷ data_name ∷ []) → ContentsDenote jdf data_name (text_at loads 0) (text_at loads 1) (verdicts.Job (jobs.Consistent P given))
+        → Gave old middle loads → NoneFailed failed failed_between → (v : Denotation) → ReplayEndsWith middle new failed_between failed_since trace P given v
+        → IsVerdictOnCommand old new failed failed_since (Replay jdf data_name trace) v
+    trace_ends [] names denoted gave none v ends = absurd cc
+    trace_ends (a ∷ []) names denoted gave none v ends = absurd (two_are_needed a.text denoted)
+    trace_ends (a ∷ b ∷ c ∷ rest) names denoted gave none v ends = absurd names.1.1
+    trace_ends (a ∷ b ∷ []) names denoted gave none v (inl (e, begun, rose)) =
+        record {
+          loads = a ∷ b ∷ [];
+          operands = (names.0, (names.1.0, tt));
+          denoted = (verdicts.Job (jobs.Consistent P given), denoted, e);
+          reads = inl (trace, e, (middle, gave, begun, subst (λ (k : ℕ). Rose k (failed_since trace)) (none trace) rose));
+        }
+    trace_ends (a ∷ b ∷ []) names denoted gave none v (inr (of, text, h, loaded)) =
+        let third : IsLoaded (load_of trace text) gave.2.0 new = subst (λ (rs : List Read). IsLoaded (load_of trace text) rs new) gave.2.2 loaded.0 in
+        record {
+          loads = a ∷ b ∷ load_of trace text ∷ [];
+          operands = (names.0, (names.1.0, (refl, tt)));
+          denoted = (verdicts.Job (jobs.Consistent P given), denoted, h);
+          reads = inr (of, (gave.0, gave.1, (gave.2.0, gave.2.1, (new, third, refl))), λ name. loaded.1 name ∙ none name);
+        }
+
+    -- what was read of the consistent job
+    job_ends : (loads : List Load) → AreOf loads (jdf ∷ data_name ∷ []) → ContentsDenote jdf data_name (text_at loads 0) (text_at loads 1) (verdicts.Job (jobs.Consistent P given))
+        → EndsAfter old middle loads failed failed_between (verdicts.Job (jobs.Consistent P given)) → (v : Denotation) → ReplayEndsWith middle new failed_between failed_since trace P given v
+        → IsVerdictOnCommand old new failed failed_since (Replay jdf data_name trace) v
+    job_ends loads names denoted (inl (name, e, after)) v ends = absurd cc
+    job_ends loads names denoted (inr (of, gave, none)) v ends = trace_ends loads names denoted gave none v ends
 
     -- the verdict of `replay`, from that of `check` and that on the trace file
-    pub replay_finds : (checked : Denotation) (r : Result Verdict OutOfMemory) → checked ≡ verdicts.Job (jobs.Consistent P given) → old trace ≤ mid trace
-        → IsVerdictOnCommand contents old mid (Check jdf data_name) checked → IfOk r (λ v. ReplayEndsWith contents (mid trace) (new trace) trace P given (denoted v))
-        → IfOk r (λ v. IsVerdictOnCommand contents old new (Replay jdf data_name trace) (denoted v))
-    replay_finds checked (Ok v) is le h ends = trace_ends (denoted v) le (job_known checked is h) ends
-    replay_finds checked (Err x) is le h ends = tt
+    pub replay_finds : (checked : Denotation) (r : Result Verdict OutOfMemory) → checked ≡ verdicts.Job (jobs.Consistent P given)
+        → IsVerdictOnCommand old middle failed failed_between (Check jdf data_name) checked → IfOk r (λ v. ReplayEndsWith middle new failed_between failed_since trace P given (denoted v))
+        → IfOk r (λ v. IsVerdictOnCommand old new failed failed_since (Replay jdf data_name trace) (denoted v))
+    replay_finds checked (Ok v) is h ends =
+        let found : IsVerdictOnCommand old middle failed failed_between (Check jdf data_name) (verdicts.Job (jobs.Consistent P given)) =
+        subst (IsVerdictOnCommand old middle failed failed_between (Check jdf data_name)) is h in
+        job_ends found.loads found.operands found.denoted found.reads (denoted v) ends
+    replay_finds checked (Err x) is h ends = tt
 
-  -- a refusal of `check` stays
-  stays : (old new : List ℕ → ℕ) (checked : Denotation) → IsVerdictOnCommand contents old new (Check jdf data_name) checked → IsRefusedByCheck checked
-      → IsVerdictOnCommand contents old new (Replay jdf data_name trace) checked
-  stays old new checked (inl (name, rose, may, e)) refused = inl (name, rose, inl may, e)
-  stays old new checked (inr (of, known)) refused = inr (of, λ files t. (checked, known files t, kept (IsReplayed trace (file_of files trace)) checked refused))
+  module _ (old new : List Read) (failed failed_since : List ℕ → ℕ) where
+    -- a refusal of `check` stays
+    stays : (checked : Denotation) → IsVerdictOnCommand old new failed failed_since (Check jdf data_name) checked → IsRefusedByCheck checked
+        → IsVerdictOnCommand old new failed failed_since (Replay jdf data_name trace) checked
+    stays checked h refused =
+        record {
+          loads = h.loads;
+          operands = more_names h.loads (jdf ∷ data_name ∷ []) (trace ∷ []) h.operands;
+          denoted = (checked, h.denoted, kept (IsReplayed trace (text_at h.loads 2)) checked refused);
+          reads = h.reads;
+        }
 
-  pub replay_refuses : (old new : List ℕ → ℕ) (checked refused : Verdict) → refused ≡ checked → IsVerdictOnCommand contents old new (Check jdf data_name) (denoted checked) → IsRefusedByCheck (denoted refused)
-      → IsVerdictOnCommand contents old new (Replay jdf data_name trace) (denoted refused)
-  replay_refuses old new checked refused e h r =
-      stays old new (denoted refused) (subst (λ (v : Verdict). IsVerdictOnCommand contents old new (Check jdf data_name) (denoted v)) (sym e) h) r
+    pub replay_refuses : (checked refused : Verdict) → refused ≡ checked → IsVerdictOnCommand old new failed failed_since (Check jdf data_name) (denoted checked) → IsRefusedByCheck (denoted refused)
+        → IsVerdictOnCommand old new failed failed_since (Replay jdf data_name trace) (denoted refused)
+    replay_refuses checked refused e h r =
+        stays (denoted refused) (subst (λ (v : Verdict). IsVerdictOnCommand old new failed failed_since (Check jdf data_name) (denoted v)) (sym e) h) r

@@ -1,6 +1,6 @@
 -- The verdict of `demo`: how its steps make what it denotes.
-use Rattle.std.proofs.Common.{◌≡◌, ℕ, List, Result, Ok, Err, refl, sym, subst, inr}
-use Rattle.std.specs.Prelude.{Option, IfOk}
+use Rattle.std.proofs.Common.{◌≡◌, ℕ, List, [], Result, Ok, Err, refl, sym, subst, inr}
+use Rattle.std.specs.Prelude.{IfOk}
 use Rattle.ptg_base.specs.declared.memory.OutOfMemory.{OutOfMemory}
 use Rattle.coll_data.specs.Data.{Data}
 use Rattle.plan_core.specs.declared.plan.Plan.{Plan}
@@ -15,7 +15,7 @@ use Rattle.ptg_top.specs.Answering.{IsRefusedByCheck, OnConsistent}
 use Rattle.ptg_top.specs.Demo.{DemoDenotes, IsSummary, MadeTextsDenote}
 use Rattle.ptg_top.specs.Denotation as verdicts
 use Rattle.ptg_top.specs.Denotation.{Denotation, denoted}
-use Rattle.ptg_top.specs.JobFiles.{NamedFiles}
+use Rattle.ptg_top.specs.Operands.{Read}
 use Rattle.ptg_top.specs.Reports.{IsOfTexts, IsVerdictOnCommand}
 use Rattle.ptg_top.proofs.Answered.{kept, on_texts}
 use Rattle.ptg_top.proofs.JdfFiles.{job_is_of_texts}
@@ -40,9 +40,10 @@ module _ (n : ℕ) where
   demo_of_texts : (v : Denotation) → DemoDenotes n v → IsOfTexts v
   demo_of_texts v (checked, (job, h, e), k) = on_texts (IsSummary n) (λ P given w s. subst IsOfTexts (sym s) tt) checked v (job_is_of_texts checked job e) k
 
-  -- what is denoted is a verdict on the command, whatever the files are
-  pub demo_ends : (contents : Option NamedFiles) (old new : List ℕ → ℕ) (command : Order) (r : Result Verdict OutOfMemory) → command ≡ Demo n → IfOk r (λ v. DemoDenotes n (denoted v))
-      → IfOk r (λ v. IsVerdictOnCommand contents old new command (denoted v))
-  demo_ends contents old new command (Ok v) e h =
-      subst (λ (q : Order). IsVerdictOnCommand contents old new q (denoted v)) (sym e) (inr (demo_of_texts (denoted v) h, λ files t. h))
-  demo_ends contents old new command (Err x) e h = tt
+  -- what is denoted is a verdict on the command, where nothing was read
+  pub demo_ends : (reads : List Read) (failed : List ℕ → ℕ) (command : Order) (r : Result Verdict OutOfMemory) → command ≡ Demo n → IfOk r (λ v. DemoDenotes n (denoted v))
+      → IfOk r (λ v. IsVerdictOnCommand reads reads failed failed command (denoted v))
+  demo_ends reads failed command (Ok v) e h =
+      subst (λ (q : Order). IsVerdictOnCommand reads reads failed failed q (denoted v)) (sym e)
+      (record { loads = []; operands = tt; denoted = h; reads = inr (demo_of_texts (denoted v) h, refl, λ name. refl) })
+  demo_ends reads failed command (Err x) e h = tt

@@ -1,6 +1,6 @@
 -- What is printed for a verdict, and what a run of the program promises. Source: this project's own choice of lines and
 -- statuses.
-use Rattle.std.specs.Prelude.{◌≡◌, ℕ, List, ◌++◌, Option}
+use Rattle.std.specs.Prelude.{◌≡◌, ℕ, List, ◌++◌}
 use Rattle.report_text.specs.Puts.{HasPrefix}
 use Rattle.report_text.specs.Refusal.{preload_line, refusal_text, unread_line, usage_line}
 use Rattle.report_text.specs.declared.refusal_line.Line.TheVariants as line_of
@@ -9,9 +9,9 @@ use Rattle.ptg_top.specs.declared.status.Status.TheVariants.{Complete, Usage, Jd
 use Rattle.ptg_top.specs.Denotation as verdicts
 use Rattle.ptg_top.specs.Denotation.{Denotation}
 use Rattle.ptg_top.specs.Findings.{finding_text, status_of_finding}
-use Rattle.ptg_top.specs.JobFiles.{NamedFiles}
+use Rattle.ptg_top.specs.Operands.{Load, Operands, Read, in_loads}
 use Rattle.ptg_top.specs.Meaning.{Denotes}
-use Rattle.ptg_top.specs.Reports.{IsVerdictOnWords}
+use Rattle.ptg_top.specs.Reports.{HasLoaded, IsVerdictOnWords}
 use Rattle.ptg_top.specs.JobText.{job_text, status_of_job}
 
 -- what is printed for a verdict
@@ -49,19 +49,25 @@ IsExact OutOfMemory = ⊥
 IsExact PreloadTooLarge = Unit {0}
 IsExact TraceRefused = Unit {0}
 
--- the sink grew by exactly the text of a verdict that the arguments and the files denote (one at most, but for traces),
--- and this is its status
-pub record Prints (words : List (List ℕ)) (files : NamedFiles) (before after : List ℕ)
-    (status : Status) : Type 0 where
+-- the sink grew by exactly the text of a verdict that the arguments and the operands denote (one at most, but for
+-- traces), and this is its status
+pub record Prints (words : List (List ℕ)) (operands : Operands) (before after : List ℕ) (status : Status)
+    : Type 0 where
   pub verdict : Denotation
-  pub denoted : Denotes words files verdict
+  pub denoted : Denotes words operands verdict
   pub text : after ≡ before ++ text_of verdict
   pub ends : status ≡ status_of verdict
 
--- a failed write cut the text of a verdict short: the one that the arguments and the files denote, or the name of a
--- file that could not be read
-pub record IsCut (words : List (List ℕ)) (contents : Option NamedFiles) (old new : List ℕ → ℕ)
+-- exactly some loads were made, of the first file operands of the command, and what was printed, with its status, is
+-- what the arguments denote where these operands hold what was loaded, and later ones are missing
+abbrev pub PrintsLoaded : List (List ℕ) → List Read → List Read → List ℕ → List ℕ → Status → Type 0
+PrintsLoaded words old new before after status =
+    (loads : List Load) × HasLoaded words old new loads × Prints words (in_loads loads) before after status
+
+-- a failed write cut the text of a verdict short: the one on what was loaded, or the name of a file that could not be
+-- read
+pub record IsCut (words : List (List ℕ)) (old new : List Read) (failed failed_since : List ℕ → ℕ)
     (before after : List ℕ) : Type 0 where
   pub verdict : Denotation
-  pub due : IsVerdictOnWords words contents old new verdict
+  pub due : IsVerdictOnWords words old new failed failed_since verdict
   pub prefix : HasPrefix before after (text_of verdict)

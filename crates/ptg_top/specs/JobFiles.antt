@@ -1,8 +1,6 @@
 -- What the two files of a job denote, whatever the machine. Source: this project's own choice: the data file is read
 -- only once the JDF's text was found to be that of a tree.
 use Rattle.std.specs.Prelude.{◌≡◌, ◌⊎◌, ℕ, List, Option, Some, None}
-use Rattle.ptg_io.specs.Files.{file_of}
-pub use Rattle.ptg_io.specs.Files.{NamedFiles}
 use Rattle.jdf_tree.specs.declared.tree.Jdf.{Jdf}
 use Rattle.jdf_tree.specs.Jdf.{IsJdf}
 use Rattle.job_stages.specs.declared.verdict.JobVerdict.{JobVerdict}
@@ -10,10 +8,7 @@ use Rattle.job_stages.specs.Fitting.{HasFittingData}
 use Rattle.job_stages.specs.Verdict.{JdfTextDenotes, TextsDenote}
 use Rattle.ptg_top.specs.Denotation as verdicts
 use Rattle.ptg_top.specs.Denotation.{Denotation}
-
--- the file of this name is the text of this tree
-abbrev pub TreeAt : NamedFiles → List ℕ → Jdf → Type 0
-TreeAt files name J = (text : List ℕ) × (file_of files name ≡ Some text) × IsJdf text J
+use Rattle.ptg_top.specs.Operands.{Operands}
 
 -- the text of a JDF has a fault, and this is its refusal
 abbrev pub RefusesText : List ℕ → Denotation → Type 0
@@ -32,9 +27,9 @@ ContentsDenote jdf data_name (Some text) None v =
     RefusesText text v ⊎ ((J : Jdf) × IsJdf text J × (v ≡ verdicts.Unread data_name))
 ContentsDenote jdf data_name (Some text) (Some data_text) v = JobTextsDenote text data_text v
 
--- the files of these names denote this verdict
-abbrev pub FilesDenote : NamedFiles → List ℕ → List ℕ → Denotation → Type 0
-FilesDenote files jdf data_name v = ContentsDenote jdf data_name (file_of files jdf) (file_of files data_name) v
+-- the first two operands, with these names, denote this verdict
+abbrev pub FilesDenote : Operands → List ℕ → List ℕ → Denotation → Type 0
+FilesDenote operands jdf data_name v = ContentsDenote jdf data_name (operands 0 jdf) (operands 1 data_name) v
 
 -- The verdict is one of `check`: a file could not be read, or it is what two texts come to, and the data of a
 -- consistent job fit its plan.

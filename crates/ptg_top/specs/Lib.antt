@@ -2,6 +2,7 @@ pub mod Denotation
 pub mod Tables
 pub mod Findings
 pub mod Answering
+pub mod Operands
 pub mod JobFiles
 pub mod Demo
 pub mod Certify

@@ -17,7 +17,8 @@ use Rattle.ptg_top.specs.declared.verdict.Verdict.TheVariants.{Ran}
 use Rattle.ptg_top.specs.Denotation as verdicts
 use Rattle.ptg_top.specs.Denotation.{denoted}
 use Rattle.ptg_top.specs.Demo.{MadeTextsDenote}
-use Rattle.ptg_top.specs.JobFiles.{FilesDenote, NamedFiles}
+use Rattle.ptg_top.specs.Operands.{Operands}
+use Rattle.ptg_top.specs.JobFiles.{FilesDenote}
 use Rattle.ptg_top.specs.Headline.{status_of}
 use Rattle.ptg_top.specs.Tables.{RanWith, ShowsSettings, usual_settings}
 
@@ -47,24 +48,24 @@ IsAnswerStatus status.Trapped = Unit {0}
 IsAnswerStatus status.Stalled = Unit {0}
 IsAnswerStatus s = ⊥
 
--- the files of these names denote a consistent job with this plan
-abbrev pub FilesHavePlan : NamedFiles → List ℕ → List ℕ → Plan → Type 0
-FilesHavePlan files jdf data_name P =
-    (given : Data) × FilesDenote files jdf data_name (verdicts.Job (jobs.Consistent P given))
+-- the operands of these names denote a consistent job with this plan
+abbrev pub FilesHavePlan : Operands → List ℕ → List ℕ → Plan → Type 0
+FilesHavePlan operands jdf data_name P =
+    (given : Data) × FilesDenote operands jdf data_name (verdicts.Job (jobs.Consistent P given))
 
--- the files that the command names, or the texts that it makes, denote a consistent job with this plan
-abbrev pub FindsPlan : NamedFiles → Order → Plan → Type 0
-FindsPlan files (order.Run jdf data_name workers shards preload) P = FilesHavePlan files jdf data_name P
-FindsPlan files (order.Demo rows) P = (given : Data) × MadeTextsDenote rows (verdicts.Job (jobs.Consistent P given))
-FindsPlan files (order.Trace jdf data_name workers shards) P = FilesHavePlan files jdf data_name P
-FindsPlan files (order.Replay jdf data_name trace) P = FilesHavePlan files jdf data_name P
-FindsPlan files (order.Certify jdf data_name) P = FilesHavePlan files jdf data_name P
-FindsPlan files (order.Ranks jdf data_name ranks seed) P = FilesHavePlan files jdf data_name P
-FindsPlan files o P = ⊥
+-- the operands of the command, or the texts that it makes, denote a consistent job with this plan
+abbrev pub FindsPlan : Operands → Order → Plan → Type 0
+FindsPlan operands (order.Run jdf data_name workers shards preload) P = FilesHavePlan operands jdf data_name P
+FindsPlan operands (order.Demo rows) P = (given : Data) × MadeTextsDenote rows (verdicts.Job (jobs.Consistent P given))
+FindsPlan operands (order.Trace jdf data_name workers shards) P = FilesHavePlan operands jdf data_name P
+FindsPlan operands (order.Replay jdf data_name trace) P = FilesHavePlan operands jdf data_name P
+FindsPlan operands (order.Certify jdf data_name) P = FilesHavePlan operands jdf data_name P
+FindsPlan operands (order.Ranks jdf data_name ranks seed) P = FilesHavePlan operands jdf data_name P
+FindsPlan operands o P = ⊥
 
 -- the arguments form a command, and its job is consistent and has this plan
-abbrev pub HasConsistentPlan : List (List ℕ) → NamedFiles → Plan → Type 0
-HasConsistentPlan words files P = (o : Order) × Orders words o × FindsPlan files o P
+abbrev pub HasConsistentPlan : List (List ℕ) → Operands → Plan → Type 0
+HasConsistentPlan words operands P = (o : Order) × Orders words o × FindsPlan operands o P
 
 -- ---- of verdicts
 

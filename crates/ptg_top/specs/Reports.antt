@@ -1,13 +1,16 @@
--- The verdicts on a command, and on the arguments, where a read may fail; `old` and `new` count the failed reads of
--- each name. Source: this project's own choice.
-use Rattle.std.specs.Prelude.{◌≡◌, ◌⊎◌, ℕ, List, Option, Some}
+-- The verdicts on a command, and on the arguments, from the files that were loaded, where a read may fail. `old` and `new`
+-- are the reads before and after, and `failed` and `failed_since` count those of each name that failed. Source: this
+-- project's own choice.
+use Rattle.std.specs.Prelude.{◌≡◌, ◌⊎◌, ℕ, List}
 use Rattle.ptg_io.specs.Faults.{Rose}
+use Rattle.ptg_io.specs.Reads.{Gave, HaveBegun}
 use Rattle.ptg_words.specs.declared.order.Order.{Order}
+use Rattle.ptg_words.specs.Laws.{files_of}
 use Rattle.ptg_words.specs.Words.{Orders}
 use Rattle.ptg_top.specs.Denotation as verdicts
 use Rattle.ptg_top.specs.Denotation.{Denotation}
-use Rattle.ptg_top.specs.JobFiles.{NamedFiles}
-use Rattle.ptg_top.specs.Meaning.{CommandDenotes, IsNoCommand, MayBeUnreadFor}
+use Rattle.ptg_top.specs.Operands.{AreOf, Load, Read, in_loads}
+use Rattle.ptg_top.specs.Meaning.{AreFirstOperands, CommandDenotes, Denotes, IsNoCommand}
 
 -- the verdict is on what was read: it is neither usage nor a file that could not be read
 abbrev pub IsOfTexts : Denotation → Type 0
@@ -19,20 +22,48 @@ IsOfTexts (verdicts.Spelling text) = Unit {0}
 IsOfTexts verdicts.PreloadTooLarge = Unit {0}
 IsOfTexts (verdicts.TraceRefused fault) = Unit {0}
 
--- the verdict names a file that the command may leave unread, and a read of that file failed
-abbrev pub IsReadFault : Option NamedFiles → (List ℕ → ℕ) → (List ℕ → ℕ) → Order → Denotation → Type 0
-IsReadFault contents old new command v =
-    (name : List ℕ) × Rose (old name) (new name) × MayBeUnreadFor contents command name × (v ≡ verdicts.Unread name)
+-- no read failed
+abbrev pub NoneFailed : (List ℕ → ℕ) → (List ℕ → ℕ) → Type 0
+NoneFailed failed failed_since = (name : List ℕ) → failed_since name ≡ failed name
 
--- the verdict on a command: unread only where a read of that name failed; else what the files denote, where the
--- contents are known
-abbrev pub IsVerdictOnCommand : Option NamedFiles → (List ℕ → ℕ) → (List ℕ → ℕ) → Order → Denotation → Type 0
-IsVerdictOnCommand contents old new command v =
-    IsReadFault contents old new command v
-    ⊎ (IsOfTexts v × ((files : NamedFiles) → contents ≡ Some files → CommandDenotes files command v))
+-- These loads were made, and then reads of the file with this name, the last of which failed: those before it come last
+-- in the list.
+abbrev pub FailedAfter : List Read → List Read → List Load → List ℕ → (List ℕ → ℕ) → (List ℕ → ℕ) → Type 0
+FailedAfter old new loads name failed failed_since =
+    (middle : List Read) × Gave old middle loads × HaveBegun name middle new × Rose (failed name) (failed_since name)
 
--- a verdict on the arguments: usage exactly where they form no command; else the verdict on the command
-abbrev pub IsVerdictOnWords : List (List ℕ) → Option NamedFiles → (List ℕ → ℕ) → (List ℕ → ℕ) → Denotation → Type 0
-IsVerdictOnWords words contents old new v =
-    (IsNoCommand words × (v ≡ verdicts.Usage))
-    ⊎ ((command : Order) × Orders words command × IsVerdictOnCommand contents old new command v)
+-- The verdict is that a file could not be read, a read of which failed after these loads; or it is on what was read,
+-- these loads were made, and no read failed.
+abbrev pub EndsAfter : List Read → List Read → List Load → (List ℕ → ℕ) → (List ℕ → ℕ) → Denotation → Type 0
+EndsAfter old new loads failed failed_since v =
+    ((name : List ℕ) × (v ≡ verdicts.Unread name) × FailedAfter old new loads name failed failed_since)
+    ⊎ (IsOfTexts v × Gave old new loads × NoneFailed failed failed_since)
+
+-- The verdict on a command: what its operands denote, where the first of them hold what was loaded and later ones are
+-- missing.
+pub record IsVerdictOnCommand (old new : List Read) (failed failed_since : List ℕ → ℕ) (command : Order)
+    (v : Denotation) : Type 0 where
+  pub loads : List Load
+  pub operands : AreOf loads (files_of command)
+  pub denoted : CommandDenotes (in_loads loads) command v
+  pub reads : EndsAfter old new loads failed failed_since v
+
+-- a verdict on the arguments: usage exactly where they form no command, and then nothing was read; else the verdict on
+-- the command
+abbrev pub IsVerdictOnWords : List (List ℕ) → List Read → List Read → (List ℕ → ℕ) → (List ℕ → ℕ) → Denotation
+    → Type 0
+IsVerdictOnWords words old new failed failed_since v =
+    (IsNoCommand words × (v ≡ verdicts.Usage) × (new ≡ old) × NoneFailed failed failed_since)
+    ⊎ ((command : Order) × Orders words command × IsVerdictOnCommand old new failed failed_since command v)
+
+-- exactly these loads were made, of the first file operands of the command
+abbrev pub HasLoaded : List (List ℕ) → List Read → List Read → List Load → Type 0
+HasLoaded words old new loads = AreFirstOperands words loads × Gave old new loads
+
+-- The file with this name could not be read: a read of it failed after loads, with which the arguments denote that.
+pub record IsUnread (words : List (List ℕ)) (old new : List Read) (failed failed_since : List ℕ → ℕ)
+    (name : List ℕ) : Type 0 where
+  pub loads : List Load
+  pub operands : AreFirstOperands words loads
+  pub denoted : Denotes words (in_loads loads) (verdicts.Unread name)
+  pub reads : FailedAfter old new loads name failed failed_since

@@ -1,8 +1,8 @@
--- Why the steps of `check` and of `replay` end, where a read may fail; `old` and `new` count the failed reads of the
--- file that a step reads. Source: this project's own choice.
-use Rattle.std.specs.Prelude.{◌≡◌, ◌⊎◌, ℕ, List, Option, Some}
+-- How the steps of `check` and of `replay` end, where a read may fail. `old` and `new` are the reads before and after,
+-- and `failed` and `failed_since` count those of each name that failed. Source: this project's own choice.
+use Rattle.std.specs.Prelude.{◌≡◌, ◌⊎◌, ℕ, List}
 use Rattle.ptg_io.specs.Faults.{Rose}
-use Rattle.ptg_io.specs.Files.{file_of}
+use Rattle.ptg_io.specs.Reads.{HaveBegun, IsLoaded}
 use Rattle.coll_data.specs.Data.{Data}
 use Rattle.plan_core.specs.declared.plan.Plan.{Plan}
 use Rattle.jdf_tree.specs.declared.tree.Jdf.{Jdf}
@@ -11,37 +11,46 @@ use Rattle.job_stages.specs.declared.verdict.JobVerdict.{JobVerdict}
 use Rattle.job_stages.specs.Verdict.{TextsDenote}
 use Rattle.ptg_top.specs.Denotation as verdicts
 use Rattle.ptg_top.specs.Denotation.{Denotation}
-use Rattle.ptg_top.specs.JobFiles.{NamedFiles, RefusesText}
+use Rattle.ptg_top.specs.Operands.{Read, load_of}
+use Rattle.ptg_top.specs.JobFiles.{RefusesText}
 use Rattle.ptg_top.specs.Replay.{IsReplayOf}
-use Rattle.ptg_top.specs.Reports.{IsOfTexts}
+use Rattle.ptg_top.specs.Reports.{IsOfTexts, NoneFailed}
 
--- the tree of the JDF file of this name was read, where the contents are known
-abbrev pub IsTreeRead : Option NamedFiles → List ℕ → Jdf → Type 0
-IsTreeRead contents name J =
-    (text : List ℕ) × IsJdf text J × ((files : NamedFiles) → contents ≡ Some files → file_of files name ≡ Some text)
+-- the file of this name was loaded with this text, and no read failed
+abbrev pub LoadedAs : List Read → List Read → (List ℕ → ℕ) → (List ℕ → ℕ) → List ℕ → List ℕ → Type 0
+LoadedAs old new failed failed_since name text =
+    IsLoaded (load_of name text) old new × NoneFailed failed failed_since
 
--- No tree was read from the JDF file of this name: a read of that file failed, or its text is refused, where the
--- contents are known.
-abbrev pub TreeIsRefused : Option NamedFiles → ℕ → ℕ → List ℕ → Denotation → Type 0
-TreeIsRefused contents old new name v =
-    ((v ≡ verdicts.Unread name) × Rose old new)
-    ⊎ (IsOfTexts v
-    × ((files : NamedFiles) → contents ≡ Some files
-    → (text : List ℕ) × (file_of files name ≡ Some text) × RefusesText text v))
+-- a read of the file of this name failed, and the verdict says so
+abbrev pub IsReadFault : List Read → List Read → (List ℕ → ℕ) → (List ℕ → ℕ) → List ℕ → Denotation → Type 0
+IsReadFault old new failed failed_since name v =
+    (v ≡ verdicts.Unread name) × HaveBegun name old new × Rose (failed name) (failed_since name)
+
+-- the tree of the JDF file of this name was read
+abbrev pub IsTreeRead : List Read → List Read → (List ℕ → ℕ) → (List ℕ → ℕ) → List ℕ → Jdf → Type 0
+IsTreeRead old new failed failed_since name J =
+    (text : List ℕ) × IsJdf text J × LoadedAs old new failed failed_since name text
+
+-- No tree was read from the JDF file of this name: a read of that file failed, or its text is refused.
+abbrev pub TreeIsRefused : List Read → List Read → (List ℕ → ℕ) → (List ℕ → ℕ) → List ℕ → Denotation → Type 0
+TreeIsRefused old new failed failed_since name v =
+    IsReadFault old new failed failed_since name v
+    ⊎ (IsOfTexts v × (text : List ℕ) × RefusesText text v × LoadedAs old new failed failed_since name text)
 
 -- The check of a JDF, read from this text, with the data file of this name ends so: a read of that file failed, or the
--- two texts denote the verdict, where the contents are known.
-abbrev pub CheckOfDataEndsWith : Option NamedFiles → ℕ → ℕ → List ℕ → List ℕ → Denotation → Type 0
-CheckOfDataEndsWith contents old new text data_name v =
-    ((v ≡ verdicts.Unread data_name) × Rose old new)
-    ⊎ ((job : JobVerdict) × (v ≡ verdicts.Job job)
-    × ((files : NamedFiles) → contents ≡ Some files
-    → (data_text : List ℕ) × (file_of files data_name ≡ Some data_text) × TextsDenote text data_text job))
+-- two texts denote the verdict.
+abbrev pub CheckOfDataEndsWith : List Read → List Read → (List ℕ → ℕ) → (List ℕ → ℕ) → List ℕ → List ℕ → Denotation
+    → Type 0
+CheckOfDataEndsWith old new failed failed_since text data_name v =
+    IsReadFault old new failed failed_since data_name v
+    ⊎ ((job : JobVerdict) × (v ≡ verdicts.Job job) × (data_text : List ℕ) × TextsDenote text data_text job
+    × LoadedAs old new failed failed_since data_name data_text)
 
 -- The replay of a consistent job with the trace file of this name ends so: a read of that file failed, or the verdict
--- is the one on its text, where the contents are known.
-abbrev pub ReplayEndsWith : Option NamedFiles → ℕ → ℕ → List ℕ → Plan → Data → Denotation → Type 0
-ReplayEndsWith contents old new trace P given v =
-    ((v ≡ verdicts.Unread trace) × Rose old new)
-    ⊎ (IsOfTexts v × ((files : NamedFiles) → contents ≡ Some files
-    → (text : List ℕ) × (file_of files trace ≡ Some text) × IsReplayOf text P given v))
+-- is the one on its text.
+abbrev pub ReplayEndsWith : List Read → List Read → (List ℕ → ℕ) → (List ℕ → ℕ) → List ℕ → Plan → Data → Denotation
+    → Type 0
+ReplayEndsWith old new failed failed_since trace P given v =
+    IsReadFault old new failed failed_since trace v
+    ⊎ (IsOfTexts v × (text : List ℕ) × IsReplayOf text P given v
+    × LoadedAs old new failed failed_since trace text)

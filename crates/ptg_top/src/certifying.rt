@@ -2,6 +2,7 @@
 
 ghost use Rattle.std.specs.Prelude.{◌≡◌, ◌≤◌, ℕ, List, IfOk};
 ghost use Rattle.std.specs.Str.{IsUtf8};
+ghost use Rattle.ptg_io.specs.Reads.{AddsPieces};
 ghost use Rattle.coll_data.specs.Data.{Data};
 ghost use Rattle.plan_core.specs.declared.plan.Plan.{Plan};
 ghost use Rattle.plan_data.specs.Fit.{DataFit};
@@ -47,8 +48,9 @@ pub fn certify<R: Threads + Wait + Sync, F: Files, G: Gate>(
     requires data_name_text { IsUtf8 data_name.now }
     ensures stays { F.contents files.new ≡ F.contents files.old }
     ensures grows { (other : List ℕ) → F.faults files.old other ≤ F.faults files.new other }
+    ensures pieces { AddsPieces (F.contents files.old) (F.reads files.old) (F.reads files.new) }
     ensures verdict { IfOk result (λ v.
-        IsVerdictOnCommand (F.contents files.old) (F.faults files.old) (F.faults files.new)
+        IsVerdictOnCommand (F.reads files.old) (F.reads files.new) (F.faults files.old) (F.faults files.new)
         (commands.Certify jdf.now data_name.now) (denoted v)) }
     ensures ran { IfOk result (λ v. IsVerdictOfTable usual_settings v) }
 {

@@ -2,6 +2,7 @@
 
 ghost use Rattle.std.specs.Prelude.{◌≡◌, ◌≤◌, ℕ, List, IfOk};
 ghost use Rattle.std.specs.Str.{IsUtf8};
+ghost use Rattle.ptg_io.specs.Reads.{AddsPieces};
 ghost use Rattle.jdf_tree.specs.Jdf.{IsJdf};
 ghost use Rattle.jdf_tree.specs.TreeLimits.{IsWithinLimits};
 ghost use Rattle.ptg_words.specs.declared.order.Order.TheVariants as commands;
@@ -31,8 +32,9 @@ pub fn check<F: Files>(
     requires data_name_text { IsUtf8 data_name.now }
     ensures stays { F.contents files.new ≡ F.contents files.old }
     ensures grows { (other : List ℕ) → F.faults files.old other ≤ F.faults files.new other }
+    ensures pieces { AddsPieces (F.contents files.old) (F.reads files.old) (F.reads files.new) }
     ensures verdict { IfOk result (λ v.
-        IsVerdictOnCommand (F.contents files.old) (F.faults files.old) (F.faults files.new)
+        IsVerdictOnCommand (F.reads files.old) (F.reads files.new) (F.faults files.old) (F.faults files.new)
         (commands.Check jdf.now data_name.now) (denoted v)) }
     ensures fit { IfOk result (λ v. IsChecked (denoted v)) }
 {
@@ -54,10 +56,11 @@ fn check_data<F: Files>(
     requires within { IsWithinLimits tree.now }
     ensures stays { F.contents files.new ≡ F.contents files.old }
     ensures grows { (other : List ℕ) → F.faults files.old other ≤ F.faults files.new other }
+    ensures pieces { AddsPieces (F.contents files.old) (F.reads files.old) (F.reads files.new) }
     ensures verdict { (text : List ℕ) → IsJdf text tree.now
         → IfOk result (λ v.
-        CheckOfDataEndsWith (F.contents files.old) (F.faults files.old data_name.now)
-        (F.faults files.new data_name.now) text data_name.now (denoted v)) }
+        CheckOfDataEndsWith (F.reads files.old) (F.reads files.new) (F.faults files.old) (F.faults files.new)
+        text data_name.now (denoted v)) }
     ensures fit { IfOk result (λ v. IsChecked (denoted v)) }
 {
     match load(alloc, files, name_of(data_name)) {

@@ -2,6 +2,7 @@
 
 ghost use Rattle.std.specs.Prelude.{◌≡◌, ◌≤◌, ℕ, List, IfOk, IfErr};
 ghost use Rattle.std.specs.Str.{IsUtf8};
+ghost use Rattle.ptg_io.specs.Reads.{AddsPieces};
 ghost use Rattle.jdf_tree.specs.Jdf.{IsJdf};
 ghost use Rattle.jdf_tree.specs.TreeLimits.{IsWithinLimits};
 ghost use Rattle.ptg_top.specs.Answering.{IsRefusedByCheck};
@@ -27,10 +28,12 @@ pub fn tree_of_file<F: Files>(
     requires { IsUtf8 jdf.now }
     ensures stays { F.contents files.new ≡ F.contents files.old }
     ensures grows { (other : List ℕ) → F.faults files.old other ≤ F.faults files.new other }
-    ensures tree { IfOk result (λ read. IfOk read (IsTreeRead (F.contents files.old) jdf.now)) }
+    ensures pieces { AddsPieces (F.contents files.old) (F.reads files.old) (F.reads files.new) }
+    ensures tree { IfOk result (λ read. IfOk read (
+        IsTreeRead (F.reads files.old) (F.reads files.new) (F.faults files.old) (F.faults files.new) jdf.now)) }
     ensures within { IfOk result (λ read. IfOk read IsWithinLimits) }
     ensures refused { IfOk result (λ read. IfErr read (λ v.
-        TreeIsRefused (F.contents files.old) (F.faults files.old jdf.now) (F.faults files.new jdf.now) jdf.now
+        TreeIsRefused (F.reads files.old) (F.reads files.new) (F.faults files.old) (F.faults files.new) jdf.now
         (denoted v))) }
     ensures refusal { IfOk result (λ read. IfErr read (λ v. IsRefusedByCheck (denoted v) × IsChecked (denoted v))) }
 {

@@ -3,6 +3,7 @@
 ghost use Rattle.std.specs.Prelude.{◌≡◌, ◌≤◌, ℕ, List, IfOk};
 ghost use Rattle.std.specs.List.{AllByRecursion};
 ghost use Rattle.std.specs.Str.{IsUtf8};
+ghost use Rattle.ptg_io.specs.Reads.{AddsPieces};
 ghost use Rattle.ptg_words.specs.Laws.{HasNumbersInRange, files_of};
 ghost use Rattle.ptg_top.specs.Denotation.{denoted};
 ghost use Rattle.ptg_top.specs.Reports.{IsVerdictOnCommand, IsVerdictOnWords};
@@ -34,8 +35,10 @@ pub fn judge<R: Threads + Wait + Sync, F: Files, G: Gate>(
 ) -> Result<Verdict, OutOfMemory>
     ensures stays { F.contents files.new ≡ F.contents files.old }
     ensures grows { (other : List ℕ) → F.faults files.old other ≤ F.faults files.new other }
+    ensures pieces { AddsPieces (F.contents files.old) (F.reads files.old) (F.reads files.new) }
     ensures judged { IfOk result (λ v.
-        IsVerdictOnWords list.now (F.contents files.old) (F.faults files.old) (F.faults files.new) (denoted v)) }
+        IsVerdictOnWords list.now (F.reads files.old) (F.reads files.new) (F.faults files.old) (F.faults files.new)
+        (denoted v)) }
     ensures ran { IfOk result (λ v. IsVerdictForWords list.now v) }
 {
     files_are_text();
@@ -57,8 +60,10 @@ fn carry_out<R: Threads + Wait + Sync, F: Files, G: Gate>(
     requires numbers { HasNumbersInRange order.now }
     ensures stays { F.contents files.new ≡ F.contents files.old }
     ensures grows { (other : List ℕ) → F.faults files.old other ≤ F.faults files.new other }
+    ensures pieces { AddsPieces (F.contents files.old) (F.reads files.old) (F.reads files.new) }
     ensures judged { IfOk result (λ v.
-        IsVerdictOnCommand (F.contents files.old) (F.faults files.old) (F.faults files.new) order.now (denoted v)) }
+        IsVerdictOnCommand (F.reads files.old) (F.reads files.new) (F.faults files.old) (F.faults files.new)
+        order.now (denoted v)) }
     ensures ran { IfOk result (λ v. IsVerdictForCommand order.now v) }
 {
     match order {

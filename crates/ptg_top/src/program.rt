@@ -1,11 +1,13 @@
 //! The program.
 
-ghost use Rattle.std.specs.Prelude.{◌≡◌, ◌⊎◌, ◌≤◌, ◌++◌, ℕ, List, Some, IfSome, IfNone};
+ghost use Rattle.std.specs.Prelude.{◌≡◌, ◌⊎◌, ◌≤◌, ◌++◌, ℕ, List, IfSome, IfNone};
 ghost use Rattle.ptg_io.specs.Faults.{Rose};
+ghost use Rattle.ptg_io.specs.Reads.{AddsPieces};
 ghost use Rattle.report_text.specs.Refusal.{unread_line, usage_line};
-ghost use Rattle.ptg_top.specs.JobFiles.{NamedFiles};
-ghost use Rattle.ptg_top.specs.Meaning.{IsNoCommand, MayBeUnread};
-ghost use Rattle.ptg_top.specs.Headline.{IsExact, Prints, IsCut};
+ghost use Rattle.ptg_top.specs.Operands.{Load, in_loads};
+ghost use Rattle.ptg_top.specs.Meaning.{IsNoCommand};
+ghost use Rattle.ptg_top.specs.Reports.{HasLoaded, IsUnread, NoneFailed};
+ghost use Rattle.ptg_top.specs.Headline.{IsCut, IsExact, PrintsLoaded};
 ghost use Rattle.ptg_top.specs.Receipts.{HasConsistentPlan, IsAnswerStatus, IsReceiptFor, RunsOnTable};
 ghost use Rattle.ptg_words.specs.declared.order.Order.{Order};
 ghost use Rattle.ptg_words.specs.Words.{Orders};
@@ -24,7 +26,7 @@ use worker_core::Gate;
 
 /// Carries out the command that the arguments form, with these files, and prints the answer.
 ///
-/// Of files whose contents are known this holds; of the system's files no clause can say what they are.
+/// What a file is, is what the reads of it gave, whatever they read from; what is printed is what the writes took.
 ///
 /// Whatever the JDF, the data, the number of workers and the number of shards, `run JDF DATA` prints exactly the answer
 /// of the sequential dataflow meaning, with its status: the refusal, the final collections, all trapped tasks, or a
@@ -47,30 +49,38 @@ pub fn ptg_main<R: Threads + Wait + Sync, F: Files, O: Sink, G: Gate>(
     out: &mut O,
     gate: &G,
 ) -> Ended
-    // The files stay as they are, and no count of faults falls.
+    // The files stay as they are, and no count of faults falls. Where the contents of the files are known, each read
+    // gave a piece of them.
     ensures stays { F.contents files.new ≡ F.contents files.old }
     ensures read_faults { (other : List ℕ) → F.faults files.old other ≤ F.faults files.new other }
     ensures write_faults { O.faults out.old ≤ O.faults out.new }
-    // Where the contents of the files are known: exactly a text and a status that arguments and files denote.
-    ensures exact { (entries : NamedFiles) → F.contents files.old ≡ Some entries → IsExact result.status →
-        Prints words.now entries (O.bytes out.old) (O.bytes out.new) result.status }
+    ensures pieces { AddsPieces (F.contents files.old) (F.reads files.old) (F.reads files.new) }
+    // The first file operands of the command were loaded, in order, and nothing else was read. Exactly a text and a
+    // status that the arguments and these loads denote.
+    ensures exact { IsExact result.status →
+        PrintsLoaded words.now (F.reads files.old) (F.reads files.new) (O.bytes out.old) (O.bytes out.new)
+        result.status }
     // `unread,NAME` is printed only if reading NAME failed; NAME is the data file's only once the JDF was read, and the
     // trace file's only once the job was found to be consistent.
     ensures unread { result.status ≡ Status.ReadFault → (name : List ℕ)
-        × Rose (F.faults files.old name) (F.faults files.new name)
-        × MayBeUnread words.now (F.contents files.old) name
+        × IsUnread words.now (F.reads files.old) (F.reads files.new) (F.faults files.old) (F.faults files.new) name
         × (O.bytes out.new ≡ O.bytes out.old ++ unread_line name) }
     // A write fault comes only where a write failed, and then a prefix of what was due was written.
     ensures cut { result.status ≡ Status.WriteFault → Rose (O.faults out.old) (O.faults out.new)
-        × IsCut words.now (F.contents files.old) (F.faults files.old) (F.faults files.new)
+        × IsCut words.now (F.reads files.old) (F.reads files.new) (F.faults files.old) (F.faults files.new)
         (O.bytes out.old) (O.bytes out.new) }
     // If memory runs out, nothing is written.
     ensures silent { result.status ≡ Status.OutOfMemory → O.bytes out.new ≡ O.bytes out.old }
-    // Where no read and no write failed: what arguments and files denote, unless memory runs out.
-    ensures complete { (entries : NamedFiles) → F.contents files.old ≡ Some entries
-        → ((name : List ℕ) → Rose (F.faults files.old name) (F.faults files.new name) → ⊥)
+    // No fault is hidden: a status of a verdict comes only where no read failed, and one other than a write fault only
+    // where no write failed.
+    ensures no_read_fault { IsExact result.status → NoneFailed (F.faults files.old) (F.faults files.new) }
+    ensures no_write_fault { (result.status ≡ Status.WriteFault → ⊥) → O.faults out.new ≡ O.faults out.old }
+    // Where no read and no write failed, the status is that of a verdict, and the same holds, unless memory runs out.
+    ensures complete { ((name : List ℕ) → Rose (F.faults files.old name) (F.faults files.new name) → ⊥)
         → (Rose (O.faults out.old) (O.faults out.new) → ⊥)
-        → Prints words.now entries (O.bytes out.old) (O.bytes out.new) result.status
+        → (IsExact result.status
+        × PrintsLoaded words.now (F.reads files.old) (F.reads files.new) (O.bytes out.old) (O.bytes out.new)
+        result.status)
         ⊎ (result.status ≡ Status.OutOfMemory) }
     // Whatever the files: usage, with its line, is the answer only to arguments that form no command, and to those
     // nothing else is, unless a write failed or memory ran out.
@@ -85,9 +95,10 @@ pub fn ptg_main<R: Threads + Wait + Sync, F: Files, O: Sink, G: Gate>(
         (o : Order) × Orders words.now o × IsReceiptFor o r × IsAnswerStatus result.status) }
     ensures no_receipt { IfNone result.receipt
         ((o : Order) → Orders words.now o → RunsOnTable o → IsAnswerStatus result.status → ⊥) }
-    // Where the contents of the files are known, the table had the job that the files denote.
-    ensures of_job { (entries : NamedFiles) → F.contents files.old ≡ Some entries
-        → IfSome result.receipt (λ r. HasConsistentPlan words.now entries r.plan) }
+    // The table had the job that the loads denote.
+    ensures of_job { IfSome result.receipt (λ r. (loads : List Load) ×
+        HasLoaded words.now (F.reads files.old) (F.reads files.new) loads ×
+        HasConsistentPlan words.now (in_loads loads) r.plan) }
 {
     let host = Host { rt, alloc, gate };
     match judge(&host, words, files) {

@@ -2,6 +2,7 @@
 
 ghost use Rattle.std.specs.Prelude.{◌≡◌, ◌≤◌, ℕ, List, IfOk, None};
 ghost use Rattle.std.specs.Str.{IsUtf8};
+ghost use Rattle.ptg_io.specs.Reads.{AddsPieces};
 ghost use Rattle.plan_data.specs.Fit.{DataFit};
 ghost use Rattle.ptg_words.specs.declared.order.Order.TheVariants as commands;
 ghost use Rattle.ptg_top.specs.Denotation.{denoted};
@@ -37,8 +38,9 @@ pub fn replay<F: Files>(
     requires trace_text { IsUtf8 trace.now }
     ensures stays { F.contents files.new ≡ F.contents files.old }
     ensures grows { (other : List ℕ) → F.faults files.old other ≤ F.faults files.new other }
+    ensures pieces { AddsPieces (F.contents files.old) (F.reads files.old) (F.reads files.new) }
     ensures verdict { IfOk result (λ v.
-        IsVerdictOnCommand (F.contents files.old) (F.faults files.old) (F.faults files.new)
+        IsVerdictOnCommand (F.reads files.old) (F.reads files.new) (F.faults files.old) (F.faults files.new)
         (commands.Replay jdf.now data_name.now trace.now) (denoted v)) }
     ensures not_run { IfOk result (λ v. receipt_of v ≡ None) }
 {
@@ -61,8 +63,9 @@ fn replayed<F: Files>(
     requires fit { DataFit matched given }
     ensures stays { F.contents files.new ≡ F.contents files.old }
     ensures grows { (other : List ℕ) → F.faults files.old other ≤ F.faults files.new other }
+    ensures pieces { AddsPieces (F.contents files.old) (F.reads files.old) (F.reads files.new) }
     ensures verdict { IfOk result (λ v.
-        ReplayEndsWith (F.contents files.old) (F.faults files.old trace.now) (F.faults files.new trace.now) trace.now
+        ReplayEndsWith (F.reads files.old) (F.reads files.new) (F.faults files.old) (F.faults files.new) trace.now
         matched given (denoted v)) }
     ensures not_run { IfOk result (λ v. receipt_of v ≡ None) }
 {

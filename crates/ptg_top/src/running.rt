@@ -2,6 +2,7 @@
 
 ghost use Rattle.std.specs.Prelude.{◌≡◌, ◌≤◌, ℕ, List, IfOk};
 ghost use Rattle.std.specs.Str.{IsUtf8};
+ghost use Rattle.ptg_io.specs.Reads.{AddsPieces};
 ghost use Rattle.ptg_base.specs.Limits.{AreRunCounts};
 ghost use Rattle.plan_data.specs.Fit.{DataFit};
 ghost use Rattle.ptg_words.specs.declared.order.Order.TheVariants as commands;
@@ -38,8 +39,9 @@ pub fn run<R: Threads + Wait + Sync, F: Files, G: Gate>(
     requires counts { AreRunCounts settings.workers settings.shards }
     ensures stays { F.contents files.new ≡ F.contents files.old }
     ensures grows { (other : List ℕ) → F.faults files.old other ≤ F.faults files.new other }
+    ensures pieces { AddsPieces (F.contents files.old) (F.reads files.old) (F.reads files.new) }
     ensures verdict { IfOk result (λ v.
-        IsVerdictOnCommand (F.contents files.old) (F.faults files.old) (F.faults files.new)
+        IsVerdictOnCommand (F.reads files.old) (F.reads files.new) (F.faults files.old) (F.faults files.new)
         (commands.Run jdf.now data_name.now settings.workers settings.shards settings.preload) (denoted v)) }
     ensures ran { IfOk result (λ v. IsVerdictOfTable settings v) }
 {

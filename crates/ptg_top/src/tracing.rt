@@ -2,6 +2,7 @@
 
 ghost use Rattle.std.specs.Prelude.{◌≡◌, ◌≤◌, ℕ, List, false, IfOk};
 ghost use Rattle.std.specs.Str.{IsUtf8};
+ghost use Rattle.ptg_io.specs.Reads.{AddsPieces};
 ghost use Rattle.ptg_base.specs.Limits.{AreRunCounts};
 ghost use Rattle.coll_data.specs.Data.{Data};
 ghost use Rattle.plan_core.specs.declared.plan.Plan.{Plan};
@@ -43,8 +44,9 @@ pub fn trace<R: Threads + Wait + Sync, F: Files, G: Gate>(
     requires no_preload { settings.preload ≡ false }
     ensures stays { F.contents files.new ≡ F.contents files.old }
     ensures grows { (other : List ℕ) → F.faults files.old other ≤ F.faults files.new other }
+    ensures pieces { AddsPieces (F.contents files.old) (F.reads files.old) (F.reads files.new) }
     ensures verdict { IfOk result (λ v.
-        IsVerdictOnCommand (F.contents files.old) (F.faults files.old) (F.faults files.new)
+        IsVerdictOnCommand (F.reads files.old) (F.reads files.new) (F.faults files.old) (F.faults files.new)
         (commands.Trace jdf.now data_name.now settings.workers settings.shards) (denoted v)) }
     ensures ran { IfOk result (λ v. IsVerdictOfTable settings v) }
 {

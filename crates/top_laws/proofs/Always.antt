@@ -1,7 +1,6 @@
--- Arguments and files denote a verdict.
+-- Arguments and operands denote a verdict.
 use Rattle.std.proofs.Common.{ℕ, List, ◌++◌, Some, refl, subst, ◌⊎◌, inl, inr}
 use Rattle.std.specs.Prelude.{Option, None, if◌then◌else◌}
-use Rattle.ptg_io.specs.Files.{file_of}
 use Rattle.word_laws.specs.Commands.{CommandOrUsage}
 use Rattle.jdf_print.specs.Spelling.{spelling}
 use Rattle.flow_meaning.specs.Answer.{answer}
@@ -14,7 +13,8 @@ use Rattle.ptg_words.specs.Words.{Orders}
 use Rattle.ptg_top.specs.Denotation as verdicts
 use Rattle.ptg_top.specs.Denotation.{Denotation}
 use Rattle.job_gen.specs.Job.{data_text, jdf_text}
-use Rattle.ptg_top.specs.JobFiles.{ContentsDenote, JobTextsDenote, NamedFiles}
+use Rattle.ptg_top.specs.JobFiles.{ContentsDenote, JobTextsDenote}
+use Rattle.ptg_top.specs.Operands.{Operands}
 use Rattle.ptg_top.specs.Meaning.{CommandDenotes, ContentShows, IsNoCommand, Shows}
 use Rattle.ptg_top.specs.Headline.{text_of, status_of}
 use Rattle.top_laws.specs.Meanings.{SomeMeaning, SomeOutput}
@@ -48,7 +48,7 @@ formed_or_none either words = elim (either words) [
   | inr usage ↦ inr (λ command formed. formed.breaks_no_rule usage)
 ]
 
--- ---- what the files denote
+-- ---- what the operands denote
 
 shows_some : (text : List ℕ) → (v : Denotation) × Shows text v
 shows_some text = elim (tree_or_fault text) [
@@ -83,10 +83,10 @@ certified_some P given con =
     let c = some_certificate P given ws con in
     (verdicts.Ran P (certified ws (answer P given) c.0), (c.0, c.1, refl))
 
-certify_some : (files : NamedFiles) (jdf data_name : List ℕ) → (v : Denotation) × CommandDenotes files (Certify jdf data_name) v
-certify_some files jdf data_name =
-    let a = file_of files jdf in
-    let b = file_of files data_name in
+certify_some : (operands : Operands) (jdf data_name : List ℕ) → (v : Denotation) × CommandDenotes operands (Certify jdf data_name) v
+certify_some operands jdf data_name =
+    let a = operands 0 jdf in
+    let b = operands 1 data_name in
     let checked = contents_some jdf data_name a b in
     let found = some_on IsCertified checked.0 (λ P given is. certified_some P given (contents_consistent jdf data_name a b P given (subst (ContentsDenote jdf data_name a b) is checked.1))) in
     (found.0, (checked.0, checked.1, found.1))
@@ -96,10 +96,10 @@ traced_some P given con =
     let order = some_whole_order P given con in
     (verdicts.Ran P (TraceText (trace_text P order.0)), (order.0, order.1, refl))
 
-trace_some : (files : NamedFiles) (jdf data_name : List ℕ) (workers shards : ℕ) → (v : Denotation) × CommandDenotes files (Trace jdf data_name workers shards) v
-trace_some files jdf data_name workers shards =
-    let a = file_of files jdf in
-    let b = file_of files data_name in
+trace_some : (operands : Operands) (jdf data_name : List ℕ) (workers shards : ℕ) → (v : Denotation) × CommandDenotes operands (Trace jdf data_name workers shards) v
+trace_some operands jdf data_name workers shards =
+    let a = operands 0 jdf in
+    let b = operands 1 data_name in
     let checked = contents_some jdf data_name a b in
     let found = some_on IsTraced checked.0 (λ P given is. traced_some P given (contents_consistent jdf data_name a b P given (subst (ContentsDenote jdf data_name a b) is checked.1))) in
     (found.0, (checked.0, checked.1, found.1))
@@ -111,11 +111,11 @@ replayed_some trace (Some text) P given con = elim (fault_or_trace P given con t
   | inr found ↦ (verdicts.Ran P (Answer (answer P given)), inr (found, refl))
 ]
 
-replay_some : (files : NamedFiles) (jdf data_name trace : List ℕ) → (v : Denotation) × CommandDenotes files (Replay jdf data_name trace) v
-replay_some files jdf data_name trace =
-    let a = file_of files jdf in
-    let b = file_of files data_name in
-    let content = file_of files trace in
+replay_some : (operands : Operands) (jdf data_name trace : List ℕ) → (v : Denotation) × CommandDenotes operands (Replay jdf data_name trace) v
+replay_some operands jdf data_name trace =
+    let a = operands 0 jdf in
+    let b = operands 1 data_name in
+    let content = operands 2 trace in
     let checked = contents_some jdf data_name a b in
     let found = some_on (IsReplayed trace content) checked.0 (λ P given is. replayed_some trace content P given (contents_consistent jdf data_name a b P given (subst (ContentsDenote jdf data_name a b) is checked.1))) in
     (found.0, (checked.0, checked.1, found.1))
@@ -123,35 +123,35 @@ replay_some files jdf data_name trace =
 abbrev ranked : ℕ → Plan → Data → Denotation
 ranked r P given = verdicts.Ran P (Ranked (record { ranks = r; messages = message_count P given r; outcome = answer P given }))
 
-ranks_some : (files : NamedFiles) (jdf data_name : List ℕ) (r seed : ℕ) → (v : Denotation) × CommandDenotes files (Ranks jdf data_name r seed) v
-ranks_some files jdf data_name r seed =
-    let checked = contents_some jdf data_name (file_of files jdf) (file_of files data_name) in
+ranks_some : (operands : Operands) (jdf data_name : List ℕ) (r seed : ℕ) → (v : Denotation) × CommandDenotes operands (Ranks jdf data_name r seed) v
+ranks_some operands jdf data_name r seed =
+    let checked = contents_some jdf data_name (operands 0 jdf) (operands 1 data_name) in
     let found = some_on (IsRanked r) checked.0 (λ P given is. (ranked r P given, refl)) in
     (found.0, (checked.0, checked.1, found.1))
 
-command_some : (files : NamedFiles) (command : Order) → (v : Denotation) × CommandDenotes files command v
-command_some files (Run jdf data_name workers shards preload) =
+command_some : (operands : Operands) (command : Order) → (v : Denotation) × CommandDenotes operands command v
+command_some operands (Run jdf data_name workers shards preload) =
     let settings : Settings = record { workers = workers; shards = shards; preload = preload } in
-    let checked = contents_some jdf data_name (file_of files jdf) (file_of files data_name) in
+    let checked = contents_some jdf data_name (operands 0 jdf) (operands 1 data_name) in
     let found = some_on (IsAnswer settings) checked.0 (λ P given is. (if is_too_large settings P then verdicts.PreloadTooLarge else verdicts.Ran P (Answer (answer P given)), refl)) in
     (found.0, (checked.0, checked.1, found.1))
-command_some files (Show jdf) = content_shows_some jdf (file_of files jdf)
-command_some files (Check jdf data_name) = contents_some jdf data_name (file_of files jdf) (file_of files data_name)
-command_some files (Demo rows) = demo_some rows
-command_some files (Trace jdf data_name workers shards) = trace_some files jdf data_name workers shards
-command_some files (Replay jdf data_name trace) = replay_some files jdf data_name trace
-command_some files (Certify jdf data_name) = certify_some files jdf data_name
-command_some files (Ranks jdf data_name ranks seed) = ranks_some files jdf data_name ranks seed
+command_some operands (Show jdf) = content_shows_some jdf (operands 0 jdf)
+command_some operands (Check jdf data_name) = contents_some jdf data_name (operands 0 jdf) (operands 1 data_name)
+command_some operands (Demo rows) = demo_some rows
+command_some operands (Trace jdf data_name workers shards) = trace_some operands jdf data_name workers shards
+command_some operands (Replay jdf data_name trace) = replay_some operands jdf data_name trace
+command_some operands (Certify jdf data_name) = certify_some operands jdf data_name
+command_some operands (Ranks jdf data_name ranks seed) = ranks_some operands jdf data_name ranks seed
 
--- ---- arguments and files
+-- ---- arguments and operands
 
 pub some_meaning : CommandOrUsage → SomeMeaning
-some_meaning either words files = elim (formed_or_none either words) [
-  | inl formed ↦ let found = command_some files formed.0 in (found.0, inr (formed.0, formed.1, found.1))
+some_meaning either words operands = elim (formed_or_none either words) [
+  | inl formed ↦ let found = command_some operands formed.0 in (found.0, inr (formed.0, formed.1, found.1))
   | inr none ↦ (verdicts.Usage, inl (none, refl))
 ]
 
 pub some_output : CommandOrUsage → SomeOutput
-some_output either words files before =
-    let found = some_meaning either words files in
+some_output either words operands before =
+    let found = some_meaning either words operands in
     (before ++ text_of found.0, status_of found.0, record { verdict = found.0; denoted = found.1; text = refl; ends = refl })

@@ -2,3 +2,6 @@ pub mod Once
 pub mod Always
 pub mod Settings
 pub mod OneType
+pub mod Loaded
+pub mod Texts
+pub mod Known

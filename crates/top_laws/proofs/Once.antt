@@ -1,7 +1,6 @@
--- Arguments and files denote one verdict at most.
+-- Arguments and operands denote one verdict at most.
 use Rattle.std.proofs.Common.{◌≡◌, ℕ, List, ◌++◌, Some, sym, ◌∙◌, ap, subst, ◌⊎◌, inl, inr}
 use Rattle.std.specs.Prelude.{Option, None}
-use Rattle.ptg_io.specs.Files.{file_of}
 use Rattle.jdf_tree.specs.declared.tree.Jdf.{Jdf}
 use Rattle.jdf_print.specs.Spelling.{spelling}
 use Rattle.jdf_read.proofs.Once.{one_tree}
@@ -9,8 +8,9 @@ use Rattle.ptg_words.specs.declared.order.Order.{Order}
 use Rattle.ptg_words.specs.declared.order.Order.TheVariants.{Run, Show, Check, Demo, Trace, Replay, Certify, Ranks}
 use Rattle.ptg_top.specs.Denotation as verdicts
 use Rattle.ptg_top.specs.Denotation.{Denotation}
-use Rattle.ptg_top.specs.JobFiles.{ContentsDenote, FilesDenote, NamedFiles}
+use Rattle.ptg_top.specs.JobFiles.{ContentsDenote, FilesDenote}
 use Rattle.job_gen.specs.Job.{data_text, jdf_text}
+use Rattle.ptg_top.specs.Operands.{Operands}
 use Rattle.ptg_top.specs.Meaning.{CommandDenotes, Shows, ContentShows}
 use Rattle.ptg_top.specs.Headline.{text_of, status_of}
 use Rattle.top_laws.specs.Meanings.{AreTracesOfOneJob, IsNoTrace, OneJob, OneMeaning, OneOutput}
@@ -57,10 +57,10 @@ certified_once P given v w con (c, h, e) (d, k, q) =
     let ws = class_weights P given in
     e ∙ (ap (λ (x : Certificate). verdicts.Ran P (certified ws (answer P given) x)) (one P given ws c d con h k) ∙ sym q)
 
-certify_once : (files : NamedFiles) (jdf data_name : List ℕ) (v w : Denotation) → CommandDenotes files (Certify jdf data_name) v → CommandDenotes files (Certify jdf data_name) w → v ≡ w
-certify_once files jdf data_name v w (a, h, e) (b, k, d) =
-    let a_file = file_of files jdf in
-    let b_file = file_of files data_name in
+certify_once : (operands : Operands) (jdf data_name : List ℕ) (v w : Denotation) → CommandDenotes operands (Certify jdf data_name) v → CommandDenotes operands (Certify jdf data_name) w → v ≡ w
+certify_once operands jdf data_name v w (a, h, e) (b, k, d) =
+    let a_file = operands 0 jdf in
+    let b_file = operands 1 data_name in
     once_on IsCertified b v w
     (λ P given is. certified_once P given v w (contents_consistent jdf data_name a_file b_file P given (subst (ContentsDenote jdf data_name a_file b_file) is k)))
     (subst (λ (c : Denotation). OnConsistent IsCertified c v) (contents_once jdf data_name a_file b_file a b h k) e) d
@@ -76,68 +76,68 @@ replayed_once : (trace : List ℕ) (content : Option (List ℕ)) (P : Plan) (giv
 replayed_once trace None P given v w con h k = h ∙ sym k
 replayed_once trace (Some text) P given v w con h k = replay_of_once P given text v w con h k
 
-replay_once : (files : NamedFiles) (jdf data_name trace : List ℕ) (v w : Denotation) → CommandDenotes files (Replay jdf data_name trace) v → CommandDenotes files (Replay jdf data_name trace) w → v ≡ w
-replay_once files jdf data_name trace v w (a, h, e) (b, k, d) =
-    let a_file = file_of files jdf in
-    let b_file = file_of files data_name in
-    let Verb = IsReplayed trace (file_of files trace) in
+replay_once : (operands : Operands) (jdf data_name trace : List ℕ) (v w : Denotation) → CommandDenotes operands (Replay jdf data_name trace) v → CommandDenotes operands (Replay jdf data_name trace) w → v ≡ w
+replay_once operands jdf data_name trace v w (a, h, e) (b, k, d) =
+    let a_file = operands 0 jdf in
+    let b_file = operands 1 data_name in
+    let Verb = IsReplayed trace (operands 2 trace) in
     once_on Verb b v w
-    (λ P given is. replayed_once trace (file_of files trace) P given v w (contents_consistent jdf data_name a_file b_file P given (subst (ContentsDenote jdf data_name a_file b_file) is k)))
+    (λ P given is. replayed_once trace (operands 2 trace) P given v w (contents_consistent jdf data_name a_file b_file P given (subst (ContentsDenote jdf data_name a_file b_file) is k)))
     (subst (λ (c : Denotation). OnConsistent Verb c v) (contents_once jdf data_name a_file b_file a b h k) e) d
 
 -- two verdicts of `trace` are the same refusal, or traces of one job
-traces_on : (files : NamedFiles) (jdf data_name : List ℕ) (checked v w : Denotation) → FilesDenote files jdf data_name checked → OnConsistent IsTraced checked v → OnConsistent IsTraced checked w → (v ≡ w) ⊎ AreTracesOfOneJob files v w
-traces_on files jdf data_name (verdicts.Job (jobs.Consistent P given)) v w found h k = inr (jdf, data_name, P, given, found, h, k)
-traces_on files jdf data_name checked v w found h k = inl (h ∙ sym k)
+traces_on : (operands : Operands) (jdf data_name : List ℕ) (checked v w : Denotation) → FilesDenote operands jdf data_name checked → OnConsistent IsTraced checked v → OnConsistent IsTraced checked w → (v ≡ w) ⊎ AreTracesOfOneJob operands v w
+traces_on operands jdf data_name (verdicts.Job (jobs.Consistent P given)) v w found h k = inr (jdf, data_name, P, given, found, h, k)
+traces_on operands jdf data_name checked v w found h k = inl (h ∙ sym k)
 
-traces_of_one_job : (files : NamedFiles) (jdf data_name : List ℕ) (workers shards : ℕ) (v w : Denotation) → CommandDenotes files (Trace jdf data_name workers shards) v → CommandDenotes files (Trace jdf data_name workers shards) w
-    → (v ≡ w) ⊎ AreTracesOfOneJob files v w
-traces_of_one_job files jdf data_name workers shards v w (a, h, e) (b, k, d) =
-    traces_on files jdf data_name b v w k (subst (λ (c : Denotation). OnConsistent IsTraced c v) (contents_once jdf data_name (file_of files jdf) (file_of files data_name) a b h k) e) d
+traces_of_one_job : (operands : Operands) (jdf data_name : List ℕ) (workers shards : ℕ) (v w : Denotation) → CommandDenotes operands (Trace jdf data_name workers shards) v → CommandDenotes operands (Trace jdf data_name workers shards) w
+    → (v ≡ w) ⊎ AreTracesOfOneJob operands v w
+traces_of_one_job operands jdf data_name workers shards v w (a, h, e) (b, k, d) =
+    traces_on operands jdf data_name b v w k (subst (λ (c : Denotation). OnConsistent IsTraced c v) (contents_once jdf data_name (operands 0 jdf) (operands 1 data_name) a b h k) e) d
 
--- a command and the files denote one verdict at most, where it is no trace
-command_once : (files : NamedFiles) (command : Order) (v w : Denotation) → IsNoTrace command → CommandDenotes files command v → CommandDenotes files command w → v ≡ w
-command_once files (Trace jdf data_name workers shards) v w free h k = absurd free
-command_once files (Run jdf data_name workers shards preload) v w free (a, h, e) (b, k, d) =
+-- a command and the operands denote one verdict at most, where it is no trace
+command_once : (operands : Operands) (command : Order) (v w : Denotation) → IsNoTrace command → CommandDenotes operands command v → CommandDenotes operands command w → v ≡ w
+command_once operands (Trace jdf data_name workers shards) v w free h k = absurd free
+command_once operands (Run jdf data_name workers shards preload) v w free (a, h, e) (b, k, d) =
     let settings : Settings = record { workers = workers; shards = shards; preload = preload } in
     once_on (IsAnswer settings) b v w (λ P given is p q. p ∙ sym q)
-    (subst (λ (c : Denotation). OnConsistent (IsAnswer settings) c v) (contents_once jdf data_name (file_of files jdf) (file_of files data_name) a b h k) e) d
-command_once files (Show jdf) v w free h k = content_shows_once jdf (file_of files jdf) v w h k
-command_once files (Check jdf data_name) v w free h k = contents_once jdf data_name (file_of files jdf) (file_of files data_name) v w h k
-command_once files (Demo rows) v w free h k = demo_once rows v w h k
-command_once files (Replay jdf data_name trace) v w free h k = replay_once files jdf data_name trace v w h k
-command_once files (Certify jdf data_name) v w free h k = certify_once files jdf data_name v w h k
-command_once files (Ranks jdf data_name ranks seed) v w free (a, h, e) (b, k, d) =
+    (subst (λ (c : Denotation). OnConsistent (IsAnswer settings) c v) (contents_once jdf data_name (operands 0 jdf) (operands 1 data_name) a b h k) e) d
+command_once operands (Show jdf) v w free h k = content_shows_once jdf (operands 0 jdf) v w h k
+command_once operands (Check jdf data_name) v w free h k = contents_once jdf data_name (operands 0 jdf) (operands 1 data_name) v w h k
+command_once operands (Demo rows) v w free h k = demo_once rows v w h k
+command_once operands (Replay jdf data_name trace) v w free h k = replay_once operands jdf data_name trace v w h k
+command_once operands (Certify jdf data_name) v w free h k = certify_once operands jdf data_name v w h k
+command_once operands (Ranks jdf data_name ranks seed) v w free (a, h, e) (b, k, d) =
     let Verb = IsRanked ranks in
     once_on Verb b v w (λ P given is p q. p ∙ sym q)
-    (subst (λ (c : Denotation). OnConsistent Verb c v) (contents_once jdf data_name (file_of files jdf) (file_of files data_name) a b h k) e) d
+    (subst (λ (c : Denotation). OnConsistent Verb c v) (contents_once jdf data_name (operands 0 jdf) (operands 1 data_name) a b h k) e) d
 
 pub one_meaning : OneMeaning
-one_meaning words files v w free (inl h) (inl k) = h.1 ∙ sym k.1
-one_meaning words files v w free (inl h) (inr (command, formed, k)) = absurd (h.0 command formed)
-one_meaning words files v w free (inr (command, formed, h)) (inl k) = absurd (k.0 command formed)
-one_meaning words files v w free (inr (a, formed, h)) (inr (b, other, k)) =
-    command_once files b v w (free b other) (subst (λ (r : Order). CommandDenotes files r v) (one_command words a b formed other) h) k
+one_meaning words operands v w free (inl h) (inl k) = h.1 ∙ sym k.1
+one_meaning words operands v w free (inl h) (inr (command, formed, k)) = absurd (h.0 command formed)
+one_meaning words operands v w free (inr (command, formed, h)) (inl k) = absurd (k.0 command formed)
+one_meaning words operands v w free (inr (a, formed, h)) (inr (b, other, k)) =
+    command_once operands b v w (free b other) (subst (λ (r : Order). CommandDenotes operands r v) (one_command words a b formed other) h) k
 
 -- and two of a trace are of one job
-one_or_traces : (files : NamedFiles) (command : Order) (v w : Denotation) → CommandDenotes files command v → CommandDenotes files command w → (v ≡ w) ⊎ AreTracesOfOneJob files v w
-one_or_traces files (Trace jdf data_name workers shards) v w h k = traces_of_one_job files jdf data_name workers shards v w h k
-one_or_traces files (Run jdf data_name workers shards preload) v w h k = inl (command_once files (Run jdf data_name workers shards preload) v w tt h k)
-one_or_traces files (Show jdf) v w h k = inl (command_once files (Show jdf) v w tt h k)
-one_or_traces files (Check jdf data_name) v w h k = inl (command_once files (Check jdf data_name) v w tt h k)
-one_or_traces files (Demo rows) v w h k = inl (command_once files (Demo rows) v w tt h k)
-one_or_traces files (Replay jdf data_name trace) v w h k = inl (command_once files (Replay jdf data_name trace) v w tt h k)
-one_or_traces files (Certify jdf data_name) v w h k = inl (command_once files (Certify jdf data_name) v w tt h k)
-one_or_traces files (Ranks jdf data_name ranks seed) v w h k = inl (command_once files (Ranks jdf data_name ranks seed) v w tt h k)
+one_or_traces : (operands : Operands) (command : Order) (v w : Denotation) → CommandDenotes operands command v → CommandDenotes operands command w → (v ≡ w) ⊎ AreTracesOfOneJob operands v w
+one_or_traces operands (Trace jdf data_name workers shards) v w h k = traces_of_one_job operands jdf data_name workers shards v w h k
+one_or_traces operands (Run jdf data_name workers shards preload) v w h k = inl (command_once operands (Run jdf data_name workers shards preload) v w tt h k)
+one_or_traces operands (Show jdf) v w h k = inl (command_once operands (Show jdf) v w tt h k)
+one_or_traces operands (Check jdf data_name) v w h k = inl (command_once operands (Check jdf data_name) v w tt h k)
+one_or_traces operands (Demo rows) v w h k = inl (command_once operands (Demo rows) v w tt h k)
+one_or_traces operands (Replay jdf data_name trace) v w h k = inl (command_once operands (Replay jdf data_name trace) v w tt h k)
+one_or_traces operands (Certify jdf data_name) v w h k = inl (command_once operands (Certify jdf data_name) v w tt h k)
+one_or_traces operands (Ranks jdf data_name ranks seed) v w h k = inl (command_once operands (Ranks jdf data_name ranks seed) v w tt h k)
 
 pub one_job : OneJob
-one_job words files v w (inl h) (inl k) = inl (h.1 ∙ sym k.1)
-one_job words files v w (inl h) (inr (command, formed, k)) = absurd (h.0 command formed)
-one_job words files v w (inr (command, formed, h)) (inl k) = absurd (k.0 command formed)
-one_job words files v w (inr (a, formed, h)) (inr (b, other, k)) =
-    one_or_traces files b v w (subst (λ (r : Order). CommandDenotes files r v) (one_command words a b formed other) h) k
+one_job words operands v w (inl h) (inl k) = inl (h.1 ∙ sym k.1)
+one_job words operands v w (inl h) (inr (command, formed, k)) = absurd (h.0 command formed)
+one_job words operands v w (inr (command, formed, h)) (inl k) = absurd (k.0 command formed)
+one_job words operands v w (inr (a, formed, h)) (inr (b, other, k)) =
+    one_or_traces operands b v w (subst (λ (r : Order). CommandDenotes operands r v) (one_command words a b formed other) h) k
 
 pub one_output : OneOutput
-one_output words files before after other status another free first second =
-    let same = one_meaning words files first.verdict second.verdict free first.denoted second.denoted in
+one_output words operands before after other status another free first second =
+    let same = one_meaning words operands first.verdict second.verdict free first.denoted second.denoted in
     (first.text ∙ (ap (λ v. before ++ text_of v) same ∙ sym second.text), first.ends ∙ (ap status_of same ∙ sym second.ends))

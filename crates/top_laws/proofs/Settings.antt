@@ -11,7 +11,8 @@ use Rattle.ptg_words.specs.declared.order.Order.TheVariants.{Ranks, Run}
 use Rattle.ptg_top.specs.declared.verdict.Finding.TheVariants.{Answer}
 use Rattle.ptg_top.specs.Denotation as verdicts
 use Rattle.ptg_top.specs.Denotation.{Denotation}
-use Rattle.ptg_top.specs.JobFiles.{NamedFiles}
+
+use Rattle.ptg_top.specs.Operands.{Operands}
 use Rattle.ptg_top.specs.Meaning.{CommandDenotes, Denotes}
 use Rattle.top_laws.specs.Settings.{SeedsChangeNothing, ShardsChangeNothing, WorkersChangeNothing}
 use Rattle.ptg_top.specs.Answering.{IsAnswer, OnConsistent}
@@ -29,26 +30,26 @@ alike_on a b same (verdicts.Job (jobs.Consistent P given)) v h = h ∙ ap (λ (l
     answered large = if large then verdicts.PreloadTooLarge else verdicts.Ran P (Answer (answer P given))
 alike_on a b same checked v h = h
 
-module _ (one other : List (List ℕ)) (jdf data_name : List ℕ) (a b : Settings) (files : NamedFiles) (v : Denotation) where
+module _ (one other : List (List ℕ)) (jdf data_name : List ℕ) (a b : Settings) (operands : Operands) (v : Denotation) where
   same_denoted : AreAlike a b → Orders one (Run jdf data_name a.workers a.shards a.preload) → Orders other (Run jdf data_name b.workers b.shards b.preload)
-      → Denotes one files v → Denotes other files v
+      → Denotes one operands v → Denotes other operands v
   same_denoted same first second (inl (none, e)) = absurd (none (Run jdf data_name a.workers a.shards a.preload) first)
   same_denoted same first second (inr (command, formed, h)) =
       let here : Order = Run jdf data_name a.workers a.shards a.preload in
-      let is : CommandDenotes files here v = subst (λ (c : Order). CommandDenotes files c v) (one_command one command here formed first) h in
+      let is : CommandDenotes operands here v = subst (λ (c : Order). CommandDenotes operands c v) (one_command one command here formed first) h in
       inr (Run jdf data_name b.workers b.shards b.preload, second, (is.0, is.1, alike_on a b same is.0 v is.2))
 
 pub shards_change_nothing : ShardsChangeNothing
-shards_change_nothing one other jdf data_name w s t p files v first second h =
-    same_denoted one other jdf data_name (record { workers = w; shards = s; preload = p }) (record { workers = w; shards = t; preload = p }) files v (λ P. refl) first second h
+shards_change_nothing one other jdf data_name w s t p operands v first second h =
+    same_denoted one other jdf data_name (record { workers = w; shards = s; preload = p }) (record { workers = w; shards = t; preload = p }) operands v (λ P. refl) first second h
 
 pub workers_change_nothing : WorkersChangeNothing
-workers_change_nothing one other jdf data_name w u s t files v first second h =
-    same_denoted one other jdf data_name (record { workers = w; shards = s; preload = false }) (record { workers = u; shards = t; preload = false }) files v (λ P. refl) first second h
+workers_change_nothing one other jdf data_name w u s t operands v first second h =
+    same_denoted one other jdf data_name (record { workers = w; shards = s; preload = false }) (record { workers = u; shards = t; preload = false }) operands v (λ P. refl) first second h
 
 pub seeds_change_nothing : SeedsChangeNothing
-seeds_change_nothing one other jdf data_name r seed another files v first second (inl (none, e)) = absurd (none (Ranks jdf data_name r seed) first)
-seeds_change_nothing one other jdf data_name r seed another files v first second (inr (command, formed, h)) =
+seeds_change_nothing one other jdf data_name r seed another operands v first second (inl (none, e)) = absurd (none (Ranks jdf data_name r seed) first)
+seeds_change_nothing one other jdf data_name r seed another operands v first second (inr (command, formed, h)) =
     let here : Order = Ranks jdf data_name r seed in
-    let is : CommandDenotes files here v = subst (λ (c : Order). CommandDenotes files c v) (one_command one command here formed first) h in
+    let is : CommandDenotes operands here v = subst (λ (c : Order). CommandDenotes operands c v) (one_command one command here formed first) h in
     inr (Ranks jdf data_name r another, second, is)

@@ -1,4 +1,4 @@
--- That arguments and files denote one verdict, so that one text is printed for them. Source: this project's own choice.
+-- That arguments and what their operands hold denote one verdict, so that one text is printed for them. Source: this project's own choice.
 use Rattle.std.specs.Prelude.{◌≡◌, ◌⊎◌, ℕ, List}
 use Rattle.coll_data.specs.Data.{Data}
 use Rattle.plan_core.specs.declared.plan.Plan.{Plan}
@@ -10,7 +10,8 @@ use Rattle.ptg_top.specs.declared.status.Status.{Status}
 use Rattle.ptg_top.specs.Denotation as verdicts
 use Rattle.ptg_top.specs.Denotation.{Denotation}
 use Rattle.ptg_top.specs.Headline.{Prints}
-use Rattle.ptg_top.specs.JobFiles.{FilesDenote, NamedFiles}
+use Rattle.ptg_top.specs.Operands.{Operands}
+use Rattle.ptg_top.specs.JobFiles.{FilesDenote}
 use Rattle.ptg_top.specs.Meaning.{Denotes}
 use Rattle.ptg_top.specs.Trace.{IsTraced}
 
@@ -23,38 +24,38 @@ IsNoTrace command = Unit {0}
 abbrev pub AskForNoTrace : List (List ℕ) → Type 0
 AskForNoTrace words = (command : Order) → Orders words command → IsNoTrace command
 
--- arguments that ask for no trace and files denote one verdict at most
+-- arguments that ask for no trace and operands denote one verdict at most
 abbrev pub OneMeaning : Type 0
 OneMeaning =
-    (words : List (List ℕ)) (files : NamedFiles) (v w : Denotation) → AskForNoTrace words → Denotes words files v
-    → Denotes words files w → v ≡ w
+    (words : List (List ℕ)) (operands : Operands) (v w : Denotation) → AskForNoTrace words → Denotes words operands v
+    → Denotes words operands w → v ≡ w
 
--- two verdicts are texts of whole orders of one consistent job, which two of the files denote
-abbrev pub AreTracesOfOneJob : NamedFiles → Denotation → Denotation → Type 0
-AreTracesOfOneJob files v w =
+-- two verdicts are texts of whole orders of one consistent job, which two of the operands denote
+abbrev pub AreTracesOfOneJob : Operands → Denotation → Denotation → Type 0
+AreTracesOfOneJob operands v w =
     (jdf data_name : List ℕ) × (P : Plan) × (given : Data)
-    × FilesDenote files jdf data_name (verdicts.Job (jobs.Consistent P given))
+    × FilesDenote operands jdf data_name (verdicts.Job (jobs.Consistent P given))
     × IsTraced P given v × IsTraced P given w
 
--- two verdicts that any arguments and files denote are the same, or traces of one job
+-- two verdicts that any arguments and operands denote are the same, or traces of one job
 abbrev pub OneJob : Type 0
 OneJob =
-    (words : List (List ℕ)) (files : NamedFiles) (v w : Denotation) → Denotes words files v → Denotes words files w
-    → (v ≡ w) ⊎ AreTracesOfOneJob files v w
+    (words : List (List ℕ)) (operands : Operands) (v w : Denotation) → Denotes words operands v → Denotes words operands w
+    → (v ≡ w) ⊎ AreTracesOfOneJob operands v w
 
--- any arguments and files denote a verdict
+-- any arguments and operands denote a verdict
 abbrev pub SomeMeaning : Type 0
-SomeMeaning = (words : List (List ℕ)) (files : NamedFiles) → (v : Denotation) × Denotes words files v
+SomeMeaning = (words : List (List ℕ)) (operands : Operands) → (v : Denotation) × Denotes words operands v
 
--- arguments that ask for no trace and files determine what is printed, and the status
+-- arguments that ask for no trace and operands determine what is printed, and the status
 abbrev pub OneOutput : Type 0
 OneOutput =
-    (words : List (List ℕ)) (files : NamedFiles) (before after other : List ℕ) (status another : Status)
-    → AskForNoTrace words → Prints words files before after status → Prints words files before other another
+    (words : List (List ℕ)) (operands : Operands) (before after other : List ℕ) (status another : Status)
+    → AskForNoTrace words → Prints words operands before after status → Prints words operands before other another
     → (after ≡ other) × (status ≡ another)
 
--- for any arguments and files something is printed, with a status
+-- for any arguments and operands something is printed, with a status
 abbrev pub SomeOutput : Type 0
 SomeOutput =
-    (words : List (List ℕ)) (files : NamedFiles) (before : List ℕ)
-    → (after : List ℕ) × (status : Status) × Prints words files before after status
+    (words : List (List ℕ)) (operands : Operands) (before : List ℕ)
+    → (after : List ℕ) × (status : Status) × Prints words operands before after status

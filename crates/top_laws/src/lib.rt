@@ -2,8 +2,10 @@
 //! preload.
 #![tactic(auto)]
 
+mod known;
 mod laws;
 
+pub use known::{loads_are_files, over_known_files};
 pub use laws::{
     one_job, one_meaning, settings_change_nothing_else, some_meaning,
     with_one_type_the_preload_is_a_product,

@@ -9,14 +9,14 @@ use Rattle.ptg_top.proofs.judge.carry_out.Goals as goal
 -- `demo` reads no file
 pub returns-in-Demo-clause-judged : goal.returns-in-Demo-clause-judged
 returns-in-Demo-clause-judged g c =
-    let faults = g.F.Files.faults c.args.files.now in
-    demo_ends c.in-Demo.rows (g.F.Files.contents c.args.files.now) faults faults c.args.order.now c.demo.result c.in-Demo.is c.demo.ensures.denotes
+    demo_ends c.in-Demo.rows (g.F.Files.reads c.args.files.now) (g.F.Files.faults c.args.files.now) c.args.order.now c.demo.result c.in-Demo.is c.demo.ensures.denotes
 
 -- the verdict on the three files
 pub returns-in-Replay-clause-judged : goal.returns-in-Replay-clause-judged
 returns-in-Replay-clause-judged g c =
-    let contents = g.F.Files.contents c.args.files.now in
-    let old = g.F.Files.faults c.args.files.now in
-    let new = g.F.Files.faults c.replay.new.files in
-    let Judged : Order → Type 0 = λ r. IfOk c.replay.result (λ v. IsVerdictOnCommand contents old new r (denoted v)) in
+    let old = g.F.Files.reads c.args.files.now in
+    let new = g.F.Files.reads c.replay.new.files in
+    let failed = g.F.Files.faults c.args.files.now in
+    let failed_since = g.F.Files.faults c.replay.new.files in
+    let Judged : Order → Type 0 = λ r. IfOk c.replay.result (λ v. IsVerdictOnCommand old new failed failed_since r (denoted v)) in
     subst Judged (sym c.in-Replay.is) c.replay.ensures.verdict

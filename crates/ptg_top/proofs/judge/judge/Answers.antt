@@ -12,7 +12,7 @@ carry_out-requires-clause-numbers g c κs within = c.commands_have_numbers_in_ra
 -- the verdict on the command is the one on the arguments
 pub returns-in-Ok-clause-judged : goal.returns-in-Ok-clause-judged
 returns-in-Ok-clause-judged g c =
-    command_ends c.args.list.now (g.F.Files.contents c.args.files.now) (g.F.Files.faults c.args.files.now) (g.F.Files.faults c.carry_out.new.files)
+    command_ends c.args.list.now (g.F.Files.reads c.args.files.now) (g.F.Files.reads c.carry_out.new.files) (g.F.Files.faults c.args.files.now) (g.F.Files.faults c.carry_out.new.files)
     c.in-Ok.order c.carry_out.result c.in-Ok.ensures.found c.carry_out.ensures.judged
 
 -- and so is the verdict for it

@@ -1,37 +1,44 @@
-use Rattle.std.proofs.Common.{ap, sym, ◌∙◌, ◌++◌, inl}
+use Rattle.std.proofs.Common.{ap, sym, subst, ◌∙◌, ◌++◌, inl}
 use Rattle.ptg_top.specs.Denotation.{denoted}
-use Rattle.ptg_top.proofs.Ending.{exact_prints, complete_prints, usage_is_its_line, usage_is_no_command, no_command_is_usage, read_fault_names, no_write_fault}
+use Rattle.ptg_top.specs.Headline.{IsExact}
+use Rattle.ptg_top.proofs.Ending.{exact_prints, complete_prints, none_failed, usage_is_its_line, usage_is_no_command, no_command_is_usage, read_fault_names, no_write_fault}
 use Rattle.ptg_top.proofs.Receipts.{receipt_is_asked, no_receipt_no_answer, receipt_has_plan}
 use Rattle.ptg_top.proofs.program.ptg_main.Goals as goal
 
 -- a verdict that was printed whole is exact where its status is no fault's
 pub returns-in-Ok-print_verdict-clause-exact : goal.returns-in-Ok-print_verdict-clause-exact
-returns-in-Ok-print_verdict-clause-exact g c entries contents exact =
-    exact_prints c.args.words.now entries (g.F.Files.contents c.args.files.now) (g.F.Files.faults c.args.files.now) (g.F.Files.faults c.judge.new.files)
-    (g.O.Sink.bytes c.args.out.now) (g.O.Sink.bytes c.print_verdict.new.out) (denoted c.in-Ok.verdict) c.status.result
-    c.in-Ok.ensures.judged contents c.in-Ok-print_verdict.ensures.ok c.status.ensures exact
+returns-in-Ok-print_verdict-clause-exact g c exact =
+    exact_prints c.args.words.now (g.F.Files.reads c.args.files.now) (g.F.Files.reads c.judge.new.files) (g.F.Files.faults c.args.files.now) (g.F.Files.faults c.judge.new.files)
+    (denoted c.in-Ok.verdict) (g.O.Sink.bytes c.args.out.now) (g.O.Sink.bytes c.print_verdict.new.out) c.status.result
+    c.in-Ok.ensures.judged c.in-Ok-print_verdict.ensures.ok c.status.ensures exact
 
 -- and it is exact where no read failed
 pub returns-in-Ok-print_verdict-clause-complete : goal.returns-in-Ok-print_verdict-clause-complete
-returns-in-Ok-print_verdict-clause-complete g c entries contents no_read no_write =
-    complete_prints c.args.words.now entries (g.F.Files.contents c.args.files.now) (g.F.Files.faults c.args.files.now) (g.F.Files.faults c.judge.new.files)
-    (g.O.Sink.bytes c.args.out.now) (g.O.Sink.bytes c.print_verdict.new.out) (denoted c.in-Ok.verdict) c.status.result
-    c.in-Ok.ensures.judged contents c.in-Ok-print_verdict.ensures.ok c.status.ensures no_read
+returns-in-Ok-print_verdict-clause-complete g c no_read no_write =
+    complete_prints c.args.words.now (g.F.Files.reads c.args.files.now) (g.F.Files.reads c.judge.new.files) (g.F.Files.faults c.args.files.now) (g.F.Files.faults c.judge.new.files)
+    (denoted c.in-Ok.verdict) no_read (g.O.Sink.bytes c.args.out.now) (g.O.Sink.bytes c.print_verdict.new.out) c.status.result
+    c.in-Ok.ensures.judged c.in-Ok-print_verdict.ensures.ok c.status.ensures
+
+-- no read failed where the status is that of a verdict
+pub returns-in-Ok-print_verdict-clause-no_read_fault : goal.returns-in-Ok-print_verdict-clause-no_read_fault
+returns-in-Ok-print_verdict-clause-no_read_fault g c exact =
+    none_failed c.args.words.now (g.F.Files.reads c.args.files.now) (g.F.Files.reads c.judge.new.files) (g.F.Files.faults c.args.files.now) (g.F.Files.faults c.judge.new.files)
+    (denoted c.in-Ok.verdict) c.in-Ok.ensures.judged (subst IsExact c.status.ensures exact)
 
 -- the status of a read fault comes with the name of a file that could not be read
 pub returns-in-Ok-print_verdict-clause-unread : goal.returns-in-Ok-print_verdict-clause-unread
 returns-in-Ok-print_verdict-clause-unread g c fault =
     let h =
-    read_fault_names c.args.words.now (g.F.Files.contents c.args.files.now) (g.F.Files.faults c.args.files.now) (g.F.Files.faults c.judge.new.files)
+    read_fault_names c.args.words.now (g.F.Files.reads c.args.files.now) (g.F.Files.reads c.judge.new.files) (g.F.Files.faults c.args.files.now) (g.F.Files.faults c.judge.new.files)
     (denoted c.in-Ok.verdict) c.in-Ok.ensures.judged (sym c.status.ensures ∙ fault)
     in
-    (h.0, h.1, h.2, c.in-Ok-print_verdict.ensures.ok ∙ ap (λ t. g.O.Sink.bytes c.args.out.now ++ t) h.3)
+    (h.0, h.1, c.in-Ok-print_verdict.ensures.ok ∙ ap (λ t. g.O.Sink.bytes c.args.out.now ++ t) h.2)
 
 -- no verdict has the status of a write fault
 pub returns-in-Ok-print_verdict-clause-cut : goal.returns-in-Ok-print_verdict-clause-cut
 returns-in-Ok-print_verdict-clause-cut g c fault =
     absurd (
-    no_write_fault c.args.words.now (g.F.Files.contents c.args.files.now) (g.F.Files.faults c.args.files.now) (g.F.Files.faults c.judge.new.files)
+    no_write_fault c.args.words.now (g.F.Files.reads c.args.files.now) (g.F.Files.reads c.judge.new.files) (g.F.Files.faults c.args.files.now) (g.F.Files.faults c.judge.new.files)
     (denoted c.in-Ok.verdict) c.in-Ok.ensures.judged (sym c.status.ensures ∙ fault)
     )
 
@@ -39,28 +46,28 @@ returns-in-Ok-print_verdict-clause-cut g c fault =
 pub returns-in-Ok-print_verdict-clause-usage_line : goal.returns-in-Ok-print_verdict-clause-usage_line
 returns-in-Ok-print_verdict-clause-usage_line g c usage =
     c.in-Ok-print_verdict.ensures.ok ∙ ap (λ t. g.O.Sink.bytes c.args.out.now ++ t) (
-    usage_is_its_line c.args.words.now (g.F.Files.contents c.args.files.now) (g.F.Files.faults c.args.files.now) (g.F.Files.faults c.judge.new.files)
+    usage_is_its_line c.args.words.now (g.F.Files.reads c.args.files.now) (g.F.Files.reads c.judge.new.files) (g.F.Files.faults c.args.files.now) (g.F.Files.faults c.judge.new.files)
     (denoted c.in-Ok.verdict) c.in-Ok.ensures.judged (sym c.status.ensures ∙ usage)
     )
 
 -- and only to arguments that form no command, which have no other
 pub returns-in-Ok-print_verdict-clause-usage_only : goal.returns-in-Ok-print_verdict-clause-usage_only
 returns-in-Ok-print_verdict-clause-usage_only g c usage =
-    usage_is_no_command c.args.words.now (g.F.Files.contents c.args.files.now) (g.F.Files.faults c.args.files.now) (g.F.Files.faults c.judge.new.files)
+    usage_is_no_command c.args.words.now (g.F.Files.reads c.args.files.now) (g.F.Files.reads c.judge.new.files) (g.F.Files.faults c.args.files.now) (g.F.Files.faults c.judge.new.files)
     (denoted c.in-Ok.verdict) c.in-Ok.ensures.judged (sym c.status.ensures ∙ usage)
 
 pub returns-in-Ok-print_verdict-clause-usage : goal.returns-in-Ok-print_verdict-clause-usage
 returns-in-Ok-print_verdict-clause-usage g c none =
     inl (
     c.status.ensures
-    ∙ no_command_is_usage c.args.words.now (g.F.Files.contents c.args.files.now) (g.F.Files.faults c.args.files.now) (g.F.Files.faults c.judge.new.files)
+    ∙ no_command_is_usage c.args.words.now (g.F.Files.reads c.args.files.now) (g.F.Files.reads c.judge.new.files) (g.F.Files.faults c.args.files.now) (g.F.Files.faults c.judge.new.files)
     (denoted c.in-Ok.verdict) c.in-Ok.ensures.judged none
     )
 
 -- the receipt of an answer is the one that was asked for
 pub returns-in-Ok-print_verdict-clause-receipt : goal.returns-in-Ok-print_verdict-clause-receipt
 returns-in-Ok-print_verdict-clause-receipt g c =
-    receipt_is_asked c.args.words.now (g.F.Files.contents c.args.files.now) (g.F.Files.faults c.args.files.now) (g.F.Files.faults c.judge.new.files)
+    receipt_is_asked c.args.words.now (g.F.Files.reads c.args.files.now) (g.F.Files.reads c.judge.new.files) (g.F.Files.faults c.args.files.now) (g.F.Files.faults c.judge.new.files)
     c.in-Ok.verdict c.status.result c.receipt.result c.in-Ok.ensures.judged c.in-Ok.ensures.ran c.status.ensures c.receipt.ensures
 
 -- and a run without one has no answer
@@ -68,8 +75,8 @@ pub returns-in-Ok-print_verdict-clause-no_receipt : goal.returns-in-Ok-print_ver
 returns-in-Ok-print_verdict-clause-no_receipt g c =
     no_receipt_no_answer c.args.words.now c.status.result c.in-Ok.verdict c.receipt.result c.in-Ok.ensures.ran c.status.ensures c.receipt.ensures
 
--- its plan is that of the job that the files denote
+-- its plan is that of the job that the loads denote
 pub returns-in-Ok-print_verdict-clause-of_job : goal.returns-in-Ok-print_verdict-clause-of_job
-returns-in-Ok-print_verdict-clause-of_job g c entries known =
-    receipt_has_plan c.args.words.now entries (g.F.Files.contents c.args.files.now) (g.F.Files.faults c.args.files.now) (g.F.Files.faults c.judge.new.files)
-    c.in-Ok.verdict c.receipt.result c.in-Ok.ensures.judged known c.receipt.ensures
+returns-in-Ok-print_verdict-clause-of_job g c =
+    receipt_has_plan c.args.words.now (g.F.Files.reads c.args.files.now) (g.F.Files.reads c.judge.new.files) (g.F.Files.faults c.args.files.now) (g.F.Files.faults c.judge.new.files)
+    c.in-Ok.verdict c.receipt.result c.in-Ok.ensures.judged c.receipt.ensures

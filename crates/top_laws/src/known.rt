@@ -1,0 +1,19 @@
+//! The clauses of the program where the contents of the files are known.
+
+ghost use Rattle.top_laws.specs.Known.{CompleteOverFiles, CutOverFiles, ExactOverFiles, JobOverFiles, LoadsAreFiles, UnreadOverFiles};
+
+/// A law: where each read gave a piece of known files, each load is the file with its name, or both have more than
+/// 16 MiB.
+pub fn loads_are_files()
+    ensures { LoadsAreFiles }
+{}
+
+/// Laws: the clauses of `ptg_main` over files whose contents are known, by their names, follow from those over what
+/// reads gave. What the loads denote, the files denote.
+pub fn over_known_files()
+    ensures exact { ExactOverFiles }
+    ensures complete { CompleteOverFiles }
+    ensures unread { UnreadOverFiles }
+    ensures cut { CutOverFiles }
+    ensures of_job { JobOverFiles }
+{}
