@@ -4,4 +4,4 @@ pub mod Settings
 pub mod OneType
 pub mod Loaded
 pub mod Texts
-pub mod Known
+pub mod OverFiles

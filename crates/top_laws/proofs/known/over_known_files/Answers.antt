@@ -1,4 +1,4 @@
-use Rattle.top_laws.proofs.Known.{complete_over_files, cut_over_files, exact_over_files, job_over_files, unread_over_files}
+use Rattle.top_laws.proofs.OverFiles.{complete_over_files, cut_over_files, exact_over_files, job_over_files, unread_over_files}
 use Rattle.top_laws.proofs.known.over_known_files.Goals as goal
 
 pub returns-clause-exact : goal.returns-clause-exact
