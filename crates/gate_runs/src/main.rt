@@ -1,6 +1,6 @@
 //! Runs jobs through the program with gates that wait, count or note, and prints how each run ends. Two bodies at once
 //! show that there are two threads, a count of the bodies of each task that each is run once, and the notes of the
-//! tasks of one worker that `trace` prints them in their order. With arguments it is the program with a gate that
+//! tasks of one worker that `trace` prints them in their order. What `trace` prints is replayed. With arguments it is the program with a gate that
 //! counts bodies.
 #![tactic(auto)]
 
@@ -14,10 +14,13 @@ mod runs;
 
 use crate::command::carried_out;
 use crate::counting::Counting;
-use crate::jobs::{CHOLESKY_ANSWER, CHOLESKY_DATA, PAIR, PAIR_ANSWER, PAIR_DATA};
+use crate::jobs::{
+    CHOLESKY_ANSWER, CHOLESKY_DATA, DECORATED, ONE_TILE, PAIR, PAIR_ANSWER, STALL, STALL_ANSWER,
+    TRAPS, TRAPS_ANSWER,
+};
 use crate::meeting::Meeting;
 use crate::noting::Noting;
-use crate::runs::{Job, ran, traced};
+use crate::runs::{Job, ran, replayed, traced};
 use job_gen::JDF;
 use ptg_base::OutOfMemory;
 use ptg_os::words;
@@ -33,7 +36,7 @@ fn meet<R: Threads + Wait + Print + Sync>(rt: &R, alloc: Global) -> io::Result<(
     let gate = Meeting::new();
     let job = Job {
         jdf: PAIR,
-        data: PAIR_DATA,
+        data: ONE_TILE,
         answer: PAIR_ANSWER,
     };
     match ran(rt, alloc, &job, "--workers 2", &gate) {
@@ -43,10 +46,15 @@ fn meet<R: Threads + Wait + Print + Sync>(rt: &R, alloc: Global) -> io::Result<(
     Ok(())
 }
 
-// Each body of the Cholesky job with four rows of tiles is counted.
-fn count<R: Threads + Wait + Print + Sync>(rt: &R, alloc: Global, options: &str) -> io::Result<()> {
+// Each body of the Cholesky job with four rows of tiles is counted. Its text is the made one, or a decorated one.
+fn count<R: Threads + Wait + Print + Sync>(
+    rt: &R,
+    alloc: Global,
+    jdf: &[u8],
+    options: &str,
+) -> io::Result<()> {
     let job = Job {
-        jdf: JDF,
+        jdf,
         data: CHOLESKY_DATA,
         answer: CHOLESKY_ANSWER,
     };
@@ -77,6 +85,34 @@ fn note<R: Threads + Wait + Print + Sync>(rt: &R, alloc: Global, options: &str) 
     Ok(())
 }
 
+// What `trace` prints of a job with these options is replayed.
+fn replay<R: Threads + Wait + Print + Sync>(
+    rt: &R,
+    alloc: Global,
+    name: &str,
+    job: &Job,
+) -> io::Result<()> {
+    for options in ["--workers 1", "--workers 4", "--workers 64"] {
+        match replayed(rt, alloc, job, options) {
+            Ok(end) => println!(rt; "{name}, trace {options}, replayed: {end}")?,
+            Err(OutOfMemory) => println!(rt; "{name}, trace {options}: no memory")?,
+        }
+    }
+    Ok(())
+}
+
+// The traces of a job that is complete, of one that stalls and of one with traps are replayed.
+fn replay_all<R: Threads + Wait + Print + Sync>(rt: &R, alloc: Global) -> io::Result<()> {
+    for (name, jdf, data, answer) in [
+        ("cholesky", JDF, CHOLESKY_DATA, CHOLESKY_ANSWER),
+        ("stall", STALL, ONE_TILE, STALL_ANSWER),
+        ("traps", TRAPS, ONE_TILE, TRAPS_ANSWER),
+    ] {
+        replay(rt, alloc, name, &Job { jdf, data, answer })?;
+    }
+    Ok(())
+}
+
 // All runs of jobs in memory.
 fn run_all<R: Threads + Wait + Print + Sync>(rt: &R, alloc: Global) -> io::Result<()> {
     meet(rt, alloc)?;
@@ -87,15 +123,20 @@ fn run_all<R: Threads + Wait + Print + Sync>(rt: &R, alloc: Global) -> io::Resul
         "--workers 4 --shards 16",
         "--workers 64 --shards 1",
         "--workers 64 --shards 16",
+    ] {
+        count(rt, alloc, DECORATED, options)?;
+    }
+    for options in [
         "--workers 1 --shards 1 --preload",
         "--workers 4 --shards 16 --preload",
         "--workers 64 --shards 256 --preload",
     ] {
-        count(rt, alloc, options)?;
+        count(rt, alloc, JDF, options)?;
     }
     for options in ["--workers 1 --shards 1", "--workers 1 --shards 16"] {
         note(rt, alloc, options)?;
     }
+    replay_all(rt, alloc)?;
     Ok(())
 }
 

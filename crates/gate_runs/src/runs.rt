@@ -8,7 +8,7 @@ use std::alloc::Global;
 use std::fmt;
 use std::sync::Wait;
 use std::thread::Threads;
-use worker_core::Gate;
+use worker_core::{Always, Gate};
 
 /// A job's two texts, and what is printed of it.
 #[derive(Drop)]
@@ -48,14 +48,32 @@ fn words(alloc: Global, verb: &str, options: &str) -> Result<Vec<Text>, OutOfMem
     Ok(list)
 }
 
-// A job's two files.
-fn files(alloc: Global, job: &Job) -> Result<MemFiles, OutOfMemory> {
+// A job's two files, and one with a trace of it.
+fn files(alloc: Global, job: &Job, trace: &[u8]) -> Result<MemFiles, OutOfMemory> {
     let mut list = Vec::new(alloc);
-    for (name, bytes) in [("job.jdf", job.jdf), ("job.csv", job.data)] {
+    for (name, bytes) in [
+        ("job.jdf", job.jdf),
+        ("job.csv", job.data),
+        ("job.trace", trace),
+    ] {
         let name = Text::of(alloc, name.as_bytes())?;
         list.push(File::new(name, Seq::of(bytes.to_vec(alloc)?)))?;
     }
     MemFiles::new(alloc, Seq::of(list), Seq::new(alloc))
+}
+
+// What a command prints of a job and a trace of it, and its status.
+fn printed<R: Threads + Wait + Sync, G: Gate>(
+    rt: &R,
+    alloc: Global,
+    words: &[Text],
+    (job, trace): (&Job, &[u8]),
+    gate: &G,
+) -> Result<(MemSink, u8), OutOfMemory> {
+    let mut files = files(alloc, job, trace)?;
+    let mut out = MemSink::new(alloc, Seq::new(alloc));
+    let ended = ptg_main(rt, alloc, words, &mut files, &mut out, gate);
+    Ok((out, ended.status.code()))
 }
 
 /// Runs a job with these options and this gate.
@@ -67,11 +85,9 @@ pub fn ran<R: Threads + Wait + Sync, G: Gate>(
     gate: &G,
 ) -> Result<End, OutOfMemory> {
     let words = words(alloc, "run", options)?;
-    let mut files = files(alloc, job)?;
-    let mut out = MemSink::new(alloc, Seq::new(alloc));
-    let ended = ptg_main(rt, alloc, words.as_slice(), &mut files, &mut out, gate);
+    let (out, status) = printed(rt, alloc, words.as_slice(), (job, b""), gate)?;
     Ok(End {
-        status: ended.status.code(),
+        status,
         printed: name_if(out.bytes() == job.answer, "the answer"),
     })
 }
@@ -85,12 +101,31 @@ pub fn traced<R: Threads + Wait + Sync>(
     gate: &Noting,
 ) -> Result<End, OutOfMemory> {
     let words = words(alloc, "trace", options)?;
-    let mut files = files(alloc, job)?;
-    let mut out = MemSink::new(alloc, Seq::new(alloc));
-    let ended = ptg_main(rt, alloc, words.as_slice(), &mut files, &mut out, gate);
+    let (out, status) = printed(rt, alloc, words.as_slice(), (job, b""), gate)?;
     let noted = gate.trace(alloc)?;
     Ok(End {
-        status: ended.status.code(),
+        status,
         printed: name_if(out.bytes() == noted.as_bytes(), "the gate's order"),
+    })
+}
+
+/// Traces a job with these options, replays what was printed, and runs the job too: how the replay ended, and whether
+/// it and the run printed the answer.
+pub fn replayed<R: Threads + Wait + Sync>(
+    rt: &R,
+    alloc: Global,
+    job: &Job,
+    options: &str,
+) -> Result<End, OutOfMemory> {
+    let trace_words = words(alloc, "trace", options)?;
+    let (trace, _status) = printed(rt, alloc, trace_words.as_slice(), (job, b""), &Always)?;
+    let replay_words = words(alloc, "replay", "job.trace")?;
+    let (out, status) = printed(rt, alloc, replay_words.as_slice(), (job, trace.bytes()), &Always)?;
+    let run_words = words(alloc, "run", options)?;
+    let (run_out, _status) = printed(rt, alloc, run_words.as_slice(), (job, b""), &Always)?;
+    let is_answer = out.bytes() == job.answer && run_out.bytes() == job.answer;
+    Ok(End {
+        status,
+        printed: name_if(is_answer, "the answer"),
     })
 }

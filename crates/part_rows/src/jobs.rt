@@ -3,7 +3,7 @@
 ghost use Rattle.std.specs.Prelude.{IfOk};
 ghost use Rattle.plan_data.specs.Fit.{DataFit};
 
-use crate::{accepted, certificates, replays, tasks};
+use crate::{accepted, certificates, replays, spaces, tasks};
 use coll_data::Given;
 use dep_iter::Matched;
 use job_stages::{job_of_texts, judge_texts};
@@ -19,6 +19,8 @@ pub enum JobPart {
     Certificate,
     Replay,
     List,
+    Ranges,
+    HasTask,
 }
 
 impl JobPart {
@@ -30,6 +32,8 @@ impl JobPart {
             "certificate" => Some(JobPart::Certificate),
             "replay" => Some(JobPart::Replay),
             "list" => Some(JobPart::List),
+            "ranges" => Some(JobPart::Ranges),
+            "has-task" => Some(JobPart::HasTask),
             _ => None,
         }
     }
@@ -63,6 +67,13 @@ impl JobPart {
                 row_call.file(table)?,
                 row_call.file(trace)?,
             ),
+            (JobPart::Ranges, [jdf, table]) => {
+                ranges(alloc, row_call.file(jdf)?, row_call.file(table)?)
+            }
+            (JobPart::HasTask, [jdf, table, class, params @ ..]) => {
+                let verdict = judge_texts(alloc, row_call.file(jdf)?, row_call.file(table)?)?;
+                spaces::has_task(alloc, &verdict, class, params)
+            }
             _ => Err(Why("words that call nothing")),
         }
     }
@@ -106,4 +117,10 @@ fn replay(alloc: Global, jdf: &[u8], table: &[u8], trace: &[u8]) -> Result<Print
 fn list(alloc: Global, jdf: &[u8], table: &[u8], trace: &[u8]) -> Result<Printed, Why> {
     let (matched, given) = job_of(alloc, jdf, table)?;
     replays::listed(alloc, &matched, given, trace)
+}
+
+// The ranges of the classes of a job, consistent or not.
+fn ranges(alloc: Global, jdf: &[u8], table: &[u8]) -> Result<Printed, Why> {
+    let verdict = judge_texts(alloc, jdf, table)?;
+    spaces::ranges(alloc, &verdict)
 }

@@ -13,6 +13,7 @@ mod jobs;
 mod names;
 mod replays;
 mod scope;
+mod spaces;
 mod tasks;
 mod texts;
 mod tokens;

@@ -39,8 +39,8 @@ pub fn add_place(text: &mut String, plan: &Plan, place: &Place) -> Result<(), Wh
     }
 }
 
-// Adds a name.
-fn add_name(text: &mut String, name: &Text) -> Result<(), Why> {
+/// Adds a name.
+pub fn add_name(text: &mut String, name: &Text) -> Result<(), Why> {
     let name = str::from_utf8(name.bytes()).map_err(|_| Why("a name that is no text"))?;
     text.push_str(name)?;
     Ok(())

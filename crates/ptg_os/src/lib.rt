@@ -1,6 +1,8 @@
 //! What the operating system gives a program: its words, its files, and a writer for its output.
 #![tactic(auto)]
 
+#[cfg(test)]
+mod argument_tests;
 mod arguments;
 mod files;
 mod sink;

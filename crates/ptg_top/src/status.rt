@@ -1,7 +1,10 @@
 //! The exit statuses.
 
 ghost use Rattle.std.specs.Prelude.{◌≡◌};
+ghost use Rattle.std.specs.Process.{exit_status};
 ghost use Rattle.ptg_top.specs.Codes.{code_of};
+
+use std::process::ExitCode;
 
 /// How a run of the program ended; the exit status of its process is `code`.
 #[derive(Clone, Copy, Debug, PartialEq, Eq)]
@@ -52,5 +55,12 @@ impl Status {
             Status::PreloadTooLarge => 10,
             Status::TraceRefused => 11,
         }
+    }
+
+    /// What the process ends with: its number is `code`.
+    pub fn exit_code(self) -> ExitCode
+        ensures { exit_status result ≡ code_of self }
+    {
+        ExitCode::from(self.code())
     }
 }

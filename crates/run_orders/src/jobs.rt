@@ -127,6 +127,89 @@ tile,D,0,10
 ",
 };
 
+// Two tasks that wait for each other.
+const RING: Job = Job {
+    name: "ring",
+    jdf: b"D
+
+P(z)
+z = 0 .. 0
+: D(0)
+CTL a <- a Q(0)
+      -> a Q(0)
+BODY
+END
+
+Q(z)
+z = 0 .. 0
+: D(0)
+CTL a <- a P(0)
+      -> a P(0)
+BODY
+END
+",
+    data: b"elems,1
+coll,D,1
+",
+};
+
+// Four tasks alone, two of which trap.
+const TWO_TRAPS: Job = Job {
+    name: "two traps",
+    jdf: b"D
+
+T(k)
+k = 0 .. 3
+: D(0)
+WRITE A
+BODY
+if (k == 2) { A[0] = 1 / 0; }
+if (k == 3) { A[1] = 1; }
+END
+",
+    data: b"elems,1
+coll,D,1
+",
+};
+
+// Traps beside tasks that wait for each other: the answer is the traps alone.
+const TRAPS_AND_RING: Job = Job {
+    name: "two traps and a ring",
+    jdf: b"D
+
+T(k)
+k = 0 .. 3
+: D(0)
+WRITE A
+BODY
+if (k == 2) { A[0] = 1 / 0; }
+if (k == 3) { A[1] = 1; }
+END
+
+P(z)
+z = 0 .. 0
+: D(0)
+CTL a <- a Q(0)
+      -> a Q(0)
+BODY
+END
+
+Q(z)
+z = 0 .. 0
+: D(0)
+CTL a <- a P(0)
+      -> a P(0)
+BODY
+END
+",
+    data: b"elems,1
+coll,D,1
+",
+};
+
+/// The jobs whose whole answers are printed: one that is complete, two that stall, and two with traps.
+pub const ANSWERED: &[Job] = &[BROADCAST, RING, STALL, TWO_TRAPS, TRAPS_AND_RING];
+
 /// The numbers of the three places of the broadcast, if this is the answer of a run all of whose four tasks ran.
 pub fn numbers(outcome: &Outcome) -> Option<[i64; 3]> {
     let Outcome::Complete(4, given) = outcome else {

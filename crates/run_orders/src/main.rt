@@ -1,8 +1,10 @@
 //! Runs jobs in orders other than the program's and prints how they end: a broadcast by the calls of one run, compared
 //! with the answer of one thread; the same in worlds of ranks, whose messages come late, in other orders and again; and
-//! jobs in worlds that are driven in the orders of several seeds.
+//! jobs in worlds that are driven in the orders of several seeds. Of small jobs it prints the whole answers, by one
+//! thread and by the calls of one run.
 #![tactic(auto)]
 
+mod answers;
 mod broadcast;
 mod comparing;
 mod driven;
@@ -13,11 +15,13 @@ mod stepwise;
 
 ghost use Rattle.ptg_base.specs.Limits.{IsRankCount};
 
+use crate::answers::{of_a_run_backwards, of_one_thread};
 use crate::broadcast::{EARLY, LATE, LEFT, REFUSED, THRICE};
 use crate::driven::agreed;
-use crate::jobs::{JOBS, Job};
+use crate::jobs::{ANSWERED, JOBS, Job};
 use crate::orders::End;
 use crate::stepwise::Step;
+use ptg_base::OutOfMemory;
 use std::alloc::Global;
 use std::io;
 
@@ -64,6 +68,20 @@ fn print_agreed<R: Print>(rt: &R, alloc: Global, job: &Job, ranks: u32) -> io::R
     }
 }
 
+// Prints the whole answer of a job, or why there is none.
+fn print_answer<R: Print>(
+    rt: &R,
+    name: &str,
+    how: &str,
+    text: Result<Option<String>, OutOfMemory>,
+) -> io::Result<()> {
+    match text {
+        Ok(Some(text)) => print!(rt; "{name}, {how}:\n{text}"),
+        Ok(None) => println!(rt; "{name}, {how}: no answer"),
+        Err(OutOfMemory) => println!(rt; "{name}, {how}: out of memory"),
+    }
+}
+
 fn main(rt: HostRuntime) -> io::Result<()> {
     let alloc = rt.alloc();
     print_order(&rt, alloc, "between", orders::BETWEEN)?;
@@ -78,6 +96,10 @@ fn main(rt: HostRuntime) -> io::Result<()> {
         print_agreed(&rt, alloc, job, 1)?;
         print_agreed(&rt, alloc, job, 3)?;
         print_agreed(&rt, alloc, job, 64)?;
+    }
+    for job in ANSWERED {
+        print_answer(&rt, job.name, "one thread", of_one_thread(alloc, job))?;
+        print_answer(&rt, job.name, "last task first", of_a_run_backwards(alloc, job))?;
     }
     Ok(())
 }

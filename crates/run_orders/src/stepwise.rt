@@ -7,10 +7,11 @@ ghost use Rattle.flow_core.specs.RunState.{IsRunning};
 
 use crate::jobs::Job;
 use coll_data::Given;
-use dep_iter::Matched;
+use dep_iter::{Matched, all_tasks, is_task, out_edges, write_backs};
 use flow_core::{State, run_one};
 use flow_meaning::Outcome;
 use job_stages::job_of_texts;
+use plan_core::Plan;
 use ptg_base::{Edge, Item, OutOfMemory, Place, TaskId, WriteBack};
 use std::alloc::Global;
 use std::marker::Model;
@@ -149,8 +150,45 @@ impl Stepwise {
         none_runs(&self.run, self.tried.as_slice()) && self.run.quiescent(&self.job)
     }
 
+    /// Claims tasks, ends them and sends their items, each time the last one that may be claimed, until none may be.
+    pub fn run_backwards(&mut self, alloc: Global) -> Result<(), OutOfMemory> {
+        let tasks = tasks_backwards(alloc, self.job.plan())?;
+        for _ in 0..tasks.len() {
+            if !self.run_first(alloc, tasks.as_slice())? {
+                return Ok(());
+            }
+        }
+        Ok(())
+    }
+
+    // Claims the first of these tasks that may be claimed, ends it and sends its items. False where none may be.
+    fn run_first(&mut self, alloc: Global, tasks: &[TaskId]) -> Result<bool, OutOfMemory> {
+        for t in tasks {
+            if self.claim(t)? {
+                let _ended = self.finish(t)?;
+                self.send_all(alloc, t)?;
+                return Ok(true);
+            }
+        }
+        Ok(false)
+    }
+
+    // Sends the items of a task, its write-backs first, if it has ended without a trap.
+    fn send_all(&mut self, alloc: Global, t: &TaskId) -> Result<(), OutOfMemory> {
+        let items = items_of(alloc, self.job.plan(), t)?;
+        for item in items.as_slice() {
+            let _sent = self.run.send(&self.job, item)?;
+        }
+        Ok(())
+    }
+
     /// The answer, once nothing more can happen.
     pub fn answer(self) -> Result<Option<Outcome>, OutOfMemory> {
+        Ok(self.job_and_answer()?.map(|(_job, outcome)| outcome))
+    }
+
+    /// The job and its answer, once nothing more can happen.
+    pub fn job_and_answer(self) -> Result<Option<(Matched, Outcome)>, OutOfMemory> {
         let Stepwise {
             job,
             given,
@@ -163,8 +201,34 @@ impl Stepwise {
         if !run.quiescent(&job) {
             return Ok(None);
         }
-        Ok(Some(run.answer(&job, given)?))
+        let outcome = run.answer(&job, given)?;
+        Ok(Some((job, outcome)))
     }
+}
+
+// The tasks of a plan, the last one first.
+fn tasks_backwards(alloc: Global, plan: &Plan) -> Result<Vec<TaskId>, OutOfMemory> {
+    let mut tasks = Vec::new(alloc);
+    for task in all_tasks(plan) {
+        tasks.push(task)?;
+    }
+    tasks.reverse();
+    Ok(tasks)
+}
+
+// The items of a task, its write-backs first; none of what is no task.
+fn items_of(alloc: Global, plan: &Plan, t: &TaskId) -> Result<Vec<Item>, OutOfMemory> {
+    let mut items = Vec::new(alloc);
+    if !is_task(plan, t) {
+        return Ok(items);
+    }
+    for write in write_backs(plan, t) {
+        items.push(Item::Write(write))?;
+    }
+    for edge in out_edges(plan, t) {
+        items.push(Item::Edge(edge))?;
+    }
+    Ok(items)
 }
 
 /// The answer of a job as one thread finds it; nothing if the job is not consistent.
