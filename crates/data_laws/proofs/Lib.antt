@@ -5,3 +5,4 @@ pub mod OneMore
 pub mod FirstCodes
 pub mod AllRecords
 pub mod Faults
+pub mod Integers

@@ -1,3 +1,4 @@
 pub mod WholeRecords
 pub mod Codes
 pub mod WholeTexts
+pub mod Integers

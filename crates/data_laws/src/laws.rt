@@ -1,6 +1,11 @@
 //! Laws of the data and the first fault of a text, from the whole list of its records.
 
+ghost use Rattle.std.specs.Prelude.{◌≡◌, ℕ, IsTrue, List, Ok};
+ghost use Rattle.std.specs.List.{list_all};
+ghost use Rattle.coll_data.specs.Data.{Data};
+ghost use Rattle.data_read.specs.Reading.{data_of};
 ghost use Rattle.data_laws.specs.Codes.{FaultAtStartIsFirstCode, FaultIsFirstCode};
+ghost use Rattle.data_laws.specs.Integers.{has_64_bits};
 ghost use Rattle.data_laws.specs.WholeTexts.{DataAreByRecords, FaultIsFirst};
 
 /// A law: the fault of a record is the first code that fits it, and a record that none fits has no fault.
@@ -17,4 +22,9 @@ pub fn data_are_by_records()
 /// A law: the fault of a text is that of the first record that a code fits, and no record after it matters.
 pub fn faults_are_first()
     ensures { FaultIsFirst }
+{}
+
+/// A law: the integers of data have 64 bits.
+pub fn integers_have_64_bits()
+    ensures { (text : List ℕ) (given : Data) → data_of text ≡ Ok given → IsTrue (list_all has_64_bits given.ints) }
 {}

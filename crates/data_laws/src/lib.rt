@@ -3,4 +3,6 @@
 
 mod laws;
 
-pub use laws::{data_are_by_records, faults_are_first, the_first_code_is_the_fault};
+pub use laws::{
+    data_are_by_records, faults_are_first, integers_have_64_bits, the_first_code_is_the_fault,
+};

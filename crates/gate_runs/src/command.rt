@@ -3,8 +3,8 @@
 
 use crate::begun::Begun;
 use ptg_base::Text;
-use ptg_os::{OsFiles, OsSink};
-use ptg_top::{Status, ptg_main};
+use ptg_process::carry_out;
+use ptg_top::Status;
 use std::alloc::Global;
 use std::io;
 use std::process::ExitCode;
@@ -18,10 +18,8 @@ pub fn carried_out<R: Threads + Wait + Files + Print + Sync>(
     alloc: Global,
     words: &[Text],
 ) -> ExitCode {
-    let mut files = OsFiles::new(rt, alloc);
-    let mut out = OsSink::new(io::writer(rt));
     let gate = Begun::new();
-    let ended = ptg_main(rt, alloc, words, &mut files, &mut out, &gate);
+    let ended = carry_out(rt, alloc, words, io::writer(rt), &gate);
     let bodies = gate.bodies();
     if ended.status == Status::OutOfMemory && bodies > 0 {
         // A line that can't be written gives way to a status that no run without memory has.
@@ -29,5 +27,5 @@ pub fn carried_out<R: Threads + Wait + Files + Print + Sync>(
             return ExitCode::FAILURE;
         }
     }
-    ExitCode::from(ended.status.code())
+    ended.status.exit_code()
 }

@@ -1,7 +1,7 @@
 //! Runs jobs through the program with gates that wait, count or note, and prints how each run ends. Two bodies at once
 //! show that there are two threads, a count of the bodies of each task that each is run once, and the notes of the
-//! tasks of one worker that `trace` prints them in their order. What `trace` prints is replayed. With arguments it is the program with a gate that
-//! counts bodies.
+//! tasks of one worker that `trace` prints them in their order. What `trace` prints is replayed. With arguments it is
+//! the program with a gate that counts bodies.
 #![tactic(auto)]
 
 mod begun;
@@ -148,6 +148,6 @@ fn main(rt: HostRuntime) -> ExitCode {
             Err(_) => ExitCode::FAILURE,
         },
         Ok(words) => carried_out(&rt, alloc, words.as_slice()),
-        Err(OutOfMemory) => ExitCode::from(Status::OutOfMemory.code()),
+        Err(OutOfMemory) => Status::OutOfMemory.exit_code(),
     }
 }

@@ -1,3 +1,4 @@
 pub mod WellData
 pub mod Always
 pub mod Judged
+pub mod Spelled

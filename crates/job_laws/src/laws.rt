@@ -1,6 +1,7 @@
 //! Laws of the verdict on two texts.
 
 ghost use Rattle.job_laws.specs.Laws.{SomeVerdict, SomeVerdictOfJob, JdfIsJudgedAlone, DataFitPlan};
+ghost use Rattle.job_laws.specs.Spelled.{NamesAreSpelled, ParametersHave64Bits};
 
 /// A law: the text of a JDF and the text of its data denote a verdict, whatever their bytes are; and so does each JDF
 /// within the limits of its text, with data that are well made.
@@ -17,4 +18,11 @@ pub fn the_jdf_is_judged_alone()
 /// A law: the data of a consistent plan are those that it was resolved with.
 pub fn the_data_fit_the_plan()
     ensures { DataFitPlan }
+{}
+
+/// A law: in a consistent job of two texts the names of classes are spelled as names, and the parameters of tasks have
+/// 64 bits.
+pub fn jobs_are_spelled()
+    ensures names { NamesAreSpelled }
+    ensures params { ParametersHave64Bits }
 {}

@@ -19,3 +19,4 @@ pub mod Lexing
 pub mod Lexable
 pub mod Tokens
 pub mod Back
+pub mod Spelled

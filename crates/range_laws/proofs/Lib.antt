@@ -1,1 +1,2 @@
 pub mod Progression
+pub mod Numbers

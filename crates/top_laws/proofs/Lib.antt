@@ -5,3 +5,4 @@ pub mod OneType
 pub mod Loaded
 pub mod Texts
 pub mod OverFiles
+pub mod Replays

@@ -1,3 +1,4 @@
 pub mod Known
 pub mod Meanings
 pub mod Settings
+pub mod Replays

@@ -1,6 +1,7 @@
 //! Laws of the meaning of a command, and of the bytes of a preload.
 
 ghost use Rattle.top_laws.specs.Meanings.{OneJob, OneMeaning, OneOutput, SomeMeaning, SomeOutput};
+ghost use Rattle.top_laws.specs.Replays.{TracesReplay};
 ghost use Rattle.top_laws.specs.Settings.{SeedsChangeNothing, ShardsChangeNothing, WorkersChangeNothing};
 ghost use Rattle.std.specs.Prelude.{◌≡◌, ◌+◌, ◌*◌, ℕ, [], ◌∷◌, length};
 ghost use Rattle.ptg_base.specs.Limits.{most_flows};
@@ -36,6 +37,12 @@ pub fn settings_change_nothing_else()
     ensures shards { ShardsChangeNothing }
     ensures workers { WorkersChangeNothing }
     ensures seeds { SeedsChangeNothing }
+{}
+
+/// A law: what `trace` prints of a job, within 16 MiB, `replay` takes with the same JDF and data: it denotes what `run`
+/// denotes without a preload, whatever the numbers of workers and shards.
+pub fn traces_replay()
+    ensures { TracesReplay }
 {}
 
 /// A law: where DEFAULT is the only type, each tile has as many numbers, and the bytes are a product.
