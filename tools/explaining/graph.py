@@ -1,12 +1,16 @@
 """The graph of a job, as the program `job_graph` prints it: crates/job_graph/README.md has its lines. Nothing of a JDF is evaluated here."""
+import fcntl
 import os
-import shutil
 import subprocess
 import sys
 from dataclasses import dataclass, field
 
 TOP = os.path.dirname(os.path.dirname(os.path.dirname(os.path.realpath(__file__))))
-PROGRAM = os.path.join(TOP, "crates", "job_graph", "out", "job_graph")
+sys.path.insert(0, os.path.join(TOP, "tools"))
+import built
+
+NAME = "job_graph"
+PROGRAM = built.program_of(NAME)
 # A graph of more lines, or one that takes longer, is not looked at as a whole.
 MOST_LINES = 300_000
 MOST_SECONDS = 60
@@ -56,55 +60,46 @@ class Task:
         return [it for it in self.ties if not it.inward and flow in (None, it.flow)]
 
 
-def newest(folder):
-    """When a file of a crate was last changed."""
-    times = [0.0]
-    for part in ("src", "specs", "proofs"):
-        for at, _, names in os.walk(os.path.join(folder, part)):
-            times += [os.path.getmtime(os.path.join(at, name)) for name in names]
-    return max(times)
-
-
-def is_new():
-    """Whether the program is there and newer than all that it is made from."""
-    lines = {}
-    with open(os.path.join(TOP, "crates.txt"), encoding="utf-8") as file:
-        for line in file:
-            name, _, libraries = line.split("#")[0].partition(":")
-            if name.strip():
-                lines[name.split()[0]] = libraries.split()
-    if not os.access(PROGRAM, os.X_OK):
-        return False
-    found = ["job_graph"]
-    for name in found:
-        found += [it for it in lines.get(name, []) if it in lines and it not in found]
-    made = os.path.getmtime(PROGRAM)
-    return all(newest(os.path.join(TOP, "crates", name)) <= made for name in found)
-
-
-def can_be_built():
-    folder = os.path.join(TOP, "crates", "job_graph")
-    out = os.path.join(folder, "out")
-    return bool(shutil.which("rt")) and os.access(out if os.path.isdir(out) else folder, os.W_OK)
-
-
 def program():
-    """The program `job_graph`, which is built where that is needed and possible, or None. PTG_JOB_GRAPH names another one."""
-    if os.environ.get("PTG_JOB_GRAPH"):
-        return os.environ["PTG_JOB_GRAPH"]
+    """The program `job_graph`, or None where none is there that was made from the sources as they are. PTG_JOB_GRAPH names another one.
+
+    Nothing is built here."""
+    named = os.environ.get("PTG_JOB_GRAPH")
+    if named:
+        return named
     try:
-        if is_new():
-            return PROGRAM
-        if not can_be_built():
-            return None
-        print("job_graph, which lists the edges of a job, is proved and built first", file=sys.stderr, flush=True)
-        if subprocess.run([os.path.join(TOP, "tools", "build"), "job_graph"], stdin=subprocess.DEVNULL, check=False).returncode:
-            return None
-        # (a program that sums found unchanged is as new as what it is made from)
-        os.utime(PROGRAM)
+        return PROGRAM if built.is_fresh(NAME) else None
     except OSError:
         return None
-    return PROGRAM
+
+
+def missing():
+    """What is said where the program is not there."""
+    named = os.environ.get("PTG_JOB_GRAPH")
+    if named:
+        return f"PTG_JOB_GRAPH names {named}, which is no program"
+    if built.is_installed():
+        return f"job_graph, which lists the edges of a job, was not installed with ptg from {built.installed_from()}: build it there, and install again"
+    if is_being_built():
+        return "job_graph, which lists the edges of a job, is being built now, at the lowest priority"
+    return f"job_graph, which lists the edges of a job, is not built: {os.path.join(TOP, 'tools', 'build')} {NAME} builds it"
+
+
+def is_being_built():
+    """Whether a command of the kit, or a build, works in the crate of the program."""
+    try:
+        folder = os.open(os.path.join(TOP, "crates", NAME), os.O_RDONLY)
+    except OSError:
+        return False
+    try:
+        fcntl.flock(folder, fcntl.LOCK_SH | fcntl.LOCK_NB)
+        return False
+    except BlockingIOError:
+        return True
+    except OSError:  # (some file systems have no locks)
+        return False
+    finally:
+        os.close(folder)
 
 
 def tie_of(fields):
