@@ -79,4 +79,4 @@ def short(table):
     """What is said where there are no arguments."""
     lines = [SENTENCE, "", "usage:"]
     lines += [f"  ptg {it.form(table.options)}" for it in table.verbs]
-    return lines + ["", "ptg help [VERB] says more; ptg --version says what stands here."]
+    return lines + ["", "ptg help [VERB] says more; ptg --version says whether the program is proved."]
