@@ -86,7 +86,8 @@ def wrong_words(table):
 
 
 def wrong_documents(table):
-    for path, _ in table.documents:
+    paths = [it for it, _ in table.documents] + [os.path.join("tools", form.split()[0]) for form, _ in table.tools]
+    for path in paths:
         if not os.path.exists(os.path.join(TOP, path)):
             yield f"tools/help/table.txt: there is no {path}"
     examples = [word for verb in table.verbs for it in verb.examples for word in it.split() if "/" in word]

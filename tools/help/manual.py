@@ -53,6 +53,14 @@ def examples(table):
     return lines + [".EE"]
 
 
+def tools(table):
+    lines = []
+    for typed, what in table.tools:
+        name, _, words = typed.partition(" ")
+        lines += entry(f"ptg-{name.replace('_', '-')} {words}", what)
+    return lines
+
+
 def page(table):
     """The lines of the page."""
     lines = ['.\\" Made by tools/help/say --man from tools/help/table.txt.', '.TH PTG 1 "" "" "User commands"']
@@ -66,4 +74,5 @@ def page(table):
     lines += [".SH ENVIRONMENT"] + [it for pair in table.variables for it in entry(*pair)]
     lines += [".SH EXIT STATUS"] + [it for pair in table.statuses for it in entry(*pair)]
     lines += [".SH EXAMPLES", "In the folder of ptg, which \\fBptg help\\fR names with its documents:", ".PP"] + examples(table)
+    lines += [".SH TOOLS", "Installed beside \\fBptg\\fR:"] + tools(table)
     return lines + [".SH SEE ALSO", "\\fBptg help\\fR, which says where the documents are."]

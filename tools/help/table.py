@@ -4,7 +4,7 @@ from dataclasses import dataclass, field
 
 HERE = os.path.dirname(os.path.realpath(__file__))
 # How many fields a line of each kind has after its kind.
-FIELDS = {"verb": 4, "more": 2, "example": 2, "operand": 2, "option": 6, "script": 2, "variable": 2, "status": 2, "document": 2}
+FIELDS = {"verb": 4, "more": 2, "example": 2, "operand": 2, "option": 6, "script": 2, "variable": 2, "status": 2, "tool": 2, "document": 2}
 
 
 @dataclass
@@ -51,7 +51,7 @@ class Table:
         self.options = {it[0]: Option(*it) for it in of_kind(lines, "option")}
         self.operands = dict(of_kind(lines, "operand"))
         self.script, self.variables = of_kind(lines, "script"), of_kind(lines, "variable")
-        self.statuses, self.documents = of_kind(lines, "status"), of_kind(lines, "document")
+        self.statuses, self.tools, self.documents = of_kind(lines, "status"), of_kind(lines, "tool"), of_kind(lines, "document")
 
     def verb(self, name):
         return next((it for it in self.verbs if it.name == name), None)

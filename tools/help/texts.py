@@ -2,6 +2,8 @@
 import os
 import textwrap
 
+import built
+
 WIDTH = 79
 SENTENCE = "ptg checks and runs task graphs in PaRSEC's JDF notation."
 
@@ -46,6 +48,13 @@ def options(table, names, verbs_too):
     return rows(pairs)
 
 
+def command(form, top):
+    """A tool as it is typed: its path in a checkout, its command where it is installed."""
+    name, _, words = form.partition(" ")
+    path = f"ptg-{name.replace('_', '-')}" if built.is_installed(top) else os.path.join(top, "tools", name)
+    return f"{path} {words}"
+
+
 def whole(table, top):
     """The help."""
     lines = [SENTENCE, "", "usage: ptg VERB ..", "", "Verbs, and what they print:"]
@@ -56,6 +65,7 @@ def whole(table, top):
     lines += ["", "Without a proof:"] + rows(table.script[-1:])
     lines += ["", "Variables of the environment:"] + rows(table.variables)
     lines += ["", "Exit statuses:"] + rows(table.statuses)
+    lines += ["", "Tools:"] + rows([(command(form, top), what) for form, what in table.tools])
     lines += ["", "Documents:"] + rows([(os.path.join(top, path), what) for path, what in table.documents], widest=60)
     return lines + ["", "ptg help VERB says more of a verb."]
 
