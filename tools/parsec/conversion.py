@@ -6,10 +6,9 @@ from parsec.converting import Converter
 from parsec.defaults import take_defaults
 from parsec.job import Job
 from parsec.notes import Fault, Notes
-from parsec.own_text import is_own_text
+from parsec.own_text import MOST_BYTES, is_own_text
 from parsec.reader import Reader
 from parsec.scanner import Scanner
-from parsec.tile_types import types_fit
 
 MARK = "\ufeff"
 # An expression nests at most as deep as it has tokens, and each level takes some calls.
@@ -28,19 +27,19 @@ class Conversion:
         self.is_own = False
 
     def run(self, program):
+        self.is_own = is_own_text(self.content)
         text = self.decoded()
         tokens = self.scanned(text)
-        file = Reader(tokens, text, self.notes).read()
+        file = Reader(tokens, text, self.notes, self.is_own).read()
         if not file.classes and not self.notes.refusals():
             self.notes.refuse(1 + text.count("\n"), "The file has no class.", "A class is `Name(parameters)` and what belongs to it.")
-        own = is_own_text(self.content) and types_fit(file) and self.settings.bodies is None and not self.settings.guard_ranges
-        self.is_own = own and not self.notes.refusals()
         take_defaults(file, self.settings, self.notes)
         try:
             self.convert(file, tokens, program)
         except Fault as fault:
             self.notes.refuse_fault(fault)
             self.jdf = self.data = None
+            self.outcome = Outcome.REFUSED
         return self
 
     def decoded(self):
@@ -52,7 +51,7 @@ class Conversion:
         return text
 
     def scanned(self, text):
-        scanner = Scanner(text)
+        scanner = Scanner(text, is_own=self.is_own)
         try:
             return scanner.scan()
         except Fault as fault:
@@ -61,44 +60,38 @@ class Conversion:
             return scanner.tokens
 
     def convert(self, file, tokens, program):
-        notes = Notes() if self.is_own else self.notes
-        converter = Converter(file, tokens, self.settings, notes)
+        notes = Notes()
+        converter = Converter(file, tokens, self.settings, notes, self.is_own)
         converter.convert()
-        if self.is_own:
-            self.say_skipped(file)
-            self.jdf = self.content
-            if notes.refusals():
-                self.say_own_refusals(notes)
-                return
-        elif notes.refusals():
+        if self.is_own and notes.refusals():
+            self.keep_without_data(notes)
             return
-        else:
-            self.jdf = self.encoded(converter.edits.applied())
+        self.notes.take(notes)
+        if self.notes.refusals():
+            return
+        self.jdf = self.encoded(converter.writer.edits.applied())
+        if len(self.jdf) > MOST_BYTES:
+            raise Fault(1, f"The file would have {len(self.jdf)} bytes; `ptg` takes at most {MOST_BYTES}.", "Remove comments, or make two files.")
+        if self.jdf == self.content:
+            self.notes.kept(1, "This file is `ptg`'s own JDF: it is written as it is.")
         job = Job(converter, self.jdf, self.settings, self.notes)
-        data, self.verdict = job.make(program, self.settings.bodies != "none" and not self.is_own)
+        stamps = not self.is_own or self.settings.bodies == "stamp"
+        data, self.verdict = job.make(program, stamps and self.settings.bodies != "none")
+        if self.verdict and self.verdict.status in (2, 3):
+            self.notes.refuse(1, f"`ptg` refuses what would be written: {self.verdict.text}.", "Its line is one of this file, or its row one of the data.")
         if self.notes.refusals():
             self.jdf = None
             return
         if data is not None:
             self.data = data.encode()
         self.outcome = Outcome.ASKED if job.is_asked else Outcome.DONE
-        if self.verdict and self.verdict.status in (2, 3):
-            self.notes.refuse(1, f"`ptg` refuses what was written: {self.verdict.text}.", "Look at this place of the JDF that was written, or at this row of the data.")
-            self.outcome = Outcome.REFUSED
 
-    def say_own_refusals(self, notes):
-        """The text is `ptg`'s own, and means nothing there: no data is made."""
+    def keep_without_data(self, notes):
+        """The text is `ptg`'s own, and its names mean nothing there: it is written as it is, and no data is made."""
+        self.jdf, self.outcome = self.content, Outcome.ASKED
         for (kind, text), lines in notes.said.items():
-            for line in lines:
-                if kind == "refused":
-                    self.notes.decide(line, f"No data is written: {text}")
-        self.outcome = Outcome.ASKED
-
-    def say_skipped(self, file):
-        """What `ptg` skips in a file that is its own."""
-        for skip in file.skips:
-            self.notes.kept(skip.line, f"{skip.what[:1].upper()}{skip.what[1:]}: `ptg` skips it unread.")
-        self.notes.kept(1, "This file is `ptg`'s own JDF: it is written as it is.")
+            for line in lines if kind == "refused" else []:
+                self.notes.decide(line, f"No data is written: {text}")
 
     def encoded(self, text):
         """The bytes of a new text. What is no UTF-8 in comments becomes `?`."""

@@ -7,7 +7,7 @@ from parsec.sizes import Search
 
 class Job:
     def __init__(self, converter, jdf, settings, notes):
-        self.names, self.plan, self.products = converter.names, converter.plan, converter.products
+        self.names, self.plan, self.products = converter.names, converter.plan, converter.products.sizes
         self.file, self.jdf, self.settings, self.notes = converter.file, jdf, settings, notes
         self.is_asked = False
         self.types = self.kept_types()

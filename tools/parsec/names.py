@@ -29,6 +29,17 @@ class Names:
         self.taken.add(found)
         return found
 
+    def all(self):
+        """All globals, those that the file declares and the others."""
+        return set(self.declared) | set(self.undeclared) | set(self.made.values())
+
+    def state(self):
+        return dict(self.made), dict(self.undeclared), set(self.taken), dict(self.numbers)
+
+    def restore(self, state):
+        """Forgets the names that were made since."""
+        self.made, self.undeclared, self.taken, self.numbers = (it.copy() for it in state)
+
     def added(self):
         """Globals that the file does not declare."""
         return list(self.undeclared) + [it for it in self.made.values() if it not in self.declared]

@@ -41,6 +41,12 @@ class Notes:
     def refuse_fault(self, fault):
         self.refuse(fault.line, fault.wrong, fault.advice)
 
+    def take(self, other):
+        """Takes over the notes of another."""
+        for (kind, text), lines in other.said.items():
+            for line in lines:
+                self.say(kind, line, text)
+
     def refusals(self):
         return sum(kind == "refused" for kind, _ in self.said)
 

@@ -2,7 +2,7 @@
 from dataclasses import dataclass
 
 from parsec.own_expressions import OwnWalk
-from parsec.own_tokens import RESERVED, NotOwn, OwnToken, own_tokens
+from parsec.own_tokens import RESERVED, NotOwn, own_tokens
 
 BODY_WORDS = RESERVED | {"int", "if", "else", "for", "trap"}
 MOST_BLOCKS, MOST_VARIABLES = 32, 256
@@ -15,9 +15,9 @@ class OwnBody:
 
 
 class BodyReader:
-    """Reads a body. Without names (None) its form alone is looked at."""
+    """Reads a body with the names that it may use."""
 
-    def __init__(self, tokens, names=None):
+    def __init__(self, tokens, names):
         self.walk, self.names = OwnWalk(tokens, BODY_WORDS), names
         self.walk.on_name, self.walk.on_element = self.see_name, self.see_element
         self.blocks, self.variables, self.elements = [{}], 0, 1
@@ -39,11 +39,11 @@ class BodyReader:
         return next((block[name] for block in reversed(self.blocks) if name in block), None)
 
     def see_name(self, name):
-        if self.names and not self.variable(name) and name not in self.names["numbers"] and name not in self.names["locals"]:
+        if not self.variable(name) and name not in self.names["numbers"] and name not in self.names["locals"]:
             raise NotOwn
 
     def see_element(self, name, index, is_assigned):
-        if self.names and self.names["flows"].get(name, "CTL") in (("CTL", "READ") if is_assigned else ("CTL",)):
+        if self.names["flows"].get(name, "CTL") in (("CTL", "READ") if is_assigned else ("CTL",)):
             raise NotOwn
         if len(index) == 1 and index[0].text.isdigit():
             self.elements = max(self.elements, int(index[0].text) + 1)
@@ -112,7 +112,7 @@ class BodyReader:
             walk.expression()
             walk.take_text("]")
             self.see_element(name, walk.tokens[begin : walk.at - 1], True)
-        elif self.names and self.variable(name) != "variable":
+        elif self.variable(name) != "variable":
             raise NotOwn
         walk.take_text("=")
         walk.expression()
@@ -127,11 +127,3 @@ def own_body(text, planned, numbers):
     except NotOwn:
         return None
 
-
-def is_own_form(tokens):
-    """Whether the tokens of a body have the form of `ptg`'s language."""
-    try:
-        BodyReader(tokens + [OwnToken("end", "")]).read()
-        return True
-    except NotOwn:
-        return False

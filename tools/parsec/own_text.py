@@ -1,5 +1,4 @@
-"""Whether a file is `ptg`'s own JDF already: then it goes through unchanged."""
-from parsec.own_bodies import is_own_form
+"""Whether a text is `ptg`'s own JDF: whether `show` accepts it. Such a text is changed only where `run` would refuse it."""
 from parsec.own_expressions import OwnWalk
 from parsec.own_tokens import NotOwn, own_tokens
 
@@ -139,17 +138,14 @@ class FileReader:
         walk = self.walk
         walk.take_text("BODY")
         self.properties()
-        begin = walk.at
         while not walk.sees("END"):
             if walk.take().kind not in ("name", "number", "mark"):
                 raise NotOwn
-        if not is_own_form(walk.tokens[begin : walk.at]):
-            raise NotOwn
         walk.take()
 
 
 def is_own_text(content):
-    """Whether these bytes are `ptg`'s own JDF, as far as grammar and limits tell."""
+    """Whether `show` accepts these bytes."""
     if len(content) > MOST_BYTES:
         return False
     try:

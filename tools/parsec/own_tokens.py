@@ -1,9 +1,11 @@
 """The tokens of `ptg`'s own JDF, exactly as docs/language.md has them."""
+import re
 from dataclasses import dataclass
 
+BLANKS, WORD = re.compile(r"[ \t\r\n]+"), re.compile(r"[A-Za-z0-9_]*")
 LETTERS = frozenset("ABCDEFGHIJKLMNOPQRSTUVWXYZabcdefghijklmnopqrstuvwxyz_")
 DIGITS = frozenset("0123456789")
-MARKS = ("..", "<-", "->", "==", "!=", "<=", ">=", "&&", "||") + tuple("()[]{},;:?=+-*/%<>&|!")
+MARKS = frozenset(["..", "<-", "->", "==", "!=", "<=", ">=", "&&", "||"] + list("()[]{},;:?=+-*/%<>&|!"))
 RESERVED = frozenset(("extern", "BODY", "END", "READ", "WRITE", "RW", "CTL", "NEW", "NULL"))
 MOST_TOKENS = 1_000_000
 
@@ -19,9 +21,7 @@ class OwnToken:
 
 
 def end_of_word(text, at):
-    while at < len(text) and (text[at] in LETTERS or text[at] in DIGITS):
-        at += 1
-    return at
+    return WORD.match(text, at).end()
 
 
 def after(text, piece, start):
@@ -49,10 +49,10 @@ def next_token(text, at):
     """The kind of what begins at a place, and where it ends."""
     first = text[at]
     if first in " \t\r\n":
-        return None, at + 1
-    if text.startswith("//", at):
+        return None, BLANKS.match(text, at).end()
+    if first == "/" and text.startswith("//", at):
         return None, end_of_line(text, at)
-    if text.startswith("/*", at):
+    if first == "/" and text.startswith("/*", at):
         return None, after(text, "*/", at + 2)
     if first in LETTERS:
         return "name", end_of_word(text, at)
@@ -60,11 +60,11 @@ def next_token(text, at):
         return "number", end_of_word(text, at)
     if first == '"':
         return "quoted", end_of_quoted(text, at)
-    if text.startswith("%{", at):
+    if first == "%" and text.startswith("%{", at):
         return "raw", after(text, "%}", at + 2)
-    if text.startswith("%option", at) and end_of_word(text, at + 1) == at + 7:
+    if first == "%" and text.startswith("%option", at) and end_of_word(text, at + 1) == at + 7:
         return "option", end_of_line(text, at)
-    return next(((("mark", at + len(it)) for it in MARKS if text.startswith(it, at))), ("other", at + 1))
+    return next((("mark", at + size) for size in (2, 1) if text[at : at + size] in MARKS), ("other", at + 1))
 
 
 def own_tokens(text):

@@ -9,10 +9,14 @@ OPERATORS = frozenset("? == != < <= > >= && || & | ^ + - * / % << >> .".split())
 
 
 class Reader:
-    def __init__(self, tokens, text, notes):
-        self.walk, self.text, self.notes = Walk(tokens), text, notes
+    def __init__(self, tokens, text, notes, is_own):
+        self.walk = Walk([it for it in tokens if it.kind != "hash"])
+        self.text, self.notes, self.is_own = text, notes, is_own
         self.expressions = expressions.Reader(self.walk, text)
         self.file = File(text)
+        for token in tokens:
+            if token.kind == "hash":
+                self.read_hash(token)
 
     def read(self):
         while not self.walk.is_over():
@@ -33,8 +37,6 @@ class Reader:
         token = walk.now()
         if token.kind == "option":
             self.skip("an option line", walk.take())
-        elif token.kind == "hash":
-            self.read_hash()
         elif token.kind == "raw":
             self.skip("a prologue of C", walk.take())
         elif token.text == "extern":
@@ -61,8 +63,7 @@ class Reader:
             raise Fault(first.line, f"{self.walk.now().shown()} stands where the block of `extern` is expected.", 'Write `extern "C" %{ .. %}`.')
         self.skip("an extern block", first, self.walk.take())
 
-    def read_hash(self):
-        token = self.walk.take()
+    def read_hash(self, token):
         word = token.text[1:].split()[:1]
         if word and word[0] in ("if", "ifdef", "ifndef", "elif", "else", "endif"):
             self.notes.refuse(token.line, f"`#{word[0]}` chooses a part of the file.", "Keep the part that is meant, and remove these lines.")
@@ -102,11 +103,15 @@ class Reader:
         tokens = []
         while depth:
             token = self.walk.now()
-            if token.kind in ("end", "body") or token.text in ("BODY", "END"):
+            if token.kind in ("end", "body") or (token.text in ("BODY", "END") and not self.is_own):
                 raise Fault(begin.line, "Properties begin here and have no end.", "Close them by `]`.")
             self.walk.take()
-            depth += {"[": 1, "]": -1}.get(token.text, 0) if token.kind == "mark" else 0
             tokens.append(token)
+            if token.kind == "mark" and token.text == "]":
+                # (in `ptg`'s own text the first `]` ends properties)
+                depth = 0 if self.is_own else depth - 1
+            elif token.kind == "mark" and token.text == "[":
+                depth += 1
         tokens.pop()
         for at, token in enumerate(tokens):
             if token.kind == "name" and at + 1 < len(tokens) and tokens[at + 1].text == "=":

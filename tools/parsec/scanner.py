@@ -1,13 +1,14 @@
 """The text of PaRSEC's JDF as tokens with their spots. Bodies are scanned as C: up to the END that stands in no string and no comment."""
+import re
 from dataclasses import dataclass
 
 from parsec.notes import Fault
 
-BLANKS = " \t\r\n\f\v"
+BLANKS = " \t\r\n"
+WORD, RUN_OF_BLANKS, PLAIN_C = re.compile(r"[A-Za-z0-9_]*"), re.compile(r"[ \t\r\n]*"), re.compile(r"[^A-Za-z0-9_/\"']+")
 LETTERS = frozenset("ABCDEFGHIJKLMNOPQRSTUVWXYZabcdefghijklmnopqrstuvwxyz_")
 DIGITS = frozenset("0123456789")
-# The longest first.
-MARKS = ["...", "..", "<<", ">>", "<-", "->", "==", "!=", "<=", ">=", "&&", "||"] + list("()[]{},;:?=+-*/%<>&|!.^~")
+MARKS = frozenset(["...", "..", "<<", ">>", "<-", "->", "==", "!=", "<=", ">=", "&&", "||"] + list("()[]{},;:?=+-*/%<>&|!.^~"))
 ACCESS = ("READ", "WRITE", "RW", "CTL")
 RESERVED = frozenset(("extern", "BODY", "END", "NEW", "NULL") + ACCESS)
 
@@ -34,9 +35,9 @@ class Token:
 class Scanner:
     """Scans a text, or a part of it that is C."""
 
-    def __init__(self, text, start=0, end=None, line=1, of_c=False):
+    def __init__(self, text, start=0, end=None, line=1, of_c=False, is_own=False):
         self.text, self.at, self.end, self.line = text, start, len(text) if end is None else end, line
-        self.of_c, self.tokens = of_c, []
+        self.of_c, self.is_own, self.tokens = of_c, is_own, []
 
     def scan(self):
         """All tokens, the last one of the kind `end`. An open comment, string or block is a Fault."""
@@ -75,21 +76,19 @@ class Scanner:
     def skip_blanks(self):
         """Skips blanks and comments; whether something follows."""
         while self.at < self.end:
-            if self.text[self.at] in BLANKS:
-                self.skip_to(self.at + 1)
-            elif self.starts("//"):
+            first = self.text[self.at]
+            if first in BLANKS:
+                self.skip_to(RUN_OF_BLANKS.match(self.text, self.at, self.end).end())
+            elif first == "/" and self.starts("//"):
                 self.skip_to(self.end_of_line())
-            elif self.starts("/*"):
+            elif first == "/" and self.starts("/*"):
                 self.skip_to(self.find("*/", self.at + 2, "A comment"))
             else:
                 return True
         return False
 
     def word_end(self, start):
-        at = start
-        while at < self.end and (self.text[at] in LETTERS or self.text[at] in DIGITS):
-            at += 1
-        return at
+        return WORD.match(self.text, start, self.end).end()
 
     def quoted_end(self):
         at = self.at + 1
@@ -112,14 +111,15 @@ class Scanner:
             return self.add("number", self.word_end(self.at))
         if first == '"':
             return self.add("quoted", self.quoted_end())
-        if self.starts("%{"):
+        if first == "%" and self.starts("%{"):
             return self.add("raw", self.find("%}", self.at + 2, "A block `%{`"))
-        if self.starts("%option") and self.word_end(self.at + 1) == self.at + 7:
+        if first == "%" and self.starts("%option") and self.word_end(self.at + 1) == self.at + 7:
             return self.add("option", self.end_of_line())
         if first == "#" and self.begins_line():
             return self.add("hash", self.hash_end())
-        for mark in MARKS:
-            if self.starts(mark) and not (self.of_c and mark == "<-"):
+        for size in (3, 2, 1):
+            mark = self.text[self.at : min(self.at + size, self.end)]
+            if mark in MARKS and not (self.of_c and mark == "<-"):
                 return self.add("mark", self.at + len(mark))
         return self.add("other", self.at + 1)
 
@@ -133,13 +133,12 @@ class Scanner:
 
     def take_body(self, begin):
         """Takes the properties behind BODY, the body as one token, and END."""
-        self.skip_blanks_of_body()
-        if self.starts("["):
+        if self.has_properties():
             depth = 0
             while self.skip_blanks():
                 token = self.take_next()
                 depth += {"[": 1, "]": -1}.get(token.text, 0)
-                if depth == 0:
+                if depth == 0 or (token.text == "]" and self.is_own):
                     break
         end = self.end_of_body()
         if end is None:
@@ -147,13 +146,12 @@ class Scanner:
         self.add("body", end)
         self.add("name", end + 3)
 
-    def skip_blanks_of_body(self):
-        """Skips blanks up to a `[` that may stand behind BODY; without one nothing is skipped."""
-        at = self.at
-        while at < self.end and self.text[at] in BLANKS:
-            at += 1
-        if at < self.end and self.text[at] == "[":
-            self.skip_to(at)
+    def has_properties(self):
+        """Whether a `[` stands behind BODY. C does not begin with one."""
+        at, line = self.at, self.line
+        found = self.skip_blanks() and self.text[self.at] == "["
+        self.at, self.line = at, line
+        return found
 
     def end_of_body(self):
         """The place of the END that ends a body, or None."""
@@ -166,7 +164,8 @@ class Scanner:
                     return at
                 at = end
             else:
-                at = self.after_piece_of_c(at)
+                plain = PLAIN_C.match(self.text, at, self.end)
+                at = plain.end() if plain else self.after_piece_of_c(at)
         return None
 
     def after_piece_of_c(self, at):

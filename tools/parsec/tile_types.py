@@ -66,14 +66,3 @@ def kept_types(file):
     kept = {root: found.copy().pop() if len(found) == 1 else None for root, found in of_group.items()}
     return {key: kept.get(groups.root(key)) or None for key in list(groups.parents)}
 
-
-def types_fit(file):
-    """Whether each type that a file names is that of its flow, of what the flow meets, and of its collections."""
-    kept = kept_types(file)
-    for cls in file.classes:
-        for flow in cls.flows:
-            for dependence in flow.dependences:
-                own = type_of(dependence)
-                if own is not None and (flow.kind() == "CTL" or own != kept[(cls.name.text, flow.name.text)]):
-                    return False
-    return True

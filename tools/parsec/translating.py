@@ -12,9 +12,9 @@ MOST_TERMS, MOST_TOKENS = 128, 512
 class Translator:
     """Translates the expressions of one class. `scope` has each definition so far, and whether it can't be negative."""
 
-    def __init__(self, names, values, notes, scope, later=()):
+    def __init__(self, names, values, notes, scope, later=(), is_own=False):
         self.names, self.values, self.notes, self.scope, self.later = names, values, notes, scope, frozenset(later)
-        self.of_c = False
+        self.is_own, self.of_c = is_own, False
 
     def outermost(self, node):
         """An outermost expression; refused where it is too long for `ptg`."""
@@ -58,7 +58,9 @@ class Translator:
             return node
         if name in self.later:
             raise Fault(node.line, f"`{name}` is used before its definition.", f"Move the definition of `{name}` up.")
-        if name not in self.names.declared and name not in self.names.made.values() and name not in self.names.undeclared:
+        if name not in self.names.all():
+            if self.is_own:
+                raise Fault(node.line, f"`{name}` is declared nowhere in this file.", f"Write `{name}` in a line before the first class.")
             self.names.undeclared[name] = node.line
             self.names.taken.add(name)
             self.notes.decide(node.line, f"`{name}` is declared nowhere in this file: it is a global now.")
@@ -87,7 +89,7 @@ class Translator:
         if node.text in ("<<", ">>"):
             return self.shift(node)
         left, right = self.node(node.parts[0]), self.node(node.parts[1])
-        if node.text in ("&", "|"):
+        if node.text in ("&", "|") and not self.is_own:
             return self.of_bits(node, left, right)
         return self.with_parts(node, [left, right])
 
