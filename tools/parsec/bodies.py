@@ -35,7 +35,7 @@ def statements_of_stamp(cls, taken):
         return [], left_out
     names = taken | cls.locals() | {it.name for it in cls.flows}
     total = fresh("sum", names)
-    found = [f"int {total} = {weight(cls.name)};"]
+    found = [f"int {total} = {weight('class ' + cls.name)};"]
     for name in cls.params:
         if name not in BODY_WORDS:
             found.append(f"{total} = ({total} + {name} % {MODULUS} * {weight('parameter ' + name)}) % {MODULUS};")
@@ -100,7 +100,7 @@ def laid_out(statements, line_count):
     if inner >= len(statements) + 2:
         lines = ["{"] + ["    " + it for it in statements] + ["}"]
     else:
-        pieces = statements[: inner - 1] + [" ".join(statements[inner - 1 :])]
-        pieces[0], pieces[-1] = "{ " + pieces[0], pieces[-1] + " }"
-        lines = pieces
+        lines = statements[: inner - 1] + [" ".join(statements[inner - 1 :])]
+        lines[0] = "{ " + lines[0]
+        lines[-1] += " }"
     return [""] + lines + [""] * (line_count - 1 - len(lines))

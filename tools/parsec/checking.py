@@ -48,8 +48,9 @@ class Checker:
     def task(self, flow, target, inward):
         name, other_name = target.name.text, target.flow.text
         receiver = next((it for it in self.file.classes if it.name.text == name), None)
-        if receiver is None:
+        if receiver is None and not self.file.is_broken:
             self.notes.refuse(target.line, f"There is no class `{name}`.", "Write the class, or the name of one.")
+        if receiver is None:
             return
         other = next((it for it in receiver.flows if it.name.text == other_name), None)
         if other is None:

@@ -30,7 +30,8 @@ class Conversion:
         self.is_own = is_own_text(self.content)
         text = self.decoded()
         tokens = self.scanned(text)
-        file = Reader(tokens, text, self.notes, self.is_own).read()
+        is_cut = bool(self.notes.refusals())
+        file = Reader(tokens, text, self.notes, self.is_own, is_cut).read()
         if not file.classes and not self.notes.refusals():
             self.notes.refuse(1 + text.count("\n"), "The file has no class.", "A class is `Name(parameters)` and what belongs to it.")
         take_defaults(file, self.settings, self.notes)

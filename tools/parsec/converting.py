@@ -77,8 +77,9 @@ class Converter:
         scope[name] = definition_cannot_be_negative(argument.parts, scope, self.settings.values)
 
     def of_affinity(self, cls, planned, scope):
-        if cls.affinity is None:
+        if cls.affinity is None and not cls.is_broken:
             self.notes.refuse(cls.name.line, f"`{cls.name.text}` does not say where its tasks run.", "Write `: COLLECTION(indices)` after its definitions.")
+        if cls.affinity is None:
             return
         planned.affinity = self.translator(scope).target(cls.affinity)
         self.writer.drop_properties(cls.affinity.properties, f"the place of `{cls.name.text}`")

@@ -78,7 +78,7 @@ class Flows:
 
     def say_properties(self, dependence, flow, kept):
         """Says what becomes of the properties of a dependence."""
-        for group in dependence.properties + [it for target in dependence.targets() for it in target.properties]:
+        for group in [it for target in dependence.targets() for it in target.properties] + dependence.properties:
             for it in group.items:
                 if it.key != "type":
                     self.notes.dropped(it.line, f"`[{it.key} = ..]` of a dependence: a tile is sent whole.")

@@ -43,6 +43,10 @@ class Job:
             if name in self.names.collections:
                 continue
             self.settings.used.add(name)
+            if any(name in inner for inner in self.products.values()) and name not in self.settings.values:
+                # (it was asked for with its collection)
+                self.is_asked = True
+                continue
             if name in self.settings.values:
                 found[name] = self.settings.values[name]
             elif name in self.names.numbers:
@@ -82,9 +86,7 @@ class Job:
         """The text of the data file, or None where something is asked for; and what `check` says of the job."""
         numbers = self.numbers()
         self.first_sizes()
-        products = [it for it in self.unknown if it in self.products]
-        if self.notes.refusals() or products:
-            self.is_asked = self.is_asked or bool(products)
+        if self.notes.refusals():
             return None, None
         if self.is_asked or (self.unknown and program is None):
             self.ask_sizes("no program `ptg` was found to look for them" if program is None else "they are looked for once all values are set")
@@ -99,7 +101,7 @@ class Job:
     def ask_sizes(self, why):
         for name in self.unknown:
             count, line = self.names.collections[name]
-            form = "x".join(["ROWS", "COLUMNS"][:count]) if count == 2 else "SIZE"
+            form = "SIZE" if count == 1 else "ROWSxCOLUMNS" if count == 2 else "x".join("N" * count)
             self.ask(line, f"The size of `{name}` is not known ({why}): --set {name}={form} gives it.")
 
     def say_sizes(self, verdict, why):

@@ -34,8 +34,9 @@ class Products:
             if given:
                 self.settings.values.setdefault(it, given[at])
         self.notes.changed(line, f"`{name}` has {count} indices: the last {count - 1} are one, with the sizes {', '.join(f'`{it}`' for it in inner)}.")
-        if given is None:
-            self.notes.decide(line, f"The sizes of `{name}` are not looked for: --set {name}={form} gives them.")
+        missing = [it for it in inner if it not in self.settings.values]
+        if missing:
+            self.notes.decide(line, f"The last sizes of `{name}` are not known: --set {name}={form} gives all its sizes, or --set {missing[0]}=VALUE this one.")
 
     def folded(self, target):
         """An element with two indices in the place of more. An index outside of its size is no place at all."""

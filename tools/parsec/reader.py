@@ -2,16 +2,18 @@
 from parsec import expressions
 from parsec.notes import Fault
 from parsec.scanner import ACCESS
-from parsec.tree import Body, Class, Definition, Dependence, File, Flow, Global, Guarded, Index, Priority, Properties, Property, Skip, Target
+from parsec.tree import Argument, Body, Class, Definition, Dependence, File, Flow, Global, Guarded, Index, Node, Priority, Properties, Property, Skip, Target
 from parsec.walk import Walk
 
 OPERATORS = frozenset("? == != < <= > >= && || & | ^ + - * / % << >> .".split())
 
 
 class Reader:
-    def __init__(self, tokens, text, notes, is_own):
+    """`is_cut` says that the text could not be scanned to its end: then nothing is said of that end."""
+
+    def __init__(self, tokens, text, notes, is_own, is_cut):
         self.walk = Walk([it for it in tokens if it.kind != "hash"])
-        self.text, self.notes, self.is_own = text, notes, is_own
+        self.text, self.notes, self.is_own, self.is_cut = text, notes, is_own, is_cut
         self.expressions = expressions.Reader(self.walk, text)
         self.file = File(text)
         for token in tokens:
@@ -24,11 +26,15 @@ class Reader:
             try:
                 self.read_item()
             except Fault as fault:
-                self.notes.refuse_fault(fault)
+                self.refuse(fault)
                 self.recover_at_class()
             if self.walk.at == before:
                 self.walk.take()
         return self.file
+
+    def refuse(self, fault):
+        if not (self.is_cut and self.walk.is_over()):
+            self.notes.refuse_fault(fault)
 
     # The top of a file.
 
@@ -78,6 +84,7 @@ class Reader:
 
     def recover_at_class(self):
         """Goes on behind the next END, or at a name that begins a line and is followed by `(`."""
+        self.file.is_broken = True
         walk = self.walk
         while not walk.is_over():
             token = walk.take()
@@ -145,7 +152,7 @@ class Reader:
             try:
                 return read(found)
             except Fault as fault:
-                self.notes.refuse_fault(fault)
+                self.refuse(fault)
                 self.recover_at_flow(before)
 
     def recover_at_flow(self, before):
@@ -182,7 +189,9 @@ class Reader:
                 walk.take()
                 if found.affinity:
                     raise Fault(token.line, "A second place for the tasks of this class.", "Keep one.")
+                found.is_broken = True
                 found.affinity = self.read_affinity()
+                found.is_broken = False
             else:
                 return
 
@@ -194,13 +203,27 @@ class Reader:
     def read_definition(self):
         name = self.walk.take()
         self.walk.take()
-        if self.walk.sees("["):
-            raise Fault(name.line, f"`{name.text}` is defined with indices of its own.", "Write it as one expression or one range.")
-        argument = self.expressions.argument()
+        try:
+            if self.walk.sees("["):
+                raise Fault(name.line, f"`{name.text}` is defined with indices of its own.", "Write it as one expression or one range.")
+            argument = self.expressions.argument()
+        except Fault as fault:
+            self.refuse(fault)
+            self.recover_at_definition()
+            return Definition(name, Argument([Node("number", "0", name.line, name.end, name.end)], name.line, name.end, name.end), [], [])
         properties, semicolons = self.read_properties(), []
         while self.walk.sees(";", ","):
             semicolons.append(self.walk.take())
         return Definition(name, argument, properties, semicolons)
+
+    def recover_at_definition(self):
+        """Goes on in the next line that begins with a definition, a place, a flow or a body."""
+        walk = self.walk
+        while not walk.is_over() and not (walk.now().kind == "name" and walk.now().text in ACCESS + ("BODY",)):
+            begins = walk.now().line > walk.last().line and (walk.sees(":", ";") or self.begins_definition() or self.begins_class())
+            if begins:
+                return
+            walk.take()
 
     def read_affinity(self):
         target = self.read_target()
@@ -231,7 +254,7 @@ class Reader:
             try:
                 flow.dependences.append(self.read_dependence())
             except Fault as fault:
-                self.notes.refuse_fault(fault)
+                self.refuse(fault)
                 self.recover_at_dependence()
 
     def recover_at_dependence(self):
@@ -251,8 +274,7 @@ class Reader:
             begin = self.walk.take()
             indices = self.read_indices()
             brackets = (begin.start, self.walk.last().end)
-        what = self.read_guarded()
-        properties = self.read_properties()
+        what, properties = self.read_guarded()
         if self.walk.sees(":"):
             raise Fault(self.walk.now().line, "`:` stands behind a target without a guard.", "A guard is `condition ? target : target`.")
         return Dependence(arrow, indices, what, properties, arrow.line, arrow.start, self.walk.last().end, brackets)
@@ -270,27 +292,25 @@ class Reader:
         return found
 
     def read_guarded(self):
-        """A target, or `c ? t`, or `c ? t : u`, where t and u may be guarded too."""
+        """A target, or `c ? t`, or `c ? t : u`, where t and u may be guarded too; and the properties behind it all."""
         depth = []
         while True:
             if self.begins_target():
-                what = self.read_target()
-                what.properties = self.read_properties()
+                what, properties = self.read_target(), self.read_properties()
                 break
             condition = self.expressions.guard()
             self.walk.take_mark("?", "after the guard of a dependence", "A dependence is `target`, `guard ? target` or `guard ? target : target`.")
             if not self.begins_target():
                 raise Fault(self.walk.now().line, f"{self.walk.now().shown()} stands where a target is expected.", "A guard with a `? :` of its own stands in parentheses.")
-            yes = self.read_target()
-            yes.properties = self.read_properties()
+            yes, what, properties = self.read_target(), None, self.read_properties()
             depth.append((condition, yes))
             if not self.walk.sees(":"):
-                what = None
                 break
+            yes.properties = properties
             self.walk.take()
         for condition, yes in reversed(depth):
             what = Guarded(condition, yes, what)
-        return what
+        return what, properties
 
     def begins_target(self):
         """Whether a target stands here, and no guard."""

@@ -146,6 +146,8 @@ class Class:
     # the spans of SIMCOST and its expression
     costs: list = field(default_factory=list)
     bodies: list = field(default_factory=list)
+    # its place was refused as it was read
+    is_broken: bool = False
 
 
 @dataclass
@@ -179,3 +181,5 @@ class File:
     globals: list = field(default_factory=list)
     classes: list = field(default_factory=list)
     skips: list = field(default_factory=list)
+    # some class could not be read at all
+    is_broken: bool = False
