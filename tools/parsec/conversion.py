@@ -76,8 +76,7 @@ class Conversion:
         if self.jdf == self.content:
             self.notes.kept(1, "This file is `ptg`'s own JDF: it is written as it is.")
         job = Job(converter, self.jdf, self.settings, self.notes)
-        stamps = not self.is_own or self.settings.bodies == "stamp"
-        data, self.verdict = job.make(program, stamps and self.settings.bodies != "none")
+        data, self.verdict = job.make(program, converter.has_stamps)
         if self.verdict and self.verdict.status in (2, 3):
             self.notes.refuse(1, f"`ptg` refuses what would be written: {self.verdict.text}.", "Its line is one of this file, or its row one of the data.")
         if self.notes.refusals():
@@ -90,6 +89,7 @@ class Conversion:
     def keep_without_data(self, notes):
         """The text is `ptg`'s own, and its names mean nothing there: it is written as it is, and no data is made."""
         self.jdf, self.outcome = self.content, Outcome.ASKED
+        self.settings.used |= set(self.settings.given)
         for (kind, text), lines in notes.said.items():
             for line in lines if kind == "refused" else []:
                 self.notes.decide(line, f"No data is written: {text}")

@@ -18,6 +18,7 @@ class Converter:
         self.writer, self.plan = Writer(file.text, notes, is_own), Plan()
         self.names = Names(file, {it.text for it in tokens if it.kind == "name"})
         self.products = Products(self.names, settings, notes)
+        self.has_stamps = False
         self.flows = Flows(file, self.names, settings, notes, self.writer, self.translator)
 
     def convert(self):
@@ -132,6 +133,7 @@ class Converter:
             statements, left_out = bodies.statements_of_stamp(planned, self.names.taken)
             for name in left_out:
                 self.notes.decide(body.begin.line, f"The stamp of `{planned.name}` leaves `{name}` out: no body can name it.")
+        self.has_stamps = self.has_stamps or bool(statements)
         old = body.text
         lines = bodies.laid_out(statements, old.text.count("\n") + 1)
         if old.text.replace("\r\n", "\n") == "\n".join(lines):

@@ -17,8 +17,8 @@ MOST_TOKENS = 512
 class Reader:
     """Reads expressions from a walk over tokens."""
 
-    def __init__(self, walk, text, of_c=False):
-        self.walk, self.text, self.of_c = walk, text, of_c
+    def __init__(self, walk, text, of_c=False, has_casts=True):
+        self.walk, self.text, self.of_c, self.has_casts = walk, text, of_c, has_casts
         self.levels = OF_C if of_c else OF_JDF
         self.first = None
 
@@ -88,7 +88,7 @@ class Reader:
 
     def is_cast(self):
         """Whether a type stands here in parentheses."""
-        if not self.walk.sees("("):
+        if not self.walk.sees("(") or not self.has_casts:
             return False
         close = self.walk.closing(0)
         if close is None or close == 1 or close > 6:

@@ -24,10 +24,10 @@ def in_parentheses(node):
 
 
 class Space:
-    """The parameters of the class that a target names, as expressions of the class that names it."""
+    """The parameters of the class that a target names, as expressions of the class that names it; and the conditions that hold already."""
 
-    def __init__(self, sender, receiver):
-        self.sender, self.receiver = sender, receiver
+    def __init__(self, sender, receiver, known):
+        self.sender, self.receiver, self.known = sender, receiver, known
         self.values, self.ranged, self.conditions = {}, set(), []
 
     def guard_and_arguments(self, target):
@@ -45,7 +45,8 @@ class Space:
                 self.values[name] = in_parentheses(arguments[name].parts[0])
         guard = None
         for condition in self.conditions:
-            guard = joined(guard, condition)
+            if rendering.shown(condition) not in self.known:
+                guard = joined(guard, condition)
         return guard, [arguments[it] for it in self.receiver.params]
 
     def seen_from_sender(self, node):
@@ -67,15 +68,14 @@ class Space:
         low, high = (parts[0], parts[1]) if step > 0 else (parts[1], parts[0])
         self.add(">=", value, low)
         self.add("<=", value, high)
-        if abs(step) > 1:
-            away = binary("-", in_parentheses(value), in_parentheses(parts[0]))
-            self.conditions.append(binary("==", binary("%", in_parentheses(away), number(abs(step), value)), number(0, value)))
+        if abs(step) > 1 and rendering.shown(value) != rendering.shown(parts[0]):
+            self.conditions.append(binary("==", binary("%", binary("-", value, parts[0]), number(abs(step), value)), number(0, value)))
 
     def add(self, operator, value, bound):
         """Adds a comparison that is not plainly so."""
         if rendering.shown(value) == rendering.shown(bound) or self.is_known(operator, value, bound):
             return
-        self.conditions.append(binary(operator, in_parentheses(value) if value.kind == "choice" else value, in_parentheses(bound) if bound.kind == "choice" else bound))
+        self.conditions.append(binary(operator, value, bound))
 
     def is_known(self, operator, value, bound):
         """Whether the value is a definition of the sender by a range with this very bound."""
@@ -96,7 +96,7 @@ class Space:
         """The bound where the value is beyond it."""
         if rendering.shown(value) == rendering.shown(bound):
             return value
-        condition = binary(operator, in_parentheses(value), in_parentheses(bound))
+        condition = binary(operator, value, bound)
         return Node("paren", "(", value.line, value.start, value.end, [Node("choice", "?", value.line, value.start, value.end, [condition, bound, value])])
 
 
@@ -107,7 +107,7 @@ def guarded(plan, sender, dependence, notes):
     if dependence.no is not None:
         cases.append((negated(dependence.guard), dependence.no))
     for condition, target in cases:
-        new_guard, new_target = guard_of(plan, sender, target, dependence.line, notes)
+        new_guard, new_target = guard_of(plan, sender, target, dependence.line, notes, terms_of(condition))
         changed = changed or new_guard is not None or new_target is not target
         found.append(PlanDependence(False, and_also(condition, new_guard), new_target, None, dependence.line, dependence.kept_type))
     return found if changed else [dependence]
@@ -116,15 +116,29 @@ def guarded(plan, sender, dependence, notes):
 def and_also(condition, guard):
     if condition is None or guard is None:
         return condition or guard
-    return joined(in_parentheses(condition), guard)
+    # (a chain of `&&` is joined from its first condition on, so that it needs no further parentheses)
+    if guard.kind == "binary" and guard.text == "&&":
+        return joined(and_also(condition, guard.parts[0]), guard.parts[1])
+    return joined(condition, guard)
 
 
-def guard_of(plan, sender, target, line, notes):
+def terms_of(condition):
+    """The conditions that are joined by `&&`, as texts."""
+    if condition is None:
+        return set()
+    if condition.kind == "paren":
+        return terms_of(condition.parts[0])
+    if condition.kind == "binary" and condition.text == "&&":
+        return terms_of(condition.parts[0]) | terms_of(condition.parts[1])
+    return {rendering.shown(condition)}
+
+
+def guard_of(plan, sender, target, line, notes, known):
     receiver = plan.class_named(target.name.text) if target.kind == "task" else None
     if receiver is None or len(receiver.params) != len(target.arguments):
         return None, target
     try:
-        guard, arguments = Space(sender, receiver).guard_and_arguments(target)
+        guard, arguments = Space(sender, receiver, known).guard_and_arguments(target)
     except NotGuarded as why:
         notes.decide(line, f"No guard is written for `{rendering.shown_target(target)}`: {why}.")
         return None, target

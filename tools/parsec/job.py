@@ -83,7 +83,8 @@ class Job:
         return data_text(elements, types, numbers, {name: (it, of_type.get(name)) for name, it in sizes.items()}, with_tiles)
 
     def make(self, program, with_tiles):
-        """The text of the data file, or None where something is asked for; and what `check` says of the job."""
+        """The text of the data file, with other opening values for all tiles or with zeros, or None where something is asked for; and what
+        `check` says of the job."""
         numbers = self.numbers()
         self.first_sizes()
         if self.notes.refusals():
@@ -94,7 +95,8 @@ class Job:
         verdict, why = None, ""
         if program:
             data_of = lambda sizes: self.data_of(sizes, numbers)
-            verdict, why = Search(program, self.jdf, self.plan, numbers, data_of, set(self.sizes) - set(self.unknown)).find(self.sizes)
+            search = Search(program, self.jdf, self.plan, numbers, data_of, set(self.unknown))
+            verdict, why = search.find(self.sizes)
         self.say_sizes(verdict, why)
         return self.data_of(self.sizes, numbers, with_tiles), verdict
 
@@ -105,8 +107,8 @@ class Job:
             self.ask(line, f"The size of `{name}` is not known ({why}): --set {name}={form} gives it.")
 
     def say_sizes(self, verdict, why):
-        if why:
-            self.notes.decide(1, f"The search for sizes ended: {why}.")
+        if why and self.unknown:
+            self.notes.decide(self.names.collections[self.unknown[0]][1], f"The search for sizes ended: {why}.")
         whole = verdict is not None and verdict.status == 0
         for name in self.unknown:
             size = " x ".join(map(str, self.sizes[name]))

@@ -14,7 +14,7 @@ class Reader:
     def __init__(self, tokens, text, notes, is_own, is_cut):
         self.walk = Walk([it for it in tokens if it.kind != "hash"])
         self.text, self.notes, self.is_own, self.is_cut = text, notes, is_own, is_cut
-        self.expressions = expressions.Reader(self.walk, text)
+        self.expressions = expressions.Reader(self.walk, text, has_casts=not is_own)
         self.file = File(text)
         for token in tokens:
             if token.kind == "hash":

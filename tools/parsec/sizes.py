@@ -23,10 +23,10 @@ class Verdict:
 
 
 class Search:
-    """`data_of(sizes)` gives the text of the data file for sizes of collections; those of `fixed` do not change."""
+    """`data_of(sizes)` gives the text of the data file for sizes of collections; those that are unknown are looked for."""
 
-    def __init__(self, program, jdf, plan, values, data_of, fixed):
-        self.program, self.jdf, self.plan, self.values, self.data_of, self.fixed = program, jdf, plan, values, data_of, fixed
+    def __init__(self, program, jdf, plan, values, data_of, unknown):
+        self.program, self.jdf, self.plan, self.values, self.data_of, self.unknown = program, jdf, plan, values, data_of, unknown
         self.begun, self.runs = time.monotonic(), 0
 
     def check(self, sizes):
@@ -53,10 +53,13 @@ class Search:
                 why = self.grow(verdict, sizes, grown)
                 if not why:
                     verdict = self.check(sizes)
+        except subprocess.TimeoutExpired:
+            return None, f"`check` took more than {MOST_SECONDS} seconds"
+        try:
             for name, at in sorted(grown):
                 self.shrink(name, at, sizes, verdict)
         except subprocess.TimeoutExpired:
-            return None, f"`check` took more than {MOST_SECONDS} seconds"
+            why = f"`check` took more than {MOST_SECONDS} seconds, and sizes may be larger than is needed"
         return verdict, why
 
     def grow(self, verdict, sizes, grown):
@@ -65,7 +68,7 @@ class Search:
         if place is None:
             return "the place can't be found"
         name, indices = place
-        if name in self.fixed:
+        if name not in self.unknown:
             return f"`{name}` has no place ({', '.join(map(str, indices))}) with the sizes of --set"
         if min(indices) < 0:
             return f"no size gives `{name}` the place ({', '.join(map(str, indices))})"
