@@ -18,18 +18,30 @@ class Checker:
                 self.names.undeclared[name] = target.line
                 self.notes.decide(target.line, f"`{name}` is declared nowhere in this file: it is a collection now.")
         if known[0] != count:
-            self.notes.refuse(target.line, f"`{name}` has {count} indices here and {known[0]} in line {known[1]}.", "Write the same number of indices everywhere.")
+            self.notes.refuse(
+                target.line,
+                f"`{name}` has {count} indices here and {known[0]} in line {known[1]}.",
+                "Write the same number of indices everywhere.",
+            )
         if not count:
             self.notes.refuse(target.line, f"`{name}` has no index.", "A collection has one or two indices.")
         for argument in target.arguments:
             if argument.is_range():
-                self.notes.refuse(argument.line, f"A range of elements of `{name}`: `ptg` takes one element in a dependence.", "Write a dependence for each element.")
+                self.notes.refuse(
+                    argument.line,
+                    f"A range of elements of `{name}`: `ptg` takes one element in a dependence.",
+                    "Write a dependence for each element.",
+                )
 
     def check_kinds(self):
         """Refuses collections that stand as a number."""
         for name, line in self.names.numbers.items():
             if name in self.names.collections:
-                self.notes.refuse(line, f"`{name}` is a collection in line {self.names.collections[name][1]} and stands as a number here.", "Give one of them another name.")
+                self.notes.refuse(
+                    line,
+                    f"`{name}` is a collection in line {self.names.collections[name][1]} and stands as a number here.",
+                    "Give one of them another name.",
+                )
 
     def target(self, flow, target, inward):
         kind = flow.kind()
@@ -43,7 +55,11 @@ class Checker:
             what = "an element of a collection" if target.kind == "element" else target.kind
             self.notes.refuse(target.line, f"The CTL flow `{flow.name.text}` names {what}.", "A CTL flow names CTL flows of tasks.")
         if kind == "WRITE" and inward and target.kind in ("task", "NULL"):
-            self.notes.refuse(target.line, f"The WRITE flow `{flow.name.text}` takes a tile from {'a task' if target.kind == 'task' else 'NULL'}.", f"Write `RW {flow.name.text}`.")
+            self.notes.refuse(
+                target.line,
+                f"The WRITE flow `{flow.name.text}` takes a tile from {'a task' if target.kind == 'task' else 'NULL'}.",
+                f"Write `RW {flow.name.text}`.",
+            )
 
     def task(self, flow, target, inward):
         name, other_name = target.name.text, target.flow.text
@@ -56,11 +72,23 @@ class Checker:
         if other is None:
             self.notes.refuse(target.line, f"`{name}` has no flow `{other_name}`.", "Write the name of one of its flows.")
         elif (other.kind() == "CTL") != (flow.kind() == "CTL"):
-            self.notes.refuse(target.line, f"`{flow.name.text}` is {flow.kind()} and `{other_name}` of `{name}` is {other.kind()}.", "A CTL flow and a flow with tiles do not meet.")
+            self.notes.refuse(
+                target.line,
+                f"`{flow.name.text}` is {flow.kind()} and `{other_name}` of `{name}` is {other.kind()}.",
+                "A CTL flow and a flow with tiles do not meet.",
+            )
         if len(receiver.params) != len(target.arguments):
-            self.notes.refuse(target.line, f"`{name}` has {len(receiver.params)} parameters, and {len(target.arguments)} arguments stand here.", "Write an argument for each parameter.")
+            self.notes.refuse(
+                target.line,
+                f"`{name}` has {len(receiver.params)} parameters, and {len(target.arguments)} arguments stand here.",
+                "Write an argument for each parameter.",
+            )
         if inward and flow.kind() != "CTL" and any(it.is_range() for it in target.arguments):
-            self.notes.refuse(target.line, "A data flow takes one tile: it has no range after `<-`.", "Write one source, or a CTL flow for the order alone.")
+            self.notes.refuse(
+                target.line,
+                "A data flow takes one tile: it has no range after `<-`.",
+                "Write one source, or a CTL flow for the order alone.",
+            )
 
 
 LIMITS = (("params", 8, "parameters"), ("definitions", 16, "definitions"), ("flows", 8, "flows"))

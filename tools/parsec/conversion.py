@@ -78,7 +78,11 @@ class Conversion:
         job = Job(converter, self.jdf, self.settings, self.notes)
         data, self.verdict = job.make(program, converter.has_stamps)
         if self.verdict and self.verdict.status in (2, 3):
-            self.notes.refuse(1, f"`ptg` refuses what would be written: {self.verdict.text}.", "Its line is one of this file, or its row one of the data.")
+            self.notes.refuse(
+                1,
+                f"`ptg` refuses what would be written: {self.verdict.text}.",
+                "Its line is one of this file, or its row one of the data.",
+            )
         if self.notes.refusals():
             self.jdf = None
             return

@@ -57,7 +57,11 @@ class Converter:
             self.of_definition(cls, planned, definition, scope)
         for name in cls.params:
             if name.text not in scope:
-                self.notes.refuse(name.line, f"The parameter `{name.text}` of `{cls.name.text}` has no definition.", f"Write a line `{name.text} = LOW .. HIGH`.")
+                self.notes.refuse(
+                    name.line,
+                    f"The parameter `{name.text}` of `{cls.name.text}` has no definition.",
+                    f"Write a line `{name.text} = LOW .. HIGH`.",
+                )
         self.of_affinity(cls, planned, scope)
         self.of_priority(cls, scope)
         return planned
@@ -69,7 +73,11 @@ class Converter:
             self.notes.refuse(definition.name.line, f"`{name}` is defined twice in `{cls.name.text}`.", "Give the second one another name.")
         argument = self.translator(scope, later).argument(definition.argument)
         if argument.is_range() and name not in planned.params:
-            self.notes.refuse(definition.name.line, f"`{name}` has a range and is no parameter of `{cls.name.text}`.", f"Write `{name}` among the parameters.")
+            self.notes.refuse(
+                definition.name.line,
+                f"`{name}` has a range and is no parameter of `{cls.name.text}`.",
+                f"Write `{name}` among the parameters.",
+            )
         self.writer.argument(definition.argument, argument)
         self.writer.drop_properties(definition.properties, f"the definition `{name}`")
         for mark in definition.semicolons:
@@ -79,7 +87,11 @@ class Converter:
 
     def of_affinity(self, cls, planned, scope):
         if cls.affinity is None and not cls.is_broken:
-            self.notes.refuse(cls.name.line, f"`{cls.name.text}` does not say where its tasks run.", "Write `: COLLECTION(indices)` after its definitions.")
+            self.notes.refuse(
+                cls.name.line,
+                f"`{cls.name.text}` does not say where its tasks run.",
+                "Write `: COLLECTION(indices)` after its definitions.",
+            )
         if cls.affinity is None:
             return
         planned.affinity = self.translator(scope).target(cls.affinity)

@@ -4,7 +4,7 @@ from dataclasses import replace
 from parsec import rendering, signs
 from parsec.notes import Fault
 from parsec.plan import PlanDependence
-from parsec.tree import Argument, Guarded, Node, Target
+from parsec.tree import Guarded, Node, Target
 
 MOST_DEPENDENCES = 16
 
@@ -68,7 +68,11 @@ class Indices:
         """An index whose range names another one is no range of a target."""
         for name, argument in self.ranges.items():
             for other in sorted(set().union(*[signs.names_in(it) for it in argument.parts]) & set(self.ranges)):
-                raise Fault(self.line, f"The range of the index `{name}` names the index `{other}`.", "Write a dependence with ranges that do not depend on one another.")
+                raise Fault(
+                    self.line,
+                    f"The range of the index `{name}` names the index `{other}`.",
+                    "Write a dependence with ranges that do not depend on one another.",
+                )
 
     def in_guard(self, node):
         node = with_names(node, self.values)
@@ -90,20 +94,40 @@ class Indices:
             arguments.append(replace(self.ranges[whole], start=argument.start, end=argument.end) if whole in self.ranges else argument)
             inside = sorted(set(names) & set(self.ranges)) if whole not in self.ranges else []
             if inside:
-                raise Fault(target.line, f"The index `{inside[0]}` is a part of an argument.", f"Write the range in its place: the values of `{rendering.shown_argument(argument)}`.")
+                raise Fault(
+                    target.line,
+                    f"The index `{inside[0]}` is a part of an argument.",
+                    f"Write the range in its place: the values of `{rendering.shown_argument(argument)}`.",
+                )
         self.check_use(target, used, inward, is_control)
         return Target(target.kind, target.flow, target.name, arguments, target.line, target.start, target.end, target.properties)
 
     def check_use(self, target, used, inward, is_control):
         for name, count in used.items():
             if count == 0:
-                raise Fault(target.line, f"The index `{name}` stands in no argument of `{target.name.text}`: it would name one edge again and again.", f"Remove `{name}`.")
+                raise Fault(
+                    target.line,
+                    f"The index `{name}` stands in no argument of `{target.name.text}`: it would name one edge again and again.",
+                    f"Remove `{name}`.",
+                )
             if count > 1:
-                raise Fault(target.line, f"The index `{name}` stands in {count} arguments of `{target.name.text}`: ranges would combine all their values.", "Write a dependence for each value, or a class between.")
+                raise Fault(
+                    target.line,
+                    f"The index `{name}` stands in {count} arguments of `{target.name.text}`: ranges would combine all their values.",
+                    "Write a dependence for each value, or a class between.",
+                )
         if used and target.kind == "element":
-            raise Fault(target.line, f"A range of elements of `{target.name.text}`: `ptg` takes one element in a dependence.", "Write a dependence for each element.")
+            raise Fault(
+                target.line,
+                f"A range of elements of `{target.name.text}`: `ptg` takes one element in a dependence.",
+                "Write a dependence for each element.",
+            )
         if used and inward and not is_control:
-            raise Fault(target.line, "A data flow takes one tile: it has no range after `<-`.", "Write one source, or a CTL flow for the order alone.")
+            raise Fault(
+                target.line,
+                "A data flow takes one tile: it has no range after `<-`.",
+                "Write one source, or a CTL flow for the order alone.",
+            )
 
 
 def all_names(node):
@@ -133,5 +157,3 @@ def planned(what, inward, line):
         return [PlanDependence(inward, what.condition, what.yes, what.no, line)]
     return [PlanDependence(inward, None, what, None, line)]
 
-
-__all__ = ["Argument", "Indices", "MOST_DEPENDENCES", "argument_with", "is_nested", "joined", "negated", "planned", "rendered", "with_names"]

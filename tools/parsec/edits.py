@@ -39,7 +39,11 @@ class Edits:
         pieces, at = [], 0
         for start, end, new in sorted(self.found, key=lambda it: (it[0], it[1])):
             if start < at:
-                raise Fault(1 + self.text.count("\n", 0, start), "Two changes meet here: this is a fault of the converter.", "Please report the file.")
+                raise Fault(
+                    1 + self.text.count("\n", 0, start),
+                    "Two changes meet here: this is a fault of the converter.",
+                    "Please report the file.",
+                )
             pieces += [self.text[at:start], new]
             at = end
         new = "".join(pieces) + self.text[at:]

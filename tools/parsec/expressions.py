@@ -202,7 +202,11 @@ def returned(text, token):
     if walk.sees(";"):
         walk.take()
     if not walk.is_over():
-        raise Fault(walk.now().line, f"{walk.now().shown()} stands behind the expression of this inline C.", "Write one expression, or give the value as a global.")
+        raise Fault(
+            walk.now().line,
+            f"{walk.now().shown()} stands behind the expression of this inline C.",
+            "Write one expression, or give the value as a global.",
+        )
     return node
 
 

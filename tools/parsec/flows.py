@@ -8,6 +8,8 @@ from parsec.signs import definition_cannot_be_negative
 from parsec.tile_types import kept_types
 from parsec.tree import Guarded
 
+NOT_ONE_TYPE = "not all dependences of its flow, and of the flows and collections that it meets, have this one type"
+
 
 class Flows:
     """`translator_of(scope)` gives the translator of expressions."""
@@ -58,7 +60,10 @@ class Flows:
             found = Indices(indices, dependence.line)
             found.check()
             what = self.without_indices(what, found, dependence.inward(), flow.kind() == "CTL")
-            self.notes.changed(dependence.line, f"The indices of the dependence are {'ranges of its target' if found.ranges else 'put into its target'}.")
+            self.notes.changed(
+                dependence.line,
+                f"The indices of the dependence are {'ranges of its target' if found.ranges else 'put into its target'}.",
+            )
         is_nested = dependences.is_nested(dependence.what)
         if is_nested:
             self.notes.changed(dependence.line, "Targets that are nested are a dependence each, with joined guards.")
@@ -89,7 +94,7 @@ class Flows:
             if flow.kind() == "CTL":
                 self.notes.dropped(group.line, f"`[type = {text}]` of a CTL flow, which has no tile.")
             elif not kept:
-                self.notes.changed(group.line, f"`[type = {text}]` is the default type: not all dependences of its flow, and of the flows and collections that it meets, have this one type.")
+                self.notes.changed(group.line, f"`[type = {text}]` is the default type: {NOT_ONE_TYPE}.")
             elif text.startswith('"'):
                 self.notes.changed(group.line, f"`[type = {text}]` is `[type = {kept}]`.")
 
@@ -110,7 +115,11 @@ class Flows:
             for flow in cls.flows:
                 count = len(flow.dependences)
                 if count > MOST_DEPENDENCES:
-                    self.notes.refuse(flow.line, f"The flow `{flow.name}` has {count} dependences; `ptg` takes at most {MOST_DEPENDENCES}.", "Write ranges, or make two flows.")
+                    self.notes.refuse(
+                        flow.line,
+                        f"The flow `{flow.name}` has {count} dependences; `ptg` takes at most {MOST_DEPENDENCES}.",
+                        "Write ranges, or make two flows.",
+                    )
 
     def write(self, products):
         for old, _, _, rows, is_whole in self.found:

@@ -97,7 +97,8 @@ class Space:
         if rendering.shown(value) == rendering.shown(bound):
             return value
         condition = binary(operator, value, bound)
-        return Node("paren", "(", value.line, value.start, value.end, [Node("choice", "?", value.line, value.start, value.end, [condition, bound, value])])
+        choice = Node("choice", "?", value.line, value.start, value.end, [condition, bound, value])
+        return Node("paren", "(", value.line, value.start, value.end, [choice])
 
 
 def guarded(plan, sender, dependence, notes):

@@ -67,7 +67,11 @@ class Job:
                 self.unknown.append(name)
                 continue
             if len(given) != count:
-                self.notes.refuse(line, f"`{name}` has {count} indices, and --set gives {len(given)} sizes.", f"Write --set {name}={'x'.join('N' * count)}.")
+                self.notes.refuse(
+                    line,
+                    f"`{name}` has {count} indices, and --set gives {len(given)} sizes.",
+                    f"Write --set {name}={'x'.join('N' * count)}.",
+                )
                 continue
             self.sizes[name] = given if count <= 2 else [given[0], prod(given[1:])]
             if min(given) < 1 or prod(given) > MOST_TILES:

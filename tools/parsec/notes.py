@@ -49,8 +49,8 @@ class Notes:
 
     def asked(self):
         """The names of which `decide` says that they have no value or no size."""
-        found = [text.split("`")[1] for kind, text in self.said if kind == "decide" and "--set " in text and ("no value" in text or "size of" in text)]
-        return list(dict.fromkeys(found))
+        asking = [text for kind, text in self.said if kind == "decide" and "--set " in text and ("no value" in text or "size of" in text)]
+        return list(dict.fromkeys(text.split("`")[1] for text in asking))
 
     def refusals(self):
         return sum(kind == "refused" for kind, _ in self.said)

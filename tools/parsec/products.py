@@ -26,17 +26,27 @@ class Products:
         given = self.settings.sizes.get(name)
         form = "x".join("N" * count)
         if given is not None and len(given) != count:
-            self.notes.refuse(line, f"`{name}` has {count} indices, and --set gives {len(given)} sizes.", f"Write --set {name}={form} with {count} numbers.")
+            self.notes.refuse(
+                line,
+                f"`{name}` has {count} indices, and --set gives {len(given)} sizes.",
+                f"Write --set {name}={form} with {count} numbers.",
+            )
             given = None
         inner = [self.names.global_for(f"size {at} of {name}", f"{name}_size_{at}") for at in range(3, count + 1)]
         self.sizes[name] = inner
         for at, it in enumerate(inner, 2):
             if given:
                 self.settings.values.setdefault(it, given[at])
-        self.notes.changed(line, f"`{name}` has {count} indices: the last {count - 1} are one, with the sizes {', '.join(f'`{it}`' for it in inner)}.")
+        self.notes.changed(
+            line,
+            f"`{name}` has {count} indices: the last {count - 1} are one, with the sizes {', '.join(f'`{it}`' for it in inner)}.",
+        )
         missing = [it for it in inner if it not in self.settings.values]
         if missing:
-            self.notes.decide(line, f"The last sizes of `{name}` are not known: --set {name}={form} gives all its sizes, or --set {missing[0]}=VALUE this one.")
+            self.notes.decide(
+                line,
+                f"The last sizes of `{name}` are not known: --set {name}={form} gives all its sizes, or --set {missing[0]}=VALUE this one.",
+            )
 
     def folded(self, target):
         """An element with two indices in the place of more. An index outside of its size is no place at all."""

@@ -25,7 +25,11 @@ class Translator:
             return node
         text = rendering.shown(new)
         if terms_of(new) > MOST_TERMS or rendering.token_count(text) > MOST_TOKENS:
-            self.notes.refuse(node.line, f"This expression has more than {MOST_TERMS} names, numbers and operators, which is the limit of `ptg`.", "Split it by definitions.")
+            self.notes.refuse(
+                node.line,
+                f"This expression has more than {MOST_TERMS} names, numbers and operators, which is the limit of `ptg`.",
+                "Split it by definitions.",
+            )
         return new
 
     def argument(self, argument):
@@ -76,7 +80,11 @@ class Translator:
     def of_unary(self, node):
         if node.text in ("~", "&", "*"):
             what = "works on bits" if node.text == "~" else "is an operator of C on memory"
-            raise Fault(node.line, f"`{node.text}` before an expression {what}: it has no translation.", "Write other operators, or give the value as a global.")
+            raise Fault(
+                node.line,
+                f"`{node.text}` before an expression {what}: it has no translation.",
+                "Write other operators, or give the value as a global.",
+            )
         inner = self.node(node.parts[0])
         if node.text == "+":
             self.notes.dropped(node.line, "`+` before an expression.")
@@ -107,12 +115,20 @@ class Translator:
         left, right = self.node(node.parts[0]), self.node(node.parts[1])
         amount = signs.constant(right)
         if amount is None or not 0 <= amount <= 62:
-            raise Fault(node.line, f"`{node.text}` by what is no number from 0 to 62 has no translation.", "Write a product or a quotient, or give the value as a global.")
+            raise Fault(
+                node.line,
+                f"`{node.text}` by what is no number from 0 to 62 has no translation.",
+                "Write a product or a quotient, or give the value as a global.",
+            )
         sign = "*" if node.text == "<<" else "/"
         if sign == "/" and not signs.cannot_be_negative(left, self.scope, self.values):
             names = ", ".join(f"`{it}`" for it in sorted(signs.names_in(left) - set(self.scope)))
             advice = f" With values of {names} by --set the sign may be known." if names else ""
-            raise Fault(node.line, "The left side of `>>` may be negative, and then a quotient is another number.", f"Write a quotient if it can't be.{advice}")
+            raise Fault(
+                node.line,
+                "The left side of `>>` may be negative, and then a quotient is another number.",
+                f"Write a quotient if it can't be.{advice}",
+            )
         for name in sorted(signs.names_in(left) - set(self.scope)) if sign == "/" else []:
             self.notes.decide(node.line, f"`>>` is a quotient since `{name}` is {self.values.get(name)}: it must not be negative in any data.")
         new = Node("binary", sign, node.line, node.start, node.end, [left, Node("number", str(2**amount), right.line, right.start, right.end)])
@@ -122,9 +138,17 @@ class Translator:
     def of_cast(self, node):
         words = node.text.split()
         if "*" in words or "unsigned" in words or any(it in NARROW or it.startswith("u") or it == "size_t" for it in words):
-            raise Fault(node.line, f"A cast to `{node.text}` can change a value: it has no translation.", "Write the expression without it, if the value fits.")
+            raise Fault(
+                node.line,
+                f"A cast to `{node.text}` can change a value: it has no translation.",
+                "Write the expression without it, if the value fits.",
+            )
         if not all(it in ("int", "long", "signed", "const", "ssize_t", "ptrdiff_t", "intptr_t", "int32_t", "int64_t") for it in words):
-            raise Fault(node.line, f"`({node.text})` before an expression would be a cast to a type that is not known here.", "Write the expression without it.")
+            raise Fault(
+                node.line,
+                f"`({node.text})` before an expression would be a cast to a type that is not known here.",
+                "Write the expression without it.",
+            )
         self.notes.dropped(node.line, f"The cast `({node.text})`: numbers have 64 bits, and nothing is cut.")
         return self.node(node.parts[0])
 
@@ -149,7 +173,11 @@ class Translator:
         own = sorted(set().union(*[signs.names_in(it) for it in inner]) & (set(self.scope) | self.later)) if inner else []
         if own:
             what = "An array of C" if node.steps[-1][0] == "[" else "A call of C"
-            raise Fault(node.line, f"{what}, `{text}`, has a value for each `{own[0]}`: it has no translation.", "Write what it computes as an expression of JDF.")
+            raise Fault(
+                node.line,
+                f"{what}, `{text}`, has a value for each `{own[0]}`: it has no translation.",
+                "Write what it computes as an expression of JDF.",
+            )
         name = self.names.global_for(text, name_of_access(base, steps))
         self.names.numbers.setdefault(name, node.line)
         self.notes.changed(node.line, f"`{text}` is the global `{name}`.")
