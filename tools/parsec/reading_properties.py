@@ -49,6 +49,11 @@ class PropertyReader:
         for at, token in enumerate(tokens):
             if token.kind == "name" and at + 1 < len(tokens) and tokens[at + 1].text == "=":
                 items.append(Property(token.text, [], token.line))
-            elif items and not (token.text == "=" and tokens[at - 1].text == items[-1].key) and token.text not in (",", ";"):
+            elif token.text in (",", ";") or (items and token.text == "=" and tokens[at - 1].text == items[-1].key):
+                continue
+            elif items:
                 items[-1].tokens.append(token)
+            else:
+                # (a word alone is a property without a value)
+                items.append(Property(token.text, [], token.line))
         return Properties(items, begin.line, begin.start, self.walk.last().end)

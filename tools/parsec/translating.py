@@ -17,12 +17,12 @@ class Translator:
         self.is_own, self.of_c = is_own, False
 
     def outermost(self, node):
-        """An outermost expression; refused where it is too long for `ptg`."""
+        """An outermost expression; refused where it is too long for `ptg`. A 0 stands for one that is refused."""
         try:
             new = self.node(node)
         except Fault as fault:
             self.notes.refuse_fault(fault)
-            return node
+            return Node("number", "0", node.line, node.start, node.end)
         text = rendering.shown(new)
         if terms_of(new) > MOST_TERMS or rendering.token_count(text) > MOST_TOKENS:
             self.notes.refuse(

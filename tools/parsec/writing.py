@@ -77,8 +77,7 @@ class Writer:
                 self.edits.blank(group.start, group.end)
 
     def kept_type(self, group, kept):
-        text = self.text[group.start : group.end]
-        if len(group.items) != 1 or '"' in text:
+        if "".join(self.text[group.start : group.end].split()) != f"[type={kept}]":
             self.edits.replace(group.start, group.end, f"[type = {kept}]")
 
 
