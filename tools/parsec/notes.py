@@ -48,9 +48,8 @@ class Notes:
                 self.say(kind, line, text)
 
     def asked(self):
-        """The names of which `decide` says that they have no value or no size."""
-        asking = [text for kind, text in self.said if kind == "decide" and "--set " in text and ("no value" in text or "size of" in text)]
-        return list(dict.fromkeys(text.split("`")[1] for text in asking))
+        """The names of which it is said that they have no value."""
+        return [text.split("`")[1] for kind, text in self.said if kind == "decide" and "has no value: --set" in text]
 
     def refusals(self):
         return sum(kind == "refused" for kind, _ in self.said)
