@@ -13,6 +13,11 @@ def touch(tokens, at):
     return at > 0 and tokens[at - 1].end == tokens[at].start
 
 
+def is_element(tokens, at):
+    """Whether a bracket begins an index, as of an array, and no properties."""
+    return tokens[at].text == "[" and touch(tokens, at) and tokens[at - 1].kind == "name" and "=" not in [it.text for it in tokens[at + 2 : at + 3]]
+
+
 def in_body(outline, token):
     it = outline.class_at(token.at())
     return it if it and it.begin and it.begin.at() <= token.at() and (it.end is None or token.at() <= it.end.at()) else None
@@ -26,7 +31,7 @@ def swallowed(cls):
 def reason(text, outline, place):
     """What is wrong at a place, and what to write; or two times nothing."""
     if text.startswith(b"\xef\xbb\xbf") and place == (1, 1):
-        return "The file begins with a byte order mark, which is no token of JDF.", "Save it as UTF-8 without the mark."
+        return "The file begins with a byte order mark, which is no token of JDF.", f"Save it as UTF-8 without the mark. ({TABLE})"
     at = outline.index_at(place)
     if at is None:
         return None, None
@@ -64,7 +69,9 @@ def of_body(tokens, at):
 
 def of_graph(outline, tokens, at):
     token, last = tokens[at], before(tokens, at)
+    following = tokens[at + 1].text if at + 1 < len(tokens) else ""
     for fits, wrong, advice in (
+        (token.kind == "raw" and not (outline.classes and outline.classes[0].name.start < token.start), "C stands in `extern` alone, and is skipped there.", "Write `extern \"C\"` before it, or remove it."),
         (token.kind == "raw", "C stands in `extern` alone, and is skipped there.", "Write the expression in JDF's own operators."),
         (token.kind == "quoted" and last == "=", "The type of a dependence is a name without quotes.", "`[type = NAME]`"),
         (token.text in PROPERTIES or (last == "[" and token.text != "type"), f"`{token.text}` is no property of a dependence: `type` is the only one.", "Remove it: a tile is sent whole."),
@@ -75,7 +82,10 @@ def of_graph(outline, tokens, at):
         (token.text in ("<", ">") and last == token.text, "There are no shifts.", "Write a product or a quotient."),
         (token.text in ("^", "~"), f"`{token.text}` is no operator.", "There are no operators on bits."),
         (token.text == "+", "There is no prefix `+`.", "Leave it out."),
+        (token.text == "#", "JDF has no lines of a preprocessor.", "Remove the line; a number that it defines can be an integer global."),
+        (token.kind == "name" and following in ("<-", "->"), f"A flow begins with READ, WRITE, RW or CTL, and `{token.text}` is none of them.", f"Write what the body does with it: `RW {token.text}`, say."),
         (token.text == "[" and last in ("<-", "->"), "A dependence has no indices of its own.", "Put the range into the target: `-> FLOW CLASS(0 .. n)`."),
+        (is_element(tokens, at), f"An expression has no elements of arrays: `{last}` can't be one.", "Declare an integer global for each element, and give it in the data."),
         (token.text == "[", "Properties don't stand here.", "A dependence may have `[type = NAME]` at its end; a definition has none."),
         (token.text == ":" and last == "]", "The type stands after the whole dependence, and once.", "`c ? t : u [type = NAME]`"),
         (last == ":" and token.text == "(", "A target stands after `? target :`, not a further guard.", "Write a dependence for each case, and join guards by `&&`."),
@@ -85,7 +95,7 @@ def of_graph(outline, tokens, at):
         (last == "SIMCOST", "There is no SIMCOST.", "Remove the line."),
         (token.text == ";", "Definitions and dependences don't end with a mark; `;` begins the priority, after the flows.", "Remove it."),
         (token.text == "(" and tokens[at - 1].kind == "name", "An expression calls no functions.", "Write what it computes, or give it as an integer global."),
-        (outline.classes and token.kind == "name" and tokens[at - 1].kind == "name" and last not in ("READ", "WRITE", "RW", "CTL"), f"`(` stands after the name of a class, and all globals stand before the first class.", f"Move `{last}` to the top, if it is a global."),
+        (outline.classes and token.kind == "name" and tokens[at - 1].kind == "name" and last not in ("READ", "WRITE", "RW", "CTL"), "`(` stands after the name of a class, and all globals stand before the first class.", f"Move `{last}` to the top, if it is a global."),
     ):
         if fits:
             return wrong, f"{advice} ({TABLE})"
