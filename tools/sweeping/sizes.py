@@ -24,7 +24,7 @@ class Setting:
         """What the name may be, given the values of the names before it."""
         try:
             numbers = [part(values) for part in self.parts]
-        except NoValue as why:
+        except (NoValue, RecursionError) as why:
             raise BadWord(f"{self.word}: {why}") from why
         if self.kind == "value":
             return numbers
