@@ -1,5 +1,5 @@
 """A scene as DOT, for Graphviz."""
-from drawing import FILLS, LINES, STROKES, TRAP
+from drawing import STROKES, TRAP, colours_of, look_of
 
 BOXES = {"ran": "filled,rounded", "trapped": "filled,rounded,bold", "waits": "filled,rounded,dashed", "never": "rounded,dotted", "none": "rounded,dotted"}
 
@@ -10,18 +10,31 @@ def quoted(text):
 
 def text(scene, title):
     """The DOT text of a scene."""
-    number = {cls: at for at, cls in enumerate(scene.classes)}
-    lines = ["digraph job {", f"  label={quoted(title)};", "  rankdir=LR;", '  node [shape=box, fontname="sans-serif", fontsize=11];']
-    for it in scene.boxes.values():
-        colour = TRAP if it.state in ("trapped", "none") else LINES[number[it.cls] % len(LINES)]
-        label = it.label + (f"\n{it.note}" if it.note else "")
-        lines.append(f'  {quoted(it.label)} [label={quoted(label)}, style="{BOXES[it.state]}", fillcolor="{FILLS[number[it.cls] % len(FILLS)]}", color="{colour}"];')
+    label = "\n".join([title, *scene.notes])
+    lines = ["digraph job {", f"  label={quoted(label)};", "  rankdir=LR;", '  node [shape=box, fontname="sans-serif", fontsize=11];']
+    number = {name: at for at, name in enumerate(scene.boxes)}
+    lines += [box_line(scene, it, number[it.name]) for it in scene.boxes.values()]
     for level in sorted({it.level for it in scene.boxes.values()}):
-        same = " ".join(quoted(it.label) + ";" for it in scene.boxes.values() if it.level == level)
+        same = " ".join(f"n{number[it.name]};" for it in scene.boxes.values() if it.level == level)
         lines.append(f"  {{ rank=same; {same} }}")
-    for it in scene.edges:
-        style = "dashed" if it.is_ctl else "solid"
-        back = ", constraint=false" if it.is_back else ""
-        ends = f"{quoted(scene.boxes[it.source].label)} -> {quoted(scene.boxes[it.target].label)}"
-        lines.append(f'  {ends} [style={style}, color="{STROKES[it.state]}", tooltip={quoted(it.label)}{back}];')
+    lines += [edge_line(scene, it, number) for it in scene.edges]
     return "\n".join(lines + ["}", ""])
+
+
+def box_line(scene, it, number):
+    fill, line = colours_of(scene, it)
+    colour = TRAP if it.state in ("trapped", "none") else line
+    label = quoted(it.label + (f"\n{it.note}" if it.note else ""))
+    style = "bold," + BOXES[it.state] if it.is_bold else BOXES[it.state]
+    if it.kind == "flow":
+        return f"  n{number} [label={label}, shape=plain, tooltip={quoted(it.hint)}];"
+    return f'  n{number} [label={label}, style="{style}", fillcolor="{fill}", color="{colour}"];'
+
+
+def edge_line(scene, it, number):
+    style = "dashed" if it.is_ctl else "bold" if it.is_link else "solid"
+    back = ", constraint=false" if it.is_back else ""
+    name = f", label={quoted(it.name)}, fontsize=9" if scene.has_names and it.name else ""
+    ended = ", arrowhead=none" if scene.boxes[it.target].kind == "flow" else ""
+    look = f'style="{style}", color="{STROKES[look_of(it)]}", tooltip={quoted(it.label)}'
+    return f"  n{number[it.source]} -> n{number[it.target]} [{look}{name}{ended}{back}];"

@@ -3,12 +3,14 @@
 An edge over several columns has a point in each of those between, so that it runs beside their boxes and not over them."""
 from dataclasses import dataclass, field
 
-FONT = 12
-LETTER = 7.6
+from svg import LETTER, MARGIN
+
 SIDE = 10
-HEIGHT, HEIGHT_WITH_NOTE = 24, 40
+HEIGHT, HEIGHT_WITH_NOTE, HEIGHT_OF_DATA = 24, 40, 16
 BETWEEN_BOXES, BETWEEN_POINTS = 14, 7
-MARGIN = 24
+SMALL, NAME_LETTER = 0.78, 5.6
+# The room for the texts below the columns.
+LEVELS = 34
 SWEEPS = 12
 # With more points than these, long edges are drawn without them.
 MOST_POINTS = 40000
@@ -41,11 +43,19 @@ class Layout:
 
 
 def width_of(box):
+    if box.kind in ("data", "flow"):
+        return SMALL * LETTER * max(len(box.label), len(box.note)) + SIDE
     return LETTER * max(len(box.label), len(box.note) * 0.85) + 2 * SIDE
 
 
+def height_of(box):
+    if box.kind == "data":
+        return HEIGHT_OF_DATA
+    return HEIGHT_WITH_NOTE if box.note else HEIGHT
+
+
 def layout_of(scene):
-    nodes = {name: Node(it.level, HEIGHT_WITH_NOTE if it.note else HEIGHT, it) for name, it in scene.boxes.items()}
+    nodes = {name: Node(it.level, height_of(it), it) for name, it in scene.boxes.items()}
     points = [[] for _ in scene.edges]
     spans = [abs(nodes[it.source].level - nodes[it.target].level) for it in scene.edges]
     columns = [[] for _ in range(1 + max(it.level for it in nodes.values()))]
@@ -122,13 +132,14 @@ def placed(scene, nodes, points, columns):
     crossing = [0] * len(columns)
     for it in scene.edges:
         crossing[min(nodes[it.source].level, nodes[it.target].level)] += 1
+    longest = max([len(it.name) for it in scene.edges] + [0]) if scene.has_names else 0
     left, at = [], float(MARGIN)
     for width, edges in zip(widths, crossing):
         left.append(at)
-        at += width + 46 + min(100, 3 * edges)
+        at += width + 46 + min(100, 3 * edges) + NAME_LETTER * longest
     every = [it for column in columns for it in column]
     top = min(it.y - it.height / 2 for it in every)
     for it in every:
         it.y += MARGIN - top
-    last = max(it.y + it.height / 2 for it in every)
+    last = max(it.y + it.height / 2 for it in every) + (LEVELS if scene.scale else 0)
     return Layout(nodes, points, left, widths, left[-1] + widths[-1] + MARGIN, last + MARGIN)

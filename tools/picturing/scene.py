@@ -1,8 +1,11 @@
-"""What a picture shows: tasks with how they ended, and edges with whether they were sent."""
-from dataclasses import dataclass
+"""What a picture of boxes and edges shows: tasks with how they ended, and edges with whether they were sent."""
+from dataclasses import dataclass, field
 
 from circles import tasks_that_ran
 from jobs import task as shown_task
+
+# The flows of edges are shown beside them up to this many tasks.
+MOST_NAMED = 60
 
 
 @dataclass
@@ -16,6 +19,15 @@ class Box:
     state: str = "ran"
     note: str = ""
     level: int = 0
+    # task, data (what a flow is read from or written to), class, or flow (the text of an edge between classes)
+    kind: str = "task"
+    # what gives it its colour: its class, or its rank
+    group: str = ""
+    # whether it is a task of the heaviest chain
+    is_bold: bool = False
+    # how many tasks it stands for
+    count: int = 1
+    hint: str = ""
 
 
 @dataclass
@@ -28,13 +40,26 @@ class Edge:
     state: str = "sent"
     # whether it leads from a box to one of an earlier level
     is_back: bool = False
+    # the flows at its ends, as they are shown beside it
+    name: str = ""
+    # whether it is a link of the heaviest chain
+    is_link: bool = False
+    # whether it leads from one rank to another; None where ranks are not shown
+    is_cut: object = None
 
 
 @dataclass
 class Scene:
     boxes: dict
     edges: list
-    classes: list
+    # the groups that have colours, in their order
+    groups: list
+    # sentences below the title
+    notes: list = field(default_factory=list)
+    # texts below the columns, each with its column and its row, 0 or 1
+    scale: list = field(default_factory=list)
+    # whether the flows of edges are shown beside them
+    has_names: bool = False
 
 
 def scene_of(tasks, traps):
@@ -44,16 +69,16 @@ def scene_of(tasks, traps):
     boxes = {name: box_of(name, tasks, ran, traps) for name in tasks}
     for it in edges:
         for end in (it.source, it.target):
-            boxes.setdefault(end, Box(end, end[0], shown_task(end), "none", "no task"))
+            boxes.setdefault(end, Box(end, end[0], shown_task(end), "none", "no task", group=end[0]))
         if it.state == "sent" and (it.source not in ran or it.source in traps):
             it.state = "not"
-    scene = Scene(boxes, edges, list(dict.fromkeys(it.cls for it in boxes.values())))
+    scene = Scene(boxes, edges, list(dict.fromkeys(it.cls for it in boxes.values())), has_names=len(boxes) <= MOST_NAMED)
     set_levels(scene)
     return scene
 
 
 def box_of(name, tasks, ran, traps):
-    it = Box(name, name[0], shown_task(name))
+    it = Box(name, name[0], shown_task(name), group=name[0])
     if name in traps:
         it.state, it.note = "trapped", f"trap {traps[name]}"
     elif name not in ran:
@@ -78,7 +103,8 @@ def edges_of(tasks):
         tie = next(iter(ties.values()))
         label = f"{out_flow} of {shown_task(source)} to {in_flow} of {shown_task(target)}"
         state = "sent" if len(ties) == 2 else "half"
-        found.append(Edge(source, target, label, tie.kind == "CTL", state))
+        name = out_flow if out_flow == in_flow else f"{out_flow} to {in_flow}"
+        found.append(Edge(source, target, label, tie.kind == "CTL", state, name=name))
     return found
 
 
