@@ -56,6 +56,8 @@ def micros(seconds, job):
 
 def ratios(rounds, jobs, workers, names):
     peers = [it for it in names if it != "ptg"]
+    if "ptg" not in names or not peers:
+        return []
     rows = [
         [job.name, str(count), *(shown(rounds.ratio(("ptg", job.name, count), (peer, job.name, count), "run"), 2) for peer in peers)]
         for job in jobs
