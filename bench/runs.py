@@ -71,16 +71,20 @@ def run_peer(peer, job, workers):
     return Row(peer.name, job.name, workers, float(run), seconds, peak, fault)
 
 
+# A turn of a loop takes `ptg` about so many nanoseconds, by which it is found out how many take 0.2 s for all tasks of a job.
+ABOUT = 15
+
+
 def turns_of(program, job, nanoseconds):
     """How many turns of a loop of a body take `ptg` so long, with one worker, and how long one takes in nanoseconds."""
+    many = 200_000_000 // (ABOUT * job.tasks)
     took = {}
-    for turns in (0, 1000):
+    for turns in (0, many):
         job.made[2] = str(turns)
         job.write()
-        runs = [run_ptg(program, "run", job, 1, 16) for _ in range(3)]
-        took[turns] = min(it.whole for it in runs)
-    each = max((took[1000] - took[0]) * 1e9 / 1000 / (job.tasks - 1), 0.1)
-    job.made[2] = str(max(1, round(nanoseconds / each)))
+        took[turns] = min(run_ptg(program, "run", job, 1, 16).whole for _ in range(3))
+    each = max((took[many] - took[0]) * 1e9 / many / (job.tasks - 1), 1.0)
+    job.made[2] = str(round(nanoseconds / each))
     return each
 
 
