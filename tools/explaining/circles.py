@@ -21,7 +21,7 @@ def tasks_that_ran(tasks, traps=()):
 
 
 def circle(tasks, ran, first):
-    """Tasks of which each waits for the next one and the last one for the first, with the ties by which they wait."""
+    """Tasks that wait for each other in a circle, each for the next one, with the ties by which they wait."""
     at, ties, seen = first, [], {}
     while at not in seen:
         seen[at] = len(ties)
@@ -41,19 +41,21 @@ def of_waiting(tasks, ran, name):
     ties = [tie for tie in tasks[name].into() if tie.is_edge()]
     came = [tie for tie in ties if tie.far_task() in ran]
     never = [tie for tie in ties if tie.far_task() not in ran]
-    lines = [f"    {shown_task(name)} has {len(came)} of the {len(ties)} edges into it"]
-    lines += [f"        came: {edges(came)}"] if came else []
-    return lines + [f"        never came: {edges(never)}"]
+    lines = [f"    {shown_task(name)} has received {len(came)} of {len(ties)} edges"]
+    lines += [f"        received: {edges(came)}"] if came else []
+    return lines + [f"        missing: {edges(never)}"]
 
 
 def of_circle(found):
     """The sentence on a circle."""
-    names = [shown_task(name) for name, _ in found]
-    if len(names) == 1:
+    return of_names([shown_task(name) for name, _ in found], len(found))
+
+
+def of_names(names, count):
+    """The sentence on a circle of so many tasks, of which these are named: each waits for the next one."""
+    if count == 1:
         return f"{names[0]} waits for itself"
-    left_out = len(names) - MOST_IN_A_CIRCLE
-    if left_out > 1:
-        names = names[:MOST_IN_A_CIRCLE] + [f"{left_out} more tasks, of which each waits for the next one and the last one for {names[0]}"]
-    else:
-        names.append(names[0])
-    return f"{names[0]} waits for " + ", which waits for ".join(names[1:])
+    if count > MOST_IN_A_CIRCLE + 1:
+        shown = ", which waits for ".join(names[1:MOST_IN_A_CIRCLE])
+        return f"{names[0]} waits for {shown}, and so on through {count - MOST_IN_A_CIRCLE} more tasks back to {names[0]}"
+    return f"{names[0]} waits for " + ", which waits for ".join(names[1:] + [names[0]])

@@ -4,6 +4,18 @@ from dataclasses import dataclass
 
 END_OF_FIELD = re.compile(rb"[,\r\n]")
 END_OF_LINE = re.compile(rb"[\r\n]")
+NUMBER = re.compile(r"[+-]?[0-9]+")
+
+
+def whole(text):
+    """The number that digits with or without a sign spell, or None where they are none or it does not fit 64 bits."""
+    if not NUMBER.fullmatch(text):
+        return None
+    digits = text.lstrip("+-").lstrip("0")
+    if len(digits) > 19:
+        return None
+    number = int(digits or "0") * (-1 if text[0] == "-" else 1)
+    return number if -(2**63) <= number < 2**63 else None
 
 
 @dataclass
@@ -11,6 +23,8 @@ class Field:
     text: bytes
     line: int
     column: int
+    # whether a quote opens the field and none closes it
+    is_open: bool = False
 
     def spelled(self):
         return self.text.decode("utf-8", "replace")
@@ -59,25 +73,30 @@ class Reading:
         self.start_of_line = self.at
 
     def quoted(self):
-        """The bytes of a quoted field, from behind its opening quote; one that is not closed runs to the end."""
-        found = b""
-        while self.byte():
-            byte = self.byte()
-            if byte == b'"':
-                self.at += 1
-                if self.byte() != b'"':
-                    return found
-            if byte == b"\n":
-                self.line, self.start_of_line = self.line + 1, self.at + 1
-            found += byte
+        """The bytes of a quoted field after its opening quote, and whether it is closed; one that is not runs to the end."""
+        pieces = []
+        while True:
+            end = self.text.find(b'"', self.at)
+            piece = self.text[self.at : end if end >= 0 else len(self.text)]
+            pieces.append(piece)
+            self.pass_lines(piece)
+            self.at += len(piece) + (end >= 0)
+            if end < 0 or self.byte() != b'"':
+                return b'"'.join(pieces), end >= 0
             self.at += 1
-        return found
+
+    def pass_lines(self, piece):
+        """Counts the lines of a piece of a quoted field, which begins where the reading stands."""
+        lines = piece.count(b"\n")
+        if lines:
+            self.line, self.start_of_line = self.line + lines, self.at + piece.rindex(b"\n") + 1
 
     def one_field(self):
         it = Field(b"", self.line, self.at - self.start_of_line + 1)
         if self.byte() == b'"':
             self.at += 1
-            it.text = self.quoted()
+            it.text, is_closed = self.quoted()
+            it.is_open = not is_closed
         first = self.at
         end = END_OF_FIELD.search(self.text, self.at)
         self.at = end.start() if end else len(self.text)

@@ -1,11 +1,16 @@
 """What an inconsistency comes from: the dependence, the other end, and why. The graph says what dependences name, and the outline where they stand."""
 from dataclasses import dataclass, field
 
+import values
+from data_text import whole
 from graph import Tie, Unknown
+from jdf_text import spelled as spelled_tokens
 from jobs import task as shown_task
 
 # This many dependences of the other end are shown.
 MOST_SHOWN = 4
+# What comes where the graph is not to be had, or its program prints something else.
+NO_GRAPH = (Unknown, ValueError, IndexError, KeyError, AttributeError)
 
 
 @dataclass
@@ -49,13 +54,9 @@ def place_of(outline, cls, tie):
     return it.arrow.at() if it else (tie.line, 1)
 
 
-def spelled(dependence, most=60):
+def spelled(dependence):
     """A dependence as it stands in the text, without its comments and its line feeds."""
-    tokens = [dependence.arrow] + dependence.tokens
-    text = tokens[0].text
-    for last, token in zip(tokens, tokens[1:]):
-        text += (" " if last.end < token.start else "") + token.text
-    return text if len(text) <= most else text[:most] + " .."
+    return spelled_tokens([dependence.arrow] + dependence.tokens)
 
 
 def place(far):
@@ -73,32 +74,32 @@ def why_no_task(graph, name):
     """Why a job has no such task."""
     line = graph.why_none(name)
     if line is None:
-        return "which is no task"
+        return "which does not exist"
     word, number, local = line[:3]
     if word == "value":
-        return f"and {local} is {line[3]} there (line {number})"
+        return f"but {local} is {line[3]} there (line {number})"
     if word == "faulty":
-        return f"and {local} has no value there (line {number})"
+        return f"but {local} has no value there (line {number})"
     low, high, step = (int(it) for it in line[3:6])
     if low > high if step > 0 else low < high:
-        return f"and {local} has no values there, from {low} to {high} (line {number})"
-    return f"and {local} runs from {low} to {high}{'' if step == 1 else f' by {step}'} (line {number})"
+        return f"but {local} has no values there, from {low} to {high} (line {number})"
+    return f"but {local} runs from {low} to {high}{'' if step == 1 else f' by {step}'} (line {number})"
 
 
 def out_of_space(it):
     for tie in it.task.into(it.flow) + it.task.out(it.flow):
         if tie.is_edge() and it.graph.task(tie.far_task()) is None:
-            return it.reason(tie, f"is {shown_task(tie.far_task())}, {why_no_task(it.graph, tie.far_task())}.")
+            return it.reason(tie, f"names {shown_task(tie.far_task())}, {why_no_task(it.graph, tie.far_task())}.")
     return None
 
 
 def is_answered(it, tie, answers):
-    """Whether one of these ties of the other end leads back."""
+    """Whether one of these ties of the other end names this end."""
     return any(other.far_task() == it.name and other.far_flow() == tie.flow for other in answers if other.is_edge())
 
 
 def answers(it, tie, inward):
-    """The dependences of the other end that could lead back, each with what it is there."""
+    """The dependences of the other end that could name this end, each with what it names there."""
     cls, flow = tie.far[1], tie.far_flow()
     far = it.graph.task(tie.far_task())
     ties = far.into(flow) if inward else far.out(flow)
@@ -112,8 +113,8 @@ def answers(it, tie, inward):
     for number, that in could[:MOST_SHOWN]:
         names = [named(tie) for tie in ties if tie.number == number]
         more = f", and {len(names) - MOST_SHOWN} more" if len(names) > MOST_SHOWN else ""
-        what = f"is {', '.join(names[:MOST_SHOWN])}{more}" if names else "is not active, or names no task,"
-        lines.append(f"Line {that.arrow.line}: `{spelled(that)}` {what} for {shown_task(tie.far_task())}.")
+        what = f"names {', '.join(names[:MOST_SHOWN])}{more}" if names else "is not active, or names no task"
+        lines.append(f"Line {that.arrow.line}: `{spelled(that)}` {what} in {shown_task(tie.far_task())}.")
     return lines
 
 
@@ -171,7 +172,7 @@ def bounds(job, far):
     for record in job.records:
         at = 2 if record.word() == "collof" else 1
         if record.word() in ("coll", "collof") and len(record.fields) > at and record.fields[at].spelled() == far[0]:
-            sizes = [int(it.spelled()) for it in record.fields[at + 1 :]]
+            sizes = [whole(it.spelled()) or 0 for it in record.fields[at + 1 :]]
             return sizes, record.fields[0].line
     return [], 0
 
@@ -182,7 +183,7 @@ def bad_place_of(job, far):
     for which, (index, size) in enumerate(zip(far[1:], sizes), 1):
         if not 0 <= int(index) < size:
             name = "index" if len(sizes) == 1 else ("first index", "second index")[which - 1]
-            return f"is {place(far)}, and the {name} of {far[0]} goes from 0 to {size - 1} ({job.data_name}:{line})."
+            return f"names {place(far)}, but the {name} of {far[0]} goes from 0 to {size - 1} ({job.data_name}:{line})."
     return None
 
 
@@ -190,7 +191,7 @@ def bad_place(it):
     if it.flow == "-":
         said = bad_place_of(it.job, it.task.at[1:])
         cls = it.job.outline.class_named(it.name[0])
-        return Reason(cls.affinity.at(), f"{it.who()}: its place {said}") if said and cls and cls.affinity else None
+        return Reason(cls.affinity.at(), f"{it.who()}: the place of the task {said}") if said and cls and cls.affinity else None
     for tie in it.task.into(it.flow) + it.task.out(it.flow):
         said = bad_place_of(it.job, tie.far) if tie.is_place() else None
         if said:
@@ -201,10 +202,10 @@ def bad_place(it):
 def null_sent(it):
     null = next((tie for tie in it.task.into(it.flow) if tie.what == "null"), None)
     sent = next((tie for tie in it.task.out(it.flow) if tie.is_edge() or tie.is_place()), None)
-    return it.reason(sent, f"sends a tile, and there is none: `<- NULL` holds (line {null.line}).") if null and sent else None
+    return it.reason(sent, f"sends a tile, but the flow has none: `<- NULL` holds (line {null.line}).") if null and sent else None
 
 
-NO_VALUE = "a sum that does not fit, a division by 0, or a range with step 0"
+NO_VALUE = "a result does not fit 64 bits, a divisor is 0, or the step of a range is 0"
 
 
 def bad_expr(it):
@@ -213,12 +214,50 @@ def bad_expr(it):
     numbers = it.name[1:]
     if it.task is not None and len(it.task.ill) == 3:
         tie = Tie(True, it.flow, "", int(it.task.ill[1]), int(it.task.ill[2]), "")
-        return it.reason(tie, f"has an expression without a value: {NO_VALUE}.")
-    if it.task is not None or cls is None or len(numbers) >= len(cls.definitions):
+        dependence = dependence_of(it.job.outline, it.name[0], tie)
+        why = values.of_dependence(it.job, it.name, dependence) if dependence else ""
+        return it.reason(tie, f"has an expression without a value: {why or NO_VALUE}.")
+    if it.task is not None or cls is None:
+        return bad_expr_without_graph(it.job, it.name, it.flow)
+    return bad_definition(it.job, cls, numbers)
+
+
+def bad_definition(job, cls, numbers):
+    if len(numbers) >= len(cls.definitions):
         return None
     token = cls.definitions[len(numbers)]
-    where = ", ".join(f"{name.text} = {value}" for name, value in zip(cls.definitions, numbers))
-    return Reason(token.at(), f"{it.name[0]}: the definition of {token.text} has no value{' where ' + where if where else ''}: {NO_VALUE}.")
+    known = ", ".join(f"{name.text} = {number}" for name, number in zip(cls.definitions, numbers))
+    why = values.of_definition(job, cls.name.text, len(numbers), numbers) or NO_VALUE
+    return Reason(token.at(), f"{cls.name.text}: the definition of {token.text} has no value{' where ' + known if known else ''}: {why}.")
+
+
+def bad_expr_without_graph(job, name, flow):
+    """The same from the text alone: the first expression of a task that is found to have no value, or the definition."""
+    cls = job.outline.class_named(name[0])
+    if cls is None:
+        return None
+    if flow == "-":
+        found = values.of_hints(job, name, cls)
+        if found:
+            return Reason(found[1], f"{shown_task(name)}: the {found[0]} of the task has an expression without a value: {found[2]}.")
+        return None if values.names_of_task(job, name) is not None else bad_definition(job, cls, name[1:])
+    for that in dependences(job.outline, name[0], flow):
+        why = values.of_dependence(job, name, that)
+        if why:
+            return Reason(that.arrow.at(), f"{shown_task(name)}, flow {flow}: `{spelled(that)}` has an expression without a value: {why}.")
+    return None
+
+
+def no_input(job, name, flow):
+    """Why a flow has no source: its guards, none of which holds."""
+    cls = job.outline.class_named(name[0])
+    found = next((it for it in cls.flows if it.name.text == flow), None) if cls else None
+    if not found:
+        return None
+    inward = [it for it in found.dependences if it.inward()]
+    if not inward:
+        return Reason(found.kind.at(), f"{shown_task(name)}, flow {flow}: The flow has no `<-`, so its tile comes from nowhere.")
+    return Reason(inward[0].arrow.at(), f"{shown_task(name)}, flow {flow}: No `<-` of the flow holds for this task.", values.of_guards(job, name, flow))
 
 
 REASONS = {
@@ -235,10 +274,21 @@ REASONS = {
 
 def reason(job, graph, code, name, flow):
     """Why a job is inconsistent, or None where that can't be told."""
+    if code == "NoInput":
+        return no_input(job, name, flow)
     if code not in REASONS:
         return None
     try:
         it = Fault(job, graph, code, name, flow)
         return REASONS[code](it) if it.task is not None or code == "BadExpr" else None
-    except Unknown:
-        return None
+    except NO_GRAPH:
+        return bad_expr_without_graph(job, name, flow) if code == "BadExpr" else None
+
+
+def is_printed(graph):
+    """Whether the program prints a graph at all."""
+    try:
+        lines = graph.lines(1)
+        return not lines or lines[0][0] == "task"
+    except NO_GRAPH:
+        return False

@@ -9,12 +9,15 @@ TOKEN = re.compile(
     rb"(?P<blank>[ \t\r\n]+|//[^\n]*|/\*.*?\*/)"
     rb"|(?P<option>%option(?![A-Za-z0-9_])[^\n]*)|(?P<raw>%\{.*?%\})"
     rb'|(?P<quoted>"(?:\\.|[^"\\])*")'
+    rb'|(?P<open>/\*|"|%\{)'
     rb"|(?P<name>[A-Za-z_][A-Za-z0-9_]*)|(?P<number>[0-9][A-Za-z0-9_]*)"
     rb"|(?P<mark>\.\.|<-|->|==|!=|<=|>=|&&|\|\||[()\[\]{},;:?=+\-*/%<>&|!])|(?P<other>.)",
     re.S,
 )
 RESERVED = {"extern", "BODY", "END", "READ", "WRITE", "RW", "CTL", "NEW", "NULL"}
 KINDS = {"READ", "WRITE", "RW", "CTL"}
+# A JDF has no more tokens; of a longer text these are read.
+MOST_TOKENS = 1_000_000
 
 
 @dataclass
@@ -56,11 +59,16 @@ class Flow:
 class Class:
     name: Token
     params: list = field(default_factory=list)
-    # the name of each definition
+    # the name of each definition, and the tokens of what it is defined as
     definitions: list = field(default_factory=list)
+    values: list = field(default_factory=list)
     affinity: Token = None
+    # the tokens of the affinity, from the collection's name
+    place: list = field(default_factory=list)
     flows: list = field(default_factory=list)
+    # the `;` of the priority, and the tokens of its expression
     priority: Token = None
+    urgency: list = field(default_factory=list)
     begin: Token = None
     body: list = field(default_factory=list)
     end: Token = None
@@ -85,10 +93,12 @@ class Outline:
 
 
 def tokens_of(text):
-    """The tokens of a text, up to where it is no longer one."""
+    """The tokens of a text, up to a comment, a quoted text or a raw block without its end."""
     found, line, start_of_line = [], 1, 0
     for it in TOKEN.finditer(text):
         kind = it.lastgroup
+        if kind == "open" or len(found) > MOST_TOKENS:
+            break
         if kind != "blank":
             found.append(Token(kind, it[0].decode("utf-8", "replace"), line, it.start() - start_of_line + 1, it.start(), it.end()))
         newlines = it[0].count(b"\n")
@@ -96,6 +106,16 @@ def tokens_of(text):
             line += newlines
             start_of_line = it.start() + it[0].rindex(b"\n") + 1
     return found
+
+
+def spelled(tokens, most=60):
+    """Tokens as they stand in the text, with one space for blanks and comments between them."""
+    text = ""
+    for last, token in zip([None] + tokens, tokens):
+        text += (" " if last and last.end < token.start else "") + token.text
+        if len(text) > most:
+            return text[:most] + " .."
+    return text
 
 
 def is_name(token):
@@ -135,13 +155,22 @@ class Walk:
                 pass
 
     def skip_to(self, texts, names=()):
-        """Takes tokens up to one of these texts that stands outside of parentheses and brackets."""
-        taken, depth = [], 0
+        """Takes tokens up to one of these texts outside parentheses and brackets. The `:` of a `? :` is none of them."""
+        taken, depth, choices = [], 0, 0
         while not self.is_over():
             text = self.now().text
-            if depth == 0 and (text in texts or (self.now().kind == "name" and text in names)):
+            if depth == 0 and choices and text == ":":
+                choices -= 1
+            elif depth == 0 and (text in texts or (self.now().kind == "name" and text in names)):
                 break
+            choices += depth == 0 and text == "?"
             depth += (text in "([") - (text in ")]") if len(text) == 1 else 0
+            taken.append(self.take())
+        return taken
+
+    def skip_body(self):
+        taken = []
+        while not self.is_over() and self.now().text != "END":
             taken.append(self.take())
         return taken
 
@@ -163,24 +192,18 @@ def outline_of(text):
 
 def class_of(walk):
     it = Class(walk.take())
-    it.params = [token for token in walk.skip_to([":", "="], KINDS | {"BODY"}) if is_name(token)]
-    # (the first definition's name was taken with the parameters)
-    if walk.now().text == "=" and it.params:
-        it.definitions.append(it.params.pop())
-    while walk.now().text == "=":
-        walk.take()
-        value = walk.skip_to(["=", ":"], KINDS | {"BODY"})
-        if walk.now().text == "=" and value:
-            it.definitions.append(value[-1])
+    it.params = params_of(walk)
+    walk.skip_properties()
+    define(it, walk)
     if walk.now().text == ":":
         walk.take()
-        it.affinity = walk.now()
-        walk.skip_to([";"], KINDS | {"BODY"})
+        it.place = walk.skip_to([";"], KINDS | {"BODY"})
+        it.affinity = it.place[0] if it.place else None
     while walk.now().text in KINDS:
         it.flows.append(flow_of(walk))
     if walk.now().text == ";":
         it.priority = walk.take()
-        walk.skip_to([], {"BODY"})
+        it.urgency = walk.skip_to([], {"BODY"})
     if walk.now().text == "BODY":
         it.begin = walk.take()
         walk.skip_properties()
@@ -189,18 +212,33 @@ def class_of(walk):
     return it
 
 
-def skip_body(walk):
-    taken = []
-    while not walk.is_over() and walk.now().text != "END":
-        taken.append(walk.take())
-    return taken
+def params_of(walk):
+    """The parameters of a class, from its `(` to its `)`; what is no list of names ends before a definition."""
+    walk.take()
+    found = []
+    while not walk.is_over() and walk.now().text not in ("=", ":", "[", "BODY") and walk.now().text not in KINDS:
+        token = walk.take()
+        if token.text == ")":
+            break
+        found += [token] if is_name(token) else []
+    return found
 
 
-Walk.skip_body = skip_body
+def define(it, walk):
+    """Reads the definitions of a class."""
+    while True:
+        taken = walk.skip_to(["=", ":"], KINDS | {"BODY"})
+        is_next = walk.now().text == "=" and taken
+        if it.definitions:
+            it.values.append(taken[:-1] if is_next else taken)
+        if not is_next:
+            return
+        it.definitions.append(taken[-1])
+        walk.take()
 
 
 def flow_of(walk):
-    it = Flow(walk.take(), walk.take() if not walk.is_over() else None)
+    it = Flow(walk.take(), walk.now() if walk.is_over() else walk.take())
     while walk.now().text in ("<-", "->"):
         dependence = Dependence(walk.take())
         dependence.tokens = walk.skip_to(["<-", "->", ";"], KINDS | {"BODY"})

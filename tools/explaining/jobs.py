@@ -1,17 +1,10 @@
-"""Where in a JDF an inconsistency, a trap or a stall comes from. No expression is evaluated: what is said holds whatever their values are."""
+"""Where in a JDF an inconsistency may come from. No expression is evaluated: what is said holds whatever their values are."""
 
 TASK_CODES = {"OutOfSpace": None, "NoMatchingOut": True, "NoMatchingIn": False, "NoInput": True, "NullSent": False, "TooManyEdges": None}
-CAUSES = {
-    "overflow": "a result does not fit 64 bits",
-    "divide": "a divisor is 0",
-    "index": "an index is outside of its tile",
-    "absent": "an element is named of a flow whose source is `NULL`",
-    "budget": "the body takes more than 16,777,216 units: one for each statement and each turn of a loop",
-}
 
 
 def task(fields):
-    return f"{fields[0]}({', '.join(fields[1:])})"
+    return f"{fields[0]}({', '.join(fields[1:])})" if fields else "a task"
 
 
 def dependences(flow, code):
@@ -44,13 +37,3 @@ def places(outline, code, cls_name, numbers, flow_name):
 def is_of_task(cls, numbers):
     """Whether numbers may be a task's parameters, and not the values before a definition that has none."""
     return len(numbers) == len(cls.params)
-
-
-def trap_places(outline, cls_name, cause):
-    """The places of `trap CAUSE` in a class, or the body's first line for a cause that no word gives."""
-    cls = outline.class_named(cls_name)
-    if cls is None or cls.begin is None:
-        return []
-    body = cls.body
-    words = [word for word, name, mark in zip(body, body[1:], body[2:]) if word.text == "trap" and name.text == cause and mark.text == ";"]
-    return words or [cls.begin]

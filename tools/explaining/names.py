@@ -2,13 +2,14 @@
 import difflib
 
 from data_text import names_of
-from jdf_text import is_element_target, is_task_target
+from jdf_text import is_element_target, is_task_target, spelled
 
 
 def nearest(name, known):
-    """A sentence about the name that is spelled nearly so, if there is one."""
-    alike = difflib.get_close_matches(name, [it for it in known if it != name], 1, 0.6)
-    return f"Did you mean `{alike[0]}`? " if alike else ""
+    """A question about the name that is spelled most like this one, if there is one."""
+    alike = difflib.get_close_matches(name[:100], [it for it in known if it != name], 1, 0.6)
+    same = [it for it in known if it.lower() == name.lower() and it != name]
+    return f"Did you mean `{(same or alike)[0]}`? " if same or alike else ""
 
 
 def listed(names, most=12):
@@ -29,7 +30,8 @@ def undeclared(name, outline, records):
     declared = [it.text for it in outline.globals]
     for kind, names in (("an integer", integers(records)), ("a collection", collections(records))):
         if name in names and name not in declared:
-            return f"It is {kind} of the data (line {names[name].line}), which the JDF does not declare: write `{name}` on a line of its own before the first class."
+            where = f"It is {kind} of the data (line {names[name].line}), but the JDF does not declare it"
+            return f"{where}: write `{name}` on a line of its own before the first class."
     return ""
 
 
@@ -66,24 +68,67 @@ def variables(cls, token):
     return [name.text for word, name in pairs if word.text in ("int", "for") and name.at() < token.at()]
 
 
-WORDS = {
-    "class": "No class has this name.",
-    "collection": "No collection has this name.",
-    "flow": "No flow of this class with a tile has this name.",
-    "variable": "This name is no variable that is declared before and in scope here, no definition of the class, and no integer of the data.",
-    "value": "This name is no definition before this place, and no integer of the data.",
-}
+def words(kind, name, cls):
+    """The sentence on a name that is not defined."""
+    return {
+        "class": f"There is no class `{name}`.",
+        "collection": f"There is no collection `{name}`.",
+        "flow": f"{cls.name.text} has no flow `{name}` with a tile.",
+    }.get(kind, f"`{name}` is not defined here.")
+
+
+def within_brackets(tokens, at):
+    """The tokens of the index after a name."""
+    found = []
+    for it in tokens[at + 2 : at + 40]:
+        if it.text == "]":
+            break
+        found.append(it)
+    return found
+
+
+def of_another_kind(outline, records, cls, at, kind):
+    """What is wrong where a name is defined, but as something else; or nothing."""
+    name, tokens = outline.tokens[at].text, outline.tokens
+    if kind == "variable" and name in [it.name.text for it in cls.flows]:
+        advice = f": write `{name}[0] = ..;`" if tokens[at + 1].text == "=" else ""
+        return f"`{name}` is a flow, not a number.", f"Its elements are `{name}[0]`, `{name}[1]` and so on{advice}."
+    if kind == "flow":
+        return no_element(records, cls, name, spelled(within_brackets(tokens, at)))
+    if kind == "collection" and name in [it.name.text for it in outline.classes]:
+        return f"`{name}` is a class, and a collection is expected here.", f"A target names the flow first: `FLOW {name}(..)`."
+    if kind == "class" and name in collections(records):
+        return f"`{name}` is a collection, and a class is expected here.", f"An element of it is written without a flow: `{name}(..)`."
+    if kind in ("variable", "value") and name.lower() in ("true", "false"):
+        return f"`{name}` is not defined here.", f"Write `{int(name.lower() == 'true')}`."
+    return None
+
+
+def no_element(records, cls, name, index):
+    """What is wrong with an element of what is not a flow."""
+    flows = [it.name.text for it in cls.flows if it.kind.text != "CTL"]
+    if name in collections(records):
+        advice = f"A body reads and writes the tiles of its flows: {listed(flows)}. Take the tile by `<- {name}(..)`."
+        return f"`{name}` is a collection: a body has no access to it.", advice
+    wrong = f"`{name}[{index}]` is not an element: `{name}` is not a flow of {cls.name.text}, and there are no arrays of integers."
+    return wrong, f"{nearest(name, flows)}Flows with a tile: {listed(flows)}."
 
 
 def unknown(outline, records, place):
-    """What to say of a name that means nothing at a place."""
+    """What to say of a name that is not defined at a place."""
     at, cls = outline.index_at(place), outline.class_at(place)
     if at is None or cls is None:
         return None, None
     name = outline.tokens[at].text
     kind, known = known_at(outline, records, cls, at)
-    hint = undeclared(name, outline, records) if kind != "class" else ""
-    return WORDS[kind], hint or f"{nearest(name, known)}Known here: {listed(known)}."
+    other = of_another_kind(outline, records, cls, at, kind) if at + 1 < len(outline.tokens) else None
+    hint = undeclared(name, outline, records) if kind not in ("class", "flow") else ""
+    if other and not hint:
+        return other
+    if not hint and name in known:
+        hint = f"`{name}` is declared in a block that has ended. "
+        return words(kind, name, cls), f"{hint}Declare it before that block."
+    return words(kind, name, cls), hint or f"{nearest(name, known)}Defined here: {listed(known)}."
 
 
 def wrong_kind(outline, records, place):
@@ -93,8 +138,8 @@ def wrong_kind(outline, records, place):
     name = outline.tokens[at].text
     if name in integers(records) and name not in collections(records):
         declared = [it for it in collections(records) if it in {it.text for it in outline.globals}]
-        return f"`{name}` is an integer of the data, and a collection stands here.", f"Collections of this job: {listed(declared)}."
-    return f"`{name}` is a collection, and a number stands here.", "Read an element of a flow, `A[0]`, or use an integer of the data."
+        return f"`{name}` is an integer of the data, and a collection is expected here.", f"Collections of this job: {listed(declared)}."
+    return f"`{name}` is a collection, and a number is expected here.", "Read an element of a flow, `A[0]`, or use an integer of the data."
 
 
 def no_such_flow(outline, place):
@@ -103,7 +148,12 @@ def no_such_flow(outline, place):
         return None, None
     cls = outline.class_named(outline.tokens[at + 1].text)
     flows = [it.name.text for it in cls.flows] if cls else []
-    return f"The class {outline.tokens[at + 1].text} has no flow `{outline.tokens[at].text}`.", f"{nearest(outline.tokens[at].text, flows)}Its flows: {listed(flows)}."
+    name = outline.tokens[at].text
+    return f"The class {outline.tokens[at + 1].text} has no flow `{name}`.", f"{nearest(name, flows)}Its flows: {listed(flows)}."
+
+
+def counted(number, one):
+    return f"{number} {one}" + ("" if number == 1 else "s")
 
 
 def arity(outline, records, place):
@@ -113,12 +163,12 @@ def arity(outline, records, place):
     name = outline.tokens[at].text
     cls = outline.class_named(name) if at > 0 and is_task_target(outline.tokens, at - 1) else None
     if cls:
-        return f"The class {name} has {len(cls.params)} parameters: {listed([it.text for it in cls.params])}.", "Give it this many arguments."
+        return f"The class {name} has {counted(len(cls.params), 'parameter')}: {listed([it.text for it in cls.params])}.", "Give it this many arguments."
     record = next((it for it in records if it.word() in ("coll", "collof") and name in [field.spelled() for field in it.fields]), None)
     if not record:
         return None, None
     sizes = len(record.fields) - (2 if record.word() == "coll" else 3)
-    return f"The collection {name} has {sizes} {'dimension' if sizes == 1 else 'dimensions'}.", "Give it this many indices."
+    return f"The collection {name} has {counted(sizes, 'dimension')}.", "Give it this many indices."
 
 
 def missing(outline, records):
@@ -126,4 +176,5 @@ def missing(outline, records):
     given = set(integers(records)) | set(collections(records))
     lacking = [it for it in outline.globals if it.text not in given]
     alike = "".join(nearest(it.text, given) for it in lacking[:1])
-    return lacking, f"The data have no line for: {listed([it.text for it in lacking])}.", f"{alike}Add `int,NAME,V` for an integer, or `coll,NAME,R` for a collection."
+    advice = f"{alike}Add `int,NAME,V` for an integer, or `coll,NAME,R` for a collection."
+    return lacking, f"The data have no line for: {listed([it.text for it in lacking])}.", advice

@@ -1,4 +1,5 @@
 """The words of the command line: which rule of docs/language.md, 'The command line', they break, and the files that they name."""
+import difflib
 from dataclasses import dataclass, field
 
 WORKERS, SHARDS = ("--workers", 64), ("--shards", 256)
@@ -6,7 +7,7 @@ WORKERS, SHARDS = ("--workers", 64), ("--shards", 256)
 
 @dataclass
 class Verb:
-    """A verb: what it does, what its operands are called, with the least and the largest number of those that are numbers, and its options."""
+    """A verb: what it does, the names of its operands, with the range of each that is a number, and its options."""
 
     does: str
     operands: dict
@@ -30,7 +31,7 @@ VERBS = {
     "trace": Verb("runs a job and prints its trace", {"JDF": FILE, "DATA": FILE}, (WORKERS, SHARDS)),
     "replay": Verb("runs a job in the order of a trace", {"JDF": FILE, "DATA": FILE, "TRACE": FILE}),
     "certify": Verb("runs a job, and prints a heaviest chain of its tasks, or a cycle", {"JDF": FILE, "DATA": FILE}),
-    "ranks": Verb("runs a job on R ranks that send one another messages, R from 1 to 64", {"JDF": FILE, "DATA": FILE, "R": (1, 64), "SEED": (0, 2**64 - 1)}),
+    "ranks": Verb("runs a job on R ranks that send each other messages, R from 1 to 64", {"JDF": FILE, "DATA": FILE, "R": (1, 64), "SEED": (0, 2**64 - 1)}),
 }
 
 
@@ -66,9 +67,9 @@ def command_of(words):
     """The command that words form, with what is wrong with it."""
     it = Command(words[0] if words else "")
     if not words:
-        it.wrong.append("there is no word")
+        it.wrong.append("no command is given")
     elif it.verb not in VERBS:
-        it.wrong.append(f"`{shown(it.verb)}` is no command")
+        it.wrong.append(f"`{shown(it.verb)}` is not a command{alike(it.verb)}")
     else:
         read(it, VERBS[it.verb], list(words[1:]))
         judge(it, VERBS[it.verb])
@@ -81,7 +82,7 @@ def read(it, verb, rest):
         word = rest.pop(0)
         name, equals, value = word.partition("=")
         if is_improper(word):
-            it.wrong.append(f"`{shown(word)}` is no word of a command: it is empty, `-`, `--` or not UTF-8")
+            it.wrong.append(improper(word))
         elif name in dict(verb.numbers):
             if not equals:
                 value = rest.pop(0) if rest and not rest[0].startswith("-") else None
@@ -89,8 +90,8 @@ def read(it, verb, rest):
         elif word in verb.flags:
             it.options.append((word, ""))
         elif word.startswith("-"):
-            known = f"which has {', '.join(verb.options())}" if verb.options() else "which has none"
-            it.wrong.append(f"`{word}` is no option of `{it.verb}`, {known}")
+            known = f"it has {', '.join(verb.options())}" if verb.options() else "it has none"
+            it.wrong.append(f"`{shown(word)}` is not an option of `{it.verb}`: {known}")
         else:
             it.operands.append(word)
 
@@ -102,18 +103,34 @@ def judge(it, verb):
         if value is None:
             it.wrong.append(f"`{name}` has no number after it")
         elif most and not is_number(value, 1, most):
-            it.wrong.append(f"`{shown(value)}` is no number from 1 to {most} for `{name}`")
+            it.wrong.append(f"`{shown(value)}` is not a number from 1 to {most}, which `{name}` needs")
         if name in [other for other, _ in it.options[:at]]:
-            it.wrong.append(f"`{name}` stands twice")
+            it.wrong.append(f"`{name}` is given twice")
     if len(it.operands) != len(verb.operands):
-        it.wrong.append(f"`{it.verb}` takes {len(verb.operands)} {'word' if len(verb.operands) == 1 else 'words'}, and here are {len(it.operands)}")
+        words, given = len(verb.operands), len(it.operands)
+        it.wrong.append(f"`{it.verb}` takes {words} {'argument' if words == 1 else 'arguments'} besides options, and {given} {'is' if given == 1 else 'are'} given")
     else:
         wanted = zip(it.operands, verb.operands.values())
-        it.wrong += [f"`{shown(text)}` is no number from {kind[0]} to {kind[1]}" for text, kind in wanted if kind is not FILE and not is_number(text, *kind)]
+        it.wrong += [f"`{shown(text)}` is not a number from {kind[0]} to {kind[1]}" for text, kind in wanted if kind is not FILE and not is_number(text, *kind)]
+
+
+def alike(verb):
+    """A question about the verb that is spelled most like this one."""
+    found = [it for it in VERBS if it == verb.lower()] or difflib.get_close_matches(verb[:20].lower(), VERBS, 1, 0.5)
+    return f". Did you mean `{found[0]}`?" if found else ""
 
 
 def is_improper(word):
     return word in ("", "-", "--") or any("\udc80" <= c <= "\udcff" for c in word)
+
+
+def improper(word):
+    """Why a word can't be one of a command."""
+    if word == "-":
+        return "`-` does not name a file: to read standard input write `/dev/stdin`"
+    if word == "--":
+        return "`--` is not used: a file whose name begins with `-` is written `./-..`"
+    return "a word is empty" if word == "" else f"`{shown(word)}` is not UTF-8"
 
 
 def shown(word):
@@ -130,4 +147,4 @@ def explanation(words):
     """The lines for words that form no command."""
     it = command_of(words)
     forms = [it.verb] if it.verb in VERBS else list(VERBS)
-    return [f"ptg: error: usage: {it.wrong[0] if it.wrong else 'these words form no command'}"] + ["    " + form(name) for name in forms]
+    return [f"ptg: error: usage: {it.wrong[0] if it.wrong else 'this is not a command'}"] + ["    " + form(name) for name in forms]
