@@ -4,9 +4,13 @@ import difflib
 from data_text import names_of
 from jdf_text import is_element_target, is_task_target, spelled
 
+# A name is compared with this many others.
+MOST_COMPARED = 5000
+
 
 def nearest(name, known):
     """A question about the name that is spelled most like this one, if there is one."""
+    known = list(known)[:MOST_COMPARED]
     alike = difflib.get_close_matches(name[:100], [it for it in known if it != name], 1, 0.6)
     same = [it for it in known if it.lower() == name.lower() and it != name]
     return f"Did you mean `{(same or alike)[0]}`? " if same or alike else ""
