@@ -287,13 +287,25 @@ class Evaluation:
             if len(waiting) > MOST_TASKS or len(self.after) > MOST_TASKS:
                 raise TooLong
             if before:
-                waiting += before[:1]
+                waiting.append(before[0])
                 continue
             waiting.pop()
-            if at != task and at not in self.after:
-                names, tiles, _ = self.tiles(at)
-                Run(names, tiles, self.work).block(self.class_named(at[0]).statements())
-                self.after[at] = tiles
+            if at != task:
+                self.run(at)
+
+    def run(self, task):
+        """Runs a body whose sources have run."""
+        names, tiles, _ = self.tiles(task)
+        Run(names, tiles, self.work).block(self.class_named(task[0]).statements())
+        self.after[task] = tiles
+
+    def after_body(self, name):
+        """The tiles of a task after its body."""
+        task = (name[0], *(int(it) for it in name[1:]))
+        self.need(task)
+        if task not in self.after:
+            self.run(task)
+        return self.after[task]
 
     def end(self, task):
         """How the body of a task ends, or None where it ends without a fault."""

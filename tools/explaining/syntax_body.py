@@ -4,7 +4,7 @@ from spot import LOGIC, call, first_of, preprocessor, shift
 
 TYPES = ("double", "float", "long", "short", "char", "unsigned", "const", "bool", "size_t", "int32_t", "int64_t", "let", "var", "auto")
 STATEMENT = {it: "a statement, which begins with `int`, a name, `if`, `for` or `trap`" for it in (";", "{", "}", "BODY")}
-SHIFT = "In a body a loop makes the power of two: `int p = 1; for i = 1 .. s { p = p * 2; }`."
+SHIFT = "A loop makes the power of two: `int p = 1; for i = 1 .. {0} {{ p = p * 2; }}`."
 
 
 def end_of_body(spot):
@@ -115,7 +115,7 @@ def assignments(spot):
 
 def operators(spot):
     if spot.text in ("<", ">") and spot.at_text(-1) == spot.text:
-        return shift(spot, SHIFT)
+        return shift(spot, SHIFT.format(spot.at_text(1) if spot.at_kind(1) == "name" else "s"))
     if spot.text in ("^", "~"):
         return f"There is no operator `{spot.text}`: none works on bits.", "Write it with `+ - * / %`."
     if spot.text in LOGIC and spot.at_kind(-1) in ("name", "number") and not spot.begins_line():

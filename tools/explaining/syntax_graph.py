@@ -18,7 +18,8 @@ AFTER = {
     "CTL": "the name of the flow",
     ";": "the priority, an expression",
 }
-POWER = "`p = (s % 2 == 1 ? 2 : 1) * (s / 2 % 2 == 1 ? 4 : 1) * (s / 4 % 2 == 1 ? 16 : 1)`"
+# 2 to the power of a parameter from 0 to 7, bit by bit
+POWER = "`p = ({0} % 2 == 1 ? 2 : 1) * ({0} / 2 % 2 == 1 ? 4 : 1) * ({0} / 4 % 2 == 1 ? 16 : 1)` for `{0}` from 0 to 7"
 
 
 def is_before_flows(spot):
@@ -285,9 +286,9 @@ def members(spot):
 
 def operators(spot):
     if spot.text in ("<", ">") and spot.at_text(-1) == spot.text:
-        divided = "Divide by the power of two" if spot.text == ">" else "Multiply by the power of two"
-        otherwise = f"{divided}. With a parameter `s` from 0 to 7 define it: {POWER}. Where all tasks have the same, give it as an `int` of the data."
-        return shift(spot, otherwise)
+        divided = "Divide by a power of two" if spot.text == ">" else "Multiply by a power of two"
+        power = POWER.format(spot.at_text(1) if spot.at_kind(1) == "name" else "s")
+        return shift(spot, f"{divided}, and define it: {power}. Where all tasks have the same, give it as an `int` of the data.")
     if spot.text in ("^", "~"):
         return f"There is no operator `{spot.text}`: none works on bits.", "Write it with `+ - * / %`, or give the value in the data."
     if spot.text == "+":

@@ -46,10 +46,12 @@ class TextGraph:
 
     def tasks(self):
         """All tasks by their names, in walk order."""
+        if self.evaluation is None:
+            raise Unknown
         try:
             if self.all is None:
                 self.all = {}
-                for name in self.evaluation.classes if self.evaluation else []:
+                for name in self.evaluation.classes:
                     self.add_tasks(name)
             return self.all
         except (*UNKNOWN, Fault) as why:
