@@ -3,6 +3,7 @@ import difflib
 
 from data_text import names_of
 from jdf_text import is_element_target, is_task_target, spelled
+from spot import Spot, call
 
 # A name is compared with this many others.
 MOST_COMPARED = 5000
@@ -94,6 +95,8 @@ def within_brackets(tokens, at):
 def of_another_kind(outline, records, cls, at, kind):
     """What is wrong where a name is defined, but as something else; or nothing."""
     name, tokens = outline.tokens[at].text, outline.tokens
+    if kind == "variable" and tokens[at + 1].text == "(":
+        return call(Spot(outline, at + 1), "a body")
     if kind == "variable" and name in [it.name.text for it in cls.flows]:
         advice = f": write `{name}[0] = ..;`" if tokens[at + 1].text == "=" else ""
         return f"`{name}` is a flow, not a number.", f"Its elements are `{name}[0]`, `{name}[1]` and so on{advice}."

@@ -109,7 +109,7 @@ def assignments(spot):
     if spot.text == "[" and last == "]":
         return "An element has one index.", "Compute it: row `i` and column `j` of rows of `n` elements is `FLOW[i * n + j]`."
     if last in ("}", "]", ")") and spot.text == "=":
-        return "Nothing is assigned to here.", "The assignments are `x = ..;` and `FLOW[i] = ..;`."
+        return "This cannot be assigned to.", "The assignments are `x = ..;` and `FLOW[i] = ..;`."
     return None
 
 
@@ -134,10 +134,10 @@ def calls(spot):
 
 def braces(spot):
     if spot.at_text(-1) == "if":
-        return "The condition of an `if` stands in parentheses.", "Write `if (c) { }`."
+        return "The condition of an `if` needs parentheses.", "Write `if (c) { }`."
     is_after_condition = spot.at_text(-1) == ")" and spot.before_parentheses() == "if"
     if (is_after_condition or spot.at_text(-1) == "else") and spot.text != "{":
-        return "A block stands in braces.", "Write `if (c) { .. } else { .. }`."
+        return "A block needs braces.", "Write `if (c) { .. } else { .. }`."
     if spot.text == "}":
         before = [it.text for it in spot.cls.body if it.start < spot.token.start] if spot.cls else []
         if before.count("{") <= before.count("}"):

@@ -45,7 +45,7 @@ def hash_sign(spot):
 
 def inline_c(spot):
     if spot.at_kind(0) == "raw":
-        return "C code can stand in `extern` only, where it is skipped.", "Write the expression in JDF's own operators."
+        return "C code is allowed in `extern` only, where it is skipped.", "Write the expression in JDF's own operators."
     return None
 
 
@@ -82,7 +82,7 @@ def no_place(spot):
     if spot.tokens[spot.at - 1] == spot.cls.affinity:
         return f"`{spot.at_text(-1)}` has no index.", f"The place of a task is one tile: write `: {spot.at_text(-1)}(0)`, for example."
     if spot.text in KINDS and spot.cls.priority and spot.cls.priority.at() < spot.token.at():
-        return "All flows stand before the priority.", "Move the line that begins with `;` to the end, right before BODY."
+        return "All flows come before the priority.", "Move the line that begins with `;` to the end, right before BODY."
     return None
 
 
@@ -148,7 +148,7 @@ def assigned_flow(spot):
         return None
     flow = f"{spot.at_text(-2)} {spot.at_text(-1)}"
     if spot.text == "=":
-        return "A flow is not assigned to.", f"Write `{flow} <- ..` for where its tile comes from, and `-> ..` for where it goes."
+        return "A flow does not get its tile by `=`.", f"Write `{flow} <- ..` for where its tile comes from, and `-> ..` for where it goes."
     if spot.text == ",":
         return "A line declares one flow.", f"Write each flow on a line of its own, as `{flow} <- ..`."
     if not spot.begins_line() and spot.at_kind(0) in ("name", "number") or spot.text == "(":
@@ -172,9 +172,9 @@ def no_body(spot):
     if spot.at_kind(0) != "name" and spot.text != "{":
         return None
     if spot.at_text(1) == "=" and not any(it.text == ";" for it in spot.of_line()):
-        return "A definition stands before the place of the task.", f"Move `{spot.text} = ..` above the line `: {cls.affinity.text}(..)`."
+        return "Definitions come before the place of the task.", f"Move `{spot.text} = ..` above the line `: {cls.affinity.text}(..)`."
     if spot.at_text(1) in ("[", "=", "+") or spot.text in STATEMENTS:
-        return "A statement stands in a body, and no BODY begins before this line.", "Write `BODY` on a line before the first statement."
+        return "This looks like a statement of a body, but no BODY begins before it.", "Write `BODY` on a line before the first statement."
     return None
 
 
@@ -200,7 +200,7 @@ def nested_targets(spot):
         return None
     last = before[mark]
     if spot.at_text(-1) == "?" and spot.at_kind(0) == "number":
-        return "After `?` there has to be a target.", "A guard with a `? :` of its own stands in parentheses: `(a ? b : c) ? target`."
+        return "After `?` there has to be a target.", "A guard with a `? :` of its own needs parentheses: `(a ? b : c) ? target`."
     if spot.text == ":" and len(before) - mark == 2 and spot.at_kind(-1) == "name":
         return f"`{spot.at_text(-1)}` alone is not a target.", "A target is `FLOW CLASS(..)`, `COLLECTION(..)`, `NEW` or `NULL`."
     if len(before) - mark <= 2 and (spot.text in ("?", "<", "<=", ">", ">=", "==", "!=", "&&", "||", "(") or spot.at_kind(0) == "number"):
@@ -228,9 +228,9 @@ def properties(spot):
     if spot.text == "[" and last in ("<-", "->"):
         return "A dependence has no indices of its own.", "Put the range into the target: `-> FLOW CLASS(0 .. n)`."
     if spot.text == "[":
-        return "Properties cannot stand here.", "A dependence may have `[type = NAME]` at its end; a definition has none."
+        return "There can be no properties here.", "A dependence may have `[type = NAME]` at its end; a definition has none."
     if spot.text == ":" and last == "]":
-        return "The type stands after the whole dependence, once.", "Write `c ? t : u [type = NAME]`."
+        return "The type comes once, after the whole dependence.", "Write `c ? t : u [type = NAME]`."
     return None
 
 
@@ -271,7 +271,9 @@ def no_operator(spot):
 
 def is_global(spot):
     """Whether the token before could be a global or the head of a class."""
-    return spot.cls is None or spot.cls.end is not None and spot.cls.end.at() < spot.token.at()
+    last = spot.beside(-1)
+    cls = spot.outline.class_at(last.at()) if last else None
+    return cls is None or (cls.end is not None and cls.end.at() < last.at())
 
 
 def members(spot):
@@ -321,7 +323,7 @@ def end_marks(spot):
 def global_after_class(spot):
     last = spot.at_text(-1)
     if spot.outline.classes and is_name(spot.token) and spot.at_kind(-1) == "name" and last not in RESERVED and is_global(spot):
-        return "After the name of a class there has to be `(`; all globals stand before the first class.", f"If `{last}` is a global, move it to the top."
+        return "After the name of a class there has to be `(`; all globals come before the first class.", f"If `{last}` is a global, move it to the top."
     return None
 
 

@@ -90,6 +90,8 @@ class TextGraph:
                 self.add_ties(found, flow, names)
         except Ill as ill:
             found.ill = ill.args
+        # (as job_graph prints them: what comes in first)
+        found.ties.sort(key=lambda it: not it.inward)
         return found
 
     def place(self, cls, names):
