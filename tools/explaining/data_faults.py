@@ -7,7 +7,6 @@ from names import collections, integers, listed, nearest
 NAME = re.compile(r"[A-Za-z_][A-Za-z0-9_]*")
 WORDS = ["elems", "int", "coll", "collof", "tile"]
 NUMERALS = ["zero", "one", "two", "three", "four", "five", "six", "seven", "eight", "nine", "ten"]
-BYTE_ORDER_MARK = "\ufeff"
 
 
 def number_of(field):
@@ -100,12 +99,6 @@ def open_quote(record, _code, _field, _earlier):
     return found, 'A quote `"` opens here, and none closes it: the rest of the file is one field.', "Remove it: no field needs quotes."
 
 
-def byte_order_mark(record, _code, _field, _earlier):
-    if record.word().startswith(BYTE_ORDER_MARK):
-        return record.fields[0], "The file begins with a byte order mark, which is not part of the data.", "Save it as UTF-8 without the mark."
-    return None
-
-
 def comment(record, code, field, _earlier):
     if record.word().startswith(("#", "//", "/*", "%")):
         return record.fields[0], "A data file has no comments.", "Remove the line, or put the comment into the JDF."
@@ -159,7 +152,7 @@ def thousands(record, code, field, _earlier):
     return field, "A comma separates fields, so a number has none.", f"Write `{','.join(texts[:2])},{''.join(texts[2:])[:60]}`."
 
 
-MISTAKES = [open_quote, byte_order_mark, comment, other_separators, thousands, no_number]
+MISTAKES = [open_quote, comment, other_separators, thousands, no_number]
 
 
 def mistake(code, record, earlier):

@@ -44,6 +44,13 @@ def reason(text, outline, place, collections=()):
     return wrong, f"{advice} ({TABLE})" if differs else advice
 
 
+def encoding(text):
+    """What a text is that is not UTF-8, where its first bytes show it."""
+    if text.startswith((b"\xff\xfe", b"\xfe\xff")):
+        return "This file is UTF-16, and a JDF is UTF-8.", "Save it as UTF-8 without a byte order mark."
+    return None, None
+
+
 def truncated(outline):
     """What is missing at the end of a text."""
     last = outline.classes[-1] if outline.classes else None
