@@ -27,7 +27,7 @@ def no_end(cls, token):
 def reason(text, outline, place, collections=()):
     """What is wrong at a place, and what to write; or two times nothing."""
     if text.startswith(b"\xef\xbb\xbf") and place == (1, 1):
-        return "The file begins with a byte order mark, which is not part of JDF.", "Save it as UTF-8 without the mark."
+        return "The file begins with a byte order mark, which is not part of JDF.", f"Save it as UTF-8 without the mark. ({TABLE})"
     if text.lstrip().startswith((b"elems,", b"elems ,")):
         return "This file looks like data, and a JDF is expected here.", "The JDF comes first: `run JDF DATA`."
     at = outline.index_at(place)

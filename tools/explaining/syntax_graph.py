@@ -186,6 +186,12 @@ def kind_of_flow(spot):
     return f"`{spot.text}` is not a kind of flow.", advice
 
 
+def flow_without_kind(spot):
+    if spot.at_kind(0) == "name" and spot.at_text(1) in ("<-", "->") and spot.cls and spot.cls.affinity is not None:
+        return f"The flow `{spot.text}` has no kind before its name.", f"Write READ, WRITE, RW or CTL: `RW {spot.text}`, for example."
+    return None
+
+
 NESTED = "Write a dependence for each case, and join guards by `&&`: `-> c ? t`, `-> !c && d ? u`."
 
 
@@ -329,10 +335,10 @@ def global_after_class(spot):
 
 MISTAKES = [
     hash_sign, inline_c, second_body, end_too_many, parameters, open_parenthesis, place_without_colon, no_place, range_in_words, range_with_colon, index_of_a_global,
-    single_equals, assigned_flow, global_with_value, no_body, kind_of_flow, target_in_target, nested_targets, properties, members, operators, calls,
+    single_equals, assigned_flow, global_with_value, no_body, kind_of_flow, flow_without_kind, target_in_target, nested_targets, properties, members, operators, calls,
     end_marks, global_after_class, no_operator,
 ]  # fmt: skip
-DIFFERING = [inline_c, index_of_a_global, second_body, nested_targets, properties, members, operators, calls, end_marks, global_after_class]
+DIFFERING = [hash_sign, inline_c, index_of_a_global, second_body, flow_without_kind, nested_targets, properties, members, operators, calls, end_marks, global_after_class]
 
 
 def reason(spot):
