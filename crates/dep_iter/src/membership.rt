@@ -10,14 +10,12 @@ ghost use Rattle.dep_iter.specs.Arguments.{combinations};
 ghost use Rattle.dep_iter.specs.Directions.{IsNearFlow, edges_before, edges_of, near_flow};
 ghost use Rattle.dep_iter.specs.Links.{links_to};
 ghost use Rattle.dep_iter.specs.Tasks as tasks;
-ghost use Rattle.dep_iter.specs.Tasks.{IsTask};
 
 use crate::argument::takes_value;
 use crate::guard::held_target;
 use crate::lent::LentEdge;
-use crate::task::flows_of;
 use crate::task_at::TaskAt;
-use plan_core::{Arg, DepPlan, FlowPlan, Plan, Target};
+use plan_core::{Arg, DepPlan, FlowPlan, Target};
 use ptg_base::TaskId;
 use term_core::Direction;
 
@@ -75,36 +73,26 @@ fn any_leads_to(first_only: bool, deps: &[DepPlan], env: &[i64], far: &TaskId, f
     any_leads_to(first_only, later, env, far, far_flow)
 }
 
-// The flow of this task that the edge names, if it names the task and one of its flows.
-fn named_flow<'a>(
-    plan: &'a Plan,
-    direction: Direction,
-    t: &TaskId,
-    edge: &LentEdge,
-) -> Option<&'a FlowPlan>
-    requires { IsTask plan.now t.now }
-    ensures { MatchOption result ((f : FlowPlanValue) → IsNearFlow direction plan.now t.now edge.now f → ⊥)
-        (λ f. IsNearFlow direction plan.now t.now edge.now f.now) }
-{
-    let same_task = *edge.near_task(direction) == *t;
-    if !same_task {
-        return None;
+impl<'a> TaskAt<'a> {
+    // The flow of the task that the edge names, if it names the task and one of its flows.
+    fn named_flow(&self, direction: Direction, edge: &LentEdge) -> Option<&'a FlowPlan>
+        ensures { MatchOption result
+            ((f : FlowPlanValue) → IsNearFlow direction self.now.plan.now self.now.task.now edge.now f → ⊥)
+            (λ f. IsNearFlow direction self.now.plan.now self.now.task.now edge.now f.now) }
+    {
+        let same_task = *edge.near_task(direction) == *self.task;
+        if !same_task {
+            return None;
+        }
+        self.flow(edge.near_flow(direction))
     }
-    let flows = flows_of(plan, t);
-    let number = edge.near_flow(direction) as usize;
-    if number >= flows.len() {
-        return None;
-    }
-    Some(&flows[number])
-}
 
-impl TaskAt<'_> {
     /// Whether the edge is one of those of the task, into it or out of it. Takes time according to the dependences of
     /// one flow, however many edges they give.
     pub fn has_edge(&self, direction: Direction, edge: &LentEdge) -> bool
         ensures { IsTrue result ↔ IsIn edge.now (edges_of direction self.now.plan.now self.now.task.now) }
     {
-        let Some(flow) = named_flow(self.plan, direction, self.task, edge) else {
+        let Some(flow) = self.named_flow(direction, edge) else {
             return false;
         };
         any_leads_to(

@@ -1,10 +1,10 @@
 //! Tasks with their locals.
 
-ghost use Rattle.std.specs.Prelude.{◌≡◌, ◌≤◌, IfNone, IfSome, IsTrue, length};
+ghost use Rattle.std.specs.Prelude.{◌≡◌, ◌<◌, ◌≤◌, ◌&&◌, IfNone, IfSome, IsTrue, MatchOption, Some, length, slice_get};
 ghost use Rattle.ptg_base.specs.Limits.{most_flows};
 ghost use Rattle.dep_iter.specs.Tasks as tasks;
 ghost use Rattle.dep_iter.specs.Tasks.{IsTask};
-ghost use Rattle.dep_iter.specs.Links.{flows_fit};
+ghost use Rattle.dep_iter.specs.Links.{dependences_fit, flows_fit};
 ghost use Rattle.dep_iter.specs.OneTask.{IsTask-prop};
 
 use crate::task::{flows_of, locals_of, task_locals};
@@ -64,5 +64,23 @@ impl<'a> TaskAt<'a> {
         ensures fit { IsTrue (flows_fit self.now.plan.now result.now) }
     {
         flows_of(self.plan, self.task)
+    }
+
+    /// The flow of the task with this number, if there is one.
+    pub fn flow(&self, number: u8) -> Option<&'a FlowPlan>
+        ensures found { MatchOption result
+            (length (tasks.flows_of self.now.plan.now self.now.task.now) ≤ number)
+            (λ f. (number < length (tasks.flows_of self.now.plan.now self.now.task.now))
+            × (slice_get (tasks.flows_of self.now.plan.now self.now.task.now) number ≡ Some f.now)) }
+        ensures at_most { IfSome result (λ _. number < most_flows) }
+        ensures fit { IfSome result (λ f. IsTrue
+            (dependences_fit self.now.plan.now f.now.ins && dependences_fit self.now.plan.now f.now.outs)) }
+    {
+        let flows = self.flows();
+        let at = number as usize;
+        if at >= flows.len() {
+            return None;
+        }
+        Some(&flows[at])
     }
 }

@@ -89,12 +89,10 @@ impl TaskAt<'_> {
     pub fn data_source(&self, flow: u8) -> Source
         ensures { result ≡ edges.data_source self.now.plan.now self.now.task.now flow }
     {
-        let flows = self.flows();
-        let number = flow as usize;
-        if number >= flows.len() {
-            return Source::Nothing;
+        match self.flow(flow) {
+            Some(of) => flow_source(self.plan, self.task, self.locals, flow, of),
+            None => Source::Nothing,
         }
-        flow_source(self.plan, self.task, self.locals, flow, &flows[number])
     }
 }
 

@@ -20,7 +20,7 @@ pub(crate) fn accept_flows(task: &TaskAt, number: u8, tally: &mut Tally) -> bool
     ensures { OnTrue result (Accepts task.now.plan.now task.now.task.now task.now.locals.now tally.old tally.new number
         (drop number (flows_of task.now.plan.now task.now.task.now))) }
 {
-    let Some(flow) = task.flows().get(number as usize) else {
+    let Some(flow) = task.flow(number) else {
         return true;
     };
     let before = tally.outs.items();

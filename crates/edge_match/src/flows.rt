@@ -98,7 +98,7 @@ pub(crate) fn check_flows(
         (by_number (flow_marks phase task.now.plan.now task.now.task.now) number
         (drop number (flows_of task.now.plan.now task.now.task.now))) }
 {
-    let Some(flow) = task.flows().get(number as usize) else {
+    let Some(flow) = task.flow(number) else {
         return Ok(());
     };
     let source = task.data_source(number);

@@ -1,25 +1,19 @@
-use Rattle.std.proofs.Common.{◌≡◌, slice_get, Some, None, refl, arith}
+use Rattle.std.proofs.Common.{◌≡◌, slice_get, None, refl}
+use Rattle.std.proofs.lemmas.Option.{slice_get_past}
 use Rattle.dep_iter.specs.Edges.{data_source}
 use Rattle.dep_iter.specs.Tasks.{flows_of}
-use Rattle.list_lemmas.proofs.Places.{slice_get_at}
-use Rattle.std.proofs.lemmas.Option.{slice_get_past}
 use Rattle.dep_iter.proofs.task_at.TaskAt.data_source.Goals as goal
 
-pub returns-then-number-flows : goal.returns-then-number-flows
+pub returns-in-Some : goal.returns-in-Some
 unfolding data_source
-returns-then-number-flows c =
+returns-in-Some c =
     let at = c.args.self.now in
-    let flows = c.flows-flows.result.now in
-    let past = slice_get_past flows c.args.flow (omega arith) in
-    let e : slice_get (flows_of at.plan.now at.task.now) c.args.flow ≡ None = rw c.flows-flows.ensures.flows at past in
-    rw e refl
+    rw c.in-Some.ensures.found.1 (rw at.are_locals at c.flow_source.ensures)
 
-pub returns : goal.returns
+pub returns-in-None : goal.returns-in-None
 unfolding data_source
-returns c =
+returns-in-None c =
     let at = c.args.self.now in
-    let flows = c.flows-flows.result.now in
-    let f = c.index-flows-number.result in
-    let here = slice_get_at flows c.args.flow f (omega arith) c.index-flows-number.is in
-    let e : slice_get (flows_of at.plan.now at.task.now) c.args.flow ≡ Some f = rw c.flows-flows.ensures.flows at here in
-    rw e (rw at.are_locals at c.flow_source.ensures)
+    let none : slice_get (flows_of at.plan.now at.task.now) c.args.flow ≡ None =
+    slice_get_past (flows_of at.plan.now at.task.now) c.args.flow c.in-None.ensures.found in
+    rw none refl
