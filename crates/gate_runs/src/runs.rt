@@ -120,7 +120,13 @@ pub fn replayed<R: Threads + Wait + Sync>(
     let trace_words = words(alloc, "trace", options)?;
     let (trace, _status) = printed(rt, alloc, trace_words.as_slice(), (job, b""), &Always)?;
     let replay_words = words(alloc, "replay", "job.trace")?;
-    let (out, status) = printed(rt, alloc, replay_words.as_slice(), (job, trace.bytes()), &Always)?;
+    let (out, status) = printed(
+        rt,
+        alloc,
+        replay_words.as_slice(),
+        (job, trace.bytes()),
+        &Always,
+    )?;
     let run_words = words(alloc, "run", options)?;
     let (run_out, _status) = printed(rt, alloc, run_words.as_slice(), (job, b""), &Always)?;
     let is_answer = out.bytes() == job.answer && run_out.bytes() == job.answer;

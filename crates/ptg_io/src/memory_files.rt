@@ -31,8 +31,13 @@ impl Model for MemFiles {
 
     ghost view = { λ m.
         record {
-            files = m.all; failed = m.failed; missing = m.missing; reads = m.reads; fails = m.failing;
-            history = m.history.reads } };
+          files = m.all;
+          failed = m.failed;
+          missing = m.missing;
+          reads = m.reads;
+          fails = m.failing;
+          history = m.history.reads;
+        } };
 
     ghost invariant = { λ m. length m.failed ≡ length m.all };
 }
@@ -101,7 +106,8 @@ impl Files for MemFiles {
         match index {
             Some(at) if !fails => {
                 let n = copy_piece(self.all.get(at).bytes(), from, into);
-                self.history.note(name.as_bytes(), &Offset { value: from }, &into[..n]);
+                self.history
+                    .note(name.as_bytes(), &Offset { value: from }, &into[..n]);
                 Ok(n)
             }
             _ => {

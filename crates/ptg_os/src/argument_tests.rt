@@ -53,7 +53,11 @@ fn each_argument_is_read(rt: HostRuntime) -> Result<(), Fail> {
     };
     let list = words(&process, rt.alloc())?;
     assert_eq!(rt; list.len(), 3);
-    for (text, word) in list.as_slice().iter().zip([b"run".as_slice(), b"", b"a\xff.jdf"]) {
+    for (text, word) in list
+        .as_slice()
+        .iter()
+        .zip([b"run".as_slice(), b"", b"a\xff.jdf"])
+    {
         assert_eq!(rt; text.bytes(), word);
     }
     Ok(())
@@ -67,8 +71,14 @@ fn no_argument_is_dropped(rt: HostRuntime) -> Result<(), Fail> {
     assert_eq!(rt; counts(alloc, &[]), Some((0, 0)));
     assert_eq!(rt; counts(alloc, &[b"ptg"]), Some((0, 0)));
     assert_eq!(rt; counts(alloc, &[b"ptg", b"show"]), Some((1, 4)));
-    assert_eq!(rt; counts(alloc, &[b"ptg", longest.as_slice(), b"a"]), Some((2, 262145)));
-    assert_eq!(rt; counts(alloc, &[b"ptg", b"show", too_long.as_slice()]), None);
+    assert_eq!(rt;
+        counts(alloc, &[b"ptg", longest.as_slice(), b"a"]),
+        Some((2, 262145))
+    );
+    assert_eq!(rt;
+        counts(alloc, &[b"ptg", b"show", too_long.as_slice()]),
+        None
+    );
     assert_eq!(rt; counts(alloc, &[b"ptg", too_long.as_slice(), b"a"]), None);
     Ok(())
 }

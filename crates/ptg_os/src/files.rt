@@ -85,7 +85,8 @@ impl<'a, R: rt::Files> Files for OsFiles<'a, R> {
         };
         match read {
             Some((n, opened)) => {
-                self.history.note(name.as_bytes(), &Offset { value: from }, &into[..n]);
+                self.history
+                    .note(name.as_bytes(), &Offset { value: from }, &into[..n]);
                 self.last = Some(opened);
                 Ok(n)
             }

@@ -143,17 +143,16 @@ module _ (words : List (List ℕ)) (old new : List Read) (failed failed_since : 
 
   unread_after : (command : Order) (loads : List Load) → Orders words command → AreOf loads (files_of command) → CommandDenotes (in_loads loads) command v → EndsAfter old new loads failed failed_since v → status_of v ≡ status.ReadFault
       → (name : List ℕ) × IsUnread words old new failed failed_since name × (text_of v ≡ unread_line name)
-  unread_after command loads formed names h (inl (name, d, after)) e =
-      (
-        name,
-        record {
-          loads = loads;
-          operands = inr (command, formed, names);
-          denoted = inr (command, formed, subst (λ (w : Denotation). CommandDenotes (in_loads loads) command w) d h);
-          reads = after;
-        },
-        ap text_of d,
-      )
+  unread_after command loads formed names h (inl (name, d, after)) e = (
+    name,
+    record {
+      loads = loads;
+      operands = inr (command, formed, names);
+      denoted = inr (command, formed, subst (λ (w : Denotation). CommandDenotes (in_loads loads) command w) d h);
+      reads = after;
+    },
+    ap text_of d,
+  )
   unread_after command loads formed names h (inr (of, gave, none)) e = absurd ((of_texts v of).1 e)
 
   -- the status of usage comes with its line alone, and only to arguments that form no command

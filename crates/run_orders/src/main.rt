@@ -99,7 +99,12 @@ fn main(rt: HostRuntime) -> io::Result<()> {
     }
     for job in ANSWERED {
         print_answer(&rt, job.name, "one thread", of_one_thread(alloc, job))?;
-        print_answer(&rt, job.name, "last task first", of_a_run_backwards(alloc, job))?;
+        print_answer(
+            &rt,
+            job.name,
+            "last task first",
+            of_a_run_backwards(alloc, job),
+        )?;
     }
     Ok(())
 }

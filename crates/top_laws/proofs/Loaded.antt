@@ -17,12 +17,11 @@ gave_adds old new [] same = ([], same ∙ sym (append-nil old))
 gave_adds old new (load ∷ loads) (middle, first, rest) =
     let more = gave_adds middle new loads rest in
     let last : List Read = record { name = load.name; from = length first.earlier; piece = first.last } ∷ [] in
-    let own : List Read = reads_in_turn load.name 0 first.reads.pieces in
-    (
+    let own : List Read = reads_in_turn load.name 0 first.reads.pieces in (
       (own ++ last) ++ more.0,
       more.1
-      ∙ ap (λ (rs : List Read). rs ++ more.0) (first.ended ∙ ap (λ (rs : List Read). rs ++ last) first.reads.reads ∙ append_assoc old own last)
-      ∙ append_assoc old (own ++ last) more.0,
+          ∙ ap (λ (rs : List Read). rs ++ more.0) (first.ended ∙ ap (λ (rs : List Read). rs ++ last) first.reads.reads ∙ append_assoc old own last)
+          ∙ append_assoc old (own ++ last) more.0,
     )
 
 all_front : {X : Type 0} (P : X → Type 0) (xs ys : List X) → AllByRecursion P (xs ++ ys) → AllByRecursion P xs
@@ -95,8 +94,7 @@ loads_from files old new (load ∷ loads) (middle, first, rest) added is all =
     let split : old ++ added ≡ old ++ (own ++ more.0) =
     sym is ∙ more.1 ∙ ap (λ (rs : List Read). rs ++ more.0) (added_by files load old middle first) ∙ append_assoc old own more.0 in
     let parts : added ≡ own ++ more.0 = append_cancel_left old added (own ++ more.0) split in
-    let both : AllByRecursion (IsPieceOf files) (own ++ more.0) = subst (λ (rs : List Read). AllByRecursion (IsPieceOf files) rs) parts all in
-    (
+    let both : AllByRecursion (IsPieceOf files) (own ++ more.0) = subst (λ (rs : List Read). AllByRecursion (IsPieceOf files) rs) parts all in (
       is_file files load old middle first (all_front (IsPieceOf files) own more.0 both),
       loads_from files middle new loads rest more.0 more.1 (all_back (IsPieceOf files) own more.0 both),
     )

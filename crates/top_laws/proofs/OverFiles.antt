@@ -85,8 +85,7 @@ module _ (files : NamedFiles) where
     command_known (Trace jdf data_name workers shards) names v read h = goes_known IsTraced jdf data_name names v read h
     command_known (Replay jdf data_name trace) names v read (checked, h, k) =
         let One = IsReplayed trace (text_at loads 2) in
-        let Other = IsReplayed trace (file_of files trace) in
-        (
+        let Other = IsReplayed trace (file_of files trace) in (
           checked,
           files_known jdf data_name (trace ∷ []) names checked (checked_was_read One checked v k read) h,
           verb_known One Other (λ P given w was. replayed_known trace (text_at loads 2) (file_of files trace) (agrees_2 loads jdf data_name trace [] names all) P given w was) checked v read k,

@@ -96,12 +96,14 @@ some_trace jdf data_name a b P Q given text h (tasks, whole, e) short =
     let rows = rows_spelled Q
     (λ t job. record { name = names_spelled texts.0 texts.1 Q given texts.2 t job; params = params_numbers texts.0 texts.1 Q given texts.2 t job })
     tasks (legal_tasks Q [] tasks whole.legal) in
-    let same = same_text P Q text (trace_text Q tasks) e in
-    (tasks, record {
-      at_most = short;
-      spelled = subst (λ x. IsWellSpelled x (map (row_of Q) tasks)) (sym same) (spelled_text Q tasks rows (whole_length Q given con tasks whole));
-      whole = whole;
-    })
+    let same = same_text P Q text (trace_text Q tasks) e in (
+      tasks,
+      record {
+        at_most = short;
+        spelled = subst (λ x. IsWellSpelled x (map (row_of Q) tasks)) (sym same) (spelled_text Q tasks rows (whole_length Q given con tasks whole));
+        whole = whole;
+      },
+    )
 
 -- ---- what is replayed
 

@@ -11,7 +11,6 @@ use Rattle.ptg_words.specs.declared.order.Order.TheVariants.{Ranks, Run}
 use Rattle.ptg_top.specs.declared.verdict.Finding.TheVariants.{Answer}
 use Rattle.ptg_top.specs.Denotation as verdicts
 use Rattle.ptg_top.specs.Denotation.{Denotation}
-
 use Rattle.ptg_top.specs.Operands.{Operands}
 use Rattle.ptg_top.specs.Meaning.{CommandDenotes, Denotes}
 use Rattle.top_laws.specs.Settings.{SeedsChangeNothing, ShardsChangeNothing, WorkersChangeNothing}

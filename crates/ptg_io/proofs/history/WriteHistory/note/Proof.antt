@@ -37,7 +37,6 @@ use denote.Exit.{yes}
 use denote.Slice.{ShrSlice, slice_val, shr_slice_vals, shr_slice_Tells}
 use denote.Triple.Walked.{stay_none_slice, Goes-none_slice}
 use Rattle.std.proofs.Common.{◌<◌, ◌^◌, length}
-
 use Rattle.std.proofs.Common.{◌++◌}
 
 abbrev Arg : Type 0
