@@ -2,7 +2,8 @@
 
 use crate::files::OsFiles;
 use crate::sink::OsSink;
-use ptg_io::{Failed, Files, Sink};
+use ptg_io::{Failed, Files, LoadFault, Sink, load};
+use std::alloc::{AllocError, Global};
 use std::test::Fail;
 use std::{env, fs};
 
@@ -42,6 +43,85 @@ fn the_sink_passes_bytes_on(rt: HostRuntime) -> Result<(), Fail> {
     }
     let written = fs::read(&rt, path.as_path())?;
     assert_eq!(rt; written.as_slice(), b"abcde".as_slice());
+    fs::remove_file(&rt, path.as_path())?;
+    Ok(())
+}
+
+// This many bytes, of which the last is another than the others.
+fn content(alloc: Global, count: usize) -> Result<Vec<u8>, AllocError> {
+    let mut bytes = vec![in alloc; 7u8; count]?;
+    if let Some(last) = bytes.last_mut() {
+        *last = 9;
+    }
+    Ok(bytes)
+}
+
+// A file is loaded whole by reads of 65,536 bytes.
+#[test]
+fn files_are_loaded_whole(rt: HostRuntime) -> Result<(), Fail> {
+    let mut path = env::temp_dir(&rt)?;
+    path.push("ptg_files_are_loaded_whole")?;
+    let Some(name) = path.as_path().to_str() else {
+        assert!(rt; false);
+        return Ok(());
+    };
+    for count in [0, 1, 65_536, 65_537] {
+        let bytes = content(rt.alloc(), count)?;
+        fs::write(&rt, path.as_path(), bytes.as_slice())?;
+        let mut files = OsFiles::new(&rt, rt.alloc());
+        match load(rt.alloc(), &mut files, name) {
+            Ok(loaded) => assert!(rt; loaded.as_slice() == bytes.as_slice()),
+            Err(_) => panic!(rt; "the file is not loaded"),
+        }
+    }
+    fs::remove_file(&rt, path.as_path())?;
+    Ok(())
+}
+
+// A file has at most 16 MiB.
+#[test]
+fn a_file_of_more_than_16_mib_is_too_long(rt: HostRuntime) -> Result<(), Fail> {
+    let mut path = env::temp_dir(&rt)?;
+    path.push("ptg_a_file_of_more_than_16_mib")?;
+    let Some(name) = path.as_path().to_str() else {
+        assert!(rt; false);
+        return Ok(());
+    };
+    for (count, loaded) in [
+        (16_777_216, Ok(16_777_216)),
+        (16_777_217, Err(LoadFault::TooLong)),
+    ] {
+        let bytes = content(rt.alloc(), count)?;
+        fs::write(&rt, path.as_path(), bytes.as_slice())?;
+        let mut files = OsFiles::new(&rt, rt.alloc());
+        let result = load(rt.alloc(), &mut files, name).map(|bytes| bytes.len());
+        assert_eq!(rt; result, loaded);
+    }
+    fs::remove_file(&rt, path.as_path())?;
+    Ok(())
+}
+
+// A file that grows between two reads is what these give.
+#[test]
+fn a_file_grows_between_two_reads(rt: HostRuntime) -> Result<(), Fail> {
+    let mut path = env::temp_dir(&rt)?;
+    path.push("ptg_a_file_grows_between_two_reads")?;
+    let Some(name) = path.as_path().to_str() else {
+        assert!(rt; false);
+        return Ok(());
+    };
+    let mut files = OsFiles::new(&rt, rt.alloc());
+    let mut into = [0u8; 4];
+    for (content, from, count, bytes) in [
+        (b"0123".as_slice(), 0, 4, b"0123"),
+        (b"012345", 4, 2, b"4523"),
+        (b"012345", 6, 0, b"4523"),
+        (b"01234567", 6, 2, b"6723"),
+    ] {
+        fs::write(&rt, path.as_path(), content)?;
+        assert_eq!(rt; files.read(name, from, &mut into), Ok(count));
+        assert_eq!(rt; into.as_slice(), bytes.as_slice());
+    }
     fs::remove_file(&rt, path.as_path())?;
     Ok(())
 }
