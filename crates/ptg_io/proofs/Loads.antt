@@ -3,8 +3,8 @@ use Rattle.std.proofs.Common.{◌≡◌, ℕ, ◌+◌, ◌<◌, ◌≤◌, List,
 use Rattle.std.specs.Prelude.{Option, Some, Result, Ok, Err, OnErr}
 use Rattle.std.specs.List.{AllByRecursion, concat}
 use Rattle.std.proofs.lemmas.List.{length-take, take_all}
-use Rattle.ptg_io.specs.Files.{NamedFiles, IsPiece, ReadsPiece, file_of}
-use Rattle.ptg_io.specs.Reads.{AddsAtMostOne, AddsPieces, AddsRead, HaveBegun, HaveGiven, IsLoaded, IsPieceOf, Load, Read, reads_in_turn}
+use Rattle.ptg_io.specs.Files.{NamedFiles, IsPiece, ReadsPiece}
+use Rattle.ptg_io.specs.Reads.{AddsAtMostOne, AddsPieces, AddsRead, HaveBegun, HaveGiven, IsLoaded, IsPieceOf, Read, reads_in_turn}
 
 -- ---- reads in turn
 

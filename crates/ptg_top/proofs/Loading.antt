@@ -1,5 +1,5 @@
 -- Files that were loaded, by their names and texts as values.
-use Rattle.std.proofs.Common.{◌≡◌, ℕ, ◌<◌, List, length, Result, Ok, Err, sym, subst}
+use Rattle.std.proofs.Common.{◌≡◌, ℕ, ◌<◌, List, length, Ok, Err, sym, subst}
 use Rattle.std.specs.Prelude.{IsErrOf}
 use Rattle.ptg_io.specs.Reads.{IsLoaded}
 use Rattle.ptg_io.specs.declared.loading.LoadFault.{LoadFault}

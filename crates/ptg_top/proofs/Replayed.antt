@@ -20,7 +20,7 @@ use Rattle.ptg_top.specs.declared.verdict.Verdict.{Verdict}
 use Rattle.ptg_top.specs.Denotation as verdicts
 use Rattle.ptg_top.specs.Denotation.{Denotation, denoted}
 use Rattle.ptg_top.specs.Answering.{IsRefusedByCheck}
-use Rattle.ptg_top.specs.Operands.{AreOf, Load, Read, in_loads, load_of, text_at}
+use Rattle.ptg_top.specs.Operands.{AreOf, Load, Read, load_of, text_at}
 use Rattle.ptg_top.specs.JobFiles.{ContentsDenote}
 use Rattle.ptg_top.specs.Replay.{IsReplayed, IsReplayOf}
 use Rattle.ptg_top.specs.Reports.{IsOfTexts, EndsAfter, IsVerdictOnCommand, NoneFailed}

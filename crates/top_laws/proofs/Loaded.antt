@@ -1,11 +1,11 @@
 -- Where reads gave pieces of known files, each load is the file with its name.
-use Rattle.std.proofs.Common.{◌≡◌, ℕ, ◌+◌, ◌<◌, ◌≤◌, List, [], ◌∷◌, ◌++◌, length, take, drop, sym, ap, subst, ◌∙◌, refl, arith, append_assoc, append-nil, length-append, length-drop, inl, inr}
-use Rattle.std.specs.Prelude.{Option, Some, ◌⊎◌}
+use Rattle.std.proofs.Common.{◌≡◌, ℕ, ◌+◌, ◌<◌, ◌≤◌, List, [], ◌∷◌, ◌++◌, length, take, drop, sym, ap, subst, ◌∙◌, refl, arith, append_assoc, append-nil, length-append, inl, inr}
+use Rattle.std.specs.Prelude.{Some, ◌⊎◌}
 use Rattle.std.specs.List.{AllByRecursion, concat}
 use Rattle.std.proofs.lemmas.List.{append_cancel_left, length-take, take_all, drop-drop}
 use Rattle.std.proofs.Math.Seq.{take-add}
-use Rattle.ptg_io.specs.Files.{file_of, IsPiece}
-use Rattle.ptg_io.specs.Reads.{AddsPieces, Gave, HaveGiven, IsLoaded, IsPieceOf, reads_in_turn}
+use Rattle.ptg_io.specs.Files.{file_of}
+use Rattle.ptg_io.specs.Reads.{AddsPieces, Gave, IsLoaded, IsPieceOf, reads_in_turn}
 use Rattle.ptg_top.specs.Operands.{Load, NamedFiles, Read}
 use Rattle.top_laws.specs.Known.{IsFileOf, IsSameOrLong, LoadsAreFiles}
 

@@ -1,6 +1,6 @@
 -- The clauses of the program where the contents of the files are known.
-use Rattle.std.proofs.Common.{◌≡◌, ℕ, ◌<◌, List, [], ◌∷◌, length, Some, refl, sym, ◌∙◌, ap, subst, arith, inl, inr}
-use Rattle.std.specs.Prelude.{Option, None, ◌⊎◌, Bool, true, false, if◌then◌else◌}
+use Rattle.std.proofs.Common.{◌≡◌, ℕ, List, [], ◌∷◌, Some, sym, ◌∙◌, ap, subst, arith, inl, inr}
+use Rattle.std.specs.Prelude.{Option, None, Bool, true, false, if◌then◌else◌}
 use Rattle.std.specs.List.{AllByRecursion}
 use Rattle.ptg_io.specs.Files.{file_of}
 use Rattle.ptg_io.specs.Reads.{AddsPieces}
@@ -18,7 +18,6 @@ use Rattle.ptg_words.specs.Laws.{files_of}
 use Rattle.ptg_words.specs.Words.{Orders}
 use Rattle.ptg_words.proofs.OneCommand.{one_command}
 use Rattle.ptg_top.specs.declared.status.Status.{Status}
-use Rattle.ptg_top.specs.declared.status.Status.TheVariants.{OutOfMemory}
 use Rattle.ptg_top.specs.declared.verdict.Finding.TheVariants.{Answer}
 use Rattle.ptg_top.specs.Denotation as verdicts
 use Rattle.ptg_top.specs.Denotation.{Denotation}
@@ -32,8 +31,8 @@ use Rattle.ptg_top.specs.JobFiles.{ContentsDenote, FilesDenote}
 use Rattle.ptg_top.specs.Meaning.{AreFirstOperands, CommandDenotes, Denotes}
 use Rattle.ptg_top.specs.Demo.{DemoDenotes, IsSummary}
 use Rattle.ptg_top.specs.Reports.{EndsAfter, FailedAfter, IsOfTexts, IsVerdictOnWords}
-use Rattle.ptg_top.specs.Headline.{IsExact, Prints, status_of}
-use Rattle.ptg_top.specs.Receipts.{FindsPlan, HasConsistentPlan}
+use Rattle.ptg_top.specs.Headline.{IsExact, status_of}
+use Rattle.ptg_top.specs.Receipts.{FindsPlan}
 use Rattle.top_laws.specs.Known.{CompleteOverFiles, CutOverFiles, ExactOverFiles, IsDue, IsFileOf, IsUnreadOf, JobOverFiles, MayBeUnread, MayBeUnreadFor, TreeAt, UnreadOverFiles}
 use Rattle.top_laws.proofs.Loaded.{loads_are_files, loads_before}
 use Rattle.top_laws.proofs.Texts.{Agree, WasRead, contents_known, replayed_known, shows_known}

@@ -1,6 +1,6 @@
 -- Two texts that are the same, or both too long, denote the same.
-use Rattle.std.proofs.Common.{◌≡◌, ℕ, ◌<◌, ◌≤◌, List, length, Some, refl, sym, ap, subst, arith, inl, inr}
-use Rattle.std.specs.Prelude.{Option, None, ◌⊎◌}
+use Rattle.std.proofs.Common.{◌≡◌, ℕ, ◌<◌, List, length, Some, sym, subst, arith, inl, inr}
+use Rattle.std.specs.Prelude.{Option, None}
 use Rattle.coll_data.specs.Data.{Data}
 use Rattle.plan_core.specs.declared.plan.Plan.{Plan}
 use Rattle.jdf_lex.specs.declared.fault.JdfFault.{JdfFault}

@@ -1,4 +1,4 @@
-use Rattle.std.proofs.Common.{◌≡◌, ◌<◌, length, ◌∙◌, subst, sym, arith, rules, length-append}
+use Rattle.std.proofs.Common.{◌<◌, length, ◌∙◌, subst, arith, rules}
 use Rattle.std.specs.Prelude.{Option, IsErrOf}
 use Rattle.ptg_io.specs.Files.{NamedFiles}
 use Rattle.ptg_io.specs.Reads.{AddsPieces}

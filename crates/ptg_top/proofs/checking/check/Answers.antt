@@ -1,4 +1,4 @@
-use Rattle.std.proofs.Common.{ℕ, List, Result, subst}
+use Rattle.std.proofs.Common.{Result, subst}
 use Rattle.std.specs.Prelude.{Option, IfOk, IfErr}
 use Rattle.ptg_io.proofs.Loads.{more_pieces}
 use Rattle.ptg_io.specs.Reads.{AddsPieces}

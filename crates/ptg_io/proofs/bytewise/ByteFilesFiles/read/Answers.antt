@@ -1,4 +1,4 @@
-use Rattle.std.proofs.Common.{◌≡◌, ℕ, ◌≤◌, List, ◌++◌, length, take, drop, Result, Ok, Err, sym, ◌∙◌}
+use Rattle.std.proofs.Common.{◌≡◌, ℕ, ◌≤◌, List, ◌++◌, length, take, drop, Result, Ok, Err, ◌∙◌}
 use Rattle.std.specs.Prelude.{Option, Some, IfOk}
 use Rattle.std.proofs.lemmas.List.{take-append-le}
 use Rattle.ptg_io.specs.Files.{NamedFiles, ReadsPiece}

@@ -40,7 +40,6 @@ use Rattle.std.proofs.Common.{◌<◌, ◌^◌, length}
 use Rattle.std.proofs.Common.{◌++◌}
 use denote.Ref.{ShrRef, shr_vals, shr_Tells}
 use denote.Triple.Walked.{stay_none_ref, Goes-none_ref}
-use Rattle.ptg_io.specs.Reads.{Read}
 use Rattle.ptg_io.specs.declared.history.Offset.{Offset}
 use Rattle.ptg_io.specs.contracts.history.Offset as F
 
