@@ -3,7 +3,7 @@ import os
 import subprocess
 import threading
 
-from graph import Graph
+import graph
 
 MOST_SECONDS = 120
 # What the statuses of both programs mean.
@@ -57,9 +57,9 @@ class Job:
         named = os.environ.get("PTG_JOB_GRAPH")
         if named and not (os.path.isfile(named) and os.access(named, os.X_OK)):
             raise NoPicture(f"PTG_JOB_GRAPH names {named}, which is no program that can be run")
-        found = Graph(self.jdf, self.data).program
+        found = graph.program()
         if found is None:
-            raise NoPicture("the program job_graph, which lists the edges of a job, is not built: tools/build job_graph builds it")
+            raise NoPicture(graph.missing())
         return found
 
     def graph_lines(self, most):
