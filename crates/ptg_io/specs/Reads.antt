@@ -34,7 +34,7 @@ AddsAtMostOne name bytes old new =
     ⊎ ((more : List ℕ) × (0 < length more) × AddsRead name (length bytes) more old new
     × (length bytes + length more ≤ most_bytes))
 
--- reads of one file in turn, which gave at most 16 MiB together, were added to a list
+-- a load of a file was begun: its reads so far gave at most 16 MiB and no end
 pub record HaveBegun (name : List ℕ) (old new : List Read) : Type 0 where
   pub bytes : List ℕ
   pub reads : HaveGiven name bytes old new
@@ -67,7 +67,7 @@ abbrev pub IsPieceOf : NamedFiles → Read → Type 0
 IsPieceOf files r =
     (bytes : List ℕ) × (file_of files r.name ≡ Some bytes) × IsPiece bytes r.from (length r.piece) r.piece
 
--- what was added to a list of reads are pieces of the files, where their contents are known
+-- each read that was added to a list gave a piece of its file, where the contents of the files are known
 abbrev pub AddsPieces : Option NamedFiles → List Read → List Read → Type 0
 AddsPieces contents old new =
     (files : NamedFiles) → contents ≡ Some files

@@ -59,13 +59,13 @@ pub record Prints (words : List (List ℕ)) (operands : Operands) (before after 
   pub ends : status ≡ status_of verdict
 
 -- exactly some loads were made, of the first file operands of the command, and what was printed, with its status, is
--- what the arguments denote where these operands hold what was loaded, and later ones are missing
+-- what the arguments denote where these operands hold what was loaded, and the rest count as missing
 abbrev pub PrintsLoaded : List (List ℕ) → List Read → List Read → List ℕ → List ℕ → Status → Type 0
 PrintsLoaded words old new before after status =
     (loads : List Load) × HasLoaded words old new loads × Prints words (in_loads loads) before after status
 
--- a failed write cut the text of a verdict short: the one on what was loaded, or the name of a file that could not be
--- read
+-- a failed write cut the text of a verdict short: either the verdict on what was loaded, or the name of a file that
+-- could not be read
 pub record IsCut (words : List (List ℕ)) (old new : List Read) (failed failed_since : List ℕ → ℕ)
     (before after : List ℕ) : Type 0 where
   pub verdict : Denotation

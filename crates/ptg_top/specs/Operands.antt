@@ -29,6 +29,6 @@ AreOf [] names = Unit {0}
 AreOf (load ∷ loads) [] = ⊥
 AreOf (load ∷ loads) (name ∷ names) = (load.name ≡ name) × AreOf loads names
 
--- the load of a file, in place of a list of loads
+-- the load of this name with this text
 abbrev pub load_of : List ℕ → List ℕ → Load
 load_of name text = record { name = name; text = text }

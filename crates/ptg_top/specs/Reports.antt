@@ -26,20 +26,19 @@ IsOfTexts (verdicts.TraceRefused fault) = Unit {0}
 abbrev pub NoneFailed : (List ℕ → ℕ) → (List ℕ → ℕ) → Type 0
 NoneFailed failed failed_since = (name : List ℕ) → failed_since name ≡ failed name
 
--- These loads were made, and then reads of the file with this name, the last of which failed: those before it come last
--- in the list.
+-- These loads were made. Then a load of the file with this name was begun, and the count of its failed reads rose.
 abbrev pub FailedAfter : List Read → List Read → List Load → List ℕ → (List ℕ → ℕ) → (List ℕ → ℕ) → Type 0
 FailedAfter old new loads name failed failed_since =
     (middle : List Read) × Gave old middle loads × HaveBegun name middle new × Rose (failed name) (failed_since name)
 
--- The verdict is that a file could not be read, a read of which failed after these loads; or it is on what was read,
--- these loads were made, and no read failed.
+-- The verdict is that a file could not be read, whose load was begun after these loads, and its count of failed reads
+-- rose; or it is on what was read, these loads were made, and no read failed.
 abbrev pub EndsAfter : List Read → List Read → List Load → (List ℕ → ℕ) → (List ℕ → ℕ) → Denotation → Type 0
 EndsAfter old new loads failed failed_since v =
     ((name : List ℕ) × (v ≡ verdicts.Unread name) × FailedAfter old new loads name failed failed_since)
     ⊎ (IsOfTexts v × Gave old new loads × NoneFailed failed failed_since)
 
--- The verdict on a command: what its operands denote, where the first of them hold what was loaded and later ones are
+-- The verdict on a command: what its operands denote, where the first of them hold what was loaded and the rest count as
 -- missing.
 pub record IsVerdictOnCommand (old new : List Read) (failed failed_since : List ℕ → ℕ) (command : Order)
     (v : Denotation) : Type 0 where
@@ -60,7 +59,8 @@ IsVerdictOnWords words old new failed failed_since v =
 abbrev pub HasLoaded : List (List ℕ) → List Read → List Read → List Load → Type 0
 HasLoaded words old new loads = AreFirstOperands words loads × Gave old new loads
 
--- The file with this name could not be read: a read of it failed after loads, with which the arguments denote that.
+-- The file with this name could not be read: its load was begun after loads with which the arguments denote that it is
+-- unread.
 pub record IsUnread (words : List (List ℕ)) (old new : List Read) (failed failed_since : List ℕ → ℕ)
     (name : List ℕ) : Type 0 where
   pub loads : List Load

@@ -26,7 +26,7 @@ use worker_core::Gate;
 
 /// Carries out the command that the arguments form, with these files, and prints the answer.
 ///
-/// What a file is, is what the reads of it gave, whatever they read from; what is printed is what the writes took.
+/// The content of a file is what the reads of it gave, whatever they read from. What is printed is what the writes took.
 ///
 /// Whatever the JDF, the data, the number of workers and the number of shards, `run JDF DATA` prints exactly the answer
 /// of the sequential dataflow meaning, with its status: the refusal, the final collections, all trapped tasks, or a
@@ -55,8 +55,8 @@ pub fn ptg_main<R: Threads + Wait + Sync, F: Files, O: Sink, G: Gate>(
     ensures read_faults { (other : List ℕ) → F.faults files.old other ≤ F.faults files.new other }
     ensures write_faults { O.faults out.old ≤ O.faults out.new }
     ensures pieces { AddsPieces (F.contents files.old) (F.reads files.old) (F.reads files.new) }
-    // The first file operands of the command were loaded, in order, and nothing else was read. Exactly a text and a
-    // status that the arguments and these loads denote.
+    // The first file operands of the command were loaded, in order, and nothing else was read. What is printed, with
+    // its status, is exactly what the arguments and these loads denote.
     ensures exact { IsExact result.status →
         PrintsLoaded words.now (F.reads files.old) (F.reads files.new) (O.bytes out.old) (O.bytes out.new)
         result.status }
@@ -71,8 +71,7 @@ pub fn ptg_main<R: Threads + Wait + Sync, F: Files, O: Sink, G: Gate>(
         (O.bytes out.old) (O.bytes out.new) }
     // If memory runs out, nothing is written.
     ensures silent { result.status ≡ Status.OutOfMemory → O.bytes out.new ≡ O.bytes out.old }
-    // No fault is hidden: a status of a verdict comes only where no read failed, and one other than a write fault only
-    // where no write failed.
+    // The status of a verdict comes only if no read failed, and any status but a write fault only if no write failed.
     ensures no_read_fault { IsExact result.status → NoneFailed (F.faults files.old) (F.faults files.new) }
     ensures no_write_fault { (result.status ≡ Status.WriteFault → ⊥) → O.faults out.new ≡ O.faults out.old }
     // Where no read and no write failed, the status is that of a verdict, and the same holds, unless memory runs out.

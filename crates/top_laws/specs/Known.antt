@@ -34,7 +34,7 @@ IsSameOrLong text bytes = (text ≡ bytes) ⊎ ((most_bytes < length text) × (m
 abbrev pub IsFileOf : NamedFiles → Load → Type 0
 IsFileOf files load = (bytes : List ℕ) × (file_of files load.name ≡ Some bytes) × IsSameOrLong load.text bytes
 
--- where reads gave pieces of known files, each load is the file with its name
+-- where reads gave pieces of known files, each load is the file with its name, or both have more than 16 MiB
 abbrev pub LoadsAreFiles : Type 0
 LoadsAreFiles =
     (files : NamedFiles) (old new : List Read) (loads : List Load)

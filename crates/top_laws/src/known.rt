@@ -8,8 +8,8 @@ pub fn loads_are_files()
     ensures { LoadsAreFiles }
 {}
 
-/// Laws: the clauses of `ptg_main` over files whose contents are known, by their names, follow from those over what
-/// reads gave. What the loads denote, the files denote.
+/// Laws: the clauses of `ptg_main` over files whose contents are known, each under its name there, follow from those
+/// over what reads gave. What the loads denote, the files denote.
 pub fn over_known_files()
     ensures exact { ExactOverFiles }
     ensures complete { CompleteOverFiles }
