@@ -6,6 +6,9 @@ class Checker:
 
     def __init__(self, file, names, notes, is_own):
         self.file, self.names, self.notes, self.is_own = file, names, notes, is_own
+        # (of two classes or two flows of one name, the first)
+        self.classes = {it.name.text: it for it in reversed(file.classes)}
+        self.flows = {(it.name.text, flow.name.text): flow for it in reversed(file.classes) for flow in reversed(it.flows)}
 
     def collection(self, target):
         """Notes a collection with its number of indices."""
@@ -63,12 +66,12 @@ class Checker:
 
     def task(self, flow, target, inward):
         name, other_name = target.name.text, target.flow.text
-        receiver = next((it for it in self.file.classes if it.name.text == name), None)
+        receiver = self.classes.get(name)
         if receiver is None and not self.file.is_broken:
             self.notes.refuse(target.line, f"There is no class `{name}`.", "Write the class, or the name of one.")
         if receiver is None:
             return
-        other = next((it for it in receiver.flows if it.name.text == other_name), None)
+        other = self.flows.get((name, other_name))
         if other is None:
             self.notes.refuse(target.line, f"`{name}` has no flow `{other_name}`.", "Write the name of one of its flows.")
         elif (other.kind() == "CTL") != (flow.kind() == "CTL"):

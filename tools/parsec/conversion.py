@@ -100,7 +100,14 @@ class Conversion:
 
     def encoded(self, text):
         """The bytes of a new text. What is no UTF-8 in comments becomes `?`."""
-        bad = [at for at, it in enumerate(text) if "\udc80" <= it <= "\udcff"]
-        for at in bad:
-            self.notes.changed(1 + text.count("\n", 0, at), "A byte that is no UTF-8 is `?` now.")
-        return "".join("?" if "\udc80" <= it <= "\udcff" else it for it in text).encode() if bad else text.encode()
+        lines = text.split("\n")
+        for number, line in enumerate(lines, 1):
+            if not line.isascii() and any(is_no_utf8(it) for it in line):
+                self.notes.changed(number, "A byte that is no UTF-8 is `?` now.")
+                lines[number - 1] = "".join("?" if is_no_utf8(it) else it for it in line)
+        return "\n".join(lines).encode()
+
+
+def is_no_utf8(character):
+    """Whether a character stands for a byte that is no UTF-8."""
+    return "\udc80" <= character <= "\udcff"

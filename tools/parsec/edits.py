@@ -27,7 +27,8 @@ class Edits:
 
     def comment(self, start, end):
         """Makes comments of the lines of a span, or blanks where something follows in its last line."""
-        rest = self.text[end : self.text.find("\n", end) if "\n" in self.text[end:] else len(self.text)].strip()
+        stop = self.text.find("\n", end)
+        rest = self.text[end : len(self.text) if stop < 0 else stop].strip()
         if rest and not rest.startswith("//"):
             self.blank(start, end)
             return
@@ -46,8 +47,10 @@ class Edits:
                 )
             pieces += [self.text[at:start], new]
             at = end
-        new = "".join(pieces) + self.text[at:]
-        return "\n".join(trimmed(old, it) for old, it in zip(self.text.split("\n"), new.split("\n"), strict=True))
+        lines, new = self.text.split("\n"), ("".join(pieces) + self.text[at:]).split("\n")
+        if len(new) != len(lines):
+            raise Fault(1, "Lines would be lost: this is a fault of the converter.", "Please report the file.")
+        return "\n".join(trimmed(old, it) for old, it in zip(lines, new))
 
 
 def trimmed(old, new):

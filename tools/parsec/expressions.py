@@ -12,6 +12,8 @@ TYPE_WORDS = frozenset(
     "int8_t int16_t int32_t int64_t uint8_t uint16_t uint32_t uint64_t".split()
 )
 MOST_TOKENS = 512
+# The tokens of a cast, parentheses among them.
+MOST_OF_CAST = 7
 
 
 class Reader:
@@ -90,8 +92,8 @@ class Reader:
         """Whether a type stands here in parentheses."""
         if not self.walk.sees("(") or not self.has_casts:
             return False
-        close = self.walk.closing(0)
-        if close is None or close == 1 or close > 6:
+        close = self.walk.closing(0, MOST_OF_CAST)
+        if close is None or close == 1:
             return False
         inner = [self.walk.now(ahead) for ahead in range(1, close)]
         stars = sum(it.text == "*" for it in inner)

@@ -9,7 +9,7 @@ class Names:
         self.declared = {it.name.text: it for it in file.globals}
         self.taken = set(taken)
         # the text of an access -> its global; in the order of their first use
-        self.made = {}
+        self.made, self.made_names = {}, set()
         # names that are used and declared nowhere -> their first line
         self.undeclared = {}
         # names that stand as a number, and collections with their number of indices -> first line
@@ -19,6 +19,7 @@ class Names:
         """The global that takes the place of a text of C."""
         if text not in self.made:
             self.made[text] = self.fresh(name)
+            self.made_names.add(self.made[text])
         return self.made[text]
 
     def fresh(self, name):
@@ -33,12 +34,16 @@ class Names:
         """All globals, those that the file declares and the others."""
         return set(self.declared) | set(self.undeclared) | set(self.made.values())
 
+    def is_known(self, name):
+        """Whether a name is that of a global."""
+        return name in self.declared or name in self.undeclared or name in self.made_names
+
     def state(self):
-        return dict(self.made), dict(self.undeclared), set(self.taken), dict(self.numbers)
+        return dict(self.made), set(self.made_names), dict(self.undeclared), set(self.taken), dict(self.numbers)
 
     def restore(self, state):
         """Forgets the names that were made since."""
-        self.made, self.undeclared, self.taken, self.numbers = (it.copy() for it in state)
+        self.made, self.made_names, self.undeclared, self.taken, self.numbers = state
 
     def added(self):
         """Globals that the file does not declare."""

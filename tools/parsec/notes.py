@@ -19,9 +19,8 @@ class Notes:
     said: dict = field(default_factory=dict)
 
     def say(self, kind, line, text):
-        lines = self.said.setdefault((kind, text), [])
-        if line not in lines:
-            lines.append(line)
+        # (a dictionary keeps the order, and has each line once)
+        self.said.setdefault((kind, text), {})[line] = True
 
     def changed(self, line, text):
         self.say("changed", line, text)

@@ -4,6 +4,7 @@ from parsec.reading_properties import PropertyReader
 from parsec.scanner import ACCESS
 from parsec.tree import Dependence, Flow, Guarded, Index, Target
 
+MOST_CASES = 16
 OPERATORS = frozenset("? == != < <= > >= && || & | ^ + - * / % << >> .".split())
 
 
@@ -82,6 +83,8 @@ class DependenceReader(PropertyReader):
                     f"{self.walk.now().shown()} stands where a target is expected.",
                     "A guard with a `? :` of its own stands in parentheses.",
                 )
+            if len(depth) == MOST_CASES:
+                raise Fault(self.walk.now().line, f"More than {MOST_CASES} targets stand one in another; `ptg` takes at most {MOST_CASES}.", "Write ranges.")
             yes, what, properties = self.read_target(), None, self.read_properties()
             depth.append((condition, yes))
             if not self.walk.sees(":"):

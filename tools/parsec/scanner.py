@@ -38,6 +38,8 @@ class Scanner:
     def __init__(self, text, start=0, end=None, line=1, of_c=False, is_own=False):
         self.text, self.at, self.end, self.line = text, start, len(text) if end is None else end, line
         self.of_c, self.is_own, self.tokens = of_c, is_own, []
+        # no token was found in this line yet
+        self.is_line_new = True
 
     def scan(self):
         """All tokens, the last one of the kind `end`. An open comment, string or block is a Fault."""
@@ -51,6 +53,7 @@ class Scanner:
     def add(self, kind, end):
         token = Token(kind, self.text[self.at : end], self.line, self.at, end)
         self.tokens.append(token)
+        self.is_line_new = False
         self.line += token.text.count("\n")
         self.at = end
         return token
@@ -66,7 +69,9 @@ class Scanner:
         return found + len(piece)
 
     def skip_to(self, end):
-        self.line += self.text.count("\n", self.at, end)
+        newlines = self.text.count("\n", self.at, end)
+        self.is_line_new = self.is_line_new or newlines > 0
+        self.line += newlines
         self.at = end
 
     def end_of_line(self):
@@ -98,11 +103,6 @@ class Scanner:
             raise Fault(self.line, "A string begins here and has no end.", 'Close it by `"`.')
         return at + 1
 
-    def begins_line(self):
-        """Whether nothing but blanks stands before this place in its line."""
-        start = self.text.rfind("\n", 0, self.at) + 1
-        return not self.text[start : self.at].strip()
-
     def take_next(self):
         first = self.text[self.at]
         if first in LETTERS:
@@ -115,7 +115,7 @@ class Scanner:
             return self.add("raw", self.find("%}", self.at + 2, "A block `%{`"))
         if first == "%" and self.starts("%option") and self.word_end(self.at + 1) == self.at + 7:
             return self.add("option", self.end_of_line())
-        if first == "#" and self.begins_line():
+        if first == "#" and self.is_line_new:
             return self.add("hash", self.hash_end())
         for size in (3, 2, 1):
             mark = self.text[self.at : min(self.at + size, self.end)]

@@ -62,7 +62,7 @@ class Translator:
             return node
         if name in self.later:
             raise Fault(node.line, f"`{name}` is used before its definition.", f"Move the definition of `{name}` up.")
-        if name not in self.names.all():
+        if not self.names.is_known(name):
             if self.is_own:
                 raise Fault(node.line, f"`{name}` is declared nowhere in this file.", f"Write `{name}` in a line before the first class.")
             self.names.undeclared[name] = node.line

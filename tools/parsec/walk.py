@@ -1,6 +1,9 @@
 """A walk over tokens, from the first to the last."""
 from parsec.notes import Fault
 
+# More tokens than the arguments of a target can have.
+MOST_AHEAD = 20_000
+
 
 class Walk:
     def __init__(self, tokens):
@@ -34,10 +37,10 @@ class Walk:
             raise Fault(self.now().line, f"{self.now().shown()} stands where {what} is expected.")
         return self.take()
 
-    def closing(self, ahead):
-        """How far ahead the parenthesis is closed that opens `ahead` tokens on; None where it is not."""
+    def closing(self, ahead, most=MOST_AHEAD):
+        """How far ahead the parenthesis is closed that opens `ahead` tokens on; None where it is not, or not within so many tokens."""
         depth = 0
-        for at in range(self.at + ahead, len(self.tokens)):
+        for at in range(self.at + ahead, min(self.at + ahead + most, len(self.tokens))):
             token = self.tokens[at]
             if token.kind == "mark" and token.text in "([":
                 depth += 1
