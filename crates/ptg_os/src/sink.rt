@@ -8,7 +8,7 @@ ghost use Rattle.ptg_os.specs.Adapters.{writer_of};
 use ptg_io::{Failed, Sink, WriteHistory};
 use std::io::Write;
 
-/// Standard output, or any other writer. What it holds is not known to contracts; what its writes took is.
+/// Standard output, or any other writer. Contracts know only what its writes took.
 #[derive(Drop)]
 pub struct OsSink<W: Write + Drop> {
     writer: W,
@@ -47,9 +47,8 @@ impl<W: Write + Drop> Sink for OsSink<W> {
         ensures failed { OnErr result (Rose self.old.faults self.new.faults) }
         ensures no_fault { OnOk result (self.new.faults ≡ self.old.faults) }
 
-        // The writer took the bytes.
-        ensures took { OnOk result
-            (WriteAppends (W.contents (writer_of self.old)) (W.contents (writer_of self.new)) result piece.now) }
+        // The writer took the bytes, or none where the write failed.
+        ensures took { WriteAppends (W.contents (writer_of self.old)) (W.contents (writer_of self.new)) result piece.now }
     {
         match self.writer.write(piece) {
             // A writer that takes nothing would be tried for ever.
