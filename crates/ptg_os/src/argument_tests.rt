@@ -7,6 +7,7 @@ use std::env::{Env, FillError};
 use std::test::Fail;
 
 // A process with these arguments, the program's name first, and without an environment.
+#[derive(Drop)]
 struct Process<'a> {
     arguments: &'a [&'a [u8]],
 }
