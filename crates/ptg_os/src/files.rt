@@ -1,9 +1,9 @@
 //! The files of the system.
 
-ghost use Rattle.std.specs.Prelude.{◌≡◌, ◌<◌, ◌≤◌, ⊤, List, [], ◌∷◌, ◌++◌, ℕ, Option, length, take, IfOk, IfSome, OnErr, OnOk};
+ghost use Rattle.std.specs.Prelude.{◌≡◌, ◌↔◌, ◌<◌, ◌≤◌, ⊤, List, [], ◌∷◌, ◌++◌, ℕ, Option, None, length, take, IfOk, IfSome, IsTrue, OnErr, OnOk};
 ghost use Rattle.ptg_io.specs.Faults.{Rose};
 ghost use Rattle.ptg_io.specs.Files.{NamedFiles, ReadsPiece};
-ghost use Rattle.ptg_os.specs.Adapters.{Gave, GaveAndIsKept, kept_open};
+ghost use Rattle.ptg_os.specs.Adapters.{after_bytes, GaveBytes, GaveFrom, IsAt, StandsAt, kept_open};
 
 use ptg_base::Text;
 use ptg_io::{Failed, Files, Offset, ReadHistory};
@@ -11,7 +11,7 @@ use std::alloc::Global;
 use std::io::{Read, Seek, SeekFrom};
 use std::{fs, rt};
 
-/// The files of the system. What they hold is not known to contracts; what reads of them gave is.
+/// The files of the system. Contracts know only what reads of them gave.
 ///
 /// The file read last stays open with a copy of its name. Where there is no memory for that copy, the next read opens
 /// it anew.
@@ -41,6 +41,7 @@ impl<'a, R: rt::Files> OsFiles<'a, R> {
     pub fn new(system: &'a R, alloc: Global) -> Self
         ensures no_reads { ⟦<OsFiles<'a, R> as Files>⟧.reads result ≡ [] }
         ensures no_faults { (name : List ℕ) → ⟦<OsFiles<'a, R> as Files>⟧.faults result name ≡ 0 }
+        ensures closed { kept_open result ≡ None }
     {
         OsFiles {
             system,
@@ -75,8 +76,12 @@ impl<'a, R: rt::Files> Files for OsFiles<'a, R> {
         ensures failed { OnErr result (Rose self.old.faults self.new.faults) }
         ensures no_fault { OnOk result ((other : List ℕ) → self.new.faults ≡ self.old.faults) }
 
-        // Some open file gave the bytes, and stays open.
-        ensures gave { IfOk result (λ n. GaveAndIsKept R.File.remaining (kept_open self.new) n into.new) }
+        // An open file gave the bytes, and stays open: the one kept before, where that is at this offset.
+        ensures gave { IfOk result (λ n.
+            GaveFrom R.File.remaining (kept_open self.old) name.now from (kept_open self.new) n into.new) }
+
+        // After a failed read no file is open.
+        ensures closed { OnErr result (kept_open self.new ≡ None) }
     {
         let last = self.last.take();
         let read = match opened_at(self.system, self.alloc, last, name, from) {
@@ -104,7 +109,9 @@ fn read_next<R: rt::Files>(
     into: &mut [u8],
 ) -> Option<(usize, Opened<R::File>)>
     ensures within { IfSome result (λ (count, more). count ≤ length into.new) }
-    ensures gave { IfSome result (λ (count, more). Gave R.File.remaining opened.file more.file count into.new) }
+    ensures gave { IfSome result (λ (count, more). GaveBytes R.File.remaining opened.file more.file count into.new) }
+    ensures same_name { IfSome result (λ (_, more). more.name ≡ opened.name) }
+    ensures moved { IfSome result (λ (count, more). more.offset ≡ after_bytes opened.offset count) }
 {
     let n = opened.file.read(into).ok()?;
     opened.offset = opened.offset.saturating_add(n as u64);
@@ -118,15 +125,20 @@ fn opened_at<R: rt::Files>(
     last: Option<Opened<R::File>>,
     name: &str,
     from: u64,
-) -> Option<Opened<R::File>> {
-    match last.filter(|opened| is_at(opened, name, from)) {
-        Some(opened) => Some(opened),
-        None => open_at(system, alloc, name, from),
+) -> Option<Opened<R::File>>
+    ensures continues { IfSome last (λ opened. IsAt opened name.now from → result ≡ last) }
+    ensures stands { IfSome result (λ opened. StandsAt opened name.now from) }
+{
+    match last {
+        Some(opened) if is_at(&opened, name, from) => Some(opened),
+        _ => open_at(system, alloc, name, from),
     }
 }
 
 // Whether this file is open at this offset.
-fn is_at<F>(opened: &Opened<F>, name: &str, from: u64) -> bool {
+fn is_at<F>(opened: &Opened<F>, name: &str, from: u64) -> bool
+    ensures { IsTrue result ↔ IsAt opened.now name.now from }
+{
     match &opened.name {
         Some(text) => opened.offset == from && text.bytes() == name.as_bytes(),
         None => false,
@@ -139,7 +151,9 @@ fn open_at<R: rt::Files>(
     alloc: Global,
     name: &str,
     from: u64,
-) -> Option<Opened<R::File>> {
+) -> Option<Opened<R::File>>
+    ensures { IfSome result (λ opened. StandsAt opened name.now from) }
+{
     let mut file = fs::open(system, name).ok()?;
     if from > 0 {
         file.seek(SeekFrom::Start(from)).ok()?;
