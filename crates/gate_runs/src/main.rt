@@ -30,6 +30,7 @@ use std::io;
 use std::process::ExitCode;
 use std::sync::Wait;
 use std::thread::Threads;
+use worker_core::Always;
 
 // Two tasks, the first of which may run its body only once the second has come.
 fn meet<R: Threads + Wait + Print + Sync>(rt: &R, alloc: Global) -> io::Result<()> {
@@ -93,7 +94,7 @@ fn replay<R: Threads + Wait + Print + Sync>(
     job: &Job,
 ) -> io::Result<()> {
     for options in ["--workers 1", "--workers 4", "--workers 64"] {
-        match replayed(rt, alloc, job, options) {
+        match replayed(rt, alloc, job, options, &Always) {
             Ok(end) => println!(rt; "{name}, trace {options}, replayed: {end}")?,
             Err(OutOfMemory) => println!(rt; "{name}, trace {options}: no memory")?,
         }

@@ -8,7 +8,7 @@ use std::alloc::Global;
 use std::fmt;
 use std::sync::Wait;
 use std::thread::Threads;
-use worker_core::{Always, Gate};
+use worker_core::Gate;
 
 /// A job's two texts, and what is printed of it.
 #[derive(Drop)]
@@ -109,27 +109,37 @@ pub fn traced<R: Threads + Wait + Sync>(
     })
 }
 
+// What a verb with these options prints of a job and a trace of it, and its status.
+fn told<R: Threads + Wait + Sync, G: Gate>(
+    rt: &R,
+    alloc: Global,
+    (verb, options): (&str, &str),
+    texts: (&Job, &[u8]),
+    gate: &G,
+) -> Result<(MemSink, u8), OutOfMemory> {
+    let words = words(alloc, verb, options)?;
+    printed(rt, alloc, words.as_slice(), texts, gate)
+}
+
 /// Traces a job with these options, replays what was printed, and runs the job too: how the replay ended, and whether
 /// it and the run printed the answer.
-pub fn replayed<R: Threads + Wait + Sync>(
+pub fn replayed<R: Threads + Wait + Sync, G: Gate>(
     rt: &R,
     alloc: Global,
     job: &Job,
     options: &str,
+    gate: &G,
 ) -> Result<End, OutOfMemory> {
-    let trace_words = words(alloc, "trace", options)?;
-    let (trace, _status) = printed(rt, alloc, trace_words.as_slice(), (job, b""), &Always)?;
-    let replay_words = words(alloc, "replay", "job.trace")?;
-    let (out, status) = printed(
+    let (trace, _traced) = told(rt, alloc, ("trace", options), (job, b""), gate)?;
+    let (out, status) = told(
         rt,
         alloc,
-        replay_words.as_slice(),
+        ("replay", "job.trace"),
         (job, trace.bytes()),
-        &Always,
+        gate,
     )?;
-    let run_words = words(alloc, "run", options)?;
-    let (run_out, _status) = printed(rt, alloc, run_words.as_slice(), (job, b""), &Always)?;
-    let is_answer = out.bytes() == job.answer && run_out.bytes() == job.answer;
+    let (answer, _ran) = told(rt, alloc, ("run", options), (job, b""), gate)?;
+    let is_answer = out.bytes() == job.answer && answer.bytes() == job.answer;
     Ok(End {
         status,
         printed: name_if(is_answer, "the answer"),
