@@ -6,3 +6,4 @@ pub mod Loaded
 pub mod Texts
 pub mod OverFiles
 pub mod Replays
+pub mod OneLoading

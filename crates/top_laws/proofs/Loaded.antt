@@ -12,7 +12,7 @@ use Rattle.top_laws.specs.Known.{IsFileOf, IsSameOrLong, LoadsAreFiles}
 -- ---- what was added to a list of reads
 
 -- loads only add to the list
-gave_adds : (old new : List Read) (loads : List Load) → Gave old new loads → (added : List Read) × (new ≡ old ++ added)
+pub gave_adds : (old new : List Read) (loads : List Load) → Gave old new loads → (added : List Read) × (new ≡ old ++ added)
 gave_adds old new [] same = ([], same ∙ sym (append-nil old))
 gave_adds old new (load ∷ loads) (middle, first, rest) =
     let more = gave_adds middle new loads rest in
@@ -50,14 +50,14 @@ turn_is_front files name bytes there from (piece ∷ pieces) ((other, same, is),
     ∙ ap (λ (k : ℕ). take k (drop from bytes)) (sym (length-append piece (concat pieces)))
 
 module _ (files : NamedFiles) (load : Load) (old new : List Read) (first : IsLoaded load old new) where
-  abbrev last_read : Read
+  abbrev pub last_read : Read
   last_read = record { name = load.name; from = length first.earlier; piece = first.last }
 
-  abbrev own_reads : List Read
+  abbrev pub own_reads : List Read
   own_reads = reads_in_turn load.name 0 first.reads.pieces
 
   -- what a load adds
-  added_by : new ≡ old ++ (own_reads ++ last_read ∷ [])
+  pub added_by : new ≡ old ++ (own_reads ++ last_read ∷ [])
   added_by = first.ended ∙ ap (λ (rs : List Read). rs ++ last_read ∷ []) first.reads.reads ∙ append_assoc old own_reads (last_read ∷ [])
 
   is_file : AllByRecursion (IsPieceOf files) (own_reads ++ last_read ∷ []) → IsFileOf files load

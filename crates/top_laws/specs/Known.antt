@@ -122,3 +122,7 @@ JobOverFiles =
     (words : List (List ℕ)) (files : NamedFiles) (old new : List Read) (loads : List Load) (P : Plan)
     → AddsPieces (Some files) old new → HasLoaded words old new loads → HasConsistentPlan words (in_loads loads) P
     → HasConsistentPlan words (in_files files) P
+
+-- what was read determines the loads
+abbrev pub OneLoading : Type 0
+OneLoading = (old new : List Read) (loads others : List Load) → Gave old new loads → Gave old new others → loads ≡ others

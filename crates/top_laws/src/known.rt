@@ -1,6 +1,11 @@
 //! The clauses of the program where the contents of the files are known.
 
-ghost use Rattle.top_laws.specs.Known.{CompleteOverFiles, CutOverFiles, ExactOverFiles, JobOverFiles, LoadsAreFiles, UnreadOverFiles};
+ghost use Rattle.top_laws.specs.Known.{CompleteOverFiles, CutOverFiles, ExactOverFiles, JobOverFiles, LoadsAreFiles, OneLoading, UnreadOverFiles};
+
+/// A law: what was read determines the loads.
+pub fn reads_determine_the_loads()
+    ensures { OneLoading }
+{}
 
 /// A law: where each read gave a piece of known files, each load is the file with its name, or both have more than
 /// 16 MiB.

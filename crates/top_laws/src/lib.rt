@@ -5,7 +5,7 @@
 mod known;
 mod laws;
 
-pub use known::{loads_are_files, over_known_files};
+pub use known::{loads_are_files, over_known_files, reads_determine_the_loads};
 pub use laws::{
     one_job, one_meaning, settings_change_nothing_else, some_meaning, traces_replay,
     with_one_type_the_preload_is_a_product,
