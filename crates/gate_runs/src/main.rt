@@ -1,10 +1,11 @@
 //! Runs jobs through the program with gates that wait, count or note, and prints how each run ends. Two bodies at once
 //! show that there are two threads, a count of the bodies of each task that each is run once, and the notes of the
-//! tasks of one worker that `trace` prints them in their order. What `trace` prints is replayed. With arguments it is
-//! the program with a gate that counts bodies.
+//! tasks of one worker that `trace` prints them in their order. What `trace` prints is replayed. A job is also run from
+//! one file that changes between its loads. With arguments it is the program with a gate that counts bodies.
 #![tactic(auto)]
 
 mod begun;
+mod changing;
 mod command;
 mod counting;
 mod jobs;
@@ -20,7 +21,7 @@ use crate::jobs::{
 };
 use crate::meeting::Meeting;
 use crate::noting::Noting;
-use crate::runs::{Job, ran, replayed, traced};
+use crate::runs::{Job, ran, ran_from_one_file, replayed, traced};
 use job_gen::JDF;
 use ptg_base::OutOfMemory;
 use ptg_os::words;
@@ -114,6 +115,23 @@ fn replay_all<R: Threads + Wait + Print + Sync>(rt: &R, alloc: Global) -> io::Re
     Ok(())
 }
 
+// The JDF and the data of the Cholesky job are loaded from one file, which changes between its loads.
+fn change<R: Threads + Wait + Print + Sync>(rt: &R, alloc: Global) -> io::Result<()> {
+    let job = Job {
+        jdf: JDF,
+        data: CHOLESKY_DATA,
+        answer: CHOLESKY_ANSWER,
+    };
+    let Ok(gate) = Counting::new(alloc) else {
+        return println!(rt; "one file that changes: no memory");
+    };
+    match ran_from_one_file(rt, alloc, &job, &gate) {
+        Ok(end) => println!(rt; "one file that changes: {end}, {}", gate.counts())?,
+        Err(OutOfMemory) => println!(rt; "one file that changes: no memory")?,
+    }
+    Ok(())
+}
+
 // All runs of jobs in memory.
 fn run_all<R: Threads + Wait + Print + Sync>(rt: &R, alloc: Global) -> io::Result<()> {
     meet(rt, alloc)?;
@@ -138,7 +156,7 @@ fn run_all<R: Threads + Wait + Print + Sync>(rt: &R, alloc: Global) -> io::Resul
         note(rt, alloc, options)?;
     }
     replay_all(rt, alloc)?;
-    Ok(())
+    change(rt, alloc)
 }
 
 fn main(rt: HostRuntime) -> ExitCode {

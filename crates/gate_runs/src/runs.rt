@@ -1,5 +1,6 @@
 //! A run of a job through the program, over files in memory.
 
+use crate::changing::ChangingFiles;
 use crate::noting::Noting;
 use ptg_base::{OutOfMemory, Seq, Text};
 use ptg_io::{File, MemFiles, MemSink};
@@ -74,6 +75,36 @@ fn printed<R: Threads + Wait + Sync, G: Gate>(
     let mut out = MemSink::new(alloc, Seq::new(alloc));
     let ended = ptg_main(rt, alloc, words, &mut files, &mut out, gate);
     Ok((out, ended.status.code()))
+}
+
+// Files in memory that have one file.
+fn one_file(alloc: Global, name: &str, bytes: &[u8]) -> Result<MemFiles, OutOfMemory> {
+    let name = Text::of(alloc, name.as_bytes())?;
+    let mut list = Seq::new(alloc);
+    list.push(File::new(name, Seq::of(bytes.to_vec(alloc)?)))?;
+    MemFiles::new(alloc, list, Seq::new(alloc))
+}
+
+/// Runs a job whose two files are one that changes between its loads, with this gate.
+pub fn ran_from_one_file<R: Threads + Wait + Sync, G: Gate>(
+    rt: &R,
+    alloc: Global,
+    job: &Job,
+    gate: &G,
+) -> Result<End, OutOfMemory> {
+    let mut words = Vec::new(alloc);
+    for word in ["run", "job", "job"] {
+        words.push(Text::of(alloc, word.as_bytes())?)?;
+    }
+    let before = one_file(alloc, "job", job.jdf)?;
+    let after = one_file(alloc, "job", job.data)?;
+    let mut files = ChangingFiles::new(before, after);
+    let mut out = MemSink::new(alloc, Seq::new(alloc));
+    let ended = ptg_main(rt, alloc, words.as_slice(), &mut files, &mut out, gate);
+    Ok(End {
+        status: ended.status.code(),
+        printed: name_if(out.bytes() == job.answer, "the answer"),
+    })
 }
 
 /// Runs a job with these options and this gate.
