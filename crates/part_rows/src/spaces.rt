@@ -4,7 +4,7 @@ use crate::names::add_name;
 use dep_iter::is_task;
 use job_stages::JobVerdict;
 use plan_core::Plan;
-use ptg_base::{TaskId, Text};
+use ptg_base::{MOST_PARAMS, TaskId, Text};
 use range_space::{SpanFault, steps_of};
 use row_files::{Printed, Why};
 use std::alloc::Global;
@@ -41,6 +41,9 @@ pub fn has_task(
     let mut numbers = Vec::new(alloc);
     for param in params {
         numbers.push(number(param)?)?;
+    }
+    if numbers.len() > MOST_PARAMS {
+        return Err(Why("more parameters than a class can have"));
     }
     let task = TaskId::new(class, numbers.as_slice());
     let answer = if is_task(plan, &task) { "yes" } else { "no" };
