@@ -49,7 +49,7 @@ turn_is_front files name bytes there from (piece ∷ pieces) ((other, same, is),
     ∙ sym (take-add (length piece) (length (concat pieces)) (drop from bytes))
     ∙ ap (λ (k : ℕ). take k (drop from bytes)) (sym (length-append piece (concat pieces)))
 
-module _ (files : NamedFiles) (load : Load) (old new : List Read) (first : IsLoaded load old new) where
+module _ (load : Load) (old new : List Read) (first : IsLoaded load old new) where
   abbrev pub last_read : Read
   last_read = record { name = load.name; from = length first.earlier; piece = first.last }
 
@@ -60,12 +60,15 @@ module _ (files : NamedFiles) (load : Load) (old new : List Read) (first : IsLoa
   pub added_by : new ≡ old ++ (own_reads ++ last_read ∷ [])
   added_by = first.ended ∙ ap (λ (rs : List Read). rs ++ last_read ∷ []) first.reads.reads ∙ append_assoc old own_reads (last_read ∷ [])
 
-  is_file : AllByRecursion (IsPieceOf files) (own_reads ++ last_read ∷ []) → IsFileOf files load
+module _ (files : NamedFiles) (load : Load) (old new : List Read) (first : IsLoaded load old new) where
+  is_file : AllByRecursion (IsPieceOf files) (own_reads load old new first ++ last_read load old new first ∷ []) → IsFileOf files load
   is_file all =
-      let last = (all_back (IsPieceOf files) own_reads (last_read ∷ []) all).0 in
+      let own : List Read = own_reads load old new first in
+      let end : List Read = last_read load old new first ∷ [] in
+      let last = (all_back (IsPieceOf files) own end all).0 in
       let bytes = last.0 in
       let earlier : first.earlier ≡ take (length first.earlier) bytes =
-      subst (λ (b : List ℕ). b ≡ take (length b) bytes) first.reads.together (turn_is_front files load.name bytes last.1 0 first.reads.pieces (all_front (IsPieceOf files) own_reads (last_read ∷ []) all)) in
+      subst (λ (b : List ℕ). b ≡ take (length b) bytes) first.reads.together (turn_is_front files load.name bytes last.1 0 first.reads.pieces (all_front (IsPieceOf files) own end all)) in
       let piece : first.last ≡ take (length first.last) (drop (length first.earlier) bytes) = sym (take_all (length first.last) first.last (omega arith)) ∙ last.2.piece in
       let text : load.text ≡ take (length load.text) bytes =
       first.text
@@ -90,9 +93,9 @@ loads_from : (files : NamedFiles) (old new : List Read) (loads : List Load) → 
 loads_from files old new [] gave added is all = tt
 loads_from files old new (load ∷ loads) (middle, first, rest) added is all =
     let more = gave_adds middle new loads rest in
-    let own : List Read = own_reads files load old middle first ++ last_read files load old middle first ∷ [] in
+    let own : List Read = own_reads load old middle first ++ last_read load old middle first ∷ [] in
     let split : old ++ added ≡ old ++ (own ++ more.0) =
-    sym is ∙ more.1 ∙ ap (λ (rs : List Read). rs ++ more.0) (added_by files load old middle first) ∙ append_assoc old own more.0 in
+    sym is ∙ more.1 ∙ ap (λ (rs : List Read). rs ++ more.0) (added_by load old middle first) ∙ append_assoc old own more.0 in
     let parts : added ≡ own ++ more.0 = append_cancel_left old added (own ++ more.0) split in
     let both : AllByRecursion (IsPieceOf files) (own ++ more.0) = subst (λ (rs : List Read). AllByRecursion (IsPieceOf files) rs) parts all in (
       is_file files load old middle first (all_front (IsPieceOf files) own more.0 both),

@@ -15,9 +15,19 @@ some piece = 0 < length piece
 abbrev IsLast : ℕ → List (List ℕ) → List ℕ → Type 0
 IsLast from pieces last = (last ≡ []) ⊎ (16777216 < from + length (concat pieces) + length last)
 
+abbrev read_at : List ℕ → ℕ → List ℕ → Read
+read_at name from piece = record { name = name; from = from; piece = piece }
+
 -- the reads of a load from an offset on, and those after it
 abbrev reads_of : List ℕ → ℕ → List (List ℕ) → List ℕ → List Read → List Read
-reads_of name from pieces last rest = reads_in_turn name from pieces ++ record { name = name; from = from + length (concat pieces); piece = last } ∷ rest
+reads_of name from pieces last rest = reads_in_turn name from pieces ++ read_at name (from + length (concat pieces)) last ∷ rest
+
+-- where two lists of reads are the same, so are the parts of their first reads, and what follows
+parts_of : (a b : List ℕ) (i j : ℕ) (p q : List ℕ) (r s : List Read) → read_at a i p ∷ r ≡ read_at b j q ∷ s → (a ≡ b) × (p ≡ q) × (r ≡ s)
+parts_of a b i j p q r s e =
+    let heads : read_at a i p ≡ read_at b j q = cc in
+    let rests : r ≡ s = cc in
+    (ap (λ (x : Read). x.name) heads, ap (λ (x : Read). x.piece) heads, rests)
 
 no_end_within : (from : ℕ) (last piece : List ℕ) (pieces : List (List ℕ)) → some piece → from + length (piece ++ concat pieces) ≤ 16777216 → last ≡ piece → (last ≡ []) ⊎ (16777216 < from + 0 + length last) → ⊥
 no_end_within from last piece pieces nonempty within same (inl none) = absurd (omega (arith, nonempty, ap length (sym same ∙ none)))
@@ -26,25 +36,26 @@ no_end_within from last piece pieces nonempty within same (inr past) = absurd (o
 module _ (a b : List ℕ) where
   once : (from : ℕ) (ps qs : List (List ℕ)) (last other : List ℕ) (r s : List Read) → AllByRecursion some ps → AllByRecursion some qs → from + length (concat ps) ≤ 16777216 → from + length (concat qs) ≤ 16777216
       → IsLast from ps last → IsLast from qs other → reads_of a from ps last r ≡ reads_of b from qs other s → (a ≡ b) × (concat ps ++ last ≡ concat qs ++ other) × (r ≡ s)
-  once from [] [] last other r s all each within inside ends stops e =
-      let names : a ≡ b = cc in
-      let texts : last ≡ other = cc in
-      let rests : r ≡ s = cc in
-      (names, texts, rests)
+  once from [] [] last other r s all each within inside ends stops e = parts_of a b (from + 0) (from + 0) last other r s e
   once from [] (q ∷ qs) last other r s all each within inside ends stops e =
-      let same : last ≡ q = cc in
-      absurd (no_end_within from last q qs each.0 inside same ends)
+      let tail : List Read = reads_in_turn b (from + length q) qs ++ read_at b (from + length (q ++ concat qs)) other ∷ s in
+      let parts = parts_of a b (from + 0) from last q r tail e in
+      absurd (no_end_within from last q qs each.0 inside parts.1 ends)
   once from (p ∷ ps) [] last other r s all each within inside ends stops e =
-      let same : other ≡ p = cc in
-      absurd (no_end_within from other p ps all.0 within same stops)
+      let tail : List Read = reads_in_turn a (from + length p) ps ++ read_at a (from + length (p ++ concat ps)) last ∷ r in
+      let parts = parts_of a b from (from + 0) p other tail s e in
+      absurd (no_end_within from other p ps all.0 within (sym parts.1) stops)
   once from (p ∷ ps) (q ∷ qs) last other r s all each within inside ends stops e =
-      let same : p ≡ q = cc in
-      let tails : reads_in_turn a (from + length p) ps ++ record { name = a; from = from + length (p ++ concat ps); piece = last } ∷ r ≡ reads_in_turn b (from + length q) qs ++ record { name = b; from = from + length (q ++ concat qs); piece = other } ∷ s = cc in
+      let mine : List Read = reads_in_turn a (from + length p) ps ++ read_at a (from + length (p ++ concat ps)) last ∷ r in
+      let its : List Read = reads_in_turn b (from + length q) qs ++ read_at b (from + length (q ++ concat qs)) other ∷ s in
+      let parts = parts_of a b from from p q mine its e in
+      let same : p ≡ q = parts.1 in
+      let tails : mine ≡ its = parts.2 in
       let first : from + length (p ++ concat ps) ≡ from + length p + length (concat ps) = omega (arith, length-append p (concat ps)) in
       let second : from + length (q ++ concat qs) ≡ from + length q + length (concat qs) = omega (arith, length-append q (concat qs)) in
       let moved : reads_of a (from + length p) ps last r ≡ reads_of b (from + length q) qs other s =
-      ap (λ (k : ℕ). reads_in_turn a (from + length p) ps ++ record { name = a; from = k; piece = last } ∷ r) (sym first) ∙ tails
-      ∙ ap (λ (k : ℕ). reads_in_turn b (from + length q) qs ++ record { name = b; from = k; piece = other } ∷ s) second in
+      ap (λ (k : ℕ). reads_in_turn a (from + length p) ps ++ read_at a k last ∷ r) (sym first) ∙ tails
+      ∙ ap (λ (k : ℕ). reads_in_turn b (from + length q) qs ++ read_at b k other ∷ s) second in
       let sizes : length q ≡ length p = ap length (sym same) in
       let alike : reads_of a (from + length p) ps last r ≡ reads_of b (from + length p) qs other s = subst (λ (k : ℕ). reads_of a (from + length p) ps last r ≡ reads_of b (from + k) qs other s) sizes moved in
       let then =
@@ -94,10 +105,10 @@ module _ (old : List Read) (a b : Load) (one two : List Read) (first : IsLoaded 
       last_of load earlier last pieces together text (inr past) = inr (omega (arith, past, ap length text, length-append earlier last, ap length together))
 
       placed : (load : Load) (own : List Read) (last : List ℕ) (rest : List Read) (earlier : List ℕ) (pieces : List (List ℕ)) → concat pieces ≡ earlier
-          → own ++ record { name = load.name; from = 0 + length (concat pieces); piece = last } ∷ rest ≡ own ++ record { name = load.name; from = length earlier; piece = last } ∷ rest
+          → own ++ read_at load.name (0 + length (concat pieces)) last ∷ rest ≡ own ++ read_at load.name (length earlier) last ∷ rest
       placed load own last rest earlier pieces together =
           let at : 0 + length (concat pieces) ≡ length earlier = omega (arith, ap length together) in
-          ap (λ (k : ℕ). own ++ record { name = load.name; from = k; piece = last } ∷ rest) at
+          ap (λ (k : ℕ). own ++ read_at load.name k last ∷ rest) at
 
 pub one_loading : OneLoading
 one_loading old new [] [] gave also = refl
