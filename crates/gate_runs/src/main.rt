@@ -87,7 +87,7 @@ fn note<R: Threads + Wait + Print + Sync>(rt: &R, alloc: Global, options: &str) 
     Ok(())
 }
 
-// What `trace` prints of a job with these options is replayed.
+// A job is run with these options, and what `trace` prints of it with the same ones is replayed.
 fn replay<R: Threads + Wait + Print + Sync>(
     rt: &R,
     alloc: Global,
@@ -95,6 +95,10 @@ fn replay<R: Threads + Wait + Print + Sync>(
     job: &Job,
 ) -> io::Result<()> {
     for options in ["--workers 1", "--workers 4", "--workers 64"] {
+        match ran(rt, alloc, job, options, &Always) {
+            Ok(end) => println!(rt; "{name}, run {options}: {end}")?,
+            Err(OutOfMemory) => println!(rt; "{name}, run {options}: no memory")?,
+        }
         match replayed(rt, alloc, job, options, &Always) {
             Ok(end) => println!(rt; "{name}, trace {options}, replayed: {end}")?,
             Err(OutOfMemory) => println!(rt; "{name}, trace {options}: no memory")?,

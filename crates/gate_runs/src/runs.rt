@@ -140,20 +140,36 @@ pub fn traced<R: Threads + Wait + Sync>(
     })
 }
 
-// What a verb with these options prints of a job and a trace of it, and its status.
-fn told<R: Threads + Wait + Sync, G: Gate>(
+// What `trace` prints of a job with these options.
+fn trace_of<R: Threads + Wait + Sync, G: Gate>(
     rt: &R,
     alloc: Global,
-    (verb, options): (&str, &str),
-    texts: (&Job, &[u8]),
+    job: &Job,
+    options: &str,
     gate: &G,
-) -> Result<(MemSink, u8), OutOfMemory> {
-    let words = words(alloc, verb, options)?;
-    printed(rt, alloc, words.as_slice(), texts, gate)
+) -> Result<MemSink, OutOfMemory> {
+    let words = words(alloc, "trace", options)?;
+    let (out, _status) = printed(rt, alloc, words.as_slice(), (job, b""), gate)?;
+    Ok(out)
 }
 
-/// Traces a job with these options, replays what was printed, and runs the job too: how the replay ended, and whether
-/// it and the run printed the answer.
+// Replays a trace of a job.
+fn replay_of<R: Threads + Wait + Sync, G: Gate>(
+    rt: &R,
+    alloc: Global,
+    job: &Job,
+    trace: &[u8],
+    gate: &G,
+) -> Result<End, OutOfMemory> {
+    let words = words(alloc, "replay", "job.trace")?;
+    let (out, status) = printed(rt, alloc, words.as_slice(), (job, trace), gate)?;
+    Ok(End {
+        status,
+        printed: name_if(out.bytes() == job.answer, "the answer"),
+    })
+}
+
+/// Traces a job with these options and replays what was printed.
 pub fn replayed<R: Threads + Wait + Sync, G: Gate>(
     rt: &R,
     alloc: Global,
@@ -161,18 +177,6 @@ pub fn replayed<R: Threads + Wait + Sync, G: Gate>(
     options: &str,
     gate: &G,
 ) -> Result<End, OutOfMemory> {
-    let (trace, _traced) = told(rt, alloc, ("trace", options), (job, b""), gate)?;
-    let (out, status) = told(
-        rt,
-        alloc,
-        ("replay", "job.trace"),
-        (job, trace.bytes()),
-        gate,
-    )?;
-    let (answer, _ran) = told(rt, alloc, ("run", options), (job, b""), gate)?;
-    let is_answer = out.bytes() == job.answer && answer.bytes() == job.answer;
-    Ok(End {
-        status,
-        printed: name_if(is_answer, "the answer"),
-    })
+    let trace = trace_of(rt, alloc, job, options, gate)?;
+    replay_of(rt, alloc, job, trace.bytes(), gate)
 }
