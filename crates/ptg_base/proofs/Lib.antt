@@ -1,3 +1,4 @@
 pub mod Comparisons
 mod DecimalDigits
 pub mod Refusals
+pub mod SmallTiles

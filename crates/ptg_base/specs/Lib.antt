@@ -1,3 +1,4 @@
+pub mod Cells
 pub mod Decimal
 pub mod Line
 pub mod Task

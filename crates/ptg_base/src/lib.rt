@@ -30,7 +30,7 @@ pub use refusal::Refusal;
 pub use seq::Seq;
 pub use task::TaskId;
 pub use text::Text;
-pub use tile::Tile;
+pub use tile::{MOST_IN_PLACE, Tile};
 
 #[cfg(test)]
 mod tests {
@@ -150,6 +150,27 @@ mod tests {
         assert_eq!(rt; hash_of(&gemm), hash_of(&Text::of(alloc, b"GEMM")?));
         assert!(rt; gemm < Text::of(alloc, b"GEMMS")?);
         assert!(rt; Text::of(alloc, b"POTRF")? > gemm);
+        Ok(())
+    }
+
+    #[test]
+    fn tiles_of_each_length_keep_what_they_are_given(rt: HostRuntime) -> Result<(), Fail> {
+        let alloc = rt.alloc();
+        let rows: [&[i64]; 4] = [&[], &[4, 0, -6], &[4, 0, -6, 1], &[4, 0, -6, 1, 9]];
+        for row in rows {
+            assert!(rt; row.len() <= 5);
+            let n = row.len() as u32;
+            let mut tile = Tile::zeros(alloc, n)?;
+            for at in 0..n {
+                assert!(rt; at < tile.len() && (at as usize) < row.len());
+                tile.set(at, row[at as usize]);
+            }
+            let mut copy = Tile::zeros(alloc, n)?;
+            assert!(rt; copy.len() == n && tile.len() == n);
+            copy.copy_from(&tile);
+            assert_eq!(rt; copy.as_slice(), row);
+            assert_eq!(rt; copy.copy(alloc)?.as_slice(), row);
+        }
         Ok(())
     }
 

@@ -59,6 +59,23 @@ impl TilePool {
         fill(&mut self.tiles, self.alloc, self.elems, wanted)
     }
 
+    /// Takes memory until at least `n` tiles can be given back. An `Err` changes nothing.
+    pub fn make_room(&mut self, n: u64) -> Result<(), OutOfMemory>
+        ensures ok { OnOk result (n ≤ self.new.room) }
+        ensures more { self.old.room ≤ self.new.room }
+        ensures spare { self.new.spare ≡ self.old.spare }
+        ensures elems { self.new.elems ≡ self.old.elems }
+        ensures err { OnErr result (self.new ≡ self.old) }
+        ensures succeeds { n ≤ self.old.room → IsOk result }
+    {
+        let wanted = n as usize;
+        if wanted > self.room {
+            self.tiles.reserve(wanted)?;
+            self.room = wanted;
+        }
+        Ok(())
+    }
+
     /// Takes a tile, whose numbers are any.
     pub fn take(&mut self) -> Tile
         requires { 0 < self.old.spare }
