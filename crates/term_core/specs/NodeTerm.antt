@@ -15,7 +15,10 @@ abbrev pub term_of : Node → Term
 term_of (node.Num z) = Num z
 term_of (node.Local n) = Local n
 term_of (node.Elem' f p a) = Elem f (term_of a)
+term_of (node.ElemAt f a) = Elem f (leaf_term a)
 term_of (node.Unary' o p a) = Unary o (term_of a)
 term_of (node.Binary' o p a q b) = Binary o (term_of a) (term_of b)
 term_of (node.Flat o a b) = Binary o (leaf_term a) (leaf_term b)
+term_of (node.LeafLeft' o a q b) = Binary o (leaf_term a) (term_of b)
+term_of (node.LeafRight' o p a b) = Binary o (term_of a) (leaf_term b)
 term_of (node.Choose' p a q b r c) = Choose (term_of a) (term_of b) (term_of c)

@@ -1,6 +1,6 @@
 //! The value of an expression: one evaluator, over a way to read elements.
 
-ghost use Rattle.std.specs.Prelude.{◌≡◌, ℕ, ℤ, pos, slice_index_or, Result, Ok};
+ghost use Rattle.std.specs.Prelude.{◌≡◌, ℕ, ℤ, pos, slice_index_or, IfSome, Result, Ok};
 ghost use Rattle.term_core.specs.NodeTerm.{term_of, leaf_term};
 ghost use Rattle.term_core.specs.Term.{Binary};
 ghost use Rattle.term_core.specs.Value.{map_fault, value, value_with};
@@ -45,11 +45,9 @@ pub trait ReadElement {
 pub fn eval_with<R: ReadElement>(e: &Expr, env: &[i64], elements: &R) -> Result<i64, R::Fault>
     ensures { result ≡ value_with R.fault_of (R.element_of elements.now) env.now e.now }
 {
-    match &e.node {
-        Node::Num(z) => Ok(*z),
-        Node::Local(number) => Ok(local(env, *number)),
-        Node::Flat(op, a, b) => flat_value::<R>(*op, *a, *b, env),
-        _ => node_value(&e.node, env, elements),
+    match short_value(&e.node, env, elements) {
+        Some(value) => value,
+        None => node_value(&e.node, env, elements),
     }
 }
 
@@ -78,6 +76,25 @@ fn flat_value<R: ReadElement>(op: BinOp, a: Leaf, b: Leaf, env: &[i64]) -> Resul
     with_fault::<R>(arith(op, x, leaf_value::<R>(b, env)))
 }
 
+// The value of a node without boxes, so that most values need no call. None for the others.
+#[inline(always)]
+fn short_value<R: ReadElement>(
+    node: &Node,
+    env: &[i64],
+    elements: &R,
+) -> Option<Result<i64, R::Fault>>
+    ensures { IfSome result (λ value.
+        value ≡ value_with R.fault_of (R.element_of elements.now) env.now (term_of node.now)) }
+{
+    match node {
+        Node::Num(z) => Some(Ok(*z)),
+        Node::Local(number) => Some(Ok(local(env, *number))),
+        Node::Flat(op, a, b) => Some(flat_value::<R>(*op, *a, *b, env)),
+        Node::ElemAt(flow, at) => Some(elements.element(*flow, leaf_value::<R>(*at, env))),
+        _ => None,
+    }
+}
+
 // The value of a tree of boxed nodes.
 fn node_value<R: ReadElement>(node: &Node, env: &[i64], elements: &R) -> Result<i64, R::Fault>
     ensures { result ≡ value_with R.fault_of (R.element_of elements.now) env.now (term_of node.now) }
@@ -86,22 +103,53 @@ fn node_value<R: ReadElement>(node: &Node, env: &[i64], elements: &R) -> Result<
         Node::Num(z) => Ok(*z),
         Node::Local(number) => Ok(local(env, *number)),
         Node::Elem(flow, at) => {
-            let index = node_value(at, env, elements)?;
+            let index = match short_value(at, env, elements) {
+                Some(value) => value,
+                None => node_value(at, env, elements),
+            }?;
             elements.element(*flow, index)
         }
+        Node::ElemAt(flow, at) => elements.element(*flow, leaf_value::<R>(*at, env)),
         Node::Unary(op, a) => {
             let x = node_value(a, env, elements)?;
             with_fault::<R>(unary(*op, x))
         }
         Node::Binary(op, a, b) => {
-            let x = node_value(a, env, elements)?;
+            let x = match short_value(a, env, elements) {
+                Some(value) => value,
+                None => node_value(a, env, elements),
+            }?;
             if let Some(z) = decide(*op, x) {
                 return Ok(z);
             }
-            let y = node_value(b, env, elements)?;
+            let y = match short_value(b, env, elements) {
+                Some(value) => value,
+                None => node_value(b, env, elements),
+            }?;
             with_fault::<R>(arith(*op, x, y))
         }
         Node::Flat(op, a, b) => flat_value::<R>(*op, *a, *b, env),
+        Node::LeafLeft(op, a, b) => {
+            let x = leaf_value::<R>(*a, env);
+            if let Some(z) = decide(*op, x) {
+                return Ok(z);
+            }
+            let y = match short_value(b, env, elements) {
+                Some(value) => value,
+                None => node_value(b, env, elements),
+            }?;
+            with_fault::<R>(arith(*op, x, y))
+        }
+        Node::LeafRight(op, a, b) => {
+            let x = match short_value(a, env, elements) {
+                Some(value) => value,
+                None => node_value(a, env, elements),
+            }?;
+            if let Some(z) = decide(*op, x) {
+                return Ok(z);
+            }
+            with_fault::<R>(arith(*op, x, leaf_value::<R>(*b, env)))
+        }
         Node::Choose(c, a, b) => {
             let x = node_value(c, env, elements)?;
             if x == 0 {

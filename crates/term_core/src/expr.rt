@@ -36,10 +36,16 @@ pub enum Node {
     Local(u16),
     /// An element of the tile of the flow of this number.
     Elem(u8, Box<Node>),
+    /// An element whose index is a leaf.
+    ElemAt(u8, Leaf),
     Unary(UnOp, Box<Node>),
     Binary(BinOp, Box<Node>, Box<Node>),
     /// A binary operation on two leaves.
     Flat(BinOp, Leaf, Leaf),
+    /// A binary operation whose left operand is a leaf.
+    LeafLeft(BinOp, Leaf, Box<Node>),
+    /// A binary operation whose right operand is a leaf.
+    LeafRight(BinOp, Box<Node>, Leaf),
     /// `c ? a : b`
     Choose(Box<Node>, Box<Node>, Box<Node>),
 }
@@ -68,16 +74,26 @@ fn leaf_of(node: &Node) -> Option<Leaf>
     }
 }
 
-// A binary operation, without boxes where its operands are leaves.
+// An element, without a box where its index is a leaf.
+fn elem_node(alloc: Global, flow: u8, at: Node) -> Result<Node, OutOfMemory>
+    ensures { IfOk result (λ n. term_of n ≡ Elem flow (term_of at)) }
+{
+    match leaf_of(&at) {
+        Some(index) => Ok(Node::ElemAt(flow, index)),
+        None => Ok(Node::Elem(flow, Box::new(alloc, at)?)),
+    }
+}
+
+// A binary operation, without a box for an operand that is a leaf.
 fn binary_node(alloc: Global, op: BinOp, a: Node, b: Node) -> Result<Node, OutOfMemory>
     ensures { IfOk result (λ n. term_of n ≡ Binary op (term_of a) (term_of b)) }
 {
-    if let Some(x) = leaf_of(&a) {
-        if let Some(y) = leaf_of(&b) {
-            return Ok(Node::Flat(op, x, y));
-        }
+    match (leaf_of(&a), leaf_of(&b)) {
+        (Some(x), Some(y)) => Ok(Node::Flat(op, x, y)),
+        (Some(x), None) => Ok(Node::LeafLeft(op, x, Box::new(alloc, b)?)),
+        (None, Some(y)) => Ok(Node::LeafRight(op, Box::new(alloc, a)?, y)),
+        (None, None) => Ok(Node::Binary(op, Box::new(alloc, a)?, Box::new(alloc, b)?)),
     }
-    Ok(Node::Binary(op, Box::new(alloc, a)?, Box::new(alloc, b)?))
 }
 
 impl Expr {
@@ -102,7 +118,7 @@ impl Expr {
         ensures { IfOk result (λ e. e ≡ Elem flow at) }
     {
         Ok(Expr {
-            node: Node::Elem(flow, Box::new(alloc, at.into_node())?),
+            node: elem_node(alloc, flow, at.into_node())?,
         })
     }
 

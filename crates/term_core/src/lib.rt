@@ -3,6 +3,7 @@
 
 mod arithmetic;
 mod body;
+mod closed;
 mod direction;
 mod evaluate;
 mod expr;
@@ -14,6 +15,7 @@ mod trap;
 
 pub use arithmetic::{arith, decide, unary};
 pub use body::{Block, Body, Stmt};
+pub use closed::is_closed;
 pub use direction::Direction;
 pub use evaluate::{ReadElement, eval, eval_with, local};
 pub use expr::Expr;
