@@ -7,3 +7,5 @@ pub mod Once
 pub mod Items
 pub mod Distinctness
 pub mod Directed
+pub mod Writing
+pub mod OwnLocals

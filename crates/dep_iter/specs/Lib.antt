@@ -10,5 +10,6 @@ pub mod Consistent
 pub mod Combining
 pub mod Links
 pub mod Walking
+pub mod Writing
 pub mod WalkLocals
 pub mod OneTask

@@ -1,6 +1,6 @@
 -- The tasks of a job, and the locals of a task, under which all that its class says of it is evaluated. Source: DAGuE
 -- (Parallel Computing, 2012): a task is named by its class and its parameters; the JDF documentation for locals.
-use Rattle.std.specs.Prelude.{ℕ, suc, ℤ, List, [], ◌∷◌, ◌++◌, map, find, unwrap_or, slice_get, IsSomeAnd}
+use Rattle.std.specs.Prelude.{ℕ, suc, ℤ, List, [], ◌∷◌, ◌++◌, map, find, unwrap_or, slice_get, IsSomeAnd, Bool, true, ◌&&◌, ◌==◌, length}
 use Rattle.std.specs.Option.{option_map_or}
 use Rattle.std.specs.Ordering.{int_eq}
 use Rattle.std.specs.Cmp.Lexicographic.{pointwise}
@@ -42,3 +42,12 @@ locals_of P t = option_map_or (λ s. locals_with s t.params) (slice_get P.spaces
 -- the flows of the class of a task, in the text's order
 abbrev pub flows_of : Plan → Task → List FlowPlan
 flows_of P t = option_map_or (λ (c : ClassPlan). c.flows) (slice_get P.classes t.class) []
+
+-- whether these numbers count up by one from n on
+abbrev pub counts_from : ℕ → List ℕ → Bool
+counts_from n [] = true
+counts_from n (p ∷ ps) = (p == n) && counts_from (suc n) ps
+
+-- whether the definitions of a class are its parameters, in their order
+abbrev pub params_are_locals : ClassSpace → Bool
+params_are_locals s = (length s.params == length s.defs) && counts_from 0 s.params

@@ -6,17 +6,25 @@ use Rattle.plan_core.specs.declared.target.Target.{Target}
 use Rattle.dep_iter.specs.declared.position.Position.{Position}
 use Rattle.plan_core.specs.declared.target.Target.TheVariants as target
 use Rattle.ptg_base.specs.Task.{Task}
+use Rattle.ptg_base.specs.declared.edge.Edge.{Edge}
 use Rattle.ptg_base.specs.declared.edge.WriteBack.{WriteBack}
 use Rattle.dep_iter.specs.Arguments.{place_of}
 use Rattle.dep_iter.specs.Active.{by_flow, flow_targets, held_targets}
 use Rattle.dep_iter.specs.Items.{write_back}
-use Rattle.dep_iter.specs.Links.{dependences_fit, flows_fit}
+use Rattle.dep_iter.specs.declared.link.Link.{Link}
+use Rattle.dep_iter.specs.Links.{all_links, dependences_fit, edge_of_link, flows_fit}
 
 -- the targets left: those of the dependences left of the flow at hand, and those of the flows after it
 abbrev pub targets_left : Direction → List ℤ → Position → List (ℕ × Target)
 targets_left direction env p =
     map (λ x. (p.flow, x)) (held_targets p.first_only p.deps.now env)
     ++ by_flow (flow_targets direction env) p.next_flow p.flows.now
+
+-- the edges left of a walk over those of a task in one direction: by these links, and by the targets left
+abbrev pub edges_left : Direction → Task → List ℤ → List Link → Position → List Edge
+edges_left direction t env links p =
+    map (edge_of_link direction t) links
+    ++ map (edge_of_link direction t) (all_links env (targets_left direction env p))
 
 -- whether the targets of all dependences left fit the plan
 abbrev pub position_fits : Plan → Position → Bool

@@ -5,6 +5,7 @@ ghost use Rattle.std.specs.Result.{result_unwrap_or};
 ghost use Rattle.ptg_base.specs.Lists.{IsIn};
 ghost use Rattle.range_space.specs.Fault.{number};
 ghost use Rattle.range_space.specs.Values.{values};
+ghost use Rattle.plan_core.specs.declared.target.Arg.TheVariants.{One};
 ghost use Rattle.dep_iter.specs.Arguments as arguments;
 ghost use Rattle.dep_iter.specs.Combining.{steps_values, HasFirst};
 
@@ -53,10 +54,23 @@ pub(crate) fn nonempty(arg: &Arg, env: &[i64]) -> Option<Steps>
     Some(steps)
 }
 
-// Whether a number is one of the values of an argument.
+// Whether a number is the value of an expression.
+fn is_value(e: &Expr, env: &[i64], v: i64) -> bool
+    ensures { IsTrue result ↔ IsIn v (result_unwrap_or (arguments.arg_values (One e.now) env.now) []) }
+{
+    match eval(e, env) {
+        Ok(z) => v == z,
+        Err(_) => false,
+    }
+}
+
+// Whether a number is one of the values of an argument. The value of an expression is compared.
 pub(crate) fn takes_value(arg: &Arg, env: &[i64], v: i64) -> bool
     ensures { IsTrue result ↔ IsIn v (result_unwrap_or (arguments.arg_values arg.now env.now) []) }
 {
+    if let Arg::One(e) = arg {
+        return is_value(e, env, v);
+    }
     match arg_steps(arg, env) {
         Some(steps) => steps.has(v),
         None => false,

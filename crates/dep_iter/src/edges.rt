@@ -7,13 +7,13 @@ ghost use Rattle.dep_iter.specs.Tasks.{IsTask};
 ghost use Rattle.dep_iter.specs.Directions.{edges_of};
 ghost use Rattle.dep_iter.specs.Edges as edges;
 ghost use Rattle.dep_iter.specs.Items as items;
-ghost use Rattle.dep_iter.specs.Links.{edge_of_link};
 ghost use Rattle.dep_iter.specs.WalkLocals.{walk_locals};
 
-use crate::link::Link;
-use crate::links::Links;
+use crate::links::{TargetLinks, next_edge};
 use crate::locals::Locals;
-use crate::task::locals_of;
+use crate::near_end::NearEnd;
+use crate::position::{Position, start};
+use crate::task::{flows_of, locals_of};
 use crate::task_at::TaskAt;
 use plan_core::Plan;
 use ptg_base::{Edge, TaskId};
@@ -24,19 +24,28 @@ use term_core::Direction;
 /// no memory.
 #[derive(Drop)]
 pub struct TaskEdges<'a> {
+    plan: &'a Plan,
     task: TaskId,
     direction: Direction,
-    links: Links<'a>,
+    env: Locals<'a>,
+    position: Position<'a>,
+    at_hand: TargetLinks,
 }
 
 impl<'a> Model for TaskEdges<'a> {
-    ghost use Rattle.std.specs.Prelude.{List, map};
+    ghost use Rattle.std.specs.Prelude.{◌+◌, ◌≤◌, IsTrue, List, length};
+    ghost use Rattle.ptg_base.specs.Limits.{most_flows};
     ghost use Rattle.ptg_base.specs.declared.edge.Edge.{Edge};
-    ghost use Rattle.dep_iter.specs.Links.{edge_of_link};
+    ghost use Rattle.dep_iter.specs.Walking.{edges_left, position_fits};
+    ghost use Rattle.dep_iter.specs.WalkLocals.{walk_locals};
 
     ghost Value = { List Edge };
 
-    ghost view = { λ e. map (edge_of_link e.direction e.task) e.links };
+    ghost view = { λ e. edges_left e.direction e.task (walk_locals e.env) e.at_hand e.position };
+
+    ghost invariant = { λ e.
+        (e.position.next_flow + length e.position.flows.now ≤ most_flows)
+        × IsTrue (position_fits e.plan.now e.position) };
 }
 
 /// The edges into a task.
@@ -57,9 +66,12 @@ fn task_edges<'a>(
     ensures { result ≡ edges_of direction plan.now t.now }
 {
     TaskEdges {
+        plan,
         task: t.copy(),
         direction,
-        links: Links::new(plan, t, locals, direction),
+        env: locals,
+        position: start(flows_of(plan, t)),
+        at_hand: TargetLinks::none(),
     }
 }
 
@@ -125,27 +137,6 @@ impl<'a> TaskAt<'a> {
     }
 }
 
-// The edge that a link of this task in one direction is.
-fn edge_of_link(direction: Direction, t: &TaskId, link: Link) -> Edge
-    ensures { result ≡ edge_of_link direction t.now link }
-{
-    let task = t.copy();
-    match direction {
-        Direction::In => Edge {
-            from: link.far,
-            out_flow: link.far_flow,
-            to: task,
-            in_flow: link.near,
-        },
-        Direction::Out => Edge {
-            from: task,
-            out_flow: link.near,
-            to: link.far,
-            in_flow: link.far_flow,
-        },
-    }
-}
-
 impl Iterator for TaskEdges<'_> {
     type Item = Edge;
 
@@ -154,7 +145,11 @@ impl Iterator for TaskEdges<'_> {
     ghost remaining = { item_count (λ left. left) };
 
     fn next(&mut self) -> Option<Edge> {
-        let link = self.links.next()?;
-        Some(edge_of_link(self.direction, &self.task, link))
+        let end = NearEnd {
+            direction: self.direction,
+            task: &self.task,
+        };
+        let env = self.env.as_slice();
+        next_edge(self.plan, end, env, &mut self.position, &mut self.at_hand)
     }
 }

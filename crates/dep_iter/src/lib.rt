@@ -15,8 +15,10 @@ mod links;
 mod locals;
 mod matched;
 mod membership;
+mod near_end;
 mod place;
 mod position;
+mod single;
 mod source;
 mod task;
 mod task_at;
@@ -24,6 +26,7 @@ mod task_items;
 mod task_walk;
 mod tile_source;
 mod well;
+mod write_position;
 mod writes;
 
 pub use combining::Combinations;

@@ -1,24 +1,20 @@
 //! The links of a task, one after another.
 
-ghost use Rattle.std.specs.Prelude.{◌≡◌, ◌+◌, ◌≤◌, [], ◌++◌, length, IsTrue, List, slice_get};
+ghost use Rattle.std.specs.Prelude.{◌≡◌, ◌+◌, ◌≤◌, [], length, map, IsTrue, List, slice_get};
 ghost use Rattle.std.specs.Iterator.{YieldsFirst};
 ghost use Rattle.ptg_base.specs.Limits.{most_flows, most_params};
-ghost use Rattle.dep_iter.specs.Links.{all_links, fits, links_to, task_links};
-ghost use Rattle.dep_iter.specs.WalkLocals.{walk_locals};
-ghost use Rattle.dep_iter.specs.Tasks.{IsTask, locals_of};
-ghost use Rattle.dep_iter.specs.declared.link.Link.{Link as LinkValue};
-ghost use Rattle.dep_iter.specs.Walking.{position_fits, targets_left};
+ghost use Rattle.ptg_base.specs.declared.edge.Edge.{Edge as EdgeValue};
+ghost use Rattle.dep_iter.specs.Links.{edge_of_link, fits, links_to};
+ghost use Rattle.dep_iter.specs.Walking.{edges_left, position_fits};
 ghost use Rattle.plan_core.specs.declared.target.Target.TheVariants.{Task};
 
 use crate::combining::Combinations;
-use crate::link::Link;
-use crate::locals::Locals;
-use crate::position::{Position, next_target, start};
-use crate::task::flows_of;
+use crate::near_end::NearEnd;
+use crate::position::{Position, next_target};
+use crate::single::only_edge;
 use plan_core::{Arg, Plan, Target};
-use ptg_base::TaskId;
+use ptg_base::Edge;
 use std::marker::Model;
-use term_core::Direction;
 
 /// The links of one target that are not yet given.
 #[derive(Drop)]
@@ -49,7 +45,7 @@ pub fn arguments_at_most(plan: &Plan, class: u32, flow: u8, args: &[Arg])
 
 impl TargetLinks {
     // No links.
-    fn none() -> TargetLinks
+    pub(crate) fn none() -> TargetLinks
         ensures { result ≡ [] }
     {
         TargetLinks {
@@ -76,116 +72,52 @@ impl TargetLinks {
         self.params.restart(args.as_slice(), env);
     }
 
-    // The next link, if there is one.
-    fn first(&self) -> Option<Link>
-        ensures { result ≡ slice_get self.now 0 }
+    // The next link as an edge, if there is one.
+    fn first(&self, end: NearEnd) -> Option<Edge>
+        ensures { result ≡ slice_get (map (edge_of_link end.entry.direction end.entry.task.now) self.now) 0 }
     {
         match self.params.first() {
-            Some(values) => Some(Link {
-                near: self.near,
-                far: TaskId::new(self.class, values),
-                far_flow: self.far_flow,
-            }),
+            Some(values) => end.edge(self.near, self.class, self.far_flow, values),
             None => None,
         }
     }
 
-    // Takes the next link of the target.
-    fn next(&mut self) -> Option<Link>
-        ensures { YieldsFirst (λ left. left) self.old result self.new }
+    // Takes the next link of the target as an edge.
+    fn next(&mut self, end: NearEnd) -> Option<Edge>
+        ensures { YieldsFirst (λ left. left)
+            (map (edge_of_link end.entry.direction end.entry.task.now) self.old) result
+            (map (edge_of_link end.entry.direction end.entry.task.now) self.new) }
     {
-        let link = self.first();
+        let edge = self.first(end);
         self.params.pass();
-        link
+        edge
     }
 }
 
-// The next link of a walk under these locals: of those left of the target at hand, or of the targets after it.
-fn next_link<'a>(
+// The next edge of a walk over those of a task in one direction, under its locals: by what is left of the target at
+// hand, or by the targets after it.
+pub(crate) fn next_edge<'a>(
     plan: &Plan,
-    direction: Direction,
+    end: NearEnd,
     env: &[i64],
     p: &mut Position<'a>,
     at_hand: &mut TargetLinks,
-) -> Option<Link>
+) -> Option<Edge>
     requires room { p.old.next_flow + length p.old.flows.now ≤ most_flows }
     requires fit { IsTrue (position_fits plan.now p.old) }
-    ensures found { YieldsFirst (λ (left : List LinkValue). left)
-        (at_hand.old ++ all_links env.now (targets_left direction env.now p.old)) result
-        (at_hand.new ++ all_links env.now (targets_left direction env.now p.new)) }
+    ensures found { YieldsFirst (λ (left : List EdgeValue). left)
+        (edges_left end.entry.direction end.entry.task.now env.now at_hand.old p.old) result
+        (edges_left end.entry.direction end.entry.task.now env.now at_hand.new p.new) }
     ensures room { p.new.next_flow + length p.new.flows.now ≤ most_flows }
     ensures fit { IsTrue (position_fits plan.now p.new) }
 {
-    if let Some(link) = at_hand.next() {
-        return Some(link);
+    if let Some(edge) = at_hand.next(end) {
+        return Some(edge);
     }
-    let (target, later) = next_target(direction, env, *p)?;
-    at_hand.restart(plan, later.flow, target, env);
-    *p = later;
-    next_link(plan, direction, env, p, at_hand)
-}
-
-/// The links of a task in one direction that are not yet given. It takes no memory.
-#[derive(Drop)]
-pub(crate) struct Links<'a> {
-    plan: &'a Plan,
-    direction: Direction,
-    env: Locals<'a>,
-    position: Position<'a>,
-    at_hand: TargetLinks,
-}
-
-impl<'a> Model for Links<'a> {
-    ghost use Rattle.std.specs.Prelude.{◌+◌, ◌≤◌, ◌++◌, IsTrue, List, length};
-    ghost use Rattle.ptg_base.specs.Limits.{most_flows};
-    ghost use Rattle.dep_iter.specs.declared.link.Link.{Link};
-    ghost use Rattle.dep_iter.specs.Links.{all_links};
-    ghost use Rattle.dep_iter.specs.Walking.{position_fits, targets_left};
-    ghost use Rattle.dep_iter.specs.WalkLocals.{walk_locals};
-
-    ghost Value = { List Link };
-
-    ghost view = { λ l.
-        l.at_hand ++ all_links (walk_locals l.env) (targets_left l.direction (walk_locals l.env) l.position) };
-
-    ghost invariant = { λ l.
-        (l.position.next_flow + length l.position.flows.now ≤ most_flows)
-        × IsTrue (position_fits l.plan.now l.position) };
-}
-
-impl<'a> Links<'a> {
-    // All links of a task with these locals in one direction.
-    pub(crate) fn new(
-        plan: &'a Plan,
-        t: &TaskId,
-        env: Locals<'a>,
-        direction: Direction,
-    ) -> Links<'a>
-        requires task { IsTask plan.now t.now }
-        requires locals { walk_locals env ≡ locals_of plan.now t.now }
-        ensures { result ≡ task_links plan.now t.now direction }
-    {
-        let flows = flows_of(plan, t);
-        Links {
-            plan,
-            direction,
-            env,
-            position: start(flows),
-            at_hand: TargetLinks::none(),
-        }
+    let target = next_target(end.direction, env, p)?;
+    if let Some(edge) = only_edge(plan, end, p.flow, target, env) {
+        return Some(edge);
     }
-
-    // Takes the next link of the walk.
-    pub(crate) fn next(&mut self) -> Option<Link>
-        ensures { YieldsFirst (λ left. left) self.old result self.new }
-    {
-        let env = self.env.as_slice();
-        next_link(
-            self.plan,
-            self.direction,
-            env,
-            &mut self.position,
-            &mut self.at_hand,
-        )
-    }
+    at_hand.restart(plan, p.flow, target, env);
+    next_edge(plan, end, env, p, at_hand)
 }

@@ -87,22 +87,27 @@ fn enter<'a>(
     }
 }
 
-// The next active target of a walk in one direction, under these locals, and where the walk stands after it.
+// The next active target of a walk in one direction, under these locals. The walk then stands after it.
 pub(crate) fn next_target<'a>(
     direction: Direction,
     env: &[i64],
-    p: Position<'a>,
-) -> Option<(&'a Target, Position<'a>)>
-    requires { p.next_flow + length p.flows.now ≤ most_flows }
-    ensures found { MatchOption result (targets_left direction env.now p.entry ≡ []) (λ r.
-        targets_left direction env.now p.entry ≡ (r.1.flow, r.0.now) ∷ targets_left direction env.now r.1) }
-    ensures room { IfSome result (λ (target, left). left.next_flow + length left.flows.now ≤ most_flows) }
-    ensures fits { (P : Plan) → IsTrue (position_fits P p.entry)
-        → IfSome result (λ (target, left). IsTrue (fits P target.now) × IsTrue (position_fits P left)) }
+    p: &mut Position<'a>,
+) -> Option<&'a Target>
+    requires { p.old.next_flow + length p.old.flows.now ≤ most_flows }
+    ensures found { MatchOption result
+        ((targets_left direction env.now p.old ≡ []) × (targets_left direction env.now p.new ≡ []))
+        (λ target. targets_left direction env.now p.old
+        ≡ (p.new.flow, target.now) ∷ targets_left direction env.now p.new) }
+    ensures room { p.new.next_flow + length p.new.flows.now ≤ most_flows }
+    ensures fits { (P : Plan) → IsTrue (position_fits P p.old)
+        → IsTrue (position_fits P p.new) × IfSome result (λ target. IsTrue (fits P target.now)) }
 {
-    if let Some((target, later)) = next_held(p.first_only, p.deps, env) {
-        return Some((target, Position { deps: later, ..p }));
+    let at = *p;
+    if let Some((target, later)) = next_held(at.first_only, at.deps, env) {
+        *p = Position { deps: later, ..at };
+        return Some(target);
     }
-    let (flow, others) = p.flows.split_first()?;
-    next_target(direction, env, enter(direction, flow, p.next_flow, others))
+    let (flow, others) = at.flows.split_first()?;
+    *p = enter(direction, flow, at.next_flow, others);
+    next_target(direction, env, p)
 }

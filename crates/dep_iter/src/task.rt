@@ -1,7 +1,8 @@
 //! Tasks of a plan, their locals and their flows.
 
-ghost use Rattle.std.specs.Prelude.{◌≡◌, ◌↔◌, ◌<◌, ◌≤◌, length, slice_get, Some, IsTrue, MatchOption};
-ghost use Rattle.ptg_base.specs.Limits.{most_flows};
+ghost use Rattle.std.specs.Prelude.{◌≡◌, ◌↔◌, ◌+◌, ◌<◌, ◌≤◌, ◌++◌, length, slice_get, Some, IsTrue, MatchOption};
+ghost use Rattle.std.specs.Bool.{OnTrue};
+ghost use Rattle.ptg_base.specs.Limits.{most_flows, most_locals, most_params};
 ghost use Rattle.term_core.specs.WellSpace.{IsWellSpace};
 ghost use Rattle.dep_iter.specs.Tasks as tasks;
 ghost use Rattle.dep_iter.specs.Tasks.{IsTask};
@@ -40,11 +41,64 @@ pub fn is_task(plan: &Plan, t: &TaskId) -> bool
     in_space(space, t.params())
 }
 
+// Whether these numbers count up by one from this one on.
+fn counts_from(first: u8, numbers: &[u8]) -> bool
+    requires { first + length numbers.now ≤ most_params }
+    ensures { result ≡ tasks.counts_from first numbers.now }
+{
+    match numbers.split_first() {
+        Some((n, others)) => *n == first && counts_from(first + 1, others),
+        None => true,
+    }
+}
+
+// Whether the definitions of a class are its parameters, in their order.
+fn params_are_locals(space: &ClassSpace) -> bool
+    ensures { result ≡ tasks.params_are_locals space.now }
+{
+    let params = space.params.as_slice();
+    params.len() == space.defs.len() && counts_from(0, params)
+}
+
+// Whether the locals of a task are its parameters, by its class alone: then nothing is evaluated for them.
+pub(crate) fn has_own_locals(plan: &Plan, t: &TaskId) -> bool
+    ensures { OnTrue result (IsTask plan.now t.now → tasks.locals_of plan.now t.now ≡ t.now.params) }
+{
+    match space_for(plan, t) {
+        Some(space) => params_are_locals(space),
+        None => false,
+    }
+}
+
+// Adds these values at the end.
+fn push_all(values: &[i64], numbers: &mut Numbers<MOST_LOCALS>)
+    requires { length numbers.old + length values.now ≤ most_locals }
+    ensures { numbers.new ≡ numbers.old ++ values.now }
+{
+    let Some((v, others)) = values.split_first() else {
+        return;
+    };
+    numbers.push(*v);
+    push_all(others, numbers);
+}
+
+// A copy of the parameters of a task.
+fn params_copy(t: &TaskId) -> Numbers<MOST_LOCALS>
+    ensures { result ≡ t.now.params }
+{
+    let mut numbers = Numbers::new();
+    push_all(t.params(), &mut numbers);
+    numbers
+}
+
 /// The locals of a task, under which all that its class says of it is evaluated.
 pub fn locals_of(plan: &Plan, t: &TaskId) -> Numbers<MOST_LOCALS>
     requires { IsTask plan.now t.now }
     ensures { result ≡ tasks.locals_of plan.now t.now }
 {
+    if has_own_locals(plan, t) {
+        return params_copy(t);
+    }
     a_task_has_one_list_of_locals();
     range_space::locals_of(plan.space(t.class()), t.params())
 }

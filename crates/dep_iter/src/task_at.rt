@@ -7,7 +7,7 @@ ghost use Rattle.dep_iter.specs.Tasks.{IsTask};
 ghost use Rattle.dep_iter.specs.Links.{dependences_fit, flows_fit};
 ghost use Rattle.dep_iter.specs.OneTask.{IsTask-prop};
 
-use crate::task::{flows_of, locals_of, task_locals};
+use crate::task::{flows_of, has_own_locals, is_task, locals_of, task_locals};
 use plan_core::{FlowPlan, Plan};
 use ptg_base::{MOST_LOCALS, TaskId};
 use range_space::Numbers;
@@ -25,13 +25,37 @@ pub struct TaskAt<'a> {
     pub ghost are_locals: { locals.now ≡ tasks.locals_of plan.now task.now },
 }
 
+// A task whose locals are its parameters, with these, or None where the job has no such task.
+fn lent<'a>(plan: &'a Plan, task: &'a TaskId) -> Option<TaskAt<'a>>
+    requires { IsTask plan.now task.now → tasks.locals_of plan.now task.now ≡ task.now.params }
+    ensures none { IfNone result (IsTask plan.now task.now → ⊥) }
+    ensures some { IfSome result (λ at. (at.plan.now ≡ plan.now) × (at.task.now ≡ task.now)) }
+{
+    if !is_task(plan, task) {
+        return None;
+    }
+    Some(TaskAt {
+        plan,
+        task,
+        locals: task.params(),
+    })
+}
+
 impl<'a> TaskAt<'a> {
-    /// The task with its locals, which are filled in over what `room` holds.
+    /// The task with its locals. They are filled in over what `room` holds, unless they are its parameters, which are
+    /// lent.
     pub fn of(plan: &'a Plan, task: &'a TaskId, room: &'a mut Numbers<MOST_LOCALS>) -> TaskAt<'a>
         requires { IsTask plan.now task.now }
         ensures plan { result.plan.now ≡ plan.now }
         ensures task { result.task.now ≡ task.now }
     {
+        if has_own_locals(plan, task) {
+            return TaskAt {
+                plan,
+                task,
+                locals: task.params(),
+            };
+        }
         *room = locals_of(plan, task);
         TaskAt {
             plan,
@@ -40,7 +64,8 @@ impl<'a> TaskAt<'a> {
         }
     }
 
-    /// The task with its locals, which are filled in over what `room` holds; or None where the job has no such task.
+    /// The task with its locals, or None where the job has no such task. They are filled in over what `room` holds,
+    /// unless they are its parameters, which are lent.
     pub fn find(
         plan: &'a Plan,
         task: &'a TaskId,
@@ -49,6 +74,9 @@ impl<'a> TaskAt<'a> {
         ensures none { IfNone result (IsTask plan.now task.now → ⊥) }
         ensures some { IfSome result (λ at. (at.plan.now ≡ plan.now) × (at.task.now ≡ task.now)) }
     {
+        if has_own_locals(plan, task) {
+            return lent(plan, task);
+        }
         *room = task_locals(plan, task)?;
         Some(TaskAt {
             plan,

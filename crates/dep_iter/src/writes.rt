@@ -1,68 +1,40 @@
 //! The write-backs of a task, one after another.
 
-ghost use Rattle.std.specs.Prelude.{◌≡◌, ◌+◌, ◌≤◌, length, List};
+ghost use Rattle.std.specs.Prelude.{◌≡◌};
 ghost use Rattle.std.specs.Iterator.{YieldsFirst, item_count};
-ghost use Rattle.ptg_base.specs.Limits.{most_flows};
-ghost use Rattle.ptg_base.specs.declared.edge.WriteBack.{WriteBack as WriteBackValue};
-ghost use Rattle.term_core.specs.declared.direction.Direction.TheVariants.{Out};
 ghost use Rattle.dep_iter.specs.Tasks as tasks;
 ghost use Rattle.dep_iter.specs.Tasks.{IsTask};
 ghost use Rattle.dep_iter.specs.Items as items;
-ghost use Rattle.dep_iter.specs.Walking.{all_writes_to, targets_left};
 ghost use Rattle.dep_iter.specs.WalkLocals.{walk_locals};
 
 use crate::locals::Locals;
-use crate::place::place_of;
-use crate::position::{Position, next_target, start};
 use crate::task::{flows_of, locals_of};
 use crate::task_at::TaskAt;
-use plan_core::{Plan, Target};
+use crate::write_position::{WritePosition, next_write, start_writes};
+use plan_core::Plan;
 use ptg_base::{TaskId, WriteBack};
 use std::marker::Model;
-use term_core::Direction;
 
 /// An iterator over the write-backs of a task. Contracts see it as the list of those not yet given. It takes no memory.
 #[derive(Drop)]
 pub struct WriteBacks<'a> {
     task: TaskId,
     env: Locals<'a>,
-    position: Position<'a>,
+    position: WritePosition<'a>,
 }
 
 impl<'a> Model for WriteBacks<'a> {
     ghost use Rattle.std.specs.Prelude.{◌+◌, ◌≤◌, List, length};
     ghost use Rattle.ptg_base.specs.Limits.{most_flows};
     ghost use Rattle.ptg_base.specs.declared.edge.WriteBack.{WriteBack};
-    ghost use Rattle.term_core.specs.declared.direction.Direction.TheVariants.{Out};
-    ghost use Rattle.dep_iter.specs.Walking.{all_writes_to, targets_left};
     ghost use Rattle.dep_iter.specs.WalkLocals.{walk_locals};
+    ghost use Rattle.dep_iter.specs.Writing.{writes_left};
 
     ghost Value = { List WriteBack };
 
-    ghost view = { λ w.
-        all_writes_to w.task (walk_locals w.env) (targets_left Out (walk_locals w.env) w.position) };
+    ghost view = { λ w. writes_left w.task (walk_locals w.env) w.position };
 
     ghost invariant = { λ w. w.position.next_flow + length w.position.flows.now ≤ most_flows };
-}
-
-// The next write-back of a walk over the active out targets of a task, under its locals.
-fn next_write<'a>(t: &TaskId, env: &[i64], p: &mut Position<'a>) -> Option<WriteBack>
-    requires { p.old.next_flow + length p.old.flows.now ≤ most_flows }
-    ensures found { YieldsFirst (λ (left : List WriteBackValue). left)
-        (all_writes_to t.now env.now (targets_left Out env.now p.old)) result
-        (all_writes_to t.now env.now (targets_left Out env.now p.new)) }
-    ensures room { p.new.next_flow + length p.new.flows.now ≤ most_flows }
-{
-    let (target, later) = next_target(Direction::Out, env, *p)?;
-    *p = later;
-    if let Target::Element(coll, indices) = target {
-        return Some(WriteBack {
-            from: t.copy(),
-            flow: later.flow,
-            place: place_of(*coll, indices.as_slice(), env),
-        });
-    }
-    next_write(t, env, p)
 }
 
 // The write-backs of a task with these locals.
@@ -74,7 +46,7 @@ fn task_writes<'a>(plan: &'a Plan, t: &TaskId, locals: Locals<'a>) -> WriteBacks
     WriteBacks {
         task: t.copy(),
         env: locals,
-        position: start(flows_of(plan, t)),
+        position: start_writes(flows_of(plan, t)),
     }
 }
 

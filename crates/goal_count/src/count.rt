@@ -5,7 +5,7 @@ ghost use Rattle.std.specs.Prelude.{◌≡◌, [], IsTrue, length};
 ghost use Rattle.std.specs.List.{list_all};
 ghost use Rattle.std.specs.Result.{result_unwrap_or};
 ghost use Rattle.range_space.specs.Fault.{range_values};
-ghost use Rattle.dep_iter.specs.Arguments.{arg_values, combinations};
+ghost use Rattle.dep_iter.specs.Arguments.{combinations};
 ghost use Rattle.dep_iter.specs.Consistent.{IsConsistent};
 ghost use Rattle.dep_iter.specs.Edges as edges;
 ghost use Rattle.dep_iter.specs.Tasks as tasks;
@@ -32,19 +32,9 @@ fn value_count(range: &Range, env: &[i64]) -> u64
     }
 }
 
-// How many values an argument has that has its values. What is no range has one, which is not evaluated.
-fn arg_count(arg: &Arg, env: &[i64]) -> u64
-    requires { IsTrue (has_arg env.now arg.now) }
-    ensures { IsCount result (length (result_unwrap_or (arg_values arg.now env.now) [])) }
-{
-    match arg {
-        Arg::One(_) => 1,
-        Arg::Span(range) => value_count(range, env),
-    }
-}
-
 /// How many combinations the values of these arguments have: the product of their counts. An argument without a value
-/// makes it 0, however many values the others have. A number over 4,000,000 says only that they are too many.
+/// makes it 0, however many values the others have. A number over 4,000,000 says only that they are too many. What is no
+/// range has one value, which is not evaluated.
 pub fn combination_count(args: &[Arg], env: &[i64]) -> u64
     requires { IsTrue (list_all (has_arg env.now) args.now) }
     ensures { IsCount result (length (combinations args.now env.now)) }
@@ -52,8 +42,13 @@ pub fn combination_count(args: &[Arg], env: &[i64]) -> u64
     let Some((arg, others)) = args.split_first() else {
         return 1;
     };
-    let here = arg_count(arg, env);
-    here.saturating_mul(combination_count(others, env))
+    match arg {
+        Arg::One(_) => combination_count(others, env),
+        Arg::Span(range) => {
+            let here = value_count(range, env);
+            here.saturating_mul(combination_count(others, env))
+        }
+    }
 }
 
 // How many edges a target stands for.
