@@ -6,11 +6,15 @@ ghost use Rattle.dep_shard.specs.Stock.{UsesTile};
 
 use crate::arrivals::Arrivals;
 use crate::entry::Entry;
-use crate::tile_list::{SpareNodes, TileNode, TileWithNode};
-use ptg_base::{MOST_FLOWS, OutOfMemory, Tile};
+use crate::tile_list::{MOST_FREE_NODES, SpareNodes, TileNode, TileWithNode};
+use ptg_base::{MOST_FLOWS, MOST_IN_PLACE, OutOfMemory, Tile};
 use std::alloc::Global;
 use std::marker::Model;
 use tile_pool::TilePool;
+
+// A shard keeps tiles of one type for later copies up to this many numbers (1 MiB), besides those that were reserved.
+// Further ones are freed.
+const MOST_KEPT: u64 = 1 << 17;
 
 // The reserved tiles of one type, and as many nodes. A write-back uses a tile alone.
 #[derive(Drop)]
@@ -61,7 +65,7 @@ impl TypeStock {
         ensures err { OnErr result (self.old.spare ≤ self.new.spare) }
         ensures succeeds { 0 < self.old.spare → IsOk result }
     {
-        self.pool.copy_of(tile)
+        copy_in(&mut self.pool, tile)
     }
 
     // A copy of a tile, and a node to hold it: a free one if there is any, else a reserved one, else a new one.
@@ -78,7 +82,7 @@ impl TypeStock {
         ensures succeeds { 0 < self.old.spare → IsOk result }
     {
         let node = take_node(self.alloc, &mut self.nodes, free)?;
-        let copy = self.pool.copy_of(tile)?;
+        let copy = copy_in(&mut self.pool, tile)?;
         Ok((copy, node))
     }
 }
@@ -97,6 +101,33 @@ impl TypeStock {
         if self.pool.has_room_for(&tile) {
             self.pool.give(tile);
         }
+    }
+}
+
+// A copy of a tile: in one that is spare or was kept if there is any, else in new memory, which can then come back.
+fn copy_in(pool: &mut TilePool, tile: &Tile) -> Result<Tile, OutOfMemory>
+    requires { length tile.now ≡ pool.old.elems }
+    ensures ok { IfOk result (λ copy. copy ≡ tile.now) }
+    ensures elems { pool.new.elems ≡ pool.old.elems }
+    ensures spare { pool.old.spare ≤ pool.new.spare + 1 }
+    ensures err { OnErr result (pool.old.spare ≤ pool.new.spare) }
+    ensures succeeds { 0 < pool.old.spare → IsOk result }
+{
+    if pool.spare() == 0 {
+        make_room_for(pool, tile);
+    }
+    pool.copy_of(tile)
+}
+
+// Takes room to keep one more tile that nothing needs any more, up to the bound. One that is held in place is not worth
+// it. Refused memory is no failure: then the tile is freed.
+fn make_room_for(pool: &mut TilePool, tile: &Tile)
+    ensures elems { pool.new.elems ≡ pool.old.elems }
+    ensures spare { pool.new.spare ≡ pool.old.spare }
+{
+    let n = tile.len();
+    if n as usize > MOST_IN_PLACE && pool.room() < MOST_KEPT / u64::from(n) {
+        let _made = pool.make_room(pool.room() + 1);
     }
 }
 
@@ -128,6 +159,15 @@ fn make_nodes(nodes: &mut SpareNodes, alloc: Global, n: usize) -> Result<(), Out
         nodes.push(Box::new(alloc, TileNode::Spare)?)?;
     }
     Ok(())
+}
+
+// How many nodes that hold this many tiles of each type are kept at most.
+fn free_nodes_of(tiles: &[u64]) -> usize {
+    let mut nodes = 0;
+    for n in tiles {
+        nodes = (*n as usize).saturating_add(nodes).min(MOST_FREE_NODES);
+    }
+    nodes
 }
 
 // The reserved tiles of all types, by type number, and the nodes that held tiles before and are free again.
@@ -173,6 +213,8 @@ impl Stock {
         ensures spare { UsesTile self.old.spare self.new.spare None }
         ensures succeeds { ((k : ℕ) → slice_index tiles.now k ≤ slice_index self.old.spare k) → IsOk result }
     {
+        // A node that comes back then needs no memory. Refused memory is no failure: then the node is freed.
+        let _room = self.free.reserve(free_nodes_of(tiles));
         for k in 0..tiles.len() {
             self.reserve_type(k, tiles[k])?;
         }

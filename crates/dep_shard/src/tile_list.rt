@@ -32,6 +32,9 @@ pub(crate) enum TileNode {
     Held(u8, Tile, TileList),
 }
 
+// A shard keeps this many nodes that hold nothing any more. Further ones are freed.
+pub(crate) const MOST_FREE_NODES: usize = 1 << 16;
+
 // Nodes that hold nothing.
 pub(crate) type SpareNodes = Vec<Box<TileNode>>;
 
@@ -75,7 +78,7 @@ impl TileList {
         }
     }
 
-    // Moves the tiles out. The nodes go to those that are free, where there is room for them.
+    // Moves the tiles out. The nodes go to those that are free, up to the bound.
     pub(crate) fn move_to(self, arrivals: &mut Arrivals, free: &mut SpareNodes)
         requires { arrivals.old ≡ [] }
         ensures { arrivals.new ≡ in_flow_order self }
@@ -84,7 +87,9 @@ impl TileList {
             First::End => {}
             First::More(mut node) => {
                 let held = mem::replace(&mut *node, TileNode::Spare);
-                let _kept = free.push(node);
+                if free.len() < MOST_FREE_NODES {
+                    let _kept = free.push(node);
+                }
                 match held {
                     TileNode::Spare => {}
                     TileNode::Held(flow, tile, rest) => {

@@ -14,13 +14,13 @@ use Rattle.coll_data.specs.Data.{Data}
 use Rattle.dep_iter.specs.Items.{out_edges, write_backs}
 use Rattle.flow_meaning.specs.Ending.{Ended, has_outputs, output_tile}
 use Rattle.flow_meaning.specs.Machine.{MachineState, MayClaim, SentItem, end_in, is_sent, opening_state, item_from}
-use Rattle.shard_meaning.specs.Placing.{shard_of}
+use Rattle.shard_meaning.specs.Placing.{home_of}
 use Rattle.shard_meaning.specs.Share.{Placement}
 use Rattle.rank_core.specs.declared.message.Message.{Message}
 
--- the rank of a task, where there are r ranks: the shard that it belongs to, where there are as many shards
+-- the rank of a task, where there are r ranks: that of the place of its affinity
 abbrev pub rank_of : Plan → ℕ → Placement
-rank_of P r = shard_of P r
+rank_of P r = home_of P r
 
 -- whether an edge goes from one rank to another
 abbrev pub is_between : Plan → ℕ → Edge → Bool

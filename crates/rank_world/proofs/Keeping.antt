@@ -17,14 +17,14 @@ use Rattle.shard_meaning.specs.Calm.{HaveNoWork}
 use Rattle.shard_meaning.specs.Opening.{IsOpeningShard}
 use Rattle.shard_meaning.proofs.Holding.{may_ready, ready_may}
 use Rattle.shard_meaning.proofs.Openings.{opening_share}
-use Rattle.shard_meaning.proofs.Placing.{shard_below}
+use Rattle.shard_meaning.proofs.Placing.{home_below}
 use Rattle.shard_answer.specs.Ending.{HoldAnEnd}
 use Rattle.rank_core.specs.declared.message.Message.{Message}
 use Rattle.rank_core.specs.Sound.{IsSoundWorld}
 use Rattle.rank_core.specs.World.{IsQuiet, WorldState, opening_world, rank_of, is_delivered}
 use Rattle.rank_core.proofs.Quiet.{quiet_iff}
 use Rattle.rank_world.specs.Keeping.{HoldShares, IsUnderWay, idle_moment, unless_delivered}
-use Rattle.shard_calls.specs.Opened.{AreOpeningShards}
+use Rattle.shard_calls.specs.Opened.{AreOpeningRanks}
 
 -- what is under way
 pub under_way_none : (S : MachineState) (m : Message) → None ≡ unless_delivered S (Some m) → is_delivered S m ≡ true
@@ -72,7 +72,7 @@ module _ (P : Plan) (G : Data) (w : WorldState) (ys : List Content) (some : 0 < 
 
   pub quiet_by_ranks : HaveNoWork ys → (t : Task) → MayClaim P w.machine t → ⊥
   quiet_by_ranks idle t may =
-      let p = slice_get_there ys (rank_of P (length ys) t) (shard_below P (length ys) t some) in
+      let p = slice_get_there ys (rank_of P (length ys) t) (home_below P (length ys) t some) in
       let e = ready_at t (rank_of P (length ys) t) p.0 p.1 refl may in
       (idle (rank_of P (length ys) t) p.0 p.1).ready t e.0 e.1 e.2
 
@@ -80,7 +80,7 @@ module _ (P : Plan) (G : Data) (w : WorldState) (ys : List Content) (some : 0 < 
   ranks_by_quiet none k y e = record { ready = λ t f is ready. none t (ready_may P G (rank_of P (length ys)) k (idle_moment w.machine) y (shares k y e) t f is ready); running = (shares k y e).running }
 
 -- the ranks of a world that was opened
-pub opening_shares : (P : Plan) (G : Data) (n : ℕ) (ys : List Content) → AreOpeningShards P n ys → HoldShares P G opening_world ys
+pub opening_shares : (P : Plan) (G : Data) (n : ℕ) (ys : List Content) → AreOpeningRanks P n ys → HoldShares P G opening_world ys
 opening_shares P G n ys w k y e =
     opening_share P (rank_of P (length ys)) k y (subst (λ m. IsOpeningShard P (rank_of P m) k y) (sym w.count) (w.each k y e)) G
 
@@ -91,7 +91,7 @@ holds_an_end P G w ys con some sound shares quiet =
     record {
       of = rank_of P (length ys);
       moment = idle_moment w.machine;
-      placed = λ t job. shard_below P (length ys) t some;
+      placed = λ t job. home_below P (length ys) t some;
       shares = shares;
       sound = sound.state;
       calm = record { none_ready = quiet.none_may_run; none_runs = refl };

@@ -23,10 +23,10 @@ use Rattle.rank_core.proofs.Worlds.{event_sound, opening_sound_world}
 use Rattle.rank_world.specs.declared.mail.Mail.{Mail}
 use Rattle.rank_world.specs.Changes.{StaysAt, TakesEdgeAt}
 use Rattle.rank_world.specs.Keeping.{IsUnderWay, Keeps, idle_moment}
-use Rattle.shard_calls.specs.Opened.{AreOpeningShards}
+use Rattle.shard_calls.specs.Opened.{AreOpeningRanks}
 use Rattle.shard_calls.specs.Taken.{MayTakeEdge}
 use Rattle.rank_world.proofs.Delivering.{away, here, its_tile, mail_then, may, may_take_edge}
-use Rattle.shard_meaning.proofs.Placing.{shard_below}
+use Rattle.shard_meaning.proofs.Placing.{home_below}
 use Rattle.rank_world.proofs.Keeping.{opening_mail, opening_shares, ready_at}
 use Rattle.list_lemmas.proofs.Places.{slice_get_there}
 
@@ -36,7 +36,7 @@ if_none None f h = f h
 if_none (Some x) f h = h
 
 -- a world that was opened
-pub new_keeps : (P : Plan) (G : Data) (n : ℕ) (ys : List Content) (w : WorldState) (laid : Laid) (mail : Mail) → IsConsistent P → DataFit P G → 0 < n → n ≤ 64 → AreOpeningShards P n ys → w ≡ opening_world → IsBenchOf P laid → mail.under_way.entries ≡ [] → mail.sent ≡ 0 → Keeps P G w ys laid mail
+pub new_keeps : (P : Plan) (G : Data) (n : ℕ) (ys : List Content) (w : WorldState) (laid : Laid) (mail : Mail) → IsConsistent P → DataFit P G → 0 < n → n ≤ 64 → AreOpeningRanks P n ys → w ≡ opening_world → IsBenchOf P laid → mail.under_way.entries ≡ [] → mail.sent ≡ 0 → Keeps P G w ys laid mail
 new_keeps P G n ys w laid mail con fit some few ranks is bench none zero_sent = subst (λ v. Keeps P G v ys laid mail) (sym is) (record {
   consistent = con;
   fit = fit;
@@ -51,7 +51,7 @@ new_keeps P G n ys w laid mail con fit some few ranks is bench none zero_sent = 
 module _ (P : Plan) (G : Data) (w : WorldState) (old : List Content) (laid : Laid) (mail : Mail) (k : Keeps P G w old laid mail) where
   -- the rank of a task is one of the ranks
   pub rank_at : (t : Task) → (y : Content) × (slice_get old (rank_of P (length old) t) ≡ Some y)
-  rank_at t = slice_get_there old (rank_of P (length old) t) (shard_below P (length old) t k.some_ranks)
+  rank_at t = slice_get_there old (rank_of P (length old) t) (home_below P (length old) t k.some_ranks)
 
   -- nothing but spares has changed
   pub stays : (i : ℕ) (new : List Content) → i < length old → StaysAt i old new → Keeps P G w new laid mail

@@ -26,7 +26,7 @@ use Rattle.rank_core.specs.World.{Deliver, HappenIn, Run, WorldEvent, WorldState
 use Rattle.rank_core.proofs.Worlds.{delivery_claims, delivery_keeps, still_sent}
 use Rattle.rank_world.specs.Driving.{IsLaterWorld, turns_left, turns_of}
 use Rattle.rank_world.specs.Views.{WorldView, with_delivery, with_run}
-use Rattle.shard_meaning.proofs.Placing.{shard_below}
+use Rattle.shard_meaning.proofs.Placing.{home_below}
 
 -- events lead on
 happen-append : (P : Plan) (G : Data) (r : ℕ) (es fs : List WorldEvent) (w v u : WorldState) → HappenIn P G r es w v → HappenIn P G r fs v u → HappenIn P G r (es ++ fs) w u
@@ -182,4 +182,4 @@ none_ready w v first None None same near none upper lower = λ t may.
     subst (λ (u : WorldView). (t : Task) → 0 ≤ rank_of u.plan u.ranks t → rank_of u.plan u.ranks t < first → MayClaim u.plan u.state.machine t → ⊥) same lower in
     by_test (nat_lt (rank_of w.plan w.ranks t) first)
     (λ k. below t (omega arith) (ltb-true (rank_of w.plan w.ranks t) first k) may)
-    (λ k. upper t (ltb-false (rank_of w.plan w.ranks t) first k) (shard_below w.plan w.ranks t (omega (arith, near))) may)
+    (λ k. upper t (ltb-false (rank_of w.plan w.ranks t) first k) (home_below w.plan w.ranks t (omega (arith, near))) may)

@@ -16,7 +16,7 @@ use dep_shard::Shard;
 use plan_core::FlowPlan;
 use ptg_base::{Edge, OutOfMemory, Tile};
 use rank_core::Message;
-use shard_calls::{flow_at, shard_at};
+use shard_calls::{flow_at, home_at};
 use std::alloc::Global;
 
 // What a task will send: the messages to other ranks, whose tiles are still blank, and how many edges stay within its
@@ -79,7 +79,7 @@ pub(crate) fn goes_away(at: &RunningTask, edge: &Edge) -> bool
     requires to { IsTask (plan_of at.now) edge.now.to }
     ensures { result ≡ is_between (plan_of at.now) at.now.ranks edge.now }
 {
-    shard_at(at.matched, at.ranks, &edge.to) != at.rank
+    home_at(at.matched, at.ranks, &edge.to) != at.rank
 }
 
 // Adds an edge out of a running task to what it will send.

@@ -26,7 +26,7 @@ use dep_shard::Shard;
 use ptg_base::{OutOfMemory, TaskId};
 use range_space::Numbers;
 use rank_core::Message;
-use shard_calls::shard_under;
+use shard_calls::home_under;
 use std::alloc::Global;
 use task_run::{Bench, Start};
 use term_core::Trap;
@@ -249,7 +249,7 @@ impl<'m> World<'m> {
         ensures err { OnErr result (self.new ≡ self.old) }
         ensures sound { IsSoundWorld self.new.plan self.new.given self.new.ranks self.new.state }
     {
-        let rank = shard_under(self.matched, self.ranks.len(), task.task, task.locals);
+        let rank = home_under(self.matched, self.ranks.len(), task.task, task.locals);
         if !self.ranks[rank].is_ready(task.task) {
             return Ok(false);
         }

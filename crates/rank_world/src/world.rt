@@ -27,7 +27,7 @@ use indexmap::IndexMap;
 use ptg_base::{OutOfMemory, TaskId};
 use rank_core::Message;
 use shard_answer::{Room, outcome_of};
-use shard_calls::{have_no_work, opened_shards, shard_at, take_edge};
+use shard_calls::{have_no_work, home_at, opened_ranks, take_edge};
 use std::alloc::Global;
 use std::marker::Model;
 use task_run::Bench;
@@ -116,7 +116,7 @@ impl<'m> World<'m> {
         ensures opened { IfOk result (λ w. w ≡ opened m.now given ranks) }
         ensures sound { IfOk result (λ w. IsSoundWorld w.plan w.given w.ranks w.state) }
     {
-        let shards = opened_shards(alloc, m, ranks)?;
+        let shards = opened_ranks(alloc, m, ranks)?;
         let bench = Bench::new(alloc, m)?;
         m.plan_is_consistent();
         Ok(World {
@@ -139,7 +139,7 @@ impl<'m> World<'m> {
         ensures rank { result ≡ world.rank_of self.now.plan self.now.ranks t.now }
         ensures within { result < self.now.ranks }
     {
-        shard_at(self.matched, self.ranks.len(), t) as u32
+        home_at(self.matched, self.ranks.len(), t) as u32
     }
 
     /// How many ranks there are.
@@ -215,7 +215,7 @@ impl<'m> World<'m> {
         let Some(message) = self.mail.under_way.get(&n) else {
             return Ok(false);
         };
-        let k = shard_at(self.matched, self.ranks.len(), &message.edge.to);
+        let k = home_at(self.matched, self.ranks.len(), &message.edge.to);
         take_edge_at(&mut self.ranks, k, self.matched, message)?;
         let _message = self.mail.under_way.swap_remove(&n);
         self.history = History::with_delivery(&self.history, &Number { value: n });

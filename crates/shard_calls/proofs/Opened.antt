@@ -8,12 +8,12 @@ use Rattle.dep_iter.specs.Tasks.{all_tasks}
 use Rattle.dep_iter.proofs.Listing.{listed}
 use Rattle.dep_shard.specs.Content.{Content, IsNew}
 use Rattle.shard_meaning.specs.Opening.{IsOpenedFor, IsOpeningShard}
-use Rattle.shard_meaning.specs.Placing.{shard_of}
 use Rattle.shard_meaning.specs.Share.{Placement}
 use Rattle.list_lemmas.proofs.Members.{IsIn-filter}
 use Rattle.list_lemmas.proofs.Places.{slice_get_push}
 use Rattle.list_lemmas.proofs.Truth.{by_test}
-use Rattle.shard_calls.specs.Opened.{AreNew, AreOpened, AreOpeningShards, Opens}
+use Rattle.shard_calls.specs.Opened.{AreNew, AreOpened, AreOpening, Opens, placement_by}
+use Rattle.shard_calls.specs.declared.placing.SharedTo.{SharedTo}
 use Rattle.dep_iter.specs.Consistent.{roots_among}
 use Rattle.shard_calls.proofs.OpeningSteps.{entry_now, more_kept}
 use Rattle.shard_calls.proofs.TaskWalks.{IsSoFar, one_more}
@@ -27,10 +27,14 @@ new_more n lengths ys y zs w new is = subst (AreNew (n + 1) lengths) (sym is) (r
 })
 
 -- one task more is opened
-pub opened_more : (P : Plan) (n : ℕ) (t : Task) (rest : List Task) (old new : List Content) → length old ≡ n → Opens P (shard_of P (length old)) t old new → IsSoFar P (λ ts. AreOpened P (shard_of P n) ts old) (t ∷ rest) → IsSoFar P (λ ts. AreOpened P (shard_of P n) ts new) rest
-opened_more P n t rest old new count opens w =
-    let here = subst (λ m. Opens P (shard_of P m) t old new) count opens in
-    one_more P (λ ts. AreOpened P (shard_of P n) ts old) (λ ts. AreOpened P (shard_of P n) ts new) t rest here.opened w
+pub opened_more : (to : SharedTo) (P : Plan) (n : ℕ) (t : Task) (rest : List Task) (old new : List Content)
+    → length old ≡ n → Opens P (placement_by to P (length old)) t old new
+    → IsSoFar P (λ ts. AreOpened P (placement_by to P n) ts old) (t ∷ rest)
+    → IsSoFar P (λ ts. AreOpened P (placement_by to P n) ts new) rest
+opened_more to P n t rest old new count opens w =
+    let here = subst (λ m. Opens P (placement_by to P m) t old new) count opens in
+    one_more P (λ ts. AreOpened P (placement_by to P n) ts old) (λ ts. AreOpened P (placement_by to P n) ts new) t rest
+    here.opened w
 
 -- a shard that was opened for all tasks
 opening_shard : (P : Plan) (of : Placement) (k : ℕ) (y : Content) → IsOpenedFor P of k (λ t. IsIn t (all_tasks P)) y → IsOpeningShard P of k y
@@ -60,12 +64,15 @@ none_is_root P ts none t i = by_test (goal P t == 0) (λ root. absurd (has_none 
     has_none (u ∷ us) z j = absurd (omega (arith, z))
 
 -- the shards once no task without an edge into it is to come
-pub opening_shards : (P : Plan) (n : ℕ) (rest : List Task) (ys : List Content) → length ys ≡ n → length (roots_among P rest) ≡ 0 → IsSoFar P (λ ts. AreOpened P (shard_of P n) ts ys) rest → AreOpeningShards P n ys
-opening_shards P n rest ys count none w = record {
+pub opening_shards : (to : SharedTo) (P : Plan) (n : ℕ) (rest : List Task) (ys : List Content) → length ys ≡ n
+    → length (roots_among P rest) ≡ 0 → IsSoFar P (λ ts. AreOpened P (placement_by to P n) ts ys) rest
+    → AreOpening P (placement_by to P n) n ys
+opening_shards to P n rest ys count none w = record {
   count = count;
   each = λ k y at.
-      let of = shard_of P n in
+      let of = placement_by to P n in
       let here = w.holds k y at in
-      let all = more_kept P of k w.passed y here rest (λ t i own. entry_now P of k w.passed y here t own (none_is_root P rest none t i)) in
+      let all = more_kept P of k w.passed y here rest (λ t i own.
+      entry_now P of k w.passed y here t own (none_is_root P rest none t i)) in
       opening_shard P of k y (subst (λ ts. IsOpenedFor P of k (λ t. IsIn t ts) y) (sym w.split) all);
 }

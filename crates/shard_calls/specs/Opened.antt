@@ -8,8 +8,10 @@ use Rattle.plan_core.specs.declared.plan.Plan.{Plan}
 use Rattle.dep_shard.specs.Content.{Content, IsNew, KeepsAllButEntries, Updates, entry_of, fresh}
 use Rattle.list_lemmas.specs.Changes.{ChangesAt}
 use Rattle.shard_meaning.specs.Opening.{IsOpenedFor, IsOpeningShard}
-use Rattle.shard_meaning.specs.Placing.{shard_of}
+use Rattle.shard_meaning.specs.Placing.{home_of, shard_of}
 use Rattle.shard_meaning.specs.Share.{Placement}
+use Rattle.shard_calls.specs.declared.placing.SharedTo.{SharedTo}
+use Rattle.shard_calls.specs.declared.placing.SharedTo.TheVariants as to
 
 -- Each shard is opened for these tasks.
 abbrev pub AreOpened : Plan → Placement → List Task → List Content → Type 0
@@ -36,7 +38,20 @@ pub record AreNew (n : ℕ) (lengths : List ℕ) (ys : List Content) : Type 0 wh
   pub count : length ys ≡ n
   pub each : (k : ℕ) (y : Content) → slice_get ys k ≡ Some y → IsNew y lengths
 
+-- where a task belongs among the shards of a table, or among the ranks of a world
+abbrev pub placement_by : SharedTo → Plan → ℕ → Placement
+placement_by to.Shards P n = shard_of P n
+placement_by to.Ranks P n = home_of P n
+
 -- this many shards, opened: each has the ready entries of its own tasks that no edge goes into
-pub record AreOpeningShards (P : Plan) (n : ℕ) (ys : List Content) : Type 0 where
+pub record AreOpening (P : Plan) (of : Placement) (n : ℕ) (ys : List Content) : Type 0 where
   pub count : length ys ≡ n
-  pub each : (k : ℕ) (y : Content) → slice_get ys k ≡ Some y → IsOpeningShard P (shard_of P n) k y
+  pub each : (k : ℕ) (y : Content) → slice_get ys k ≡ Some y → IsOpeningShard P of k y
+
+-- the shards of a table, opened
+abbrev pub AreOpeningShards : Plan → ℕ → List Content → Type 0
+AreOpeningShards P n ys = AreOpening P (shard_of P n) n ys
+
+-- the shards of ranks, opened
+abbrev pub AreOpeningRanks : Plan → ℕ → List Content → Type 0
+AreOpeningRanks P n ys = AreOpening P (home_of P n) n ys

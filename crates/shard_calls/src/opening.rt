@@ -4,10 +4,9 @@ ghost use Rattle.std.specs.Prelude.{◌≡◌, ◌<◌, ◌==◌, IfOk, OnOk, le
 ghost use Rattle.ptg_base.specs.Limits.{IsShardCount};
 ghost use Rattle.dep_iter.specs.Edges.{goal};
 ghost use Rattle.dep_iter.specs.Tasks.{IsTask};
-ghost use Rattle.shard_meaning.specs.Placing.{shard_of};
-ghost use Rattle.shard_calls.specs.Opened.{AreNew, AreOpeningShards, Enters, EntersIn, Opens};
+ghost use Rattle.shard_calls.specs.Opened.{AreNew, AreOpening, AreOpeningRanks, AreOpeningShards, Enters, EntersIn, Opens, placement_by};
 
-use crate::placing::shard_under;
+use crate::placing::{SharedTo, number_under};
 use dep_iter::{Matched, all_tasks, locals_of, priority_under};
 use dep_shard::Shard;
 use goal_count::goal_under;
@@ -33,18 +32,23 @@ fn enter(shards: &mut Vec<Shard>, k: usize, t: &TaskId, priority: i64) -> Result
 }
 
 // Enters a task if no edge goes into it, and answers whether that is so.
-fn open_task(shards: &mut Vec<Shard>, m: &Matched, t: &TaskId) -> Result<bool, OutOfMemory>
+fn open_task(
+    shards: &mut Vec<Shard>,
+    m: &Matched,
+    t: &TaskId,
+    to: SharedTo,
+) -> Result<bool, OutOfMemory>
     requires task { IsTask m.now t.now }
     requires shards { IsShardCount (length shards.old.items) }
     ensures root { IfOk result (λ root. root ≡ (goal m.now t.now == 0)) }
     ensures opened { OnOk result
-        (Opens m.now (shard_of m.now (length shards.old.items)) t.now shards.old.items shards.new.items) }
+        (Opens m.now (placement_by to m.now (length shards.old.items)) t.now shards.old.items shards.new.items) }
 {
     let env = locals_of(m.plan(), t);
     if goal_under(m, t, env.as_slice()) != 0 {
         return Ok(false);
     }
-    let k = shard_under(m, shards.len(), t, env.as_slice());
+    let k = number_under(to, m, shards.len(), t, env.as_slice());
     let priority = priority_under(m.plan(), t, env.as_slice());
     enter(shards, k, t, priority)?;
     Ok(true)
@@ -62,21 +66,36 @@ fn new_shards(alloc: Global, m: &Matched, count: u32) -> Result<Vec<Shard>, OutO
     Ok(shards)
 }
 
-/// This many new shards: each has the ready entries of its own tasks that no edge goes into. The walk stops once all of
-/// these are found.
-pub fn opened_shards(alloc: Global, m: &Matched, shards: u32) -> Result<Vec<Shard>, OutOfMemory>
-    requires { IsShardCount shards }
-    ensures { IfOk result (λ v. AreOpeningShards m.now shards v.items) }
+// This many new shards, opened. The walk stops once all tasks are found that no edge goes into.
+fn opened(alloc: Global, m: &Matched, count: u32, to: SharedTo) -> Result<Vec<Shard>, OutOfMemory>
+    requires { IsShardCount count }
+    ensures { IfOk result (λ v. AreOpening m.now (placement_by to m.now count) count v.items) }
 {
-    let mut opened = new_shards(alloc, m, shards)?;
+    let mut opened = new_shards(alloc, m, count)?;
     let mut left = m.roots();
     for t in all_tasks(m.plan()) {
         if left == 0 {
             return Ok(opened);
         }
-        if open_task(&mut opened, m, &t)? {
+        if open_task(&mut opened, m, &t, to)? {
             left -= 1;
         }
     }
     Ok(opened)
+}
+
+/// This many new shards of a table: each has the ready entries of its own tasks that no edge goes into.
+pub fn opened_shards(alloc: Global, m: &Matched, shards: u32) -> Result<Vec<Shard>, OutOfMemory>
+    requires { IsShardCount shards }
+    ensures { IfOk result (λ v. AreOpeningShards m.now shards v.items) }
+{
+    opened(alloc, m, shards, SharedTo::Shards)
+}
+
+/// A new shard for each of this many ranks: it has the ready entries of the rank's tasks that no edge goes into.
+pub fn opened_ranks(alloc: Global, m: &Matched, ranks: u32) -> Result<Vec<Shard>, OutOfMemory>
+    requires { IsShardCount ranks }
+    ensures { IfOk result (λ v. AreOpeningRanks m.now ranks v.items) }
+{
+    opened(alloc, m, ranks, SharedTo::Ranks)
 }

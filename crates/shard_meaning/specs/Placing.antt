@@ -1,7 +1,13 @@
--- Which shard a task belongs to. Source: this project's own choice. Tasks whose affinity is one tile share a shard. A
--- run depends on this number nowhere; the rank of a task is this number too, and so which edges are messages.
-use Rattle.std.specs.Prelude.{ℕ, ◌+◌, ◌%◌}
+-- Which shard a task belongs to. Source: this project's own choice; the multiplier is 2^64 over the golden ratio
+-- (Knuth, The Art of Computer Programming, volume 3: multiplicative hashing). A run depends on this number nowhere.
+use Rattle.std.specs.Prelude.{ℕ, ℤ, Bool, true, false, List, [], ◌∷◌, ◌+◌, ◌*◌, ◌/◌, ◌%◌, ◌^◌, ◌&&◌, if◌then◌else◌, slice_get}
+use Rattle.std.specs.Int.{cast_unsigned, w64}
+use Rattle.std.specs.Option.{option_map_or}
+use Rattle.ptg_base.specs.Task.{Task}
 use Rattle.ptg_base.specs.declared.place.Place.{Place}
+use Rattle.term_core.specs.Term.{Term}
+use Rattle.term_core.specs.Value.{is_closed}
+use Rattle.plan_core.specs.declared.class.ClassPlan.{ClassPlan}
 use Rattle.plan_core.specs.declared.plan.Plan.{Plan}
 use Rattle.dep_iter.specs.Hints.{affinity, place_number}
 use Rattle.shard_meaning.specs.Share.{Placement}
@@ -11,6 +17,34 @@ use Rattle.shard_meaning.specs.Share.{Placement}
 abbrev pub shard_of_place : Plan → ℕ → Place → ℕ
 shard_of_place P n p = (p.coll + place_number P p) % n
 
--- the shard of a task: that of the place of its affinity
+-- where a task belongs by the place of its affinity alone: tasks of one place share a shard
+unfoldable pub home_of : Plan → ℕ → Placement
+home_of P n t = shard_of_place P n (affinity P t)
+
+-- whether none of these expressions names a local
+abbrev pub name_no_local : List Term → Bool
+name_no_local [] = true
+name_no_local (e ∷ es) = is_closed 0 e && name_no_local es
+
+-- whether the affinity of a task's class is one place for all its tasks
+abbrev pub has_one_place : Plan → Task → Bool
+has_one_place P t =
+    option_map_or (λ (c : ClassPlan). name_no_local c.affinity.indices) (slice_get P.classes t.class) false
+
+-- one more parameter in a hash of 64 bits
+abbrev pub hash_with : ℕ → ℤ → ℕ
+hash_with h p = ((h + cast_unsigned w64 p) % 2 ^ 64 * 11400714819323198485) % 2 ^ 64
+
+-- these parameters in a hash, one after another
+abbrev pub hash_from : ℕ → List ℤ → ℕ
+hash_from h [] = h
+hash_from h (p ∷ ps) = hash_from (hash_with h p) ps
+
+-- where a task belongs by the high bits of its hash
+abbrev pub spread_of : ℕ → Placement
+spread_of n t = (hash_from t.class t.params / 2 ^ 48) % n
+
+-- the shard of a task: that of the place of its affinity, but where this is one place for the whole class, its tasks
+-- are spread over all shards by a hash
 unfoldable pub shard_of : Plan → ℕ → Placement
-shard_of P n t = shard_of_place P n (affinity P t)
+shard_of P n t = if has_one_place P t then spread_of n t else home_of P n t

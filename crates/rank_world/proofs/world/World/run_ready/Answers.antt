@@ -7,7 +7,7 @@ use Rattle.rank_world.specs.declared.running_task.RunningTask.{RunningTask}
 use Rattle.rank_world.specs.Keeping.{idle_moment}
 use Rattle.rank_world.specs.Views.{WorldView}
 use Rattle.rank_world.specs.RunningTasks.{IsRunningTask}
-use Rattle.shard_meaning.proofs.Placing.{shard_below}
+use Rattle.shard_meaning.proofs.Placing.{home_below}
 use Rattle.rank_world.proofs.Ran.{ran, refused}
 use Rattle.rank_world.proofs.world.World.run_ready.Goals as goal
 
@@ -17,7 +17,7 @@ run_at-requires-clause-within c =
     let k = c.self.invariant in
     let count : c.len.result ≡ length i.ranks.items = c.len.ensures ∙ i.ranks.ok.0 in
     let is : c.args.rank ≡ rank_of i.matched.now (length i.ranks.items) c.args.task.now.task.now = subst (λ (w : WorldView). c.args.rank ≡ rank_of w.plan w.ranks c.args.task.now.task.now) (sym c.self.view_is) c.requires.rank in
-    subst (λ n. n < length i.ranks.items) (sym is) (shard_below i.matched.now (length i.ranks.items) c.args.task.now.task.now k.some_ranks)
+    subst (λ n. n < length i.ranks.items) (sym is) (home_below i.matched.now (length i.ranks.items) c.args.task.now.task.now k.some_ranks)
 
 pub run_at-requires-clause-holds : goal.run_at-requires-clause-holds
 run_at-requires-clause-holds c = λ y at.

@@ -3,12 +3,12 @@ use Rattle.std.proofs.lemmas.Nat.{mod_below}
 use Rattle.ptg_base.specs.declared.place.Place.{Place}
 use Rattle.plan_core.specs.declared.plan.Plan.{Plan}
 use Rattle.dep_iter.specs.Hints.{affinity, place_number}
-use Rattle.shard_meaning.specs.Placing.{shard_of}
+use Rattle.shard_meaning.specs.Placing.{home_of}
 use Rattle.list_lemmas.proofs.Numbers.{mod_sum}
-use Rattle.shard_calls.proofs.placing.shard_under.Goals as goal
+use Rattle.shard_calls.proofs.placing.home_under.Goals as goal
 
 pub returns-clause-number : goal.returns-clause-number
-unfolding shard_of
+unfolding home_of
 returns-clause-number c =
     let plan = c.plan-plan.ensures.same in
     let place = c.affinity_under-place.ensures ∙ ap (λ (P : Plan). affinity P c.args.t.now) plan in
