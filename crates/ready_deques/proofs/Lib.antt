@@ -5,3 +5,4 @@ pub mod Accounts
 pub mod Rows
 pub mod Settled
 pub mod Pair
+pub mod Slotted

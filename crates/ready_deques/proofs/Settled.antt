@@ -38,15 +38,19 @@ pub gathered_all : (id : Task) (worker total : ℕ) (taken : List Task) (rest : 
 gathered_all id worker total taken [] none sum = omega arith
 gathered_all id worker total taken (x ∷ rest) none sum = absurd (omega arith)
 
-pub settled : (id : Task) (n : ℕ) (own : Owner) (thieves : List Thief) (a : Account) (others : List Account) (taken' pushed : List Task)
-    → account n own thieves ≡ a → n < length thieves
-    → times id taken' ≡ times id own.taken + sum_by (λ o. times id (taken_from n o)) others
-    → pushed ≡ own.pushed → times id taken' ≤ times id pushed
+-- what was taken is at most what was pushed, with the slot of the end too
+pub settled : (id : Task) (n : ℕ) (own end : Owner) (thieves : List Thief) (a : Account) (others : List Account)
+    (taken' pushed : List Task) → account n own thieves ≡ a → n < length thieves
+    → times id own.taken + times id end.pushed ≤ times id own.pushed + times id end.taken
+    → times id taken' ≡ times id end.taken + sum_by (λ o. times id (taken_from n o)) others
+    → pushed ≡ end.pushed → times id taken' ≤ times id pushed
     → sum_by (λ o. times id (taken_from a.number o)) (a ∷ others) ≤ times id a.pushed
-settled id n own thieves a others taken' pushed is within all same bounded =
+settled id n own end thieves a others taken' pushed is within slotted all same bounded =
     subst (λ (x : Account). sum_by (λ o. times id (taken_from x.number o)) (x ∷ others) ≤ times id x.pushed) is
     (let f : Account → ℕ = λ o. times id (taken_from n o) in
-    let there : n < length (map (λ (x : Thief). x.taken) thieves) = omega (arith, length-map thieves (λ (x : Thief). x.taken)) in
-    let mine : f (account n own thieves) ≡ times id own.taken = ap (times id) (get_or-set_same (map (λ (x : Thief). x.taken) thieves) n own.taken [] there) in
-    let p : times id pushed ≡ times id own.pushed = ap (times id) same in
+    let ts = map (λ (x : Thief). x.taken) thieves in
+    let there : n < length ts = omega (arith, length-map thieves (λ (x : Thief). x.taken)) in
+    let mine : f (account n own thieves) ≡ times id own.taken =
+    ap (times id) (get_or-set_same ts n own.taken [] there) in
+    let p : times id pushed ≡ times id end.pushed = ap (times id) same in
     omega (arith, sum_by-cons f (account n own thieves) others))

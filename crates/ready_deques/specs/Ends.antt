@@ -1,8 +1,8 @@
 -- What contracts see of the ends of a deque. Source: this project's own choice.
-use Rattle.std.specs.Prelude.{◌≡◌, ◌≢◌, ℕ, ◌+◌, ◌-◌, ◌<◌, List, [], Some, length, map, slice_get}
+use Rattle.std.specs.Prelude.{◌≡◌, ◌≢◌, ℕ, ◌+◌, ◌-◌, ◌<◌, ◌≤◌, List, [], Some, length, map, slice_get}
 use Rattle.std.specs.declared.alloc.Global.{Global}
 use Rattle.ptg_base.specs.Task.{Task}
-use Rattle.ready_deques.specs.Rule.{all_parts}
+use Rattle.ready_deques.specs.Rule.{all_parts, times}
 
 -- How many ids a deque has room for from the start.
 abbrev pub initial_capacity : ℕ
@@ -45,3 +45,10 @@ pub record IsNew (given : ℕ) (b : Owner) : Type 0 where
   pub parts : b.parts + given ≡ all_parts
   pub pushed : b.pushed ≡ []
   pub taken : b.taken ≡ []
+
+-- What was pushed and taken with a slot before the end: by count of each id, what the end itself pushed and took, and the
+-- ids that only met the slot. An id in the slot was pushed and is not taken.
+pub record CountsWithSlot (end : Owner) (slot pushed taken : List Task) : Type 0 where
+  pub ids : (id : Task) → times id pushed + times id end.taken ≡ times id end.pushed + times id slot + times id taken
+  pub not_less : (id : Task) → times id end.taken ≤ times id taken
+  pub at_least : length end.pushed ≤ length pushed

@@ -7,6 +7,7 @@ ghost use Rattle.ready_deques.specs.Rule.{AllTaken, HeldAtMost, WasEmpty, times}
 ghost use Rattle.ready_deques.specs.Stolen.{MatchStolen};
 
 use crate::ends::{OwnerEnd, ThiefEnd};
+use crate::slot::SlottedEnd;
 use crate::stolen::Stolen;
 use ptg_base::TaskId;
 use std::marker::Model;
@@ -14,13 +15,16 @@ use std::sync::Wait;
 use std::thread::Threads;
 
 /// One worker's ends of the deques of ready tasks. Each worker has a deque of its own, where it pushes and pops at the
-/// back, and steals at the front of the others'.
+/// back, and steals at the front of the others'. Its newest id is kept in a slot before its deque, where no one can
+/// steal it: it goes to the deque when the next one is pushed.
+///
+/// Contracts see the ids that the worker pushed and took, whether they met the deque or only the slot.
 ///
 /// An id only steers: the right to run its task comes from the table of dependences.
 #[derive(Drop)]
 pub struct Hands {
     number: u32,
-    own: OwnerEnd,
+    own: SlottedEnd,
     // An end of each worker's deque, in order of their numbers. That of its own deque has no part, and takes nothing.
     thieves: Vec<ThiefEnd>,
 }
@@ -59,7 +63,7 @@ impl Hands {
         own.keep(&mut thieves[number as usize]);
         Hands {
             number,
-            own,
+            own: SlottedEnd::new(own),
             thieves,
         }
     }
@@ -78,8 +82,9 @@ impl Hands {
         self.thieves.len() as u32
     }
 
-    /// Adds at the back of the worker's own deque. It may take memory; an id that it cannot take comes back, and only
-    /// after `initial_capacity` were pushed.
+    /// Keeps the id in the worker's slot; the one that was there goes to the back of its deque. That may take memory:
+    /// where the deque cannot take the older id, that one stays in the slot, and the new one comes back, and only after
+    /// `initial_capacity` were pushed.
     pub fn push(&mut self, id: TaskId) -> Result<(), TaskId>
         ensures pushed { MatchResult result (λ _. self.new ≡ after_push self.old id) (λ back.
             (back ≡ id) × (self.new ≡ self.old)) }
@@ -89,8 +94,9 @@ impl Hands {
         self.own.push(id)
     }
 
-    /// Takes at the back of the worker's own deque. None only where it was empty at one moment of this call; so in a
-    /// team of one only where each id was taken as often as it was pushed.
+    /// Takes the id in the worker's slot, else at the back of its own deque. None only where the slot was empty and the
+    /// deque was so at one moment of this call; so in a team of one only where each id was taken as often as it was
+    /// pushed.
     pub fn pop(&mut self) -> Option<TaskId>
         ensures taken { MatchOption result (self.new ≡ self.old) (λ id.
             self.new ≡ after_take self.old.number self.old id) }
@@ -103,9 +109,9 @@ impl Hands {
         self.own.pop()
     }
 
-    /// Takes at the front of another worker's deque. `Empty` only where it held at most one id at one moment of this
-    /// call.
-    /// It tries again where another worker was first, and so may wait.
+    /// Takes at the front of another worker's deque, and never from its slot. `Empty` only where the deque, without the
+    /// slot, held at most one id at one moment of this call. It tries again where another worker was first, and so may
+    /// wait.
     pub fn steal<R: Threads + Wait + Sync>(&mut self, rt: &R, from: u32) -> Stolen
         requires another { (from < length self.old.deques) × (from ≢ self.old.number) }
         ensures taken { MatchStolen result (λ id. self.new ≡ after_take from self.old id) (self.new ≡ self.old) }
@@ -123,11 +129,12 @@ impl Hands {
     {
         let Hands {
             number,
-            mut own,
+            own,
             thieves: _,
         } = self;
-        gather(&mut own, number, others);
-        own.audit();
+        let mut end = own.into_end();
+        gather(&mut end, number, others);
+        end.audit();
     }
 
     // The thief's end of this worker's deque.

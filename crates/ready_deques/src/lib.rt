@@ -4,6 +4,8 @@
 
 mod ends;
 mod hands;
+mod history;
+mod slot;
 mod stolen;
 mod tally;
 mod team;

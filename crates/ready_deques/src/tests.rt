@@ -227,10 +227,11 @@ fn the_hands_of_a_team_are_settled(rt: HostRuntime) -> Result<(), Fail> {
     let (mut owner, mut other) = pair(rt.alloc())?;
     let pushed = owner.push(task(0)).is_ok();
     let both_pushed = owner.push(task(1)).is_ok() && pushed;
+    let all_pushed = owner.push(task(2)).is_ok() && both_pushed;
     let stolen = steal(&rt, &mut other, 1);
     let popped = pop(&mut owner);
     owner.settle(vec![in rt.alloc(); other]?);
-    assert!(rt; both_pushed);
-    assert_eq!(rt; (stolen, popped), (Some(0), Some(1)));
+    assert!(rt; all_pushed);
+    assert_eq!(rt; (stolen, popped), (Some(0), Some(2)));
     Ok(())
 }
