@@ -1,13 +1,16 @@
 -- A pass stays clean where its record keeps what a clean pass has.
-use Rattle.std.proofs.Common.{ℕ, ◌≡◌, List, [], ◌∷◌, ◌++◌, length, sym, ap, ◌∙◌, subst, refl}
-use Rattle.atomic_table.specs.Seated.{TableId}
+use Rattle.std.proofs.Common.{ℕ, ◌≡◌, ◌==◌, List, [], ◌∷◌, ◌++◌, length, sym, ap, ◌∙◌, subst, refl}
+use Rattle.table_rule.specs.Seats.{TableId}
 use Rattle.ptg_base.specs.Lists.{IsIn}
+use Rattle.dep_shard.specs.Content.{Content}
+use Rattle.list_lemmas.specs.Counting.{count}
 use Rattle.work_board.specs.Records.{FoundBusy, IsClean}
 use Rattle.work_board.specs.Word.{Word}
 use Rattle.work_board.specs.declared.record.PassRecord.{PassRecord}
 use Rattle.table_rule.specs.Changes.{with_look}
 use Rattle.table_rule.specs.Names.{Name, names_after_split}
 use Rattle.table_rule.specs.Plays.{Seated}
+use Rattle.table_rule.specs.Turns.{holds}
 use Rattle.dep_table.specs.Passes.{IsPassOf}
 use Rattle.dep_table.specs.Views.{PassView, shown}
 
@@ -50,6 +53,16 @@ after_step table p i q w h is of stamp me names k =
 pub split_length : (l : List Name) → length (names_after_split l) ≡ length l
 split_length [] = refl
 split_length (x ∷ xs) = refl
+
+-- a clean pass, taken apart, has no turn of any shard
+pub no_own_turn : (table : TableId) (p i : PassView) (k : ℕ) → IsPassOf table p → i ≡ p → holds k (shown i) ≡ 0
+no_own_turn table p i k h is =
+    ap (λ (q : PassView). holds k (shown q)) is
+    ∙ ap (count (λ ((shard, y) : ℕ × Content). shard == k)) h.clean.clean.no_turn
+
+-- nor a credit
+pub no_own_credit : (table : TableId) (p i : PassView) → IsPassOf table p → i ≡ p → (shown i).credit ≡ 0
+no_own_credit table p i h is = ap (λ (q : PassView). (shown q).credit) is ∙ h.clean.clean.no_credit
 
 -- in its one look the pass found that a word was not 0
 pub found_busy : (p i : PassView) (n : Seated) (word : Word) (r : ℕ) → i ≡ p → n ≡ (with_look i.me.0 word r, i.me.1) → (r ≡ 0 → ⊥) → FoundBusy word (shown p) n.0

@@ -1,11 +1,11 @@
 -- How passes are joined, and the shards of a table that was closed.
-use Rattle.std.proofs.Common.{◌≡◌, ℕ, zero, suc, ◌+◌, ◌<◌, List, [], ◌∷◌, ◌++◌, length, map, take, sym, refl, ap, ◌∙◌, subst, arith, Some, slice_get, ◌⊎◌, inl, inr, true, ◌||◌}
+use Rattle.std.proofs.Common.{◌≡◌, ℕ, zero, suc, ◌<◌, ◌≤◌, List, [], ◌∷◌, ◌++◌, length, map, sym, refl, ap, ◌∙◌}
+use Rattle.std.proofs.Common.{subst, arith, Some, slice_get, ◌⊎◌, inl, inr, true, ◌||◌}
 use Rattle.std.proofs.lemmas.List.{append-nil, map-append}
 use Rattle.std.specs.List.{flat_map}
 use mathlib.Core.Option.{some, some-injective, some-ne-none}
 use lib.ListN.{get_elem?}
-use Rattle.atomic_table.specs.Seated.{TableId}
-use Rattle.atomic_table.specs.Table.{Final, Seen}
+use Rattle.table_rule.specs.Seats.{TableId}
 use Rattle.ptg_base.specs.Lists.{IsIn}
 use Rattle.ptg_base.specs.Task.{Task}
 use Rattle.list_lemmas.proofs.Members.{IsIn-append_left, IsIn-append_right, from_append}
@@ -21,9 +21,10 @@ use Rattle.work_board.specs.declared.record.PassRecord.{PassRecord}
 use Rattle.table_rule.specs.declared.table_job.TableJob.{TableJob}
 use Rattle.table_rule.specs.Changes.{both}
 use Rattle.table_rule.specs.Names.{AreAll}
-use Rattle.table_rule.specs.Plays.{HasName}
+use Rattle.table_rule.specs.Live.{own_claims, own_stamps}
+use Rattle.table_rule.specs.Plays.{HasName, WereLeft}
 use Rattle.table_rule.specs.Records.{joined, joined_handed, moment_of}
-use Rattle.table_rule.specs.Rule.{Parts, Rule, Share}
+use Rattle.table_rule.specs.Rule.{Parts, Share}
 use Rattle.table_rule.proofs.Handing.{handed_same}
 use Rattle.table_rule.proofs.AllNames.{join_all, order_all}
 use Rattle.table_rule.proofs.Alone.{alone_free, alone_parts, alone_stamps}
@@ -140,19 +141,18 @@ joined_next table ps before left p last new is of me a =
       ];
     }
 
+-- the shards that were left, of the job and of the pass as their owner has them
+pub left_by : (j k : TableJob) (p i : PassView) (ys : List Content) → j ≡ k → i ≡ p → WereLeft k (shown i) ys
+    → WereLeft j (shown p) ys
+left_by j k p i ys job pass left =
+    subst (λ (q : PassView). WereLeft j (shown q) ys) pass
+    (subst (λ (h : TableJob). WereLeft h (shown i) ys) (sym job) left)
+
 -- the shards of a table that was closed
 same_get : {A : Type 0} (xs : List A) (k : ℕ) (y z : A) → slice_get xs k ≡ Some y → get_elem? xs k ≡ some z → z ≡ y
 same_get [] k y z e h = absurd (some-ne-none z (sym h))
 same_get (x ∷ xs) zero y z e h = let q : x ≡ y = cc in sym (some-injective x z h) ∙ q
 same_get (x ∷ xs) (suc k) y z e h = same_get xs k y z e h
-
-next_taken : {A : Type 0} (xs : List A) (k : ℕ) (y : A) → get_elem? xs k ≡ some y → take (suc k) xs ≡ take k xs ++ y ∷ []
-next_taken [] k y e = absurd (some-ne-none y (sym e))
-next_taken (x ∷ xs) zero y e = ap (λ z. z ∷ []) (some-injective x y e)
-next_taken (x ∷ xs) (suc k) y e = ap (λ l. x ∷ l) (next_taken xs k y e)
-
-pub take_next : {A : Type 0} (xs : List A) (k : ℕ) (y : A) → get_elem? xs k ≡ some y → take (k + 1) xs ≡ take k xs ++ y ∷ []
-take_next xs k y e = let one : k + 1 ≡ suc k = omega arith in ap (λ n. take n xs) one ∙ next_taken xs k y e
 
 pub joined_quiet : (table : TableId) (ps left : List PassView) (last : PassView) → left ≡ [] → IsJoinedSoFar table ps left last → (p : PassView) → IsIn p ps → (shown p).quiet ≡ true → (shown last).quiet ≡ true
 joined_quiet table ps left last none a p i k = elim (a.quiet p i k) [
@@ -160,42 +160,47 @@ joined_quiet table ps left last none a p i k = elim (a.quiet p i k) [
   | inr is ↦ is
 ]
 
-pub closes : (j : TableJob) (id : ℕ) (v : PassRecord) (vs : List PassRecord) (ws : List ℕ) (xs ys : List Content)
+pub closes : (j : TableJob) (v : PassRecord) (vs : List PassRecord) (ys : List Content)
     → AreAll (v ∷ []) → v.turns ≡ [] → moment_of v ≡ joined vs → v.handed ≡ joined_handed vs
-    → Final (Seen (Rule j) id v) ws xs → ys ≡ xs → IsClosedAt j vs ys
-closes j id v vs ws xs ys all none did handed f same =
-    let p : Parts j f.0 (joined vs) = subst (Parts j f.0) did (alone_parts j f.0 id v f.1.0 f.1.1 all) in
-    let count : length ys ≡ j.shards = ap length same ∙ (sym f.3 ∙ p.slots) in record {
+    → WereLeft j v ys → IsClosedAt j vs ys
+closes j v vs ys all none did handed f =
+    let s = f.table in
+    let p : Parts j s (joined vs) = subst (Parts j s) did (alone_parts j s f.id v f.rule f.mine all) in record {
       consistent = p.consistent;
       some_shards = p.some_shards;
-      count = count;
+      count = sym f.count ∙ p.slots;
       sound = p.sound;
       handed = handed_same j.matched j.given v.claims (joined vs).state.claims v.handed (joined_handed vs)
-          (ap (λ (R : Moment). R.state.claims) (sym did)) (sym handed) (p.handed id v f.1.1);
+          (ap (λ (R : Moment). R.state.claims) (sym did)) (sym handed) (p.handed f.id v f.mine);
       finished = p.finished;
       shares = λ k y e.
-          let e' : slice_get xs k ≡ Some y = subst (λ l. slice_get l k ≡ Some y) same e in
-          let near : k < length xs = slice_get_within xs k y e' in
-          let home = p.in_slots k (omega (arith, f.3)) (alone_free j f.0 id v f.1.0 f.1.1 all none k (omega (arith, f.3, p.slots))) in
-          subst (Share j (joined vs) k) (same_get xs k y home.0 e' (f.4 k home.0 home.1)) home.2;
+          let near : k < length ys = slice_get_within ys k y e in
+          let free = alone_free j s f.id v f.rule f.mine all none k (omega (arith, f.count, p.slots)) in
+          let home = p.in_slots k (omega (arith, f.count)) free in
+          subst (Share j (joined vs) k) (same_get ys k y home.0 e (f.shards k home.0 home.1)) home.2;
     }
 
 -- its claims in the order of their stamps are a legal order
-pub closes_order : (j : TableJob) (id : ℕ) (v : PassRecord) (vs : List PassRecord) (ws : List ℕ) (xs : List Content)
-    → AreAll (v ∷ []) → HasStamps v → moment_of v ≡ joined vs → v.stamps ≡ joined_stamps vs
-    → Final (Seen (Rule j) id v) ws xs → (ts : List Task) → AreInStampOrder (joined_stamps vs) ts
-    → IsClaimOrder j.matched (joined vs).state ts
-closes_order j id v vs ws xs all stamped did drew f ts o =
-    let mine : AreInStampOrder v.stamps ts = subst (λ (s : List StampedTask). AreInStampOrder s ts) (sym drew) o in
-    subst (λ (R : Moment). IsClaimOrder j.matched R.state ts) did (stamp_order j.matched j.given (moment_of v) v.stamps _ (alone_parts j f.0 id v f.1.0 f.1.1 all).sound (alone_stamps j f.0 id v f.1.0 f.1.1 all) (λ t. (f.1.0.1.live.each id v f.1.1).stamps t) stamped ts mine)
+pub closes_order : (j : TableJob) (v : PassRecord) (vs : List PassRecord) (ys : List Content) → AreAll (v ∷ [])
+    → HasStamps v → moment_of v ≡ joined vs → v.stamps ≡ joined_stamps vs → WereLeft j v ys
+    → (ts : List Task) → AreInStampOrder (joined_stamps vs) ts → IsClaimOrder j.matched (joined vs).state ts
+closes_order j v vs ys all stamped did drew f ts o =
+    let s = f.table in
+    let mine : AreInStampOrder v.stamps ts = subst (λ (l : List StampedTask). AreInStampOrder l ts) (sym drew) o in
+    let r : Parts j s (moment_of v) = alone_parts j s f.id v f.rule f.mine all in
+    let once : (t : Task) → own_stamps v t ≤ own_claims v t = (f.rule.1.live.each f.id v f.mine).stamps in
+    subst (λ (R : Moment). IsClaimOrder j.matched R.state ts) did
+    (stamp_order j.matched j.given (moment_of v) v.stamps _ r.sound (alone_stamps j s f.id v f.rule f.mine all) once
+    stamped ts mine)
 
 -- where the last pass has seen quiet, no shard has work
-pub closes_quiet : (j : TableJob) (id : ℕ) (v : PassRecord) (vs : List PassRecord) (ws : List ℕ) (xs ys : List Content)
+pub closes_quiet : (j : TableJob) (v : PassRecord) (vs : List PassRecord) (ys : List Content)
     → AreAll (v ∷ []) → v.turns ≡ [] → moment_of v ≡ joined vs → v.handed ≡ joined_handed vs
-    → Final (Seen (Rule j) id v) ws xs → ys ≡ xs → v.quiet ≡ true → HaveNoWork ys
-closes_quiet j id v vs ws xs ys all none did handed f same q =
-    let p : Parts j f.0 (joined vs) = subst (Parts j f.0) did (alone_parts j f.0 id v f.1.0 f.1.1 all) in
-    calm_closed j vs ys (closes j id v vs ws xs ys all none did handed f same) (p.quieted.calm id v f.1.1 q)
+    → WereLeft j v ys → v.quiet ≡ true → HaveNoWork ys
+closes_quiet j v vs ys all none did handed f q =
+    let s = f.table in
+    let p : Parts j s (joined vs) = subst (Parts j s) did (alone_parts j s f.id v f.rule f.mine all) in
+    calm_closed j vs ys (closes j v vs ys all none did handed f) (p.quieted.calm f.id v f.mine q)
 
 -- a pass that is taken is a clean one
 pub taken_pass : (table : TableId) (ps before left : List PassView) (p last : PassView) → before ≡ left ++ p ∷ [] → IsJoinedSoFar table ps before last → IsPassOf table p

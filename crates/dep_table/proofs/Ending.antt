@@ -1,6 +1,6 @@
 -- The end of a task on a turn: what allows it, and the pass after it.
 use Rattle.std.proofs.Common.{◌≡◌, ℕ, ◌+◌, ◌-◌, ◌<◌, List, [], ◌∷◌, ◌++◌, length, sym, ap, ◌∙◌, subst, refl, arith, inl, inr, None, true}
-use Rattle.atomic_table.specs.Table.{rest}
+use Rattle.table_rule.specs.Seats.{rest}
 use Rattle.ptg_base.specs.Task.{Task}
 use Rattle.ptg_base.specs.TaskComparing.{same_task}
 use Rattle.ptg_base.specs.TaskLaws.{same_task-decides}
@@ -23,10 +23,11 @@ use Rattle.flow_meaning.proofs.Events.{claim_member}
 use Rattle.shard_meaning.proofs.Reserving.{spare-trap}
 use Rattle.table_rule.proofs.Ending.{sound_moment}
 use Rattle.table_rule.proofs.Seeing.{seen_reserve, seen_runs, seen_share}
+use Rattle.table_rule.specs.GivingBack.{MayGiveEnd}
 use Rattle.dep_table.specs.declared.turn.Turn.{Turn}
 use Rattle.dep_table.specs.Passes.{IsPassOf}
 use Rattle.dep_table.specs.Tables.{id_of, job_of}
-use Rattle.dep_table.specs.Turns.{IsTurnOf, MayGiveEnd}
+use Rattle.dep_table.specs.Turns.{IsTurnOf}
 use Rattle.dep_table.specs.Views.{PassView, shown}
 use Rattle.work_board.specs.Stamps.{StampedTask}
 

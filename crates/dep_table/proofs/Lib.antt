@@ -8,13 +8,12 @@ pub mod NeedsSteps
 pub mod StampOrders
 pub mod Closings
 pub mod Clean
-pub mod StepsAt
+pub mod Jobs
 pub mod Turns
 pub mod Claiming
 pub mod Ending
 pub mod Meanings
 pub mod SendingTurn
-pub mod SendingAt
 pub mod Sharing
 pub mod Working
 pub mod Scans

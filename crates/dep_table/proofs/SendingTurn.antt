@@ -1,7 +1,7 @@
 -- A send on a turn: what the shard that was taken has for the item, what allows the send, and the pass after it.
 use Rattle.std.proofs.Common.{◌≡◌, ℕ, ℤ, ◌+◌, ◌<◌, ◌==◌, true, List, [], ◌∷◌, ◌++◌, length, sym, ap, ◌∙◌, subst, refl, arith, eq-eqb, ne_eqb, Option, Some, None, is_some, if◌then◌else◌}
 use Rattle.std.specs.Option.{IfSome, option_map_or, unwrap_or}
-use Rattle.atomic_table.specs.Table.{rest}
+use Rattle.table_rule.specs.Seats.{rest}
 use Rattle.ptg_base.specs.Entry.{Entry}
 use Rattle.ptg_base.specs.TaskComparing.{same_task}
 use Rattle.ptg_base.specs.TaskLaws.{same_task-decides}
@@ -38,11 +38,12 @@ use Rattle.table_rule.specs.Records.{joined}
 use Rattle.table_rule.specs.Rule.{Parts, Reserve, Share}
 use Rattle.table_rule.proofs.SameMembers.{joined_parts}
 use Rattle.table_rule.proofs.Seeing.{seen_next, seen_reserve, seen_share}
+use Rattle.table_rule.specs.GivingBack.{MayGiveBack, MayGiveSend, TakesItem, spends}
 use Rattle.dep_table.specs.declared.turn.Turn.{Turn}
 use Rattle.dep_table.specs.Passes.{IsPassOf}
-use Rattle.dep_table.specs.Sending.{HasSpareForItem, MayGiveSend, MayTakeItem, TakesItem, credit_after, credited, spends}
+use Rattle.dep_table.specs.Sending.{HasSpareForItem, MayTakeItem, credit_after, credited}
 use Rattle.dep_table.specs.Tables.{id_of, job_of}
-use Rattle.dep_table.specs.Turns.{IsTurnOf, MayGiveBack}
+use Rattle.dep_table.specs.Turns.{IsTurnOf}
 use Rattle.dep_table.specs.Views.{PassView, shown}
 use Rattle.dep_table.proofs.Turns.{has_turn}
 use Rattle.work_board.specs.Stamps.{StampedTask}

@@ -1,16 +1,17 @@
 -- A turn that a clean pass takes, and the pass after it gave the turn back.
 use Rattle.std.proofs.Common.{◌≡◌, ◌<◌, [], ◌∷◌, ◌++◌, length, sym, ap, ◌∙◌, subst, refl, arith}
-use Rattle.atomic_table.specs.Table.{rest}
+use Rattle.table_rule.specs.Seats.{rest}
 use Rattle.dep_shard.specs.Content.{Content}
 use Rattle.work_board.specs.Looks.{HasStamp}
 use Rattle.work_board.specs.Records.{IsClean, OnlyTook}
 use Rattle.work_board.specs.declared.record.PassRecord.{PassRecord}
 use Rattle.table_rule.specs.Changes.{turn_left, with_turn}
+use Rattle.table_rule.specs.GivingBack.{MayGiveBack}
 use Rattle.table_rule.specs.Plays.{HasName, HasTurn, Seated, WasSeen}
 use Rattle.dep_table.specs.declared.turn.Turn.{Turn}
 use Rattle.dep_table.specs.Passes.{IsPassOf}
 use Rattle.dep_table.specs.Tables.{id_of, job_of}
-use Rattle.dep_table.specs.Turns.{IsTurn, IsTurnOf, MayGiveBack}
+use Rattle.dep_table.specs.Turns.{IsTurn, IsTurnOf}
 use Rattle.dep_table.specs.Views.{PassView, shown}
 
 -- a turn has just been taken by the clean pass p, which is i

@@ -1,6 +1,6 @@
 -- A closed table: no pass shares it any more. Source: this project's own choice.
 use Rattle.std.specs.Prelude.{◌<◌, ◌≤◌, ◌≡◌, ℕ, true, List, [], ◌∷◌, map, length, slice_get, Some}
-use Rattle.atomic_table.specs.Seated.{TableId}
+use Rattle.table_rule.specs.Seats.{TableId}
 use Rattle.ptg_base.specs.Lists.{IsIn}
 use Rattle.ptg_base.specs.Task.{Task}
 use Rattle.plan_data.specs.Fit.{DataFit}

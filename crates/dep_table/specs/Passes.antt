@@ -1,6 +1,6 @@
 -- Clean passes: those that a worker has between two calls. Source: this project's own choice.
 use Rattle.std.specs.Prelude.{◌≡◌, [], ◌∷◌, length}
-use Rattle.atomic_table.specs.Seated.{TableId}
+use Rattle.table_rule.specs.Seats.{TableId}
 use Rattle.ptg_base.specs.Task.{Task}
 use Rattle.work_board.specs.Looks.{HasStamp}
 use Rattle.work_board.specs.Records.{IsClean}

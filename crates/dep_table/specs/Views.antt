@@ -1,14 +1,13 @@
 -- A pass as contracts see it. Source: this project's own choice.
 use Rattle.std.specs.Prelude.{ℕ}
-use Rattle.atomic_table.specs.Seated.{TableId}
-use Rattle.atomic_table.specs.Table.{Me}
-use Rattle.dep_shard.specs.Content.{Content}
 use Rattle.work_board.specs.declared.record.PassRecord.{PassRecord}
+use Rattle.table_rule.specs.Plays.{Seated}
+use Rattle.table_rule.specs.Seats.{TableId}
 
 -- the table that it belongs to, its record with the shards that it holds, and the stamp that it drew last
 pub record PassView : Type 0 where
   pub table : TableId
-  pub me : Me Content PassRecord
+  pub me : Seated
   pub stamp : ℕ
 
 -- its record

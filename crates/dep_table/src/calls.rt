@@ -11,7 +11,6 @@ ghost use Rattle.dep_table.specs.Views.{shown};
 
 use crate::pass::Pass;
 use crate::table::DepTable;
-use table_rule::SplitOff;
 
 impl DepTable {
     /// Splits a pass off another: a new name, and nothing done.
@@ -22,7 +21,7 @@ impl DepTable {
         ensures records { (shown pass.new ≡ after_split (shown pass.old))
             × (shown result ≡ split_off (shown pass.old)) }
     {
-        let seat = self.table.shared.split_seat::<SplitOff>(&mut pass.seat);
+        let seat = self.words.split(&mut pass.seat);
         Pass { seat, stamp: 0 }
     }
 
@@ -33,7 +32,7 @@ impl DepTable {
         ensures pass { IsPassOf (id_of self.now) pass.new }
         ensures halted { HasHalted (shown pass.old) (shown pass.new) }
     {
-        self.raise_halt(&mut pass.seat);
+        self.words.raise_halt(&mut pass.seat);
     }
 
     /// Whether the halt word was not 0, at one look. It never is in a preloaded table.
@@ -43,7 +42,7 @@ impl DepTable {
         ensures halted { HaltAnswers result (shown pass.old) (shown pass.new) }
         ensures preloaded { (job_of self.now).preloaded ≡ true → result ≡ false }
     {
-        self.read_halt(&mut pass.seat) != 0
+        self.words.read_halt(&mut pass.seat) != 0
     }
 
     /// Whether the live word was 0, at one look: then no task is ready or runs, now and from now on.
@@ -53,7 +52,7 @@ impl DepTable {
         ensures quiet { QuietAnswers result (shown pass.old) (shown pass.new) }
         ensures rule { IsTrue result → WasPass (job_of self.now) (shown pass.new) }
     {
-        self.read_live(&mut pass.seat) == 0
+        self.words.read_live(&mut pass.seat) == 0
     }
 
     /// The stamp of the task that the pass runs.

@@ -20,9 +20,7 @@ use crate::table::DepTable;
 use dep_shard::Shard;
 use shard_answer::Room;
 use std::marker::Model;
-use table_rule::{
-    JoinTo, TableJob, a_pass_with_all_names_is_alone, all_passes_stay_all, two_passes_are_joined,
-};
+use table_rule::{TableJob, a_pass_with_all_names_is_alone, all_passes_stay_all};
 
 /// A table that no pass shares any more: its shards hold their parts of what its passes did together. Contracts see its
 /// job, the records of its passes, its shards, and how many passes were closed with it. `DepTable::close` alone makes
@@ -62,13 +60,12 @@ impl DepTable {
         ensures of { result.table ≡ pass.table }
         ensures me { result.me ≡ (both (shown pass) (shown other), pass.me.1) }
     {
-        two_passes_are_joined();
         let Pass { mut seat, stamp } = pass;
         let Pass {
             seat: gone,
             stamp: _stamp,
         } = other;
-        self.table.shared.join_seat::<JoinTo>(&mut seat, gone);
+        self.words.join(&mut seat, gone);
         Pass { seat, stamp }
     }
 
@@ -99,7 +96,7 @@ impl DepTable {
     {
         a_pass_with_all_names_is_alone();
         let DepTable {
-            table,
+            words,
             job,
             closing,
         } = self;
@@ -108,16 +105,9 @@ impl DepTable {
             stamp: _stamp,
         } = pass;
         let ClosingRoom { shards, rows } = closing;
-        let count = job.shards as usize;
-        let mut closed = table.close_with(seat);
-        let mut taken = shards;
-        for k in 0..count {
-            let shard = closed.take(k);
-            taken.push_reserved(shard);
-        }
-        closed.free();
+        let shards = words.close(seat, shards);
         Closed {
-            shards: taken,
+            shards,
             job,
             records,
             passes,

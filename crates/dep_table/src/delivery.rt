@@ -4,8 +4,9 @@ ghost use Rattle.std.specs.Prelude.{◌≡◌, IfOk, IsOk, OnErr, OnOk};
 ghost use Rattle.std.specs.Option.{option_copied};
 ghost use Rattle.dep_shard.specs.Content.{IsUnchanged, KeepsSpares};
 ghost use Rattle.work_board.specs.Sends.{AnswersFor};
+ghost use Rattle.table_rule.specs.GivingBack.{TakesItem};
 ghost use Rattle.dep_table.specs.Sending as sending;
-ghost use Rattle.dep_table.specs.Sending.{HasSpareForItem, MayTakeItem, TakesItem};
+ghost use Rattle.dep_table.specs.Sending.{HasSpareForItem, MayTakeItem};
 
 use dep_iter::Matched;
 use dep_shard::{Arrived, Shard};

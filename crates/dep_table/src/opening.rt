@@ -4,36 +4,23 @@ ghost use Rattle.std.specs.Prelude.{◌≡◌, ◌<◌, ◌≤◌, true, false, 
 ghost use Rattle.ptg_base.specs.Limits.{IsShardCount, most_shards};
 ghost use Rattle.plan_data.specs.Fit.{DataFit};
 ghost use Rattle.shard_calls.specs.Opened.{AreOpeningShards};
-ghost use Rattle.table_rule.specs.Opening.{AreOpeningWords, IsOpening};
+ghost use Rattle.table_rule.specs.Opening.{IsOpening};
 ghost use Rattle.dep_table.specs.ClosingRooms.{IsRoomFor};
 ghost use Rattle.dep_table.specs.Opened.{HaveOpeningReserve};
 ghost use Rattle.dep_table.specs.Passes.{IsFirstPassOf};
 ghost use Rattle.dep_table.specs.Tables.{id_of, job_of};
 
 use crate::closing_room::{ClosingRoom, closing_room};
-use crate::pass::{Pass, Seat};
+use crate::pass::Pass;
 use crate::preloaded::preloaded_shards;
 use crate::table::DepTable;
-use crate::words::{STRIDE, live_index};
-use atomic_table::{Refused, Table};
 use coll_data::Given;
 use dep_iter::Matched;
 use dep_shard::Shard;
 use ptg_base::OutOfMemory;
 use shard_calls::opened_shards;
 use std::alloc::Global;
-use table_rule::{Law, TableJob, the_rule_holds_before_the_first_step};
-use work_board::PassRecord;
-
-// The words of a table with this many shards and ready tasks.
-fn opening_words(alloc: Global, shards: u32, live: u64) -> Result<Vec<u64>, OutOfMemory>
-    requires { shards ≤ most_shards }
-    ensures { IfOk result (λ v. AreOpeningWords shards live v.items) }
-{
-    let mut words = vec![in alloc; 0; STRIDE * (shards as usize + 3)]?;
-    words[live_index(shards)] = live;
-    Ok(words)
-}
+use table_rule::{TableJob, TableWords, opening_words};
 
 // The room that a table for this job keeps for its close.
 fn room_for(alloc: Global, job: &TableJob) -> Result<ClosingRoom, OutOfMemory>
@@ -61,22 +48,13 @@ fn lay(
     ensures pass { IfOk result (λ (table, pass). IsFirstPassOf (id_of table) pass) }
     ensures job { IfOk result (λ (table, pass). job_of table ≡ job) }
 {
-    the_rule_holds_before_the_first_step();
-    let laid: Result<
-        (Table<Shard, PassRecord, TableJob, Law, Global>, Seat),
-        Refused<Shard, Global>,
-    > = Table::new(alloc, words.as_slice(), shards, &job);
-    match laid {
-        Ok((table, seat)) => Ok((
-            DepTable {
-                table,
-                job,
-                closing,
-            },
-            Pass { seat, stamp: 0 },
-        )),
-        Err(_refused) => Err(OutOfMemory),
-    }
+    let (words, seat) = TableWords::new(alloc, words, shards, &job)?;
+    let table = DepTable {
+        words,
+        job,
+        closing,
+    };
+    Ok((table, Pass { seat, stamp: 0 }))
 }
 
 // The shards of a new table, with spares for all that will come to them where it is preloaded.

@@ -25,7 +25,7 @@ impl DepTable {
         ensures none { IfNone result ((y : Content) → pass.old.me.1 ≡ (shard, y) ∷ [] → HasNoReady y.entries) }
         ensures some { IfSome result (λ t. (y : Content) → pass.old.me.1 ≡ (shard, y) ∷ [] → IsBest y.entries t) }
     {
-        let held = pass.seat.slot_mut(&self.table.shared, shard as usize);
+        let held = pass.seat.shard_mut(&self.words, shard);
         held.best_ready()
     }
 }

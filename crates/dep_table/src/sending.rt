@@ -39,15 +39,15 @@ impl<'a> Turn<'a> {
         ensures preloaded { (job_of self.entry.table.now).preloaded ≡ true → IsOk result }
     {
         let Turn { table, pass, shard } = self;
-        let held = pass.seat.slot_mut(&table.table.shared, shard as usize);
+        let held = pass.seat.shard_mut(&table.words, shard);
         match take_item(held, &table.job.matched, item, tile) {
             Ok(answer) => {
                 table.raise_for(&mut pass.seat, answer);
-                table.give_send(&mut pass.seat, shard, item, tile);
+                table.words.give_send(&mut pass.seat, shard, item, tile);
                 Ok(answer)
             }
             Err(OutOfMemory) => {
-                table.give(&mut pass.seat, shard);
+                table.words.give(&mut pass.seat, shard);
                 Err(OutOfMemory)
             }
         }

@@ -14,8 +14,8 @@ ghost use Rattle.dep_table.specs.Views.{shown};
 ghost use Rattle.table_rule.specs.Rule.{placement_of};
 
 use crate::pass::Pass;
+use crate::shard_steps::{end_task, take_ready};
 use crate::table::DepTable;
-use crate::turn_steps::{end_task, take_ready};
 use dep_shard::Arrivals;
 use ptg_base::{OutOfMemory, TaskId};
 use term_core::Trap;
@@ -45,7 +45,7 @@ impl DepTable {
         ensures busy { IfErr result (λ b.
             IsPassOf (id_of self.now) b.pass.now × FoundBusy (word.Turn shard) (shown pass.old) (shown b.pass.now)) }
     {
-        let found = self.take(&mut pass.seat, shard);
+        let found = self.words.take(&mut pass.seat, shard);
         if found != 0 {
             return Err(Busy { pass });
         }
@@ -68,7 +68,7 @@ impl<'a> Turn<'a> {
             → (shown self.exit.1.0.now).last ≡ (self.entry.shard, y) ∷ [] }
     {
         let Turn { table, pass, shard } = self;
-        table.give(&mut pass.seat, shard);
+        table.words.give(&mut pass.seat, shard);
     }
 }
 
@@ -90,15 +90,15 @@ impl<'a> Turn<'a> {
             → (shown self.exit.1.0.now).last ≡ (self.entry.shard, y) ∷ [] }
     {
         let Turn { table, pass, shard } = self;
-        let held = pass.seat.slot_mut(&table.table.shared, shard as usize);
+        let held = pass.seat.shard_mut(&table.words, shard);
         match take_ready(held, t) {
             Some(tiles) => {
-                table.give_claim(&mut pass.seat, shard, t, &tiles);
-                pass.stamp = table.draw_stamp(&mut pass.seat, t);
+                table.words.give_claim(&mut pass.seat, shard, t, &tiles);
+                pass.stamp = table.words.draw_stamp(&mut pass.seat, t);
                 Some(tiles)
             }
             None => {
-                table.give(&mut pass.seat, shard);
+                table.words.give(&mut pass.seat, shard);
                 None
             }
         }
@@ -122,10 +122,10 @@ impl<'a> Turn<'a> {
     {
         let _task = t;
         let Turn { table, pass, shard } = self;
-        let held = pass.seat.slot_mut(&table.table.shared, shard as usize);
+        let held = pass.seat.shard_mut(&table.words, shard);
         end_task(held, spent);
-        table.give_end(&mut pass.seat, shard);
-        table.lower_live(&mut pass.seat);
+        table.words.give_end(&mut pass.seat, shard);
+        table.words.lower_live(&mut pass.seat);
     }
 }
 
@@ -149,15 +149,15 @@ impl<'a> Turn<'a> {
         ensures preloaded { (job_of self.entry.table.now).preloaded ≡ true → IsOk result }
     {
         let Turn { table, pass, shard } = self;
-        let held = pass.seat.slot_mut(&table.table.shared, shard as usize);
+        let held = pass.seat.shard_mut(&table.words, shard);
         match held.trap(t, cause) {
             Ok(()) => {
-                table.give_end(&mut pass.seat, shard);
-                table.lower_live(&mut pass.seat);
+                table.words.give_end(&mut pass.seat, shard);
+                table.words.lower_live(&mut pass.seat);
                 Ok(())
             }
             Err(OutOfMemory) => {
-                table.give(&mut pass.seat, shard);
+                table.words.give(&mut pass.seat, shard);
                 Err(OutOfMemory)
             }
         }

@@ -16,5 +16,9 @@ pub mod Sending
 pub mod SameMembers
 pub mod Alone
 pub mod Opening
+pub mod StepsAt
+pub mod SendingAt
+pub mod Leaving
+pub mod Sharing
 pub mod Seeing
 pub mod AllNames

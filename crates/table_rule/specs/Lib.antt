@@ -10,3 +10,6 @@ pub mod Changes
 pub mod Plays
 pub mod Events
 pub mod Opening
+pub mod GivingBack
+pub mod Seats
+pub mod Lending

@@ -49,6 +49,16 @@ pub record WasSeen (j : TableJob) (k : ℕ) (v : PassRecord) (y : Content) : Typ
   pub mine : get_elem? table.views id ≡ some v
   pub home : get_elem? table.homes k ≡ some (some y)
 
+-- These shards are left of a table that met the rule and had this record of a pass: a shard that was in its slot is
+-- among them under its number.
+pub record WereLeft (j : TableJob) (v : PassRecord) (ys : List Content) : Type 0 where
+  pub table : Table
+  pub rule : Rule j table
+  pub id : ℕ
+  pub mine : get_elem? table.views id ≡ some v
+  pub count : length table.homes ≡ length ys
+  pub shards : (k : ℕ) (y : Content) → get_elem? table.homes k ≡ some (some y) → get_elem? ys k ≡ some y
+
 -- whether an edge is the last one that its target waits for, by the entry that the shard has of it
 abbrev pub fires : Plan → Content → Edge → Bool
 fires P y e = ((entry_found P e y).arrived + 1) == (entry_found P e y).goal

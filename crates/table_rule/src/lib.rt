@@ -1,20 +1,27 @@
-//! The rule of the shared dependency table, and that each kind of step keeps it.
+//! The rule of the shared dependency table, that each kind of step keeps it, and the table's words and shards, on which
+//! there is no other step.
 #![tactic(auto)]
 
 mod events;
 mod law;
+mod pass_seat;
+mod pass_steps;
 mod rules;
+mod shard_loan;
 mod steps;
+mod table_close;
 mod table_job;
+mod table_open;
+mod table_words;
+mod turn_steps;
+mod word_steps;
+mod words;
 
 pub use events::{
     a_turn_is_given_back_with_a_claim, a_turn_is_given_back_with_a_send,
     a_turn_is_given_back_with_an_end,
 };
-pub use law::{
-    Claim, DrawStamp, End, Event, JoinTo, Law, Leave, LowerLive, RaiseHalt, RaiseLive, ReadHalt,
-    ReadLive, Send, SplitOff, Take,
-};
+pub use pass_seat::PassSeat;
 pub use rules::{
     a_pass_with_all_names_is_alone, all_passes_stay_all, each_task_has_a_shard,
     the_rule_holds_before_the_first_step, the_rule_holds_of_the_joined_records,
@@ -25,3 +32,5 @@ pub use steps::{
     the_live_word_is_read, two_passes_are_joined,
 };
 pub use table_job::TableJob;
+pub use table_open::opening_words;
+pub use table_words::TableWords;

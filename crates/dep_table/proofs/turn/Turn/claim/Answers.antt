@@ -1,6 +1,6 @@
 use Rattle.std.proofs.Common.{ap, sym, ◌∙◌, refl, subst}
 use Rattle.std.specs.Option.{IfNone, IfSome}
-use Rattle.atomic_table.specs.Table.{rest}
+use Rattle.table_rule.specs.Seats.{rest}
 use Rattle.work_board.specs.Claims.{FoundGone, HasClaimed}
 use Rattle.table_rule.specs.Changes.{with_stamp}
 use Rattle.table_rule.specs.Live.{own_stamps}
@@ -15,17 +15,18 @@ use Rattle.dep_table.specs.Turns.{IsTurnOf}
 use Rattle.dep_table.specs.Passes.{IsPassOf}
 use Rattle.dep_table.specs.Views.{PassView, shown}
 use Rattle.dep_table.proofs.Claiming.{claim_done, claim_last, claim_pass, held_is, entry_numbers, gone, gone_last, unstamped}
+use Rattle.dep_table.proofs.Jobs.{starts_of}
 use Rattle.dep_table.proofs.Turns.{left_pass}
 use Rattle.dep_table.proofs.turn.Turn.claim.Goals as goal
 use Rattle.dep_table.proofs.turn.Turn.claim.Goals.{in-None, in-Some}
 
 pub take_ready-requires : goal.take_ready-requires
-take_ready-requires c = let h = c.requires.turn in λ e at. entry_numbers _ _ _ _ h.3 _ (held_is _ _ _ _ h.3 _ c.pass.view_is _ _ _ c.slot_mut-held.ensures.value) _ e at
+take_ready-requires c = let h = c.requires.turn in λ e at. entry_numbers _ _ _ _ h.3 _ (held_is _ _ _ _ h.3 _ c.pass.view_is _ _ _ c.shard_mut-held.ensures.value) _ e at
 
 pub draw_stamp-pass-inside-requires-clause-none_yet : goal.draw_stamp-pass-inside-requires-clause-none_yet
 draw_stamp-pass-inside-requires-clause-none_yet c = let h = c.requires.turn in
     ap (λ (m : Seated). own_stamps m.0 c.args.t.now) c.give_claim.ensures.me ∙ (ap (λ (p : PassView). own_stamps p.me.0 c.args.t.now) c.pass.view_is ∙ (ap (λ (m : Seated). own_stamps m.0 c.args.t.now) h.3.me
-    ∙ unstamped _ _ _ _ h.3 _ _ (held_is _ _ _ _ h.3 _ c.pass.view_is _ _ _ c.slot_mut-held.ensures.value) _ _ c.in-Some.ensures.some))
+    ∙ unstamped _ _ _ _ h.3 _ _ (held_is _ _ _ _ h.3 _ c.pass.view_is _ _ _ c.shard_mut-held.ensures.value) _ _ c.in-Some.ensures.some))
 
 pub returns-clause-pass : goal.returns-clause-pass
 returns-clause-pass c = let h = c.requires.turn in elim c.match-take_ready.branch [
@@ -46,7 +47,8 @@ pub returns-clause-some : goal.returns-clause-some
 returns-clause-some c = elim c.match-take_ready.branch [
   | in-Some w ↦ subst (λ o. IfSome o (Claimed c.args.self c.args.t.now c.match-take_ready.pass)) (sym w.result-is) (λ v y z h. claim_done _ v y z h _ c.match-take_ready.pass c.pass.view_is _ _ _ _
       (ap (λ (p : PassView). p.me) w.pass-is ∙ w.draw_stamp-pass-inside.ensures.me ∙ (λ k. (with_stamp (w.give_claim.ensures.me k).0 c.args.t.now w.draw_stamp-pass-inside.result, (w.give_claim.ensures.me k).1)))
-      (sym (ap (λ (m : Seated). m.0.running) h.me) ∙ c.requires.idle) _ _ (held_is _ _ _ _ h _ c.pass.view_is _ _ _ c.slot_mut-held.ensures.value) w.in-Some.ensures.some w.give_claim.ensures.starts)
+      (sym (ap (λ (m : Seated). m.0.running) h.me) ∙ c.requires.idle) _ _ (held_is _ _ _ _ h _ c.pass.view_is _ _ _ c.shard_mut-held.ensures.value) w.in-Some.ensures.some
+      (starts_of _ _ _ _ _ c.args.self.table.now.of_job w.give_claim.ensures.starts))
   | in-None w ↦ subst (λ o. IfSome o (Claimed c.args.self c.args.t.now c.match-take_ready.pass)) (sym w.result-is) tt
 ]
 
@@ -54,7 +56,7 @@ pub returns-clause-none : goal.returns-clause-none
 returns-clause-none c = elim c.match-take_ready.branch [
   | in-Some w ↦ subst (λ o. IfNone o (Gone c.args.self c.args.t.now c.match-take_ready.pass)) (sym w.result-is) tt
   | in-None w ↦ subst (λ o. IfNone o (Gone c.args.self c.args.t.now c.match-take_ready.pass)) (sym w.result-is) (λ v y z h.
-      gone _ v y z h _ c.match-take_ready.pass c.pass.view_is _ (held_is _ _ _ _ h _ c.pass.view_is _ _ _ c.slot_mut-held.ensures.value) _ w.in-None.ensures.none _ (ap (λ (p : PassView). p.me) w.pass-is ∙ w.give.ensures.me))
+      gone _ v y z h _ c.match-take_ready.pass c.pass.view_is _ (held_is _ _ _ _ h _ c.pass.view_is _ _ _ c.shard_mut-held.ensures.value) _ w.in-None.ensures.none _ (ap (λ (p : PassView). p.me) w.pass-is ∙ w.give.ensures.me))
 ]
 
 pub returns-clause-last : goal.returns-clause-last

@@ -2,7 +2,7 @@ use Rattle.std.proofs.Common.{ℤ, List, Option, ap, sym, ◌∙◌, refl, subst
 use Rattle.std.proofs.lemmas.Bool.{false≢true}
 use Rattle.std.specs.Option.{option_copied}
 use Rattle.std.specs.Result.{IfOk}
-use Rattle.atomic_table.specs.Table.{rest}
+use Rattle.table_rule.specs.Seats.{rest}
 use Rattle.ptg_base.specs.declared.edge.Item.{Item}
 use Rattle.dep_shard.specs.Content.{Content}
 use Rattle.table_rule.specs.Plays.{Seated, after_send}
@@ -16,13 +16,14 @@ use Rattle.dep_table.specs.Tables.{job_of}
 use Rattle.dep_table.specs.Turns.{IsTurnOf}
 use Rattle.dep_table.specs.Views.{PassView, shown}
 use Rattle.dep_table.proofs.Claiming.{held_is}
+use Rattle.dep_table.proofs.Jobs.{send_for}
 use Rattle.dep_table.proofs.SendingTurn.{has_sent, refused, send_last, send_may, send_named, send_pass, send_room, send_spare, sends_item}
 use Rattle.dep_table.proofs.Turns.{left_last, left_pass, only_took}
 use Rattle.dep_table.proofs.turn.Turn.send.Goals as goal
 use Rattle.dep_table.proofs.turn.Turn.send.Goals.{in-Err, in-Ok}
 
 pub take_item-requires : goal.take_item-requires
-take_item-requires c = let h = c.requires.turn in send_may _ _ _ _ h.3 _ _ c.requires.item c.requires.shard _ (held_is _ _ _ _ h.3 _ c.pass.view_is _ _ _ c.slot_mut-held.ensures.value)
+take_item-requires c = let h = c.requires.turn in send_may _ _ _ _ h.3 _ _ c.requires.item c.requires.shard _ (held_is _ _ _ _ h.3 _ c.pass.view_is _ _ _ c.shard_mut-held.ensures.value)
 
 pub raise_for-requires-clause-room : goal.raise_for-requires-clause-room
 raise_for-requires-clause-room c = let h = c.requires.turn in send_room _ _ _ _ h.3 _ _ c.requires.item c.requires.shard _ c.pass.view_is
@@ -31,10 +32,15 @@ pub raise_for-requires-clause-named : goal.raise_for-requires-clause-named
 raise_for-requires-clause-named c = let h = c.requires.turn in send_named _ _ _ _ h.3 _ _ c.requires.item c.requires.shard _ c.pass.view_is
 
 pub give_send-requires-clause-sends : goal.give_send-requires-clause-sends
-give_send-requires-clause-sends c = let h = c.requires.turn in sends_item _ _ _ _ h.3 _ _ c.requires.item c.requires.shard _ c.pass.view_is c.in-Ok.answer _ _ (held_is _ _ _ _ h.3 _ c.pass.view_is _ _ _ c.slot_mut-held.ensures.value) c.in-Ok.ensures.answer c.in-Ok.ensures.takes _ c.raise_for.ensures.me
+give_send-requires-clause-sends c =
+    let h = c.requires.turn in
+    send_for _ _ _ _ _ _ c.args.self.table.now.of_job
+    (sends_item _ _ _ _ h.3 _ _ c.requires.item c.requires.shard _ c.pass.view_is c.in-Ok.answer _ _
+    (held_is _ _ _ _ h.3 _ c.pass.view_is _ _ _ c.shard_mut-held.ensures.value) c.in-Ok.ensures.answer
+    c.in-Ok.ensures.takes _ c.raise_for.ensures.me)
 
 pub give-requires-clause-leaves : goal.give-requires-clause-leaves
-give-requires-clause-leaves c = let h = c.requires.turn in refused _ _ _ _ h.3 _ c.pass.view_is _ _ (held_is _ _ _ _ h.3 _ c.pass.view_is _ _ _ c.slot_mut-held.ensures.value) c.in-Err.ensures.same c.in-Err.ensures.kept
+give-requires-clause-leaves c = let h = c.requires.turn in refused _ _ _ _ h.3 _ c.pass.view_is _ _ (held_is _ _ _ _ h.3 _ c.pass.view_is _ _ _ c.shard_mut-held.ensures.value) c.in-Err.ensures.same c.in-Err.ensures.kept
 
 pub returns-clause-pass : goal.returns-clause-pass
 returns-clause-pass c = let h = c.requires.turn in elim c.match-take_item.branch [
@@ -55,7 +61,7 @@ pub returns-clause-sent : goal.returns-clause-sent
 returns-clause-sent c = elim c.match-take_item.branch [
   | in-Ok w ↦ subst (λ o. IfOk o (SentBy c.args.self c.args.item.now (option_copied c.args.tile) c.match-take_item.pass)) (sym w.result-is) (λ v y z h. has_sent _ v y z h _ _ c.requires.item c.requires.shard _ c.pass.view_is w.in-Ok.answer c.match-take_item.pass _
       (ap (λ (p : PassView). p.me) w.pass-is ∙ w.give_send.ensures.me ∙ ap (after_send record { item = c.args.item.now; tile = option_copied c.args.tile }) w.raise_for.ensures.me)
-      _ (held_is _ _ _ _ h _ c.pass.view_is _ _ _ c.slot_mut-held.ensures.value) w.in-Ok.ensures.answer)
+      _ (held_is _ _ _ _ h _ c.pass.view_is _ _ _ c.shard_mut-held.ensures.value) w.in-Ok.ensures.answer)
   | in-Err w ↦ subst (λ o. IfOk o (SentBy c.args.self c.args.item.now (option_copied c.args.tile) c.match-take_item.pass)) (sym w.result-is) tt
 ]
 
@@ -68,7 +74,7 @@ returns-clause-left c = elim c.match-take_item.branch [
 pub returns-clause-preloaded : goal.returns-clause-preloaded
 returns-clause-preloaded c = λ pre. let h = c.requires.turn in elim c.match-take_item.branch [
   | in-Ok w ↦ subst IsOk (sym w.result-is) refl
-  | in-Err w ↦ absurd (false≢true (subst IsOk w.in-Err.is (c.take_item.ensures.succeeds (send_spare _ _ _ _ h.3 _ _ c.requires.item c.requires.shard pre _ (held_is _ _ _ _ h.3 _ c.pass.view_is _ _ _ c.slot_mut-held.ensures.value)))))
+  | in-Err w ↦ absurd (false≢true (subst IsOk w.in-Err.is (c.take_item.ensures.succeeds (send_spare _ _ _ _ h.3 _ _ c.requires.item c.requires.shard pre _ (held_is _ _ _ _ h.3 _ c.pass.view_is _ _ _ c.shard_mut-held.ensures.value)))))
 ]
 
 pub returns-clause-last : goal.returns-clause-last

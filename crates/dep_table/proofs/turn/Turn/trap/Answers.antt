@@ -1,6 +1,6 @@
 use Rattle.std.proofs.Common.{ap, sym, ◌∙◌, refl, subst, IsOk, OnErr, OnOk}
 use Rattle.std.proofs.lemmas.Bool.{false≢true}
-use Rattle.atomic_table.specs.Table.{rest}
+use Rattle.table_rule.specs.Seats.{rest}
 use Rattle.dep_shard.specs.Content.{Content}
 use Rattle.table_rule.specs.Changes.{without_credit}
 use Rattle.table_rule.specs.Plays.{Seated}
@@ -14,20 +14,28 @@ use Rattle.dep_table.specs.Turns.{IsTurnOf}
 use Rattle.dep_table.specs.Views.{PassView, shown}
 use Rattle.dep_table.proofs.Claiming.{held_is}
 use Rattle.dep_table.proofs.Ending.{end_bound, end_last, end_pass, end_running, has_ended, trap_spare, traps_task}
+use Rattle.dep_table.proofs.Jobs.{end_for}
 use Rattle.dep_table.proofs.Turns.{left_last, left_pass, only_took}
 use Rattle.dep_table.proofs.turn.Turn.trap.Goals as goal
 use Rattle.dep_table.proofs.turn.Turn.trap.Goals.{in-Err, in-Ok}
 
 pub trap-requires-clause-running : goal.trap-requires-clause-running
-trap-requires-clause-running c = let h = c.requires.turn in end_running _ _ _ _ h.3 _ (sym (ap (λ (m : Seated). m.0.running) h.3.me) ∙ c.requires.task.runs) c.requires.shard _ (held_is _ _ _ _ h.3 _ c.pass.view_is _ _ _ c.slot_mut-held.ensures.value)
+trap-requires-clause-running c = let h = c.requires.turn in end_running _ _ _ _ h.3 _ (sym (ap (λ (m : Seated). m.0.running) h.3.me) ∙ c.requires.task.runs) c.requires.shard _ (held_is _ _ _ _ h.3 _ c.pass.view_is _ _ _ c.shard_mut-held.ensures.value)
 
 pub trap-requires-clause-bound : goal.trap-requires-clause-bound
-trap-requires-clause-bound c = let h = c.requires.turn in end_bound _ _ _ _ h.3 _ (sym (ap (λ (m : Seated). m.0.running) h.3.me) ∙ c.requires.task.runs) c.requires.shard _ (held_is _ _ _ _ h.3 _ c.pass.view_is _ _ _ c.slot_mut-held.ensures.value)
+trap-requires-clause-bound c = let h = c.requires.turn in end_bound _ _ _ _ h.3 _ (sym (ap (λ (m : Seated). m.0.running) h.3.me) ∙ c.requires.task.runs) c.requires.shard _ (held_is _ _ _ _ h.3 _ c.pass.view_is _ _ _ c.shard_mut-held.ensures.value)
 
 pub give_end-requires-clause-ends : goal.give_end-requires-clause-ends
-give_end-requires-clause-ends c = let h = c.requires.turn in traps_task _ _ _ _ h.3 _ (sym (ap (λ (m : Seated). m.0.running) h.3.me) ∙ c.requires.task.runs) _ c.pass.view_is c.args.cause c.requires.shard
-    (subst (λ (p : PassView). MayTrap (job_of c.args.self.table.now).matched (job_of c.args.self.table.now).given c.args.t.now c.args.cause p.me.0) (sym c.pass.view_is) (record { runs = c.requires.task.runs; traps = c.requires.task.traps }))
-    _ _ (held_is _ _ _ _ h.3 _ c.pass.view_is _ _ _ c.slot_mut-held.ensures.value) c.in-Ok.ensures.ends c.in-Ok.ensures.rest c.in-Ok.ensures.ok c.in-Ok.ensures.spare
+give_end-requires-clause-ends c =
+    let h = c.requires.turn in
+    let e = c.in-Ok.ensures in
+    let j = job_of c.args.self.table.now in
+    let runs = sym (ap (λ (m : Seated). m.0.running) h.3.me) ∙ c.requires.task.runs in
+    end_for _ _ _ _ c.args.self.table.now.of_job
+    (traps_task _ _ _ _ h.3 _ runs _ c.pass.view_is c.args.cause c.requires.shard
+    (subst (λ (p : PassView). MayTrap j.matched j.given c.args.t.now c.args.cause p.me.0) (sym c.pass.view_is)
+    (record { runs = c.requires.task.runs; traps = c.requires.task.traps })) _ _
+    (held_is _ _ _ _ h.3 _ c.pass.view_is _ _ _ c.shard_mut-held.ensures.value) e.ends e.rest e.ok e.spare)
 
 pub returns-clause-pass : goal.returns-clause-pass
 returns-clause-pass c = let h = c.requires.turn in elim c.match-trap.branch [
@@ -58,7 +66,7 @@ returns-clause-left c = elim c.match-trap.branch [
 pub returns-clause-preloaded : goal.returns-clause-preloaded
 returns-clause-preloaded c = λ pre. let h = c.requires.turn in elim c.match-trap.branch [
   | in-Ok w ↦ subst IsOk (sym w.result-is) refl
-  | in-Err w ↦ absurd (false≢true (subst IsOk w.in-Err.is (c.trap.ensures.succeeds (trap_spare _ _ _ _ h.3 _ (sym (ap (λ (m : Seated). m.0.running) h.3.me) ∙ c.requires.task.runs) c.requires.shard pre _ (held_is _ _ _ _ h.3 _ c.pass.view_is _ _ _ c.slot_mut-held.ensures.value)))))
+  | in-Err w ↦ absurd (false≢true (subst IsOk w.in-Err.is (c.trap.ensures.succeeds (trap_spare _ _ _ _ h.3 _ (sym (ap (λ (m : Seated). m.0.running) h.3.me) ∙ c.requires.task.runs) c.requires.shard pre _ (held_is _ _ _ _ h.3 _ c.pass.view_is _ _ _ c.shard_mut-held.ensures.value)))))
 ]
 
 pub returns-clause-last : goal.returns-clause-last

@@ -1,0 +1,10 @@
+use Rattle.std.proofs.Common.{arith}
+use Rattle.table_rule.proofs.SendingAt.{sends_at}
+use Rattle.table_rule.proofs.table_words.TableWords.give_send_of.Goals as goal
+
+pub store-requires : goal.store-requires
+store-requires g c =
+    let sized = c.args.self.now.sized in
+    let r = c.requires in
+    let at = c.turn_index-word.ensures in
+    (r.of, omega (arith, at, sized.0, r.within), sends_at _ _ _ _ r.event _ _ _ _ _ at r.sends)

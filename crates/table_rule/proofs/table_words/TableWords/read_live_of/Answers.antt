@@ -1,0 +1,10 @@
+use Rattle.std.proofs.Common.{arith, ap, ◌∙◌}
+use Rattle.table_rule.specs.Words.{live_word}
+use Rattle.table_rule.proofs.StepsAt.{reads_live_at}
+use Rattle.table_rule.proofs.table_words.TableWords.read_live_of.Goals as goal
+
+pub load-requires : goal.load-requires
+load-requires g c =
+    let w = c.args.self.now in
+    let at = c.live_index-word.ensures ∙ ap live_word w.counted in
+    (c.requires.of, omega (arith, at, w.sized.0, w.sized.3), reads_live_at _ _ c.requires.event _ _ _ _ at)

@@ -1,0 +1,140 @@
+//! The steps of a pass on the words that are of no shard, one method a step.
+
+ghost use Rattle.std.specs.Prelude.{◌≡◌, ◌≢◌, ◌<◌, [], ◌∷◌, length, Some, true, false};
+ghost use Rattle.work_board.specs.Word.{Halt, Live};
+ghost use Rattle.table_rule.specs.Changes.{with_credit, with_halt, with_look, with_quiet, with_stamp, without_credit};
+ghost use Rattle.table_rule.specs.Live.{own_stamps};
+ghost use Rattle.table_rule.specs.Plays.{HasName, WasPass};
+ghost use Rattle.table_rule.specs.Seats.{seat_table, seated, words_job, words_table};
+
+use crate::law::{DrawStamp, Event, LowerLive, RaiseHalt, RaiseLive, ReadHalt, ReadLive};
+use crate::pass_seat::PassSeat;
+use crate::table_words::TableWords;
+use crate::words::{halt_index, live_index, stamp_index};
+use ptg_base::TaskId;
+use std::marker::Brand;
+
+impl TableWords {
+    /// Raises the halt word.
+    pub fn raise_halt(&self, seat: &mut PassSeat)
+        requires of { seat_table seat.old ≡ words_table self.now }
+        requires late { (words_job self.now).preloaded ≡ false }
+        ensures of { seat_table seat.new ≡ seat_table seat.old }
+        ensures me { seated seat.new ≡ (with_halt (seated seat.old).0, (seated seat.old).1) }
+    {
+        let word = halt_index(self.shards);
+        self.table
+            .shared
+            .store::<RaiseHalt>(&mut seat.seat, word, 1);
+    }
+
+    // The step itself, about this event.
+    fn read_halt_of<E: Event>(&self, seat: &mut PassSeat) -> u64
+        requires event { E.job ≡ Some (words_job self.now) }
+        requires of { seat_table seat.old ≡ words_table self.now }
+        ensures of { seat_table seat.new ≡ seat_table seat.old }
+        ensures me { seated seat.new ≡ (with_look (seated seat.old).0 Halt result, (seated seat.old).1) }
+        ensures preloaded { (words_job self.now).preloaded ≡ true → result ≡ 0 }
+    {
+        let word = halt_index(self.shards);
+        self.table.shared.load::<ReadHalt<E>>(&mut seat.seat, word)
+    }
+
+    /// Reads the halt word, which is the pass's look. It is 0 in a preloaded table.
+    pub fn read_halt(&self, seat: &mut PassSeat) -> u64
+        requires of { seat_table seat.old ≡ words_table self.now }
+        ensures of { seat_table seat.new ≡ seat_table seat.old }
+        ensures me { seated seat.new ≡ (with_look (seated seat.old).0 Halt result, (seated seat.old).1) }
+        ensures preloaded { (words_job self.now).preloaded ≡ true → result ≡ 0 }
+    {
+        self.read_halt_of::<Brand>(seat)
+    }
+
+    // The step itself, about this event.
+    fn read_live_of<E: Event>(&self, seat: &mut PassSeat) -> u64
+        requires event { E.job ≡ Some (words_job self.now) }
+        requires of { seat_table seat.old ≡ words_table self.now }
+        ensures of { seat_table seat.new ≡ seat_table seat.old }
+        ensures quiet { result ≡ 0
+            → (seated seat.new ≡ (with_quiet (with_look (seated seat.old).0 Live result), (seated seat.old).1))
+            × WasPass (words_job self.now) (with_quiet (with_look (seated seat.old).0 Live result)) }
+        ensures busy { result ≢ 0
+            → seated seat.new ≡ (with_look (seated seat.old).0 Live result, (seated seat.old).1) }
+    {
+        let word = live_index(self.shards);
+        self.table.shared.load::<ReadLive<E>>(&mut seat.seat, word)
+    }
+
+    /// Reads the live word, which is the look of a pass that has no credit: 0 is quiet.
+    pub fn read_live(&self, seat: &mut PassSeat) -> u64
+        requires of { seat_table seat.old ≡ words_table self.now }
+        requires no_credit { (seated seat.old).0.credit ≡ 0 }
+        ensures of { seat_table seat.new ≡ seat_table seat.old }
+        ensures quiet { result ≡ 0
+            → (seated seat.new ≡ (with_quiet (with_look (seated seat.old).0 Live result), (seated seat.old).1))
+            × WasPass (words_job self.now) (with_quiet (with_look (seated seat.old).0 Live result)) }
+        ensures busy { result ≢ 0
+            → seated seat.new ≡ (with_look (seated seat.old).0 Live result, (seated seat.old).1) }
+    {
+        self.read_live_of::<Brand>(seat)
+    }
+
+    /// Raises the live word, which gives a credit to a pass that holds more turns than it has credits.
+    pub fn raise_live(&self, seat: &mut PassSeat)
+        requires of { seat_table seat.old ≡ words_table self.now }
+        requires room { (seated seat.old).0.credit < length (seated seat.old).0.turns }
+        requires named { HasName (seated seat.old).0 }
+        ensures of { seat_table seat.new ≡ seat_table seat.old }
+        ensures me { seated seat.new ≡ (with_credit (seated seat.old).0, (seated seat.old).1) }
+    {
+        let word = live_index(self.shards);
+        let _found = self
+            .table
+            .shared
+            .fetch_add::<RaiseLive>(&mut seat.seat, word, 1);
+    }
+
+    /// Lowers the live word by a credit of the pass.
+    pub fn lower_live(&self, seat: &mut PassSeat)
+        requires of { seat_table seat.old ≡ words_table self.now }
+        requires credit { 0 < (seated seat.old).0.credit }
+        requires named { HasName (seated seat.old).0 }
+        ensures of { seat_table seat.new ≡ seat_table seat.old }
+        ensures me { seated seat.new ≡ (without_credit (seated seat.old).0, (seated seat.old).1) }
+    {
+        let word = live_index(self.shards);
+        let _found = self
+            .table
+            .shared
+            .fetch_sub::<LowerLive>(&mut seat.seat, word, 1);
+    }
+
+    // The step itself, about this event.
+    fn draw_stamp_of<E: Event>(&self, seat: &mut PassSeat, t: &TaskId) -> u64
+        requires event { E.task ≡ t.now }
+        requires of { seat_table seat.old ≡ words_table self.now }
+        requires runs { (seated seat.old).0.running ≡ t.now ∷ [] }
+        requires none_yet { own_stamps (seated seat.old).0 t.now ≡ 0 }
+        requires named { HasName (seated seat.old).0 }
+        ensures of { seat_table seat.new ≡ seat_table seat.old }
+        ensures me { seated seat.new ≡ (with_stamp (seated seat.old).0 t.now result, (seated seat.old).1) }
+    {
+        let _task = t;
+        let word = stamp_index(self.shards);
+        self.table
+            .shared
+            .fetch_add::<DrawStamp<E>>(&mut seat.seat, word, 1)
+    }
+
+    /// Draws a stamp for the running task.
+    pub fn draw_stamp(&self, seat: &mut PassSeat, t: &TaskId) -> u64
+        requires of { seat_table seat.old ≡ words_table self.now }
+        requires runs { (seated seat.old).0.running ≡ t.now ∷ [] }
+        requires none_yet { own_stamps (seated seat.old).0 t.now ≡ 0 }
+        requires named { HasName (seated seat.old).0 }
+        ensures of { seat_table seat.new ≡ seat_table seat.old }
+        ensures me { seated seat.new ≡ (with_stamp (seated seat.old).0 t.now result, (seated seat.old).1) }
+    {
+        self.draw_stamp_of::<Brand>(seat, t)
+    }
+}
