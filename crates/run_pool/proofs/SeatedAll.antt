@@ -1,6 +1,6 @@
 -- Desk by desk, the passes on the desks and the first pass stay all passes of the table.
 use Rattle.std.proofs.Common.{◌≡◌, List, [], ◌∷◌, ◌++◌, map, ap, sym, ◌∙◌, subst, inl, inr, arith}
-use Rattle.atomic_table.specs.Seated.{TableId}
+use Rattle.table_rule.specs.Seats.{TableId}
 use Rattle.crossbeam_utils.specs.Padded.{padded_value}
 use Rattle.ptg_base.specs.Lists.{IsIn}
 use Rattle.list_lemmas.proofs.Members.{from_append}

@@ -1,6 +1,6 @@
 -- The desks of the workers of one table. Source: this project's own choice.
 use Rattle.std.specs.Prelude.{◌≡◌, ℕ, List, [], map, Option, Some, Result, Ok, Err, IsSome}
-use Rattle.atomic_table.specs.Seated.{TableId}
+use Rattle.table_rule.specs.Seats.{TableId}
 use Rattle.crossbeam_utils.specs.declared.cache_padded.CachePadded.{CachePadded}
 use Rattle.crossbeam_utils.specs.Padded.{padded_value}
 use Rattle.ptg_base.specs.Lists.{IsIn}

@@ -8,6 +8,7 @@ ghost use Rattle.work_board.specs.Records.{IsStill};
 ghost use Rattle.worker_core.specs.Claiming.{HasGot};
 
 use crate::post::Post;
+use crate::scans::Scans;
 use crossbeam_utils::Backoff;
 use dep_iter::{locals_of, task_locals};
 use dep_shard::Arrivals;
@@ -78,7 +79,7 @@ pub(crate) fn claim_id<R: Threads + Wait + Sync, B: Board, G>(
 pub(crate) fn scan<R: Threads + Wait + Sync, B: Board, G>(
     post: &Post<R, B, G>,
     pass: &mut B::Pass,
-    next: &mut u32,
+    scans: &mut Scans,
 ) -> Option<Found>
     requires pass { B.is_pass post.now.board.now pass.old }
     requires idle { (B.shown pass.old).running ≡ [] }
@@ -90,13 +91,17 @@ pub(crate) fn scan<R: Threads + Wait + Sync, B: Board, G>(
     if shards == 0 {
         return None;
     }
-    if *next >= shards {
-        *next = 0;
+    if scans.next >= shards {
+        scans.next = 0;
     }
-    match post.board.try_scan(pass, *next) {
-        Scan::Got(task, arrivals) => Some(with_locals(post, task, arrivals)),
+    match post.board.try_scan(pass, scans.next) {
+        Scan::Got(task, arrivals) => {
+            scans.missed = 0;
+            Some(with_locals(post, task, arrivals))
+        }
         Scan::Empty | Scan::Busy => {
-            *next += 1;
+            scans.next += 1;
+            scans.missed = scans.missed.saturating_add(1);
             None
         }
     }

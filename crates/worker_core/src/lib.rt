@@ -8,6 +8,7 @@ mod log;
 mod next;
 mod post;
 mod running;
+mod scans;
 mod sending;
 mod stealing;
 mod worker;

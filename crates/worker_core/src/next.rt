@@ -7,6 +7,7 @@ ghost use Rattle.worker_core.specs.Claiming.{HasGot, IsQuietAfter, SearchAnswers
 
 use crate::claiming::{Found, claim_id, scan};
 use crate::post::Post;
+use crate::scans::Scans;
 use crate::stealing::take_id;
 use crossbeam_utils::Backoff;
 use ptg_base::OutOfMemory;
@@ -42,12 +43,12 @@ fn see_quiet<R: Threads + Wait + Sync, B: Board, G>(
     Search::Nothing
 }
 
-// Looks for a task once: among the worker's own ids, then those of others, then in the next shard.
+// Looks for a task once: among the worker's own ids, then those of others, then in the next shard if a scan is due.
 fn look_once<R: Threads + Wait + Sync, B: Board, G>(
     post: &Post<R, B, G>,
     pass: &mut B::Pass,
     hands: &mut Hands,
-    next: &mut u32,
+    scans: &mut Scans,
 ) -> Search
     requires pass { B.is_pass post.now.board.now pass.old }
     requires idle { (B.shown pass.old).running ≡ [] }
@@ -62,10 +63,24 @@ fn look_once<R: Threads + Wait + Sync, B: Board, G>(
             None => Search::Nothing,
         };
     }
-    match scan(post, pass, next) {
+    if !scans.is_due(post.board.shards()) {
+        return see_quiet(post, pass);
+    }
+    match scan(post, pass, scans) {
         Some(found) => Search::Task(found),
         None => see_quiet(post, pass),
     }
+}
+
+// How often a worker pauses at most between two looks.
+const MOST_PAUSES: u32 = 64;
+
+// Pauses this often. How often to pause after the next look that finds nothing: twice as often, up to a bound.
+fn rest(backoff: &Backoff, times: u32) -> u32 {
+    for _ in 0..times {
+        backoff.snooze();
+    }
+    times.saturating_mul(2).min(MOST_PAUSES)
 }
 
 // The next task, which is claimed; none where all is quiet. Want of memory where the board is halted.
@@ -73,7 +88,7 @@ pub(crate) fn next_task<R: Threads + Wait + Sync, B: Board, G>(
     post: &Post<R, B, G>,
     pass: &mut B::Pass,
     hands: &mut Hands,
-    next: &mut u32,
+    scans: &mut Scans,
 ) -> Result<Option<Found>, OutOfMemory>
     requires pass { B.is_pass post.now.board.now pass.old }
     requires idle { (B.shown pass.old).running ≡ [] }
@@ -87,14 +102,15 @@ pub(crate) fn next_task<R: Threads + Wait + Sync, B: Board, G>(
     ensures halted { OnErr result (B.preloaded post.now.board.now ≡ false) }
 {
     let backoff = Backoff::new();
+    let mut pauses = 1;
     for _ in post.rt.forever() {
         if post.board.halted(pass) {
             return Err(OutOfMemory);
         }
-        match look_once(post, pass, hands, next) {
+        match look_once(post, pass, hands, scans) {
             Search::Task(found) => return Ok(Some(found)),
             Search::Quiet => return Ok(None),
-            Search::Nothing => backoff.snooze(),
+            Search::Nothing => pauses = rest(&backoff, pauses),
         }
     }
     unreachable!()

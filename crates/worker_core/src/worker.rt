@@ -14,6 +14,7 @@ use crate::log::{Log, NoLog};
 use crate::next::next_task;
 use crate::post::Post;
 use crate::running::run_found;
+use crate::scans::Scans;
 use ptg_base::{OutOfMemory, TaskId};
 use ready_deques::Hands;
 use std::sync::Wait;
@@ -34,7 +35,7 @@ fn claim_next<R: Threads + Wait + Sync, B: Board, G, L: Log>(
     pass: &mut B::Pass,
     hands: &mut Hands,
     log: &mut L,
-    next: &mut u32,
+    scans: &mut Scans,
 ) -> Result<Option<Found>, OutOfMemory>
     requires pass { B.is_pass post.now.board.now pass.old }
     requires idle { (B.shown pass.old).running ≡ [] }
@@ -51,7 +52,7 @@ fn claim_next<R: Threads + Wait + Sync, B: Board, G, L: Log>(
     ensures err { OnErr result (B.preloaded post.now.board.now ≡ false) }
 {
     log.make_room()?;
-    let Some(found) = next_task(post, pass, hands, next)? else {
+    let Some(found) = next_task(post, pass, hands, scans)? else {
         return Ok(None);
     };
     log.note(post.board.stamp(pass), &found.task);
@@ -80,9 +81,9 @@ fn run_all<R: Threads + Wait + Sync, B: Board, G: Gate, L: Log>(
     ensures logged { HasLogged L.keeps (B.shown pass.old) (B.shown pass.new) (L.entries log.old) (L.entries log.new) }
     ensures err { OnErr result (B.preloaded post.now.board.now ≡ false) }
 {
-    let mut next = post.worker;
+    let mut scans = Scans::new(post.worker);
     for ran in 0..u64::MAX {
-        match claim_next(post, pass, hands, log, &mut next)? {
+        match claim_next(post, pass, hands, log, &mut scans)? {
             Some(found) => run_found(post, pass, hands, bench, found)?,
             None => return Ok(Worked { ran }),
         }
