@@ -8,6 +8,7 @@ pub mod Preloads
 pub mod TableRuns
 pub mod Traced
 pub mod Certified
+pub mod Found
 pub mod Carried
 pub mod JobTexts
 pub mod Ending

@@ -11,10 +11,12 @@ use Rattle.run_pool.specs.Runs.{Run, run_of}
 use Rattle.run_pool.specs.declared.settings.Settings.{Settings}
 use Rattle.ptg_top.specs.declared.verdict.Finding.{Finding}
 use Rattle.ptg_top.specs.declared.verdict.RanBy.{RanBy}
-use Rattle.ptg_top.specs.declared.verdict.RanBy.TheVariants.{Table}
+use Rattle.ptg_top.specs.declared.verdict.RanBy.TheVariants.{Table, OneThread}
+use Rattle.ptg_top.specs.declared.verdict.Verdict.TheVariants.{Ran}
 use Rattle.ptg_top.specs.Denotation as verdicts
 use Rattle.ptg_top.specs.Denotation.{plan_of}
-use Rattle.ptg_top.specs.Tables.{IsTableAnswer}
+use Rattle.ptg_top.specs.Receipts.{HasReceiptOf}
+use Rattle.ptg_top.specs.Tables.{HasRun, IsTableAnswer}
 
 module _ (s : Settings) (P : Plan) (G : Data) where
   -- a table that was closed when it was quiet ran the job that was made ready
@@ -22,6 +24,7 @@ module _ (s : Settings) (P : Plan) (G : Data) where
       → outcome ≡ answer t.job.matched t.job.given → IsTableAnswer s P G (Table r) outcome
   closed_is_run p t r outcome run job passes receipt ended =
       let same : t.job ≡ (run_of P G s).job = job ∙ ap (λ (q : Run). q.job) run in
+      let is_answer : outcome ≡ answer P G = ended ∙ ap (λ (j : TableJob). answer j.matched j.given) same in
       record {
         plan = ap (λ (x : ReceiptView). x.plan) receipt ∙ ap (λ (j : TableJob). j.matched) same;
         settings = (
@@ -29,8 +32,18 @@ module _ (s : Settings) (P : Plan) (G : Data) where
           ap (λ (x : ReceiptView). x.passes) receipt ∙ (passes ∙ ap (λ (q : Run). q.workers) run),
           ap (λ (x : ReceiptView). x.preloaded) receipt ∙ ap (λ (j : TableJob). j.preloaded) same,
         );
-        answered = ended ∙ ap (λ (j : TableJob). answer j.matched j.given) same;
+        ran = (
+          ap (λ (x : ReceiptView). x.plan) receipt ∙ ap (λ (j : TableJob). j.matched) same,
+          ap (λ (x : ReceiptView). x.given) receipt ∙ ap (λ (j : TableJob). j.given) same,
+          ap (λ (x : ReceiptView). x.outcome) receipt ∙ is_answer,
+        );
+        answered = is_answer;
       }
+
+  -- the receipt of a verdict is the one of its table
+  pub has_receipt : (by : RanBy) (finding : Finding) → HasRun P G by → HasReceiptOf P G (Ran by finding)
+  has_receipt (Table r) finding h = h
+  has_receipt (OneThread matched) finding h = absurd h
 
   module _ (by : RanBy) (outcome : Outcome) (h : IsTableAnswer s P G by outcome) where
     -- what is found of its answer

@@ -1,26 +1,39 @@
 -- When the program ends with a receipt of the table that ran its job, and what the receipt shows. Source: this
 -- project's own choice.
-use Rattle.std.specs.Prelude.{◌≡◌, ℕ, false, List, Option, Some, None, IsSome, IsSomeAnd, MatchOption}
+use Rattle.std.specs.Prelude.{◌≡◌, ℕ, false, List, ◌++◌, Option, Some, None, IfSome, IsSome, IsSomeAnd, MatchOption}
+use Rattle.ptg_base.specs.Task.{Task}
+use Rattle.ptg_io.specs.Reads.{Gave}
 use Rattle.coll_data.specs.Data.{Data}
 use Rattle.plan_core.specs.declared.plan.Plan.{Plan}
+use Rattle.flow_meaning.specs.Answer.{answer}
+use Rattle.flow_meaning.specs.Order.{IsWholeOrder}
+use Rattle.flow_meaning.specs.declared.outcome.Outcome.{Outcome}
+use Rattle.chain_cert.specs.Certificates.{IsCertificate}
+use Rattle.chain_cert.specs.Weights.{class_weights}
+use Rattle.chain_cert.specs.declared.certificate.Certificate.{Certificate}
+use Rattle.trace_core.specs.Text.{trace_text}
 use Rattle.dep_table.specs.Receipts.{ReceiptView}
 use Rattle.ptg_words.specs.declared.order.Order.{Order}
 use Rattle.ptg_words.specs.declared.order.Order.TheVariants as order
+use Rattle.ptg_words.specs.Laws.{files_of}
 use Rattle.ptg_words.specs.Words.{Orders}
 use Rattle.job_stages.specs.declared.verdict.JobVerdict.TheVariants as jobs
 use Rattle.run_pool.specs.declared.settings.Settings.{Settings}
 use Rattle.ptg_top.specs.declared.status.Status.{Status}
 use Rattle.ptg_top.specs.declared.status.Status.TheVariants as status
+use Rattle.ptg_top.specs.declared.verdict.Finding.{Finding}
+use Rattle.ptg_top.specs.declared.verdict.Finding.TheVariants.{Answer, Trace}
 use Rattle.ptg_top.specs.declared.verdict.RanBy.TheVariants.{Table}
 use Rattle.ptg_top.specs.declared.verdict.Verdict.{Verdict}
 use Rattle.ptg_top.specs.declared.verdict.Verdict.TheVariants.{Ran}
 use Rattle.ptg_top.specs.Denotation as verdicts
 use Rattle.ptg_top.specs.Denotation.{denoted}
-use Rattle.ptg_top.specs.Demo.{MadeTextsDenote}
-use Rattle.ptg_top.specs.Operands.{Operands}
+use Rattle.ptg_top.specs.Certify.{certified}
+use Rattle.ptg_top.specs.Demo.{MadeTextsDenote, summed}
+use Rattle.ptg_top.specs.Operands.{AreOf, Load, Operands, Read, in_loads}
 use Rattle.ptg_top.specs.JobFiles.{FilesDenote}
-use Rattle.ptg_top.specs.Headline.{status_of}
-use Rattle.ptg_top.specs.Tables.{RanWith, ShowsSettings, usual_settings}
+use Rattle.ptg_top.specs.Headline.{status_of, text_of}
+use Rattle.ptg_top.specs.Tables.{IsReceiptOf, RanWith, ShowsSettings, usual_settings}
 
 -- the settings of the table on which a command runs its job: those that it says, or the usual ones where it has no
 -- options for them; none where it runs no job on a table
@@ -48,24 +61,49 @@ IsAnswerStatus status.Trapped = Unit {0}
 IsAnswerStatus status.Stalled = Unit {0}
 IsAnswerStatus s = ⊥
 
--- the operands of these names denote a consistent job with this plan
-abbrev pub FilesHavePlan : Operands → List ℕ → List ℕ → Plan → Type 0
-FilesHavePlan operands jdf data_name P =
-    (given : Data) × FilesDenote operands jdf data_name (verdicts.Job (jobs.Consistent P given))
+-- the operands of these names denote this consistent job
+abbrev pub FilesHaveJob : Operands → List ℕ → List ℕ → Plan → Data → Type 0
+FilesHaveJob operands jdf data_name P given =
+    FilesDenote operands jdf data_name (verdicts.Job (jobs.Consistent P given))
 
--- the operands of the command, or the texts that it makes, denote a consistent job with this plan
-abbrev pub FindsPlan : Operands → Order → Plan → Type 0
-FindsPlan operands (order.Run jdf data_name workers shards preload) P = FilesHavePlan operands jdf data_name P
-FindsPlan operands (order.Demo rows) P = (given : Data) × MadeTextsDenote rows (verdicts.Job (jobs.Consistent P given))
-FindsPlan operands (order.Trace jdf data_name workers shards) P = FilesHavePlan operands jdf data_name P
-FindsPlan operands (order.Replay jdf data_name trace) P = FilesHavePlan operands jdf data_name P
-FindsPlan operands (order.Certify jdf data_name) P = FilesHavePlan operands jdf data_name P
-FindsPlan operands (order.Ranks jdf data_name ranks seed) P = FilesHavePlan operands jdf data_name P
-FindsPlan operands o P = ⊥
+-- the operands of the command, or the texts that it makes, denote this consistent job
+abbrev pub FindsJob : Operands → Order → Plan → Data → Type 0
+FindsJob operands (order.Run jdf data_name workers shards preload) P given = FilesHaveJob operands jdf data_name P given
+FindsJob operands (order.Demo rows) P given = MadeTextsDenote rows (verdicts.Job (jobs.Consistent P given))
+FindsJob operands (order.Trace jdf data_name workers shards) P given = FilesHaveJob operands jdf data_name P given
+FindsJob operands (order.Replay jdf data_name trace) P given = FilesHaveJob operands jdf data_name P given
+FindsJob operands (order.Certify jdf data_name) P given = FilesHaveJob operands jdf data_name P given
+FindsJob operands (order.Ranks jdf data_name ranks seed) P given = FilesHaveJob operands jdf data_name P given
+FindsJob operands o P given = ⊥
 
--- the arguments form a command, and its job is consistent and has this plan
-abbrev pub HasConsistentPlan : List (List ℕ) → Operands → Plan → Type 0
-HasConsistentPlan words operands P = (o : Order) × Orders words o × FindsPlan operands o P
+-- the arguments form a command, and this is its consistent job
+abbrev pub HasConsistentJob : List (List ℕ) → Operands → Plan → Data → Type 0
+HasConsistentJob words operands P given = (o : Order) × Orders words o × FindsJob operands o P given
+
+-- What a command finds of a job that a table ran with this outcome: `run` the outcome itself, `demo` its summary,
+-- `certify` the certificate of the job with the numbers in the outcome, and `trace` the text of a whole order of the
+-- tasks that run, which has no outcome in it.
+abbrev pub IsFoundOf : Order → Plan → Data → Outcome → Finding → Type 0
+IsFoundOf (order.Run jdf data_name workers shards preload) P given outcome finding = finding ≡ Answer outcome
+IsFoundOf (order.Demo rows) P given outcome finding = finding ≡ summed rows outcome
+IsFoundOf (order.Trace jdf data_name workers shards) P given outcome finding =
+    (tasks : List Task) × IsWholeOrder P given tasks × (finding ≡ Trace (trace_text P tasks))
+IsFoundOf (order.Certify jdf data_name) P given outcome finding =
+    (c : Certificate) × IsCertificate P given (class_weights P given) c
+    × (finding ≡ certified (class_weights P given) outcome c)
+IsFoundOf o P given outcome finding = ⊥
+
+-- The outcome in the receipt is the answer of the receipt's job. The sink grew by exactly the text of what the command
+-- finds of that outcome, and this is its status.
+pub record PrintsReceipt (words : List (List ℕ)) (r : ReceiptView) (before after : List ℕ) (status : Status)
+    : Type 0 where
+  pub answered : r.outcome ≡ answer r.plan r.given
+  pub command : Order
+  pub formed : Orders words command
+  pub finding : Finding
+  pub found : IsFoundOf command r.plan r.given r.outcome finding
+  pub text : after ≡ before ++ text_of (verdicts.Ran r.plan finding)
+  pub ends : status ≡ status_of (verdicts.Ran r.plan finding)
 
 -- ---- of verdicts
 
@@ -89,3 +127,27 @@ IsVerdictForCommand command v =
 -- the same holds of each command that the arguments form
 abbrev pub IsVerdictForWords : List (List ℕ) → Verdict → Type 0
 IsVerdictForWords words v = (command : Order) → Orders words command → IsVerdictForCommand command v
+
+-- the receipt of the verdict, if it has one, is of this job
+abbrev pub HasReceiptOf : Plan → Data → Verdict → Type 0
+HasReceiptOf P given v = IfSome (receipt_of v) (IsReceiptOf P given)
+
+-- the receipt shows the job that the operands of the command denote and its answer, and this is found of it
+pub record IsFoundBy (operands : Operands) (command : Order) (r : ReceiptView) (finding : Finding)
+    : Type 0 where
+  pub job : FindsJob operands command r.plan r.given
+  pub answered : r.outcome ≡ answer r.plan r.given
+  pub found : IsFoundOf command r.plan r.given r.outcome finding
+
+-- A verdict with a receipt is what is found by it, and the operands of the command hold what was loaded.
+abbrev pub IsByReceipt : List Read → List Read → Order → Verdict → Type 0
+IsByReceipt old new command (Ran (Table r) finding) =
+    (loads : List Load) × AreOf loads (files_of command) × Gave old new loads
+    × IsFoundBy (in_loads loads) command r finding
+IsByReceipt old new command v = Unit {0}
+
+-- the same holds of a command that the arguments form
+abbrev pub IsByReceiptForWords : List (List ℕ) → List Read → List Read → Verdict → Type 0
+IsByReceiptForWords words old new (Ran (Table r) finding) =
+    (command : Order) × Orders words command × IsByReceipt old new command (Ran (Table r) finding)
+IsByReceiptForWords words old new v = Unit {0}

@@ -25,8 +25,18 @@ abbrev pub RanWith : Settings → RanBy → Type 0
 RanWith s (Table r) = ShowsSettings s r
 RanWith s (OneThread matched) = ⊥
 
+-- the receipt is of this job: it shows the job's plan, its data, and as the outcome its answer
+abbrev pub IsReceiptOf : Plan → Data → ReceiptView → Type 0
+IsReceiptOf P given r = (r.plan ≡ P) × (r.given ≡ given) × (r.outcome ≡ answer P given)
+
+-- a table ran this job
+abbrev pub HasRun : Plan → Data → RanBy → Type 0
+HasRun P given (Table r) = IsReceiptOf P given r
+HasRun P given (OneThread matched) = ⊥
+
 -- a table with these settings ran the job of this plan on these data, and this is its answer
 pub record IsTableAnswer (s : Settings) (P : Plan) (given : Data) (by : RanBy) (outcome : Outcome) : Type 0 where
   pub plan : plan_of by ≡ P
   pub settings : RanWith s by
+  pub ran : HasRun P given by
   pub answered : outcome ≡ answer P given

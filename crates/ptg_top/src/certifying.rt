@@ -16,7 +16,7 @@ ghost use Rattle.ptg_words.specs.declared.order.Order.TheVariants as commands;
 ghost use Rattle.ptg_top.specs.Certify.{IsCertified, certified};
 ghost use Rattle.ptg_top.specs.Denotation.{denoted, plan_of};
 ghost use Rattle.ptg_top.specs.Reports.{IsVerdictOnCommand};
-ghost use Rattle.ptg_top.specs.Receipts.{IsVerdictOfTable};
+ghost use Rattle.ptg_top.specs.Receipts.{HasReceiptOf, IsByReceipt, IsVerdictOfTable};
 ghost use Rattle.ptg_top.specs.Tables.{usual_settings};
 
 use crate::checking::check;
@@ -53,6 +53,9 @@ pub fn certify<R: Threads + Wait + Sync, F: Files, G: Gate>(
         IsVerdictOnCommand (F.reads files.old) (F.reads files.new) (F.faults files.old) (F.faults files.new)
         (commands.Certify jdf.now data_name.now) (denoted v)) }
     ensures ran { IfOk result (λ v. IsVerdictOfTable usual_settings v) }
+    ensures by_receipt { IfOk result (λ v.
+        IsByReceipt (F.reads files.old) (F.reads files.new)
+        (commands.Certify jdf.now data_name.now) v) }
 {
     let checked = check(host.alloc, jdf, data_name, files)?;
     match consistent_job(checked) {
@@ -70,6 +73,7 @@ fn certificate_found<R: Threads + Wait + Sync, G: Gate>(
     requires { DataFit matched given }
     ensures certified { IfOk result (λ v. IsCertified matched given (denoted v)) }
     ensures ran { IfOk result (λ v. IsVerdictOfTable usual_settings v) }
+    ensures receipt { IfOk result (λ v. HasReceiptOf matched given v) }
 {
     let weights = weights(host.alloc, matched.plan(), &given)?;
     let (by, outcome) = run_as_usual(host, matched, given)?;

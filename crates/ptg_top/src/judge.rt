@@ -7,7 +7,7 @@ ghost use Rattle.ptg_io.specs.Reads.{AddsPieces};
 ghost use Rattle.ptg_words.specs.Laws.{HasNumbersInRange, files_of};
 ghost use Rattle.ptg_top.specs.Denotation.{denoted};
 ghost use Rattle.ptg_top.specs.Reports.{IsVerdictOnCommand, IsVerdictOnWords};
-ghost use Rattle.ptg_top.specs.Receipts.{IsVerdictForCommand, IsVerdictForWords};
+ghost use Rattle.ptg_top.specs.Receipts.{IsByReceipt, IsByReceiptForWords, IsVerdictForCommand, IsVerdictForWords};
 
 use crate::certifying::certify;
 use crate::checking::check;
@@ -40,6 +40,8 @@ pub fn judge<R: Threads + Wait + Sync, F: Files, G: Gate>(
         IsVerdictOnWords list.now (F.reads files.old) (F.reads files.new) (F.faults files.old) (F.faults files.new)
         (denoted v)) }
     ensures ran { IfOk result (λ v. IsVerdictForWords list.now v) }
+    ensures by_receipt { IfOk result (λ v.
+        IsByReceiptForWords list.now (F.reads files.old) (F.reads files.new) v) }
 {
     files_are_text();
     commands_have_numbers_in_range();
@@ -65,6 +67,7 @@ fn carry_out<R: Threads + Wait + Sync, F: Files, G: Gate>(
         IsVerdictOnCommand (F.reads files.old) (F.reads files.new) (F.faults files.old) (F.faults files.new)
         order.now (denoted v)) }
     ensures ran { IfOk result (λ v. IsVerdictForCommand order.now v) }
+    ensures by_receipt { IfOk result (λ v. IsByReceipt (F.reads files.old) (F.reads files.new) order.now v) }
 {
     match order {
         Order::Run(jdf, data_name, workers, shards, preload) => {

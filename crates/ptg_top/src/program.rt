@@ -8,7 +8,7 @@ ghost use Rattle.ptg_top.specs.Operands.{Load, in_loads};
 ghost use Rattle.ptg_top.specs.Meaning.{IsNoCommand};
 ghost use Rattle.ptg_top.specs.Reports.{HasLoaded, IsUnread, NoneFailed};
 ghost use Rattle.ptg_top.specs.Headline.{IsCut, IsExact, PrintsLoaded};
-ghost use Rattle.ptg_top.specs.Receipts.{HasConsistentPlan, IsAnswerStatus, IsReceiptFor, RunsOnTable};
+ghost use Rattle.ptg_top.specs.Receipts.{HasConsistentJob, IsAnswerStatus, IsReceiptFor, PrintsReceipt, RunsOnTable};
 ghost use Rattle.ptg_words.specs.declared.order.Order.{Order};
 ghost use Rattle.ptg_words.specs.Words.{Orders};
 
@@ -94,10 +94,14 @@ pub fn ptg_main<R: Threads + Wait + Sync, F: Files, O: Sink, G: Gate>(
         (o : Order) × Orders words.now o × IsReceiptFor o r × IsAnswerStatus result.status) }
     ensures no_receipt { IfNone result.receipt
         ((o : Order) → Orders words.now o → RunsOnTable o → IsAnswerStatus result.status → ⊥) }
-    // The table had the job that the loads denote.
+    // The table ran the job that the loads denote, with its data.
     ensures of_job { IfSome result.receipt (λ r. (loads : List Load) ×
         HasLoaded words.now (F.reads files.old) (F.reads files.new) loads ×
-        HasConsistentPlan words.now (in_loads loads) r.plan) }
+        HasConsistentJob words.now (in_loads loads) r.plan r.given) }
+    // The outcome that was read from the table is that job's answer, and what was printed, with its status, is exactly
+    // what the command finds of this outcome.
+    ensures answer { IfSome result.receipt (λ r.
+        PrintsReceipt words.now r (O.bytes out.old) (O.bytes out.new) result.status) }
 {
     let host = Host { rt, alloc, gate };
     match judge(&host, words, files) {

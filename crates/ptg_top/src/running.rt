@@ -9,7 +9,7 @@ ghost use Rattle.ptg_words.specs.declared.order.Order.TheVariants as commands;
 ghost use Rattle.ptg_top.specs.Denotation.{denoted};
 ghost use Rattle.ptg_top.specs.Answering.{IsAnswer};
 ghost use Rattle.ptg_top.specs.Reports.{IsVerdictOnCommand};
-ghost use Rattle.ptg_top.specs.Receipts.{IsVerdictOfTable};
+ghost use Rattle.ptg_top.specs.Receipts.{HasReceiptOf, IsByReceipt, IsVerdictOfTable};
 
 use crate::checking::check;
 use crate::consistent::consistent_job;
@@ -44,6 +44,9 @@ pub fn run<R: Threads + Wait + Sync, F: Files, G: Gate>(
         IsVerdictOnCommand (F.reads files.old) (F.reads files.new) (F.faults files.old) (F.faults files.new)
         (commands.Run jdf.now data_name.now settings.workers settings.shards settings.preload) (denoted v)) }
     ensures ran { IfOk result (λ v. IsVerdictOfTable settings v) }
+    ensures by_receipt { IfOk result (λ v.
+        IsByReceipt (F.reads files.old) (F.reads files.new)
+        (commands.Run jdf.now data_name.now settings.workers settings.shards settings.preload) v) }
 {
     let checked = check(host.alloc, jdf, data_name, files)?;
     match consistent_job(checked) {
@@ -63,6 +66,7 @@ fn answered<R: Threads + Wait + Sync, G: Gate>(
     requires counts { AreRunCounts settings.workers settings.shards }
     ensures answer { IfOk result (λ v. IsAnswer settings matched given (denoted v)) }
     ensures ran { IfOk result (λ v. IsVerdictOfTable settings v) }
+    ensures receipt { IfOk result (λ v. HasReceiptOf matched given v) }
 {
     match prepare(host.alloc, matched, given, settings) {
         Ok(prepared) => {

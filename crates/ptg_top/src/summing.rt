@@ -1,12 +1,14 @@
 //! The run of the made job, and its summary.
 
-ghost use Rattle.std.specs.Prelude.{◌≡◌, ◌≤◌, IfOk};
+ghost use Rattle.std.specs.Prelude.{◌≡◌, ◌≤◌, List, IfOk};
 ghost use Rattle.ptg_base.specs.Limits.{most_rows};
 ghost use Rattle.plan_data.specs.Fit.{DataFit};
+ghost use Rattle.ptg_words.specs.declared.order.Order.TheVariants as commands;
 ghost use Rattle.ptg_top.specs.Denotation.{denoted};
 ghost use Rattle.ptg_top.specs.Demo.{DemoDenotes, IsSummary, MadeTextsDenote, summed};
 ghost use Rattle.ptg_top.specs.JobFiles.{IsChecked};
-ghost use Rattle.ptg_top.specs.Receipts.{IsVerdictOfTable};
+ghost use Rattle.ptg_top.specs.Operands.{Read};
+ghost use Rattle.ptg_top.specs.Receipts.{HasReceiptOf, IsByReceipt, IsVerdictOfTable};
 ghost use Rattle.ptg_top.specs.Tables.{usual_settings};
 
 use crate::consistent::consistent_job;
@@ -34,6 +36,8 @@ pub fn demo<R: Threads + Wait + Sync, G: Gate>(
     requires { (1 ≤ rows) × (rows ≤ most_rows) }
     ensures denotes { IfOk result (λ v. DemoDenotes rows (denoted v)) }
     ensures ran { IfOk result (λ v. IsVerdictOfTable usual_settings v) }
+    ensures by_receipt { (reads : List Read)
+        → IfOk result (λ v. IsByReceipt reads reads (commands.Demo rows) v) }
 {
     let checked = check_made(host.alloc, rows)?;
     match consistent_job(checked) {
@@ -63,6 +67,7 @@ fn summary_of<R: Threads + Wait + Sync, G: Gate>(
     requires { DataFit matched given }
     ensures summary { IfOk result (λ v. IsSummary rows matched given (denoted v)) }
     ensures ran { IfOk result (λ v. IsVerdictOfTable usual_settings v) }
+    ensures receipt { IfOk result (λ v. HasReceiptOf matched given v) }
 {
     let (by, outcome) = run_as_usual(host, matched, given)?;
     Ok(Verdict::Ran(by, summed(rows, outcome)))

@@ -12,7 +12,7 @@ ghost use Rattle.run_pool.specs.declared.settings.Settings.{Settings as Settings
 ghost use Rattle.ptg_words.specs.declared.order.Order.TheVariants as commands;
 ghost use Rattle.ptg_top.specs.Denotation.{denoted};
 ghost use Rattle.ptg_top.specs.Reports.{IsVerdictOnCommand};
-ghost use Rattle.ptg_top.specs.Receipts.{IsVerdictOfTable};
+ghost use Rattle.ptg_top.specs.Receipts.{HasReceiptOf, IsByReceipt, IsVerdictOfTable};
 ghost use Rattle.ptg_top.specs.Trace.{IsTraced};
 
 use crate::checking::check;
@@ -49,6 +49,9 @@ pub fn trace<R: Threads + Wait + Sync, F: Files, G: Gate>(
         IsVerdictOnCommand (F.reads files.old) (F.reads files.new) (F.faults files.old) (F.faults files.new)
         (commands.Trace jdf.now data_name.now settings.workers settings.shards) (denoted v)) }
     ensures ran { IfOk result (λ v. IsVerdictOfTable settings v) }
+    ensures by_receipt { IfOk result (λ v.
+        IsByReceipt (F.reads files.old) (F.reads files.new)
+        (commands.Trace jdf.now data_name.now settings.workers settings.shards) v) }
 {
     let checked = check(host.alloc, jdf, data_name, files)?;
     match consistent_job(checked) {
@@ -69,6 +72,7 @@ fn traced<R: Threads + Wait + Sync, G: Gate>(
     requires no_preload { settings.preload ≡ false }
     ensures trace { IfOk result (λ v. IsTraced matched given (denoted v)) }
     ensures ran { IfOk result (λ v. IsVerdictOfTable settings v) }
+    ensures receipt { IfOk result (λ v. HasReceiptOf matched given v) }
 {
     let prepared = lay_out(host.alloc, matched, given, settings)?;
     trace_of(host, prepared)
@@ -84,6 +88,8 @@ fn trace_of<R: Threads + Wait + Sync, G: Gate>(
         → IfOk result (λ v. IsTraced P given (denoted v)) }
     ensures ran { (P : Plan) (given : Data) (settings : SettingsValue) → prepared ≡ run_of P given settings
         → IfOk result (λ v. IsVerdictOfTable settings v) }
+    ensures receipt { (P : Plan) (given : Data) (settings : SettingsValue) → prepared ≡ run_of P given settings
+        → IfOk result (λ v. HasReceiptOf P given v) }
 {
     let (tasks, closed) = run_traced(host.alloc, host.rt, prepared, host.gate)?;
     let (_outcome, receipt) = closed.outcome()?;

@@ -32,7 +32,7 @@ use Rattle.ptg_top.specs.Meaning.{AreFirstOperands, CommandDenotes, Denotes}
 use Rattle.ptg_top.specs.Demo.{DemoDenotes, IsSummary}
 use Rattle.ptg_top.specs.Reports.{EndsAfter, FailedAfter, IsOfTexts, IsVerdictOnWords}
 use Rattle.ptg_top.specs.Headline.{IsExact, status_of}
-use Rattle.ptg_top.specs.Receipts.{FindsPlan}
+use Rattle.ptg_top.specs.Receipts.{FilesHaveJob, FindsJob}
 use Rattle.top_laws.specs.Known.{CompleteOverFiles, CutOverFiles, ExactOverFiles, IsDue, IsFileOf, IsUnreadOf, JobOverFiles, MayBeUnread, MayBeUnreadFor, TreeAt, UnreadOverFiles}
 use Rattle.top_laws.proofs.Loaded.{loads_are_files, loads_before}
 use Rattle.top_laws.proofs.Texts.{Agree, WasRead, contents_known, replayed_known, shows_known}
@@ -116,32 +116,35 @@ pub complete_over_files : CompleteOverFiles
 complete_over_files words files old new before after status pieces (inl (exact, h)) = inl (exact_over_files words files old new before after status pieces exact h)
 complete_over_files words files old new before after status pieces (inr none) = inr none
 
--- ---- the plan of a job
+-- ---- the job of a receipt
 
 job_is_read : (P : Plan) (given : Data) → WasRead (verdicts.Job (jobs.Consistent P given))
 job_is_read P given name e = absurd cc
 
-module _ (files : NamedFiles) (loads : List Load) (all : AllByRecursion (IsFileOf files) loads) (P : Plan) where
-  files_have_plan : (jdf data_name : List ℕ) (rest : List (List ℕ)) → AreOf loads (jdf ∷ data_name ∷ rest) → (given : Data) × FilesDenote (in_loads loads) jdf data_name (verdicts.Job (jobs.Consistent P given))
-      → (given : Data) × FilesDenote (in_files files) jdf data_name (verdicts.Job (jobs.Consistent P given))
-  files_have_plan jdf data_name rest names (given, h) =
-      (given, files_known files loads all jdf data_name rest names (verdicts.Job (jobs.Consistent P given)) (job_is_read P given) h)
+module _ (files : NamedFiles) (loads : List Load) (all : AllByRecursion (IsFileOf files) loads) (P : Plan) (given : Data) where
+  files_have_job : (jdf data_name : List ℕ) (rest : List (List ℕ)) → AreOf loads (jdf ∷ data_name ∷ rest)
+      → FilesHaveJob (in_loads loads) jdf data_name P given → FilesHaveJob (in_files files) jdf data_name P given
+  files_have_job jdf data_name rest names h =
+      files_known files loads all jdf data_name rest names (verdicts.Job (jobs.Consistent P given)) (job_is_read P given) h
 
-  plan_known : (command : Order) → AreOf loads (files_of command) → FindsPlan (in_loads loads) command P → FindsPlan (in_files files) command P
-  plan_known (Run jdf data_name workers shards preload) names h = files_have_plan jdf data_name [] names h
-  plan_known (Show jdf) names h = absurd h
-  plan_known (Check jdf data_name) names h = absurd h
-  plan_known (Demo rows) names h = h
-  plan_known (Trace jdf data_name workers shards) names h = files_have_plan jdf data_name [] names h
-  plan_known (Replay jdf data_name trace) names h = files_have_plan jdf data_name (trace ∷ []) names h
-  plan_known (Certify jdf data_name) names h = files_have_plan jdf data_name [] names h
-  plan_known (Ranks jdf data_name ranks seed) names h = files_have_plan jdf data_name [] names h
+  job_known : (command : Order) → AreOf loads (files_of command) → FindsJob (in_loads loads) command P given
+      → FindsJob (in_files files) command P given
+  job_known (Run jdf data_name workers shards preload) names h = files_have_job jdf data_name [] names h
+  job_known (Show jdf) names h = absurd h
+  job_known (Check jdf data_name) names h = absurd h
+  job_known (Demo rows) names h = h
+  job_known (Trace jdf data_name workers shards) names h = files_have_job jdf data_name [] names h
+  job_known (Replay jdf data_name trace) names h = files_have_job jdf data_name (trace ∷ []) names h
+  job_known (Certify jdf data_name) names h = files_have_job jdf data_name [] names h
+  job_known (Ranks jdf data_name ranks seed) names h = files_have_job jdf data_name [] names h
 
 pub job_over_files : JobOverFiles
-job_over_files words files old new loads P pieces (inl (none, e), gave) (command, formed, h) = absurd (none command formed)
-job_over_files words files old new loads P pieces (inr (other, also, names), gave) (command, formed, h) =
-    let here : AreOf loads (files_of command) = subst (λ (c : Order). AreOf loads (files_of c)) (one_command words other command also formed) names in
-    (command, formed, plan_known files loads (loads_are_files files old new loads pieces gave) P command here h)
+job_over_files words files old new loads P given pieces (inl (none, e), gave) (command, formed, h) =
+    absurd (none command formed)
+job_over_files words files old new loads P given pieces (inr (other, also, names), gave) (command, formed, h) =
+    let here : AreOf loads (files_of command) =
+    subst (λ (c : Order). AreOf loads (files_of c)) (one_command words other command also formed) names in
+    (command, formed, job_known files loads (loads_are_files files old new loads pieces gave) P given command here h)
 
 -- ---- the name of a file that could not be read
 

@@ -24,7 +24,7 @@ use Rattle.ptg_top.specs.JobFiles.{FilesDenote}
 use Rattle.ptg_top.specs.Meaning.{CommandDenotes, IsNoCommand}
 use Rattle.ptg_top.specs.Reports.{HasLoaded, IsOfTexts, IsUnread}
 use Rattle.ptg_top.specs.Headline.{IsCut, IsExact, Prints, PrintsLoaded, text_of}
-use Rattle.ptg_top.specs.Receipts.{HasConsistentPlan}
+use Rattle.ptg_top.specs.Receipts.{HasConsistentJob}
 
 -- the text is this one, or both have more than 16 MiB
 abbrev pub IsSameOrLong : List ℕ → List ℕ → Type 0
@@ -116,12 +116,12 @@ CutOverFiles =
     → AddsPieces contents old new → IsCut words old new failed failed_since before after
     → (v : Denotation) × IsDue words contents failed failed_since v × HasPrefix before after (text_of v)
 
--- `of_job` over known files: the files denote the consistent job with this plan
+-- `of_job` over known files: the files denote this consistent job
 abbrev pub JobOverFiles : Type 0
 JobOverFiles =
-    (words : List (List ℕ)) (files : NamedFiles) (old new : List Read) (loads : List Load) (P : Plan)
-    → AddsPieces (Some files) old new → HasLoaded words old new loads → HasConsistentPlan words (in_loads loads) P
-    → HasConsistentPlan words (in_files files) P
+    (words : List (List ℕ)) (files : NamedFiles) (old new : List Read) (loads : List Load) (P : Plan) (given : Data)
+    → AddsPieces (Some files) old new → HasLoaded words old new loads
+    → HasConsistentJob words (in_loads loads) P given → HasConsistentJob words (in_files files) P given
 
 -- what was read determines the loads
 abbrev pub OneLoading : Type 0

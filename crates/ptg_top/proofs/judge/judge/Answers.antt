@@ -1,4 +1,5 @@
 use Rattle.ptg_top.proofs.Carried.{command_ends, command_runs}
+use Rattle.ptg_top.proofs.Found.{command_by_receipt}
 use Rattle.ptg_top.proofs.judge.judge.Goals as goal
 
 -- the names in the command are UTF-8
@@ -18,3 +19,9 @@ returns-in-Ok-clause-judged g c =
 -- and so is the verdict for it
 pub returns-in-Ok-clause-ran : goal.returns-in-Ok-clause-ran
 returns-in-Ok-clause-ran g c = command_runs c.args.list.now c.in-Ok.order c.carry_out.result c.in-Ok.ensures.found c.carry_out.ensures.ran
+
+-- and it is found by its receipt
+pub returns-in-Ok-clause-by_receipt : goal.returns-in-Ok-clause-by_receipt
+returns-in-Ok-clause-by_receipt g c =
+    command_by_receipt c.args.list.now (g.F.Files.reads c.args.files.now) (g.F.Files.reads c.carry_out.new.files)
+    c.in-Ok.order c.in-Ok.ensures.found c.carry_out.result c.carry_out.ensures.by_receipt

@@ -2,7 +2,7 @@ use Rattle.std.proofs.Common.{ap, sym, subst, ◌∙◌, ◌++◌, inl}
 use Rattle.ptg_top.specs.Denotation.{denoted}
 use Rattle.ptg_top.specs.Headline.{IsExact}
 use Rattle.ptg_top.proofs.Ending.{exact_prints, complete_prints, none_failed, usage_is_its_line, usage_is_no_command, no_command_is_usage, read_fault_names, no_write_fault}
-use Rattle.ptg_top.proofs.Receipts.{receipt_is_asked, no_receipt_no_answer, receipt_has_plan}
+use Rattle.ptg_top.proofs.Receipts.{receipt_is_asked, no_receipt_no_answer, receipt_is_of_job, receipt_is_printed}
 use Rattle.ptg_top.proofs.program.ptg_main.Goals as goal
 
 -- a verdict that was printed whole is exact where its status is no fault's
@@ -75,8 +75,16 @@ pub returns-in-Ok-print_verdict-clause-no_receipt : goal.returns-in-Ok-print_ver
 returns-in-Ok-print_verdict-clause-no_receipt g c =
     no_receipt_no_answer c.args.words.now c.status.result c.in-Ok.verdict c.receipt.result c.in-Ok.ensures.ran c.status.ensures c.receipt.ensures
 
--- its plan is that of the job that the loads denote
+-- it is of the job that the loads denote
 pub returns-in-Ok-print_verdict-clause-of_job : goal.returns-in-Ok-print_verdict-clause-of_job
 returns-in-Ok-print_verdict-clause-of_job g c =
-    receipt_has_plan c.args.words.now (g.F.Files.reads c.args.files.now) (g.F.Files.reads c.judge.new.files) (g.F.Files.faults c.args.files.now) (g.F.Files.faults c.judge.new.files)
-    c.in-Ok.verdict c.receipt.result c.in-Ok.ensures.judged c.receipt.ensures
+    receipt_is_of_job c.args.words.now (g.F.Files.reads c.args.files.now) (g.F.Files.reads c.judge.new.files)
+    c.in-Ok.verdict c.receipt.result c.in-Ok.ensures.by_receipt c.receipt.ensures
+
+-- and its outcome is the answer that was printed
+pub returns-in-Ok-print_verdict-clause-answer : goal.returns-in-Ok-print_verdict-clause-answer
+returns-in-Ok-print_verdict-clause-answer g c =
+    receipt_is_printed c.args.words.now (g.F.Files.reads c.args.files.now) (g.F.Files.reads c.judge.new.files)
+    c.in-Ok.verdict c.receipt.result c.in-Ok.ensures.by_receipt c.receipt.ensures
+    (g.O.Sink.bytes c.args.out.now) (g.O.Sink.bytes c.print_verdict.new.out) c.status.result
+    c.in-Ok-print_verdict.ensures.ok c.status.ensures

@@ -1,7 +1,7 @@
 use Rattle.std.proofs.Common.{Err, ap, refl}
 use Rattle.ptg_top.specs.declared.verdict.Finding.TheVariants.{Answer}
 use Rattle.ptg_top.proofs.Preloads.{fitting_is_answer, refused_is_answer}
-use Rattle.ptg_top.proofs.TableRuns.{found_of_run}
+use Rattle.ptg_top.proofs.TableRuns.{found_of_run, has_receipt}
 use Rattle.ptg_top.proofs.running.answered.Goals as goal
 
 -- the answer of the table, whose preload was not refused
@@ -19,3 +19,9 @@ pub returns-in-Err-PreloadTooLarge-clause-answer : goal.returns-in-Err-PreloadTo
 returns-in-Err-PreloadTooLarge-clause-answer g c =
     refused_is_answer c.args.matched c.args.settings c.args.given c.in-Err-PreloadTooLarge._bytes
     ((c.in-Err-PreloadTooLarge.ensures.too_large c.in-Err-PreloadTooLarge._bytes).0 (ap Err c.in-Err-PreloadTooLarge.field-0-is))
+
+-- its receipt is of the job
+pub returns-in_ok-by-in-Ok-clause-receipt : goal.returns-in_ok-by-in-Ok-clause-receipt
+returns-in_ok-by-in-Ok-clause-receipt g c =
+    let ran = c.in_ok-by-in-Ok.ensures.ran c.args.matched c.args.given c.args.settings c.in-Ok.ensures.run in
+    has_receipt c.args.settings c.args.matched c.args.given c.in_ok-by-in-Ok.by (Answer c.in_ok-by-in-Ok.outcome) ran.ran

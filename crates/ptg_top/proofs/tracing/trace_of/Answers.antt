@@ -22,3 +22,9 @@ pub returns-clause-ran : goal.returns-clause-ran
 returns-clause-ran g c P given settings run =
     (closed_is_run settings P given c.args.prepared c.in_ok-tasks.closed c.in_ok-_outcome.receipt c.in_ok-_outcome._outcome run
     c.in_ok-tasks.ensures.job c.in_ok-tasks.ensures.passes c.in_ok-_outcome.ensures.receipt c.in_ok-_outcome.ensures.answer).settings
+
+pub returns-clause-receipt : goal.returns-clause-receipt
+returns-clause-receipt g c P given settings run =
+    (closed_is_run settings P given c.args.prepared c.in_ok-tasks.closed c.in_ok-_outcome.receipt
+    c.in_ok-_outcome._outcome run c.in_ok-tasks.ensures.job c.in_ok-tasks.ensures.passes
+    c.in_ok-_outcome.ensures.receipt c.in_ok-_outcome.ensures.answer).ran
