@@ -32,6 +32,8 @@ impl Meeting {
     pub fn end(&self) -> &'static str {
         if self.gave_up.load(Ordering::SeqCst) {
             "gave up"
+        } else if self.come.load(Ordering::SeqCst) < 2 {
+            "was not asked twice"
         } else {
             "opened"
         }

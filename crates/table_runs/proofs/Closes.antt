@@ -1,6 +1,6 @@
 -- The passes that a table is closed with are all its passes.
 use Rattle.std.proofs.Common.{◌≡◌, List, [], ◌∷◌, ◌++◌, length, map, ap, sym, ◌∙◌, subst, refl, inl, inr}
-use Rattle.atomic_table.specs.Seated.{TableId}
+use Rattle.table_rule.specs.Seats.{TableId}
 use Rattle.work_board.specs.declared.record.PassRecord.{PassRecord}
 use Rattle.table_rule.specs.Changes.{after_split, first_pass, split_off}
 use Rattle.table_rule.specs.Names.{AreAll}

@@ -3,25 +3,20 @@ use denote.Param.Send.{IsSync, sendable, struct_sync}
 use denote.Struct.Struct.{Struct}
 use denote.Struct.Declared.{shape}
 use Rattle.std.proofs.Crossing.{crosses}
-use Rattle.atomic_table.proofs.send_lease.SendLease.TheSendSync.{the_sync as lease_sync}
-use Rattle.atomic_table.proofs.shared.Shared.TheSendSync.{the_sync as shared_sync}
-use Rattle.shard_meaning.proofs.Sharing.{declared_sync, given_sync, matched_sync, shard_send, shard_sync}
-use Rattle.table_rule.specs.contracts.table_job.TableJob.{the_type as job_type}
+use Rattle.shard_meaning.proofs.Sharing.{declared_sync, shard_sync}
+use Rattle.table_rule.proofs.Sharing.{job_fields, words_fields}
 use Rattle.dep_table.specs.contracts.closing_room.ClosingRoom.{the_type as closing_type}
 use Rattle.dep_table.specs.contracts.table.DepTable.{the_type as table_type}
 use Rattle.table_runs.specs.contracts.unscanned.Unscanned.{the_row as unscanned_row, the_type as unscanned_type}
 use Rattle.table_runs.specs.contracts.watching.Watched.{the_row as watched_row, the_type as watched_type}
 
--- a job, and the room of a close, as fields of another struct
-job_fields : IsSync (Struct (shape job_type))
-job_fields = let a = matched_sync in let b = given_sync in struct_sync (shape job_type) (search sendable depth 30)
-
+-- the room of a close as a field of another struct
 closing_fields : IsSync (Struct (shape closing_type))
 closing_fields = let s = shard_sync in struct_sync (shape closing_type) (search (sendable, crosses) depth 30)
 
 -- a table as a field of another struct
 table_fields : IsSync (Struct (shape table_type))
-table_fields = let s = shard_send in struct_sync (shape table_type) (search (sendable, crosses, shared_sync, lease_sync) depth 30, (job_fields, (closing_fields, tt)))
+table_fields = struct_sync (shape table_type) (words_fields, (job_fields, (closing_fields, tt)))
 
 pub watched_sync : IsSync watched_row
 watched_sync = declared_sync watched_type (table_fields, tt)

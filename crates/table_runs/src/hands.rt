@@ -12,7 +12,7 @@ fn push_all(hands: &mut Hands, parameters: &[i64]) {
     }
 }
 
-/// The hands of one worker, in whose deque are the tasks of class 0 with these parameters, the last one at the back.
+/// The hands of one worker that pushed the tasks of class 0 with these parameters, in this order.
 pub fn one_worker(alloc: Global, parameters: &[i64]) -> Result<Hands, OutOfMemory> {
     let Some(mut hands) = make(alloc, 1)?.pop() else {
         return Err(OutOfMemory);
@@ -21,7 +21,8 @@ pub fn one_worker(alloc: Global, parameters: &[i64]) -> Result<Hands, OutOfMemor
     Ok(hands)
 }
 
-/// The hands of worker 1 of two, whose deque is empty, and those of worker 0, in whose deque are these tasks.
+/// The hands of worker 1 of two, which are empty, and those of worker 0, which pushed these tasks: the last one is in its
+/// slot.
 pub fn two_workers(alloc: Global, parameters: &[i64]) -> Result<(Hands, Hands), OutOfMemory> {
     let mut team = make(alloc, 2)?;
     let (Some(second), Some(mut first)) = (team.pop(), team.pop()) else {

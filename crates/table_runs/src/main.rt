@@ -184,8 +184,8 @@ fn print_orders<R: Threads + Wait + Print + Sync>(rt: &R, alloc: Global) -> io::
 
 // What a thief runs, the claims of four workers, and which shard a task has.
 fn print_others<R: Threads + Wait + Print + Sync>(rt: &R, alloc: Global) -> io::Result<()> {
-    print_thief(rt, alloc, &ONE_TASK, &[0, 0])?;
-    print_thief(rt, alloc, &PAIR, &[0, 0])?;
+    print_thief(rt, alloc, &ONE_TASK, &[0, 0, 0])?;
+    print_thief(rt, alloc, &PAIR, &[0, 0, 0])?;
     print_thief(rt, alloc, &ONE_TASK, &[])?;
     print_claims(rt, alloc, &CHOLESKY_20)?;
     print_shard(rt, alloc, &CHOLESKY_4, &TaskId::new(0, &[0]))?;

@@ -103,8 +103,8 @@ fn ran_with<R: Threads + Wait + Sync>(
 }
 
 /// Lets worker 1 of two work at a table of one shard that can't be scanned. The id of the job's ready task, the one of
-/// class 0 with the parameter 0, is in the deque of worker 0 this many times: at least twice where it is to be found,
-/// since a steal may leave the last id.
+/// class 0 with the parameter 0, was pushed by worker 0 this many times: at least three times where it is to be found,
+/// since the newest stays in its slot, and a steal may leave the last one of its deque.
 pub fn ran_by_thief<R: Threads + Wait + Sync>(
     rt: &R,
     alloc: Global,

@@ -16,10 +16,10 @@ use term_core::Trap;
 use work_board::{Board, Claim, Scan, Sent};
 
 // After this many looks for quiet the table is halted.
-const LOOKS: u64 = 1_000_000;
+const LOOKS: u64 = 1_000;
 
 /// A table of whose shards only the first ones can be scanned: where none can, a worker gets at its tasks by ids alone.
-/// It is halted once a worker has looked for quiet a million times, so that a worker without an id ends too.
+/// It is halted once a worker has looked for quiet a thousand times, so that a worker without an id ends too.
 #[derive(Drop)]
 pub struct Unscanned {
     pub table: DepTable,

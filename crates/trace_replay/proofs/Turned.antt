@@ -19,7 +19,7 @@ use Rattle.flow_meaning.specs.Sound.{IsFinished}
 use Rattle.flow_meaning.proofs.Events.{it_ends, member_claim}
 use Rattle.flow_meaning.proofs.Quiet.{claims_are_ran}
 use Rattle.flow_meaning.proofs.Rest.{rests}
-use Rattle.shard_meaning.proofs.Placing.{shard_below}
+use Rattle.shard_meaning.proofs.Placing.{home_below}
 use Rattle.rank_core.specs.Sound.{IsSoundWorld}
 use Rattle.rank_core.specs.World.{IsQuiet, WorldState, is_between, items_within, rank_of}
 use Rattle.rank_core.proofs.Items.{within_or_between}
@@ -37,7 +37,7 @@ use Rattle.trace_replay.proofs.Following.{may_follow_finished}
 -- where there is one rank, each task is of it, and no item needs a message
 module _ (P : Plan) where
   of_one_rank : (t : Task) → rank_of P 1 t ≡ 0
-  of_one_rank t = omega (arith, shard_below P 1 t (omega arith))
+  of_one_rank t = omega (arith, home_below P 1 t (omega arith))
 
   none_between : (e : Edge) → is_between P 1 e ≡ false
   none_between e = λ i. not (of_one_rank e.from i == of_one_rank e.to i)
