@@ -1,5 +1,6 @@
-// measure SECONDS COMMAND..: runs a command, and prints on standard error a line `seconds,peak,status`: its time, its peak memory in KiB, and its
-// status as a shell has it. After SECONDS it is killed. The peak is that of the command alone, since this process is a small one.
+// measure SECONDS COMMAND..: runs a command, and prints on standard error a line `seconds,processor,peak,status`: its time, its processor time,
+// its peak memory in KiB, and its status as a shell has it. After SECONDS it is killed. The peak is that of the command alone, since this
+// process is a small one.
 #include <signal.h>
 #include <stdio.h>
 #include <stdlib.h>
@@ -9,6 +10,8 @@
 #include <unistd.h>
 
 static pid_t child;
+
+static double seconds_of(struct timeval time) { return (double)time.tv_sec + (double)time.tv_usec * 1e-6; }
 
 static void stop(int signal_number) {
     (void)signal_number;
@@ -32,6 +35,8 @@ int main(int count, char **words) {
     while (wait4(child, &status, 0, &used) < 0) {}
     clock_gettime(CLOCK_MONOTONIC, &ended);
     double seconds = (double)(ended.tv_sec - begun.tv_sec) + (double)(ended.tv_nsec - begun.tv_nsec) * 1e-9;
-    fprintf(stderr, "%.7f,%ld,%d\n", seconds, used.ru_maxrss, WIFEXITED(status) ? WEXITSTATUS(status) : 128 + WTERMSIG(status));
+    double processor = seconds_of(used.ru_utime) + seconds_of(used.ru_stime);
+    int as_shell = WIFEXITED(status) ? WEXITSTATUS(status) : 128 + WTERMSIG(status);
+    fprintf(stderr, "%.7f,%.6f,%ld,%d\n", seconds, processor, used.ru_maxrss, as_shell);
     return 0;
 }

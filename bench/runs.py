@@ -12,29 +12,40 @@ LONGEST = 60
 
 @dataclass
 class Row:
-    """What one command took: seconds of the run and of the whole process, and the peak memory in KiB; or why it counts for nothing."""
+    """What one command took: seconds of the run and of the whole process, the same of processors, and the peak memory in KiB; or its fault."""
 
     name: str
     job: str
     workers: int
     run: object = None
     whole: object = None
+    busy: object = None
+    processor: object = None
     peak: object = None
     fault: str = ""
 
 
+@dataclass
+class Measured:
+    seconds: float
+    processor: float
+    peak: int
+    status: int
+    printed: bytes
+
+
 def measured(words):
-    """The seconds, the peak and the status of a command, and what it prints."""
+    """What a command took, its status, and what it prints."""
     with tempfile.TemporaryFile() as output:
         ran = subprocess.run([path_of(MEASURE), str(LONGEST), *words], stdin=subprocess.DEVNULL, stdout=output, stderr=subprocess.PIPE, check=False)
         output.seek(0)
         printed = output.read()
-    seconds, peak, status = ran.stderr.split(b"\n")[-2].decode().split(",")
-    return float(seconds), int(peak), int(status), printed
+    seconds, processor, peak, status = ran.stderr.split(b"\n")[-2].decode().split(",")
+    return Measured(float(seconds), float(processor), int(peak), int(status), printed)
 
 
-def fault_of(seconds, status):
-    return f"took more than {LONGEST} s" if status == 137 and seconds >= LONGEST else f"ended with status {status}"
+def fault_of(it):
+    return f"took more than {LONGEST} s" if it.status == 137 and it.seconds >= LONGEST else f"ended with status {it.status}"
 
 
 def is_right(job, verb, printed):
@@ -49,26 +60,26 @@ def is_right(job, verb, printed):
     return job.total in (None, total)
 
 
-def run_ptg(program, verb, job, workers, shards):
+def run_ptg(program, verb, job, workers, shards, more=(), name="ptg"):
     """A run of `ptg`, as what the whole process took."""
-    more = ["--workers", str(workers), "--shards", str(shards)] if verb == "run" else []
-    seconds, peak, status, printed = measured([program, verb, *job.files(), *more])
-    row = Row("ptg" if verb == "run" else "check", job.name, workers, None, seconds, peak)
-    if status:
-        row.fault = fault_of(seconds, status)
-    elif not is_right(job, verb, printed):
+    settings = ["--workers", str(workers), "--shards", str(shards), *more] if verb == "run" else []
+    it = measured([program, verb, *job.files(), *settings])
+    row = Row(name if verb == "run" else "check", job.name, workers, whole=it.seconds, processor=it.processor, peak=it.peak)
+    if it.status:
+        row.fault = fault_of(it)
+    elif not is_right(job, verb, it.printed):
         row.fault = "printed a wrong answer"
     return row
 
 
 def run_peer(peer, job, workers):
     """A run of a peer, which tells its tasks and the seconds of its run."""
-    seconds, peak, status, printed = measured([path_of(peer), str(workers), *job.words()])
-    if status:
-        return Row(peer.name, job.name, workers, fault=fault_of(seconds, status))
-    tasks, run = printed.decode().strip().split(",")
+    it = measured([path_of(peer), str(workers), *job.words()])
+    if it.status:
+        return Row(peer.name, job.name, workers, fault=fault_of(it))
+    tasks, run = it.printed.decode().strip().split(",")
     fault = "" if int(tasks) == job.tasks else f"ran {tasks} tasks"
-    return Row(peer.name, job.name, workers, float(run), seconds, peak, fault)
+    return Row(peer.name, job.name, workers, run=float(run), whole=it.seconds, processor=it.processor, peak=it.peak, fault=fault)
 
 
 # A turn of a loop takes `ptg` about so many nanoseconds, by which it is found out how many take 0.2 s for all tasks of a job.

@@ -8,10 +8,11 @@ class Rounds:
     def __init__(self, rounds):
         self.rows = {}
         for number, rows in enumerate(rounds):
-            checks = {it.job: it.whole for it in rows if it.name == "check" and not it.fault}
+            checks = {it.job: it for it in rows if it.name == "check" and not it.fault}
             for it in rows:
-                if it.name == "ptg" and not it.fault and it.job in checks:
-                    it.run = it.whole - checks[it.job]
+                if it.name.startswith("ptg") and not it.fault and it.job in checks:
+                    it.run = it.whole - checks[it.job].whole
+                    it.busy = it.processor - checks[it.job].processor
                 if not it.fault:
                     self.rows.setdefault((it.name, it.job, it.workers), {})[number] = it
 
