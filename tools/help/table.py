@@ -22,7 +22,7 @@ class Option:
 
     def sentence(self):
         """What the option does, with its range and what holds without it."""
-        return f"{self.does}, {self.least} to {self.most}; {self.default} where it is not given" if self.value else self.does
+        return f"{self.does}, {self.least} to {self.most}; {self.default} by default" if self.value else self.does
 
 
 @dataclass
