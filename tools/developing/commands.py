@@ -35,7 +35,7 @@ SECTIONS = {
         tool("sentences", "lists sentences of documents that have more than 30 words"),
         tool("build", "proves and builds a program; `./ptg` calls it"),
         tool("more-edits", "tries the edits that must fail and that the gate leaves out"),
-        tool("shown_edits", "tries whether a row or a test shows an edit (`docs/edits.md`)"),
+        tool("shown_edits", "tries whether a row or a test fails with an edit of `more-edits/` that names one"),
         tool("clauses", "lists what contracts say about refusals"),
     ),
     "Tests of tools": (
