@@ -31,7 +31,7 @@ SECTIONS = {
     "For a landing": (
         Command("check", "runs `check_docs` and the tests of the tools; with `--program` also those that need a built program"),
         Command("crates", "writes the table of crates in `docs/architecture.md`"),
-        tool("check_docs", "checks what documents say about files, and runs `shellcheck` and `pyflakes3` if they are installed"),
+        tool("check_docs", "checks what documents say about files, and their words; runs `shellcheck` and `pyflakes3` if they are installed"),
         tool("sentences", "lists sentences of documents that have more than 30 words"),
         tool("build", "proves and builds a program; `./ptg` calls it"),
         tool("more-edits", "tries the edits that must fail and that the gate leaves out"),
