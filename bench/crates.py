@@ -15,7 +15,8 @@ OF_C = {
 REST = "the rest of C"
 # The largest parts, of which each gets a row; the others are one.
 MOST_ROWS = 16
-NAME = re.compile(r"fn=\((\d+)\)(?: (.*))?")
+# A function by its number; the first time with its name, and then it may be one that is only called (`cfn`).
+NAME = re.compile(r"(c?)fn=\((\d+)\)(?: (.*))?")
 # What crates do in a run, for the tables.
 DOES = {
     "body_eval": "runs bodies",
@@ -49,8 +50,9 @@ def costs(lines):
     for line in lines:
         at = NAME.match(line)
         if at:
-            names.setdefault(at[1], at[2] or "")
-            current = names[at[1]]
+            called, number, name = at.groups()
+            names.setdefault(number, name or "")
+            current = current if called else names[number]
         elif line.startswith("calls="):
             is_call = True
         elif line[:1].isdigit() or line[:1] in "+-*":
@@ -105,6 +107,6 @@ def rows_of(counts):
     for it in counts:
         total.update(it)
     first = [name for name, _ in total.most_common(MOST_ROWS)]
-    rows = [[f"`{name}`" if name in own else name, DOES.get(name, ""), *(f"{it[name]:,.0f}" for it in counts)] for name in first]
+    rows = [[f"`{name}`" if name in own else name, DOES.get(name, ""), *(f"{it.get(name, 0):,.0f}" for it in counts)] for name in first]
     rest = [sum(count for name, count in it.items() if name not in first) for it in counts]
     return rows + [["all else", "", *(f"{it:,.0f}" for it in rest)], ["all", "", *(f"{sum(it.values()):,.0f}" for it in counts)]]

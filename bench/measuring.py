@@ -1,5 +1,6 @@
 """Measures jobs with `ptg` and its peers: rounds of runs, counts of instructions, and what the machine is."""
 import os
+import subprocess
 import sys
 import time
 
@@ -11,10 +12,20 @@ from runs import Instructions, run_peer, run_ptg, turns_of
 COUNTED = ("Cholesky 40", "Cholesky 12", "chain, 1 number", "fan of 20,000", "fan of 500")
 # A load of the machine over which no figure counts.
 BUSY = 0.5
+# How many seconds all processors work before anything is measured: after a rest some of them are twice as fast for a while.
+WARM_UP = 40
 
 
 def say(text):
     print(text, file=sys.stderr, flush=True)
+
+
+def warm_up(seconds=WARM_UP):
+    """Has all processors work, so that none is faster at first than later on."""
+    say(f"all processors work for {seconds} s first")
+    spin = f"import time; end = time.monotonic() + {seconds}\nwhile time.monotonic() < end: pass"
+    for it in [subprocess.Popen([sys.executable, "-c", spin]) for _ in range(os.cpu_count())]:
+        it.wait()
 
 
 def built_peers(options):

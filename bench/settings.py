@@ -1,4 +1,6 @@
 """Measures `ptg` with other settings: numbers of shards and of workers, a preload, tiles of other sizes, and bodies alone."""
+import dataclasses
+
 from jobs import Job, chain, cholesky, fan
 from runs import run_peer, run_ptg
 
@@ -20,12 +22,17 @@ def body(kind, blocks):
     return Job(f"body {kind}, {blocks}", ["body", str(kind), str(blocks)], 1)
 
 
+def short_chain(tasks, elements):
+    """A chain whose name is not that of a longer one: rows of one round are told apart by the names of their jobs."""
+    return dataclasses.replace(chain(tasks, elements), name=f"chain of {tasks:,}, {elements:,} a tile")
+
+
 class Jobs:
     """The jobs that are run with other settings."""
 
     def __init__(self, is_quick):
         self.shaped = [cholesky(12), chain(1000, 1), fan(2000)] if is_quick else [cholesky(96), chain(100_000, 1), fan(200_000)]
-        self.sized = {size: chain(200 if is_quick else 20_000, size) for size in SIZES}
+        self.sized = {size: short_chain(200 if is_quick else 20_000, size) for size in SIZES}
         self.blocks = 10 if is_quick else 1000
         # the jobs whose instructions are counted by crate
         self.counted = [cholesky(6), chain(100, 1), fan(100)] if is_quick else [cholesky(40), chain(20_000, 1), fan(20_000)]
