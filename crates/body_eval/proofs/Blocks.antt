@@ -1,4 +1,4 @@
--- How the statements of a block go on from one to the next.
+-- How a block continues from one statement to the next.
 use Rattle.std.proofs.Common.{◌≡◌, ℕ, zero, suc, ◌+◌, ◌<◌, ◌≤◌, List, [], ◌∷◌, length, get_or, drop, refl, ap, sym, ◌∙◌, arith}
 use Rattle.std.proofs.lemmas.List.{drop_more}
 use Rattle.term_core.specs.declared.body.Stmt.{Stmt}
@@ -17,12 +17,12 @@ run-then (stmt.If c first second) rest at = refl
 run-then (stmt.For n lo hi turn) rest at = refl
 run-then (stmt.Trap w) rest at = refl
 
--- the same within a list of statements
+-- the same for a statement within a list
 pub run-drop : (ss : List Stmt) (k : ℕ) (s : Stmt) → k < length ss → s ≡ get_or ss k s → (at : State) → run (statement_list (drop k ss)) at ≡ first_then (statement_meaning s) (run (statement_list (drop (k + 1) ss))) at
 run-drop ss k s below is at =
     ap (λ xs. run (statement_list xs) at) (drop_more ss k s below ∙ ap (λ x. x ∷ drop (k + 1) ss) (sym is)) ∙ run-then s (statement_list (drop (k + 1) ss)) at
 
--- how many statements a statement has, itself included
+-- how many statements a statement contains, itself included
 abbrev pub count_of : Stmt → ℕ
 count_of s = statement_count (then s Done)
 
@@ -33,7 +33,7 @@ count-then (stmt.If c first second) rest = omega arith
 count-then (stmt.For n lo hi turn) rest = omega arith
 count-then (stmt.Trap w) rest = omega arith
 
--- a statement of a list has no more statements than the list
+-- a statement of a list contains no more statements than the list
 pub count_le : (ss : List Stmt) (k : ℕ) (s : Stmt) → k < length ss → s ≡ get_or ss k s → count_of s ≤ statement_count (statement_list ss)
 count_le [] k s below is = absurd (omega arith)
 count_le (x ∷ ss) zero s below is = let e = count-then x (statement_list ss) in rw is (omega (arith, e))

@@ -1,4 +1,4 @@
--- How a loop goes on from one turn to the next.
+-- How a loop continues from one turn to the next.
 use Rattle.std.proofs.Common.{◌≡◌, ℕ, ◌+◌, ℤ, List, [], ◌∷◌, slice_set, Option, Result, Ok, Err, ap, sym, ◌∙◌}
 use Rattle.term_core.specs.declared.trap.Trap.{Trap}
 use Rattle.term_core.specs.declared.trap.Trap.TheVariants.{Budget}

@@ -1,10 +1,10 @@
--- How the values of a loop go on from one to the next.
+-- How the values of a loop continue from one to the next.
 use Rattle.std.proofs.Common.{◌≡◌, ℕ, suc, ℤ, pos, ◌+ℤ◌, ◌-ℤ◌, unsigned_abs, int_lt, true, false, List, [], ◌∷◌, refl, ap, sym, ◌∙◌, Option, Some, None, SomeIff, FitsSigned, w64, arith}
 use Rattle.std.proofs.lemmas.Int.{ints}
 use Rattle.body_eval.specs.Meaning.{upwards, turn_values}
 use Rattle.list_lemmas.proofs.Truth.{by_test}
 
--- the values from a number on, or none where there is none
+-- the values from a number on; none if there is no number
 abbrev pub values_left : Option ℤ → ℤ → List ℤ
 values_left None hi = []
 values_left (Some v) hi = turn_values v hi
@@ -27,7 +27,7 @@ gap_at v hi h k = grind (arith, ints)
 gap_below : (v hi : ℤ) → int_lt hi v ≡ false → int_lt hi (v +ℤ pos 1) ≡ false → gap hi v ≡ suc (gap hi (v +ℤ pos 1))
 gap_below v hi h k = grind (arith, ints)
 
--- a value that is not past hi is the first of those from it on
+-- a value that is not past hi is the first of the values from it on
 pub values_next : (v hi : ℤ) → int_lt hi v ≡ false → turn_values v hi ≡ v ∷ turn_values (v +ℤ pos 1) hi
 values_next v hi h =
     values_not_past v hi h ∙ ap (λ vs. v ∷ vs) (by_test (int_lt hi (v +ℤ pos 1))
@@ -37,7 +37,7 @@ values_next v hi h =
 fits_up : (v hi : ℤ) → FitsSigned w64 v → FitsSigned w64 hi → int_lt hi v ≡ false → int_lt hi (v +ℤ pos 1) ≡ false → FitsSigned w64 (v +ℤ pos 1)
 fits_up v hi f g h k = grind (arith, ints)
 
--- the next value in 64 bits: where it does not fit it is past hi
+-- the next value, checked to fit 64 bits: one that does not fit is past hi
 pub values_checked : (v hi : ℤ) (next : Option ℤ) → FitsSigned w64 v → FitsSigned w64 hi → int_lt hi v ≡ false → SomeIff next (FitsSigned w64 (v +ℤ pos 1)) (v +ℤ pos 1) → turn_values v hi ≡ v ∷ values_left next hi
 values_checked v hi (Some z) f g h k = values_next v hi h ∙ ap (λ w. v ∷ turn_values w hi) (sym k.1)
 values_checked v hi None f g h k =

@@ -1,5 +1,6 @@
--- What a body does to the tiles of its task, within a budget of units. Source: the language of bodies is this project's
--- own choice.
+-- What a body does to the tiles of its task, within a budget of units.
+-- Carried by: `run_body`; law `body_laws::more_units_change_nothing`.
+-- Tested by: `body_statements.txt`, `body_variables.txt`, `body_traps.txt`, `body_budget.txt`.
 use Rattle.std.specs.Prelude.{ℕ, zero, suc, ◌-◌, ℤ, pos, ◌+ℤ◌, ◌-ℤ◌, int_lt, unsigned_abs, List, [], ◌∷◌, ◌++◌, length, replicate, Result, Ok, Err, Option, if◌then◌else◌}
 use Rattle.term_core.specs.Term.{Term}
 use Rattle.term_core.specs.Arith.{holds}
@@ -10,7 +11,7 @@ use Rattle.term_core.specs.declared.trap.Trap.{Trap}
 use Rattle.term_core.specs.declared.trap.Trap.TheVariants.{Word}
 use Rattle.body_eval.specs.State.{State, spent, value_in, assigned, put}
 
--- what costs one unit as it starts, and what follows it
+-- an action that costs one unit as it starts, and then what follows it
 abbrev pub first_then : (State → Result State Trap) → (State → Result State Trap) → State → Result State Trap
 first_then act rest s = and_then (spent s) (λ t. and_then (act t) rest)
 
@@ -22,25 +23,26 @@ set_meaning n e s = and_then (value_in s e) (λ v. Ok (assigned n v s))
 abbrev pub put_meaning : ℕ → Term → Term → State → Result State Trap
 put_meaning flow at e s = and_then (value_in s at) (λ i. and_then (value_in s e) (λ v. put flow i v s))
 
--- `if (c) { .. } else { .. }`, by what the two blocks do
+-- `if (c) { .. } else { .. }`, given what the two blocks do
 abbrev pub if_meaning : Term → (State → Result State Trap) → (State → Result State Trap) → State → Result State Trap
 if_meaning c first second s = and_then (value_in s c) (λ x. if holds x then first s else second s)
 
--- this many whole numbers from a number upwards
+-- this many whole numbers from v upwards
 abbrev pub upwards : ℕ → ℤ → List ℤ
 upwards zero v = []
 upwards (suc more) v = v ∷ upwards more (v +ℤ pos 1)
 
--- the whole numbers that are at least lo and at most hi, upwards
+-- the whole numbers from lo to hi, upwards; none if hi is less than lo
 unfoldable pub turn_values : ℤ → ℤ → List ℤ
 turn_values lo hi = if int_lt hi lo then [] else upwards (suc (unsigned_abs (hi -ℤ lo))) lo
 
--- the turns of a loop for these values of its variable, by what its block does; each turn costs one unit as it starts
+-- the turns of a loop for these values of its variable, given what its block does; each turn costs one unit as it
+-- starts
 abbrev pub turns : (State → Result State Trap) → ℕ → List ℤ → State → Result State Trap
 turns block n [] s = Ok s
 turns block n (v ∷ more) s = first_then (λ t. block (assigned n v t)) (turns block n more) s
 
--- `for i = lo .. hi { .. }`, by what its block does: lo is evaluated first, then hi, each once
+-- `for i = lo .. hi { .. }`, given what its block does: lo is evaluated first, then hi, each once
 abbrev pub for_meaning : ℕ → Term → Term → (State → Result State Trap) → State → Result State Trap
 for_meaning n lo hi block s =
     and_then (value_in s lo) (λ a. and_then (value_in s hi) (λ b. turns block n (turn_values a b) s))
@@ -54,7 +56,7 @@ run (IfThen c first second rest) s = first_then (if_meaning c (run first) (run s
 run (ForThen n lo hi turn rest) s = first_then (for_meaning n lo hi (run turn)) (run rest) s
 run (TrapThen w rest) s = first_then (λ t. Err (Word w)) (run rest) s
 
--- as a body starts, the first slots hold the locals of the task, and each variable holds 0
+-- the state as a body starts: the first slots hold the locals of the task, and each variable holds 0
 abbrev pub opening : List ℤ → ℕ → List (Option (List ℤ)) → ℕ → State
 opening locals slots tiles units =
     record { slots = locals ++ replicate (slots - length locals) (pos 0); tiles = tiles; units_left = units }
@@ -64,7 +66,7 @@ abbrev pub meaning_within : ℕ → Body → List ℤ → List (Option (List ℤ
 meaning_within units body locals tiles =
     and_then (run body.statements (opening locals body.slots tiles units)) (λ s. Ok s.tiles)
 
--- the units that a task may use: 2 ^ 24
+-- the units of a task's budget: 2 ^ 24
 unfoldable pub task_budget : ℕ
 task_budget = 16777216
 

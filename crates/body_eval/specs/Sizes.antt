@@ -1,8 +1,8 @@
--- The sizes of the tiles of a task's flows. Source: this project's own choice.
+-- The sizes of the tiles of a task's flows.
 use Rattle.std.specs.Prelude.{◌≡◌, ℕ, ℤ, List, length, Option, option_map}
 use Rattle.body_eval.specs.Element.{tile_of}
 
--- how many elements the tile of a flow has, if there is one
+-- how many elements the tile of a flow has, if it is there
 abbrev pub size_of : List (Option (List ℤ)) → ℕ → Option ℕ
 size_of tiles flow = option_map length (tile_of tiles flow)
 

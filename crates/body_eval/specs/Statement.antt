@@ -1,4 +1,4 @@
--- What one statement does. Source: the language of bodies is this project's own choice.
+-- What one statement does.
 use Rattle.std.specs.Prelude.{Result, Err}
 use Rattle.term_core.specs.declared.body.Stmt.{Stmt}
 use Rattle.term_core.specs.declared.body.Stmt.TheVariants as stmt

@@ -1,4 +1,4 @@
-//! The elements of the tiles of a task's flows.
+//! Reads and writes the elements of the tiles of a task's flows.
 
 ghost use Rattle.std.specs.Prelude.{◌≡◌, OnOk, IfErr};
 ghost use Rattle.term_core.specs.Trap.{trap_of};
@@ -8,7 +8,7 @@ ghost use Rattle.body_eval.specs.Sizes.{KeepsSizes};
 use ptg_base::{Tile, index_in};
 use term_core::{Expr, ExprFault, ReadElement, Trap, eval_with};
 
-// The tiles of a task's flows, to read elements from.
+// The tiles of a task's flows, as a source of elements.
 #[derive(Drop)]
 struct Tiles<'a> {
     tiles: &'a [Option<Tile>],
@@ -44,14 +44,15 @@ impl ReadElement for Tiles<'_> {
     }
 }
 
-/// The value of an expression of a body.
+/// Returns the value of an expression of a body, or the trap of its evaluation.
 pub(crate) fn value(e: &Expr, slots: &[i64], tiles: &[Option<Tile>]) -> Result<i64, Trap>
     ensures { result ≡ body_value slots.now tiles.now e.now }
 {
     eval_with(e, slots, &Tiles { tiles })
 }
 
-/// Puts the value into the flow's tile at the index.
+/// Writes a value to the element of the flow's tile at the index; traps if the flow is absent or the index is not in
+/// the tile.
 pub(crate) fn put(tiles: &mut [Option<Tile>], flow: u8, at: i64, v: i64) -> Result<(), Trap>
     ensures ok { OnOk result (put_element tiles.old flow at v ≡ Ok tiles.new) }
     ensures trap { IfErr result (λ cause. put_element tiles.old flow at v ≡ Err cause) }

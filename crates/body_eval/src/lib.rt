@@ -1,4 +1,4 @@
-//! The meaning of the bodies of tasks: a body run on the tiles of its task, within a budget.
+//! Runs a task's body on its tiles, within a budget.
 #![tactic(auto)]
 
 mod element;

@@ -1,4 +1,4 @@
-//! A body, run statement by statement.
+//! Runs a body, statement by statement.
 
 ghost use Rattle.std.specs.Prelude.{◌≡◌, OnOk, IfErr, length};
 ghost use Rattle.term_core.specs.WellBody.{IsWellBody};
@@ -12,12 +12,12 @@ use crate::scratch::Scratch;
 use ptg_base::Tile;
 use term_core::{Block, Body, Stmt, Trap};
 
-// The units that a task may use.
+// The units of a task's budget: 2^24.
 const TASK_BUDGET: u32 = 16777216;
 
-/// Runs a body on the tiles of its task. After a trap the tiles have no meaning.
+/// Runs a body on the tiles of its task. After a trap the contents of the tiles are unspecified; their sizes stay.
 ///
-/// It recurses as deep as blocks nest, whatever the number of statements and turns.
+/// The recursion is as deep as blocks nest, whatever the number of statements and turns.
 #[tactic(auto, unfolding(crate::specs::Meaning::task_budget))]
 pub fn run_body(
     body: &Body,
@@ -50,7 +50,7 @@ fn run_within(
     run_block(&body.statements, scratch, tiles)
 }
 
-// Runs the statements of a block, each for a unit.
+// Runs the statements of a block. Each costs one unit as it starts.
 #[cycle(run)]
 fn run_block(block: &Block, scratch: &mut Scratch, tiles: &mut [Option<Tile>]) -> Result<(), Trap>
     ensures ok { OnOk result (run block.now (state_of scratch.old tiles.old) ≡ Ok (state_of scratch.new tiles.new)) }
@@ -64,7 +64,7 @@ fn run_block(block: &Block, scratch: &mut Scratch, tiles: &mut [Option<Tile>]) -
     Ok(())
 }
 
-// Runs a statement.
+// Runs a statement whose unit is spent.
 #[cycle(run)]
 fn run_statement(
     statement: &Stmt,
@@ -110,7 +110,7 @@ fn run_statement(
     }
 }
 
-// The variable of a loop: the number of its slot, and its first and last value.
+// The variable of a loop: the number of its slot, and its first and last values.
 #[derive(Drop)]
 struct LoopVariable {
     number: u16,
@@ -118,7 +118,7 @@ struct LoopVariable {
     hi: i64,
 }
 
-// Runs a block for each value of the variable, upwards.
+// Runs a block once for each value of the variable, upwards. Each turn costs one unit as it starts.
 #[cycle(run)]
 fn run_turns(
     variable: LoopVariable,

@@ -1,4 +1,4 @@
-//! What a body has of its own while it runs: its slots, and the units that it has left.
+//! The memory of a body while it runs: its slots and the units that are left.
 
 ghost use Rattle.std.specs.Prelude.{◌≡◌, ◌+◌, ◌-◌, ◌≤◌, ◌++◌, pos, length, replicate, slice_set, OnOk, IfErr};
 ghost use Rattle.ptg_base.specs.Limits.{most_locals, most_variables};
@@ -8,10 +8,10 @@ use ptg_base::{MOST_LOCALS, MOST_VARIABLES};
 use std::marker::Model;
 use term_core::Trap;
 
-// The most slots that a body has: its locals and its variables.
+// The most slots of a body: its locals and its variables.
 const MOST_SLOTS: usize = MOST_LOCALS + MOST_VARIABLES;
 
-/// Room for the slots of a body while it runs, and the units that it has left. It takes no memory.
+/// Room for the slots of a running body, and the units that it has left. It allocates nothing.
 #[derive(Drop)]
 pub struct Scratch {
     // Only the first `used` are slots of the body that runs.
@@ -33,7 +33,7 @@ impl Model for Scratch {
 }
 
 impl Scratch {
-    /// Room for the slots of any body.
+    /// Room for the slots of any body, with no units.
     pub fn new() -> Scratch {
         Scratch {
             slots: [0; MOST_SLOTS],
@@ -42,7 +42,7 @@ impl Scratch {
         }
     }
 
-    /// As a body starts: the first slots hold the locals of the task, and each other one, a variable's, holds 0.
+    /// Prepares a body: the first slots get the locals of the task, and each later slot, a variable's, gets 0.
     pub(crate) fn start(&mut self, locals: &[i64], slots: u16, units: u32)
         requires fit { length locals.now ≤ slots }
         requires bound { slots ≤ most_locals + most_variables }
@@ -63,7 +63,7 @@ impl Scratch {
         &self.slots[..self.used]
     }
 
-    /// Takes one unit, where there is one.
+    /// Takes one unit; traps if none is left.
     pub(crate) fn spend(&mut self) -> Result<(), Trap>
         ensures ok { OnOk result (self.old.units_left ≡ self.new.units_left + 1) }
         ensures trap { IfErr result (λ cause. (cause ≡ Trap.Budget) × (self.old.units_left ≡ 0)) }

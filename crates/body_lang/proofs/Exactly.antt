@@ -1,4 +1,4 @@
--- What is answered of a body is the one body that the tokens are, or their one first fault.
+-- The result for a body is the one body whose text the tokens are, or their one first fault.
 use Rattle.std.proofs.Common.{◌≡◌, ℕ, ◌-◌, List, length, Result, Ok, Err, IfOk, refl, ap, ◌∙◌, inl, inr}
 use Rattle.grammar_core.specs.declared.fault.ReadFault.{ReadFault}
 use Rattle.grammar_core.specs.declared.token.Spot.{Spot}
@@ -50,13 +50,13 @@ module _ (scope : Environment) (tokens : List Token) (finish : Spot) where
       }
   exactly (Err OutOfMemory) h k = record { found = tt; only = λ y i. inr refl; fault = k; refused = λ f i. inr refl }
 
-  -- of a text that has a tree
+  -- the result for a text that has a tree
   pub of_tree : (t : Statements) (r : Answer) → IsTree tokens t → Returns (λ x. x) r (body_of scope t) → IsExact r
   of_tree t (Ok x) h e = exactly (Ok x) (record { tree = t; text = h; named = e }) (λ f i. absurd cc)
   of_tree t (Err (Fault g)) h e = exactly (Err (Fault g)) tt (λ f i. let same : g ≡ f = cc in inl (record { tree = t; text = h; named = e ∙ ap failed same }))
   of_tree t (Err OutOfMemory) h e = exactly (Err OutOfMemory) tt (λ f i. absurd cc)
 
-  -- of a text that is broken
+  -- the result for a text that has a fault
   pub of_broken : (x : ReadFault) (r : Refusal JdfFault) → IsFaultBefore tokens x → ReturnsRefusal r (broken_fault scope tokens finish (length tokens - x.left) x.code) → IsExact (Err r)
   of_broken x (Fault g) h e =
       exactly (Err (Fault g)) tt

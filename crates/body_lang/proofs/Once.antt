@@ -1,4 +1,4 @@
--- Tokens are one body at most, or have one first fault at most, and not both.
+-- Tokens are the text of at most one body, or have at most one first fault, never both.
 use Rattle.std.proofs.Common.{◌≡◌, ℕ, ◌-◌, List, length, Ok, Err, sym, ap, ◌∙◌, inl, inr, arith}
 use Rattle.std.specs.Prelude.{None}
 use Rattle.jdf_lex.specs.declared.fault.JdfFault.{JdfFault}
@@ -18,7 +18,7 @@ use Rattle.body_lang.specs.Body.{IsNameFault, IsTextFault}
 use Rattle.body_lang.specs.Laws.{OneBody, OneFault, BodyOrFault}
 use Rattle.list_lemmas.proofs.Options.{same_Ok, same_Err, Ok≢Err}
 
--- a body is of one tree
+-- a body has one tree
 same_body : (scope : Environment) (tokens : List Token) (t u : Statements) → IsText productions body tokens t None → IsText productions body tokens u None → body_of scope t ≡ body_of scope u
 same_body scope tokens t u h k = ap (body_of scope) (one_tree tokens t u (only tokens t h) k)
 

@@ -23,7 +23,7 @@ use Rattle.body_names.specs.Bindings.{Bindings, no_bindings, block_opened, with_
 use Rattle.body_names.specs.Statements.{Resolver, declare, set, put, in_block, if_else, for_loop, trap, follow, resolved, body_of}
 use Rattle.body_lang.specs.TrapWords.{words_of, numbers_of, with_word, words_in_order}
 
--- holds of everything
+-- what holds for everything
 abbrev pub Anything : {A : Type 0} → A → Type 0
 Anything x = Unit {0}
 
@@ -33,7 +33,7 @@ once_append : (front ws vs : List (List ℕ)) → words_in_order front (ws ++ vs
 once_append front [] vs = refl
 once_append front (w ∷ ws) vs = once_append (with_word front w (position (λ (v : List ℕ). bytes_eq v w) front)) ws vs
 
--- the words before stay where they are
+-- the first list is a front of the second
 record Longer (front all : List (List ℕ)) : Type 0 where
   more : List (List ℕ)
   is : all ≡ front ++ more
@@ -50,7 +50,7 @@ once_longer front (w ∷ ws) =
     let b = once_longer next ws in
     record { more = a.more ++ b.more; is = b.is ∙ (ap (λ (l : List (List ℕ)). l ++ b.more) a.is ∙ append_assoc front a.more b.more) }
 
--- ---- what is known of words along statements
+-- ---- which words are known after statements
 
 abbrev looked_up : List (List ℕ) → List ℕ → List (Option (List ℕ))
 looked_up words ns = map (λ (n : ℕ). slice_get words n) ns
@@ -58,7 +58,7 @@ looked_up words ns = map (λ (n : ℕ). slice_get words n) ns
 abbrev each_some : List (List ℕ) → List (Option (List ℕ))
 each_some ws = map (λ (w : List ℕ). Some w) ws
 
--- from k to m there are traps of these words, with these numbers
+-- between the bindings k and m there are traps of these words, with these numbers
 record HasTraps (k m : Bindings) (ws : List (List ℕ)) (ns : List ℕ) : Type 0 where
   words : m.words ≡ words_in_order k.words ws
   own : (more : List (List ℕ)) → looked_up (m.words ++ more) ns ≡ each_some ws
@@ -80,7 +80,7 @@ traps_of_both k m q ws vs ns ms a b =
 
 -- ---- statements
 
--- a value satisfies P
+-- the value satisfies P, if there is no fault
 abbrev pub IfValue : {A : Type 0} → (A → Type 0) → Resolved A → Type 0
 IfValue P (Ok x) = P x
 IfValue P (Err f) = Unit {0}
@@ -93,7 +93,7 @@ any_if_value : {A : Type 0} (r : Resolved A) → IfValue (Anything {A = A}) r
 any_if_value (Ok x) = tt
 any_if_value (Err e) = tt
 
--- a first step that says nothing of words
+-- a first step that adds no words
 pub past : {A B : Type 0} (Q : B → Type 0) (r : Resolved A) (f : A → Resolved B) → ((x : A) → IfValue Q (f x)) → IfValue Q (and_then r f)
 past Q r f k = after_if_value Anything Q r f (any_if_value r) (λ x _. k x)
 
@@ -121,7 +121,7 @@ HasTrapsOfAll k ws x = HasTraps k x.1 ws (numbers_of x.0)
 abbrev GivesTraps : Resolver → List (List ℕ) → Type 0
 GivesTraps block ws = (k : Bindings) → IfValue (HasTrapsOfAll k ws) (block k)
 
--- the words of a trap after which this is known
+-- the word of a trap and its number, by what looking it up returned
 traps_of_trap_by : (text : List ℕ) (k : Bindings) (o : Option ℕ) → position (λ (v : List ℕ). bytes_eq v text) k.words ≡ o → HasTraps k (numbered text k o).1 (text ∷ []) ((numbered text k o).0 ∷ [])
 traps_of_trap_by text k None e =
     record {

@@ -1,5 +1,7 @@
--- The body that tokens are, and the first fault of a body. The language of bodies, its codes and their order are this
--- project's own choice.
+-- The body whose text tokens are, and the first fault of a body.
+-- Carried by: `read_body`; laws `one_answer`, `body_laws::variables_are_counted_in_the_text`,
+-- `body_laws::a_slot_for_each_variable`.
+-- Tested by: `body_names.txt`, `body_broken.txt`.
 use Rattle.std.specs.Prelude.{◌≡◌, ℕ, List, None, Ok, Err, ◌⊎◌}
 use Rattle.jdf_lex.specs.declared.fault.JdfFault.{JdfFault}
 use Rattle.grammar_core.specs.declared.token.Spot.{Spot}
@@ -14,19 +16,20 @@ use Rattle.body_names.specs.Environment.{Environment}
 use Rattle.body_names.specs.Statements.{body_of}
 use Rattle.body_lang.specs.Broken.{broken_fault}
 
--- The tokens are the text of this body, with these trap words: of statements whose names all mean something.
+-- The tokens are the text of this body, with these trap words, and each of its names means something.
 pub record IsBody (scope : Environment) (tokens : List Token) (x : Body × List (List ℕ)) : Type 0 where
   pub tree : Statements
   pub text : IsText productions body tokens tree None
   pub named : body_of scope tree ≡ Ok x
 
--- The tokens are the text of a body, and this is the first fault of its names.
+-- The tokens are the text of a body, whose names have this first fault.
 pub record IsNameFault (scope : Environment) (tokens : List Token) (fault : JdfFault) : Type 0 where
   pub tree : Statements
   pub text : IsText productions body tokens tree None
   pub named : body_of scope tree ≡ Err fault
 
--- The text is broken at the token of this index: the first fault of a name before it counts, and else that of the text.
+-- The text has its first fault at the token of this index. A fault of a name before it comes first, or else that of the
+-- text.
 pub record IsTextFault (scope : Environment) (tokens : List Token) (finish : Spot) (fault : JdfFault) : Type 0 where
   pub token_index : ℕ
   pub code : Code

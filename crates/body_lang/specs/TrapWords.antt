@@ -1,4 +1,6 @@
--- The trap words of a body: as its text has them, and as the body has them. Source: this project's own choice.
+-- The trap words of a body, as its text and as the body itself have them.
+-- Carried by: law `body_laws::traps_have_their_words`.
+-- Tested by: `body_traps.txt`.
 use Rattle.std.specs.Prelude.{ℕ, List, [], ◌∷◌, ◌++◌, Option, Some, None}
 use Rattle.name_table.specs.Names.{index_named}
 use Rattle.jdf_tree.specs.Statements.{Statements, Done, DeclareThen, SetThen, PutThen, IfThen, ForThen, TrapThen}
@@ -24,12 +26,12 @@ numbers_of (list.IfThen c first second rest) = (numbers_of first ++ numbers_of s
 numbers_of (list.ForThen n lo hi turn rest) = numbers_of turn ++ numbers_of rest
 numbers_of (list.TrapThen n rest) = n ∷ numbers_of rest
 
--- the words before and this one; these alone where the word has a number among them
+-- the words so far with this one added, unless it has a number among them
 abbrev pub with_word : List (List ℕ) → List ℕ → Option ℕ → List (List ℕ)
 with_word front w None = front ++ w ∷ []
 with_word front w (Some n) = front
 
--- the words in front, then those of the second list that are new, in the order of their first use
+-- the words so far, then the new ones of the second list in the order of their first use
 abbrev pub words_in_order : List (List ℕ) → List (List ℕ) → List (List ℕ)
 words_in_order front [] = front
 words_in_order front (w ∷ more) = words_in_order (with_word front w (index_named front w)) more

@@ -2,7 +2,7 @@
 
 ghost use Rattle.body_lang.specs.Laws.{OneBody, OneFault, BodyOrFault};
 
-/// A law: tokens are one body at most, or have one first fault at most, and not both.
+/// A law: tokens are the text of at most one body, or have at most one first fault, never both.
 pub fn one_answer()
     ensures body { OneBody }
     ensures fault { OneFault }

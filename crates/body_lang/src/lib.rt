@@ -1,4 +1,4 @@
-//! Reads the body of a class: its statements with all names resolved, or its first fault.
+//! Reads the body of a class into statements with all names resolved, or returns its first fault.
 #![tactic(auto)]
 
 mod laws;

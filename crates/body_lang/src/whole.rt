@@ -1,4 +1,4 @@
-//! A body, read.
+//! Reads a whole body.
 
 ghost use Rattle.std.specs.Prelude.{◌≤◌, ◌-◌, length, IfOk};
 ghost use Rattle.ptg_base.specs.Returns.{FindsOrRefuses, ReturnsRefusal};
@@ -18,7 +18,7 @@ use ptg_base::{Seq, Text};
 use std::alloc::Global;
 use term_core::Body;
 
-// The first fault of a body whose text is broken by this fault.
+// The first fault of a body whose text has this fault: that of a name before it, or else the text's.
 fn broken(
     alloc: Global,
     tokens: &[Token],
@@ -37,16 +37,18 @@ fn broken(
     }
 }
 
-/// Reads a body: the body and its trap words, in the order of their first use; or its first fault. The scope says what
-/// names mean. After a fault of the text (Syntax, BadNumber, ExprTooLong, TooDeep, TooManyVars) no name is judged.
-/// Where the tokens end too early that is Syntax at `finish`, the spot after them.
+/// Reads a body. Returns it with its trap words, in the order of their first use, or its first fault. The scope says
+/// what names mean.
+///
+/// No name after a fault of the text (Syntax, BadNumber, ExprTooLong, TooDeep, TooManyVars) is judged. If the tokens
+/// end too early, the fault is Syntax at `finish`, the spot after them.
 pub fn read_body(
     alloc: Global,
     tokens: &[Token],
     finish: Spot,
     scope: &Scope,
 ) -> Result<(Body, Seq<Text>), JdfRefusal>
-    // What is read is the body that the tokens are; a fault is the first one of the body.
+    // What is read is the body whose text the tokens are; a fault is the first one of the body.
     ensures exact { FindsOrRefuses (IsBody (environment_of scope.now) tokens.now)
         (IsBodyFault (environment_of scope.now) tokens.now finish) result }
     // The body is well made for the locals and the flows of the scope.

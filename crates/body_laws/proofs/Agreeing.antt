@@ -1,4 +1,4 @@
--- The names of a whole body, judged by its tokens, have the fault of its tree: statements.
+-- Judged by its tokens, the names of a whole body have the fault of its tree: statements.
 use Rattle.std.proofs.Common.{◌≡◌, ℕ, ◌+◌, ◌-◌, ◌<◌, ◌≤◌, Bool, true, false, List, [], ◌∷◌, ◌++◌, length, take, Ok, Err, refl, sym, ap, ◌∙◌, subst, append_assoc, arith}
 use Rattle.std.specs.Prelude.{Option, Some, None, slice_get}
 use Rattle.std.proofs.lemmas.List.{length-append, take_at}
@@ -32,7 +32,7 @@ use Rattle.body_laws.proofs.Declared as count
 use Rattle.body_laws.proofs.Judging.{NoIndex, no_index, Names, outer_judges}
 use Rattle.body_laws.proofs.Walking.{is_int, is_trap, silent_as, inside_as, silent, semicolon, begun, declared_name, trap_name, assigned_name, element_name, expression, Ready, Follows, first_step, known_step, walked}
 
--- a fault is the same with nothing after it
+-- a fault alone is itself
 fault_again : (v : Resolved (Unit {0})) → fault_of v ≡ v
 fault_again (Ok x) = refl
 fault_again (Err e) = refl
@@ -40,7 +40,7 @@ fault_again (Err e) = refl
 pub room_is : (w : Word) (k : Bindings) → k.declared < 256 → require_room w k ≡ Ok tt
 room_is w k h = rw (lt-ltb k.declared 256 h) refl
 
--- the last of some pairs, and those before it
+-- the last of a list of pairs, and those before it
 pub last_is : (xs : List (ℕ × ℕ)) (p : ℕ × ℕ) → slice_get (xs ++ p ∷ []) (length (xs ++ p ∷ []) - 1) ≡ Some p
 last_is xs p = ap (slice_get (xs ++ p ∷ [])) (let e = length-append xs (p ∷ []) in omega (arith, e)) ∙ at_end xs
   where
@@ -52,7 +52,7 @@ pub front_is : (xs : List (ℕ × ℕ)) (p : ℕ × ℕ) → take (length (xs ++
 front_is xs p = take_at xs (p ∷ []) (length (xs ++ p ∷ []) - 1) (let e = length-append xs (p ∷ []) in omega (arith, e))
 
 module _ (scope : Environment) where
-  -- Tokens are walked as the tree is resolved, which declares so many variables.
+  -- Scanning the tokens of s before r agrees with resolving their tree, which declares n variables.
   pub record Walks {A : Type 0} (s r : List Token) (n : ℕ) (given : Bindings → Resolved (A × Bindings)) : Type 0 where
     pub word : List Token
     pub parts : s ≡ word ++ r
@@ -75,7 +75,7 @@ module _ (scope : Environment) where
     parts : s ≡ word ++ r
     walks : (st : TokenScan) → along scope st word r ≡ and_then (fault_of (term_of scope st.bindings.seen t.tree)) (λ _. Ok (done st))
 
-  -- an expression after a word or a mark, with what may close it
+  -- an expression after a token, and perhaps a token that closes it
   pub record Indexes (s r : List Token) (t : ExprWithSpot) : Type 0 where
     pub word : List Token
     pub parts : s ≡ word ++ r

@@ -1,4 +1,4 @@
--- Where the same variables are seen, whatever their slots, names have the same faults.
+-- If the same variables are seen, whatever their slots, names have the same faults.
 use Rattle.std.proofs.Common.{◌≡◌, ℕ, zero, suc, Bool, true, false, cond, List, [], ◌∷◌, ◌++◌, length, take, drop, Ok, Err, refl, sym, ap, ◌∙◌}
 use Rattle.std.specs.Prelude.{Option, Some, None, option_map, find, reverse, ◌||◌}
 use Rattle.std.specs.Str.{bytes_eq}
@@ -20,7 +20,7 @@ use Rattle.body_names.specs.Bindings.{Bindings, require_fresh}
 use Rattle.body_names.specs.TokenScan.{fault_of}
 use Rattle.body_laws.proofs.Judging.{unary_fault, binary_fault, choose_fault, elem_fault}
 
--- what is seen of variables, but for their slots
+-- variables without their slots
 abbrev pub names_of : List Variable → List (List ℕ × Bool)
 names_of [] = []
 names_of (v ∷ vs) = (v.name, v.is_loop_variable) ∷ names_of vs
@@ -50,7 +50,7 @@ names_reverse [] = refl
 names_reverse (v ∷ vs) =
     ap names_of (reverse-append (v ∷ []) vs) ∙ (names_append (reverse vs) (v ∷ []) ∙ (ap (λ (l : List (List ℕ × Bool)). l ++ (v.name, v.is_loop_variable) ∷ []) (names_reverse vs) ∙ sym (reverse-append ((v.name, v.is_loop_variable) ∷ []) (names_of vs))))
 
--- the same variables are seen
+-- the same variables are seen, apart from their slots
 pub record Alike (k m : Bindings) : Type 0 where
   pub seen : names_of k.seen ≡ names_of m.seen
   pub outside : k.outside ≡ m.outside

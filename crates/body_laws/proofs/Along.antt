@@ -30,8 +30,8 @@ pub after_same : {A B F : Type 0} (r : Result A F) (f g : A → Result B F) → 
 after_same (Ok x) f g h = h x
 after_same (Err e) f g h = refl
 
--- what is known after the first tokens, or the first fault of a name among them; the last list has the tokens after
--- them
+-- what is known after the tokens of the first list, or the first fault of a name among them; the second list has the
+-- tokens after them
 abbrev pub along : Environment → TokenScan → List Token → List Token → Resolved TokenScan
 along scope st [] r = Ok st
 along scope st (x ∷ w) r = and_then (judged scope st (x ∷ (w ++ r))) (λ _. along scope (after_token x st) w r)
@@ -43,7 +43,7 @@ along_append scope st (x ∷ u) v r =
     ∙ (after_same (judged scope st (x ∷ (u ++ (v ++ r)))) (λ _. along scope (after_token x st) (u ++ v) r) (λ _. and_then (along scope (after_token x st) u (v ++ r)) (λ m. along scope m v r)) (λ _. along_append scope (after_token x st) u v r)
     ∙ sym (after_after (judged scope st (x ∷ (u ++ (v ++ r)))) (λ _. along scope (after_token x st) u (v ++ r)) (λ m. along scope m v r)))
 
--- a whole list
+-- the same for a whole list
 pub among_all : (scope : Environment) (st : TokenScan) (s : List Token) → judged_among scope st (length s) s ≡ fault_of (along scope st s [])
 among_all scope st [] = refl
 among_all scope st (x ∷ s) =
@@ -51,13 +51,13 @@ among_all scope st (x ∷ s) =
     ∙ (after_same (judged scope st (x ∷ (s ++ []))) (λ _. judged_among scope (after_token x st) (length s) s) (λ _. fault_of (along scope (after_token x st) s [])) (λ _. among_all scope (after_token x st) s)
     ∙ sym (after_after (judged scope st (x ∷ (s ++ []))) (λ _. along scope (after_token x st) s []) (λ _. Ok tt)))
 
--- ---- inside of an expression
+-- ---- inside an expression
 
 -- a token after which no statement and no declaration begins
 abbrev pub is_plain : Terminal → Bool
 is_plain k = not (is terminal.Semicolon k || (is terminal.LeftBrace k || (is terminal.RightBrace k || (is terminal.Int k || (is terminal.For k || is terminal.Trap k)))))
 
--- one that is no name either
+-- such a token that is no name either
 abbrev pub is_quiet : Terminal → Bool
 is_quiet k = is_plain k && not (names Body k)
 
@@ -78,7 +78,7 @@ six_false false false false false true f h = absurd cc
 six_false false false false false false true h = absurd cc
 six_false false false false false false false h = (refl, refl, refl, refl, refl, refl)
 
--- inside, the token after a name decides its role
+-- inside an expression, the token after a name decides its role
 inside_role : (last : Option Terminal) (s : List Token) → is_inside last ≡ true → role_of last s ≡ cond (starts (is terminal.LeftBracket) s) role.Element role.Value
 inside_role None s h = absurd cc
 inside_role (Some k) s h = let f = six_false (is terminal.Semicolon k) (is terminal.LeftBrace k) (is terminal.RightBrace k) (is terminal.Int k) (is terminal.For k) (is terminal.Trap k) h in rw (f.3, f.4, f.5, f.0, f.1, f.2) refl
@@ -98,7 +98,7 @@ quiet_after x st h = ap (with_previous (terminal_of x)) (quiet_terminal (termina
 pub quiet_judged : (scope : Environment) (x : Token) (s : List Token) (st : TokenScan) → is_quiet (terminal_of x) ≡ true → judged scope st (x ∷ s) ≡ Ok tt
 quiet_judged scope x s st h = rw (not-true (names Body (terminal_of x)) (and_parts (is_plain (terminal_of x)) (not (names Body (terminal_of x))) h).1) refl
 
--- inside, a name declares nothing
+-- inside an expression, a name declares nothing
 name_terminal : (k : Terminal) (text : List ℕ) (st : TokenScan) → names Body k ≡ true → is_inside st.previous ≡ true → after_terminal k text st ≡ st
 name_terminal terminal.Name text st h i = no_name st.previous i
   where
@@ -117,10 +117,10 @@ name_plain terminal.Name h = refl
 name_plain terminal.TypeWord h = refl
 name_plain _ h = absurd cc
 
--- ---- a stretch of tokens inside of an expression
+-- ---- a stretch of tokens inside an expression
 
--- The tokens s up to the rest r: of their names the verdict says whether they have a fault, and nothing else changes
--- along them.
+-- The tokens of s before the rest r. The verdict says whether their names have a fault; along them nothing else
+-- changes.
 pub record Judges (scope : Environment) (s r : List Token) (verdict : List Variable → Resolved (Unit {0})) : Type 0 where
   pub word : List Token
   pub parts : s ≡ word ++ r
@@ -157,7 +157,7 @@ module _ (scope : Environment) where
         judges = λ st i. rw (quiet_judged scope x r st q) (ap (λ (m : TokenScan). Ok m) (quiet_after x st q));
       }
 
-  -- one stretch and another
+  -- one stretch, and then another
   pub then_judges : (s m r : List Token) (V U : List Variable → Resolved (Unit {0})) → Judges scope s m V → Judges scope m r U → Judges scope s r (λ seen. and_then (V seen) (λ _. U seen))
   then_judges s m r V U a b =
       record {
@@ -178,14 +178,14 @@ module _ (scope : Environment) where
   nothing_after (Ok x) = refl
   nothing_after (Err e) = refl
 
-  -- a quiet token before it, and one after it
+  -- a quiet token before a stretch, and one after it
   pub token_then : (s m r : List Token) (x : Token) (V : List Variable → Resolved (Unit {0})) → s ≡ x ∷ m → is_quiet (terminal_of x) ≡ true → Judges scope m r V → Judges scope s r V
   token_then s m r x V e q j = same_verdict s r (λ seen. and_then (faultless seen) (λ _. V seen)) V (λ seen. refl) (then_judges s m r faultless V (quiet_judges s m x e q) j)
 
   pub then_token : (s m r : List Token) (x : Token) (V : List Variable → Resolved (Unit {0})) → m ≡ x ∷ r → is_quiet (terminal_of x) ≡ true → Judges scope s m V → Judges scope s r V
   then_token s m r x V e q j = same_verdict s r (λ seen. and_then (V seen) (λ _. faultless seen)) V (λ seen. nothing_after (V seen)) (then_judges s m r V faultless j (quiet_judges m r x e q))
 
-  -- a name that means a number, and one before an index
+  -- a name that stands for a number, and one before an index
   name_judges : (s r : List Token) (x : Token) (j : Role) (V : List Variable → Resolved (Unit {0})) → s ≡ x ∷ r → names Body (terminal_of x) ≡ true → cond (starts (is terminal.LeftBracket) r) role.Element role.Value ≡ j
       → ((st : TokenScan) → judged_as j scope st.bindings (word_of x) ≡ V st.bindings.seen) → Judges scope s r V
   name_judges s r x j V e n role_is verdict =

@@ -1,4 +1,4 @@
--- A text declares at least as many variables as its tree, and so a tree has no more than a text may.
+-- A text declares at least as many variables as its tree, so a tree declares at most as many as a text may.
 use Rattle.std.proofs.Common.{◌≡◌, ℕ, zero, suc, ◌+◌, ◌≤◌, ◌<◌, Bool, true, false, cond, List, [], ◌∷◌, ◌++◌, length, refl, sym, ap, ◌∙◌, subst, inl, inr, append_assoc, arith}
 use Rattle.std.specs.Prelude.{◌&&◌, Option, Some, None, nat_lt, nat_le}
 use Rattle.std.proofs.lemmas.Bool.{ltb-false, or_right}
@@ -30,7 +30,7 @@ use Rattle.jdf_tree.specs.Statements.{Statements}
 use Rattle.body_laws.specs.Declarations.{declarations}
 use Rattle.list_lemmas.specs.Counting.{weigh}
 
--- the words that declare a variable among these tokens
+-- how many of these tokens declare a variable
 abbrev remaining : List Token → ℕ
 remaining s = how_many declares s
 
@@ -65,14 +65,14 @@ statements_declare (s ∷ ss) = then_declares s (statements_of ss) ∙ ap (λ (n
 
 -- ---- forms of text, by what their trees declare
 
--- what the trees of names declare
+-- how many variables the tree of a nonterminal declares
 abbrev of_name : (n : Nonterminal) → TreeOf n → ℕ
 of_name (an_expr part) t = 0
 of_name (a_unary part) t = 0
 of_name a_file t = 0
 of_name a_block t = declarations t
 
--- a tree declares no more than its tokens do
+-- a tree declares at most as many variables as its tokens
 abbrev Spends : {A : Type 0} → Language A → (A → ℕ) → Type 0
 Spends {A = A} G f = (s : List Token) (t : A) (o : Fault) (r : List Token) → G s t o r → f t + remaining r ≤ remaining s
 
@@ -85,7 +85,7 @@ module _ (R : (n : Nonterminal) → Language (TreeOf n)) (H : (n : Nonterminal) 
   many_none full G f i (t ∷ ts) s o r h =
       let a = f s t h.1 h.0 h.3 in let b = many_none full G f (suc i) ts h.0 h.2 r h.4 in omega (arith, a, b)
 
-  -- what is left is no more than what there was
+  -- after a tree at most as many declaring tokens remain as before it
   none : {A : Type 0} (g : Grammar A) → Spends (Derives R g) (λ t. 0)
   none (one_of q) s t o r h = let k = one_spends q s t r h.0.0 in omega (arith, k)
   none (checked q good c) s t o r h = let k = one_spends q s t r h.0.0 in omega (arith, k)
@@ -116,7 +116,7 @@ module _ (R : (n : Nonterminal) → Language (TreeOf n)) (H : (n : Nonterminal) 
   many_spend full g f a i [] s o r h = omega (arith, ap remaining h.0)
   many_spend full g f a i (t ∷ ts) s o r h = let x = a s t h.1 h.0 h.3 in let y = many_spend full g f a (suc i) ts h.0 h.2 r h.4 in omega (arith, x, y)
 
-  -- a word that declares
+  -- the count of one token that declares
   abbrev one_more : ℕ
   one_more = 1
 
@@ -230,7 +230,7 @@ text_declares s t o r h = text_spends (Derived productions) (λ n s t o r d. wit
 
 -- ---- the limit
 
--- as many tokens as come before the first declaration that is too many declare no more than may be
+-- the tokens before the first declaration that is too many declare at most as many variables as are allowed
 bounded_before : (s front : List Token) → remaining front ≤ 256 → length s ≤ index_by is_too_many front s → remaining (front ++ s) ≤ 256
 unfolding index_by is_too_many
 bounded_before [] front at_most h = subst (λ (l : List Token). remaining l ≤ 256) (sym (append-nil front)) at_most
@@ -253,7 +253,7 @@ bounded_before (x ∷ s) front at_most h = go (declares (terminal_of x)) (nat_le
         let same : remaining (front ++ x ∷ []) ≡ remaining front + 0 = more ∙ ap (λ (b : Bool). remaining front + cond b 1 0) e in
         let k = later (omega (arith, same, at_most)) (omega arith) in omega (arith, k, along)
 
--- what a limit leaves without a fault is within it
+-- if a limit leaves no fault, the tokens are within it
 none_cut : (l : ℕ) (c : Code) (n : ℕ) (x : Fault) → cut_at l c n x ≡ None → n ≤ l
 none_cut l c n None e = go (nat_lt l n) refl e
   where

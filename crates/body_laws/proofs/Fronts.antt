@@ -1,4 +1,4 @@
--- The names at the front of a text have the fault of the whole text or none, whatever follows the next token.
+-- The names at a front of a text have no fault, or that of the whole text, whatever follows the next token.
 use Rattle.std.proofs.Common.{◌≡◌, ℕ, zero, suc, ◌<◌, List, [], ◌∷◌, ◌++◌, length, Ok, Err, ◌⊎◌, inl, inr, refl, ap, arith}
 use Rattle.grammar_core.specs.declared.token.Token.{Token}
 use Rattle.ptg_base.specs.Returns.{and_then}

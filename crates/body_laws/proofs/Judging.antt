@@ -1,4 +1,4 @@
--- The names of an expression, judged by their tokens, have the fault of its tree.
+-- Judged by their tokens, the names of an expression have the fault of its tree.
 use Rattle.std.proofs.Common.{◌≡◌, ℕ, zero, suc, Bool, true, false, List, [], ◌∷◌, Ok, Err, refl, sym, ap, ◌∙◌, subst, inl, inr}
 use Rattle.std.specs.Prelude.{Option, Some, None}
 use Rattle.grammar_core.specs.declared.token.Spot.{Spot}
@@ -34,7 +34,7 @@ use Rattle.body_laws.proofs.Along.{Judges, faultless, same_verdict, same_rest, t
 abbrev pub NoIndex : List Token → Type 0
 NoIndex r = starts (is terminal.LeftBracket) r ≡ false
 
--- a token that is no bracket
+-- no index follows if the next token is no bracket
 pub no_index : (q : Terminal → Bool) (s r : List Token) (x : Token) → are_disjoint q (is terminal.LeftBracket) ≡ true → s ≡ x ∷ r → q (terminal_of x) ≡ true → NoIndex s
 no_index q s r x d e h = subst (λ (l : List Token). NoIndex l) (sym e) (disjoint_at q (is terminal.LeftBracket) d (terminal_of x) h)
 
@@ -46,7 +46,7 @@ negated false = true
 abbrev pub is_loud : Terminal → Bool
 is_loud k = negated (is_quiet k)
 
--- tokens of these terminals are quiet
+-- tokens of terminals that are not loud are quiet
 pub within_quiet : (q : Terminal → Bool) → are_disjoint q is_loud ≡ true → (k : Terminal) → q k ≡ true → is_quiet k ≡ true
 within_quiet q d k h = go (is_quiet k) (disjoint_at q is_loud d k h)
   where
@@ -55,21 +55,21 @@ within_quiet q d k h = go (is_quiet k) (disjoint_at q is_loud d k h)
     go false e = absurd cc
 
 module _ (scope : Environment) where
-  -- whether an expression has a fault
+  -- the fault of an expression, if it has one
   abbrev pub fault : Expression → List Variable → Resolved (Unit {0})
   fault e seen = fault_of (term_of scope seen e)
 
   abbrev pub JudgesBy : {A : Type 0} → Language A → (A → List Variable → Resolved (Unit {0})) → Type 0
   JudgesBy {A = A} G V = (s : List Token) (t : A) (o : Fault) (r : List Token) → G s t o r → NoIndex r → Judges scope s r (V t)
 
-  -- ---- what a fault is made of
+  -- ---- what a fault consists of
 
-  -- an operation on what is resolved
+  -- an operation that cannot fail adds no fault
   pub of_fault : {A B : Type 0} (r : Resolved A) (f : A → B) → fault_of r ≡ fault_of (and_then r (λ x. Ok (f x)))
   of_fault (Ok x) f = refl
   of_fault (Err e) f = refl
 
-  -- two, one after the other
+  -- the fault of two parts, one after the other
   pair_fault : {A B : Type 0} (r : Resolved A) (q : Resolved B) → and_then (fault_of r) (λ _. fault_of q) ≡ fault_of (together (λ first _. first) r q)
   pair_fault (Ok x) (Ok y) = refl
   pair_fault (Ok x) (Err e) = refl
@@ -92,7 +92,7 @@ module _ (scope : Environment) where
   pub elem_fault : (w : Word) (e : Expression) (seen : List Variable) → and_then (fault_of (read_flow scope w)) (λ _. fault e seen) ≡ fault (Elem w e) seen
   elem_fault w e seen = pair_fault (read_flow scope w) (term_of scope seen e) ∙ of_fault (together (λ first _. first) (read_flow scope w) (term_of scope seen e)) (λ (x : ℕ × Term). term.Elem x.0 x.1)
 
-  -- operands with operators between them
+  -- the first fault of operands with operators between them
   abbrev faults : List (BinOp × ExprWithSpot) → List Variable → Resolved (Unit {0})
   faults [] seen = Ok tt
   faults (x ∷ xs) seen = and_then (fault x.1.tree seen) (λ _. faults xs seen)
@@ -107,7 +107,7 @@ module _ (scope : Environment) where
       sym (after_after (fault a seen) (λ _. fault x.1.tree seen) (λ _. faults xs seen))
       ∙ (ap (λ (v : Resolved (Unit {0})). and_then v (λ _. faults xs seen)) (binary_fault x.0 a x.1.tree seen) ∙ grouped_fault xs (Binary x.0 a x.1.tree) seen)
 
-  -- ---- the forms of an expression, where the names inside are judged
+  -- ---- the forms of an expression, whose names are judged inside
 
   module _ (R : (n : Nonterminal) → Language (TreeOf n)) (E : JudgesBy (R (an_expr Body)) (λ t. fault t.tree)) (U : JudgesBy (R (a_unary Body)) (λ t. fault t.tree)) where
     number_judges : JudgesBy (Derives R number) (λ t. fault t.tree)

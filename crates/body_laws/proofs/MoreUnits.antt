@@ -1,4 +1,4 @@
--- More units change nothing but a trap for want of units.
+-- More units change nothing but a trap for lack of units.
 use Rattle.std.proofs.Common.{◌≡◌, ◌≢◌, ℕ, zero, suc, ◌+◌, ℤ, Bool, true, false, if◌then◌else◌, List, [], ◌∷◌, ◌⊎◌, inl, inr, Option, Result, Ok, Err, refl, ap, sym, ◌∙◌, arith}
 use Rattle.term_core.specs.Term.{Term}
 use Rattle.term_core.specs.Arith.{holds}
@@ -14,7 +14,7 @@ use Rattle.body_laws.specs.MoreUnits.{DoesTheSame}
 use Rattle.body_eval.proofs.Units.{state_with, spent_one}
 
 module _ (m : ℕ) where
-  -- the same with m units more
+  -- the same state with m more units
   abbrev richer : State → State
   richer s = record s { units_left = s.units_left + m }
 
@@ -22,14 +22,14 @@ module _ (m : ℕ) where
   all_richer (Ok s) = Ok (richer s)
   all_richer (Err e) = Err e
 
-  -- the second is what the first becomes by m units more, unless the first lacked units
+  -- the second result is the first one with m more units, unless the first ran out of units
   abbrev Outcome : Result State Trap → Result State Trap → Type 0
   Outcome r r' = (r ≡ Err Budget) ⊎ (r' ≡ all_richer r)
 
   abbrev Keeps : (State → Result State Trap) → Type 0
   Keeps f = (s : State) → Outcome (f s) (f (richer s))
 
-  -- a value that comes first is the same
+  -- a value that is evaluated first is the same with both budgets
   outcome-value : {A : Type 0} (r : Result A Trap) (f g : A → Result State Trap) → ((x : A) → Outcome (f x) (g x)) → Outcome (and_then r f) (and_then r g)
   outcome-value (Ok x) f g k = k x
   outcome-value (Err e) f g k = inr refl

@@ -1,4 +1,4 @@
--- The names of a whole body, judged by its tokens, have the fault of its tree: blocks, and statements in order.
+-- Judged by its tokens, the names of a whole body have the fault of its tree: blocks, and statements in order.
 use Rattle.std.proofs.Common.{◌≡◌, ℕ, zero, suc, ◌+◌, ◌-◌, ◌≤◌, Bool, true, false, List, [], ◌∷◌, ◌++◌, length, take, Ok, Err, refl, sym, ap, ◌∙◌, subst, inl, inr, append_assoc, arith}
 use Rattle.std.specs.Prelude.{Option, Some, None, slice_get}
 use Rattle.std.proofs.lemmas.List.{append-nil, take_all}
@@ -53,15 +53,15 @@ declared_around (Some name) st = refl
 same_length : (k m : Bindings) → Alike k m → length k.seen ≡ length m.seen
 same_length k m h = sym (names_length k.seen) ∙ (ap length h.seen ∙ names_length m.seen)
 
--- what is kept of a place for the end of a block that opens there
+-- what is noted at the opening of a block, for its end
 abbrev both : Bindings → ℕ × ℕ
 both k = (length k.seen, k.outside)
 
--- inside of a block of `if` and of `else`
+-- inside a block of `if` or `else`
 ready_inside : (k : Bindings) (st : TokenScan) → Alike k st.bindings → st.naming ≡ None → Ready (block_opened k) (with_previous terminal.LeftBrace (declared true (block_entered st)))
 ready_inside k st h e = rw e (record { alike = record { seen = h.seen; outside = same_length k st.bindings h }; naming = refl; begins = refl })
 
--- inside of a loop's
+-- inside the block of a loop
 ready_counted : (scope : Environment) (k : Bindings) (st : TokenScan) (name : List ℕ) → Alike k st.bindings → st.naming ≡ Some name
     → Ready (with_variable scope name true (block_opened k)) (with_previous terminal.LeftBrace (declared true (block_entered st)))
 ready_counted scope k st name h e =
@@ -75,7 +75,7 @@ ready_counted scope k st name h e =
       begins = refl;
     })
 
--- the value goes through a last step that cannot fail
+-- a last step that cannot fail changes nothing
 mapped : {X Y : Type 0} (around : List (ℕ × ℕ)) (g : X × Bindings → Y) (a : Resolved (X × Bindings)) (v : Resolved TokenScan) → Follows around a v → Follows around (and_then a (λ x. Ok (g x, x.1))) v
 mapped around g (Ok x) (Ok m) h = h
 mapped around g (Ok x) (Err e) h = absurd h
@@ -83,7 +83,7 @@ mapped around g (Err e) (Ok m) h = absurd h
 mapped around g (Err e) (Err f) h = h
 
 module _ (scope : Environment) where
-  -- after the statements of a block and its brace
+  -- the statements of a block and its closing brace
   record Closes (s r : List Token) (t : Statements) : Type 0 where
     word : List Token
     parts : s ≡ word ++ r
@@ -101,7 +101,7 @@ module _ (scope : Environment) where
     follows : (opening : Bindings → Bindings) (k : Bindings) (naming : Option (List ℕ)) → Opens opening k naming → (st : TokenScan) → Alike k st.bindings → st.naming ≡ naming
         → (opening k).declared + declarations t ≤ 256 → Follows st.open_blocks (in_block opening (resolved scope t) k) (along scope st word r)
 
-  -- after the brace as much is seen as before the block
+  -- after the closing brace as many variables are seen as before the block
   left_known : (k m : Bindings) (st : TokenScan) (beyond : List (ℕ × ℕ)) → Ready m st → st.open_blocks ≡ beyond ++ (length k.seen, k.outside) ∷ [] → ((block_left st).open_blocks ≡ beyond) × Ready (block_closed k m) (with_previous terminal.RightBrace (block_left st))
   left_known k m st beyond ready e =
       subst (λ (o : Option (ℕ × ℕ)). ((block_left_by o st).open_blocks ≡ beyond) × Ready (block_closed k m) (with_previous terminal.RightBrace (block_left_by o st))) (sym last) (
@@ -217,7 +217,7 @@ module _ (scope : Environment) where
               (b.follows opening k naming opens (with_previous (terminal_of x) st) alike is_naming at_most);
         })
 
-    -- an else part, or none
+    -- an else part, if there is one
     may_walk : (s : List Token) (t : Option Statements) (o : Fault) (r : List Token) → Derives R (opt otherwise) s t o r → Walks scope s r (declarations (unwrap_or t Done)) (in_block block_opened (resolved scope (unwrap_or t Done)))
     may_walk s None o r h =
         record {
@@ -277,7 +277,7 @@ module _ (scope : Environment) where
 
     -- ---- loops
 
-    -- an expression after a mark, with no index after it
+    -- an expression after a mark, with no index after the expression
     marked_walks : (j : Terminal) → ((k : Terminal) → is j k ≡ true → (is_silent k ≡ true) × (is_inside (Some k) ≡ true))
         → (s : List Token) (t : ExprWithSpot) (o : Fault) (r : List Token) → Derives R (piece.prefixed_by j (outer part.Body)) s t o r → NoIndex r → Indexes scope s r t
     marked_walks j terminals s t o r h apart =
@@ -461,7 +461,7 @@ module _ (scope : Environment) where
           let a = statements_walk (Derived productions) (names_judge scope) blocks_close s t o [] u in
           ap fault_of (all_along a.word s a.parts) ∙ same_fault [] (resolved scope t no_bindings) (along scope at_first a.word []) (a.follows no_bindings at_first at_start (omega (arith, at_most)))
 
-  -- In a whole text the names have the same first fault by its tokens and by its tree.
+  -- In a whole text, its tokens and its tree give the names the same first fault.
   pub agrees : (s : List Token) (t : Statements) → IsText productions body s t None → front_fault scope s (length s) ≡ fault_of (body_of scope t)
   unfolding body
   agrees s t h =

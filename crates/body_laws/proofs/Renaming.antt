@@ -1,4 +1,4 @@
--- A body under another name of one variable: what is seen under both names agrees, and the statements are the same.
+-- A body with another name for one variable: under both names the same is seen, and the statements are the same.
 use Rattle.std.proofs.Common.{◌≡◌, ℕ, zero, suc, ◌+◌, Bool, true, false, cond, List, [], ◌∷◌, ◌++◌, length, take, drop, Ok, refl, sym, ap, ◌∙◌, subst, append_assoc, append-nil, length-append}
 use Rattle.std.specs.Prelude.{◌||◌, Option, Some, None, find, reverse}
 use Rattle.std.specs.Str.{bytes_eq}
@@ -82,7 +82,7 @@ some_named (u ∷ us) z h = go (has z us) refl (some_named us z)
         let here : bytes_eq u.name z ≡ true = other_true (bytes_eq u.name z) (has z us) h k in
         (u, last_append (u ∷ []) us z ∙ (ap (λ (o : Option Variable). option_or o (last_named (u ∷ []) z)) (none_named us z k) ∙ ap (λ (b : Bool). cond b (Some u) None) here))
 
--- another variable in the place of one, where it does not have the name
+-- one variable replaced by another that does not have the name
 drop_has : (v u : Variable) (z : List ℕ) → bytes_eq u.name z ≡ false → (o : ℕ) (pre post : List Variable) → has z (drop o (pre ++ v ∷ post)) ≡ false → has z (drop o (pre ++ u ∷ post)) ≡ false
 drop_has v u z a zero [] post h = ap (λ (b : Bool). b || has z post) a ∙ second_false (bytes_eq v.name z) (has z post) h
 drop_has v u z a zero (p ∷ pre) post h =
@@ -91,7 +91,7 @@ drop_has v u z a zero (p ∷ pre) post h =
 drop_has v u z a (suc o) [] post h = h
 drop_has v u z a (suc o) (p ∷ pre) post h = drop_has v u z a o pre post h
 
--- a trap, by the number that its word has so far
+-- a trap, given the number that its word has so far
 abbrev trap_by : List ℕ → Bindings → Option ℕ → Resolved (Stmt × Bindings)
 trap_by name k o = let n = numbered name k o in Ok (stmt.Trap n.0, n.1)
 
@@ -101,14 +101,14 @@ module _ (scope : Environment) (old new : List ℕ) (pre : List Variable) (v : V
   abbrev pub other : Variable
   other = record v { name = new }
 
-  -- what is seen, with the variable under its old name and under its new one
+  -- the variables that are seen, with the one in the middle under its old name and under its new one
   abbrev pub under_old : List Variable → List Variable
   under_old post = pre ++ v ∷ post
 
   abbrev pub under_new : List Variable → List Variable
   under_new post = pre ++ other ∷ post
 
-  -- the last of a name, by whether the variable in the middle has it
+  -- the last variable of a name, given whether the variable in the middle has the name
   abbrev by_test : Variable → List Variable → List ℕ → Bool → Option Variable
   by_test u post z b = option_or (option_or (last_named post z) (cond b (Some u) None)) (last_named pre z)
 
@@ -136,12 +136,12 @@ module _ (scope : Environment) (old new : List ℕ) (pre : List Variable) (v : V
 
   -- ---- words
 
-  -- a word under the new name, unless a later variable hides the one that is renamed
+  -- a word under the new name, unless a later variable hides the renamed one
   abbrev pub changed : Bool → Word → Word
   changed true w = w
   changed false w = renamed_word old new w
 
-  -- what a name means that is no variable
+  -- what a name means if it is no variable
   abbrev no_variable : List ℕ → Meaning
   no_variable z = outer_meaning (index_named scope.locals z) (scope.integer z) (scope.is_collection z)
 
@@ -190,7 +190,7 @@ module _ (scope : Environment) (old new : List ℕ) (pre : List Variable) (v : V
     changed_slot true w m = refl
     changed_slot false w m = slot_spot (bytes_eq w.text old) w m
 
-    -- two parts of an expression, of which the first one's fault is told
+    -- two parts of an expression, for which the first fault is reported
     abbrev in_turn : {A B : Type 0} → Resolved A → Resolved B → Resolved (A × B)
     in_turn r q = together (λ first _. first) r q
 
@@ -220,11 +220,11 @@ module _ (scope : Environment) (old new : List ℕ) (pre : List Variable) (v : V
 
   -- ---- what agrees under both names
 
-  -- the same, with this list as the variables that are seen
+  -- the same bindings, with this list as the variables that are seen
   abbrev seeing : Bindings → List Variable → Bindings
   seeing k vs = record k { seen = vs }
 
-  -- the statements under the new name, unless a later variable hides the one that is renamed
+  -- the statements under the new name, unless a later variable hides the renamed one
   abbrev pub chosen : Bool → Statements → Statements
   chosen true t = t
   chosen false t = renamed old new t
@@ -254,12 +254,12 @@ module _ (scope : Environment) (old new : List ℕ) (pre : List Variable) (v : V
         same = a.same ∙ ap (λ (vs : List Variable). Ok (x.0, seeing x.1 (under_new vs))) (append_assoc post first a.more);
       }
 
-  -- a block and the same under the new name, by whether the variable is hidden where it begins
+  -- a block agrees with the same block under the new name, given whether the variable is hidden where it begins
   abbrev Goes : Resolver → (Bool → Resolver) → Type 0
   Goes block other_block = (h : Bool) (post : List Variable) → has old post ≡ h → has new post ≡ false → (k : Bindings) (x : StatementList × Bindings) → block (seeing k (under_old post)) ≡ Ok x
       → Along post x (other_block h (seeing k (under_new post)))
 
-  -- a statement, and what follows it
+  -- a statement, and then what follows it
   follow_goes : (post : List Variable) (first other_first : Resolved (Stmt × Bindings)) (rest : Resolver) (other_rest : Bool → Resolver) (f : Bool)
       → ((y : Stmt × Bindings) → first ≡ Ok y → (a : Along post y other_first) × (has old (post ++ a.more) ≡ f)) → Goes rest other_rest
       → (x : StatementList × Bindings) → follow first rest ≡ Ok x → Along post x (follow other_first (other_rest f))
@@ -286,7 +286,7 @@ module _ (scope : Environment) (old new : List ℕ) (pre : List Variable) (v : V
     abbrev e_new : Expression → Expression
     e_new e = with_words (changed h) e
 
-    -- a statement agrees under both names, and after it the variable is hidden or not
+    -- a statement agrees under both names, and `f` says whether the variable is hidden after it
     abbrev One : Bool → Stmt × Bindings → Resolved (Stmt × Bindings) → Type 0
     One f y r = (a : Along post y r) × (has old (post ++ a.more) ≡ f)
 

@@ -1,4 +1,4 @@
--- Where a tree declares no more variables than a body may, no name is refused because it declares one too many.
+-- If a tree declares at most as many variables as a body may, no name is refused for declaring one too many.
 use Rattle.std.proofs.Common.{◌≡◌, ◌≢◌, ℕ, ◌+◌, ◌<◌, ◌≤◌, Bool, true, false, cond, List, length, Ok, Err, refl, sym, ap, ◌∙◌, subst, arith}
 use Rattle.std.specs.Prelude.{Option, Some, None, slice_get, drop}
 use Rattle.std.specs.Str.{bytes_eq}
@@ -33,7 +33,7 @@ use Rattle.body_names.specs.Bindings.{Bindings, no_bindings, block_opened, block
 use Rattle.body_names.specs.Statements.{Resolver, declare, set, put, in_block, if_else, for_loop, trap, follow, resolved, body_of}
 use Rattle.body_laws.specs.Declarations.{declarations}
 
--- a value satisfies P, and a fault is not TooManyVars
+-- the value satisfies P, or the fault is not TooManyVars
 abbrev pub NotTooMany : {A : Type 0} → (A → Type 0) → Resolved A → Type 0
 NotTooMany P (Ok x) = P x
 NotTooMany P (Err f) = f.code ≡ TooManyVars → ⊥
@@ -49,7 +49,7 @@ pair_not_too_many (Ok x) (Err g) h k = k
 pair_not_too_many (Err f) (Ok y) h k = h
 pair_not_too_many (Err f) (Err g) h k = h
 
--- an operation on what is resolved
+-- an operation that cannot fail
 of_not_too_many : {A : Type 0} (r : Resolved A) (f : A → Term) → NotTooMany (Anything {A = A}) r → NotTooMany (Anything {A = Term}) (and_then r (λ x. Ok (f x)))
 of_not_too_many (Ok x) f h = tt
 of_not_too_many (Err e) f h = h
@@ -118,7 +118,7 @@ module _ (scope : Environment) where
       go true = λ e. cc
       go false = tt
 
-  -- so many more are declared
+  -- n more variables are declared
   abbrev pub Adds : {A : Type 0} → Bindings → ℕ → A × Bindings → Type 0
   Adds k n x = x.1.declared ≡ k.declared + n
 
@@ -175,7 +175,7 @@ module _ (scope : Environment) where
       after_not_too_many (Adds k n) (Adds k (n + m)) first (λ x. and_then (rest x.1) (λ y. Ok (then x.0 y.0, y.1))) one
       (λ x h. after_not_too_many (Adds x.1 m) (Adds k (n + m)) (rest x.1) (λ y. Ok (then x.0 y.0, y.1)) (more x.1 (omega (arith, h, le))) (λ y i. omega (arith, h, i)))
 
-  -- nothing, and then so many
+  -- no variable, and then n more
   none_first : (k : Bindings) (n : ℕ) (r : Resolved (StatementList × Bindings)) → NotTooMany (Adds {A = StatementList} k (0 + n)) r → NotTooMany (Adds {A = StatementList} k n) r
   none_first k n r h = let e : 0 + n ≡ n = omega arith in subst (λ (m : ℕ). NotTooMany (Adds {A = StatementList} k m) r) e h
 
@@ -194,7 +194,7 @@ module _ (scope : Environment) where
   block_bounded (TrapThen w rest) k le =
       none_first k (declarations rest) (resolved scope (TrapThen w rest) k) (follow_bounded k 0 (declarations rest) (trap w k) (resolved scope rest) (omega (arith, le)) (trap_bounded w k) (block_bounded rest))
 
-  -- a body of at most 256 variables has no fault because of their number
+  -- a body of at most 256 variables is not refused because of their number
   pub no_fault_of_number : (statements : Statements) (f : JdfFault) → declarations statements ≤ 256 → body_of scope statements ≡ Err f → f.code ≢ TooManyVars
   no_fault_of_number statements f le e =
       let other : NotTooMany (Anything {A = Body × List (List ℕ)}) (body_of scope statements) =

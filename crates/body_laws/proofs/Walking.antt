@@ -1,5 +1,4 @@
--- Single tokens of statements, as they are judged, and when the scan of the tokens agrees with the bindings of the
--- tree.
+-- How single tokens of statements are judged, and when the scan of the tokens agrees with the bindings of the tree.
 use Rattle.std.proofs.Common.{◌≡◌, ℕ, Bool, true, false, List, ◌∷◌, ◌++◌, Ok, Err, refl, sym, ap, ◌∙◌, subst, arith}
 use Rattle.std.specs.Prelude.{Option, Some, None, ◌||◌, not}
 use Rattle.std.proofs.lemmas.Bool.Decides.{nat_tests}
@@ -47,11 +46,11 @@ pub is_trap : (k : Terminal) → is terminal.Trap k ≡ true → k ≡ terminal.
 is_trap terminal.Trap h = refl
 is_trap _ h = absurd cc
 
--- the others, names apart
+-- a terminal that changes nothing but the token before, and is no name
 abbrev pub is_silent : Terminal → Bool
 is_silent k = not (is terminal.Semicolon k || (is terminal.LeftBrace k || (is terminal.RightBrace k || names Body k)))
 
--- a terminal that is one of these is one itself
+-- a terminal that is the same as a silent one is silent
 pub silent_as : (j k : Terminal) → is_silent j ≡ true → is j k ≡ true → is_silent k ≡ true
 silent_as j k h e = let same : number_of j ≡ number_of k = grind (arith, nat_tests) in rw (← same) h
 
@@ -71,13 +70,13 @@ no_name terminal.Name h = absurd cc
 no_name terminal.TypeWord h = absurd cc
 no_name _ h = refl
 
--- after a name, where no declaration begins
+-- what is known after a name
 name_terminal : (k : Terminal) (text : List ℕ) (st : TokenScan) → names Body k ≡ true → after_terminal k text st ≡ named_by text st
 name_terminal terminal.Name text st h = refl
 name_terminal terminal.TypeWord text st h = refl
 name_terminal _ text st h = absurd cc
 
--- where a statement begins no declaration has begun
+-- if a statement begins here, no declaration has begun
 begins_apart : (last : Option Terminal) → begins_here last ≡ true → (previous_is terminal.Int last ≡ false) × (previous_is terminal.For last ≡ false) × (previous_is terminal.Trap last ≡ false)
 begins_apart None h = (refl, refl, refl)
 begins_apart (Some k) h = of_terminal k h
@@ -91,7 +90,7 @@ begins_apart (Some k) h = of_terminal k h
 module _ (scope : Environment) where
   -- ---- single tokens
 
-  -- what a token does, where it is no name
+  -- what a token that is no name changes
   mute : (x : Token) (w r : List Token) (st m : TokenScan) → names Body (terminal_of x) ≡ false → after_token x st ≡ m → along scope st (x ∷ w) r ≡ along scope m w r
   mute x w r st m n e = rw n (ap (λ (q : TokenScan). along scope q w r) e)
 
@@ -119,7 +118,7 @@ module _ (scope : Environment) where
   abbrev pub begun : Token → TokenScan → TokenScan
   begun x st = with_previous (terminal_of x) (record st { naming = Some x.text })
 
-  -- a name is judged, and passed
+  -- a name is judged, and then passed
   a_name : (x : Token) (w r : List Token) (st m : TokenScan) (v : Resolved (Unit {0})) → judged scope st (x ∷ (w ++ r)) ≡ v → after_token x st ≡ m → along scope st (x ∷ w) r ≡ and_then v (λ _. along scope m w r)
   a_name x w r st m v h e =
       ap (λ (u : Resolved (Unit {0})). and_then u (λ _. along scope (after_token x st) w r)) h ∙ ap (λ (q : TokenScan). and_then v (λ _. along scope q w r)) e
@@ -143,7 +142,7 @@ module _ (scope : Environment) where
   pub trap_name : (x : Token) (w r : List Token) (st : TokenScan) → names Body (terminal_of x) ≡ true → st.previous ≡ Some terminal.Trap → along scope st (x ∷ w) r ≡ along scope (with_previous (terminal_of x) st) w r
   trap_name x w r st n e = a_name x w r st (with_previous (terminal_of x) st) no_fault (rw (n, e) refl) (past_name x st st n (rw e refl))
 
-  -- where a statement begins
+  -- a name that begins a statement
   first_past : (x : Token) (st : TokenScan) → names Body (terminal_of x) ≡ true → begins_here st.previous ≡ true → after_token x st ≡ with_previous (terminal_of x) st
   first_past x st n b = let f = begins_apart st.previous b in past_name x st st n (rw (f.0, f.1) refl)
 
@@ -175,7 +174,7 @@ pub record Ready (k : Bindings) (st : TokenScan) : Type 0 where
   pub naming : st.naming ≡ None
   pub begins : begins_here st.previous ≡ true
 
--- the scan agrees with the bindings, with the same blocks open
+-- the scan agrees with the bindings, and the same blocks are open around
 abbrev pub Follows : {A : Type 0} → List (ℕ × ℕ) → Resolved (A × Bindings) → Resolved TokenScan → Type 0
 Follows around (Ok x) (Ok m) = (m.open_blocks ≡ around) × Ready x.1 m
 Follows around (Ok x) (Err g) = ⊥
@@ -190,11 +189,11 @@ first_step around (Ok x) g (Err f) w e h = absurd cc
 first_step around (Err f) g (Ok u) w e h = absurd cc
 first_step around (Err f) g (Err f') w e h = cc
 
--- where nothing is owed of the tree
+-- a step of the tree alone, whose value is known
 pub known_step : {X Y : Type 0} (around : List (ℕ × ℕ)) (a : Resolved X) (g : X → Resolved (Y × Bindings)) (x : X) (w : Resolved TokenScan) → a ≡ Ok x → Follows around (g x) w → Follows around (and_then a g) w
 known_step around a g x w e h = rw e h
 
--- a last step of both
+-- the last step of both
 pub last_step : {X Y : Type 0} (inner around : List (ℕ × ℕ)) (a : Resolved (X × Bindings)) (g : X × Bindings → Resolved (Y × Bindings)) (v : Resolved TokenScan) (w : TokenScan → Resolved TokenScan) → Follows inner a v
     → ((x : X × Bindings) (m : TokenScan) → a ≡ Ok x → m.open_blocks ≡ inner → Ready x.1 m → Follows around (g x) (w m)) → Follows around (and_then a g) (and_then v w)
 last_step inner around (Ok x) g (Ok m) w f h = h x m refl f.0 f.1
@@ -202,6 +201,6 @@ last_step inner around (Ok x) g (Err e) w f h = absurd f
 last_step inner around (Err e) g (Ok m) w f h = absurd f
 last_step inner around (Err e) g (Err e') w f h = f
 
--- another spelling of the same walk
+-- the same walk, written in another way
 pub walked : {A : Type 0} (around : List (ℕ × ℕ)) (given : Resolved (A × Bindings)) (v w : Resolved TokenScan) → v ≡ w → Follows around given w → Follows around given v
 walked around given v w e h = subst (λ (q : Resolved TokenScan). Follows around given q) (sym e) h

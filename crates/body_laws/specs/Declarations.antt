@@ -1,8 +1,8 @@
--- How many variables statements declare. Source: this project's own choice.
+-- How many variables statements declare.
 use Rattle.std.specs.Prelude.{ℕ, ◌+◌}
 use Rattle.jdf_tree.specs.Statements.{Statements, Done, DeclareThen, SetThen, PutThen, IfThen, ForThen, TrapThen}
 
--- the variables that statements declare: those of the blocks inside and those of loops are counted
+-- the number of variables that statements declare, with those of inner blocks and of loops
 abbrev pub declarations : Statements → ℕ
 declarations Done = 0
 declarations (DeclareThen w e rest) = 1 + declarations rest

@@ -1,4 +1,4 @@
--- What follows from the definitions of a body, of its first fault, and of the names and trap words in it.
+-- Laws of the definitions of a body, of its first fault, and of its names and trap words.
 use Rattle.std.specs.Prelude.{◌≡◌, ◌≢◌, ℕ, ◌+◌, List, [], length, map, slice_get, Some, None, ◌<◌, ◌++◌, ◌⊎◌, Ok}
 use Rattle.jdf_lex.specs.declared.fault.JdfCode.TheVariants.{TooManyVars}
 use Rattle.jdf_lex.specs.declared.fault.JdfFault.{JdfFault}
@@ -15,24 +15,25 @@ use Rattle.body_lang.specs.Body.{IsBody, IsNameFault}
 use Rattle.body_lang.specs.TrapWords.{words_of, numbers_of, words_in_order}
 use Rattle.body_laws.specs.Declarations.{declarations}
 
--- A text never declares too many variables where it has no fault, so no name is refused because of their number.
+-- A text without a fault never declares too many variables, so no name is refused because of their number.
 abbrev pub NameNeverTooMany : Type 0
 NameNeverTooMany =
     (scope : Environment) (tokens : List Token) (f : JdfFault) → IsNameFault scope tokens f → f.code ≢ TooManyVars
 
--- Besides the locals of the class, a body has a slot for each variable that it declares.
+-- A body has a slot for each local of the class and for each variable that it declares.
 abbrev pub SlotForEach : Type 0
 SlotForEach =
     (scope : Environment) (tokens : List Token) (x : Body × List (List ℕ)) (h : IsBody scope tokens x)
     → x.0.slots ≡ length scope.locals + declarations h.tree
 
--- In a text without a fault the names have the same first fault, or none, by the tokens beside them and by the tree.
+-- In a text without a fault, the names have the same first fault by the tokens beside them as by the tree, or none by
+-- both.
 abbrev pub TokensAgreeWithTree : Type 0
 TokensAgreeWithTree =
     (scope : Environment) (tokens : List Token) (tree : Statements) → IsText productions body tokens tree None
     → front_fault scope tokens (length tokens) ≡ fault_of (body_of scope tree)
 
--- The names at the front of such a text have no fault, or that of the tree.
+-- The names at a front of such a text have no fault, or the fault of the tree.
 abbrev pub FrontsAgreeWithTree : Type 0
 FrontsAgreeWithTree =
     (scope : Environment) (tokens : List Token) (tree : Statements) (n : ℕ) → IsText productions body tokens tree None
@@ -44,7 +45,7 @@ OnlyTheNextCounts =
     (scope : Environment) (front rest other : List Token) (n : ℕ) → n < length front
     → front_fault scope (front ++ rest) n ≡ front_fault scope (front ++ other) n
 
--- Each trap of a body has the number of the word that its text has.
+-- Each trap of a body has the number of the word that it has in the text.
 abbrev pub OwnWords : Type 0
 OwnWords = (scope : Environment) (tokens : List Token) (x : Body × List (List ℕ)) (h : IsBody scope tokens x)
     → map (λ (n : ℕ). slice_get x.1 n) (numbers_of x.0.statements) ≡ map (λ (w : List ℕ). Some w) (words_of h.tree)

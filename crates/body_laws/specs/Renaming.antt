@@ -1,5 +1,6 @@
--- Another name for one variable of a body. That hiding ends with the block is this project's own choice, as in
--- most languages with blocks.
+-- Another name for one variable of a body. A variable hides an outer one to the end of its block, as in most languages
+-- with blocks.
+-- Carried by: law `another_name_changes_nothing`.
 use Rattle.std.specs.Prelude.{◌≡◌, ℕ, Bool, false, ◌||◌, List, ◌∷◌, ◌++◌, if◌then◌else◌, Ok}
 use Rattle.std.specs.Str.{bytes_eq}
 use Rattle.std.specs.List.{list_any}
@@ -21,7 +22,7 @@ named new w = record w { text = new }
 abbrev pub renamed_word : List ℕ → List ℕ → Word → Word
 renamed_word old new w = if bytes_eq w.text old then named new w else w
 
--- an expression with each name of a number changed so; a name before an index is a flow's
+-- an expression with `f` applied to each name of a value; a name before an index, which names a flow, stays
 abbrev pub with_words : (Word → Word) → Expression → Expression
 with_words f (Num z spot) = Num z spot
 with_words f (Name w) = Name (f w)
@@ -34,8 +35,8 @@ with_words f (Choose c a b) = Choose (with_words f c) (with_words f a) (with_wor
 abbrev pub renamed_term : List ℕ → List ℕ → Expression → Expression
 renamed_term old new e = with_words (renamed_word old new) e
 
--- statements that see a variable, with its new name: it is seen to the end of its block, also in the blocks within, but
--- not where a variable that is declared further in has its name
+-- statements that see a variable, with its new name. It is seen to the end of its block, also in inner blocks, but not
+-- once another variable of its old name is declared there.
 abbrev pub renamed : List ℕ → List ℕ → Statements → Statements
 renamed old new Done = Done
 renamed old new (DeclareThen w e rest) =
@@ -59,7 +60,7 @@ reads name (Unary o a spot) = reads name a
 reads name (Binary o a b) = reads name a || reads name b
 reads name (Choose c a b) = reads name c || (reads name a || reads name b)
 
--- whether the name occurs in statements where a variable's may: declared, set or read
+-- whether the name occurs in statements as a variable's may: declared, set or read
 abbrev pub occurs : List ℕ → Statements → Bool
 occurs name Done = false
 occurs name (DeclareThen w e rest) = bytes_eq w.text name || (reads name e || occurs name rest)
@@ -75,9 +76,8 @@ occurs name (TrapThen w rest) = occurs name rest
 abbrev pub declared_variable : Environment → List ℕ → Bindings → Variable
 declared_variable scope name k = record { name = name; slot = next_slot scope k; is_loop_variable = false }
 
--- Giving the variable of a declaration another name, which occurs nowhere else, changes nothing in the statements from
--- there to the end of the block where these have no fault; and of what is known after them it changes only that
--- variable's name.
+-- A declaration's variable gets another name, which occurs nowhere else. If the statements from there to the end of the
+-- block have no fault, they stay the same, and of the bindings after them only that variable's name changes.
 abbrev pub DeclaredSame : Type 0
 DeclaredSame =
     (scope : Environment) (k : Bindings) (new : List ℕ) (w : Word) (e : Expression) (rest : Statements)
@@ -88,8 +88,8 @@ DeclaredSame =
     × (resolved scope (DeclareThen (named new w) e (renamed w.text new rest)) k
     ≡ Ok (x.0, record x.1 { seen = k.seen ++ declared_variable scope new k ∷ more }))
 
--- Giving the variable of a loop another name, which does not occur in its block, changes nothing where the loop has no
--- fault.
+-- A loop's variable gets another name, which does not occur in the loop's block. If the loop has no fault, it stays the
+-- same.
 abbrev pub LoopedSame : Type 0
 LoopedSame =
     (scope : Environment) (k : Bindings) (new : List ℕ) (w : Word) (lo hi : Expression) (turn : Statements)

@@ -1,4 +1,4 @@
-//! What follows from the definitions of bodies and of the names in them.
+//! Laws of bodies, of the names in them, of their traps and of their budgets.
 
 ghost use Rattle.std.specs.Prelude.{ℕ, ℤ, List, Option};
 ghost use Rattle.term_core.specs.declared.body.Body.{Body};
@@ -6,38 +6,38 @@ ghost use Rattle.body_laws.specs.Laws.{NameNeverTooMany, SlotForEach, TokensAgre
 ghost use Rattle.body_laws.specs.MoreUnits.{DoesTheSame};
 ghost use Rattle.body_laws.specs.Renaming.{DeclaredSame, LoopedSame};
 
-/// A law: giving a variable another name, which occurs nowhere else, changes nothing in the body that is read.
+/// A law: if a variable gets another name, which occurs nowhere else, the body that is read stays the same.
 pub fn another_name_changes_nothing()
     ensures declared { DeclaredSame }
     ensures looped { LoopedSame }
 {}
 
-/// A law: where the text of a body has no fault, no name is refused because there are too many variables.
+/// A law: if the text of a body has no fault, no name is refused for declaring too many variables.
 pub fn variables_are_counted_in_the_text()
     ensures { NameNeverTooMany }
 {}
 
-/// A law: besides the locals of the class, a body has a slot for each variable that it declares.
+/// A law: a body has a slot for each local of the class and for each variable that it declares.
 pub fn a_slot_for_each_variable()
     ensures { SlotForEach }
 {}
 
-/// A law of `front_fault`, by which names are judged in a broken body: in a text without a fault it agrees with the
-/// tree, at each front of the text too, and of the tokens after a front only the next one matters.
+/// A law of `front_fault`, which judges the names of a body whose text has a fault. In a text without a fault it agrees
+/// with the tree, also at each front of the text; and of the tokens after a front only the next one matters.
 pub fn names_agree()
     ensures whole { TokensAgreeWithTree }
     ensures front { FrontsAgreeWithTree }
     ensures next { OnlyTheNextCounts }
 {}
 
-/// A law: a body does within a larger budget what it does within a smaller one, unless the smaller one ran out.
+/// A law: with a larger budget a body does what it does with a smaller one, unless the smaller one ran out.
 pub fn more_units_change_nothing()
     ensures { (units more : ℕ) (body : Body) (locals : List ℤ) (tiles : List (Option (List ℤ)))
         → DoesTheSame units more body locals tiles }
 {}
 
-/// A law: each trap of a body has the number of its own word, and the words are those of the text, each once, in the
-/// order of their first use.
+/// A law: each trap of a body has the number of its own word. The words are those of the text, each once, in the order
+/// of their first use.
 pub fn traps_have_their_words()
     ensures own { OwnWords }
     ensures once { WordsOnce }

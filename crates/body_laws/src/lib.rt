@@ -1,5 +1,5 @@
-//! Laws of bodies that no program cites: a variable's name does not matter, the names of a broken text are judged as in
-//! a tree, traps have the words of the text, and a larger budget changes nothing.
+//! Laws of bodies that no program cites: on the names and slots of variables, texts with a fault, trap words, and
+//! larger budgets.
 #![tactic(auto)]
 
 mod laws;

@@ -19,7 +19,7 @@ use Rattle.body_names.specs.Bindings.{Bindings}
 use Rattle.body_names.specs.Statements.{Resolver, follow, resolved, statement_of}
 use Rattle.ptg_base.proofs.Refusals.{refuses_before}
 
--- statements before others
+-- a list of statements, and then others
 abbrev steps_onto : List Stmt → StatementList → StatementList
 steps_onto [] rest = rest
 steps_onto (s ∷ ss) rest = block.then s (steps_onto ss rest)
@@ -32,7 +32,7 @@ onto_done : (ss : List Stmt) → steps_onto ss list.Done ≡ statement_list ss
 onto_done [] = refl
 onto_done (x ∷ ss) = ap (block.then x) (onto_done ss)
 
--- what was resolved before, and what is still resolved
+-- statements that were resolved before, and then the result for the rest
 unfoldable pub so_far : List Stmt → Resolved (StatementList × Bindings) → Resolved (StatementList × Bindings)
 so_far front read = and_then read (λ y. Ok (steps_onto front y.0, y.1))
 
@@ -41,15 +41,15 @@ unfolding so_far
 nothing_yet (Ok y) = refl
 nothing_yet (Err e) = refl
 
--- what was resolved
+-- resolved statements, with the bindings after them
 abbrev with_known : Bindings → StatementList → Resolved (StatementList × Bindings)
 with_known k t = Ok (t, k)
 
--- a statement before what was resolved
+-- a statement, and then what was resolved
 abbrev in_front : Stmt → StatementList × Bindings → Resolved (StatementList × Bindings)
 in_front s y = Ok (block.then s y.0, y.1)
 
--- one more before the rest
+-- one more statement before the rest
 one_more : (front : List Stmt) (s : Stmt) (k : Bindings) (rest : Resolver) → so_far front (follow (Ok (s, k)) rest) ≡ so_far (front ++ s ∷ []) (rest k)
 unfolding so_far
 one_more front s k rest = go (rest k)
@@ -95,7 +95,7 @@ ends scope ss i front k total all before =
 
 -- ---- how many statements there are
 
--- how many statements a statement has, itself included
+-- how many statements a statement contains, itself included
 abbrev pub count_of : StmtTree → ℕ
 count_of s = count_of_statements (then s Done)
 
@@ -107,7 +107,7 @@ count-then (tree.If c first second) rest = omega arith
 count-then (tree.For w lo hi turn) rest = omega arith
 count-then (tree.Trap w) rest = omega arith
 
--- a statement of a list has no more statements than the list
+-- a statement of a list contains no more statements than the list
 pub count_le : (ss : List StmtTree) (i : ℕ) (s : StmtTree) → i < length ss → s ≡ get_or ss i s → count_of s ≤ count_of_statements (statements_of ss)
 count_le [] i s below is = absurd (omega arith)
 count_le (x ∷ ss) zero s below is = let e = count-then x (statements_of ss) in rw is (omega (arith, e))

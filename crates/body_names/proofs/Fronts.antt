@@ -23,7 +23,7 @@ use Rattle.list_lemmas.proofs.Options.{same_Ok}
 
 -- ---- the next token
 
--- the token in front, where it is a name
+-- the first token, if it is a name
 abbrev token_if : Bool → Token → List Token → Read Token
 token_if b x s = cond b (Ok (x, s)) (Err (fault_from_end (length (x ∷ s)) Syntax))
 
@@ -49,7 +49,7 @@ no_name scope st (x ∷ s) n e = go (names Body (terminal_of x)) e
 
 -- ---- one after another
 
--- a token, and those after it
+-- a token, and then those after it
 step : (scope : Environment) (st : TokenScan) (s : List Token) (count i : ℕ) (x : Token) → i < count → i < length s → x ≡ get_or s i x
     → judged_among scope st (count - i) (drop i s) ≡ and_then (judged scope st (drop i s)) (λ _. judged_among scope (after_token x st) (count - (i + 1)) (drop (i + 1) s))
 step scope st s count i x more lt is =
@@ -63,7 +63,7 @@ module _ (scope : Environment) (st : TokenScan) (s : List Token) (count i : ℕ)
       ap (λ (m : TokenScan). judged_among scope m (count - (i + 1)) (drop (i + 1) s)) e
       ∙ (sym (step scope st s count i x more lt is ∙ ap (λ (r : Resolved (Unit {0})). and_then r (λ _. judged_among scope (after_token x st) (count - (i + 1)) (drop (i + 1) s))) fine) ∙ so_far)
 
--- a fault of the token in front is the first one
+-- a fault of the first token is the first fault
 fails_in : (scope : Environment) (st : TokenScan) (n : ℕ) (s : List Token) (e : Refusal JdfFault) → 0 < n → 0 < length s → ReturnsRefusal e (judged scope st s) → ReturnsRefusal e (judged_among scope st n s)
 fails_in scope st zero s e more some h = absurd (omega arith)
 fails_in scope st (suc n) [] e more some h = absurd (omega arith)

@@ -1,4 +1,4 @@
--- The last variable of a name, found from the end.
+-- The last variable of a name, searched from the end.
 use Rattle.std.proofs.Common.{◌≡◌, ℕ, true, false, cond, List, [], ◌∷◌, ◌++◌, refl, ap, ◌∙◌}
 use Rattle.std.specs.Prelude.{Some, find}
 use Rattle.std.specs.Str.{bytes_eq}

@@ -4,7 +4,7 @@ use Rattle.std.specs.Prelude.{Some, reverse, find}
 use Rattle.std.proofs.lemmas.List.{reverse-append}
 use Rattle.body_names.specs.declared.variable.Variable.{Variable}
 
--- each slot is one of a variable's, and below the end
+-- each slot is at least `first` and below `end`
 abbrev pub AreSlots : ℕ → ℕ → List Variable → Type 0
 AreSlots first end [] = Unit {0}
 AreSlots first end (v ∷ vs) = (first ≤ v.slot) × (v.slot < end) × AreSlots first end vs
@@ -29,7 +29,7 @@ slots_reverse first end (v ∷ vs) h =
     let e : reverse (v ∷ vs) ≡ reverse vs ++ v ∷ [] = reverse-append (v ∷ []) vs in
     subst (λ (l : List Variable). AreSlots first end l) (sym e) (slots_append first end (reverse vs) (v ∷ []) (slots_reverse first end vs h.2) (h.0, h.1, tt))
 
--- what is found is one of them
+-- the slot of a variable that is found is within the same bounds
 slot_found : (first end : ℕ) (p : Variable → Bool) (xs : List Variable) (v : Variable) → AreSlots first end xs → find p xs ≡ Some v → (first ≤ v.slot) × (v.slot < end)
 slot_found first end p [] v h e = absurd cc
 slot_found first end p (x ∷ xs) v h e = first_or (p x) e (slot_found first end p xs v h.2)

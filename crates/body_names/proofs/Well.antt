@@ -1,4 +1,4 @@
--- The body that is resolved is well made: its expressions.
+-- A resolved body is well made: its expressions.
 use Rattle.std.proofs.Common.{◌≡◌, ℕ, ◌<◌, ◌≤◌, Bool, true, false, cond, List, length, Ok, refl, subst, arith}
 use Rattle.std.specs.Prelude.{Option, Some, None, slice_get}
 use Rattle.std.specs.Str.{bytes_eq}
@@ -28,7 +28,7 @@ use Rattle.list_lemmas.proofs.Options.{same_Ok}
 -- ---- names
 
 module _ (scope : Environment) (end : ℕ) (room : length scope.locals ≤ end) where
-  -- a slot that a meaning names is there
+  -- a slot or number that a meaning has exists
   abbrev IsThere : Meaning → Type 0
   IsThere (meaning.Variable n) = (length scope.locals ≤ n) × (n < end)
   IsThere (meaning.LoopVariable n) = (length scope.locals ≤ n) × (n < end)
@@ -62,7 +62,7 @@ module _ (scope : Environment) (end : ℕ) (room : length scope.locals ≤ end) 
         (local_there (index_named scope.locals name) (option_map_or meaning.Integer (scope.integer name) (collection_or_nothing (scope.is_collection name)))
         (λ n e. position_within (λ (text : List ℕ). bytes_eq text name) scope.locals n e) (global_there (scope.integer name) (scope.is_collection name)))
 
-    -- the meaning of a name is closed
+    -- the term of a name is closed
     value_closed : (w : Word) (m : Meaning) (t : Term) → IsThere m → value_of w m ≡ Ok t → is_closed_with end (length scope.flows) t ≡ true
     value_closed w (meaning.Variable n) t h e = rw (← (same_Ok (term.Local n) t e)) (lt-ltb n end h.1)
     value_closed w (meaning.LoopVariable n) t h e = rw (← (same_Ok (term.Local n) t e)) (lt-ltb n end h.1)

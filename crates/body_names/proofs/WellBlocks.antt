@@ -1,4 +1,4 @@
--- The body that is resolved is well made: its statements.
+-- A resolved body is well made: its statements.
 use Rattle.std.proofs.Common.{◌≡◌, ℕ, ◌+◌, ◌<◌, ◌≤◌, Bool, true, false, cond, List, [], ◌∷◌, length, Ok, refl, subst, arith}
 use Rattle.std.specs.Prelude.{◌&&◌, nat_lt, nat_le, Some, None}
 use Rattle.std.proofs.lemmas.Bool.{lt-ltb, ltb-true, and_from}
@@ -30,12 +30,12 @@ slot_test : (locals end n : ℕ) → locals ≤ n → n < end → is_variable lo
 slot_test locals end n h k = and_from (nat_le locals n) (nat_lt n end) (grind (arith, nat_tests)) (lt-ltb n end k)
 
 module _ (scope : Environment) where
-  -- the variables that are seen have slots among those of the variables so far
+  -- each variable that is seen has the slot of a variable declared so far
   record IsSound (k : Bindings) : Type 0 where
     at_most : k.declared ≤ 256
     slots : AreSlots (length scope.locals) (length scope.locals + k.declared) k.seen
 
-  -- a statement names only what is there, with so many slots
+  -- a statement names only what exists, if there are this many slots
   abbrev is_well : ℕ → Stmt → Bool
   is_well end (stmt.Set n e) = is_variable (length scope.locals) end n && is_closed_with end (length scope.flows) e
   is_well end (stmt.Put flow at e) = nat_lt flow (length scope.flows) && is_closed_with end (length scope.flows) at && is_closed_with end (length scope.flows) e
@@ -52,7 +52,7 @@ module _ (scope : Environment) where
   then_well end (stmt.For n lo hi turn) rest h k = and_from (is_well end (stmt.For n lo hi turn)) (are_well_made (length scope.locals) end (length scope.flows) rest) h k
   then_well end (stmt.Trap w) rest h k = k
 
-  -- what follows what was known before, and a test that each number of slots from there on passes
+  -- the bindings follow earlier ones, and each number of slots from theirs on passes the test
   record Keeps (k m : Bindings) (test : ℕ → Bool) : Type 0 where
     rises : k.declared ≤ m.declared
     sound : IsSound m
@@ -64,7 +64,7 @@ module _ (scope : Environment) where
   abbrev IsBlock : Resolver → Type 0
   IsBlock block = (k : Bindings) → IsSound k → (x : StatementList × Bindings) → block k ≡ Ok x → Keeps k x.1 (λ end. are_well_made (length scope.locals) end (length scope.flows) x.0)
 
-  -- expressions, with slots for more variables
+  -- expressions, also if there are slots for more variables
   closed_at : (k : Bindings) → IsSound k → (e : Expression) (t : Term) → term_of scope k.seen e ≡ Ok t → (end : ℕ) → length scope.locals + k.declared ≤ end → is_closed_with end (length scope.flows) t ≡ true
   closed_at k sound e t h end le =
       term_closed scope end (omega (arith, le)) k.seen (slots_raise (length scope.locals) (length scope.locals + k.declared) end k.seen le sound.slots) e t h
@@ -221,7 +221,7 @@ module _ (scope : Environment) where
       follow_well k (for_loop scope w lo hi (resolved scope turn) k) (resolved scope rest) (counted_well w lo hi (resolved scope turn) (block_well turn) k sound) (block_well rest) x h
   block_well (TrapThen w rest) k sound x h = follow_well k (trap w k) (resolved scope rest) (stop_well w k sound) (block_well rest) x h
 
-  -- what is known after a whole body, and that the body is well made
+  -- the bindings after a whole body, and that the body is well made
   pub whole_well : (statements : Statements) (x : StatementList × Bindings) → resolved scope statements no_bindings ≡ Ok x
       → (x.1.declared ≤ 256) × IsWellBody (length scope.locals) (length scope.flows) (record { statements = x.0; slots = length scope.locals + x.1.declared })
   whole_well statements x h =

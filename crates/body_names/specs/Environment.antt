@@ -1,4 +1,6 @@
--- What the names in a body mean besides its own variables. The language of bodies is this project's own choice.
+-- What the names in a body mean besides its own variables.
+-- Carried by: `resolve`.
+-- Tested by: `body_names.txt`, `body_variables.txt`.
 use Rattle.std.specs.Prelude.{ℕ, ◌≤◌, ℤ, Bool, List, length, Option, is_some}
 use Rattle.ptg_base.specs.Limits.{most_flows, most_locals}
 use Rattle.name_table.specs.Names.{value_named}
@@ -18,7 +20,7 @@ pub record Environment : Type 0 where
   pub locals_at_most : length locals ≤ most_locals
   pub flows_at_most : length flows ≤ most_flows
 
--- what names mean in a scope, which has the globals in tables
+-- the meanings in a scope, which has the globals in tables
 abbrev pub environment_of : Scope → Environment
 environment_of scope =
     record {

@@ -1,4 +1,6 @@
--- What the names in a body mean. The language of bodies is this project's own choice.
+-- What the names in a body mean.
+-- Carried by: `resolve`.
+-- Tested by: `body_names.txt`, `body_variables.txt`.
 use Rattle.std.specs.Prelude.{ℕ, List, reverse, Option, Some, None, find, position, if◌then◌else◌}
 use Rattle.std.specs.Str.{bytes_eq}
 use Rattle.name_table.specs.Names.{index_named}
@@ -9,16 +11,16 @@ pub use Rattle.expr_names.specs.Meanings.{collection_or_nothing, outer_meaning}
 use Rattle.body_names.specs.Environment.{Environment}
 use Rattle.body_names.specs.declared.scope.FlowName.{FlowName}
 
--- the variable of this name that was declared last, among those that are seen
+-- among the variables that are seen, the one of this name that was declared last
 abbrev pub last_named : List Variable → List ℕ → Option Variable
 last_named seen name = find (λ (v : Variable). bytes_eq v.name name) (reverse seen)
 
--- a variable, or else the other meaning
+-- a variable, if there is one, or else the other meaning
 abbrev pub variable_or : Option Variable → Meaning → Meaning
 variable_or None other = other
 variable_or (Some v) other = if v.is_loop_variable then meaning.LoopVariable v.slot else meaning.Variable v.slot
 
--- A name in an expression is a variable of the body, else a local of the class, else a global.
+-- A name in an expression means a variable of the body, or else a local of the class, or else a global.
 abbrev pub meaning_of : Environment → List Variable → List ℕ → Meaning
 meaning_of scope seen name =
     variable_or (last_named seen name)

@@ -1,4 +1,4 @@
--- A scanner of the code as what is known at a token.
+-- A scanner of the code, as what is known at a token.
 use Rattle.body_names.specs.declared.scanner.Scanner.{Scanner}
 use Rattle.body_names.specs.Bindings.{bindings_of}
 use Rattle.body_names.specs.TokenScan.{TokenScan}

@@ -1,5 +1,6 @@
--- The statements of a body with their names resolved, or the first name in the text's order that has a fault. Source:
--- this project's own choice.
+-- The statements of a body with their names resolved, or the first name in the text's order that has a fault.
+-- Carried by: `resolve`.
+-- Tested by: `body_names.txt`, `body_variables.txt`.
 use Rattle.std.specs.Prelude.{ℕ, ◌+◌, true, false, List, length, Ok}
 use Rattle.term_core.specs.declared.body.Body.{Body}
 use Rattle.term_core.specs.declared.body.Stmt.{Stmt}
@@ -19,7 +20,7 @@ use Rattle.expr_names.specs.Symbols.{Resolved}
 use Rattle.body_names.specs.Expressions.{slot_of, written_flow, term_of}
 use Rattle.body_names.specs.Bindings.{Bindings, no_bindings, block_opened, block_closed, next_slot, with_variable, require_room, require_fresh, word_number}
 
--- what resolves a block, from what is known before it
+-- resolves a block, from the bindings before it
 abbrev pub Resolver : Type 0
 Resolver = Bindings → Resolved (StatementList × Bindings)
 
@@ -43,11 +44,11 @@ put scope w at e k =
     and_then (term_of scope k.seen e) (λ x.
     Ok (stmt.Put flow i x, k))))
 
--- a block that opens so, and after which its variables are no longer seen
+-- a block that opens with these bindings, and after which its variables are no longer seen
 abbrev pub in_block : (Bindings → Bindings) → Resolver → Resolver
 in_block opening block k = and_then (block (opening k)) (λ (statements, after). Ok (statements, block_closed k after))
 
--- `if (c) { .. } else { .. }`, by what its two blocks are
+-- `if (c) { .. } else { .. }`, given how its two blocks are resolved
 abbrev pub if_else : Environment → Expression → Resolver → Resolver → Bindings → Resolved (Stmt × Bindings)
 if_else scope c first second k =
     and_then (term_of scope k.seen c) (λ x.
@@ -55,7 +56,7 @@ if_else scope c first second k =
     and_then (in_block block_opened second a.1) (λ b.
     Ok (stmt.If x a.0 b.0, b.1))))
 
--- `for w = lo .. hi { .. }`, by what its block is: the variable is one of the block's
+-- `for w = lo .. hi { .. }`, given how its block is resolved: the variable is one of the block's
 abbrev pub for_loop : Environment → Word → Expression → Expression → Resolver → Bindings → Resolved (Stmt × Bindings)
 for_loop scope w lo hi turn k =
     and_then (require_room w k) (λ _.
@@ -68,7 +69,7 @@ for_loop scope w lo hi turn k =
 abbrev pub trap : Word → Bindings → Resolved (Stmt × Bindings)
 trap w k = let n = word_number w.text k in Ok (stmt.Trap n.0, n.1)
 
--- a statement, and what follows it
+-- a statement, and then what follows it
 abbrev pub follow : Resolved (Stmt × Bindings) → Resolver → Resolved (StatementList × Bindings)
 follow first rest = and_then first (λ (one, after). and_then (rest after) (λ (more, end). Ok (then one more, end)))
 

@@ -1,5 +1,7 @@
--- The names at the front of a body that is broken further on. Such a body has no tree, so each name is judged by the
--- tokens beside it. Source: this project's own choice.
+-- The names at the front of a body whose text has its fault further on. Such a body has no tree, so each name is judged
+-- by the tokens beside it.
+-- Carried by: `front_fault`; law `body_laws::names_agree`.
+-- Tested by: `body_broken.txt`.
 use Rattle.std.specs.Prelude.{ℕ, suc, zero, ◌-◌, Bool, true, false, ◌&&◌, ◌||◌, List, [], ◌∷◌, ◌++◌, length, take, Option, Some, None, Ok, if◌then◌else◌, slice_get}
 use Rattle.grammar_core.specs.declared.token.Token.{Token}
 use Rattle.jdf_lex.specs.declared.terminal.Terminal.{Terminal}
@@ -21,15 +23,15 @@ use Rattle.body_names.specs.Bindings.{Bindings, no_bindings, block_opened, requi
 -- what is known at a token of a body
 pub record TokenScan : Type 0 where
   pub bindings : Bindings
-  -- for each block that is open, the innermost last, how many variables were seen before it, and how many of these were
-  -- of blocks around
+  -- for each open block, the innermost last: how many variables were seen before it, and how many of those belonged to
+  -- blocks around
   pub open_blocks : List (ℕ × ℕ)
-  -- the variable whose declaration has begun
+  -- the name of the variable whose declaration has begun
   pub naming : Option (List ℕ)
-  -- the token before
+  -- the terminal of the token before
   pub previous : Option Terminal
 
--- at the first token
+-- what is known at the first token
 abbrev pub at_first : TokenScan
 at_first = record { bindings = no_bindings; open_blocks = []; naming = None; previous = None }
 
@@ -40,7 +42,7 @@ abbrev pub with_seen : List ℕ → Bool → Bindings → Bindings
 with_seen name is_loop_variable k =
     record k { seen = k.seen ++ record { name = name; slot = 0; is_loop_variable = is_loop_variable } ∷ [] }
 
--- the declaration that has begun takes effect
+-- the declaration of this name, if there is one, takes effect
 abbrev pub declared_by : Option (List ℕ) → Bool → TokenScan → TokenScan
 declared_by None is_loop_variable st = st
 declared_by (Some name) is_loop_variable st =
@@ -58,7 +60,7 @@ block_entered st =
       open_blocks = st.open_blocks ++ (length st.bindings.seen, st.bindings.outside) ∷ [];
     }
 
--- the innermost block closes: as many variables are seen as before it
+-- a block closes, given what its opening noted: as many variables are seen as before it
 abbrev pub block_left_by : Option (ℕ × ℕ) → TokenScan → TokenScan
 block_left_by None st = st
 block_left_by (Some n) st =
@@ -76,14 +78,14 @@ abbrev pub previous_is : Terminal → Option Terminal → Bool
 previous_is k None = false
 previous_is k (Some j) = is k j
 
--- a name begins a declaration after `int` and after `for`
+-- a name after `int` or `for` begins a declaration
 abbrev pub named_by : List ℕ → TokenScan → TokenScan
 named_by name st =
     if previous_is terminal.Int st.previous || previous_is terminal.For st.previous
     then record st { naming = Some name }
     else st
 
--- a variable is seen after the `;` of its declaration, and that of a loop in the loop's block
+-- a variable is seen after the `;` of its declaration, and a loop's variable in the loop's block
 abbrev pub after_terminal : Terminal → List ℕ → TokenScan → TokenScan
 after_terminal terminal.Semicolon text st = declared false st
 after_terminal terminal.LeftBrace text st = declared true (block_entered st)
@@ -98,13 +100,13 @@ after_token x st = record (after_terminal (terminal_of x) x.text st) { previous 
 
 -- ---- the role of a name
 
--- a statement begins at the first token, and after a semicolon and a brace
+-- a statement begins at the first token, and after a semicolon or a brace
 abbrev pub begins_here : Option Terminal → Bool
 begins_here None = true
 begins_here (Some k) = is terminal.Semicolon k || is terminal.LeftBrace k || is terminal.RightBrace k
 
--- What a name is, by the token before it and the tokens after it, as a table: the first line that holds says it, and a
--- name for which none holds means a number.
+-- What a name is, by the token before it and the tokens after it, as a table: the first line that holds decides. If
+-- none holds, the name stands for a number.
 abbrev pub role_lines : Option Terminal → List Token → List (Bool × Role)
 role_lines last s =
     (previous_is terminal.Int last, role.Declared)
@@ -125,11 +127,11 @@ first_line ((holds, r) ∷ ls) = if holds then r else first_line ls
 abbrev pub role_of : Option Terminal → List Token → Role
 role_of last s = first_line (role_lines last s)
 
--- a fault, if there is one
+-- the fault of a result, if it is one
 abbrev pub fault_of : {A : Type 0} → Resolved A → Resolved (Unit {0})
 fault_of r = and_then r (λ _. Ok tt)
 
--- a name in this role: no fault, or its fault
+-- judges a name in this role: no fault, or its fault
 abbrev pub judged_as : Role → Environment → Bindings → Word → Resolved (Unit {0})
 judged_as role.Declared scope k w = require_fresh w k
 judged_as role.NotLookedUp scope k w = Ok tt
@@ -138,19 +140,19 @@ judged_as role.ElementAssigned scope k w = fault_of (written_flow scope w)
 judged_as role.Element scope k w = fault_of (read_flow scope w)
 judged_as role.Value scope k w = fault_of (value_of w (meaning_of scope k.seen w.text))
 
--- the first of the tokens, where it is a name
+-- judges the first of the tokens, if it is a name
 abbrev pub judged : Environment → TokenScan → List Token → Resolved (Unit {0})
 judged scope st [] = Ok tt
 judged scope st (x ∷ s) =
     if names Body (terminal_of x) then judged_as (role_of st.previous s) scope st.bindings (word_of x) else Ok tt
 
--- the first fault of the names among this many tokens from here on
+-- the first fault of a name among this many tokens from here on
 abbrev pub judged_among : Environment → TokenScan → ℕ → List Token → Resolved (Unit {0})
 judged_among scope st zero s = Ok tt
 judged_among scope st (suc n) [] = Ok tt
 judged_among scope st (suc n) (x ∷ s) =
     and_then (judged scope st (x ∷ s)) (λ _. judged_among scope (after_token x st) n s)
 
--- the first fault of the names among the first n tokens of a body
+-- the first fault of a name among the first n tokens of a body
 abbrev pub front_fault : Environment → List Token → ℕ → Resolved (Unit {0})
 front_fault scope tokens n = judged_among scope at_first n tokens

@@ -1,4 +1,4 @@
-//! What the names of a body are bound to, between two of its tokens.
+//! The bindings of a body's names between two of its tokens.
 
 ghost use Rattle.std.specs.Prelude.{◌≡◌, ◌<◌, take, OnOk, IfOk, drop};
 ghost use Rattle.std.specs.List.{list_any};
@@ -16,11 +16,11 @@ use name_table::NameSet;
 use ptg_base::{MOST_VARIABLES, OutOfMemory, Text};
 use std::alloc::Global;
 
-/// What the names of a body are bound to, between two of its tokens.
+/// What the names of a body are bound to between two of its tokens.
 pub struct BindingTable {
-    /// The variables that are seen there, in the order of their declarations.
+    /// The variables that are seen here, in the order of their declarations.
     pub seen: Vec<Variable>,
-    /// How many of these are of blocks around the innermost one.
+    /// How many of these belong to blocks around the innermost one.
     pub outside: usize,
     /// How many variables the body has declared so far.
     pub declared: u16,
@@ -40,7 +40,7 @@ impl Drop for BindingTable {
 }
 
 impl BindingTable {
-    /// Before a body nothing is bound.
+    /// The bindings before a body: none.
     pub(crate) fn new(alloc: Global) -> BindingTable
         ensures { bindings_of result ≡ no_bindings }
     {
@@ -52,7 +52,7 @@ impl BindingTable {
         }
     }
 
-    // The trap words alone.
+    // Keeps the trap words alone.
     pub(crate) fn into_words(self) -> NameSet
         ensures { result ≡ self.words }
     {
@@ -66,7 +66,7 @@ impl BindingTable {
     }
 }
 
-/// Refuses the name where there is no room for one more variable.
+/// Refuses the name with TooManyVars if there is no room for one more variable.
 pub(crate) fn require_room(word: &Word, bindings: &BindingTable) -> Result<(), JdfRefusal>
     ensures room { OnOk result (bindings.now.declared < most_variables) }
     ensures answer { Returns (λ _. tt) result (require_room word.now (bindings_of bindings.now)) }
@@ -100,7 +100,7 @@ fn is_named(variables: &[Variable], name: &[u8]) -> bool
         .any(|variable| variable.name.bytes() == name)
 }
 
-/// Refuses a name that the innermost block has.
+/// Refuses the name with NameTwice if the innermost block has a variable of that name.
 pub(crate) fn require_fresh(word: &Word, bindings: &BindingTable) -> Result<(), JdfRefusal>
     ensures { Returns (λ _. tt) result (require_fresh word.now (bindings_of bindings.now)) }
 {
@@ -119,7 +119,7 @@ pub(crate) fn next_slot(scope: &Scope, bindings: &BindingTable) -> u16
     scope.locals.len() as u16 + bindings.declared
 }
 
-/// Declares a variable, for which there is room.
+/// Declares a variable, for which there must be room.
 pub(crate) fn add_variable(
     context: &Context,
     bindings: &mut BindingTable,
@@ -143,7 +143,7 @@ pub(crate) fn add_variable(
     Ok(())
 }
 
-/// Closes a block, before which this many variables were seen, this many of them of blocks around.
+/// Closes a block. Before it, `seen` variables were seen, and `outside` of them belonged to blocks around.
 pub(crate) fn close(bindings: &mut BindingTable, seen: usize, outside: usize)
     ensures { bindings_of bindings.new
         ≡ record (bindings_of bindings.old) { seen = take seen bindings.old.seen.items; outside = outside } }
@@ -152,7 +152,7 @@ pub(crate) fn close(bindings: &mut BindingTable, seen: usize, outside: usize)
     bindings.outside = outside;
 }
 
-// A number of 32 bits.
+// A number as one of 32 bits; out of memory if it is larger.
 fn as_u32(number: usize) -> Result<u32, OutOfMemory>
     ensures { IfOk result (λ n. n ≡ number) }
 {
@@ -162,7 +162,7 @@ fn as_u32(number: usize) -> Result<u32, OutOfMemory>
     Ok(number as u32)
 }
 
-/// The number of a trap word, which may be the next one.
+/// The number of a trap word. A new word gets the next number.
 pub(crate) fn word_number(
     alloc: Global,
     bindings: &mut BindingTable,

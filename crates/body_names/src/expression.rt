@@ -1,4 +1,4 @@
-//! Expressions with their names resolved.
+//! Resolves the names of a body's expressions.
 
 ghost use Rattle.std.specs.Prelude.{⊤};
 ghost use Rattle.body_names.specs.Environment.{environment_of};
@@ -16,7 +16,8 @@ use jdf_tree::{ExprTree, Word};
 use ptg_base::Text;
 use term_core::Expr;
 
-/// The slot of a name that a statement assigns to.
+/// Returns the slot of a name that a statement assigns to, or the name's fault if it is no variable that may be
+/// assigned.
 pub(crate) fn slot_of(scope: &Scope, seen: &[Variable], word: &Word) -> Result<u16, JdfRefusal>
     ensures { Returns (λ n. n) result
         (slot_of word.now (meaning_of (environment_of scope.now) seen.now word.now.text)) }
@@ -32,7 +33,7 @@ pub(crate) fn slot_of(scope: &Scope, seen: &[Variable], word: &Word) -> Result<u
     }
 }
 
-// The names of an expression, where these variables are seen.
+// The names of an expression at a point where these variables are seen.
 #[derive(Drop)]
 struct Seen<'a> {
     scope: &'a Scope<'a>,
@@ -57,7 +58,7 @@ impl Symbols for Seen<'_> {
     }
 }
 
-/// Resolves the names of an expression, where these variables are seen.
+/// Resolves the names of an expression at a point where these variables are seen.
 pub(crate) fn term_of(
     context: &Context,
     seen: &[Variable],

@@ -1,4 +1,4 @@
-//! The flows that the elements of a body name.
+//! Resolves the flows that are named by the elements in a body.
 
 ghost use Rattle.body_names.specs.Environment.{environment_of};
 ghost use Rattle.ptg_base.specs.Returns.{Returns};
@@ -10,7 +10,7 @@ use jdf_lex::{JdfCode, JdfRefusal, fault_at};
 use jdf_tree::Word;
 use term_core::FlowKind;
 
-/// The number of a flow whose elements are read.
+/// The number of a flow whose elements are read: any with a tile.
 pub(crate) fn read_flow(scope: &Scope, word: &Word) -> Result<u8, JdfRefusal>
     ensures { Returns (λ n. n) result (read_flow (environment_of scope.now) word.now) }
 {
@@ -23,7 +23,7 @@ pub(crate) fn read_flow(scope: &Scope, word: &Word) -> Result<u8, JdfRefusal>
     }
 }
 
-/// The number of a flow whose elements are assigned to.
+/// The number of a flow whose elements are assigned to: one with a tile that is not only read.
 pub(crate) fn written_flow(scope: &Scope, word: &Word) -> Result<u8, JdfRefusal>
     ensures { Returns (λ n. n) result (written_flow (environment_of scope.now) word.now) }
 {

@@ -1,4 +1,4 @@
-//! The names at the front of a body that is broken further on.
+//! Judges the names at the front of a body whose text has its fault further on.
 
 ghost use Rattle.std.specs.Prelude.{◌≤◌, length};
 ghost use Rattle.body_names.specs.Environment.{environment_of};
@@ -21,7 +21,7 @@ use jdf_lex::{JdfRefusal, Token};
 use jdf_tree::{Part, Word};
 use std::alloc::Global;
 
-// Refuses a name that is at fault in this role.
+// Refuses a name that has a fault in this role.
 #[tactic(auto, using(ptg_base::proofs::Refusals::refuses_before))]
 fn judge_as(
     role: Role,
@@ -51,7 +51,7 @@ fn judge_as(
     Ok(())
 }
 
-// The next token, where it is a name.
+// Judges the next token, if it is a name.
 #[tactic(auto, using(crate::proofs::Fronts::name_read, crate::proofs::Fronts::no_name))]
 fn judge(
     alloc: Global,
@@ -73,8 +73,8 @@ fn judge(
     }
 }
 
-/// The first fault of a name among the first `count` tokens of a body, which is broken at the token after them; or
-/// none.
+/// Refuses with the first fault of a name among the first `count` tokens of a body; succeeds if there is none. It is
+/// for bodies whose text has its first fault after these tokens.
 pub fn front_fault(
     alloc: Global,
     scope: &Scope,
@@ -87,7 +87,7 @@ pub fn front_fault(
     judge_all(alloc, scope, &mut Scanner::new(alloc), tokens, count)
 }
 
-// The first fault of a name among the first `count` of some tokens, where a scanner is at the first of them; or none.
+// The same for the first `count` of these tokens, for a scanner that is at the first of them.
 fn judge_all(
     alloc: Global,
     scope: &Scope,

@@ -1,5 +1,5 @@
-//! Resolves the names of a body: its statements with slots, numbers and flows for names, or the first name that has a
-//! fault.
+//! Resolves the names of a body into slots, numbers and flows, or returns the first fault of a name. In a body whose
+//! text has a fault, it judges the names before that fault.
 #![tactic(auto)]
 
 mod bindings;

@@ -1,4 +1,4 @@
-//! What a name means, looked up.
+//! Looks up what a name means.
 
 ghost use Rattle.std.specs.Prelude.{◌≡◌, ◌<◌, length, MatchOption, IfSome, None, Some};
 ghost use Rattle.name_table.specs.Names.{index_named};
@@ -10,7 +10,7 @@ use crate::variable::Variable;
 use expr_names::{Meaning, outer_meaning};
 use ptg_base::Text;
 
-// The variable of this name that was declared last. It recurses as deep as there are variables, at most 256.
+// The variable of this name that was declared last. The recursion is as deep as there are variables, at most 256.
 #[tactic(auto, using(crate::proofs::Last::last_is, crate::proofs::Last::last_is_before))]
 fn last_named<'a>(seen: &'a [Variable], name: &[u8]) -> Option<&'a Variable>
     ensures { MatchOption result (last_named seen.now name.now ≡ None) (λ v.
@@ -36,7 +36,7 @@ fn local_named(scope: &Scope, name: &[u8]) -> Option<usize>
         .position(|local| local.bytes() == name)
 }
 
-/// What a name in an expression means where these variables are seen.
+/// What a name in an expression means at a point where these variables are seen.
 pub(crate) fn meaning_of(scope: &Scope, seen: &[Variable], name: &Text) -> Meaning
     ensures { result ≡ meaning_of (environment_of scope.now) seen.now name.now }
 {

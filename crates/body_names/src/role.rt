@@ -1,4 +1,4 @@
-//! The role of a name in a body, by the tokens beside it.
+//! The role of a name in a body, judged by the tokens beside it.
 
 ghost use Rattle.std.specs.Prelude.{◌≡◌};
 ghost use Rattle.body_names.specs.TokenScan.{previous_is, begins_here, role_of};
@@ -10,20 +10,20 @@ use jdf_lex::{Terminal, Token, is_next};
 pub enum Role {
     /// It names a variable that `int` declares.
     Declared,
-    /// It is not looked up: a loop's variable, a trap word, or the name that begins a statement, where neither `=` nor
-    /// `[` follows.
+    /// It is not looked up: a loop's variable, a trap word, or a name that begins a statement and has neither `=` nor
+    /// `[` after it.
     NotLookedUp,
-    /// A variable is assigned.
+    /// It names a variable that is assigned.
     Assigned,
-    /// An element of the flow is assigned.
+    /// It names a flow whose element is assigned.
     ElementAssigned,
-    /// An element of the flow is read.
+    /// It names a flow whose element is read.
     Element,
-    /// It means a number.
+    /// It stands for a number.
     Value,
 }
 
-/// Whether this is the terminal of the token before.
+/// Whether this is the terminal of the token before; there may be none.
 #[tactic(auto, using(jdf_lex::proofs::Same::same_is))]
 pub(crate) fn previous_is(terminal: Terminal, last: Option<Terminal>) -> bool
     ensures { result ≡ previous_is terminal last }
@@ -34,7 +34,7 @@ pub(crate) fn previous_is(terminal: Terminal, last: Option<Terminal>) -> bool
     }
 }
 
-// Whether a statement begins here.
+// Whether a statement begins after a token of this terminal, or at the start of the body.
 fn begins_here(last: Option<Terminal>) -> bool
     ensures { result ≡ begins_here last }
 {
@@ -44,7 +44,7 @@ fn begins_here(last: Option<Terminal>) -> bool
         || previous_is(Terminal::RightBrace, last)
 }
 
-/// The role of a name between a token of the terminal `last` and these tokens.
+/// The role of a name between a token of the terminal `last`, if there is one, and these tokens.
 pub(crate) fn role_of(last: Option<Terminal>, rest: &[Token]) -> Role
     ensures { result ≡ role_of last rest.now }
 {

@@ -1,4 +1,4 @@
-//! What is known at each token of a body in turn.
+//! Scans a body token by token, and keeps what is known at each.
 
 ghost use Rattle.std.specs.Prelude.{◌≡◌, OnOk};
 ghost use Rattle.body_names.specs.TokenScan.{declared, block_entered, block_left, named_by, after_token, at_first};
@@ -14,12 +14,12 @@ use std::alloc::Global;
 /// What is known at a token of a body.
 pub struct Scanner {
     pub bindings: BindingTable,
-    /// For each block that is open, the innermost last, how many variables were seen before it, and how many of these
-    /// were of blocks around.
+    /// For each open block, the innermost last: how many variables were seen before it, and how many of those belonged
+    /// to blocks around.
     pub open_blocks: Vec<(usize, usize)>,
-    /// The variable whose declaration has begun.
+    /// The name of the variable whose declaration has begun.
     pub naming: Option<Text>,
-    /// The token before.
+    /// The terminal of the token before.
     pub previous: Option<Terminal>,
 }
 
@@ -35,7 +35,7 @@ impl Drop for Scanner {
 }
 
 impl Scanner {
-    /// At the first token.
+    /// A scanner at the first token.
     pub(crate) fn new(alloc: Global) -> Scanner
         ensures { scan_of result ≡ at_first }
     {
@@ -48,7 +48,7 @@ impl Scanner {
     }
 }
 
-// The declaration that has begun takes effect.
+// Lets the declaration that has begun, if one has, take effect.
 fn declare(scanner: &mut Scanner, is_loop_variable: bool) -> Result<(), OutOfMemory>
     ensures { OnOk result (scan_of scanner.new ≡ declared is_loop_variable (scan_of scanner.old)) }
 {
@@ -63,7 +63,7 @@ fn declare(scanner: &mut Scanner, is_loop_variable: bool) -> Result<(), OutOfMem
     Ok(())
 }
 
-// A block opens.
+// Opens a block.
 fn enter(scanner: &mut Scanner) -> Result<(), OutOfMemory>
     ensures { OnOk result (scan_of scanner.new ≡ block_entered (scan_of scanner.old)) }
 {
@@ -73,7 +73,7 @@ fn enter(scanner: &mut Scanner) -> Result<(), OutOfMemory>
     Ok(())
 }
 
-// The innermost block closes.
+// Closes the innermost block.
 fn leave(scanner: &mut Scanner)
     ensures { scan_of scanner.new ≡ block_left (scan_of scanner.old) }
 {
@@ -82,7 +82,7 @@ fn leave(scanner: &mut Scanner)
     }
 }
 
-// A name that may begin a declaration.
+// Takes note of a name that begins a declaration.
 fn name(alloc: Global, scanner: &mut Scanner, text: &Text) -> Result<(), OutOfMemory>
     ensures { OnOk result (scan_of scanner.new ≡ named_by text.now (scan_of scanner.old)) }
 {
@@ -94,7 +94,7 @@ fn name(alloc: Global, scanner: &mut Scanner, text: &Text) -> Result<(), OutOfMe
     Ok(())
 }
 
-/// Goes past a token.
+/// Moves the scanner past a token.
 pub(crate) fn pass(alloc: Global, scanner: &mut Scanner, token: &Token) -> Result<(), OutOfMemory>
     ensures { OnOk result (scan_of scanner.new ≡ after_token token.now (scan_of scanner.old)) }
 {

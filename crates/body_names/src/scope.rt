@@ -23,8 +23,8 @@ impl Drop for FlowName {
     }
 }
 
-/// What the names in a body may mean besides its own variables. Of two definitions or two flows of one name it is the
-/// first.
+/// What the names in a body may mean besides its own variables. If two definitions or two flows have one name, it means
+/// the first.
 pub struct Scope<'a> {
     /// The definitions of the class, in the text's order: at most 16.
     pub locals: Seq<Text>,
@@ -49,7 +49,7 @@ impl<'a> Drop for Scope<'a> {
     }
 }
 
-/// What a body is resolved with: where it gets memory, and what names mean besides its variables.
+/// What a body is resolved with: its source of memory, and what names mean besides its own variables.
 #[derive(Drop)]
 pub(crate) struct Context<'a> {
     pub(crate) alloc: Global,

@@ -1,4 +1,4 @@
-//! Statements and blocks with their names resolved.
+//! Resolves the names of statements and blocks.
 
 ghost use Rattle.std.specs.Prelude.{true};
 ghost use Rattle.body_names.specs.Environment.{environment_of};
@@ -17,7 +17,7 @@ use jdf_tree::{BlockTree, ExprTree, StmtTree, Word};
 use ptg_base::Seq;
 use term_core::{Block, Stmt};
 
-// A declaration, after which its variable is seen.
+// A declaration. Its variable is seen after it.
 #[tactic(auto, using(ptg_base::proofs::Refusals::refuses_before))]
 fn declare(
     context: &Context,
@@ -72,7 +72,7 @@ fn put(
     Ok(Stmt::Put(flow, at, value))
 }
 
-// A trap, by the number of its word.
+// A trap, with the number of its word.
 fn trap(context: &Context, bindings: &mut BindingTable, word: &Word) -> Result<Stmt, JdfRefusal>
     ensures { Returns (λ s. (s, bindings_of bindings.new)) result (trap word.now (bindings_of bindings.old)) }
 {
@@ -80,7 +80,7 @@ fn trap(context: &Context, bindings: &mut BindingTable, word: &Word) -> Result<S
     Ok(Stmt::Trap(number))
 }
 
-// A block, after which its variables are no longer seen.
+// A block. After it, its variables are no longer seen.
 #[cycle(block)]
 #[tactic(auto, using(ptg_base::proofs::Refusals::refuses_before))]
 fn in_block(
@@ -120,14 +120,14 @@ fn if_else(
     Ok(Stmt::If(condition, first, second))
 }
 
-// The first and the last value of a loop's variable.
+// The first and last values of a loop's variable.
 #[derive(Drop)]
 struct Bounds<'a> {
     low: &'a ExprTree,
     high: &'a ExprTree,
 }
 
-// A loop, whose variable is seen in its block alone.
+// A loop. Its variable is seen in its block alone.
 #[cycle(block)]
 #[tactic(auto, using(ptg_base::proofs::Refusals::refuses_before))]
 fn for_loop(
@@ -154,7 +154,7 @@ fn for_loop(
     Ok(Stmt::For(slot, low, high, turn))
 }
 
-// A statement with its names resolved.
+// Resolves the names of a statement.
 #[cycle(block)]
 fn statement(
     context: &Context,
@@ -178,7 +178,7 @@ fn statement(
     }
 }
 
-/// The statements of a block, in order.
+/// Resolves the statements of a block, in order.
 #[cycle(block)]
 pub(crate) fn block(
     context: &Context,

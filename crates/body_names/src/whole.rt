@@ -1,4 +1,4 @@
-//! A body as a whole.
+//! Resolves the names of a whole body.
 
 ghost use Rattle.std.specs.Prelude.{IfOk, length};
 ghost use Rattle.term_core.specs.WellBody.{IsWellBody};
@@ -15,16 +15,18 @@ use ptg_base::{Seq, Text};
 use std::alloc::Global;
 use term_core::Body;
 
-/// Resolves the names of a body: the body and its trap words, in the order of their first use; or the first fault of a
-/// name, in the text's order: NameTwice, UnknownName, WrongKind, CtlMixed, ReadAssigned, NotAssignable, or TooManyVars
-/// at the name of the 257th variable. More trap words than a 32-bit number can count are OutOfMemory.
+/// Resolves the names of a body. Returns the body with its trap words in the order of their first use, or the first
+/// fault of a name in the text's order.
+///
+/// The codes are NameTwice, UnknownName, WrongKind, CtlMixed, ReadAssigned, NotAssignable, and TooManyVars at the name
+/// of the 257th variable. More trap words than a 32-bit number can count are OutOfMemory.
 #[tactic(auto, using(ptg_base::proofs::Refusals::refuses_before))]
 pub fn resolve(
     alloc: Global,
     scope: &Scope,
     tree: &BlockTree,
 ) -> Result<(Body, Seq<Text>), JdfRefusal>
-    // The body, or the fault, is what the definition gives, unless memory runs out.
+    // The body, or the fault, is that of the definition, unless memory runs out.
     ensures answer { Returns (λ x. x) result (body_of (environment_of scope.now) tree.now) }
     // The body is well made for the locals and the flows of the scope.
     ensures well { IfOk result (λ (body, words). IsWellBody (length scope.now.locals) (length scope.now.flows) body) }

@@ -1,4 +1,4 @@
--- Parts of a statement, one after another, where some of them may be left out.
+-- Parts of a statement, one after another; some may be left out.
 use Rattle.std.proofs.Common.{◌≡◌, Bool, true, false, cond, List, Ok, Err, refl}
 use Rattle.std.specs.Prelude.{Option, Some, None}
 use Rattle.grammar_core.specs.declared.token.Token.{Token}
@@ -15,11 +15,11 @@ use Rattle.jdf_tree.specs.Statements.{Statements, Done}
 use Rattle.jdf_tree.specs.BodyGrammar.{value, element, assign_of, assignment, condition, block, otherwise, if_of, choice}
 use Rattle.jdf_tree.specs.Grammar.{productions}
 
--- what may follow
+-- a part that may be left out
 abbrev maybe_at : {B : Type 0} → Bool → Read B → List Token → Read (Option B)
 maybe_at b r s = cond b (r >>= applied Some) (Ok (None, s))
 
--- one, perhaps a second, and a third
+-- a part, perhaps a second one, and a third
 module _ {A B C D : Type 0} (f : A × (Option B × C) → D) (b : List Token → Bool) (q : List Token → Read B) (p : List Token → Read C) where
   last : (a : A) (o : Option B) (c : Read C) → ((c >>= pair_with o) >>= pair_with a >>= applied f) ≡ (c >>= applied (λ (z : C). f (a, (o, z))))
   last a o (Ok c) = refl
@@ -41,7 +41,7 @@ pub assignment_reads : (s : List Token) → reading productions assignment s
 unfolding assignment element
 assignment_reads s = perhaps_between assign_of (starts (is terminal.LeftBracket)) (reading productions element) (reading productions value) (reading productions (name Body) s)
 
--- a word, two, and perhaps a third
+-- a token, two parts, and perhaps a third one
 module _ {A B C D : Type 0} (f : A × (B × Option C) → D) (g : List Token → Read A) (p : List Token → Read B) (b : List Token → Bool) (q : List Token → Read C) where
   third : (x : Token) (a : A) (y : B) (s : List Token) (t : Bool) (z : Read C) → ((((maybe_at t z s >>= pair_with y) >>= pair_with a) >>= pair_with x) >>= applied (λ (w : Token × (A × (B × Option C))). w.1) >>= applied f)
       ≡ cond t (z >>= applied (λ (c : C). f (a, (y, Some c)))) (Ok (f (a, (y, None)), s))

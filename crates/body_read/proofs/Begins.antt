@@ -1,4 +1,4 @@
--- What the next token shows of the statements of a body.
+-- What the next token shows about the statements of a body.
 use Rattle.std.proofs.Common.{◌≡◌, true, false, cond, List, [], ◌∷◌, ◌++◌, Ok, refl, ap}
 use Rattle.ptg_base.specs.Returns.{ReturnsRefusal}
 use Rattle.grammar_core.specs.declared.token.Token.{Token}
@@ -21,12 +21,12 @@ use Rattle.jdf_tree.specs.BodyGrammar.{declaration, assignment, choice, for_loop
 use Rattle.jdf_tree.specs.Grammar.{productions}
 use Rattle.jdf_tree.proofs.Lists.{rest_of, rest_begins, rest_goes_on, rest_fails, rest_ends}
 
--- what the name of a block reads
+-- what the nonterminal of a block reads
 pub block_is : (s : List Token) → nonterminal_at productions a_block s ≡ reading productions block_rest s
 unfolding productions
 block_is s = nonterminal_is productions a_block s
 
--- the next token shows which statement comes
+-- the next token shows which statement follows
 pub statement_reads : (s : List Token) → reading productions statement s ≡ cond (starts (is terminal.Int) s) (reading productions declaration s) (cond (starts (is terminal.If) s) (reading productions choice s) (cond (starts (is terminal.For) s) (reading productions for_loop s) (cond (starts (is terminal.Trap) s) (reading productions trap_statement s) (reading productions assignment s))))
 unfolding statement declaration choice for_loop trap_statement
 statement_reads s = refl

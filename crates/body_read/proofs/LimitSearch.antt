@@ -1,4 +1,4 @@
--- Looking for the first token that is too many, one token after the other.
+-- The search for the first token that is too many, one token after the other.
 use Rattle.std.proofs.Common.{◌≡◌, ℕ, zero, suc, ◌+◌, ◌-◌, ◌≤◌, ◌<◌, Bool, true, false, cond, List, [], ◌∷◌, ◌++◌, length, take, drop, refl, sym, ap, ◌∙◌, arith, add-one}
 use Rattle.std.specs.Prelude.{nat_le, ◌&&◌}
 use Rattle.std.proofs.lemmas.List.{drop_all, length-drop}
@@ -11,7 +11,7 @@ use Rattle.jdf_lex.specs.Sets.{starts}
 use Rattle.jdf_lex.specs.Terminals.{terminal_of, is}
 use Rattle.jdf_tree.specs.BodyLimits.{how_many, open_blocks, most_blocks, is_too_deep, declares, is_too_many, block_limit, variable_limit}
 
--- so far i tokens have been passed
+-- i tokens have been passed so far
 module _ (p : List Token → Token → Bool) (s : List Token) (i total : ℕ) (same : i + index_by p (take i s) (drop i s) ≡ total) where
   pub stops_at : (x : Token) (r : List Token) → drop i s ≡ x ∷ r → p (take i s) x ≡ true → i ≡ total
   unfolding index_by
@@ -32,7 +32,7 @@ module _ (p : List Token → Token → Bool) (s : List Token) (i total : ℕ) (s
 none_left : (s : List Token) (i : ℕ) → i < length s → drop i s ≡ [] → ⊥
 none_left s i lt e = omega (arith, length-drop i s, ap (λ (l : List Token). length l) e, lt)
 
--- the token at a place, and the tokens before and after it
+-- the token at an index, and the tokens before and after it
 split_at : (s : List Token) (i : ℕ) (x : Token) (r : List Token) → drop i s ≡ x ∷ r → (take (i + 1) s ≡ take i s ++ x ∷ []) × (drop (i + 1) s ≡ r)
 split_at [] zero x r e = absurd cc
 split_at (y ∷ s) zero x r e =
@@ -41,18 +41,18 @@ split_at (y ∷ s) zero x r e =
 split_at [] (suc i) x r e = absurd cc
 split_at (y ∷ s) (suc i) x r e = let k = split_at s i x r e in (rw (add-one) (ap (λ (l : List Token). y ∷ l) (ap (λ (n : ℕ). take n s) (sym (add-one i)) ∙ k.0)), rw (add-one) (ap (λ (n : ℕ). drop n s) (sym (add-one i)) ∙ k.1))
 
--- one more is counted where it is of these terminals
+-- one more is counted if it is one of these terminals
 more_of : (q : Terminal → Bool) (front : List Token) (x : Token) → how_many q (front ++ x ∷ []) ≡ how_many q front + cond (q (terminal_of x)) 1 0
 more_of q front x = sum_by_push (λ y. cond (q (terminal_of y)) 1 0) front x
 
--- a whole body begins as each longer front of it does
+-- a whole body begins with the same token as each nonempty front of it
 begins_alike : (q : Terminal → Bool) (s : List Token) (i : ℕ) → 0 < i → starts q (take i s) ≡ starts q s
 begins_alike q [] zero h = refl
 begins_alike q [] (suc i) h = refl
 begins_alike q (x ∷ s) zero h = absurd (omega arith)
 begins_alike q (x ∷ s) (suc i) h = refl
 
--- how many blocks may be open matters only after the first token
+-- in this test the bound of a front agrees with that of the whole body: before the first token no block is open
 bound_is : (s : List Token) (i opened closed : ℕ) → opened ≡ how_many (is terminal.LeftBrace) (take i s) → closed ≡ how_many (is terminal.RightBrace) (take i s)
     → nat_le (most_blocks (take i s)) (open_blocks (take i s)) ≡ nat_le (most_blocks s) (opened - closed)
 bound_is s zero opened closed e f = rw (e, f) (go (starts (is terminal.LeftBrace) s))
@@ -62,12 +62,11 @@ bound_is s zero opened closed e f = rw (e, f) (go (starts (is terminal.LeftBrace
     go false = refl
 bound_is s (suc i) opened closed e f = rw (e, f, begins_alike (is terminal.LeftBrace) s (suc i) (omega arith)) refl
 
--- what a test of the next token says of the first of these
+-- what a test of the next token says about the first of these tokens
 next_of : (q : Terminal → Bool) (b : Bool) (x : Token) (r rest : List Token) → rest ≡ x ∷ r → b ≡ starts q rest → q (terminal_of x) ≡ b
 next_of q b x r rest e h = sym (h ∙ ap (starts q) e)
 
--- what the code knows at a token: those before it are counted, and the limit is as far on as the tokens from here on
--- say
+-- what the code knows at a token: the counts of the tokens before it, and that a search from here on finds the limit
 pub record BlocksSoFar (s : List Token) (i opened closed : ℕ) : Type 0 where
   pub opens : opened ≡ how_many (is terminal.LeftBrace) (take i s)
   pub closes : closed ≡ how_many (is terminal.RightBrace) (take i s)
@@ -80,7 +79,7 @@ unfolding block_limit
 blocks_begin s = record { opens = refl; closes = refl; opened_at_most = omega arith; closed_at_most = omega arith; same = omega arith }
 
 module _ (s : List Token) (i opened closed : ℕ) (far : BlocksSoFar s i opened closed) where
-  -- the test of the code is the one of the limit
+  -- the test in the code is that of the limit
   tests_alike : (opens : Bool) (x : Token) (r : List Token) → drop i s ≡ x ∷ r → opens ≡ starts (is terminal.LeftBrace) (drop i s)
       → is_too_deep (take i s) x ≡ (opens && nat_le (most_blocks s) (opened - closed))
   unfolding is_too_deep

@@ -69,7 +69,7 @@ left_of (Err n) = n.left
 
 -- ---- one limit after another
 
--- what a limit makes of reading that took n of so many tokens
+-- a reading that took n of `size` tokens, under the limit l
 abbrev limit : {A : Type 0} → ℕ → ℕ → Code → ℕ → Read A → Read A
 limit size l e n r = cond (nat_lt l n) (Err (fault_from_end (size - l) e)) r
 
@@ -131,7 +131,7 @@ module _ (s w v : List Token) (limit : ℕ) (is_limit : limit ≡ min (block_lim
   unfolding both
   cut a b = windows.cut both code_of (Derives (Derived productions) text) (reading productions text) text_sound (reading productions body) judged s w v limit is_limit front back long a b
 
-  -- what was read up to the end of the window and no further
+  -- the tokens were read up to the end of the window and no further
   pub cut_after : (t : Statements) (rest : List Token) → reading productions text w ≡ Ok (t, rest) → true ≡ (length rest == 0) → reading productions body s ≡ Err (fault_from_end (length s - limit) (code_of s))
   cut_after t rest e none = cut (λ t' rest' some e'. absurd (some_left t' rest' some e')) (λ n some e'. absurd (no_err n e'))
     where

@@ -43,7 +43,7 @@ fault_left s n e = fault_within productions claims productions_fine productions_
 pub fault_read : (s : List Token) (place : ℕ) (c : Code) → IsFirstFault productions body s place c → whole productions body s ≡ Err (fault_from_end (length s - place) c)
 fault_read s place c h = one_fault productions claims productions_fine productions_limits body body_fine body_text_limits s place c h
 
--- ---- the answer is the one there is
+-- ---- the result is the only one
 
 pub one_tree : (s : List Token) (t t' : Statements) → whole productions body s ≡ Ok t → IsText productions body s t' None → t ≡ t'
 one_tree s t t' e h = same_Ok t t' (sym e ∙ only s t' h)
@@ -61,7 +61,7 @@ one_place s left p d c e h =
     let within = fault_index productions body s p c h in
     (omega (arith, n, within), ap (λ (m : ReadFault). m.code) same)
 
--- ---- what reading answers
+-- ---- what reading returns
 
 -- the tree that was read, or the fault that was met
 abbrev pub IsRead : Result Statements ReadRefusal → Result Statements ReadFault → Type 0
@@ -92,7 +92,7 @@ fault_only s x f e h =
     let code : x.code ≡ f.code = ap (λ (m : ReadFault). m.code) same in
     λ i. refusal (errors.Fault (record { left = left i; code = code i }))
 
--- what reading a tree answers
+-- what reading a tree returns
 pub tree_exact : (s : List Token) (r : Result Statements ReadRefusal) → IsRead r (whole productions body s) → FindsOrRefuses (IsTree s) (IsFaultBefore s) r
 tree_exact s (Ok u) e =
     record {

@@ -1,4 +1,4 @@
-//! Reads the text of the body of a class into its tree, or names the text's first fault.
+//! Reads the text of a class's body into its tree, or returns the first fault of the text.
 #![tactic(auto)]
 
 mod limits;

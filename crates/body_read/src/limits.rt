@@ -1,4 +1,4 @@
-//! Where a body passes its limits.
+//! Where a body exceeds its limits.
 
 ghost use Rattle.std.specs.Prelude.{◌≡◌, ◌-◌, ◌&&◌, if◌then◌else◌};
 ghost use Rattle.jdf_lex.specs.declared.terminal.Terminal.TheVariants.{LeftBrace};
@@ -12,14 +12,14 @@ use ptg_base::MOST_VARIABLES;
 // How deep blocks may be nested. The braces around a whole body do not count.
 const MOST_NESTED: usize = 32;
 
-// 1 where it holds, to count.
+// 1 if it holds, else 0; for counting.
 fn one_if(holds: bool) -> usize
     ensures { result ≡ (if holds then 1 else 0) }
 {
     if holds { 1 } else { 0 }
 }
 
-// How many blocks may be open in a body that begins so, before one more is opened.
+// How many blocks may be open before a brace opens one more. The braces around a whole body do not count.
 fn most_blocks(tokens: &[Token]) -> usize
     ensures { result ≡ most_blocks tokens.now }
 {
@@ -30,14 +30,14 @@ fn most_blocks(tokens: &[Token]) -> usize
     }
 }
 
-// Whether a variable's declaration or a loop is next.
+// Whether the next token begins the declaration of a variable or a loop.
 fn is_variable_next(tokens: &[Token]) -> bool
     ensures { result ≡ starts declares tokens.now }
 {
     is_next(tokens, Terminal::Int) || is_next(tokens, Terminal::For)
 }
 
-/// The index of the first brace that opens a block too deep, or one past the last token's.
+/// The index of the first brace that opens a block too deep; if none does, the number of tokens plus 1.
 pub(crate) fn block_limit(tokens: &[Token]) -> usize
     ensures { result ≡ block_limit.at tokens.now }
 {
@@ -56,7 +56,8 @@ pub(crate) fn block_limit(tokens: &[Token]) -> usize
     tokens.len() + 1
 }
 
-/// The index of the first declaration that is too many, or one past the last token's.
+/// The index of the first declaration that is too many; if none is, the number of tokens plus 1. A loop declares its
+/// variable.
 pub(crate) fn variable_limit(tokens: &[Token]) -> usize
     ensures { result ≡ variable_limit.at tokens.now }
 {

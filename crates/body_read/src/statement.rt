@@ -1,4 +1,4 @@
-//! Statements and blocks.
+//! Reads statements and blocks.
 
 ghost use Rattle.std.specs.Prelude.{◌≡◌};
 ghost use Rattle.jdf_lex.specs.Sets.{starts};
@@ -150,7 +150,7 @@ fn is_statement_next(tokens: &[Token]) -> bool
     }
 }
 
-// A statement, by its first token.
+// A statement, chosen by its first token.
 #[cycle(block)]
 #[tactic(auto, using(crate::proofs::Begins::statement_reads))]
 fn statement(alloc: Global, tokens: &[Token]) -> Result<(StmtTree, &[Token]), ReadRefusal>
@@ -171,7 +171,7 @@ fn statement(alloc: Global, tokens: &[Token]) -> Result<(StmtTree, &[Token]), Re
     assignment(alloc, tokens)
 }
 
-/// Statements, as long as one comes next.
+/// Reads statements as long as one is next.
 #[cycle(block)]
 #[tactic(auto, using(crate::proofs::Begins::statements_listed, crate::proofs::Begins::statements_end, crate::proofs::Begins::statements_fail, crate::proofs::Begins::statements_go_on, crate::proofs::Begins::statements_begin))]
 pub(crate) fn statements(

@@ -1,4 +1,4 @@
-//! The text of a body as a whole.
+//! Reads the text of a body as a whole.
 
 ghost use Rattle.ptg_base.specs.Returns.{FindsOrRefuses, Returns};
 ghost use Rattle.grammar_core.specs.Reading.{whole};
@@ -15,7 +15,7 @@ use jdf_lex::{GrammarCode, JdfRefusal, Spot, Terminal, Token, is_next};
 use jdf_tree::BlockTree;
 use std::alloc::Global;
 
-// `block | statement*`, whatever the limits.
+// `block | statement*`, without the limits.
 #[tactic(auto, using(crate::proofs::Begins::text_reads))]
 fn text(alloc: Global, tokens: &[Token]) -> Result<(BlockTree, &[Token]), ReadRefusal>
     ensures { Reads text tokens.now result }
@@ -26,7 +26,8 @@ fn text(alloc: Global, tokens: &[Token]) -> Result<(BlockTree, &[Token]), ReadRe
     statements(alloc, tokens)
 }
 
-// A body is read in a window up to the first of its limits, so that no text makes the recursion deep.
+// A body within its limits. The text is read only up to the first token past a limit, so no text makes the recursion
+// deep.
 #[tactic(auto, using(crate::proofs::Limited::within_limit, crate::proofs::Limited::slice, crate::proofs::Limited::fault, crate::proofs::Limited::cut_after, crate::proofs::Limited::cut_at_fault, crate::proofs::Limited::text_within, expr_read::proofs::Loops::reading_shrinks))]
 fn body(alloc: Global, tokens: &[Token]) -> Result<(BlockTree, &[Token]), ReadRefusal>
     ensures { Reads body tokens.now result }
@@ -58,7 +59,7 @@ fn body(alloc: Global, tokens: &[Token]) -> Result<(BlockTree, &[Token]), ReadRe
     }
 }
 
-// All of the tokens.
+// A body that takes all of the tokens.
 fn whole(alloc: Global, tokens: &[Token]) -> Result<BlockTree, ReadRefusal>
     ensures { Returns (λ tree. tree) result (whole productions body tokens.now) }
 {
@@ -69,8 +70,8 @@ fn whole(alloc: Global, tokens: &[Token]) -> Result<BlockTree, ReadRefusal>
     Ok(tree)
 }
 
-/// Reads the statements of a body; or says how many tokens are left at the first fault of its text, and which fault
-/// that is. What its names mean is not looked at.
+/// Reads the statements of a body. If its text has a fault, returns the code of the first one with the number of tokens
+/// that are left there. What the names mean is not checked.
 pub fn tree(alloc: Global, tokens: &[Token]) -> Result<BlockTree, ReadRefusal>
     // What is read is the tree of the text; a fault is its first one.
     ensures exact { FindsOrRefuses (IsTree tokens.now) (IsFaultBefore tokens.now) result }
@@ -78,9 +79,9 @@ pub fn tree(alloc: Global, tokens: &[Token]) -> Result<BlockTree, ReadRefusal>
     whole(alloc, tokens)
 }
 
-/// Reads the statements of a body; or says the first fault of its text: Syntax, BadNumber, ExprTooLong,
-/// TooDeep or TooManyVars. Where the tokens end too early that is Syntax at `finish`, the spot after them. What its
-/// names mean is not looked at.
+/// Reads the statements of a body, or returns the first fault of its text: Syntax, BadNumber, ExprTooLong, TooDeep or
+/// TooManyVars. If the tokens end too early, the fault is Syntax at `finish`, the spot after them. What the names mean
+/// is not checked.
 pub fn read(alloc: Global, tokens: &[Token], finish: Spot) -> Result<BlockTree, JdfRefusal>
     // What is read is the tree of the text; a fault is its first one.
     ensures exact { FindsOrRefuses (IsTree tokens.now) (IsTreeFault tokens.now finish) result }

@@ -33,7 +33,7 @@ from_named n class flow cs u h =
     let q = from_links n class flow cs p.0 p.1 in
     (sym q.0 ∙ sym (ap (λ (t : Task). t.class) p.2), subst (λ l. IsIn l cs) (sym (ap (λ (t : Task). t.params) p.2)) q.2)
 
--- a task at the other end of one of two lists of links
+-- a task at the other end of a link of two lists is at one of the first or of the second
 parts : (xs ys : List Link) (u : Task) → IsIn u (map far_of (xs ++ ys)) → IsIn u (map far_of xs) ⊎ IsIn u (map far_of ys)
 parts xs ys u h = from_append u (map far_of xs) (map far_of ys) (rw (map-append far_of xs ys) at h)
 
@@ -43,7 +43,7 @@ in_first xs ys u h = rw (map-append far_of xs ys) (IsIn-append_left u (map far_o
 in_second : (xs ys : List Link) (u : Task) → IsIn u (map far_of ys) → IsIn u (map far_of (xs ++ ys))
 in_second xs ys u h = rw (map-append far_of xs ys) (IsIn-append_right u (map far_of xs) (map far_of ys) h)
 
--- whether links that are not the first part are the second
+-- a task in no link of the first list is in one of both lists if and only if it is in one of the second
 pub in_rest : (xs ys : List Link) (u : Task) (b : Bool) → (IsIn u (map far_of xs) → ⊥) → IsTrue b ↔ IsIn u (map far_of ys) → IsTrue b ↔ IsIn u (map far_of (xs ++ ys))
 in_rest xs ys u b none w = (
   λ q. in_second xs ys u (w.0 q),

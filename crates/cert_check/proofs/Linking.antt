@@ -1,4 +1,4 @@
--- What the checkers find of chains and cycles.
+-- What the checkers find out about chains and cycles.
 use Rattle.std.proofs.Common.{◌≡◌, ◌↔◌, Bool, false, List, [], ◌∷◌, ◌++◌, refl, sym, ◌∙◌, subst, inl, IsTrue}
 use Rattle.std.proofs.lemmas.Bool.{false≢true}
 use Rattle.std.specs.List.{list_any}
@@ -36,7 +36,7 @@ once_join x xs new h = (λ i. new (x, xs, refl, i), h)
 pub same_first : (x y : Task) (xs ys : List Task) → x ∷ xs ≡ y ∷ ys → x ≡ y
 same_first x y xs ys e = cc
 
--- a cycle, by its first task and its last
+-- a cycle, given its first task and its last
 module _ (P : Plan) (ts front back : List Task) (first last : Task) (begins : ts ≡ first ∷ back) (ends : ts ≡ front ++ last ∷ []) where
   pub cycle_closed : IsCycle P ts → IsTask P first × IsSourceOf P last first
   cycle_closed c =
@@ -47,7 +47,7 @@ module _ (P : Plan) (ts front back : List Task) (first last : Task) (begins : ts
   pub cycle_is : IsTask P first × IsSourceOf P last first → IsChain P ts → HasNoRepeats ts → IsCycle P ts
   cycle_is closed chain once = record { chain = chain; differ = once; first = first; begins = (back, begins); last = last; ends = (front, ends); closed = closed.1 }
 
-  -- where one part fails it is none
+  -- if one part fails, the tasks are no cycle
   pub no_link : (IsTask P first × IsSourceOf P last first → ⊥) → IsTrue false ↔ IsCycle P ts
   no_link h = (λ e. absurd (false≢true e), λ c. absurd (h (cycle_closed c)))
 
@@ -57,7 +57,7 @@ module _ (P : Plan) (ts front back : List Task) (first last : Task) (begins : ts
   pub by_once : (b : Bool) → IsTask P first × IsSourceOf P last first → IsChain P ts → IsTrue b ↔ HasNoRepeats ts → IsTrue b ↔ IsCycle P ts
   by_once b closed chain h = (λ e. cycle_is closed chain (h.0 e), λ c. h.1 c.differ)
 
--- a task is one of these where a test finds it
+-- a task is one of these if and only if a test finds it
 pub any_in : (t : Task) (ts : List Task) (b : Bool) → b ≡ list_any (λ (u : Task). same_task u t) ts → IsTrue b ↔ IsIn t ts
 any_in t ts b e = (
   λ k. let p = some_member_passes (λ (u : Task). same_task u t) ts (sym e ∙ k) in subst (λ u. IsIn u ts) ((same_task-decides p.0 t).0 p.2) p.1,

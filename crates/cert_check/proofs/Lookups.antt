@@ -1,4 +1,4 @@
--- What is found among rows in task order by halves.
+-- What a binary search finds among rows in task order.
 use Rattle.std.proofs.Common.{◌≡◌, ℕ, ◌<◌, IsTrue, slice_index_or, Option, Some, None, MatchOption, take, drop, length, append_assoc, arith, ◌+◌, ◌↔◌, true, List, [], ◌∷◌, ◌++◌, refl, ap, sym, ◌∙◌, subst, inl, inr}
 use Rattle.std.specs.Prelude.{nat_le}
 use Rattle.std.proofs.lemmas.Bool.{leb-true, le-leb}
@@ -20,7 +20,7 @@ use Rattle.chain_cert.proofs.TaskSorting.{not_both, not_itself}
 row_task : (t : Task) (k : ℕ) (rows : List (Task × ℕ)) → IsIn (t, k) rows → IsIn t (keys_of rows)
 row_task t k rows i = IsIn-map (λ (row : Task × ℕ). row.0) rows (t, k) i
 
--- rows that rise do so in each part
+-- each part of rising rows rises
 pub rising_left : (before : List (Task × ℕ)) (row : Task × ℕ) (later : List (Task × ℕ)) → IsRising (keys_of (before ++ row ∷ later)) → IsRising (keys_of before)
 rising_left [] row later up = tt
 rising_left (r ∷ rs) row later up = (λ u i. up.0 u (in_left rs (row ∷ later) u i), rising_left rs row later up.1)
@@ -46,7 +46,7 @@ before_all (r ∷ rs) row later up u i = elim i [
     among (r ∷ rs) row later = inr (among rs row later)
 
 module _ (before : List (Task × ℕ)) (row : Task × ℕ) (later : List (Task × ℕ)) (up : IsRising (keys_of (before ++ row ∷ later))) (t : Task) (k : ℕ) where
-  -- a task before that of the row is to be sought before it, one after it behind it
+  -- a task before the row's is looked up before the row, a later one after it
   pub left_of : task_before t row.0 ≡ true → IsIn (t, k) (before ++ row ∷ later) ↔ IsIn (t, k) before
   left_of h = (
     λ i. elim (from_append (t, k) before (row ∷ later) i) [
@@ -86,7 +86,7 @@ module _ (before : List (Task × ℕ)) (row : Task × ℕ) (later : List (Task �
 pub split_rows : (rows before after later : List (Task × ℕ)) (row : Task × ℕ) (n : ℕ) → before ≡ take n rows → after ≡ drop n rows → after ≡ row ∷ later → before ++ row ∷ later ≡ rows
 split_rows rows before after later row n b a s = ap (λ l. l ++ row ∷ later) b ∙ ap (λ l. take n rows ++ l) (sym s ∙ a) ∙ take-append-drop n rows
 
--- the edges before those that are left come from sources that a level is above
+-- the level n is high enough for the source of each edge before those that are left
 pub record AboveSoFar (levels : List (Task × ℕ)) (w n : ℕ) (all left : List Edge) : Type 0 where
   pub passed : List Edge
   pub split : all ≡ passed ++ left

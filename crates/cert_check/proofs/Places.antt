@@ -55,7 +55,7 @@ in_place P [] up job = tt
 in_place P (t ∷ ts) up job = ((job t (inl refl), before_first t ts up.0), in_place P ts up.1 (λ u i. job u (inr i)))
 
 module _ (P : Plan) where
-  -- as many rows as tasks, in place, are all tasks in their order
+  -- as many rows as there are tasks, each in place, are all tasks in task order
   pub has_order : (rows : List (Task × ℕ)) → length rows ≡ length (all_tasks P) → (b : Bool) → IsTrue b ↔ AreInPlace P (keys_of rows) → IsTrue b ↔ HasTasksInOrder P rows
   has_order rows many b h = (
     λ e.
@@ -70,7 +70,7 @@ module _ (P : Plan) where
     λ q. h.1 (subst (AreInPlace P) (sym q) (in_place P (tasks_in_order P) (sorted_rising P) (λ t i. (sorted_task P t).0 i))),
   )
 
-  -- other lists have not all tasks
+  -- a list of another length does not have all tasks
   pub wrong_length : (rows : List (Task × ℕ)) → (length rows ≡ length (all_tasks P) → ⊥) → IsTrue false ↔ HasTasksInOrder P rows
   wrong_length rows other = (
     λ e. absurd (false≢true e),

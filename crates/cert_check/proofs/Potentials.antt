@@ -13,8 +13,8 @@ use Rattle.chain_cert.proofs.Potentials.{at_most_greatest, row_of}
 
 module _ (P : Plan) (ws : List ℕ) (levels : List (Task × ℕ)) (order : HasTasksInOrder P levels) where
   module _ (high : AreHighEnough P ws levels levels) where
-    -- a chain is no heavier than the level of its last task, and what comes before it is no heavier than that of a
-    -- source
+    -- a chain weighs at most the greatest level, also together with a weight `below` for which the level of its first
+    -- task leaves room
     climb : (t : Task) (ts : List Task) (n below : ℕ) → IsChain P (t ∷ ts) → IsIn (t, n) levels → below + weight ws t ≤ n → below + chain_weight ws (t ∷ ts) ≤ greatest_level levels
     climb t [] n below c i h = omega (arith, h, at_most_greatest levels (t, n) i)
     climb t (u ∷ us) n below c i h =
@@ -41,7 +41,7 @@ module _ (P : Plan) (ws : List ℕ) (levels : List (Task × ℕ)) (order : HasTa
     heaviest = e;
   }
 
--- what the checker says, by what it has found
+-- what the checker returns, by what it has found
 pub not_ordered : (P : Plan) (ws : List ℕ) (chain : List Task) (levels : List (Task × ℕ)) → (HasTasksInOrder P levels → ⊥) → IsTrue false ↔ ShowsHeaviest P ws chain levels
 not_ordered P ws chain levels h = (λ e. absurd (false≢true e), λ s. absurd (h s.tasks))
 

@@ -1,4 +1,4 @@
--- A greatest legal order has all tasks exactly where there is no cycle.
+-- A greatest legal order has all tasks if and only if there is no cycle.
 use Rattle.std.proofs.Common.{◌≡◌, ℕ, zero, suc, ◌↔◌, List, [], ◌∷◌, length, refl, ap, inl, inr, arith}
 use Rattle.ptg_base.specs.Lists.{IsIn}
 use Rattle.ptg_base.specs.Task.{Task}

@@ -8,7 +8,7 @@ use Rattle.dep_iter.specs.Tasks.{IsTask}
 use Rattle.chain_cert.specs.Chains.{IsSourceOf}
 use Rattle.chain_cert.specs.Weights.{weight}
 
--- t is the source of an edge into the first of these tasks, which is one of the job, if there is a first
+-- if there is a first of these tasks, it is one of the job, and t is the source of an edge into it
 abbrev pub IsSourceOfFirst : Plan → Task → List Task → Type 0
 IsSourceOfFirst P t [] = Unit {0}
 IsSourceOfFirst P t (u ∷ us) = IsTask P u × IsSourceOf P t u
@@ -18,11 +18,11 @@ abbrev pub IsLinked : Plan → List Task → Type 0
 IsLinked P [] = Unit {0}
 IsLinked P (t ∷ ts) = IsTask P t × IsSourceOfFirst P t ts
 
--- the level in each row of the source s is so much below n
+-- the level in each row of the source s is at least w below n
 abbrev pub IsAboveSource : List (Task × ℕ) → ℕ → ℕ → Task → Type 0
 IsAboveSource levels w n s = (k : ℕ) → IsIn (s, k) levels → k + w ≤ n
 
--- the level of a row is at least the weight of its task, and at least the level of each source and that weight
+-- the level of a row is at least the weight of its task, and at least that weight plus the level of each source
 pub record IsHighEnough (P : Plan) (ws : List ℕ) (levels : List (Task × ℕ)) (row : Task × ℕ) : Type 0 where
   pub own : weight ws row.0 ≤ row.1
   pub above : (s : Task) → IsSourceOf P s row.0 → IsAboveSource levels (weight ws row.0) row.1 s

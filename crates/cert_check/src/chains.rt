@@ -1,4 +1,4 @@
-//! Whether tasks are a chain, without memory.
+//! Checks, without memory, whether tasks are a chain.
 
 ghost use Rattle.std.specs.Prelude.{◌↔◌, IsTrue};
 ghost use Rattle.dep_iter.specs.Tasks.{IsTask};
@@ -22,7 +22,8 @@ pub(crate) fn is_link(plan: &Plan, s: &TaskId, t: &TaskId) -> bool
     }
 }
 
-// Whether the first of these tasks is one of the job that leads to the second, if there is one.
+// Whether the first of these tasks is one of the job. If there is a second one, it must be one of the job too, with an
+// edge from the first.
 fn is_linked(plan: &Plan, tasks: &[TaskId]) -> bool
     ensures { IsTrue result ↔ IsLinked plan.now tasks.now }
 {

@@ -1,4 +1,4 @@
-//! Whether tasks are a cycle, without memory.
+//! Checks, without memory, whether tasks are a cycle.
 
 ghost use Rattle.std.specs.Prelude.{◌≡◌, ◌↔◌, ◌∷◌, List, IsTrue, None};
 ghost use Rattle.ptg_base.specs.Lists.{HasNoRepeats, IsIn};
@@ -28,7 +28,7 @@ fn first_comes_again(tasks: &[TaskId]) -> bool
     }
 }
 
-// Whether no task comes twice. Takes time according to the pairs of tasks.
+// Whether no task comes twice. Compares each pair of tasks.
 fn are_different(tasks: &[TaskId]) -> bool
     ensures { IsTrue result ↔ HasNoRepeats tasks.now }
 {
@@ -41,7 +41,7 @@ fn are_different(tasks: &[TaskId]) -> bool
 }
 
 /// Whether tasks are a cycle of the job: a chain of different tasks whose last is the source of an edge into its first.
-/// None of them ever ends. It takes no memory, and time according to the pairs of tasks.
+/// None of them ever ends. It takes no memory, and compares each pair of tasks.
 pub fn check_cycle(m: &Matched, cycle: &[TaskId]) -> bool
     ensures exact { IsTrue result ↔ IsCycle m.now cycle.now }
     ensures dead { IsTrue result → (G : Data) (t : Task) → IsIn t cycle.now → ended m.now G t ≡ None }

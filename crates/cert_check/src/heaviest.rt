@@ -25,9 +25,9 @@ fn chain_weight(weights: &[u64], chain: &[TaskId]) -> u128
     total
 }
 
-/// Whether the levels show that no chain is heavier than this one: they are all tasks in task order, each level is at
-/// least the weight of its task and at least the level of each source and that weight, and the chain weighs the
-/// greatest level.
+/// Whether the levels show that no chain is heavier than `chain`. The levels must list all tasks in task order. Each
+/// must be at least the weight of its task, and at least that weight plus the level of each source. `chain` must be a
+/// chain that weighs as much as the greatest level.
 pub fn check_chain(
     m: &Matched,
     weights: &[u64],

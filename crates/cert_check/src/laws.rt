@@ -15,7 +15,7 @@ ghost use Rattle.chain_exists.specs.Completing.{IsComplete};
 ghost use Rattle.chain_cert.specs.Finding.{IsAccepted};
 ghost use Rattle.chain_cert.specs.Printed.{IsPrintedCycle};
 
-/// A law: a job has, with its data and weights, one certificate at most.
+/// A law: a job has, with its data and weights, at most one certificate.
 pub fn one_certificate()
     ensures { (P : Plan) (G : Data) (ws : List ℕ) (c d : Certificate) → IsConsistent P → IsCertificate P G ws c
         → IsCertificate P G ws d → c ≡ d }
@@ -26,7 +26,7 @@ pub fn the_printed_cycle_is_a_cycle()
     ensures { (P : Plan) (ran cycle : List Task) → IsConsistent P → IsPrintedCycle P ran cycle → IsCycle P cycle }
 {}
 
-/// A law: a job is complete exactly where it has no cycle and no task traps.
+/// A law: a job is complete if and only if it has no cycle and no task traps.
 pub fn a_job_is_complete_without_cycle_and_trap()
     ensures { (P : Plan) (G : Data) → IsConsistent P → IsComplete (answer P G) ↔ ((trapped P G ≡ []) × HasNoCycle P) }
 {}
@@ -37,7 +37,7 @@ pub fn the_checkers_accept_certificates()
         → IsAccepted P ws c }
 {}
 
-/// A law: a greatest legal order has all tasks exactly where there is no cycle.
+/// A law: a greatest legal order has all tasks if and only if there is no cycle.
 pub fn a_greatest_order_is_whole_without_cycle()
     ensures { (P : Plan) (ts : List Task) → IsConsistent P → IsGreatestOrder P ts
         → (length ts ≡ length (all_tasks P)) ↔ HasNoCycle P }

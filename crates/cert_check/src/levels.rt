@@ -1,4 +1,4 @@
-//! Levels of tasks, looked up by halves, and whether they are high enough, without memory.
+//! Finds levels of tasks by binary search, and checks whether they are high enough, without memory.
 
 ghost use Rattle.std.specs.Prelude.{◌≡◌, ◌↔◌, ℕ, IsTrue, MatchOption};
 ghost use Rattle.std.specs.Map.{keys_of};
@@ -16,7 +16,8 @@ use plan_core::Plan;
 use ptg_base::TaskId;
 use std::cmp::Ordering;
 
-// Whether the first of these rows is of a task of the job that is before the task of the second, if there is one.
+// Whether the first of these rows is for a task of the job that comes before the task of the second row, if there is
+// one.
 fn is_in_place(plan: &Plan, rows: &[(TaskId, u64)]) -> bool
     ensures { IsTrue result ↔ IsInPlace plan.now (keys_of rows.now) }
 {
@@ -32,7 +33,7 @@ fn is_in_place(plan: &Plan, rows: &[(TaskId, u64)]) -> bool
     is_before(&row.0, &next.0)
 }
 
-// Whether the rows are of different tasks of the job, in task order.
+// Whether the rows are for different tasks of the job, in task order.
 fn are_in_place(plan: &Plan, rows: &[(TaskId, u64)]) -> bool
     ensures { IsTrue result ↔ AreInPlace plan.now (keys_of rows.now) }
 {
@@ -54,7 +55,7 @@ pub(crate) fn has_tasks_in_order(m: &Matched, rows: &[(TaskId, u64)]) -> bool
     are_in_place(m.plan(), rows)
 }
 
-// The level in the row of a task, if there is one, where the rows are in task order.
+// The level in the row of a task, if it has one, among rows in task order.
 fn level_of(rows: &[(TaskId, u64)], t: &TaskId) -> Option<u64>
     requires { IsRising (keys_of rows.now) }
     ensures { MatchOption result ((k : ℕ) → IsIn (t.now, k) rows.now → ⊥) (λ n.
@@ -71,7 +72,7 @@ fn level_of(rows: &[(TaskId, u64)], t: &TaskId) -> Option<u64>
     }
 }
 
-// Whether a level n is at least that of the source s and a weight.
+// Whether a level n is at least the level of the source s plus a weight. True if s has no row.
 fn is_above_source(levels: &[(TaskId, u64)], w: u64, n: u64, s: &TaskId) -> bool
     requires { IsRising (keys_of levels.now) }
     ensures { IsTrue result ↔ IsAboveSource levels.now w n s.now }
@@ -82,7 +83,7 @@ fn is_above_source(levels: &[(TaskId, u64)], w: u64, n: u64, s: &TaskId) -> bool
     }
 }
 
-// Whether the level of a row is at least that of each source of its task and a weight.
+// Whether the level of a row is at least a weight plus the level of each source of its task.
 fn is_above_sources(plan: &Plan, levels: &[(TaskId, u64)], row: &(TaskId, u64), w: u64) -> bool
     requires task { IsTask plan.now row.now.0 }
     requires rising { IsRising (keys_of levels.now) }

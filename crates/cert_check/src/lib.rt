@@ -1,4 +1,4 @@
-//! Checkers of chains and of cycles, and laws of certificates.
+//! Checkers of chains and cycles, which are no part of the program, and laws of certificates.
 #![tactic(auto)]
 
 mod chains;

@@ -12,7 +12,7 @@ use dep_iter::{TaskAt, has_combination, held_target};
 use plan_core::{DepPlan, FlowPlan, Target};
 use ptg_base::TaskId;
 
-// Whether a target stands for a link with this task.
+// Whether this task is at the other end of a link that a target stands for.
 fn names(target: &Target, env: &[i64], far: &TaskId) -> bool
     ensures { (n : ℕ) → IsTrue result ↔ IsIn far.now (map (λ (l : LinkValue). l.far) (links_to env.now n target.now)) }
 {
@@ -25,7 +25,8 @@ fn names(target: &Target, env: &[i64], far: &TaskId) -> bool
     has_combination(args.as_slice(), env, far.params())
 }
 
-// Whether a target of these dependences that counts stands for a link with this task.
+// Whether this task is at the other end of a link of these dependences: of the first active one if `first_only`, else
+// of any active one.
 fn any_names(first_only: bool, deps: &[DepPlan], env: &[i64], far: &TaskId) -> bool
     ensures { (n : ℕ)
         → IsTrue result
@@ -48,7 +49,7 @@ fn any_names(first_only: bool, deps: &[DepPlan], env: &[i64], far: &TaskId) -> b
     any_names(first_only, later, env, far)
 }
 
-// Whether a target of the active in dependences of these flows stands for a link with this task.
+// Whether this task is at the other end of a link of the active in dependences of these flows.
 fn any_flow_names(flows: &[FlowPlan], env: &[i64], far: &TaskId) -> bool
     ensures { (n : ℕ)
         → IsTrue result
@@ -64,8 +65,8 @@ fn any_flow_names(flows: &[FlowPlan], env: &[i64], far: &TaskId) -> bool
     any_flow_names(others, env, far)
 }
 
-// Whether an edge into a task comes from another task. Takes time according to the in dependences of the task, however
-// many edges they give.
+// Whether an edge into a task comes from `source`. Takes time by the number of the task's in dependences, however many
+// edges they stand for.
 pub(crate) fn has_source(at: &TaskAt, source: &TaskId) -> bool
     ensures { IsTrue result ↔ IsIn source.now (edges.sources at.now.plan.now at.now.task.now) }
 {

@@ -1,11 +1,11 @@
--- A list of tasks has no repeats, or a task that comes twice with no repeats between.
+-- A list of tasks has no repeats, or a task that occurs twice with no repeats between.
 use Rattle.std.proofs.Common.{◌≡◌, List, [], ◌∷◌, ◌++◌, ap, sym, subst, ◌⊎◌, inl, inr}
 use Rattle.ptg_base.specs.Lists.{HasNoRepeats, IsIn}
 use Rattle.ptg_base.specs.Task.{Task}
 use Rattle.list_lemmas.proofs.Distinct.{HasNoRepeats-left}
 use Rattle.list_lemmas.proofs.Tasks.{member_or_not}
 
--- where a task comes first in a list
+-- a list, split at the first occurrence of a task
 first_place : (t : Task) (xs : List Task) → IsIn t xs → (before : List Task) × (after : List Task) × (xs ≡ before ++ t ∷ after) × (IsIn t before → ⊥)
 first_place t [] i = absurd i
 first_place t (x ∷ xs) i = elim (member_or_not t (x ∷ [])) [
@@ -18,7 +18,7 @@ first_place t (x ∷ xs) i = elim (member_or_not t (x ∷ [])) [
   ]
 ]
 
--- a list in which a task comes twice, with no repeats between
+-- a list in which a task occurs twice, with no repeats between
 pub record Repeats (xs : List Task) : Type 0 where
   pub before : List Task
   pub twice : Task

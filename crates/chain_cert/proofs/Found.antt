@@ -12,7 +12,7 @@ use Rattle.flow_meaning.specs.Final.{final_data}
 use Rattle.chain_cert.specs.Finding.{is_trapped}
 
 module _ (P : Plan) (G : Data) where
-  -- an answer says whether a task trapped
+  -- an answer tells whether a task trapped
   some_trap : is_trapped (answer P G) ≡ true → trapped P G ≢ []
   unfolding answer
   some_trap h none = by (length (ran P G) == length (all_tasks P)) (subst (λ rows. is_trapped (answer_by P G rows) ≡ true) none h)

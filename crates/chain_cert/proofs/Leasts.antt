@@ -28,7 +28,7 @@ module _ (test : Task → Bool) (ts : List Task) (t : Task) where
     λ u i k. elim (from_push u ts t i) [ inl old ↦ h.2 u old k | inr e ↦ absurd (false≢true (sym fails ∙ sym (ap test e) ∙ k)) ],
   )
 
-  -- one more that does
+  -- the first task that passes the test
   pub least_first : test t ≡ true → IsLeastWhere test ts None → IsLeastWhere test (ts ++ t ∷ []) (Some t)
   least_first passes h = (
     IsIn-append_right t ts (t ∷ []) (inl refl),
@@ -60,7 +60,7 @@ module _ (test : Task → Bool) (ts : List Task) (t : Task) where
 abbrev pub lesser : Task → Task → Task
 lesser a b = min_by_ordering (task_cmp a b) a b
 
--- what it picks after one more task, and after others
+-- the least task so far after one more, as `min` picks it
 abbrev next : Option Task → Task → Option Task
 next None t = Some t
 next (Some a) t = Some (lesser a t)
@@ -73,7 +73,7 @@ picks_next : (o : Option Task) (t : Task) (us : List Task) → picks (next o t) 
 picks_next None t us = refl
 picks_next (Some a) t us = refl
 
--- of the tasks that pass a test it picks the least
+-- `min` picks the least of the tasks that pass a test
 module _ (test : Task → Bool) where
   least_next : (seen : List Task) (t : Task) (o : Option Task) → test t ≡ true → IsLeastWhere test seen o → IsLeastWhere test (seen ++ t ∷ []) (next o t)
   least_next seen t None passes h = least_first test seen t passes h

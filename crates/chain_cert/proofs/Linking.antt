@@ -1,4 +1,4 @@
--- What chains and cycles are like.
+-- Properties of chains and cycles.
 use Rattle.std.proofs.Common.{List, [], ◌∷◌, refl, sym, subst, inl, inr}
 use Rattle.ptg_base.specs.Lists.{IsIn}
 use Rattle.ptg_base.specs.Task.{Task}

@@ -35,7 +35,7 @@ chain_pop P [] s t c = ((c.0, tt, tt), c.1)
 chain_pop P (u ∷ []) s t c = let p = chain_pop P [] s t c.2 in ((c.0, c.1, p.0), p.1)
 chain_pop P (u ∷ v ∷ f) s t c = let p = chain_pop P (v ∷ f) s t c.2 in ((c.0, c.1, p.0), p.1)
 
--- a chain that ends with a task is that task alone, or comes to it by a source
+-- a chain that ends at a task is that task alone, or comes to it by a source
 pub data ComesTo (P : Plan) (t : Task) (ts : List Task) : Type 0 where
   Alone : ts ≡ t ∷ [] → ComesTo P t ts
   BySource : (front : List Task) (s : Task) → ts ≡ (front ++ s ∷ []) ++ t ∷ [] → IsChain P (front ++ s ∷ []) → IsSourceOf P s t → ComesTo P t ts
@@ -50,7 +50,7 @@ comes_to P t ts c e = elim (last_or_none e.0) [
 ]
 
 module _ (P : Plan) (ws : List ℕ) (t : Task) (job : IsTask P t) where
-  -- a chain to a source, and the task
+  -- a heaviest chain to a source, with the task at its end
   pub longer : (s : Task) (k : ℕ) → IsSourceOf P s t → IsLevel P ws s k → (ts : List Task) × IsChain P ts × EndsWith t ts × (chain_weight ws ts ≡ k + weight ws t)
   longer s k link l =
       let is : l.chain ≡ l.ends.0 ++ s ∷ [] = l.ends.1 in
@@ -61,7 +61,7 @@ module _ (P : Plan) (ws : List ℕ) (t : Task) (job : IsTask P t) where
         omega (arith, weigh-push (weight ws) (l.ends.0 ++ s ∷ []) t, ap (chain_weight ws) is, l.reached),
       )
 
-  -- the level of a task is its weight and the greatest level of its sources
+  -- the level of a task is its weight plus the greatest level of its sources
   pub level_from : (m : ℕ) → ((s : Task) → IsSourceOf P s t → (k : ℕ) × IsLevel P ws s k × (k ≤ m)) → (m ≡ 0) ⊎ ((s : Task) × IsSourceOf P s t × IsLevel P ws s m) → IsLevel P ws t (weight ws t + m)
   level_from m below reached = elim reached [
     | inl none ↦ record { chain = t ∷ []; is_chain = (job, tt, tt); ends = ([], refl); reached = omega (arith, none); most = most }
@@ -164,7 +164,7 @@ follows_at P before [] l k t h e = absurd (omega arith)
 follows_at P before (u ∷ us) l zero t h e = subst (λ b. MayFollow P b t) (sym (append-nil before)) (subst (MayFollow P before) (sym e) l.0)
 follows_at P before (u ∷ us) l (suc k) t h e = subst (λ b. MayFollow P b t) (append_assoc before (u ∷ []) (take k us)) (follows_at P (before ++ u ∷ []) us l.1 k t (omega arith) e)
 
--- no task weighs more than its bound
+-- no task weighs more than 1,000,000
 pub light : (ws : List ℕ) (t : Task) → AreWeights ws → weight ws t ≤ 1000000
 light ws t h = by ws t.class h
   where

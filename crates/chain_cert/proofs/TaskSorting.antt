@@ -18,7 +18,7 @@ use Rattle.dep_iter.proofs.Once.{once-all_tasks}
 use Rattle.chain_cert.specs.Certificates.{HasTasksInOrder, tasks_in_order}
 use Rattle.chain_cert.specs.Checking.{IsRising}
 
--- of two tasks one is before the other, or they are the same
+-- one of two tasks is before the other, or they are the same
 pub data IsOrdered (a b : Task) : Type 0 where
   Before : task_before a b ≡ true → IsOrdered a b
   Same : a ≡ b → IsOrdered a b
@@ -38,7 +38,7 @@ not_both a b h k = let l = (task_cmp-compares a b).before.1 h in let g = (task_c
 pub not_itself : (a : Task) → task_before a a ≡ true → ⊥
 not_itself a h = not_both a a h h
 
--- what is inserted is a member, and so are those that were
+-- an inserted task comes after those at the front that are before it; the members are the old ones and it
 pub past : (t u : Task) (us : List Task) → task_before u t ≡ true → insert_by (λ (v : Task). v) t (u ∷ us) ≡ u ∷ insert_by (λ (v : Task). v) t us
 past t u us h = ap (λ b. cond b (u ∷ insert_by (λ (v : Task). v) t us) (t ∷ u ∷ us)) h
 
@@ -91,7 +91,7 @@ pub rising_order : (ts : List Task) → HasNoRepeats ts → IsRising (in_task_or
 rising_order [] once = tt
 rising_order (t ∷ ts) once = rising_insert t (in_task_order (λ u. u) ts) (λ i. once.0 ((in_order t ts).0 i)) (rising_order ts once.1)
 
--- rising lists with the same members are one
+-- rising lists with the same members are equal
 pub one_rising : (ts us : List Task) → IsRising ts → IsRising us → ((x : Task) → IsIn x ts ↔ IsIn x us) → ts ≡ us
 one_rising [] [] up also same = refl
 one_rising [] (u ∷ us) up also same = absurd ((same u).1 (inl refl))

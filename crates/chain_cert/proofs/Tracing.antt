@@ -29,7 +29,7 @@ use Rattle.chain_cert.proofs.Turning.{source_task}
 use Rattle.chain_cert.proofs.Unique.{level_one}
 use Rattle.flow_meaning.specs.Numbers.{number_for}
 
--- what a table of all levels has
+-- a table of all levels has the level of each task
 pub has_level : (P : Plan) (ws : List ℕ) (table : List (Task × ℕ)) → HasAllLevels P ws table → (t : Task) → IsTask P t → IsLevel P ws t (number_for table t)
 has_level P ws table h t job = by (lookup (same_task t) table) (h t job)
   where
@@ -41,7 +41,7 @@ module _ (P : Plan) (con : IsConsistent P) (ws : List ℕ) (table : List (Task �
   here : IsLevel P ws t (number_for table t)
   here = has_level P ws table h t job
 
-  -- where the level of a task is not its weight, it comes by a source
+  -- if the level of a task is not its weight, it comes by a source
   by_source : (number_for table t ≡ weight ws t → ⊥) → (s : Task) × IsSourceOf P s t × (number_for table s + weight ws t ≡ number_for table t)
   by_source more = by (comes_to P t here.chain here.is_chain here.ends)
     where
@@ -54,7 +54,7 @@ module _ (P : Plan) (con : IsConsistent P) (ws : List ℕ) (table : List (Task �
           let over = here.most q.0 q.1 q.2 in
           (s, link, omega (arith, here.reached, ap (chain_weight ws) is, weigh-push (weight ws) (front ++ s ∷ []) t, under, over, q.3))
 
-  -- a source is one by which a heaviest chain comes exactly where it passes the test
+  -- a heaviest chain comes by a source if and only if the source passes the test
   pub heaviest_passes : (s : Task) → IsSourceOf P s t → is_heaviest_source table (weight ws t) (number_for table t) s ≡ true → IsHeaviestSource P ws t s
   heaviest_passes s link passes = record {
     source = link;
@@ -120,12 +120,12 @@ module _ (P : Plan) (ws : List ℕ) (rows : List (Task × ℕ)) (levels : AreLev
             (b.1 (u, r.0) r.1).1 equal;
       }
 
--- a chain without repeats is no longer than there are tasks, and without a cycle no chain has any
+-- a chain without repeats is no longer than there are tasks, and without a cycle no chain has repeats
 chain_right : (P : Plan) (a b : List Task) → IsChain P (a ++ b) → IsChain P b
 chain_right P [] b c = c
 chain_right P (x ∷ a) b c = chain_right P a b c.2
 
--- a chain that comes to a task, up to its first coming: it is a chain, and its last task is a source of that task
+-- a chain up to a task in it: it is a chain, and its last task is a source of that task
 chain_until : (P : Plan) (t : Task) (a : List Task) (u : Task) (more : List Task) → IsChain P (t ∷ (a ++ u ∷ more)) → IsChain P (t ∷ a) × ((last : Task) × ((front : List Task) × (t ∷ a ≡ front ++ last ∷ [])) × IsSourceOf P last u)
 chain_until P t [] u more c = ((c.0, tt, tt), (t, ([], refl), c.1))
 chain_until P t (x ∷ a) u more c =
@@ -150,7 +150,7 @@ no_longer P none ts c = elim (repeats_or_not ts) [
       )
 ]
 
--- tasks that lead on from the next one of the printed chain
+-- the tasks left of the printed chain, from the next one on
 abbrev pub LeadsOn : Plan → List ℕ → Option Task → List Task → Type 0
 LeadsOn P ws None rest = rest ≡ []
 LeadsOn P ws (Some t) [] = ⊥

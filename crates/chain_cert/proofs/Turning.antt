@@ -1,4 +1,4 @@
--- A walk back, turned round, is a chain, and the printed cycle is a cycle.
+-- A walk back, reversed, is a chain, and the printed cycle is a cycle.
 use Rattle.std.proofs.Common.{◌≡◌, List, [], ◌∷◌, ◌++◌, reverse, refl, ap, sym, ◌∙◌, subst, append_assoc, inl, inr}
 use Rattle.std.proofs.lemmas.List.{append-nil, reverse-append}
 use Rattle.ptg_base.specs.Lists.{HasNoRepeats, IsIn}
@@ -13,7 +13,7 @@ use Rattle.dep_iter.specs.Consistent.{IsConsistent}
 use Rattle.chain_cert.specs.Chains.{BeginsWith, IsChain, IsCycle, IsSourceOf}
 use Rattle.chain_cert.specs.Printed.{IsPrintedCycle, IsWalkBack, IsWalkedBack}
 
--- a list turned round, one element after another
+-- a list reversed, one element after another
 abbrev pub turned : List Task → List Task → List Task
 turned [] done = done
 turned (t ∷ ts) done = turned ts (t ∷ done)
@@ -42,7 +42,7 @@ module _ (P : Plan) (con : IsConsistent P) where
   last_of t [] = t
   last_of t (s ∷ ss) = last_of s ss
 
-  -- what is walked in the middle of a walk, and what comes after it
+  -- a task in the middle of a walk is one of the job, and the walk after it is one from there
   middle : (R : List Task) (t : Task) (xs : List Task) (u : Task) (ys : List Task) → IsTask P t → IsWalkedBack P R t (xs ++ u ∷ ys) → IsTask P u × IsWalkedBack P R u ys
   middle R t [] u ys job w = (source_task u t job w.0.kind.source, w.1)
   middle R t (x ∷ xs) u ys job w = middle R x xs u ys (source_task x t job w.0.kind.source) w.1
@@ -76,7 +76,7 @@ pub turned_is : (ts done : List Task) → turned ts done ≡ reverse ts ++ done
 turned_is [] done = refl
 turned_is (t ∷ ts) done = turned_is ts (t ∷ done) ∙ sym (append_assoc (reverse ts) (t ∷ []) done) ∙ ap (λ l. l ++ done) (sym (reverse-append (t ∷ []) ts))
 
--- tasks each of which is a source of the one before, and the first a source of the last, are a cycle, turned round
+-- if each task is a source of the one before it, and the first a source of the last, the reversed tasks are a cycle
 pub loop_is_cycle : (P : Plan) (con : IsConsistent P) (t : Task) (ss : List Task) → IsTask P t → IsBackFrom P con t ss → IsSourceOf P t (last_of P con t ss) → HasNoRepeats (t ∷ ss) → IsCycle P (turned ss (t ∷ []))
 loop_is_cycle P con t ss job steps closed once = record {
   chain = back_chain P con t ss [] steps (job, tt, tt);

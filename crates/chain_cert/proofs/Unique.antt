@@ -1,10 +1,10 @@
--- A task has one level, and a list one last element if it has any.
+-- A task has at most one level, and a list one last element if it has any.
 use Rattle.std.proofs.Common.{◌≡◌, ℕ, List, [], ◌∷◌, ◌++◌, refl, ap, ◌⊎◌, inl, inr, arith}
 use Rattle.ptg_base.specs.Task.{Task}
 use Rattle.plan_core.specs.declared.plan.Plan.{Plan}
 use Rattle.chain_cert.specs.Levels.{IsLevel}
 
--- a task has one level
+-- a task has at most one level
 pub level_one : (P : Plan) (ws : List ℕ) (t : Task) (m n : ℕ) → IsLevel P ws t m → IsLevel P ws t n → m ≡ n
 level_one P ws t m n a b = omega (arith, b.most a.chain a.is_chain a.ends, a.most b.chain b.is_chain b.ends, a.reached, b.reached)
 

@@ -86,7 +86,7 @@ module _ (P : Plan) (order : List Task) (table : List (Task × ℕ)) (l : LacksT
     tt,
   )
 
-  -- and goes on by the least source that is left
+  -- and continues with the least source that is left
   pub walk_next : IsConsistent P → (met : List Task) (t : Task) (o : Option Task) → IsWalkBack P order (met ++ t ∷ []) → IsLeastWhere (is_left table) (sources P t) o → MatchOption o ⊥ (λ s. IsWalkBack P order ((met ++ t ∷ []) ++ s ∷ []))
   walk_next con met t None w h =
       let k = walk_left P con order (met ++ t ∷ []) w t (IsIn-append_right t met (t ∷ []) (inl refl)) in
@@ -115,7 +115,7 @@ walk_room P con R met t new w =
     let few = no_longer (met ++ t ∷ []) (all_tasks P) (met_push t met new w.once) (λ u i. (listed P u).0 (walk_left P con R (met ++ t ∷ []) w.walk u i).task) in
     omega (arith, few, length-append met (t ∷ []))
 
--- a task that comes again closes the cycle
+-- a task that occurs again closes the cycle
 pub closes : (P : Plan) (R met : List Task) (t u : Task) (at : ℕ) (cycle : List Task) → slice_get met at ≡ Some u → u ≡ t → IsWalking P R met (Some t) → cycle ≡ reverse (drop at met) → IsPrintedCycle P R cycle
 closes P R met t u at cycle here same w is =
     let from : drop at met ≡ t ∷ drop (suc at) met = drop_from met at u here ∙ ap (λ v. v ∷ drop (suc at) met) same in
@@ -171,7 +171,7 @@ walk_on P R met new t o unmet is w next = record {
   walk = subst (λ l. MatchOption o ⊥ (λ s. IsWalkBack P R (l ++ s ∷ []))) (sym is) next;
 }
 
--- a table of the levels of a greatest legal order, where a task is outside
+-- a table of the levels of a greatest legal order, if a task is outside
 pub lacks : (P : Plan) (ws : List ℕ) (order : List Task) (table : List (Task × ℕ)) → IsGreatestOrder P order → HasLevels P ws order table → length order < length (all_tasks P) → LacksTasks P order table
 lacks P ws order table g h left = record {
   greatest = g;

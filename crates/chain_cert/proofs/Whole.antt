@@ -43,7 +43,7 @@ none_of_cycle P before (u ∷ us) c l cycle other t i j =
       ]) t later j
     ]
 
--- the tasks of rows that are made from tasks
+-- the tasks of the rows of tasks are these tasks
 pub keys_of-rows_by : (table : List (Task × ℕ)) (ts : List Task) → keys_of (rows_by table ts) ≡ ts
 keys_of-rows_by table [] = refl
 keys_of-rows_by table (t ∷ ts) = ap (λ l. t ∷ l) (keys_of-rows_by table ts)
@@ -62,7 +62,7 @@ module _ (P : Plan) (order : List Task) (legal : IsLegalOrder P order) where
   pub order_at_most : length order ≤ length (all_tasks P)
   order_at_most = no_longer order (all_tasks P) order_once order_among
 
-  -- the next task of the order, after those that a table has
+  -- the next task of the order may follow those that a table has
   pub next_task : IsConsistent P → (ws : List ℕ) (i : ℕ) (t : Task) (table : List (Task × ℕ)) → i < length order → t ≡ slice_index_or order i t → HasLevels P ws (take i order) table → IsNextTask P ws (take i order) table t
   next_task con ws i t table lt is h = record {
     levels = h;

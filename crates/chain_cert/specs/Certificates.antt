@@ -1,5 +1,6 @@
--- The certificate of a job: a heaviest chain with the levels of all tasks, or a cycle, or neither where a task trapped.
--- Source: this project's own choice.
+-- The certificate of a job: a heaviest chain with the levels of all tasks, or a cycle, or neither if a task trapped.
+-- Carried by: `certify`; law `cert_check::one_certificate`.
+-- Tested by: `certify.txt`, `certificate_chains.txt`, `certificate_cycles.txt`.
 use Rattle.std.specs.Prelude.{◌≡◌, ◌≢◌, ℕ, List, []}
 use Rattle.std.specs.Map.{keys_of}
 use Rattle.ptg_base.specs.Lists.{IsIn}
@@ -19,7 +20,7 @@ use Rattle.chain_cert.specs.Printed.{IsPrintedChain, IsPrintedCycle}
 abbrev pub tasks_in_order : Plan → List Task
 tasks_in_order P = in_task_order (λ t. t) (all_tasks P)
 
--- a list with each task of the job in task order
+-- the list has each task of the job, in task order
 abbrev pub HasTasksInOrder : Plan → List (Task × ℕ) → Type 0
 HasTasksInOrder P levels = keys_of levels ≡ tasks_in_order P
 
@@ -28,7 +29,7 @@ pub record AreLevels (P : Plan) (ws : List ℕ) (levels : List (Task × ℕ)) : 
   pub tasks : HasTasksInOrder P levels
   pub each : (t : Task) (n : ℕ) → IsIn (t, n) levels → IsLevel P ws t n
 
--- where no task trapped: without a cycle the printed chain with the levels, else the printed cycle
+-- if no task trapped: the printed chain with the levels, if the job has no cycle, else the printed cycle
 abbrev pub IsCertificate : Plan → Data → List ℕ → Certificate → Type 0
 IsCertificate P G ws (Chain chain levels) =
     (trapped P G ≡ []) × HasNoCycle P × IsPrintedChain P ws chain × AreLevels P ws levels

@@ -1,5 +1,7 @@
--- Chains and cycles of tasks. Source: DAGuE (Parallel Computing, 2012): the tasks of a job and the edges between them
--- are a directed graph; chains and cycles are the usual paths and simple cycles of it.
+-- The source of an edge into a task, and chains and cycles of tasks. Source: DAGuE (Parallel Computing, 2012): the
+-- tasks of a job and the edges between them are a directed graph. Chains and cycles are its usual paths and simple
+-- cycles.
+-- Carried by: `cert_check::check_cycle`, `cert_check::check_chain`.
 use Rattle.std.specs.Prelude.{◌≡◌, List, [], ◌∷◌, ◌++◌}
 use Rattle.ptg_base.specs.Lists.{HasNoRepeats, IsIn}
 use Rattle.ptg_base.specs.Task.{Task}

@@ -11,6 +11,6 @@ abbrev pub IsRising : List Task → Type 0
 IsRising [] = Unit {0}
 IsRising (t ∷ ts) = ((u : Task) → IsIn u ts → task_before t u ≡ true) × IsRising ts
 
--- weights that may be added up
+-- weights of at most 1,000,000 each, which may be added up
 abbrev pub AreWeights : List ℕ → Type 0
 AreWeights ws = AllByRecursion (λ w. w ≤ most_weight) ws

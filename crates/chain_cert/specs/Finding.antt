@@ -1,4 +1,4 @@
--- How a certificate is found: levels by a table of tasks, and the least of some tasks.
+-- How a certificate is found: a table of levels by task, and the least of some tasks.
 use Rattle.std.specs.Prelude.{◌≡◌, ◌≤◌, ◌<◌, ◌+◌, ◌*◌, ◌↔◌, ◌==◌, ℕ, max, Bool, true, false, not, List, [], ◌∷◌, length, map, Option, Some, None, is_some, IsSomeAnd}
 use Rattle.std.specs.Map.{lookup}
 use Rattle.ptg_base.specs.Limits.{most_tasks, most_weight}
@@ -28,12 +28,12 @@ IsLevelAmong P ws ts t (Some n) = IsIn t ts × IsLevel P ws t n × (n ≤ most_w
 abbrev pub HasLevels : Plan → List ℕ → List Task → List (Task × ℕ) → Type 0
 HasLevels P ws ts table = (t : Task) → IsLevelAmong P ws ts t (lookup (same_task t) table)
 
--- the greatest level that a table has for one of these tasks, 0 where it has none
+-- the greatest level that a table has for one of these tasks, 0 if it has none
 abbrev pub greatest_among : List (Task × ℕ) → List Task → ℕ
 greatest_among table [] = 0
 greatest_among table (t ∷ ts) = max (number_for table t) (greatest_among table ts)
 
--- tasks that are few enough, and one that may follow them
+-- a table has the levels of fewer tasks than a job may have, and t may follow them
 pub record IsNextTask (P : Plan) (ws : List ℕ) (before : List Task) (table : List (Task × ℕ)) (t : Task) : Type 0 where
   pub levels : HasLevels P ws before table
   pub follows : MayFollow P before t
@@ -47,20 +47,20 @@ HasAllLevels P ws table = (t : Task) → IsTask P t → IsSomeAnd (lookup (same_
 abbrev pub rows_by : List (Task × ℕ) → List Task → List (Task × ℕ)
 rows_by table ts = map (λ (t : Task). (t, number_for table t)) ts
 
--- the least in task order of those of these tasks that pass a test, if there is one
+-- the least, in task order, of those of these tasks that pass a test, if any do
 abbrev pub IsLeastWhere : (Task → Bool) → List Task → Option Task → Type 0
 IsLeastWhere test ts None = (u : Task) → IsIn u ts → test u ≡ false
 IsLeastWhere test ts (Some t) =
     IsIn t ts × (test t ≡ true) × ((u : Task) → IsIn u ts → test u ≡ true → task_before u t ≡ false)
 
--- a row of the greatest level, and of those the one with the least task, if there is one
+-- the row with the greatest level, if there are rows; among several, the one with the least task
 abbrev pub IsHeaviestRow : List (Task × ℕ) → Option (Task × ℕ) → Type 0
 IsHeaviestRow rows None = rows ≡ []
 IsHeaviestRow rows (Some best) =
     IsIn best rows
     × ((row : Task × ℕ) → IsIn row rows → (row.1 ≤ best.1) × (row.1 ≡ best.1 → task_before row.0 best.0 ≡ false))
 
--- whether a heaviest chain with the level n comes to a task of the weight w by this source
+-- whether a heaviest chain to a task of level n and weight w comes by this source
 abbrev pub is_heaviest_source : List (Task × ℕ) → ℕ → ℕ → Task → Bool
 is_heaviest_source table w n s = number_for table s + w == n
 
@@ -80,7 +80,8 @@ is_trapped (outcome.Complete tasks final) = false
 is_trapped (outcome.Trapped rows) = true
 is_trapped (outcome.Stalled ran all rows) = false
 
--- what the checkers say of a certificate
+-- what the checkers require of a certificate
+-- Carried by: `certify`; law `cert_check::the_checkers_accept_certificates`.
 abbrev pub IsAccepted : Plan → List ℕ → Certificate → Type 0
 IsAccepted P ws (Chain chain levels) = ShowsHeaviest P ws chain levels
 IsAccepted P ws (Cycle cycle) = IsCycle P cycle

@@ -1,4 +1,6 @@
 -- The level of a task. Source: the usual longest path to a node of a weighted acyclic graph.
+-- Carried by: `certify`; law `cert_check::one_certificate`.
+-- Tested by: `certify.txt`, `certificate_chains.txt`, `certificate_cycles.txt`.
 use Rattle.std.specs.Prelude.{◌≡◌, ◌≤◌, ℕ, List}
 use Rattle.ptg_base.specs.Task.{Task}
 use Rattle.plan_core.specs.declared.plan.Plan.{Plan}

@@ -1,4 +1,6 @@
--- The chain and the cycle that are printed, each from its end back. Source: this project's own choice.
+-- The chain and the cycle that are printed, each from its end back.
+-- Carried by: `certify`; laws `cert_check::one_certificate`, `cert_check::the_printed_cycle_is_a_cycle`.
+-- Tested by: `certify.txt`, `certificate_chains.txt`, `certificate_cycles.txt`.
 use Rattle.std.specs.Prelude.{◌≡◌, ◌≤◌, ◌+◌, ℕ, List, [], ◌∷◌, ◌++◌, false, reverse}
 use Rattle.ptg_base.specs.Lists.{HasNoRepeats, IsIn}
 use Rattle.ptg_base.specs.Task.{Task}
@@ -28,15 +30,15 @@ pub record IsHeaviestSource (P : Plan) (ws : List ℕ) (t s : Task) : Type 0 whe
   pub source_level : IsLevel P ws s level
   pub task_level : IsLevel P ws t (level + weight ws t)
 
--- the tasks that come before t in the printed chain, from t back: none where the level of t is its weight, else the
--- least heaviest source, and those before it
+-- the tasks before t in the printed chain, from t back: none if the level of t is its weight, else the least heaviest
+-- source, and those before it
 abbrev pub IsTracedBack : Plan → List ℕ → Task → List Task → Type 0
 IsTracedBack P ws t [] = IsLevel P ws t (weight ws t)
 IsTracedBack P ws t (s ∷ ss) =
     (IsLevel P ws t (weight ws t) → ⊥) × IsLeast (IsHeaviestSource P ws t) s × IsTracedBack P ws s ss
 
--- the printed chain from its end back: the least of the tasks of the greatest level, and those before it; none where
--- the job has no task
+-- the printed chain from its end back: the least of the tasks of the greatest level, and those before it; empty if the
+-- job has no task
 abbrev pub IsChainBack : Plan → List ℕ → List Task → Type 0
 IsChainBack P ws [] = all_tasks P ≡ []
 IsChainBack P ws (t ∷ ts) = IsLeast (HasGreatestLevel P ws) t × IsTracedBack P ws t ts
@@ -47,7 +49,7 @@ pub record IsPrintedChain (P : Plan) (ws : List ℕ) (chain : List Task) : Type 
   pub is_back : IsChainBack P ws back
   pub turned : chain ≡ reverse back
 
--- s is a source of t that did not run, where these tasks ran
+-- s is a source of t that did not run; `ran` are the tasks that did
 pub record IsSourceLeft (P : Plan) (ran : List Task) (t s : Task) : Type 0 where
   pub source : IsSourceOf P s t
   pub left : IsIn s ran → ⊥
@@ -57,7 +59,7 @@ pub record IsTaskLeft (P : Plan) (ran : List Task) (t : Task) : Type 0 where
   pub task : IsTask P t
   pub left : IsIn t ran → ⊥
 
--- a walk back from t: each task is the least source, of those that did not run, of the one before it
+-- a walk back from t: each task is the least of those sources of the one before it that did not run
 abbrev pub IsWalkedBack : Plan → List Task → Task → List Task → Type 0
 IsWalkedBack P ran t [] = Unit {0}
 IsWalkedBack P ran t (s ∷ ss) = IsLeast (IsSourceLeft P ran t) s × IsWalkedBack P ran s ss
@@ -67,10 +69,10 @@ abbrev pub IsWalkBack : Plan → List Task → List Task → Type 0
 IsWalkBack P ran [] = ⊥
 IsWalkBack P ran (t ∷ ts) = IsLeast (IsTaskLeft P ran) t × IsWalkedBack P ran t ts
 
--- the printed cycle: where the walk back comes to a task for the second time, the tasks from its first coming on,
--- turned round
+-- the printed cycle: once the walk back comes to a task for the second time, the tasks from its first occurrence on,
+-- reversed
 pub record IsPrintedCycle (P : Plan) (ran cycle : List Task) : Type 0 where
-  -- the tasks before the first coming, the task that comes twice, and the tasks between
+  -- the tasks before the first occurrence, the task that occurs twice, and the tasks between
   pub before : List Task
   pub twice : Task
   pub between : List Task

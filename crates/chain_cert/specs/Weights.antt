@@ -1,4 +1,5 @@
--- The weights of classes, tasks and chains. Source: this project's own choice.
+-- The weights of classes, tasks and chains.
+-- Carried by: `weights`, `cert_check::check_chain`.
 use Rattle.std.specs.Prelude.{ℕ, min, ℤ, pos, negsuc, List, ◌++◌, map, slice_index, codes}
 use Rattle.std.specs.Option.{option_map_or}
 use Rattle.ptg_base.specs.Limits.{most_weight}
@@ -14,8 +15,7 @@ abbrev pub clamped : ℤ → ℕ
 clamped (pos n) = min n most_weight
 clamped (negsuc n) = 0
 
--- the weight of a class: the integer `weight_CLASS` of the data, whether the JDF declares it or not; 1 where there is
--- none
+-- the weight of a class: the integer `weight_CLASS` of the data, whether the JDF declares it or not; 1 if there is none
 abbrev pub class_weight : Data → ClassPlan → ℕ
 class_weight G c = option_map_or clamped (value_named G.ints (codes "weight_" ++ c.name)) 1
 

@@ -1,4 +1,4 @@
-//! What a certificate of a job has.
+//! Certificates.
 
 use ptg_base::{Seq, TaskId};
 

@@ -1,4 +1,4 @@
-//! The certificate of a job.
+//! Makes the certificate of a job.
 
 ghost use Rattle.std.specs.Prelude.{◌≡◌, ℕ, List, IfOk, length};
 ghost use Rattle.ptg_base.specs.Task.{Task};
@@ -81,9 +81,9 @@ fn chain_and_levels(
     Ok((chain, Seq::of(rows)))
 }
 
-/// The certificate of a job whose answer this is, with these weights of its classes: where no task trapped, the printed
-/// chain with the levels of all tasks, or the printed cycle. Of the answer it looks only at whether a task trapped, and
-/// it needs no data.
+/// Makes the certificate of a job with this answer and these weights of its classes. If no task trapped, it is the
+/// printed chain with the levels of all tasks, or the printed cycle. Of the answer, only whether a task trapped is
+/// used; no data are needed.
 pub fn certify(
     alloc: Global,
     m: &Matched,

@@ -10,7 +10,7 @@ use plan_core::{ClassPlan, Plan};
 use ptg_base::{OutOfMemory, Seq, Text};
 use std::alloc::Global;
 
-// What the names of weights begin with.
+// The prefix of the names of weights.
 const PREFIX: &[u8; 7] = b"weight_";
 
 // The greatest weight of a task.
@@ -50,8 +50,8 @@ fn class_weight(alloc: Global, class: &ClassPlan, given: &Given) -> Result<u64, 
     }
 }
 
-/// The weights of the classes of a job, by number: the integer `weight_CLASS` of the data, whether the JDF declares it
-/// or not, cut to 0 .. 1,000,000, and 1 where there is none.
+/// The weights of the classes of a job, by number: the integer `weight_CLASS` of the data, clamped to 0 .. 1,000,000,
+/// or 1 if there is none. The JDF need not declare it.
 pub fn weights(alloc: Global, plan: &Plan, given: &Given) -> Result<Seq<u64>, OutOfMemory>
     ensures weights { IfOk result (λ ws. ws ≡ weighing.class_weights plan.now given.now) }
     ensures bounded { IfOk result AreWeights }

@@ -5,7 +5,7 @@ ghost use Rattle.chain_cert.specs.Checked as checked;
 
 use ptg_base::TaskId;
 
-/// The greatest level of these rows, 0 where there is none.
+/// The greatest level of these rows, or 0 if there are none.
 pub fn greatest_level(rows: &[(TaskId, u64)]) -> u64
     ensures { result ≡ checked.greatest_level rows.now }
 {

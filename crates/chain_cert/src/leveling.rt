@@ -17,7 +17,7 @@ use plan_core::Plan;
 use ptg_base::{OutOfMemory, TaskId};
 use std::alloc::Global;
 
-// The level that a table has for a task, 0 where it has none.
+// The level that a table has for a task, or 0 if it has none.
 pub(crate) fn level_in(table: &IndexMap<TaskId, u64>, t: &TaskId) -> u64
     ensures { result ≡ number_for table.now.entries t.now }
 {
@@ -27,7 +27,7 @@ pub(crate) fn level_in(table: &IndexMap<TaskId, u64>, t: &TaskId) -> u64
     }
 }
 
-// The greatest level that a table has for a source of a task, 0 where it has none.
+// The greatest level that a table has for a source of a task, or 0 if it has none.
 fn greatest_before(table: &IndexMap<TaskId, u64>, plan: &Plan, t: &TaskId) -> u64
     requires { IsTask plan.now t.now }
     ensures { result ≡ finding.greatest_among table.now.entries (sources plan.now t.now) }

@@ -1,4 +1,4 @@
-//! Chains and cycles of the tasks of a job: what they are, and the certificate of a job.
+//! Chains, cycles, weights and levels of tasks; what a certificate of a job is; `certify`, which makes it.
 #![tactic(auto)]
 
 mod certificate;

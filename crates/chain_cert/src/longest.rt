@@ -1,4 +1,4 @@
-//! The chain that is printed, from its end back.
+//! The printed chain, built from its end back.
 
 ghost use Rattle.std.specs.Prelude.{◌≡◌, ◌<◌, ◌⊎◌, ◌↔◌, ◌∷◌, ◌++◌, [], ℕ, List, IsTrue, IfOk, MatchOption, true};
 ghost use Rattle.ptg_base.specs.Task.{Task};
@@ -21,7 +21,7 @@ use plan_core::Plan;
 use ptg_base::{OutOfMemory, Seq, TaskId};
 use std::alloc::Global;
 
-// Whether a row has a greater level than another, or the same and a lesser task.
+// Whether a row has a greater level than another, or the same level and a lesser task.
 fn is_heavier(row: &(TaskId, u64), best: &(TaskId, u64)) -> bool
     ensures { IsTrue result
         ↔ ((best.now.1 < row.now.1) ⊎ ((row.now.1 ≡ best.now.1) × (task_before row.now.0 best.now.0 ≡ true))) }
@@ -42,7 +42,7 @@ fn heavier(best: Option<(TaskId, u64)>, row: &(TaskId, u64)) -> Option<(TaskId, 
     Some(old)
 }
 
-// The row of the greatest level, and of those the one with the least task.
+// The row with the greatest level; among several, the one with the least task.
 fn heaviest_row(rows: &[(TaskId, u64)]) -> Option<(TaskId, u64)>
     ensures { IsHeaviestRow rows.now result }
 {
@@ -65,14 +65,14 @@ fn last_task(m: &Matched, weights: &[u64], rows: &[(TaskId, u64)]) -> Option<Tas
     Some(last)
 }
 
-// Whether a heaviest chain with the level n comes to a task of the weight w by this source.
+// Whether a heaviest chain to a task of level `n` and weight `w` comes by this source.
 fn is_heaviest_source(table: &IndexMap<TaskId, u64>, s: &TaskId, w: u64, n: u64) -> bool
     ensures { result ≡ finding.is_heaviest_source table.now.entries w n s.now }
 {
     u128::from(level_in(table, s)) + u128::from(w) == u128::from(n)
 }
 
-// The least source by which a heaviest chain with the level n comes to a task of the weight w, if there is one.
+// The least source by which a heaviest chain comes to a task of level `n` and weight `w`, if there is one.
 fn least_heaviest_source(
     table: &IndexMap<TaskId, u64>,
     plan: &Plan,
@@ -111,7 +111,7 @@ fn step_back(
     least_heaviest_source(table, plan, t, w, n)
 }
 
-// The printed chain, of tasks with these levels, which a table has too.
+// The printed chain, from the rows of all tasks with their levels, which a table has too.
 pub(crate) fn printed_chain(
     alloc: Global,
     table: &IndexMap<TaskId, u64>,

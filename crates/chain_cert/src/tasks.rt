@@ -1,4 +1,4 @@
-//! What is known of tasks by themselves: which of two comes first, and what one weighs.
+//! The order of two tasks, and the weight of a task.
 
 ghost use Rattle.std.specs.Prelude.{◌≡◌};
 ghost use Rattle.ptg_base.specs.TaskOrder.{task_before};
@@ -18,7 +18,7 @@ pub fn is_before(t: &TaskId, u: &TaskId) -> bool
     }
 }
 
-/// The weight of a task.
+/// The weight of a task, which is that of its class; 0 if there is no such class.
 pub fn weight_of(weights: &[u64], t: &TaskId) -> u64
     ensures { result ≡ weighing.weight weights.now t.now }
 {

@@ -1,4 +1,4 @@
-//! The cycle that is printed, by a walk back over the tasks that are left.
+//! The printed cycle, by a walk back over the tasks that are left.
 
 ghost use Rattle.std.specs.Prelude.{◌≡◌, List, IfOk, reverse};
 ghost use Rattle.ptg_base.specs.Task.{Task};
@@ -11,7 +11,7 @@ use indexmap::{IndexMap, IndexSet};
 use ptg_base::{OutOfMemory, Seq, TaskId};
 use std::alloc::Global;
 
-// Copies of tasks, turned round.
+// Copies of tasks, in reverse order.
 fn turned(alloc: Global, tasks: &[TaskId]) -> Result<Seq<TaskId>, OutOfMemory>
     ensures { IfOk result (λ ts. ts ≡ reverse tasks.now) }
 {
@@ -23,8 +23,8 @@ fn turned(alloc: Global, tasks: &[TaskId]) -> Result<Seq<TaskId>, OutOfMemory>
     Ok(Seq::of(turned))
 }
 
-// The printed cycle, where a table has the tasks of a greatest legal order, which are not all: each task that is left
-// has a source that is left, so the walk back comes to a task again.
+// The printed cycle, given a table with the tasks of a greatest legal order, which are not all. Each task that is left
+// has a source that is left, so the walk back comes to some task again.
 pub(crate) fn printed_cycle(
     alloc: Global,
     table: &IndexMap<TaskId, u64>,

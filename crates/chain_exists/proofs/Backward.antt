@@ -50,7 +50,7 @@ module _ (P : Plan) (con : IsConsistent P) (ws : List ℕ) (none : HasNoCycle P)
       (reverse back.0, record { back = back.0; is_back = back.1; turned = refl })
 
 module _ (P : Plan) (con : IsConsistent P) (order : List Task) (table : List (Task × ℕ)) (lacks : LacksTasks P order table) where
-  -- a task that was met closes the cycle, and from another the walk goes on
+  -- a task met before closes the cycle; from any other task the walk goes on
   closed : (met : List Task) (t : Task) → IsIn t met → IsWalking P order met (Some t) → (c : List Task) × IsPrintedCycle P order c
   closed met t i w =
       let p = cut_at t met i in (

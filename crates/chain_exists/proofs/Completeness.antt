@@ -1,4 +1,4 @@
--- A job is complete exactly where it has no cycle and no task traps.
+-- A job is complete if and only if it has no cycle and no task traps.
 use Rattle.std.proofs.Common.{◌≡◌, ℕ, zero, suc, ◌≤◌, ◌↔◌, ◌==◌, Bool, true, false, cond, List, [], ◌∷◌, ◌++◌, length, refl, ap, sym, ◌∙◌, subst, ◌⊎◌, inl, inr, None, is_some, arith, eqb-true, eq-eqb}
 use Rattle.std.proofs.lemmas.Bool.{false≢true}
 use Rattle.std.specs.Prelude.{option_map}
@@ -45,7 +45,7 @@ module _ (P : Plan) (con : IsConsistent P) where
   back_at t [] u more job b = (source_task P con u t job b.0, b.1)
   back_at t (s ∷ ss) u more job b = back_at s ss u more (source_task P con s t job b.0) b.1
 
-  -- a walk back with a task that comes twice has a cycle
+  -- a walk back that meets a task twice contains a cycle
   loops : (t : Task) (ss : List Task) → IsTask P t → IsBackFrom P con t ss → Repeats (t ∷ ss) → (c : List Task) × IsCycle P c
   loops t ss job b r = by r.before r.split
     where
@@ -68,7 +68,7 @@ module _ (P : Plan) (con : IsConsistent P) where
   back_tasks t [] job b u i = elim i [ inl e ↦ subst (IsTask P) (sym e) job | inr never ↦ absurd never ]
   back_tasks t (s ∷ ss) job b u i = elim i [ inl e ↦ subst (IsTask P) (sym e) job | inr later ↦ back_tasks s ss (source_task P con s t job b.0) b.1 u later ]
 
-  -- a walk back over more tasks than there are has a cycle
+  -- a walk back over more tasks than the job has contains a cycle
   pub long_walk : (t : Task) (ss : List Task) → IsTask P t → IsBackFrom P con t ss → length (all_tasks P) ≤ length ss → (c : List Task) × IsCycle P c
   long_walk t ss job b long = elim (repeats_or_not (t ∷ ss)) [
     | inl once ↦ let few = no_longer (t ∷ ss) (all_tasks P) once (λ u i. (listed P u).0 (back_tasks t ss job b u i)) in absurd (omega (arith, few, long))
@@ -76,7 +76,7 @@ module _ (P : Plan) (con : IsConsistent P) where
   ]
 
   module _ (G : Data) (calm : trapped P G ≡ []) where
-    -- a task ends whose sources all have outputs
+    -- a task ends if its sources all have outputs
     ends_after : (t : Task) → IsTask P t → ((e : Edge) → IsIn e (in_edges P t) → has_outputs (ended P G e.from) ≡ true) → is_some (ended P G t) ≡ true
     unfolding ended_on
     ends_after t job outputs =
@@ -85,7 +85,7 @@ module _ (P : Plan) (con : IsConsistent P) where
         ap is_some (fixed P G con t job ∙ ap (λ b. cond b (ended_on P G (source_tile (ended P G)) t) None) all
         ∙ ap (λ o. option_map (λ (c : ClassPlan). body_meaning c.body (locals_of P t) (starting_tiles P G (source_tile (ended P G)) t)) o) h.class_is)
 
-    -- of edges one comes from a task that does not end, or all from tasks that do
+    -- one of the edges comes from a task that does not end, or all come from tasks that do
     some_left : (es : List Edge) → ((e : Edge) × IsIn e es × (is_some (ended P G e.from) ≡ false)) ⊎ ((e : Edge) → IsIn e es → is_some (ended P G e.from) ≡ true)
     some_left [] = inr (λ e i. absurd i)
     some_left (d ∷ ds) =
@@ -110,7 +110,7 @@ module _ (P : Plan) (con : IsConsistent P) where
         let q = walk_of n p.0 (source_task P con p.0 t job p.1) p.2 in
         (p.0 ∷ q.0, ap suc q.1, (p.1, q.2))
 
-    -- where a task does not end there is a cycle
+    -- if a task does not end, there is a cycle
     cycle_of : (t : Task) → IsTask P t → is_some (ended P G t) ≡ false → (c : List Task) × IsCycle P c
     cycle_of t job left = let q = walk_of (length (all_tasks P)) t job left in long_walk t q.0 job q.2 (omega (arith, q.1))
 
@@ -119,7 +119,7 @@ module _ (P : Plan) (con : IsConsistent P) where
         by_test (is_some (ended P G t)) (λ k. k) (λ k. let p = cycle_of t ((listed P t).1 i) k in absurd (none p.0 p.1))
 
   module _ (G : Data) where
-    -- without a trap the answer is complete exactly where all tasks run
+    -- without a trap, the answer is complete if and only if all tasks run
     by_count : trapped P G ≡ [] → IsComplete (answer P G) ↔ (length (ran P G) ≡ length (all_tasks P))
     unfolding answer
     by_count calm = (

@@ -19,7 +19,7 @@ use Rattle.chain_cert.proofs.Turning.{printed_is_cycle}
 use Rattle.chain_exists.specs.Fitting.{Fits}
 
 module _ (P : Plan) (G : Data) where
-  -- an answer of traps comes only where a task trapped
+  -- the answer has traps only if a task trapped
   not_calm : (rows : List TrapRow) → answer P G ≡ outcomes.Trapped rows → trapped P G ≡ [] → ⊥
   unfolding answer
   not_calm rows e calm = by (length (ran P G) == length (all_tasks P)) (sym (ap (answer_by P G) calm) ∙ e)
@@ -28,7 +28,7 @@ module _ (P : Plan) (G : Data) where
       by true q = cc
       by false q = cc
 
-  -- and a stall only where none did
+  -- and it is a stall only if none did
   is_calm : (r t : ℕ) (rows : List WaitRow) → answer P G ≡ outcomes.Stalled r t rows → trapped P G ≡ []
   unfolding answer
   is_calm r t rows e = by (trapped P G) e

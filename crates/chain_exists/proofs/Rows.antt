@@ -47,7 +47,7 @@ level_rows P ws (u ∷ us) had =
       },
     )
 
--- rows have a task exactly where they are rows of it
+-- a task has a row if and only if a look-up finds one
 pub rows_have : (rows : List (Task × ℕ)) (t : Task) → IsIn t (keys_of rows) ↔ (is_some (lookup (same_task t) rows) ≡ true)
 rows_have [] t = (λ i. absurd i, λ e. absurd (false≢true e))
 rows_have (r ∷ rs) t =

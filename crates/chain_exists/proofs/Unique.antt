@@ -1,4 +1,4 @@
--- A job and its weights have one certificate.
+-- A job has, with its data and weights, at most one certificate.
 use Rattle.std.proofs.Common.{◌≡◌, ℕ, List, [], ◌∷◌, ◌++◌, reverse, refl, ap, sym, ◌∙◌, subst, append_assoc, ◌⊎◌, inl, inr}
 use Rattle.std.proofs.lemmas.Bool.{false≢true}
 use Rattle.std.proofs.lemmas.List.{append-nil, same_from_push}
@@ -22,7 +22,7 @@ use Rattle.chain_cert.proofs.TaskSorting.{Before, Same, After, ordered}
 use Rattle.chain_cert.proofs.Turning.{printed_is_cycle}
 use Rattle.chain_cert.proofs.Unique.{level_one, last_or_none}
 
--- one task is the least of a kind
+-- at most one task is the least of a kind
 pub least_one : (Kind : Task → Type 0) (a b : Task) → IsLeast Kind a → IsLeast Kind b → a ≡ b
 least_one Kind a b x y = elim (ordered a b) [
   | Before h ↦ absurd (false≢true (sym (y.least a x.kind) ∙ h))
@@ -70,7 +70,7 @@ module _ (P : Plan) (ws : List ℕ) where
   pub levels_one : (xs ys : List (Task × ℕ)) → AreLevels P ws xs → AreLevels P ws ys → xs ≡ ys
   levels_one xs ys a b = rows_one xs ys (a.tasks ∙ sym b.tasks) a.each b.each
 
--- a list without repeats is split in one way at an element
+-- a list without repeats splits at an element in one way only
 one_split : (t : Task) (a b c d : List Task) → HasNoRepeats (a ++ t ∷ b) → a ++ t ∷ b ≡ c ++ t ∷ d → b ≡ d
 one_split t [] b [] d once e = cc
 one_split t [] b (z ∷ c) d once e =
@@ -82,7 +82,7 @@ one_split t (z ∷ a) b [] d once e =
 one_split t (z ∷ a) b (w ∷ c) d once e = let tail : a ++ t ∷ b ≡ c ++ t ∷ d = cc in one_split t a b c d once.1 tail
 
 module _ (P : Plan) (R : List Task) where
-  -- of two walks back one goes on where the other ends
+  -- the second walk goes on where the first one ends
   abbrev GoesOn : List Task → List Task → Type 0
   GoesOn xs ys = (more : List Task) × (ys ≡ xs ++ more)
 
@@ -106,7 +106,8 @@ module _ (P : Plan) (R : List Task) where
         | inr p ↦ inr (p.0, ap (λ v. v ∷ ts) same ∙ ap (λ l. u ∷ l) p.1)
       ]
 
-  -- a walk in which a task came twice goes on in none in which no task did before
+  -- if a walk that ends at a task met before goes on to a walk without repeats before its last task, the two are the
+  -- same
   stops : (a b : List Task) (t u : Task) → IsIn t a → HasNoRepeats b → GoesOn (a ++ t ∷ []) (b ++ u ∷ []) → (a ≡ b) × (t ≡ u)
   stops a b t u i once p = elim (last_or_none p.0) [
     | inl none ↦ same_from_push a b t u (sym (p.1 ∙ ap (λ l. a ++ t ∷ [] ++ l) none ∙ append-nil (a ++ t ∷ [])))

@@ -14,8 +14,8 @@ pub fn every_job_has_a_certificate()
     ensures { (P : Plan) (G : Data) (ws : List ℕ) → IsConsistent P → (c : Certificate) × IsCertificate P G ws c }
 {}
 
-/// A law: the certificate of a job goes with its answer: a chain with a complete answer, a cycle with a stall, and that
-/// a task trapped with traps.
+/// A law: the certificate of a job fits its answer: a chain goes with a complete answer, a cycle with a stall, and
+/// `Trapped` with traps.
 pub fn a_certificate_fits_the_answer()
     ensures { (P : Plan) (G : Data) (ws : List ℕ) (c : Certificate) → IsConsistent P → IsCertificate P G ws c
         → Fits (answer P G) c }

@@ -1,4 +1,5 @@
-//! Every job has a certificate, and it goes with the job's answer; why it has no other.
+//! Laws of certificates that no program cites: every job has one, which goes with the job's answer. Lemmas show that it
+//! has no other.
 #![tactic(auto)]
 
 mod laws;

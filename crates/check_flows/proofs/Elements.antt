@@ -1,4 +1,4 @@
--- An element whose names are resolved exists.
+-- A resolved element that breaks no rule exists.
 use Rattle.std.proofs.Common.{◌≡◌, ℕ, Bool, true, false, not, ◌==◌, cond, List, [], length, Some, None, slice_get, IsTrue, sym, ◌∙◌, ap}
 use Rattle.std.specs.List.{position, list_all}
 use Rattle.std.specs.Option.{option_map_or}

@@ -1,4 +1,4 @@
--- Targets that a flow may have by its kind: what no rule refuses is allowed.
+-- Targets that a flow may have, given its kind: what no rule refuses is allowed.
 use Rattle.std.proofs.Common.{◌≡◌, ℕ, Bool, true, false, not, cond, List, Some, IsTrue, refl, ◌∙◌, ap}
 use Rattle.std.specs.List.{list_any}
 use Rattle.term_core.specs.Term.{Term}
@@ -13,7 +13,7 @@ use Rattle.plan_core.specs.Flows.{is_in_target, is_out_target}
 use Rattle.std.proofs.lemmas.Bool.{and_from, not-false}
 use Rattle.check_flows.specs.Kinds.{is_control, is_write, are_mixed}
 
--- two flows of which none carries order and the other a tile
+-- two flows that both carry order or both carry a tile
 pub same_sort : (k j : FlowKind) → are_mixed k j ≡ false → is_control j ≡ is_control k
 same_sort k j e = go (is_control k) (is_control j) e
   where

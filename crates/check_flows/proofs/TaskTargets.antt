@@ -1,4 +1,4 @@
--- The class and the flow that a target in tasks names.
+-- The class and the flow that a target in a task names.
 use Rattle.std.proofs.Common.{◌≡◌, ℕ, Some, slice_get, option_and_then, sym, ◌∙◌, ap}
 use Rattle.check_names.specs.TreesAndFaults.{Word, FlowTree, ClassTree}
 use Rattle.check_names.specs.Names.{Job, word_is, class_named, class_of, flow_named, flow_of}

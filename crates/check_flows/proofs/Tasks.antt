@@ -1,4 +1,4 @@
--- Targets in tasks, and what a check returns for them.
+-- Targets in tasks, and the result of checking them.
 use Rattle.std.proofs.Common.{◌≡◌, ℕ, List, Option, Some, Result, subst, length, not, ◌==◌, ◌++◌, is_none}
 use Rattle.std.specs.Prelude.{slice_get, option_and_then}
 use Rattle.ptg_base.specs.declared.refusal.Refusal.{Refusal}
@@ -11,7 +11,7 @@ use Rattle.check_names.specs.Names.{Job, class_named, class_of, flow_named}
 use Rattle.check_names.specs.Returns.{ReturnsChecked, both}
 use Rattle.check_flows.specs.Targets.{task_faults, task_of}
 
--- a task, by its class and the number of this
+-- a task target, given its class and the class's number
 pub task_at : (job : Job) (flow name : Word) (count n params : ℕ) (class : ClassTree) (r : Result (ℕ × ℕ) (Refusal JdfFault)) → Some n ≡ class_named job name.text → Some class ≡ slice_get job.jdf.classes n → params ≡ length class.params
     → ReturnsChecked {A = ℕ × ℕ} r (both (λ x y. (x, y)) (Some n) (flow_named class flow.text)) (fault_if (not (params == count)) name.spot Arity ++ fault_if (is_none (flow_named class flow.text)) flow.spot NoSuchFlow)
     → ReturnsChecked {A = ℕ × ℕ} r (task_of job flow name) (task_faults flow name count (class_of job name.text))

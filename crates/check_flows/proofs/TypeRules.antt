@@ -1,4 +1,4 @@
--- Datatypes: the two ends of a dependence have one where no rule refuses it.
+-- Datatypes: the two ends of a dependence have the same one if no rule refuses it.
 use Rattle.std.proofs.Common.{◌≡◌, ℕ, suc, ◌<◌, Bool, true, false, not, ◌&&◌, ◌==◌, cond, List, length, Some, None, option_map, slice_get, IsTrue, refl, sym, ◌∙◌, ap, arith}
 use Rattle.std.specs.List.{position}
 use Rattle.std.specs.Option.{option_map_or}
@@ -40,14 +40,14 @@ type_below d name n e = go (bytes_eq name default_type) e
         let below = position_within (type_is name) d.types p.0 p.1 in
         omega (arith, same, below)
 
--- the type of a flow is one that it may have
+-- the type of a flow is allowed for it
 pub datatype_allowed : (d : Data) (k : FlowKind) (name : List ℕ) (n : ℕ) → allowed_type d k name ≡ Some n → IsTrue (is_datatype (suc (length d.types)) k n)
 datatype_allowed d Read name n e = lt-ltb n (suc (length d.types)) (type_below d name n (data_type d Read name n refl e))
 datatype_allowed d Write name n e = lt-ltb n (suc (length d.types)) (type_below d name n (data_type d Write name n refl e))
 datatype_allowed d Rw name n e = lt-ltb n (suc (length d.types)) (type_below d name n (data_type d Rw name n refl e))
 datatype_allowed d Ctl name n e = eq-eqb n 0 (control_type d Ctl name n refl e)
 
--- two flows of one type
+-- two flows with the same type
 pub flows_agree : (d : Data) (flow other : FlowTree) (n m : ℕ) → is_control other.kind ≡ is_control flow.kind → (not (is_control flow.kind) && is_other_flow (type_of_flow flow) other) ≡ false
     → flow_type d flow ≡ Some n → flow_type d other ≡ Some m → m ≡ n
 flows_agree d flow other n m same h e f = go (is_control flow.kind) refl
@@ -60,7 +60,7 @@ flows_agree d flow other n m same h e f = go (is_control flow.kind) refl
         let one : type_of_flow other ≡ type_of_flow flow = (bytes_decides (type_of_flow other) (type_of_flow flow)).0 (not-false (bytes_eq (type_of_flow other) (type_of_flow flow)) named) in
         same_Some m n (sym (data_type d other.kind (type_of_flow other) m (same ∙ c) f) ∙ (ap (type_number d) one ∙ data_type d flow.kind (type_of_flow flow) n c e))
 
--- a flow and a collection of one type
+-- a flow and a collection with the same type
 pub element_agrees : (d : Data) (flow : FlowTree) (coll : ℕ) (c : Coll) (n : ℕ) → is_control flow.kind ≡ false → has_other_type d (type_of_flow flow) coll ≡ false → slice_get d.colls coll ≡ Some c → flow_type d flow ≡ Some n → c.datatype ≡ n
 element_agrees d flow coll c n tile h at e =
     let name = type_of_flow flow in

@@ -17,7 +17,7 @@ filter_kept p xs x e = filter-append p xs (x ∷ []) ∙ ap (λ b. filter p xs +
 filter_dropped : {A : Type 0} (p : A → Bool) (xs : List A) (x : A) → p x ≡ false → filter p (xs ++ x ∷ []) ≡ filter p xs
 filter_dropped p xs x e = filter-append p xs (x ∷ []) ∙ ap (λ b. filter p xs ++ cond b (x ∷ []) []) e ∙ append-nil (filter p xs)
 
--- what is returned for one element more that is kept
+-- the result for one more element that is kept
 pub next_kept : {A B : Type 0} (p : A → Bool) (f : A → Option B) (g : A → List JdfFault) (xs : List A) (i : ℕ) (x : A) (r : Result (List B) (Refusal JdfFault)) → i < length xs → x ≡ get_or xs i x → p x ≡ true
     → ReturnsChecked r (both (λ ys y. ys ++ y ∷ []) (each f (filter p (take i xs))) (f x)) (flat_map g (filter p (take i xs)) ++ g x)
     → ReturnsChecked r (each f (filter p (take (i + 1) xs))) (flat_map g (filter p (take (i + 1) xs)))
@@ -28,7 +28,7 @@ next_kept p f g xs i x r lt at e h =
     (subst (λ o. ReturnsChecked r o (flat_map g (filter p (take i xs) ++ x ∷ []))) (sym (each_more f (filter p (take i xs)) x))
     (subst (λ l. ReturnsChecked r (both (λ ys y. ys ++ y ∷ []) (each f (filter p (take i xs))) (f x)) l) (sym (flat_map_push g (filter p (take i xs)) x)) h))
 
--- what is returned for one element more that is not
+-- the result for one more element that is dropped
 pub next_dropped : {A B : Type 0} (p : A → Bool) (f : A → Option B) (g : A → List JdfFault) (xs : List A) (i : ℕ) (x : A) (r : Result (List B) (Refusal JdfFault)) → i < length xs → x ≡ get_or xs i x → p x ≡ false
     → ReturnsChecked r (each f (filter p (take i xs))) (flat_map g (filter p (take i xs)))
     → ReturnsChecked r (each f (filter p (take (i + 1) xs))) (flat_map g (filter p (take (i + 1) xs)))

@@ -1,4 +1,4 @@
--- A flow whose names are resolved, and that breaks no rule, is one that a plan may have.
+-- A resolved flow that breaks no rule may be a flow of a plan.
 use Rattle.std.proofs.Common.{◌≡◌, ℕ, suc, ◌+◌, Bool, true, false, not, ◌&&◌, cond, List, [], ◌∷◌, ◌++◌, length, filter, flat_map, Option, Some, None, is_some, IsSome, nat_le, IsTrue, refl, sym, ◌∙◌, ap, subst, arith}
 use Rattle.std.specs.List.{list_all, AllByRecursion}
 use Rattle.std.proofs.lemmas.Bool.{false≢true, le-leb, and_from}
@@ -38,7 +38,7 @@ use Rattle.list_lemmas.proofs.Joins.{first_nil, rest_nil}
 
 -- ---- lists
 
--- what holds of each element that is kept
+-- what holds for each kept element holds for all parts
 parts_kept : {A B : Type 0} (f : A → Option B) (g : A → List JdfFault) (keep : A → Bool) (p : B → Bool) (P : A → Type 0) → ((a : A) (b : B) → keep a ≡ true → P a → g a ≡ [] → f a ≡ Some b → IsTrue (p b))
     → (xs : List A) (ys : List B) → AllByRecursion P xs → flat_map g (filter keep xs) ≡ [] → each f (filter keep xs) ≡ Some ys → IsTrue (list_all p ys)
 parts_kept f g keep p P h [] ys all none e = subst (λ l. IsTrue (list_all p l)) (same_Some [] ys e) refl
@@ -52,7 +52,7 @@ parts_kept {A} {B} f g keep p P h (x ∷ xs) ys all none e = go (keep x) refl (�
         (and_from (p q.0) (list_all p q.1) (h x q.0 k all.0 (first_nil (g x) (flat_map g (filter keep xs)) n) q.2) (more q.1 (rest_nil (g x) (flat_map g (filter keep xs)) n) q.3))
     go false k more n s = more ys n s
 
--- a dependence that is one in a direction has that direction
+-- a dependence that is kept for a direction has that direction
 pub of_direction : (direction : Direction) (dep : DepTree) → is_of_direction direction dep ≡ true → dep.direction ≡ direction
 of_direction direction dep e = go dep.direction direction e
   where
@@ -62,12 +62,12 @@ of_direction direction dep e = go dep.direction direction e
     go Out In e = absurd (false≢true e)
     go Out Out e = refl
 
--- a dependence is one out if it is not one in
+-- a dependence is an out dependence if it is no in dependence
 turned : (d : Direction) → is_same d Out ≡ not (is_same d In)
 turned In = refl
 turned Out = refl
 
--- whether a target passes in a dependence in this direction
+-- whether a target may be that of a dependence in this direction
 abbrev pub ends : List ClassPlan → List ClassSpace → List Shape → ℕ → FlowPlan → Direction → Target → Bool
 ends classes spaces colls locals f In t = is_source classes spaces colls locals f t
 ends classes spaces colls locals f Out t = is_destination classes spaces colls locals f t
@@ -117,7 +117,7 @@ module _ (job : Job) (classes : List ClassPlan) (spaces : List ClassSpace) (coll
       parts_kept (dependence_of job seen) (dependence_faults job seen flow) (is_of_direction direction) (is_dependence (length seen) (ends classes spaces colls (length seen) p direction)) HasGuardForSecond
       (λ dep d here guarded none given. dependence_passes direction dep d here guarded none given) deps ds all h e
 
--- as many dependences in both directions as there are
+-- the dependences of both directions together are all dependences
 both_counts : (job : Job) (seen : List DefTree) (deps : List DepTree) (ins outs : List DepPlan) → dependences_of job seen In deps ≡ Some ins → dependences_of job seen Out deps ≡ Some outs → length ins + length outs ≡ length deps
 both_counts job seen deps ins outs e f =
     let a = each_length (dependence_of job seen) (filter (is_of_direction In) deps) ins e in

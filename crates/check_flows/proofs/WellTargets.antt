@@ -1,5 +1,4 @@
--- A target whose names are resolved, and that breaks no rule, exists, has the flow's datatype and is one that the flow
--- may have.
+-- A resolved target that breaks no rule exists, has the flow's datatype, and is one that the flow may have.
 use Rattle.std.proofs.Common.{◌≡◌, ℕ, Bool, true, false, not, ◌&&◌, ◌==◌, cond, List, [], ◌++◌, length, Some, option_map, is_some, IsTrue, refl, sym, ◌∙◌, ap, subst}
 use Rattle.std.specs.List.{list_all}
 use Rattle.std.specs.Option.{option_map_or}
@@ -43,7 +42,7 @@ use Rattle.std.proofs.lemmas.Option.{same_Some as some_once}
 use Rattle.list_lemmas.proofs.Joins.{first_nil, rest_nil}
 use Rattle.list_lemmas.proofs.Options.{from_option_map}
 
--- what a direction allows
+-- which targets are allowed in a direction
 abbrev pub allowed : List ClassPlan → FlowKind → Direction → Target → Bool
 allowed classes k In t = is_in_target classes k t
 allowed classes k Out t = is_out_target classes k t
@@ -54,7 +53,7 @@ pub record IsWellTarget (classes : List ClassPlan) (spaces : List ClassSpace) (c
   pub typed : IsTrue (has_datatype classes colls datatype t)
   pub kind : IsTrue (allowed classes k direction t)
 
--- no rule about a target is broken
+-- the target breaks no rule
 record KeepsRules (job : Job) (flow : FlowTree) (direction : Direction) (t : TargetTree) : Type 0 where
   sort : is_mixed job flow.kind t ≡ false
   type : (not (is_control flow.kind) && type_differs job (type_of_flow flow) t) ≡ false
@@ -157,7 +156,7 @@ module _ (job : Job) (classes : List ClassPlan) (spaces : List ClassSpace) (coll
         kind = element_kind direction x.0 x.1 rules.sort;
       })
 
-  -- ---- new tiles and none
+  -- ---- new tiles and no tile
 
   new_kind : (direction : Direction) (spot : Spot) → KeepsRules job flow direction (tree.New spot) → IsTrue (allowed classes flow.kind direction plan.New)
   new_kind In spot r = in_new classes flow.kind r.sort

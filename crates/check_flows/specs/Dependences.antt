@@ -1,5 +1,7 @@
 -- Dependences and flows. Source: PaRSEC 2013 and the JDF documentation; that all dependences of a flow have one
 -- datatype is this project's own choice.
+-- Carried by: `flow`.
+-- Tested by: `type_faults.txt`, `type_datatypes.txt`.
 use Rattle.std.specs.Prelude.{ℕ, Bool, not, ◌&&◌, List, [], ◌++◌, filter, flat_map, Option, Some, None}
 use Rattle.std.specs.Str.{bytes_eq}
 use Rattle.std.specs.Option.{option_map_or}
@@ -25,7 +27,7 @@ use Rattle.check_flows.specs.Rules.{rule_faults}
 abbrev pub target_faults : Job → List DefTree → FlowTree → Direction → TargetTree → List JdfFault
 target_faults job seen flow direction t = named_faults job seen t ++ rule_faults job flow direction t
 
--- the spot of the datatype of a dependence: that of its name, or where none is written that of the first target
+-- the spot of a fault of a dependence's datatype: that of the written name, or else of the first target
 abbrev pub type_spot : TargetTree → Option Word → Spot
 type_spot first None = first_spot first
 type_spot first (Some w) = w.spot
@@ -52,7 +54,7 @@ dependence_of job seen dep =
     (option_term job seen dep.guard)
     (both (λ x y. (x, y)) (target_of job seen dep.yes) (each_option (target_of job seen) dep.no))
 
--- whether a dependence is one in this direction
+-- whether a dependence has this direction
 abbrev pub is_of_direction : Direction → DepTree → Bool
 is_of_direction direction dep = is_same dep.direction direction
 
@@ -74,12 +76,12 @@ abbrev pub directions_faults : Job → List DefTree → FlowTree → List DepTre
 directions_faults job seen flow deps =
     dependences_faults job seen flow In deps ++ dependences_faults job seen flow Out deps
 
--- all faults of a flow: that its type is none of the data is a fault of its first dependence, and is listed twice
+-- all faults of a flow; if the data do not have its type, that is a fault of its first dependence, and is listed twice
 abbrev pub flow_faults : Job → List DefTree → FlowTree → List JdfFault
 flow_faults job seen flow =
     written_faults job.given flow.kind (first_written flow.deps) ++ directions_faults job seen flow flow.deps
 
--- the flow with a datatype and dependences
+-- the plan of a flow, from its datatype and its dependences
 abbrev pub flow_from : FlowTree → ℕ → List DepPlan × List DepPlan → FlowPlan
 flow_from flow n deps = record { name = flow.name.text; kind = flow.kind; datatype = n; ins = deps.0; outs = deps.1 }
 

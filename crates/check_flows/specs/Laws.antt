@@ -1,4 +1,4 @@
--- What follows from the definitions of elements and flows that are resolved.
+-- Laws of resolved elements and flows.
 use Rattle.std.specs.Prelude.{◌≡◌, ℕ, suc, List, [], Some, length, IsTrue}
 use Rattle.term_core.specs.Term.{Term}
 use Rattle.term_core.specs.declared.space.ClassSpace.{ClassSpace}
@@ -14,7 +14,7 @@ use Rattle.check_flows.specs.Elements.{element_faults, element_of}
 use Rattle.check_flows.specs.Dependences.{flow_faults, flow_plan}
 use Rattle.check_flows.specs.PartsOfJob.{HaveParts}
 
--- Where a plan has the parts of a job, an element that breaks no rule is one of a collection of the plan.
+-- If a plan has the parts of a job, a resolved element that breaks no rule is an element of a collection of the plan.
 abbrev pub ElementsExist : Type 0
 ElementsExist =
     (job : Job) (classes : List ClassPlan) (spaces : List ClassSpace) (colls : List Shape)
@@ -23,7 +23,7 @@ ElementsExist =
     → element_faults job seen w args ≡ [] → element_of job seen w args ≡ Some x
     → IsTrue (is_element colls (length seen) x.0 x.1)
 
--- Where a plan has the parts of a job, a flow that breaks no rule is one that the plan may have.
+-- If a plan has the parts of a job, a resolved flow that breaks no rule may be a flow of the plan.
 abbrev pub FlowsAreWellMade : Type 0
 FlowsAreWellMade =
     (job : Job) (classes : List ClassPlan) (spaces : List ClassSpace) (colls : List Shape)

@@ -1,4 +1,4 @@
--- What the parts of a plan have for each part of a JDF and its data. Source: the JDF documentation.
+-- What a plan has for each part of a JDF and its data. Source: the JDF documentation.
 use Rattle.std.specs.Prelude.{◌≡◌, ℕ, List, length, Some, IsTrue, slice_get}
 use Rattle.term_core.specs.declared.space.ClassSpace.{ClassSpace}
 use Rattle.coll_data.specs.declared.coll.Coll.{Coll}
@@ -12,18 +12,18 @@ use Rattle.check_names.specs.TreesAndFaults.{FlowTree, ClassTree}
 use Rattle.check_names.specs.Names.{Job}
 use Rattle.check_flows.specs.Datatypes.{flow_type}
 
--- The flow of a plan has the kind and the datatype of a flow of the text.
+-- A flow of a plan has the kind and the datatype of this flow of the text.
 pub record IsFlowOf (d : Data) (flow : FlowTree) (p : FlowPlan) : Type 0 where
   pub kind : p.kind ≡ flow.kind
   pub datatype : flow_type d flow ≡ Some p.datatype
 
--- The collection of a plan has the dimensions and the datatype of a collection of the data.
+-- A collection of a plan has the dimensions and the datatype of this collection of the data.
 pub record IsShapeOf (c : Coll) (s : Shape) : Type 0 where
   pub cols : s.cols ≡ c.shape.1
   pub datatype : s.datatype ≡ c.datatype
 
--- By number, the classes have each flow of the text, the spaces each class with as many parameters, and the collections
--- each of the data.
+-- By the same numbers, the classes have each flow of the text, the spaces have each class with as many parameters, and
+-- the collections have each collection of the data.
 pub record HaveParts (job : Job) (classes : List ClassPlan) (spaces : List ClassSpace)
     (colls : List Shape) : Type 0 where
   pub flow : (n m : ℕ) (c : ClassTree) (f : FlowTree) → slice_get job.jdf.classes n ≡ Some c

@@ -1,5 +1,7 @@
--- Which targets a flow may have, by its kind and its datatype. Source: PaRSEC 2013 and the JDF documentation; the
+-- Which targets a flow may have, given its kind and its datatype. Source: PaRSEC 2013 and the JDF documentation; the
 -- codes, and that a flow and its targets have one datatype, are this project's own choice.
+-- Carried by: `flow`.
+-- Tested by: `type_faults.txt`, `type_datatypes.txt`.
 use Rattle.std.specs.Prelude.{ℕ, Bool, true, false, not, ◌&&◌, ◌==◌, List, [], ◌++◌, Option, None, option_and_then, slice_get, if◌then◌else◌}
 use Rattle.std.specs.Option.{option_map_or}
 use Rattle.std.specs.Str.{bytes_eq}
@@ -17,7 +19,7 @@ use Rattle.check_flows.specs.Kinds.{is_control, is_write, are_mixed}
 use Rattle.check_flows.specs.Datatypes.{type_number, type_of_flow}
 use Rattle.check_flows.specs.Targets.{first_spot}
 
--- the flow that a target names, if it is one of a task and there is one
+-- the flow that a target names, if it names a flow of a task that exists
 abbrev pub flow_of_target : Job → TargetTree → Option FlowTree
 flow_of_target job (tree.Task flow class args) =
     option_and_then (λ (c : ClassTree). flow_of c flow.text) (class_of job class.text)
@@ -25,19 +27,19 @@ flow_of_target job (tree.Element coll args) = None
 flow_of_target job (tree.New spot) = None
 flow_of_target job (tree.Null spot) = None
 
--- whether a flow of this kind and the flow of a task are one of order and one of a tile
+-- whether one of the two flows carries order alone and the other one a tile
 abbrev pub mixes_flows : FlowKind → Option FlowTree → Bool
 mixes_flows kind named = option_map_or (λ (f : FlowTree). are_mixed kind f.kind) named false
 
--- whether order would go to a tile, or a tile to order: a CTL flow has only CTL flows as targets, and no other flow has
--- one
+-- whether the target mixes order with tiles: a CTL flow has only CTL flows as targets, and no other flow has one; a
+-- flow that doesn't exist mixes nothing
 abbrev pub is_mixed : Job → FlowKind → TargetTree → Bool
 is_mixed job kind (tree.Task flow class args) = mixes_flows kind (flow_of_target job (tree.Task flow class args))
 is_mixed job kind (tree.Element coll args) = is_control kind
 is_mixed job kind (tree.New spot) = is_control kind
 is_mixed job kind (tree.Null spot) = is_control kind
 
--- whether a tile that is only written would come from a task, or be none
+-- whether the target cannot be the source of a tile that is only written: it is a flow of a task, or `NULL`
 abbrev pub is_no_start : TargetTree → Bool
 is_no_start (tree.Task flow class args) = true
 is_no_start (tree.Element coll args) = false
@@ -51,25 +53,25 @@ is_new (tree.Element coll args) = false
 is_new (tree.New spot) = true
 is_new (tree.Null spot) = false
 
--- the ranges in a task target
+-- the faults of the ranges in a task target
 abbrev pub task_ranges : TargetTree → List JdfFault
 task_ranges (tree.Task flow class args) = ranges_faults RangeInDataInput args
 task_ranges (tree.Element coll args) = []
 task_ranges (tree.New spot) = []
 task_ranges (tree.Null spot) = []
 
--- the faults of the target of an in dependence of a flow of this kind: a tile that is only written comes from no task
--- and is there; a tile has one source
+-- the faults of the target of an in dependence of a flow of this kind. A tile that is only written comes from no task
+-- and is not `NULL`; a tile has one source.
 abbrev pub in_faults : FlowKind → TargetTree → List JdfFault
 in_faults kind t =
     fault_if (is_write kind && is_no_start t) (first_spot t) WriteInput
     ++ (if is_control kind then [] else task_ranges t)
 
--- the faults of the target of an out dependence: a new tile is no target
+-- the faults of the target of an out dependence: a tile cannot be sent to `NEW`
 abbrev pub out_faults : TargetTree → List JdfFault
 out_faults t = fault_if (is_new t) (first_spot t) NewSent
 
--- whether the tiles of the collection with this number have another type
+-- whether the tiles of the collection with this number are not of the type with this name
 abbrev pub has_other_type : Data → List ℕ → ℕ → Bool
 has_other_type d type n =
     option_map_or (λ (c : Coll). option_map_or (λ m. not (m == c.datatype)) (type_number d type) true)
@@ -79,7 +81,7 @@ has_other_type d type n =
 abbrev pub is_other_flow : List ℕ → FlowTree → Bool
 is_other_flow type f = not (is_control f.kind) && not (bytes_eq (type_of_flow f) type)
 
--- whether a target of a flow whose tiles have this type is a data flow or an element of another type
+-- whether a target is a flow with tiles, or an element, of another type than this one
 abbrev pub type_differs : Job → List ℕ → TargetTree → Bool
 type_differs job type (tree.Task flow class args) =
     option_map_or (is_other_flow type) (flow_of_target job (tree.Task flow class args)) false
@@ -88,12 +90,12 @@ type_differs job type (tree.Element coll args) =
 type_differs job type (tree.New spot) = false
 type_differs job type (tree.Null spot) = false
 
--- the faults of the target of a dependence in this direction, by the kind of the flow
+-- the faults of the target of a dependence in this direction, given the kind of the flow
 abbrev pub kind_faults : Direction → FlowKind → TargetTree → List JdfFault
 kind_faults In kind t = in_faults kind t
 kind_faults Out kind t = out_faults t
 
--- the faults of a target by the flow that has it, in a dependence in this direction
+-- the faults of a target of this flow, in a dependence in this direction
 abbrev pub rule_faults : Job → FlowTree → Direction → TargetTree → List JdfFault
 rule_faults job flow direction t =
     (fault_if (is_mixed job flow.kind t) (first_spot t) CtlMixed

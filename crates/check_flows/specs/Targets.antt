@@ -1,4 +1,7 @@
--- What targets name. Source: PaRSEC 2013 and the JDF documentation; which codes there are is this project's own choice.
+-- The targets that names resolve to. Source: PaRSEC 2013 and the JDF documentation; which codes there are is this
+-- project's own choice.
+-- Carried by: `flow`.
+-- Tested by: `type_faults.txt`, `type_datatypes.txt`.
 use Rattle.std.specs.Prelude.{ℕ, not, ◌==◌, List, [], ◌∷◌, ◌++◌, length, Option, Some, None, is_none, option_map, option_and_then}
 use Rattle.term_core.specs.Term.{Term}
 use Rattle.jdf_tree.specs.declared.tree.TargetTree.TheVariants as tree
@@ -19,25 +22,25 @@ first_spot (tree.Element coll args) = coll.spot
 first_spot (tree.New spot) = spot
 first_spot (tree.Null spot) = spot
 
--- the faults of a flow of this class, named with this many arguments
+-- the faults of the names of a flow and this class, followed by this many arguments
 abbrev pub class_faults : Word → Word → ℕ → ClassTree → List JdfFault
 class_faults flow name count class =
     fault_if (not (length class.params == count)) name.spot Arity
     ++ fault_if (is_none (flow_named class flow.text)) flow.spot NoSuchFlow
 
--- the faults of the names of a flow and a class, and of the number of arguments: of an unknown class nothing else is
--- said
+-- the faults of the names of a flow and a class, and of the number of arguments; if the class is unknown, neither of
+-- the other two is judged
 abbrev pub task_faults : Word → Word → ℕ → Option ClassTree → List JdfFault
 task_faults flow name count None = fault name.spot UnknownName ∷ []
 task_faults flow name count (Some class) = class_faults flow name count class
 
--- the numbers of a class and of a flow of it
+-- the numbers of a class and of one of its flows
 abbrev pub task_of : Job → Word → Word → Option (ℕ × ℕ)
 task_of job flow class =
     both (λ x y. (x, y)) (class_named job class.text)
     (option_and_then (λ (c : ClassTree). flow_named c flow.text) (class_of job class.text))
 
--- the faults of what a target names, where these definitions are seen
+-- the faults of the names of a target that sees these definitions
 abbrev pub named_faults : Job → List DefTree → TargetTree → List JdfFault
 named_faults job seen (tree.Task flow class args) =
     task_faults flow class (length args) (class_of job class.text) ++ arguments_faults job seen args

@@ -1,4 +1,4 @@
-//! Elements of collections.
+//! Resolves elements of collections.
 
 ghost use Rattle.std.specs.Prelude.{◌≡◌, Some, is_some, if◌then◌else◌};
 ghost use Rattle.check_names.specs.Contexts.{IsContext, job_of};
@@ -14,7 +14,7 @@ use jdf_tree::{ArgTree, Word};
 use ptg_base::{Seq, Text};
 use term_core::Expr;
 
-// How many dimensions the collection with this number has.
+// How many dimensions the collection with this number has; 0 if there is none.
 fn dimensions_of(context: &Context, number: u32) -> usize
     ensures { result ≡ dimensions_of (job_of context.now) number }
 {
@@ -27,7 +27,7 @@ fn dimensions_of(context: &Context, number: u32) -> usize
     }
 }
 
-// The code of a name that is that of no collection.
+// The code for a name that no collection has.
 fn no_collection(context: &Context, name: &Text) -> JdfCode
     requires { IsContext context.now }
     ensures { result ≡ (if is_some (int_named (job_of context.now) name.now) then WrongKind else UnknownName) }
@@ -39,7 +39,7 @@ fn no_collection(context: &Context, name: &Text) -> JdfCode
     }
 }
 
-// The number of a collection, which must have this many dimensions.
+// Returns the number of a collection; refuses it unless it has this many dimensions.
 fn dimensioned(context: &Context, word: &Word, count: usize, number: u32) -> Result<u32, JdfRefusal>
     ensures { ReturnsChecked result (Some number)
         (collection_faults (job_of context.now) word.now count (Some number)) }
@@ -48,7 +48,7 @@ fn dimensioned(context: &Context, word: &Word, count: usize, number: u32) -> Res
     and_rules(Ok(number), fault_if(differs, word.spot, JdfCode::Arity))
 }
 
-// The number of a collection that is named with this many indices.
+// The number of the collection of a name that is followed by this many indices.
 fn collection(context: &Context, word: &Word, count: usize) -> Result<u32, JdfRefusal>
     requires { IsContext context.now }
     ensures { ReturnsChecked result (coll_named (job_of context.now) word.now.text)
@@ -60,7 +60,7 @@ fn collection(context: &Context, word: &Word, count: usize) -> Result<u32, JdfRe
     }
 }
 
-/// An element of a collection, with its names resolved: the number of the collection and the indices.
+/// Resolves an element of a collection: returns the number of the collection and the indices.
 pub fn element(
     context: &Context,
     word: &Word,

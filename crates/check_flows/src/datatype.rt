@@ -1,4 +1,4 @@
-//! The datatypes of flows.
+//! Resolves the datatypes of flows.
 
 ghost use Rattle.std.specs.Prelude.{◌≡◌, ◌<◌, ◌≤◌, IfSome, length, position};
 ghost use Rattle.std.specs.Str.{bytes_eq};
@@ -13,14 +13,14 @@ use jdf_tree::{FlowTree, Word};
 use ptg_base::Text;
 use term_core::FlowKind;
 
-// Whether this is the name of type 0.
+// Whether this is the name of type 0, DEFAULT.
 fn is_default(name: &[u8]) -> bool
     ensures { result ≡ bytes_eq name.now default_type }
 {
     name == DEFAULT_TYPE
 }
 
-// The number of the first of these types that has the name.
+// The index of the first of these types that has the name.
 fn type_named(types: &[(Text, u32)], name: &[u8]) -> Option<usize>
     ensures number { result ≡ position (type_is name.now) types.now }
     ensures within { IfSome result (λ n. n < length types.now) }
@@ -28,7 +28,7 @@ fn type_named(types: &[(Text, u32)], name: &[u8]) -> Option<usize>
     types.iter().position(|named| named.0.bytes() == name)
 }
 
-/// The number of a type of the data.
+/// The number of the type with this name in the data; DEFAULT is 0.
 pub(crate) fn type_number(given: &Given, name: &[u8]) -> Option<u32>
     requires { length given.now.types ≤ most_named_types }
     ensures { result ≡ type_number given.now name.now }
@@ -40,7 +40,7 @@ pub(crate) fn type_number(given: &Given, name: &[u8]) -> Option<u32>
     Some(number as u32 + 1)
 }
 
-// The number of the datatype of this name, if a flow of this kind may have it.
+// The number of the datatype with this name, if a flow of this kind may have it: a CTL flow has DEFAULT alone.
 fn allowed_type(given: &Given, kind: FlowKind, name: &[u8]) -> Option<u32>
     requires { length given.now.types ≤ most_named_types }
     ensures { result ≡ allowed_type given.now kind name.now }
@@ -51,7 +51,7 @@ fn allowed_type(given: &Given, kind: FlowKind, name: &[u8]) -> Option<u32>
     type_number(given, name)
 }
 
-/// The name of the datatype of a dependence, by the one that is written on it.
+/// The name of the datatype of a dependence: the one that is written on it, or DEFAULT.
 pub(crate) fn type_of_written(written: &Option<Word>) -> &[u8]
     ensures { result.now ≡ type_of_written written.now }
 {
@@ -61,7 +61,7 @@ pub(crate) fn type_of_written(written: &Option<Word>) -> &[u8]
     }
 }
 
-/// The number of the datatype of a dependence, which a flow of this kind must be allowed to have.
+/// The number of the datatype of a dependence; refuses one that a flow of this kind may not have.
 pub(crate) fn written_type(
     given: &Given,
     kind: FlowKind,
@@ -80,7 +80,7 @@ pub(crate) fn written_type(
     }
 }
 
-/// The name of the type of a flow's tiles.
+/// The name of the type of a flow's tiles: that of its first dependence, or DEFAULT.
 pub(crate) fn type_of_flow(flow: &FlowTree) -> &[u8]
     ensures { result.now ≡ type_of_flow flow.now }
 {
@@ -90,7 +90,7 @@ pub(crate) fn type_of_flow(flow: &FlowTree) -> &[u8]
     }
 }
 
-/// The number of the type of a flow.
+/// The number of the type of a flow's tiles; 0 for a CTL flow.
 pub(crate) fn flow_type(given: &Given, flow: &FlowTree) -> Result<u32, JdfRefusal>
     requires { length given.now.types ≤ most_named_types }
     ensures { ReturnsChecked result (flow_type given.now flow.now)

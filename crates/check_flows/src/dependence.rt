@@ -1,4 +1,4 @@
-//! Dependences and flows.
+//! Resolves dependences and flows.
 
 ghost use Rattle.std.specs.Prelude.{◌≡◌, ◌≤◌, [], IfOk, List, Some, length};
 ghost use Rattle.std.specs.Option.{option_map_or};
@@ -20,7 +20,7 @@ use plan_core::{DepPlan, FlowPlan, Target};
 use ptg_base::{OutOfMemory, Seq, Text};
 use term_core::Direction;
 
-// A target of a flow, with its names resolved.
+// Resolves a target of a flow and checks its rules.
 fn target(
     context: &Context,
     flow: &FlowTree,
@@ -37,7 +37,7 @@ fn target(
     )
 }
 
-// The second target of a dependence, if there is one.
+// Resolves the second target of a dependence, if there is one.
 fn second(
     context: &Context,
     flow: &FlowTree,
@@ -54,7 +54,7 @@ fn second(
     }
 }
 
-// The spot of the datatype of a dependence.
+// The spot of a fault of a dependence's datatype: that of the written name, or else of the first target.
 fn type_spot(yes: &TargetTree, written: &Option<Word>) -> Spot
     ensures { result ≡ type_spot yes.now written.now }
 {
@@ -64,7 +64,7 @@ fn type_spot(yes: &TargetTree, written: &Option<Word>) -> Spot
     }
 }
 
-// The rules of the datatype of a dependence.
+// Checks the rules for the datatype of a dependence.
 fn type_rules(given: &Given, flow: &FlowTree, dependence: &DepTree) -> Result<(), JdfRefusal>
     requires { length given.now.types ≤ most_named_types }
     ensures { ReturnsChecked result (Some tt) (type_faults given.now flow.now dependence.now) }
@@ -79,7 +79,7 @@ fn type_rules(given: &Given, flow: &FlowTree, dependence: &DepTree) -> Result<()
     }
 }
 
-// A dependence of a flow, with its names resolved.
+// Resolves a dependence of a flow.
 fn dependence(
     context: &Context,
     flow: &FlowTree,
@@ -105,14 +105,14 @@ fn dependence(
     }
 }
 
-// Whether a dependence is one in this direction.
+// Whether a dependence has this direction.
 fn is_of_direction(direction: Direction, dependence: &DepTree) -> bool
     ensures { result ≡ is_of_direction direction dependence.now }
 {
     dependence.direction == direction
 }
 
-// The dependences of a flow in one direction, with their names resolved.
+// Resolves the dependences of a flow in one direction.
 fn dependences(
     context: &Context,
     flow: &FlowTree,
@@ -132,7 +132,7 @@ fn dependences(
     parts
 }
 
-// The dependences of a flow in both directions.
+// Resolves the dependences of a flow in both directions.
 fn both_directions(
     context: &Context,
     flow: &FlowTree,
@@ -149,7 +149,7 @@ fn both_directions(
     )
 }
 
-// The plan of a flow, by its datatype and its dependences.
+// The plan of a flow, from its datatype and its dependences.
 fn flow_with(
     context: &Context,
     flow: &FlowTree,
@@ -167,7 +167,7 @@ fn flow_with(
     })
 }
 
-/// A flow of a class, with its names resolved.
+/// Resolves a flow of a class.
 pub fn flow(context: &Context, flow: &FlowTree) -> Result<FlowPlan, JdfRefusal>
     requires { IsContext context.now }
     ensures { ReturnsChecked result (flow_plan (job_of context.now) context.now.seen.now flow.now)

@@ -1,4 +1,4 @@
-//! The flows of a class of a JDF: their dependences with all names resolved, or their first fault.
+//! Resolves the targets, dependences, datatypes and flows of a class, or returns their first fault.
 #![tactic(auto)]
 
 mod coll_element;

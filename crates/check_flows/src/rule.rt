@@ -1,4 +1,4 @@
-//! Which targets a flow may have, by its kind and its datatype.
+//! Checks which targets a flow may have, given its kind and its datatype.
 
 ghost use Rattle.std.specs.Prelude.{◌≡◌, ◌≤◌, Some, length, option_copied};
 ghost use Rattle.ptg_base.specs.Limits.{most_named_types};
@@ -17,7 +17,7 @@ use jdf_tree::{ClassTree, FlowTree, TargetTree};
 use ptg_base::Text;
 use term_core::{Direction, FlowKind};
 
-// The first class of this name.
+// The first class with this name.
 fn class_of<'a>(context: &Context<'a>, name: &Text) -> Option<&'a ClassTree>
     requires { IsContext context.now }
     ensures { option_copied result ≡ class_of (job_of context.now) name.now }
@@ -26,7 +26,7 @@ fn class_of<'a>(context: &Context<'a>, name: &Text) -> Option<&'a ClassTree>
     Some(context.jdf.classes.get(number))
 }
 
-// The flow that a target names, if it is one of a task and there is one.
+// The flow that a target names, if it names a flow of a task that exists.
 fn flow_of_target<'a>(context: &Context<'a>, target: &TargetTree) -> Option<&'a FlowTree>
     requires { IsContext context.now }
     ensures { option_copied result ≡ flow_of_target (job_of context.now) target.now }
@@ -43,7 +43,8 @@ fn flow_of_target<'a>(context: &Context<'a>, target: &TargetTree) -> Option<&'a 
     }
 }
 
-// Whether order would go to a tile, or a tile to order.
+// Whether the target mixes order with tiles: a CTL flow has a target that is no CTL flow, or another flow has a CTL
+// flow as its target. A flow that doesn't exist mixes nothing.
 fn is_mixed(context: &Context, kind: FlowKind, target: &TargetTree) -> bool
     requires { IsContext context.now }
     ensures { result ≡ is_mixed (job_of context.now) kind target.now }
@@ -59,7 +60,7 @@ fn is_mixed(context: &Context, kind: FlowKind, target: &TargetTree) -> bool
     }
 }
 
-// Whether a tile that is only written would come from a task, or be none.
+// Whether the target cannot be the source of a tile that is only written: it is a flow of a task, or `NULL`.
 fn is_no_start(target: &TargetTree) -> bool
     ensures { result ≡ is_no_start target.now }
 {
@@ -83,7 +84,7 @@ fn is_new(target: &TargetTree) -> bool
     }
 }
 
-// Ranges in a task target are refused.
+// Refuses the ranges in a task target.
 fn task_ranges(target: &TargetTree) -> Result<(), JdfRefusal>
     ensures { ReturnsChecked result (Some tt) (task_ranges target.now) }
 {
@@ -95,7 +96,7 @@ fn task_ranges(target: &TargetTree) -> Result<(), JdfRefusal>
     }
 }
 
-// The rules of the target of an in dependence of a flow of this kind.
+// Checks the target of an in dependence of a flow of this kind.
 fn in_rules(kind: FlowKind, target: &TargetTree) -> Result<(), JdfRefusal>
     ensures { ReturnsChecked result (Some tt) (in_faults kind target.now) }
 {
@@ -111,14 +112,14 @@ fn in_rules(kind: FlowKind, target: &TargetTree) -> Result<(), JdfRefusal>
     )
 }
 
-// The rules of the target of an out dependence.
+// Checks the target of an out dependence.
 fn out_rules(target: &TargetTree) -> Result<(), JdfRefusal>
     ensures { ReturnsChecked result (Some tt) (out_faults target.now) }
 {
     fault_if(is_new(target), first_spot(target), JdfCode::NewSent)
 }
 
-// Whether the tiles of the collection with this number have another type than this one.
+// Whether the tiles of the collection with this number are not of the type with this name.
 fn has_other_type(given: &Given, name: &[u8], number: u32) -> bool
     requires { length given.now.types ≤ most_named_types }
     ensures { result ≡ has_other_type given.now name.now number }
@@ -132,7 +133,7 @@ fn has_other_type(given: &Given, name: &[u8], number: u32) -> bool
     }
 }
 
-// Whether a target of a flow whose tiles have this type is a data flow or an element of another type.
+// Whether a target is a flow with tiles, or an element, of another type than this one.
 fn type_differs(context: &Context, name: &[u8], target: &TargetTree) -> bool
     requires { IsContext context.now }
     ensures { result ≡ type_differs (job_of context.now) name.now target.now }
@@ -151,7 +152,7 @@ fn type_differs(context: &Context, name: &[u8], target: &TargetTree) -> bool
     }
 }
 
-/// The rules of a target by the flow that has it, in a dependence in this direction.
+/// Checks a target of this flow, in a dependence in this direction.
 pub(crate) fn target_rules(
     context: &Context,
     flow: &FlowTree,

@@ -1,4 +1,4 @@
-//! What targets name.
+//! Resolves the names of targets.
 
 ghost use Rattle.std.specs.Prelude.{◌≡◌, ◌<◌, ◌++◌, ℕ, IfSome, is_none, length};
 ghost use Rattle.jdf_lex.specs.declared.fault.JdfCode.TheVariants.{NoSuchFlow};
@@ -30,7 +30,7 @@ pub fn first_spot(target: &TargetTree) -> Spot
     }
 }
 
-/// The number of the first flow of this name in a class. It looks through all of them, which are at most 8.
+/// The number of the first flow with this name in a class. It searches all of them, at most 8.
 pub(crate) fn flow_named(class: &ClassTree, name: &Text) -> Option<usize>
     ensures number { result ≡ flow_named class.now name.now }
     ensures within { IfSome result (λ n. n < length class.now.flows) }
@@ -42,7 +42,7 @@ pub(crate) fn flow_named(class: &ClassTree, name: &Text) -> Option<usize>
         .position(|flow| flow.name.text.bytes() == name.bytes())
 }
 
-// The number of a flow of a class.
+// The number of the flow with this name in a class; refuses a name that no flow has.
 fn flow_number(class: &ClassTree, word: &Word) -> Result<u8, JdfRefusal>
     requires { IsClassWithinLimits class.now }
     ensures { ReturnsChecked result (flow_named class.now word.now.text)
@@ -54,7 +54,8 @@ fn flow_number(class: &ClassTree, word: &Word) -> Result<u8, JdfRefusal>
     }
 }
 
-// The numbers of a class and of a flow of it, which are named with this many arguments.
+// The numbers of a class and of one of its flows, whose names are followed by `count` arguments. Refuses a count other
+// than that of the class's parameters.
 fn task(context: &Context, flow: &Word, name: &Word, count: usize) -> Result<(u32, u8), JdfRefusal>
     requires { IsContext context.now }
     ensures { ReturnsChecked result
@@ -73,7 +74,7 @@ fn task(context: &Context, flow: &Word, name: &Word, count: usize) -> Result<(u3
     join(known, flow_number(class, flow))
 }
 
-// A target in a task, with its names resolved.
+// Resolves a target in a task.
 fn task_target(
     context: &Context,
     flow: &Word,
@@ -95,7 +96,7 @@ fn task_target(
     }
 }
 
-/// A target with its names resolved.
+/// Resolves the names of a target.
 pub(crate) fn named_target(context: &Context, target: &TargetTree) -> Result<Target, JdfRefusal>
     requires { IsContext context.now }
     ensures { ReturnsChecked result (target_of (job_of context.now) context.now.seen.now target.now)

@@ -1,4 +1,4 @@
--- Parts that are there where no rule is broken.
+-- Parts that are there if no rule is broken.
 use Rattle.std.proofs.Common.{◌≡◌, List, [], ◌∷◌, ◌++◌, flat_map, Option, Some, None, is_none, refl}
 use Rattle.std.specs.Option.{IsSome}
 use Rattle.check_names.specs.TreesAndFaults.{Spot, JdfCode, JdfFault}
@@ -28,7 +28,7 @@ pub each_there : {A B : Type 0} (f : A → Option B) (g : A → List JdfFault) �
 each_there f g h [] e = refl
 each_there f g h (x ∷ xs) e = both_there (λ y ys. y ∷ ys) (f x) (each f xs) (g x) (flat_map g xs) (h x) (each_there f g h xs) e
 
--- a part that may be left out
+-- an optional part
 pub maybe_there : {A B : Type 0} (f : A → Option B) (g : Option A → List JdfFault) → ((a : A) → g (Some a) ≡ [] → IsSome (f a)) → (o : Option A) → g o ≡ [] → IsSome (each_option f o)
 maybe_there f g h None e = refl
 maybe_there f g h (Some a) e = IsSome-option_map (λ b. Some b) (f a) (h a e)

@@ -1,4 +1,4 @@
--- What breaks no rule is resolved: the parts of a class, classes, and all of a JDF.
+-- What breaks no rule is resolved: the parts of a class, a class, and a whole JDF.
 use Rattle.std.proofs.Common.{◌≡◌, List, [], ◌∷◌, ◌++◌, flat_map, Option, Some, None, Ok, Err, inl, inr, refl}
 use Rattle.std.specs.Option.{IsSome}
 use Rattle.std.specs.Result.{result_ok}

@@ -22,7 +22,7 @@ first_is_one (g ∷ faults) f e = go (first_fault faults) (λ x. first_is_one fa
         pick true t = inr (later f (ap (λ x. Some x) (sym (the-later g h t)) ∙ e))
         pick false t = inl (sym (same_Some _ _ (ap (λ x. Some x) (sym (the-former g h t)) ∙ e)))
 
--- of two faults at most one comes before the other
+-- if one fault comes before another, the other doesn't come before it
 not-back : (a b : JdfFault) → is_before b a ≡ true → is_before a b ≡ false
 not-back a b t = side (is_before a b) refl
   where
@@ -30,7 +30,7 @@ not-back a b t = side (is_before a b) refl
     side true r = let l : is_before a a ≡ true = before-trans a b a r t in let m : is_before a a ≡ false = before-irrefl a in absurd cc
     side false r = r
 
--- what comes before neither of two is not before the earlier one
+-- no fault of the list comes before its first
 pub none_is_before : (faults : List JdfFault) (f g : JdfFault) → first_fault faults ≡ Some f → IsIn g faults → is_before g f ≡ false
 none_is_before [] f g e i = absurd i
 none_is_before (x ∷ faults) f g e i = go (first_fault faults) (λ y. none_is_before faults y g) (first_none faults) e

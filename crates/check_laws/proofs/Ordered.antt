@@ -1,4 +1,4 @@
--- Two faults of which neither comes before the other are one.
+-- If neither of two faults comes before the other, they are equal.
 use Rattle.std.proofs.Common.{◌≡◌, ℕ, Bool, true, false, List, [], ◌∷◌, arith, refl, sym, ◌∙◌, ap, inl, inr}
 use Rattle.std.specs.Prelude.{Some, nat_lt, slice_get}
 use Rattle.std.proofs.lemmas.Bool.{cases_order, ltb-false}

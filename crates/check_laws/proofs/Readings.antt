@@ -1,4 +1,4 @@
--- Each body is read: its tokens are a body, or have a first fault.
+-- Each body is read: its tokens form a body, or have a first fault.
 use Rattle.std.proofs.Common.{◌≡◌, ◌≤◌, ℕ, ◌-◌, List, [], ◌∷◌, length, None, is_some, Result, Ok, Err, ◌⊎◌, inl, inr, refl, sym, subst}
 use Rattle.std.specs.List.{AllByRecursion}
 use Rattle.std.proofs.lemmas.List.{length-map}
@@ -43,7 +43,7 @@ by_tree scope class tree text = go (body_of scope tree) refl
     go (Ok x) e = (Ok x, record { tree = tree; text = text; named = e })
     go (Err f) e = (Err f, inl (record { tree = tree; text = text; named = e }))
 
--- a text that is broken has a fault
+-- reading a broken text ends with a fault
 no_body : (r : Resolved (Unit {0})) (f : JdfFault) (u : Unit {0}) → and_then r (λ _. Err f) ≡ Ok u → ⊥
 no_body (Ok x) f u e = absurd cc
 no_body (Err g) f u e = absurd cc

@@ -1,4 +1,5 @@
--- That what breaks no rule of the type check is resolved, so that a job has a plan or a first fault.
+-- What breaks no rule of the type check is resolved, so that a job has a plan or a first fault.
+-- Carried by: law `a_job_has_a_plan_or_a_fault`.
 use Rattle.std.specs.Prelude.{◌≡◌, ◌⊎◌, List, [], Option}
 use Rattle.std.specs.Option.{IsSome}
 use Rattle.jdf_tree.specs.Expression.{Expression}
@@ -29,7 +30,7 @@ IndicesAreResolved =
     (job : Job) (seen : List DefTree) (args : List ArgTree) → indices_faults job seen args ≡ []
     → IsSome (indices_of job seen args)
 
--- An expression that may be left out and breaks no rule is resolved.
+-- An optional expression that breaks no rule is resolved.
 abbrev pub OptionIsResolved : Type 0
 OptionIsResolved =
     (job : Job) (seen : List DefTree) (e : Option Expression) → option_faults job seen e ≡ []
@@ -58,7 +59,7 @@ abbrev pub ClassIsResolved : Type 0
 ClassIsResolved =
     (job : Job) (class : ClassTree) (b : BodyResult) → class_faults job class b ≡ [] → IsSome (class_plan job class b)
 
--- The body of each class within the limits is read: its tokens are a body, or have a first fault.
+-- Reading the body of a class within the limits always has a result: its tokens form a body, or have a first fault.
 abbrev pub EachBodyIsRead : Type 0
 EachBodyIsRead = (job : Job) (class : ClassTree) → IsClassWithinLimits class → (b : BodyResult) × ReadsBody job class b
 
@@ -66,6 +67,6 @@ EachBodyIsRead = (job : Job) (class : ClassTree) → IsClassWithinLimits class �
 abbrev pub HasPlanOrFault : Job → Type 0
 HasPlanOrFault job = ((p : Plan) × IsPlan job p) ⊎ ((f : JdfFault) × IsFirstFault job f)
 
--- Each JDF within the limits, with data that are well made, has one of both.
+-- Each JDF within the limits, with well made data, has a plan or a first fault.
 abbrev pub EachHasPlanOrFault : Type 0
 EachHasPlanOrFault = (job : Job) → IsWithinLimits job.jdf → well_data.IsWellMade job.given → HasPlanOrFault job

@@ -1,4 +1,4 @@
-//! Laws about the first fault, and about what has none.
+//! Laws of the first fault, and of parts without a fault.
 
 ghost use Rattle.std.specs.Prelude.{◌≡◌, ◌++◌, List, [], Some, None, false};
 ghost use Rattle.ptg_base.specs.Lists.{IsIn};
@@ -6,8 +6,9 @@ ghost use Rattle.jdf_lex.specs.declared.fault.JdfFault.{JdfFault};
 ghost use Rattle.check_names.specs.Faults.{is_before, earlier_of, first_fault};
 ghost use Rattle.check_laws.specs.Laws.{ArgumentsAreResolved, ClassIsResolved, EachBodyIsRead, EachHasPlanOrFault, ElementIsResolved, FlowIsResolved, IndicesAreResolved, OptionIsResolved, SpaceIsResolved};
 
-/// A law: the first of some faults is one of them, and none of them comes before it; that of two lists together is the
-/// earlier one; and only an empty list has none. Two faults of which neither comes before the other are one.
+/// A law: the first of some faults is one of them, and none of them comes before it. The first fault of two lists
+/// together is the earlier of their first faults. Only an empty list has none. If neither of two faults comes before
+/// the other, they are equal.
 pub fn the_first_fault_is_the_least()
     ensures one { (faults : List JdfFault) (f : JdfFault) → first_fault faults ≡ Some f → IsIn f faults }
     ensures least { (faults : List JdfFault) (f g : JdfFault) → first_fault faults ≡ Some f → IsIn g faults
@@ -36,13 +37,13 @@ pub fn classes_without_faults_are_resolved()
     ensures { ClassIsResolved }
 {}
 
-/// A law: the body of each class within the limits of its text is read, whatever its tokens are: it is a body, or has a
-/// first fault.
+/// A law: reading the body of a class within the limits of its text always has a result, whatever its tokens are: a
+/// body, or a first fault.
 pub fn each_body_is_read()
     ensures { EachBodyIsRead }
 {}
 
-/// A law: each JDF within the limits of its text, with data that are well made, has a plan or a first fault.
+/// A law: each JDF within the limits of its text, with well made data, has a plan or a first fault.
 pub fn a_job_has_a_plan_or_a_fault()
     ensures { EachHasPlanOrFault }
 {}

@@ -1,4 +1,5 @@
-//! Laws of the type check that no program cites: the first of many faults, and that what breaks no rule is resolved.
+//! Laws of the type check that no program cites: the first of many faults is the least, and a job has a plan or a first
+//! fault.
 #![tactic(auto)]
 
 mod laws;

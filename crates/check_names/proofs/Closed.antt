@@ -1,4 +1,4 @@
--- Terms whose names are resolved name only locals that are seen.
+-- Resolved terms name only locals that are seen.
 use Rattle.std.proofs.Common.{◌≡◌, ℕ, ℤ, ◌<◌, ◌&&◌, Bool, true, false, List, length, Option, Some, None, is_some, option_map, Ok, IsTrue, refl, ap, subst}
 use Rattle.std.proofs.lemmas.Bool.{lt-ltb, and_from}
 use Rattle.term_core.specs.Term.{Term}
@@ -31,7 +31,7 @@ closed_name seen w None None false t within e = absurd cc
 closed_name seen w None (Some z) b t within e = subst (λ x. IsTrue (is_closed (length seen) x)) (same_Ok (term.Num z) t e) refl
 closed_name seen w (Some n) z b t within e = subst (λ x. IsTrue (is_closed (length seen) x)) (same_Ok (term.Local n) t e) (lt-ltb n (length seen) (within n refl))
 
--- two parts that are there
+-- two parts that both exist
 pub pair_parts : {A B : Type 0} (o : Option A) (p : Option B) (z : A × B) → both (λ x y. (x, y)) o p ≡ Some z → (o ≡ Some z.0) × (p ≡ Some z.1)
 pair_parts None p z e = absurd cc
 pair_parts (Some x) None z e = absurd cc
@@ -43,7 +43,7 @@ closed_term job seen e t h =
     (λ w x k. closed_name seen w (local_named seen w.text) (int_named job w.text) (is_some (coll_named job w.text)) x (λ n q. position_within (λ (d : DefTree). word_is w.text d.name) seen n q) k)
     (λ w n k. absurd cc) e t (resolved_is _ _ _ (agrees job seen e) t h)
 
--- the same of an expression that may be left out
+-- the same for an expression that may be left out
 pub closed_option : (job : Job) (seen : List DefTree) (e : Option Expression) (o : Option Term) → option_term job seen e ≡ Some o → IsTrue (is_closed_option (length seen) o)
 closed_option job seen None o h = subst (λ x. IsTrue (is_closed_option (length seen) x)) (same_Some None o h) refl
 closed_option job seen (Some e) o h =

@@ -1,4 +1,4 @@
--- Arguments and indices that are resolved name only definitions that are seen.
+-- Resolved arguments and indices name only definitions that are seen.
 use Rattle.std.proofs.Common.{◌≡◌, false, ◌||◌, List, [], ◌∷◌, length, flat_map, Some, IsTrue, sym, ◌∙◌, ap, subst}
 use Rattle.std.specs.List.{list_all, list_any}
 use Rattle.term_core.specs.Term.{Term}
@@ -36,7 +36,7 @@ closed_index job seen (tree.Span spot lo hi step) t h = absurd cc
 pub closed_indices : (job : Job) (seen : List DefTree) (args : List ArgTree) (ts : List Term) → indices_of job seen args ≡ Some ts → IsTrue (list_all (is_closed (length seen)) ts)
 closed_indices job seen args ts h = parts_all (index_of job seen) (is_closed (length seen)) (λ a t e. closed_index job seen a t e) args ts h
 
--- an argument that is no range
+-- an argument that is no range is resolved to none
 one_argument : (job : Job) (seen : List DefTree) (code : JdfCode) (a : ArgTree) (x : Arg) → range_faults code a ≡ [] → argument_of job seen a ≡ Some x → is_span x ≡ false
 one_argument job seen code (tree.One e) x h k = let p = from_option_map plan.One (term_of job seen e) x k in ap is_span (sym p.2)
 one_argument job seen code (tree.Span spot lo hi step) x h k = absurd cc

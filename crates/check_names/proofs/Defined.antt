@@ -37,7 +37,7 @@ faults_more job params before (e ∷ defs) d =
     ∙ ap (λ l. definitions_faults job params (before ++ e ∷ []) defs ++ definition_faults job params l d) (append_assoc before (e ∷ []) defs))
     ∙ sym (append_assoc first (definitions_faults job params (before ++ e ∷ []) defs) (definition_faults job params (before ++ e ∷ defs) d))
 
--- what is returned for one definition more
+-- the result for one more definition
 pub next_definition : (job : Job) (params : List Word) (defs : List DefTree) (i : ℕ) (d : DefTree) (r : Result (List Def) (Refusal JdfFault)) → i < length defs → d ≡ get_or defs i d
     → ReturnsChecked r (both (λ xs x. xs ++ x ∷ []) (definitions_of job [] (take i defs)) (definition_of job (take i defs) d.value)) (definitions_faults job params [] (take i defs) ++ definition_faults job params (take i defs) d)
     → ReturnsChecked r (definitions_of job [] (take (i + 1) defs)) (definitions_faults job params [] (take (i + 1) defs))

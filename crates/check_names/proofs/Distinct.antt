@@ -1,4 +1,4 @@
--- Names of which none is given twice are distinct.
+-- If no name is given twice, the names are distinct.
 use Rattle.std.proofs.Common.{◌≡◌, ℕ, nat_eq, Bool, true, false, not, ◌||◌, List, [], ◌∷◌, ◌++◌, map, IsTrue, refl, sym, ◌∙◌, ap}
 use Rattle.std.specs.List.{list_any}
 use Rattle.std.specs.Str.{bytes_eq}
@@ -12,7 +12,7 @@ use Rattle.list_lemmas.proofs.Texts.{bytes_eq-self, bytes_eq-sym}
 use Rattle.check_names.proofs.GivenTwice.{taken_more}
 use Rattle.check_names.proofs.NoFaults.{holds_not}
 
--- where no name is given twice, no later one is one of those before
+-- if no name is given twice, no later name is one of those before
 pub names_after : {A : Type 0} (word : A → Word) (code : JdfCode) (before xs : List A) → repeats_after word code before xs ≡ [] → (n : List ℕ) → is_taken word before n ≡ true → is_taken word xs n ≡ false
 names_after word code before [] h n t = refl
 names_after {A} word code before (x ∷ xs) h n t =

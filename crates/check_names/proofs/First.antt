@@ -1,4 +1,4 @@
--- The first fault of two lists together is the earlier one of theirs.
+-- The first fault of two lists together is the earlier one of their first faults.
 use Rattle.std.proofs.Common.{◌≡◌, Bool, true, false, List, [], ◌∷◌, ◌++◌, Option, Some, None, refl, sym, ◌∙◌, ap}
 use Rattle.std.proofs.lemmas.Bool.{cond-true, cond-false}
 use Rattle.check_names.specs.TreesAndFaults.{JdfFault}
@@ -11,7 +11,7 @@ the-later f g e = cond-true (is_before g f) g f e
 pub the-former : (f g : JdfFault) → is_before g f ≡ false → earlier f g ≡ f
 the-former f g e = cond-false (is_before g f) g f e
 
--- which of three is the earliest does not depend on which two are compared first
+-- the earliest of three does not depend on which two are compared first
 earlier-assoc : (f g h : JdfFault) → earlier (earlier f g) h ≡ earlier f (earlier g h)
 earlier-assoc f g h = go (is_before g f) (is_before h g) refl refl
   where

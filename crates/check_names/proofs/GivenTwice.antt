@@ -1,4 +1,4 @@
--- Names given twice in lists that grow by one.
+-- Names that are given twice, in lists that grow by one.
 use Rattle.std.proofs.Common.{◌≡◌, ℕ, ◌+◌, ◌<◌, Bool, true, false, not, ◌||◌, List, [], ◌∷◌, ◌++◌, take, length, get_or, Some, Result, if◌then◌else◌, sym, ◌∙◌, ap, subst}
 use Rattle.std.specs.Str.{bytes_eq}
 use Rattle.std.proofs.lemmas.List.{take_more, append-nil, append_assoc}
@@ -31,7 +31,7 @@ not_not : (b new : Bool) → new ≡ not b → not new ≡ b
 not_not true new e = ap not e
 not_not false new e = ap not e
 
--- the names after the next one
+-- the set of names after the next one
 pub next_names : {A : Type 0} (word : A → Word) (xs : List A) (i : ℕ) (x : A) (name : List ℕ) (names after : List (List ℕ)) (new : Bool) → i < length xs → x ≡ get_or xs i x → name ≡ (word x).text
     → ((n : List ℕ) → has_name names n ≡ is_taken word (take i xs) n)
     → new ≡ not (has_name names name) → after ≡ (if new then names ++ name ∷ [] else names)
@@ -57,7 +57,7 @@ next_repeat word code xs i x name names new r lt at named before e h =
     (subst (λ l. ReturnsChecked r (Some tt) l) (sym (repeats_more word code [] (take i xs) x))
     (subst (λ b. ReturnsChecked r (Some tt) (repeats word code (take i xs) ++ fault_if b (word x).spot code)) test h))
 
--- the faults with that of a name, by the word that it is
+-- the faults with that of a name, given the word that is the name
 pub spelled_at : {A : Type 0} (word : A → Word) (r : Result (Unit {0}) (Refusal JdfFault)) (fs : List JdfFault) (new : Bool) (code : JdfCode) (x : A) (w : Word) → w ≡ word x
     → ReturnsChecked r (Some tt) (fs ++ fault_if (not new) w.spot code) → ReturnsChecked r (Some tt) (fs ++ fault_if (not new) (word x).spot code)
 spelled_at word r fs new code x w e h = subst (λ (v : Word). ReturnsChecked r (Some tt) (fs ++ fault_if (not new) v.spot code)) e h

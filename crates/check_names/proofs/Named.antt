@@ -5,12 +5,12 @@ use Rattle.std.specs.Cmp.Lexicographic.{bytes_decides}
 use Rattle.name_table.specs.Names.{has_name}
 use Rattle.list_lemmas.proofs.Truth.{or-false, or-assoc}
 
--- one name more
+-- one more name
 pub has_pushed : (names : List (List ℕ)) (x n : List ℕ) → has_name (names ++ x ∷ []) n ≡ (has_name names n || bytes_eq x n)
 has_pushed [] x n = or-false (bytes_eq x n)
 has_pushed (m ∷ names) x n = ap (λ b. bytes_eq m n || b) (has_pushed names x n) ∙ sym (or-assoc (bytes_eq m n) (has_name names n) (bytes_eq x n))
 
--- a name that is there already
+-- a name that the list already has
 has_same : (names : List (List ℕ)) (x n : List ℕ) → has_name names x ≡ true → has_name names n ≡ (has_name names n || bytes_eq x n)
 has_same names x n there = go (bytes_eq x n) refl
   where
@@ -21,7 +21,7 @@ has_same names x n there = go (bytes_eq x n) refl
         h ∙ sym (ap (λ b. b || true) h)
     go false differ = sym (or-false (has_name names n))
 
--- one name more in a set
+-- one more name in a set
 pub has_added : (names after : List (List ℕ)) (x n : List ℕ) (new : Bool) → new ≡ not (has_name names x) → after ≡ (if new then names ++ x ∷ [] else names)
     → has_name after n ≡ (has_name names n || bytes_eq x n)
 has_added names after x n new e s = go (has_name names x) refl

@@ -1,4 +1,4 @@
--- Lists without faults, and parts that are all there.
+-- Lists without faults, and lists whose parts all exist.
 use Rattle.std.proofs.Common.{◌≡◌, Bool, true, false, List, [], ◌∷◌, Option, Some, None, option_map, IsTrue, refl, subst}
 use Rattle.std.specs.List.{list_all}
 use Rattle.std.proofs.lemmas.Bool.{and_from}
@@ -24,7 +24,7 @@ option_there {A} {B} f a o e = go (f a) refl e
     go None s h = absurd cc
     go (Some b) s h = (b, s, same_Some (Some b) o h)
 
--- parts of the elements of a list
+-- what holds for each part holds for the parts of a list
 pub parts_all : {A B : Type 0} (f : A → Option B) (p : B → Bool) → ((a : A) (b : B) → f a ≡ Some b → IsTrue (p b)) → (xs : List A) (ys : List B) → each f xs ≡ Some ys → IsTrue (list_all p ys)
 parts_all f p h [] ys e = subst (λ l. IsTrue (list_all p l)) (same_Some [] ys e) refl
 parts_all f p h (x ∷ xs) ys e =

@@ -1,4 +1,4 @@
--- The resolver of expressions gives the term of an expression, or the least of the faults of its names.
+-- The resolver of expressions returns the term of an expression, or the least of the faults of its names.
 use Rattle.std.proofs.Common.{◌≡◌, List, [], ◌∷◌, ◌++◌, Option, Some, None, Result, Ok, Err, refl, sym, ap, ◌∙◌, subst}
 use Rattle.std.specs.Option.{IsSome}
 use Rattle.std.specs.Result.{result_ok}
@@ -21,27 +21,27 @@ use Rattle.check_names.specs.Names.{Job, meaning_of}
 use Rattle.check_names.specs.Expressions.{symbols_of, term_of, expression_faults}
 use Rattle.check_names.proofs.First.{first_append}
 
--- a part without faults, or the first fault of a part that has some
+-- a part without faults, or the first of the part's faults
 abbrev pub Agrees : {A : Type 0} → Resolved A → Option A → List JdfFault → Type 0
 Agrees (Ok x) o fs = (o ≡ Some x) × (fs ≡ [])
 Agrees (Err f) o fs = (o ≡ None) × (first_fault fs ≡ Some f)
 
--- what has no fault is there
+-- a part without faults exists
 pub faultless_there : {A : Type 0} (r : Resolved A) (o : Option A) (fs : List JdfFault) → Agrees r o fs → fs ≡ [] → IsSome o
 faultless_there (Ok x) o fs h e = rw (h.0) refl
 faultless_there (Err f) o fs h e = let none = sym (ap first_fault e) ∙ h.1 in absurd cc
 
--- what is there has no fault
+-- a part that exists has no faults
 pub there_faultless : {A : Type 0} (r : Resolved A) (o : Option A) (fs : List JdfFault) → Agrees r o fs → (x : A) → o ≡ Some x → fs ≡ []
 there_faultless (Ok y) o fs h x e = h.1
 there_faultless (Err f) o fs h x e = let some = sym h.0 ∙ e in absurd cc
 
--- what is there is resolved to it
+-- a part that exists is the resolved one
 pub resolved_is : {A : Type 0} (r : Resolved A) (o : Option A) (fs : List JdfFault) → Agrees r o fs → (x : A) → o ≡ Some x → r ≡ Ok x
 resolved_is (Ok y) o fs h x e = ap Ok (same_Some y x (sym h.0 ∙ e))
 resolved_is (Err f) o fs h x e = let some = sym h.0 ∙ e in absurd cc
 
--- the faults of what is resolved: none of a part, and of a fault those of which it is the first
+-- these are the faults of a result: none for a part, and for a fault those whose first one it is
 abbrev AreFaultsOf : {A : Type 0} → Resolved A → List JdfFault → Type 0
 AreFaultsOf (Ok x) fs = fs ≡ []
 AreFaultsOf (Err f) fs = first_fault fs ≡ Some f
@@ -50,14 +50,14 @@ by_faults : {A : Type 0} (r : Resolved A) (fs : List JdfFault) → AreFaultsOf r
 by_faults (Ok x) fs h = (refl, h)
 by_faults (Err f) fs h = (refl, h)
 
--- two parts
+-- the faults of two parts
 pair_faults : {A B : Type 0} (r : Resolved A) (q : Resolved B) (fs gs : List JdfFault) → AreFaultsOf r fs → AreFaultsOf q gs → AreFaultsOf (together earlier r q) (fs ++ gs)
 pair_faults (Ok x) (Ok y) fs gs h k = ap (λ l. l ++ gs) h ∙ k
 pair_faults (Ok x) (Err g) fs gs h k = ap (λ l. first_fault (l ++ gs)) h ∙ k
 pair_faults (Err f) (Ok y) fs gs h k = ap (λ l. first_fault (fs ++ l)) k ∙ (ap first_fault (append-nil fs) ∙ h)
 pair_faults (Err f) (Err g) fs gs h k = first_append fs gs ∙ (ap (λ u. earlier_of u (first_fault gs)) h ∙ ap (earlier_of (Some f)) k)
 
--- an operation on what is resolved
+-- an operation that cannot fail adds no faults
 mapped_faults : {A B : Type 0} (f : A → B) (r : Resolved A) (fs : List JdfFault) → AreFaultsOf r fs → AreFaultsOf (and_then r (λ x. Ok (f x))) fs
 mapped_faults f (Ok x) fs h = h
 mapped_faults f (Err e) fs h = h

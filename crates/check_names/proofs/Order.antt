@@ -1,11 +1,11 @@
--- Faults are ordered: by the line, the column and the code, the first of these that differ deciding.
+-- Faults are ordered: the line, the column or the code decides, whichever differs first.
 use Rattle.std.proofs.Common.{◌≡◌, ℕ, ◌<◌, Bool, true, false, arith, refl, sym, ◌∙◌, ap, inl, inr}
 use Rattle.std.specs.Prelude.{nat_eq, nat_lt, ◌&&◌, ◌||◌}
 use Rattle.std.proofs.lemmas.Bool.{cases_order, lt-ltb, le-ltb, eq-eqb, ne_eqb, ltb-true, ltb-false}
 use Rattle.check_names.specs.TreesAndFaults.{JdfFault}
 use Rattle.check_names.specs.Faults.{code_number, is_before}
 
--- a number is less than another, or it is the same and what follows decides
+-- a number is less than another, or it is the same and `r` decides
 abbrev pub lex : ℕ → ℕ → Bool → Bool
 lex a x r = nat_lt a x || (nat_eq a x && r)
 

@@ -6,7 +6,7 @@ use Rattle.list_lemmas.proofs.Joins.{flat_map_push}
 use Rattle.check_names.specs.TreesAndFaults.{JdfFault}
 use Rattle.check_names.specs.Returns.{ReturnsChecked, both, each}
 
--- the parts of one element more
+-- the parts of a list with one more element
 pub each_more : {A B : Type 0} (f : A → Option B) (xs : List A) (x : A) → each f (xs ++ x ∷ []) ≡ both (λ ys y. ys ++ y ∷ []) (each f xs) (f x)
 each_more {A} {B} f [] x = go (f x)
   where
@@ -21,7 +21,7 @@ each_more {A} {B} f (z ∷ xs) x = ap (both (λ y ys. y ∷ ys) (f z)) (each_mor
     go (Some y) (Some ys) None = refl
     go (Some y) (Some ys) (Some z) = refl
 
--- what is returned for one element more of a list
+-- the result for one more element of a list
 pub next_part : {A B : Type 0} (f : A → Option B) (g : A → List JdfFault) (xs : List A) (i : ℕ) (x : A) (r : Result (List B) (Refusal JdfFault)) → i < length xs → x ≡ get_or xs i x
     → ReturnsChecked r (both (λ ys y. ys ++ y ∷ []) (each f (take i xs)) (f x)) (flat_map g (take i xs) ++ g x)
     → ReturnsChecked r (each f (take (i + 1) xs)) (flat_map g (take (i + 1) xs))
@@ -31,7 +31,7 @@ next_part f g xs i x r lt at h =
     (subst (λ o. ReturnsChecked r o (flat_map g (take i xs ++ x ∷ []))) (sym (each_more f (take i xs) x))
     (subst (λ l. ReturnsChecked r (both (λ ys y. ys ++ y ∷ []) (each f (take i xs)) (f x)) l) (sym (flat_map_push g (take i xs) x)) h))
 
--- what is returned for rules about one element more of a list
+-- the result of rules for one more element of a list
 pub next_rule : {A : Type 0} (g : A → List JdfFault) (xs : List A) (i : ℕ) (x : A) (r : Result (Unit {0}) (Refusal JdfFault)) → i < length xs → x ≡ get_or xs i x
     → ReturnsChecked r (Some tt) (flat_map g (take i xs) ++ g x)
     → ReturnsChecked r (Some tt) (flat_map g (take (i + 1) xs))
@@ -39,7 +39,7 @@ next_rule g xs i x r lt at h =
     let more : take i xs ++ x ∷ [] ≡ take (i + 1) xs = ap (λ y. take i xs ++ y ∷ []) at ∙ sym (take_more xs i x lt) in
     subst (λ l. ReturnsChecked r (Some tt) (flat_map g l)) more (subst (λ l. ReturnsChecked r (Some tt) l) (sym (flat_map_push g (take i xs) x)) h)
 
--- as many parts as elements
+-- there are as many parts as elements
 pub each_length : {A B : Type 0} (f : A → Option B) (xs : List A) (ys : List B) → each f xs ≡ Some ys → length ys ≡ length xs
 each_length {A} {B} f [] ys e = let same : [] ≡ ys = cc in ap length (sym same)
 each_length {A} {B} f (x ∷ xs) ys e = go (f x) (each f xs) (each_length f xs) e

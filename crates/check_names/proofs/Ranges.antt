@@ -1,4 +1,4 @@
--- A range of its bounds and its step.
+-- A range with its bounds and its step.
 use Rattle.std.proofs.Common.{Option}
 use Rattle.term_core.specs.Term.{Term}
 use Rattle.term_core.specs.declared.space.Range.{Range}

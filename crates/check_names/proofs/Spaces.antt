@@ -1,4 +1,4 @@
--- A space of its definitions and its parameters.
+-- A space with its definitions and its parameters.
 use Rattle.std.proofs.Common.{ℕ, List}
 use Rattle.term_core.specs.declared.space.Def.{Def}
 use Rattle.term_core.specs.declared.space.ClassSpace.{ClassSpace}

@@ -31,7 +31,7 @@ use Rattle.check_names.proofs.GivenTwice.{taken_more}
 use Rattle.check_names.proofs.NoFaults.{holds_not, parts_of}
 use Rattle.check_names.proofs.Distinct.{names_after}
 
--- ---- where names are found
+-- ---- the indices at which names are found
 
 from_after : {A : Type 0} (p : A → Bool) (i : ℕ) (xs : List A) (k : ℕ) → position_from p i xs ≡ Some k → i ≤ k
 from_after p i [] k e = absurd cc
@@ -41,7 +41,7 @@ from_after {A} p i (x ∷ xs) k e = go (p x) e (from_after p (i + 1) xs k)
     go true f more = let same : i ≡ k = same_Some i k f in omega (arith, same)
     go false f more = omega (arith, more f)
 
--- two tests that find the same index hold of one element
+-- if two tests find the same index, both hold for the element there
 found_by_both : {A : Type 0} (p q : A → Bool) (i : ℕ) (xs : List A) (k : ℕ) → position_from p i xs ≡ Some k → position_from q i xs ≡ Some k → (x : A) × (p x ≡ true) × (q x ≡ true)
 found_by_both p q i [] k e f = absurd cc
 found_by_both {A} p q i (x ∷ xs) k e f = go (p x) (q x) refl refl (λ g h. found_by_both p q (i + 1) xs k g h) e f
@@ -67,7 +67,7 @@ from_found name i (b ∷ before) d rest h e =
     let same : (i + 1) + length before ≡ i + length (b ∷ before) = omega arith in
     ap (λ c. cond c (Some i) (position_from (λ (x : DefTree). word_is name x.name) (i + 1) (before ++ d ∷ rest))) n.0 ∙ (from_found name (i + 1) before d rest n.1 e ∙ ap (λ k. Some k) same)
 
--- a definition whose name none before it has is found at its own index
+-- a definition with a new name is found at its own index
 found_at : (before : List DefTree) (d : DefTree) (rest : List DefTree) → is_taken (λ (x : DefTree). x.name) before d.name.text ≡ false → local_named (before ++ d ∷ rest) d.name.text ≡ Some (length before)
 found_at before d rest h =
     let same : 0 + length before ≡ length before = omega arith in

@@ -1,4 +1,4 @@
--- What names are resolved with: a JDF and its data, by the tables of their names, and the definitions that are seen.
+-- What names are resolved with: a JDF and its data, with the tables of their names, and the definitions in scope.
 use Rattle.std.specs.Prelude.{◌≡◌, ◌≤◌, ℕ, List, length}
 use Rattle.ptg_base.specs.Limits.{most_locals, most_named_types}
 use Rattle.name_table.specs.Names.{value_named}
@@ -11,13 +11,13 @@ use Rattle.check_names.specs.Names.{Job, int_named, coll_named}
 abbrev pub job_of : Context → Job
 job_of context = record { jdf = context.jdf.now; given = context.given.now }
 
--- The tables have each global that is an integer or a collection of the data.
+-- The tables have exactly the globals that are integers or collections of the data.
 pub record AreGlobals (job : Job) (globals : Globals) : Type 0 where
   pub ints : (name : List ℕ) → value_named globals.ints name ≡ int_named job name
   pub colls : (name : List ℕ) → value_named globals.colls name ≡ coll_named job name
 
--- The tables are those of the JDF and its data, the JDF is within the limits, and at most 16 definitions are seen. The
--- data have at most 15 types besides DEFAULT.
+-- The tables are those of the JDF and its data, the JDF is within its limits, and at most 16 definitions are in scope.
+-- The data have at most 15 types besides DEFAULT.
 pub record IsContext (context : Context) : Type 0 where
   pub globals : AreGlobals (job_of context) context.globals.now
   pub bounded : IsWithinLimits context.jdf.now

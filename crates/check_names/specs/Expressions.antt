@@ -1,5 +1,7 @@
--- The expressions of a class, outside of its body: the faults of their names, and the terms that they are. Source: the
--- JDF documentation.
+-- The expressions of a class outside its body: the faults of their names, and their terms. Source: the JDF
+-- documentation.
+-- Carried by: `flow_check::check`.
+-- Tested by: `type_faults.txt`, `type_places.txt`.
 use Rattle.std.specs.Prelude.{List, [], ◌∷◌, ◌++◌, Option}
 use Rattle.std.specs.Result.{result_ok}
 use Rattle.std.specs.Option.{option_map_or}
@@ -13,7 +15,7 @@ use Rattle.check_names.specs.Faults.{earlier, fault, resolved_faults}
 use Rattle.check_names.specs.Returns.{each_option}
 use Rattle.check_names.specs.Names.{Job, meaning_of}
 
--- the faults of the names in an expression, where these definitions are seen; only a body has flows before an index
+-- the faults of the names in an expression that sees these definitions; only a body has flows before an index
 abbrev pub expression_faults : Job → List DefTree → Expression → List JdfFault
 expression_faults job seen (Num z spot) = []
 expression_faults job seen (Name w) = resolved_faults (value_of w (meaning_of job seen w.text))
@@ -23,7 +25,7 @@ expression_faults job seen (Binary o a b) = expression_faults job seen a ++ expr
 expression_faults job seen (Choose c a b) =
     expression_faults job seen c ++ (expression_faults job seen a ++ expression_faults job seen b)
 
--- what names mean where these definitions are seen; only a body has flows before an index
+-- the meanings of names when these definitions are seen; only a body has flows before an index
 abbrev pub symbols_of : Job → List DefTree → SymbolTable
 symbols_of job seen =
     record {

@@ -1,5 +1,5 @@
--- Faults in the order of the text, and the first of several. That a text is refused with the first of all its faults,
--- and which code comes first at one spot, are this project's own choice.
+-- Faults in the order of the text, and the first of several. A text is refused with the first of all its faults.
+-- Carried by: law `check_laws::the_first_fault_is_the_least`.
 use Rattle.std.specs.Prelude.{ℕ, Bool, true, false, ◌&&◌, ◌||◌, nat_eq, nat_lt, List, [], ◌∷◌, Option, Some, None, if◌then◌else◌, option_to_list}
 use Rattle.std.specs.Result.{result_err}
 use Rattle.expr_names.specs.Symbols.{Resolved}
@@ -7,11 +7,11 @@ use Rattle.check_names.specs.TreesAndFaults.{Spot, JdfCode, JdfFault}
 use denote.Enum.Declared.{tag_of}
 use Rattle.jdf_lex.specs.contracts.fault.JdfCode.{the_type}
 
--- the number of a code in the order in which the codes are declared; of two at one spot the first is given
+-- the number of a code in the order of their declarations; of two codes at one spot, the one declared first is reported
 abbrev pub code_number : JdfCode → ℕ
 code_number = tag_of the_type
 
--- whether a fault comes before another: its spot does, or it has the same spot and a code that does
+-- whether a fault comes before another: by its spot or, at the same spot, by its code
 abbrev pub is_before : JdfFault → JdfFault → Bool
 is_before f g =
     nat_lt f.spot.line g.spot.line
@@ -22,13 +22,13 @@ is_before f g =
 abbrev pub earlier : JdfFault → JdfFault → JdfFault
 earlier f g = if is_before g f then g else f
 
--- the earlier of two faults that may be there
+-- the earlier of two faults; either may be missing
 abbrev pub earlier_of : Option JdfFault → Option JdfFault → Option JdfFault
 earlier_of None other = other
 earlier_of (Some f) None = Some f
 earlier_of (Some f) (Some g) = Some (earlier f g)
 
--- the first of some faults, if there are any; they may be listed in any order
+-- the first of a list of faults, if it has any; the list may be in any order
 abbrev pub first_fault : List JdfFault → Option JdfFault
 first_fault [] = None
 first_fault (f ∷ faults) = earlier_of (Some f) (first_fault faults)
@@ -42,6 +42,6 @@ abbrev pub fault_if : Bool → Spot → JdfCode → List JdfFault
 fault_if true spot code = fault spot code ∷ []
 fault_if false spot code = []
 
--- the fault of what is resolved, if it has one
+-- the fault of a result, if it is one
 abbrev pub resolved_faults : {A : Type 0} → Resolved A → List JdfFault
 resolved_faults r = option_to_list (result_err r)

@@ -1,11 +1,11 @@
--- What follows from the definition of names given twice.
+-- A law of names that are given twice.
 use Rattle.std.specs.Prelude.{◌≡◌, List, [], map, IsTrue}
 use Rattle.std.specs.Str.{bytes_eq}
 use Rattle.ptg_base.specs.Lists.{are_distinct}
 use Rattle.check_names.specs.TreesAndFaults.{JdfCode, Word}
 use Rattle.check_names.specs.Repeats.{repeats}
 
--- Words of which none is given twice are distinct names.
+-- If no word of a list is given twice, the words are distinct names.
 abbrev pub NamesAreDistinct : Type 0
 NamesAreDistinct =
     (code : JdfCode) (words : List Word) → repeats (λ (w : Word). w) code words ≡ []

@@ -1,4 +1,6 @@
--- What names mean in a JDF with its data, outside of bodies. Source: the JDF documentation.
+-- What names mean in a JDF with its data, outside bodies. Source: the JDF documentation.
+-- Carried by: `flow_check::check`.
+-- Tested by: `type_faults.txt`, `type_places.txt`.
 use Rattle.std.specs.Prelude.{ℕ, ℤ, Bool, List, Option, None, is_some, position, slice_get, if◌then◌else◌}
 use Rattle.std.specs.Option.{option_and_then}
 use Rattle.std.specs.Str.{bytes_eq}
@@ -15,7 +17,7 @@ pub record Job : Type 0 where
   pub jdf : Jdf
   pub given : Data
 
--- whether a word has this name
+-- whether a word is this name
 abbrev pub word_is : List ℕ → Word → Bool
 word_is name w = bytes_eq w.text name
 
@@ -23,7 +25,7 @@ word_is name w = bytes_eq w.text name
 abbrev pub is_declared : Job → List ℕ → Bool
 is_declared job name = list_any (word_is name) job.jdf.globals
 
--- the value of a global that is an integer of the data
+-- the value of the global with this name, if it is an integer of the data
 abbrev pub int_named : Job → List ℕ → Option ℤ
 int_named job name = if is_declared job name then value_named job.given.ints name else None
 
@@ -31,15 +33,15 @@ int_named job name = if is_declared job name then value_named job.given.ints nam
 abbrev pub coll_is : List ℕ → Coll → Bool
 coll_is name c = bytes_eq c.name name
 
--- the number of a global that is a collection of the data
+-- the number of the global with this name, if it is a collection of the data
 abbrev pub coll_named : Job → List ℕ → Option ℕ
 coll_named job name = if is_declared job name then position (coll_is name) job.given.colls else None
 
--- the number of the first definition of this name, among those that are seen
+-- the number of the first definition with this name, among those that are seen
 abbrev pub local_named : List DefTree → List ℕ → Option ℕ
 local_named seen name = position (λ (d : DefTree). word_is name d.name) seen
 
--- what a name in an expression means, where these definitions are seen
+-- what a name in an expression means when these definitions are seen
 abbrev pub meaning_of : Job → List DefTree → List ℕ → Meaning
 meaning_of job seen name =
     outer_meaning (local_named seen name) (int_named job name) (is_some (coll_named job name))

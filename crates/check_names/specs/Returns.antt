@@ -5,24 +5,24 @@ use Rattle.ptg_base.specs.declared.refusal.Refusal.TheVariants.{Fault, OutOfMemo
 use Rattle.check_names.specs.TreesAndFaults.{JdfFault}
 use Rattle.check_names.specs.Faults.{first_fault}
 
--- The part is as its names resolve, and no rule is broken; or the first of its faults is named; or there was no memory.
+-- The part with its names resolved, if no rule is broken; or the first of its faults; or out of memory.
 abbrev pub ReturnsChecked : {A : Type 0} → Result A (Refusal JdfFault) → Option A → List JdfFault → Type 0
 ReturnsChecked (Ok part) resolved faults = (resolved ≡ Some part) × (faults ≡ [])
 ReturnsChecked (Err (Fault f)) resolved faults = first_fault faults ≡ Some f
 ReturnsChecked (Err OutOfMemory) resolved faults = Unit {0}
 
--- the function at two parts, if both are there
+-- the function applied to two parts, if both exist
 abbrev pub both : {A B C : Type 0} → (A → B → C) → Option A → Option B → Option C
 both f (Some a) (Some b) = Some (f a b)
 both f (Some a) None = None
 both f None b = None
 
--- the function at a part that may be left out
+-- the function applied to a part that may be left out
 abbrev pub each_option : {A B : Type 0} → (A → Option B) → Option A → Option (Option B)
 each_option f None = Some None
 each_option f (Some a) = option_map (λ b. Some b) (f a)
 
--- the function at each element of a list, if it has a value at all of them
+-- the function applied to each element of a list, if it has a value for all of them
 abbrev pub each : {A B : Type 0} → (A → Option B) → List A → Option (List B)
 each f [] = Some []
 each f (x ∷ xs) = both (λ y ys. y ∷ ys) (f x) (each f xs)

@@ -1,4 +1,4 @@
-//! Arguments: expressions and ranges.
+//! Resolves arguments: expressions and ranges.
 
 ghost use Rattle.std.specs.Prelude.{◌++◌, Some};
 ghost use Rattle.check_names.specs.Contexts.{IsContext, job_of};
@@ -16,7 +16,7 @@ use ptg_base::Seq;
 use std::alloc::Global;
 use term_core::{Expr, Range};
 
-/// The range of these bounds and this step, with its names resolved.
+/// Resolves the names of a range with these bounds and this step.
 pub fn range(
     context: &Context,
     lo: &ExprTree,
@@ -40,7 +40,7 @@ pub fn range(
     }
 }
 
-// An argument of a task, with its names resolved.
+// Resolves the names of an argument of a task.
 fn argument(context: &Context, arg: &ArgTree) -> Result<Arg, JdfRefusal>
     requires { IsContext context.now }
     ensures { ReturnsChecked result (argument_of (job_of context.now) context.now.seen.now arg.now)
@@ -52,7 +52,7 @@ fn argument(context: &Context, arg: &ArgTree) -> Result<Arg, JdfRefusal>
     }
 }
 
-// An index of an element, with its names resolved. A range is none.
+// Resolves the names of an index of an element. An index cannot be a range.
 fn index(context: &Context, arg: &ArgTree) -> Result<Expr, JdfRefusal>
     requires { IsContext context.now }
     ensures { ReturnsChecked result (index_of (job_of context.now) context.now.seen.now arg.now)
@@ -68,7 +68,7 @@ fn index(context: &Context, arg: &ArgTree) -> Result<Expr, JdfRefusal>
     }
 }
 
-/// The arguments of a task, with their names resolved.
+/// Resolves the names of the arguments of a task.
 pub fn arguments(context: &Context, args: &[ArgTree]) -> Result<Seq<Arg>, JdfRefusal>
     requires { IsContext context.now }
     ensures { ReturnsChecked result (arguments_of (job_of context.now) context.now.seen.now args.now)
@@ -81,7 +81,7 @@ pub fn arguments(context: &Context, args: &[ArgTree]) -> Result<Seq<Arg>, JdfRef
     parts
 }
 
-/// The indices of an element, with their names resolved.
+/// Resolves the names of the indices of an element. No index can be a range.
 pub fn indices(context: &Context, args: &[ArgTree]) -> Result<Seq<Expr>, JdfRefusal>
     requires { IsContext context.now }
     ensures { ReturnsChecked result (indices_of (job_of context.now) context.now.seen.now args.now)
@@ -94,7 +94,7 @@ pub fn indices(context: &Context, args: &[ArgTree]) -> Result<Seq<Expr>, JdfRefu
     parts
 }
 
-// A range where none may be is refused with this code, at its first token.
+// Refuses a range, at its first token, with this code.
 fn no_range(code: JdfCode, arg: &ArgTree) -> Result<(), JdfRefusal>
     ensures { ReturnsChecked result (Some tt) (range_faults code arg.now) }
 {
@@ -104,7 +104,7 @@ fn no_range(code: JdfCode, arg: &ArgTree) -> Result<(), JdfRefusal>
     }
 }
 
-/// Ranges where none may be are refused with this code.
+/// Refuses a range among the arguments, at its first token, with this code.
 pub fn no_ranges(code: JdfCode, args: &[ArgTree]) -> Result<(), JdfRefusal>
     ensures { ReturnsChecked result (Some tt) (ranges_faults code args.now) }
 {

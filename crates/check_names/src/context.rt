@@ -1,4 +1,4 @@
-//! A JDF with its data, and what names mean there.
+//! A JDF with its data, and the meanings of names there.
 
 ghost use Rattle.std.specs.Prelude.{◌≡◌, ◌<◌, IfSome, length};
 ghost use Rattle.check_names.specs.Names.{int_named, coll_named, class_named, local_named, meaning_of};
@@ -11,11 +11,11 @@ use name_table::NameTable;
 use ptg_base::Text;
 use std::alloc::Global;
 
-/// The globals of a JDF by name.
+/// The globals of a JDF, by name.
 pub struct Globals {
-    /// The value of each that is an integer of the data.
+    /// The value of each global that is an integer of the data.
     pub ints: NameTable<i64>,
-    /// The number of each that is a collection of the data.
+    /// The number of each global that is a collection of the data.
     pub colls: NameTable<u32>,
 }
 
@@ -28,8 +28,8 @@ impl Drop for Globals {
     }
 }
 
-/// What names are resolved with: where memory comes from, a JDF and its data, the globals by name, and the definitions
-/// that are seen.
+/// What names are resolved with: a source of memory, a JDF and its data, the globals by name, and the definitions in
+/// scope.
 #[derive(Clone, Copy)]
 pub struct Context<'a> {
     pub alloc: Global,
@@ -39,7 +39,7 @@ pub struct Context<'a> {
     pub seen: &'a [DefTree],
 }
 
-/// The value of a global that is an integer.
+/// The value of the global with this name, if it is an integer of the data.
 pub fn int_named(context: &Context, name: &Text) -> Option<i64>
     requires { IsContext context.now }
     ensures { result ≡ int_named (job_of context.now) name.now }
@@ -47,7 +47,7 @@ pub fn int_named(context: &Context, name: &Text) -> Option<i64>
     context.globals.ints.get(name).copied()
 }
 
-/// The number of a global that is a collection.
+/// The number of the global with this name, if it is a collection of the data.
 pub fn coll_named(context: &Context, name: &Text) -> Option<u32>
     requires { IsContext context.now }
     ensures { result ≡ coll_named (job_of context.now) name.now }
@@ -55,7 +55,7 @@ pub fn coll_named(context: &Context, name: &Text) -> Option<u32>
     context.globals.colls.get(name).copied()
 }
 
-/// The number of the first definition of this name. It looks through all of them, which are at most 16.
+/// The number of the first definition with this name. It searches all of them, at most 16.
 pub(crate) fn local_named(seen: &[DefTree], name: &Text) -> Option<usize>
     ensures number { result ≡ local_named seen.now name.now }
     ensures within { IfSome result (λ n. n < length seen.now) }
@@ -76,7 +76,7 @@ pub(crate) fn meaning_of(context: &Context, name: &Text) -> Meaning
     outer_meaning(local, &context.globals.ints, &context.globals.colls, name)
 }
 
-/// The number of the first class of this name. It looks through all of them, which are at most 64.
+/// The number of the first class with this name. It searches all of them, at most 64.
 pub fn class_named(context: &Context, name: &Text) -> Option<usize>
     ensures number { result ≡ class_named (job_of context.now) name.now }
     ensures within { IfSome result (λ n. n < length context.now.jdf.now.classes) }

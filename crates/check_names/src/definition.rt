@@ -1,4 +1,4 @@
-//! The definitions and the parameters of a class.
+//! Resolves the definitions and the parameters of a class.
 
 ghost use Rattle.std.specs.Prelude.{◌≡◌, ◌≤◌, ℕ, List, [], flat_map, length};
 ghost use Rattle.jdf_tree.specs.TreeLimits.{IsClassWithinLimits};
@@ -22,14 +22,14 @@ use ptg_base::{Seq, Text};
 use std::alloc::Global;
 use term_core::{ClassSpace, Def, Params};
 
-// Whether some of the words have this name.
+// Whether one of the words is this name.
 fn has_word(words: &[Word], name: &Text) -> bool
     ensures { result ≡ list_any (word_is name.now) words.now }
 {
     words.iter().any(|word| word.text.bytes() == name.bytes())
 }
 
-// Whether a definition is a range of a name that is no parameter.
+// Whether a definition is a range although its name is no parameter.
 fn is_ranged_local(params: &[Word], definition: &DefTree) -> bool
     ensures { result ≡ is_ranged_local params.now definition.now }
 {
@@ -39,7 +39,7 @@ fn is_ranged_local(params: &[Word], definition: &DefTree) -> bool
     }
 }
 
-// The value of a definition, with its names resolved.
+// Resolves the names in the value of a definition.
 fn value(context: &Context, value: &ArgTree) -> Result<Def, JdfRefusal>
     requires { IsContext context.now }
     ensures { ReturnsChecked result (definition_of (job_of context.now) context.now.seen.now value.now)
@@ -51,7 +51,7 @@ fn value(context: &Context, value: &ArgTree) -> Result<Def, JdfRefusal>
     }
 }
 
-// A definition, where those before it are seen.
+// Resolves a definition, which sees those before it.
 fn definition(context: &Context, params: &[Word], definition: &DefTree) -> Result<Def, JdfRefusal>
     requires { IsContext context.now }
     ensures { ReturnsChecked result (definition_of (job_of context.now) context.now.seen.now definition.now.value)
@@ -64,7 +64,7 @@ fn definition(context: &Context, params: &[Word], definition: &DefTree) -> Resul
     )
 }
 
-// The definitions of a class, each of which sees those before it.
+// Resolves the definitions of a class. Each sees those before it.
 fn definitions(
     context: &Context,
     params: &[Word],
@@ -87,7 +87,7 @@ fn definitions(
     parts
 }
 
-// The number of the definition of a parameter.
+// The number of the definition of a parameter; refuses a parameter that has none.
 fn parameter(definitions: &[DefTree], param: &Word) -> Result<u8, JdfRefusal>
     requires { length definitions.now ≤ most_locals }
     ensures { ReturnsChecked result (parameter_of definitions.now param.now)
@@ -116,7 +116,7 @@ fn parameters(
     parts
 }
 
-// The parameters of a class, by the numbers of their definitions.
+// The parameters of a class, as the numbers of their definitions.
 fn params_of(alloc: Global, definitions: &[DefTree], params: &[Word]) -> Result<Params, JdfRefusal>
     requires definitions { length definitions.now ≤ most_locals }
     requires params { length params.now ≤ most_params }
@@ -129,7 +129,7 @@ fn params_of(alloc: Global, definitions: &[DefTree], params: &[Word]) -> Result<
     }
 }
 
-// The space of these definitions and parameters.
+// Resolves the space with these definitions and parameters.
 fn space_by(context: &Context, params: &[Word], defs: &[DefTree]) -> Result<ClassSpace, JdfRefusal>
     requires context { IsContext context.now }
     requires params { length params.now ≤ most_params }
@@ -151,7 +151,7 @@ fn space_by(context: &Context, params: &[Word], defs: &[DefTree]) -> Result<Clas
     }
 }
 
-/// The space of a class, with its names resolved.
+/// Resolves the space of a class: its definitions and its parameters.
 pub fn space(context: &Context, class: &ClassTree) -> Result<ClassSpace, JdfRefusal>
     requires context { IsContext context.now }
     requires bounded { IsClassWithinLimits class.now }

@@ -1,4 +1,4 @@
-//! The expressions of a class, outside of its body.
+//! Resolves the expressions of a class outside its body.
 
 ghost use Rattle.check_names.specs.Contexts.{IsContext, job_of};
 ghost use Rattle.check_names.specs.Returns.{ReturnsChecked};
@@ -21,7 +21,7 @@ impl Symbols for Context<'_> {
         meaning_of(self, name)
     }
 
-    // No text has one here: only bodies have them.
+    // No text gets here: only bodies have elements.
     fn flow(&self, word: &Word) -> Result<u8, JdfRefusal> {
         Err(fault_at(word.spot, JdfCode::UnknownName))
     }
@@ -31,7 +31,7 @@ impl Symbols for Context<'_> {
     }
 }
 
-/// The term of an expression, where these definitions are seen.
+/// Resolves the names of an expression. The definitions in scope are those of the context.
 #[tactic(auto, using(crate::proofs::OneResolver::term_checked))]
 pub fn term_of(context: &Context, tree: &ExprTree) -> Result<Expr, JdfRefusal>
     requires { IsContext context.now }
@@ -41,7 +41,7 @@ pub fn term_of(context: &Context, tree: &ExprTree) -> Result<Expr, JdfRefusal>
     expr_names::term_of(context.alloc, context, tree)
 }
 
-/// The term of an expression that may be left out.
+/// Resolves the names of an expression that may be left out.
 pub fn option_term(context: &Context, tree: &Option<ExprTree>) -> Result<Option<Expr>, JdfRefusal>
     requires { IsContext context.now }
     ensures { ReturnsChecked result (option_term (job_of context.now) context.now.seen.now tree.now)

@@ -1,4 +1,4 @@
-//! Faults in the order of the text.
+//! Orders faults as in the text.
 
 ghost use Rattle.std.specs.Prelude.{◌≡◌, Some};
 ghost use Rattle.check_names.specs.Faults.{is_before, earlier, fault_if};
@@ -6,7 +6,7 @@ ghost use Rattle.check_names.specs.Returns.{ReturnsChecked};
 
 use jdf_lex::{JdfCode, JdfFault, JdfRefusal, Spot, fault_at};
 
-/// Whether a fault comes before another, by its spot and then by its code.
+/// Whether a fault comes before another, by its spot and, at the same spot, by its code.
 fn is_before(f: &JdfFault, g: &JdfFault) -> bool
     ensures { result ≡ is_before f.now g.now }
 {
@@ -23,7 +23,7 @@ pub fn earlier(f: JdfFault, g: JdfFault) -> JdfFault
     if is_before(&g, &f) { g } else { f }
 }
 
-/// That fault, if the condition holds.
+/// Refuses with this fault if the condition holds.
 pub fn fault_if(condition: bool, spot: Spot, code: JdfCode) -> Result<(), JdfRefusal>
     ensures { ReturnsChecked result (Some tt) (fault_if condition spot code) }
 {

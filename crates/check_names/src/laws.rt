@@ -1,4 +1,4 @@
-//! Laws about what is resolved.
+//! Laws of what is resolved.
 
 ghost use Rattle.std.specs.Prelude.{◌≡◌, ◌≤◌, List, [], Some, length};
 ghost use Rattle.ptg_base.specs.Limits.{most_locals};
@@ -10,14 +10,13 @@ ghost use Rattle.check_names.specs.Names.{Job};
 ghost use Rattle.check_names.specs.Laws.{NamesAreDistinct};
 ghost use Rattle.check_names.specs.Definitions.{space_faults, space_of};
 
-/// A law: where at most 16 definitions and the parameters of a class break no rule, the space that they are is well
-/// made.
+/// A law: if at most 16 definitions and the parameters of a class break no rule, their resolved space is well made.
 pub fn a_resolved_space_is_well_made()
     ensures { (job : Job) (params : List Word) (defs : List DefTree) (s : ClassSpace) → length defs ≤ most_locals
         → space_faults job params defs ≡ [] → space_of job params defs ≡ Some s → IsWellSpace s }
 {}
 
-/// A law: words of which none is given twice are distinct names.
+/// A law: if no word of a list is given twice, the words are distinct names.
 pub fn names_given_once_are_distinct()
     ensures { NamesAreDistinct }
 {}

@@ -1,5 +1,5 @@
-//! What the names of a JDF mean outside of bodies: its expressions, arguments and definitions with their names
-//! resolved, or their first fault.
+//! Resolves the names of a JDF outside bodies, in its expressions, arguments and definitions, or returns their first
+//! fault.
 #![tactic(auto)]
 
 mod argument;

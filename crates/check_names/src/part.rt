@@ -1,4 +1,4 @@
-//! The results of two checks together.
+//! Joins the results of two checks.
 
 ghost use Rattle.std.specs.Prelude.{◌≡◌, [], ◌∷◌, ◌++◌, List, Option, Some};
 ghost use Rattle.jdf_lex.specs.declared.fault.JdfFault.{JdfFault};
@@ -10,7 +10,7 @@ use crate::fault::earlier;
 use jdf_lex::{JdfCode, JdfRefusal, Spot, fault_at};
 use ptg_base::Seq;
 
-// The earlier fault of two; or that there was no memory, if either says so.
+// The earlier of two faults; out of memory, if either refusal is that.
 fn earlier_refusal(first: JdfRefusal, second: JdfRefusal) -> JdfRefusal
     ensures { result ≡ reported_refusal earlier first second }
 {
@@ -23,7 +23,7 @@ fn earlier_refusal(first: JdfRefusal, second: JdfRefusal) -> JdfRefusal
     }
 }
 
-/// Two parts of a text together: both of them, or the first fault of either.
+/// Joins two parts of a text: both of them, or the first fault of either.
 #[tactic(auto, using(crate::proofs::Joins::both_ok, crate::proofs::Joins::second_err, crate::proofs::Joins::first_err, crate::proofs::Joins::both_err))]
 pub fn join<A: Drop, B: Drop>(
     first: Result<A, JdfRefusal>,
@@ -46,7 +46,7 @@ pub fn join<A: Drop, B: Drop>(
     }
 }
 
-/// A part of a text that has one more fault, so it is refused.
+/// Refuses a part of a text that has one more fault, with the first of its faults.
 #[tactic(auto, using(crate::proofs::Joins::ok_refused, crate::proofs::Joins::err_refused))]
 pub fn refused<A: Drop, B: Drop>(
     part: Result<A, JdfRefusal>,
@@ -63,7 +63,7 @@ pub fn refused<A: Drop, B: Drop>(
     }
 }
 
-/// A list of parts with one more, or the first fault of the list and of the part.
+/// Adds a part to a list of parts, or refuses with the first fault of the list and the part.
 pub fn with_part<A: Drop>(
     parts: Result<Seq<A>, JdfRefusal>,
     part: Result<A, JdfRefusal>,
@@ -80,7 +80,7 @@ pub fn with_part<A: Drop>(
     }
 }
 
-/// A part of a text, and rules that say nothing of it.
+/// Returns a part of a text if rules beside it hold, or refuses with the first fault of the part and the rules.
 pub fn and_rules<A: Drop>(
     part: Result<A, JdfRefusal>,
     rules: Result<(), JdfRefusal>,

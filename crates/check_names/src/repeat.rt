@@ -1,4 +1,4 @@
-//! Names that are given twice.
+//! Refuses names that are given twice.
 
 ghost use Rattle.std.specs.Prelude.{◌≡◌, Some};
 ghost use Rattle.jdf_tree.specs.declared.expression.Word.{Word};
@@ -13,7 +13,7 @@ use name_table::NameSet;
 use ptg_base::Text;
 use std::alloc::Global;
 
-/// What a word of the text names.
+/// A part of the text that a word names.
 pub trait HasName {
     /// The word that names it.
     ghost word: { Self → Word };
@@ -55,7 +55,7 @@ impl HasName for ClassTree {
     }
 }
 
-/// A name that an earlier one of these has is refused with this code. Names are looked up by key.
+/// Refuses a name that an earlier item has, with this code. Names are looked up in a set.
 pub fn repeats<T: HasName>(alloc: Global, code: JdfCode, items: &[T]) -> Result<(), JdfRefusal>
     ensures { ReturnsChecked result (Some tt) (repeats T.word code items.now) }
 {

@@ -58,7 +58,7 @@ module _ (P : Plan) (G : Data) (S : MachineState) (t : Task) where
   pub others : (u : Task) → t ≢ u → table_entry P (state_after P G S (Claim t)) u ≡ table_entry P S u
   others u other = ap (λ n. cond (is_there n (arrived P S u) (goal P u)) (Some (entry_of P S u)) None) (claimed_before u other)
 
-  -- a task waits after the claim exactly where it did before
+  -- a task waits after the claim if and only if it did before
   waits_as_before : MayClaim P S t → (u : Task) → is_waiting P (state_after P G S (Claim t)) u ≡ is_waiting P S u
   waits_as_before may u = by_test (same_task t u)
       (λ e. subst (λ v. is_waiting P (state_after P G S (Claim t)) v ≡ is_waiting P S v) ((same_task-decides t u).0 e)

@@ -1,4 +1,4 @@
--- What lists of events leave: nothing is undone, and the claims are a legal order.
+-- After any list of events, nothing is undone, and the claims are a legal order.
 use Rattle.std.proofs.Common.{List, [], ◌∷◌, sym, ◌∙◌, subst, append_assoc, arith}
 use Rattle.std.proofs.lemmas.List.{append-nil}
 use Rattle.ptg_base.specs.Task.{Task}
@@ -34,7 +34,7 @@ later P G [] S T h = subst (IsLater S) h (later_same S)
 later P G (e ∷ es) S T h = later_event P G S T e (later P G es (state_after P G S e) T h.1)
 
 module _ (P : Plan) (G : Data) (con : IsConsistent P) where
-  -- a task that may be claimed may follow those that were
+  -- a task that may be claimed may follow those that were claimed
   may_follow : (S : MachineState) → IsSoundState P G S → (t : Task) → MayClaim P S t → MayFollow P S.claims t
   may_follow S sound t may = record {
     task = may.task;

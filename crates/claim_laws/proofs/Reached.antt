@@ -31,7 +31,7 @@ use Rattle.flow_meaning.proofs.Quiet.{claimed_ends}
 use Rattle.flow_meaning.proofs.Reordering.{same_sent_item-decides}
 use Rattle.flow_meaning.proofs.Rounds.{has_sources}
 
--- one member fewer is left, where one more is done
+-- one more member is done, and one fewer is left
 one_done : {A : Type 0} (all done left : List A) (x : A) (i : IsIn x left) → HasSameMembers all (done ++ left) → HasSameMembers all ((done ++ x ∷ []) ++ without x left i)
 one_done all done left x i same f =
     omega (arith, same f, weigh-append f done left, weigh-append f (done ++ x ∷ []) (without x left i), weigh-append f done (x ∷ []), without-weigh f x left i)
@@ -96,7 +96,7 @@ module _ (P : Plan) (G : Data) (con : IsConsistent P) (S : MachineState) (sound 
           | inr left ↦ NextSend x left may (λ k. record { item = x.item; tile = tile k })
         ]
 
-    -- where a task is left there is a next event
+    -- if a task is left, there is a next event
     next_for : (n : ℕ) (t : Task) → IsIn t tasks → (v : Ended) → ended_within P G n t ≡ Some v → IsNext
     unfolding ended_within
     next_for zero t i v e = absurd cc

@@ -1,5 +1,4 @@
-//! Laws of the event machine: of claims and of what a table holds, of the states that are reached, and of their order;
-//! and of the sizes of the tiles that tasks leave.
+//! Laws of claims and table entries, of reached states and their order, and of the sizes of the tiles that tasks leave.
 
 ghost use Rattle.std.specs.Prelude.{◌≡◌, ◌≢◌, ℕ, ℤ, IsTrue, List, None, Ok, Option, Some, length, option_map, slice_get, slice_index};
 ghost use Rattle.ptg_base.specs.Lists.{IsIn};
@@ -22,8 +21,8 @@ ghost use Rattle.flow_meaning.specs.Sound.{IsReached, IsSoundState};
 ghost use Rattle.flow_meaning.specs.Table.{entry_of, table_entry, waiting_rows, written};
 ghost use Rattle.flow_meaning.specs.Order.{IsLegalOrder};
 
-/// A law: a task that may be claimed has an entry in the table; a claim takes the entry of its task and leaves every
-/// other entry as it was, and with them the rows of the tasks that wait and the write-backs that were sent.
+/// A law: a task that may be claimed has an entry in the table. A claim removes its task's entry and leaves every other
+/// entry as it was. It changes neither the rows of the tasks that wait nor the write-backs that were sent.
 pub fn a_claim_takes_its_own_entry()
     ensures there { (P : Plan) (S : MachineState) (t : Task) → MayClaim P S t
         → table_entry P S t ≡ Some (entry_of P S t) }
@@ -37,7 +36,7 @@ pub fn a_claim_takes_its_own_entry()
         → written (state_after P G S (Claim t)) ≡ written S }
 {}
 
-/// A law: every sound state is reached by some list of events, up to the order of its two lists.
+/// A law: every sound state of a consistent plan is reached by some list of events, up to the order of its two lists.
 pub fn sound_states_are_reached()
     ensures { (P : Plan) (G : Data) (S : MachineState) → IsConsistent P → IsSoundState P G S → IsReached P G S }
 {}
@@ -53,8 +52,9 @@ pub fn claims_are_a_legal_order()
         → Happen P G es opening_state S → IsLegalOrder P S.claims }
 {}
 
-/// A law: the tiles that a task leaves are as many as it has flows, and each has as many numbers as its flow's type has
-/// elements. A CTL flow has none, and neither has a flow whose source is `NULL`; each item of a data flow has one.
+/// A law: a task leaves an entry for each of its flows, and each tile has as many numbers as its flow's type has
+/// elements. A CTL flow has no tile, and neither has a flow whose source is `NULL`. Each item of a data flow has a
+/// tile.
 pub fn tiles_have_the_sizes_of_their_flows()
     ensures places { (P : Plan) (G : Data) (t : Task) (tiles : List (Option (List ℤ))) → IsConsistent P
         → DataFit P G → IsWellMade G → IsTask P t → ended P G t ≡ Some (Ok tiles)

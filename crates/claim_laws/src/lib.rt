@@ -1,5 +1,4 @@
-//! Laws of the event machine that no program cites: a claim takes exactly its own entry from the table of dependences,
-//! every sound state is reached, nothing is undone, claims are a legal order, and tiles have the sizes of their flows.
+//! Laws of the event machine that no program cites: on claims, sound states, legal orders and the sizes of tiles.
 #![tactic(auto)]
 
 mod laws;

@@ -9,7 +9,7 @@ use Rattle.coll_data.specs.WellMade.{elements_by_type, IsWellColl, IsWellMade, I
 use Rattle.list_lemmas.proofs.Places.{each_at}
 use Rattle.coll_data.proofs.TileIndex.{tile_exists}
 
--- the elements of a type past DEFAULT
+-- the elements of a type after DEFAULT
 pub element_at : (e : ℕ) (types : List (List ℕ × ℕ)) (n : ℕ) (type : List ℕ × ℕ) → 0 < n → Some type ≡ slice_get types (n - 1) → slice_get (e ∷ map (λ (t : List ℕ × ℕ). t.1) types) n ≡ Some type.1
 element_at e types zero type h k = absurd (omega arith)
 element_at e types (suc n) type h k =

@@ -1,4 +1,4 @@
--- An index of a tile is that of one place.
+-- The index of a tile is that of one place alone.
 use Rattle.std.proofs.Common.{◌≡◌, ℕ, ◌+◌, ◌*◌, ◌<◌, ℤ, pos, negsuc, Bool, true, false, cond, nat_lt, refl, ap, sym, ◌∙◌, subst, Option, Some, None, arith}
 use Rattle.std.specs.Prelude.{option_map}
 use Rattle.std.proofs.lemmas.Bool.{ltb-true}
@@ -7,7 +7,7 @@ use Rattle.ptg_base.specs.Index.{index_in}
 use Rattle.coll_data.specs.Tiles.{tile_index}
 use Rattle.list_lemmas.proofs.Options.{from_option_and_then, from_option_map}
 
--- what an index comes from
+-- the number that an index comes from
 pub record IsBelow (limit n : ℕ) (z : ℤ) : Type 0 where
   pub is : z ≡ pos n
   pub within : n < limit

@@ -1,4 +1,4 @@
--- Data stay well made where a tile is replaced by one of as many numbers.
+-- Data stay well made if a tile is replaced by one with as many numbers.
 use Rattle.std.proofs.Common.{◌≡◌, ℕ, zero, suc, ◌+◌, ◌*◌, ℤ, List, [], ◌∷◌, length, set, get_or, Option, Some, None, IfSome, IsSomeAnd, slice_get, slice_index, refl, sym, ap, ◌∙◌, subst, arith}
 use Rattle.std.specs.Option.{option_map_or}
 use Rattle.std.specs.List.{sum_by}
@@ -13,7 +13,7 @@ use Rattle.coll_data.specs.Tiles.{HasPlace, IsColumn, IsRow, tile_index}
 use Rattle.coll_data.specs.WellMade.{elements_by_type, element_total, IsTileOf, IsWellColl, IsWellMade}
 use Rattle.list_lemmas.proofs.Places.{each_at, each_set}
 
--- a sum stays where an element is replaced by one of the same weight
+-- a sum stays the same if an element is replaced by one of the same weight
 sum_same : {A : Type 0} (f : A → ℕ) (xs : List A) (k : ℕ) (x y : A) → slice_get xs k ≡ Some x → f y ≡ f x → sum_by f (set xs k y) ≡ sum_by f xs
 sum_same f [] k x y there e = refl
 sum_same f (z ∷ zs) zero x y there e =
@@ -23,7 +23,7 @@ sum_same f (z ∷ zs) zero x y there e =
 sum_same f (z ∷ zs) (suc k) x y there e =
     sum_by-cons f z (set zs k y) ∙ ap (λ n. f z + n) (sum_same f zs k x y there e) ∙ sym (sum_by-cons f z zs)
 
--- a collection with tiles replaced by as many others of as many numbers
+-- a collection with a tile replaced by one with as many numbers
 well_with : (elements : List ℕ) (c : Coll) (o : Option ℕ) (tile : List ℤ) → IsWellColl elements c → length tile ≡ slice_index elements c.datatype → IsWellColl elements (record c { tiles = option_map_or (λ k. set c.tiles k tile) o c.tiles })
 well_with elements c None tile w fits = w
 well_with elements c (Some k) tile w fits = record {
@@ -37,7 +37,7 @@ as_many : (c : Coll) (o : Option ℕ) (tile : List ℤ) → length (option_map_o
 as_many c None tile = refl
 as_many c (Some k) tile = length-set c.tiles k tile
 
--- the data with these collections in place of theirs
+-- the data with their collections replaced by these
 abbrev having : Data → List Coll → Data
 having d colls = record d { colls = colls }
 
@@ -66,8 +66,8 @@ module _ (d : Data) (well : IsWellMade d) (p : Place) (tile : List ℤ) (fits : 
     replaced_is : having d (set d.colls p.coll new_coll) ≡ with_tile_at d p tile
     replaced_is = ap (λ o. having d (option_map_or (λ (x : Coll). set d.colls p.coll (coll_with x p.i p.j tile)) o d.colls)) (sym there)
 
--- what `with_tile_at` makes of the data `d`, whose fields are `inside`, where the collection `old` becomes `new` among
--- `was`
+-- what `with_tile_at` makes of the data `d`, whose fields are `inside`: among the collections `was`, `old` becomes
+-- `new`
 pub record IsReplaced (inside d : Data) (p : Place) (tile : List ℤ) (colls : List Coll) : Type 0 where
   pub well_made : IsWellMade (having inside colls)
   pub is : having inside colls ≡ with_tile_at d p tile

@@ -1,4 +1,4 @@
--- Places have the indices below the number of tiles.
+-- Exactly the places of a collection have indices, and these are below the number of tiles.
 use Rattle.std.proofs.Common.{◌≡◌, ℕ, zero, suc, ◌+◌, ◌*◌, ◌<◌, ◌≤◌, ◌↔◌, ℤ, pos, negsuc, ◌⊎◌, inl, inr, get_or, nat_lt, List, [], length, Option, Some, None, IsSome, slice_get, option_and_then, refl, subst, rules, arith}
 use Rattle.std.proofs.lemmas.Int.{ints}
 use Rattle.std.proofs.lemmas.Nat.{row_fits}
@@ -11,7 +11,7 @@ use Rattle.list_lemmas.proofs.Truth.{by_test}
 pub row_and_column : (row column rows cols : ℕ) → row < rows → column < cols → row * cols + column < rows * cols
 row_and_column row column rows cols h k = let e = row_fits row cols rows cols h (omega arith) in omega arith
 
--- a number is below a limit, as this index, or it is not
+-- a number is within a limit, at this index, or it is not
 pub record IsIndex (limit : ℕ) (n : ℤ) (k : ℕ) : Type 0 where
   pub is : index_in limit n ≡ Some k
   pub within : k < limit
@@ -31,7 +31,7 @@ column_zero (pos zero) w = refl
 column_zero (pos (suc n)) w = let u = w.1 in absurd (omega (arith, ints))
 column_zero (negsuc n) w = let u = w.0 in absurd (omega (arith, ints))
 
--- a row and a column have an index, or they are no place
+-- a row and a column have an index, or are no place
 pub record HasIndex (rows : ℕ) (cols : Option ℕ) (i j : ℤ) : Type 0 where
   pub index : ℕ
   pub is : tile_index rows cols i j ≡ Some index
@@ -63,7 +63,7 @@ none_of : {A : Type 0} (o : Option A) → o ≡ None → IsSome o → ⊥
 none_of None e h = absurd cc
 none_of (Some y) e h = absurd cc
 
--- a collection with a tile for each place has one exactly at its rows and columns
+-- a collection with a tile for each place has a tile exactly at its rows and columns
 pub tile_exists : (rows : ℕ) (cols : Option ℕ) (i j : ℤ) (tiles : List (List ℤ)) → length tiles ≡ tile_count rows cols → IsSome (option_and_then (slice_get tiles) (tile_index rows cols i j)) ↔ (IsRow rows i × IsColumn cols j)
 tile_exists rows cols i j tiles e = elim (index_cases rows cols i j) [
   | inl p ↦

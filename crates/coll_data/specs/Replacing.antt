@@ -1,4 +1,4 @@
--- Data with one tile replaced. Source: this project's own choice.
+-- Data with one tile replaced.
 use Rattle.std.specs.Prelude.{ℤ, List, slice_get, slice_set}
 use Rattle.std.specs.Option.{option_map_or}
 use Rattle.ptg_base.specs.declared.place.Place.{Place}

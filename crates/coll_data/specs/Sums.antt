@@ -1,4 +1,6 @@
--- The sum of all elements of data. Source: this project's own choice.
+-- The elements of collections, and the sum of all elements of data.
+-- Carried by: `Given::element_sum`.
+-- Tested by: `demo.txt`.
 use Rattle.std.specs.Prelude.{ℤ, pos, ◌+ℤ◌, List, fold}
 use Rattle.std.specs.List.{flat_map}
 use Rattle.coll_data.specs.declared.coll.Coll.{Coll}

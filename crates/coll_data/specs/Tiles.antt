@@ -1,4 +1,6 @@
--- The places of data and the tiles at them; tiles are listed row by row. Source: this project's own choice.
+-- The places of data and the tiles at them; tiles are listed row by row.
+-- Carried by: `Given::new`, `Given::tile`.
+-- Tested by: `data_forms.txt`, `jobs.txt`.
 use Rattle.std.specs.Prelude.{ℕ, ℤ, List, Option, Some, None, slice_get, option_map, option_and_then}
 use Rattle.ptg_base.specs.Index.{index_in}
 use Rattle.ptg_base.specs.declared.place.Place.{Place}
@@ -10,8 +12,8 @@ use Rattle.coll_data.specs.declared.coll.Coll.{Coll}
 abbrev pub HasPlace : List Coll → Place → Type 0
 HasPlace colls p = HasPlaceAmong (λ (c : Coll). c.shape.0) (λ (c : Coll). c.shape.1) colls p
 
--- the index of the tile in row i and column j of a collection with this many rows and columns, if it has them: tiles
--- are counted row by row
+-- the index of the tile in row i and column j of a collection with this many rows and columns, if it has that row and
+-- column: tiles are counted row by row
 abbrev pub tile_index : ℕ → Option ℕ → ℤ → ℤ → Option ℕ
 tile_index rows None i j = option_and_then (λ column. index_in rows i) (index_in 1 j)
 tile_index rows (Some cols) i j =

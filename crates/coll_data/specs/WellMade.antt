@@ -1,4 +1,6 @@
--- What holds of all data: their limits, and that each collection is whole. Source: this project's own choice.
+-- Well made data: their limits, and that each collection is whole.
+-- Carried by: `Given::new`, `Given::tile`, `Given::elements`.
+-- Tested by: `data_forms.txt`, `jobs.txt`.
 use Rattle.std.specs.Prelude.{◌≡◌, ℕ, ℤ, ◌≤◌, ◌<◌, ◌*◌, List, ◌∷◌, length, map, IsTrue, IfSome, slice_get, slice_index}
 use Rattle.std.specs.List.{AllByRecursion, list_all, sum_by}
 use Rattle.ptg_base.specs.Limits.{most_elements, most_named_types, most_tiles}
@@ -16,8 +18,8 @@ pub record IsWhole (c : Coll) : Type 0 where
   pub has_tiles : 1 ≤ tile_count c.shape.0 c.shape.1
   pub all_tiles : length c.tiles ≡ tile_count c.shape.0 c.shape.1
 
--- a whole collection of one of these types, with at most 65,536 places, and as many numbers in each tile as its type
--- has elements
+-- a whole collection of one of these types, with at most 65,536 places; each tile has as many numbers as its type has
+-- elements
 pub record IsWellColl (elements : List ℕ) (c : Coll) : Type 0 where
   pub datatype : c.datatype < length elements
   pub whole : IsWhole c

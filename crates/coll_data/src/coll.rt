@@ -10,7 +10,7 @@ use ptg_base::{Seq, Text, Tile};
 
 /// A collection of tiles in one or two dimensions.
 pub struct Coll {
-    /// The number of rows, and of columns where there are two dimensions.
+    /// The number of rows, and the number of columns if there are two dimensions.
     pub shape: (u32, Option<u32>),
     pub name: Text,
     /// The number of the type of its tiles; type 0 is DEFAULT.

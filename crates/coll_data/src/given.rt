@@ -14,8 +14,9 @@ use std::marker::Model;
 
 /// The data of a job, in the order of their file. Contracts see plain lists and numbers.
 ///
-/// There are at most 16 types, with 1 to 4,096 elements each, and at most 65,536 tiles a collection, with 16,777,216
-/// elements in all. Each collection has a tile for each place, and each tile as many numbers as its type has elements.
+/// There are at most 16 types, with 1 to 4,096 elements each. A collection has at most 65,536 tiles, and all tiles
+/// together have at most 16,777,216 elements. Each collection has a tile for each place, and each tile as many numbers
+/// as its type has elements.
 pub struct Given {
     types: Seq<(Text, u32)>,
     elems: u32,
@@ -51,8 +52,8 @@ impl Model for Given {
 }
 
 impl Given {
-    /// The data of these parts: the types past DEFAULT with their elements, the elements of DEFAULT, the integers, the
-    /// collections, and the number of records read.
+    /// The data with these parts: the types after DEFAULT with their numbers of elements, the number of elements of
+    /// DEFAULT, the integers, the collections, and the number of records read.
     pub fn new(
         types: Seq<(Text, u32)>,
         elems: u32,
@@ -74,14 +75,14 @@ impl Given {
         }
     }
 
-    /// The types past DEFAULT, each with its number of elements.
+    /// The types after DEFAULT, each with its number of elements.
     pub fn types(&self) -> &[(Text, u32)]
         ensures { result.now ≡ self.now.types }
     {
         self.types.as_slice()
     }
 
-    /// The integers.
+    /// The integers, each with its name.
     pub fn ints(&self) -> &[(Text, i64)]
         ensures { result.now ≡ self.now.ints }
     {
@@ -103,7 +104,7 @@ impl Given {
         let _ = &self.types;
     }
 
-    /// The sum of all elements of all collections, exactly. It takes no memory.
+    /// The exact sum of all elements of all collections. It allocates nothing.
     pub fn element_sum(&self) -> i128
         ensures { result ≡ sum_of (all_elements self.now.colls) }
     {
@@ -143,7 +144,7 @@ impl Given {
         self.colls.get(n).tile(place.i, place.j)
     }
 
-    /// The data with the tile at a place replaced. No other tile is copied or moved.
+    /// Replaces the tile at a place. No other tile is copied or moved.
     pub fn with_tile_at(self, place: &Place, tile: Tile) -> Given
         requires exists { HasPlace self.colls place.now }
         requires elements { IsTileOf self place.now.coll tile }

@@ -1,4 +1,4 @@
-//! Where the tiles of a collection are stored.
+//! Finds where the tiles of a collection are stored.
 
 ghost use Rattle.std.specs.Prelude.{◌≡◌, ◌≤◌};
 ghost use Rattle.ptg_base.specs.Limits.{most_tiles};
@@ -6,7 +6,7 @@ ghost use Rattle.coll_data.specs.Tiles.{tile_count, tile_index};
 
 use ptg_base::index_in;
 
-/// The number of tiles of a collection, by its rows and columns; there are no columns in one dimension.
+/// The number of tiles of a collection, from its numbers of rows and columns. In one dimension there are no columns.
 pub fn tile_count(rows: u32, cols: Option<u32>) -> u32
     requires { tile_count rows cols ≤ most_tiles }
     ensures { result ≡ tile_count rows cols }

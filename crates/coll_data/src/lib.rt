@@ -1,4 +1,4 @@
-//! The data of a job: types of tiles, integers, and collections of tiles.
+//! The data of a job: tile types, integers and collections of tiles, within their limits; and the sum of all elements.
 #![tactic(auto)]
 
 mod coll;

@@ -1,4 +1,4 @@
--- Records without a fault, read one after another, make the data of them all; and the other way round.
+-- If no record has a fault, reading them one after another makes the data of all of them, and conversely.
 use Rattle.std.proofs.Common.{◌≡◌, ℕ, ◌+◌, List, [], ◌∷◌, ◌++◌, length, Result, Ok, Err, refl, sym, ◌∙◌, ap, subst, arith, append_assoc}
 use Rattle.std.proofs.lemmas.List.{append-nil}
 use Rattle.coll_data.specs.Data.{Data}
@@ -16,11 +16,11 @@ use Rattle.list_lemmas.proofs.Options.{by_result, same_Ok}
 none_ordered : (elems : ℕ) → AreOrdered elems []
 none_ordered elems = record { known = tt; named = tt; apart = tt }
 
--- the record has no fault after data like these
+-- the record has no fault after these data
 abbrev Fits : Draft → Record → Type 0
 Fits d fields = (next : Draft) × (later_record d fields ≡ Ok next)
 
--- each of the records that are left has no fault after the data of those before it
+-- no remaining record has a fault after the data of those before it
 abbrev RestFits : ℕ → List Record → List Record → Type 0
 RestFits elems records rest = (before after : List Record) (fields : Record) → rest ≡ before ++ fields ∷ after → Fits (data_of_records elems (records ++ before)) fields
 
@@ -73,7 +73,7 @@ walk elems records (r ∷ rest) n ordered fit =
 
 -- ---- all records, the first among them
 
--- the first record, and the data of those after it
+-- the first record was read, with the data after all records
 pub record AreRead (first : Record) (records : List Record) (d : Draft) : Type 0 where
   pub elems : ℕ
   pub is_first : first_record first ≡ Ok elems

@@ -13,7 +13,7 @@ use Rattle.data_laws.proofs.AllRecords.{are_read, read_all}
 use Rattle.data_read.proofs.Choices.{no_value}
 use Rattle.list_lemmas.proofs.Options.{by_result, same_Ok, same_Err}
 
--- the fault of one of the records from that of this number on
+-- the fault of one of these records, numbered from `row` on
 record IsLaterFault (row : ℕ) (d : Draft) (records : List Record) (fault : DataFault) : Type 0 where
   before : List Record
   fields : Record
@@ -92,7 +92,7 @@ in_records (first ∷ records) fault is = inr (at_first first records fault is)
 pub fault_is_first : (text : List ℕ) (fault : DataFault) → data_of text ≡ Err fault → HasNoRecord (records_of text) fault ⊎ IsFirstFault (records_of text) fault
 fault_is_first text fault is = in_records (records_of text) fault (no_data (length (records_of text)) (all_records (records_of text)) fault is)
 
--- ---- back
+-- ---- the converse
 
 later_is_fault : (row : ℕ) (d draft : Draft) (before after : List Record) (fields : Record) (code : DataCode) → later_records row d before ≡ Ok draft → later_record draft fields ≡ Err code
     → later_records row d (before ++ fields ∷ after) ≡ Err (record { row = row + length before; code = code })

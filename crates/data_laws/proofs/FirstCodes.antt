@@ -72,8 +72,8 @@ int_code d fields w =
 
 -- ---- collections
 
--- whether a code fits a record of a collection of the type of this name, whose own name is the field of the number
--- given; `|| false` is what the tests of other words leave
+-- whether a code fits a record of a collection, given the name of its type and the number of the field with its own
+-- name. The `|| false` are the tests of other words.
 abbrev coll_fits : Draft → Record → List ℕ → ℕ → DataCode → Bool
 coll_fits d fields type at BadName = not (is_name type && is_name (field fields at)) || false
 coll_fits d fields type at NameTwice = not (is_new d (field fields at))

@@ -1,4 +1,4 @@
--- The headings of collections, and the tiles of one of them, as one record more comes.
+-- The headings of collections, and the tiles of one of them, when one more record follows.
 use Rattle.std.proofs.Common.{◌≡◌, ℕ, ◌+◌, ℤ, Bool, true, false, ◌||◌, List, [], ◌∷◌, ◌++◌, map, slice_get, replicate, bytes_eq, codes, Option, Some, None, option_map, refl, sym, ◌∙◌, ap, subst, inl, inr}
 use Rattle.std.specs.List.{AllByRecursion, list_any, range_with_len}
 use Rattle.std.specs.Cmp.Lexicographic.{bytes_decides}
@@ -40,7 +40,7 @@ apart_push (g ∷ gs) h all none =
     let same : Heading → Bool = λ k. bytes_eq g.name k.name in
     (any_push same gs h ∙ or_from (list_any same gs) (same h) all.0 (bytes_eq-sym_false h.name g.name parts.0), apart_push gs h all.1 parts.1)
 
--- a name without a collection
+-- no collection has the name
 pub no_name : (records : List Record) (name : List ℕ) (hs : List Heading) → coll_index name (map (with_tiles records) hs) ≡ None → has_name name hs ≡ false
 no_name records name [] none = refl
 no_name records name (h ∷ hs) none = elim (chosen (bytes_eq name h.name) (Some 0) (option_map (λ n. n + 1) (coll_index name (map (with_tiles records) hs))) None none) [
@@ -48,7 +48,7 @@ no_name records name (h ∷ hs) none = elim (chosen (bytes_eq name h.name) (Some
   | inr later ↦ rw later.0 (no_name records name hs (none_from_option_map (λ (n : ℕ). n + 1) (coll_index name (map (with_tiles records) hs)) later.1))
 ]
 
--- a name with a collection
+-- some collection has the name
 pub some_name : (records : List Record) (name : List ℕ) (hs : List Heading) (at : ℕ) → coll_index name (map (with_tiles records) hs) ≡ Some at → has_name name hs ≡ true
 some_name records name [] at is = absurd cc
 some_name records name (h ∷ hs) at is =
@@ -61,7 +61,7 @@ some_name records name (h ∷ hs) at is =
 
 -- ---- types
 
--- the type of a collection is one of these
+-- the type of the record's collection is one of these
 abbrev pub HasKnownType : List (List ℕ × ℕ) → Record → Type 0
 HasKnownType types fields = declares fields ≡ true → (known : ℕ × ℕ) × (type_among (type_name_in fields) 0 types ≡ Some known)
 
@@ -93,7 +93,7 @@ tiled h tiles = record { name = h.name; shape = h.shape; datatype = h.datatype; 
 abbrev pub places : Heading → List ℕ
 places h = range_with_len 0 (tile_count h.shape.0 h.shape.1)
 
--- a record that gives no tile of a collection changes none of it
+-- a record of no tile of a collection changes none of its tiles
 pub tiles_kept : (records : List Record) (fields : Record) (h : Heading) → ((k : ℕ) → tile_in h k fields ≡ None) → with_tiles (records ++ fields ∷ []) h ≡ with_tiles records h
 tiles_kept records fields h none =
     ap (tiled h)
@@ -103,20 +103,20 @@ tiles_kept records fields h none =
 pub no_tile : (fields : Record) → begins (codes "tile") fields ≡ false → (h : Heading) (k : ℕ) → tile_in h k fields ≡ None
 no_tile fields other h k = rw other refl
 
--- a tile of a collection of another name
+-- a record with another name has no tile of the collection
 pub other_tile : (fields : Record) (h : Heading) → bytes_eq (field fields 1) h.name ≡ false → (k : ℕ) → tile_in h k fields ≡ None
 other_tile fields h other k =
     by_test (begins (codes "tile") fields)
     (λ tile. rw (tile, other) refl)
     (λ none. rw none refl)
 
--- a record that is no tile changes no collection
+-- a record of no tile changes no collection
 pub colls_kept : (records : List Record) (fields : Record) (hs : List Heading) → begins (codes "tile") fields ≡ false → map (with_tiles (records ++ fields ∷ [])) hs ≡ map (with_tiles records) hs
 colls_kept records fields hs other =
     map_same (with_tiles (records ++ fields ∷ [])) (with_tiles records) hs
     (all_of (λ (h : Heading). with_tiles (records ++ fields ∷ []) h ≡ with_tiles records h) hs (λ h. tiles_kept records fields h (no_tile fields other h)))
 
--- the record is no tile, or one of these collections has the name in it
+-- if the record is of a tile, one of these collections has its name
 abbrev pub IsOfKnown : List Heading → Record → Type 0
 IsOfKnown hs fields = begins (codes "tile") fields ≡ true → has_name (field fields 1) hs ≡ true
 
@@ -133,7 +133,7 @@ all_not_of : (hs : List Heading) (h : Heading) (records : List Record) → has_n
 all_not_of hs h [] new known k = tt
 all_not_of hs h (fields ∷ records) new known k = (not_of hs h fields new known.0 k, all_not_of hs h records new known.1 k)
 
--- a collection of a new name has no tile yet
+-- a collection with a new name has no tile yet
 pub new_coll : (records : List Record) (fields : Record) (hs : List Heading) (h : Heading) → begins (codes "tile") fields ≡ false → has_name h.name hs ≡ false → AllByRecursion (IsOfKnown hs) records
     → with_tiles (records ++ fields ∷ []) h ≡ tiled h (replicate (tile_count h.shape.0 h.shape.1) None)
 new_coll records fields hs h other new known =

@@ -1,4 +1,4 @@
--- What a record that has no fault makes of the data of the records before it: the data of them all.
+-- A record without a fault, added to the data of the records before it, makes the data of all of them.
 use Rattle.std.specs.Prelude.{◌==◌, ◌&&◌, ◌||◌, nat_le, nat_lt}
 use Rattle.std.proofs.Common.{◌≡◌, ℕ, ◌+◌, ℤ, Bool, true, false, not, List, [], ◌∷◌, ◌++◌, length, map, slice_get, codes, bytes_eq, Option, Some, None, is_some, option_map, Ok, refl, sym, ◌∙◌, ap, subst}
 use Rattle.std.specs.List.{AllByRecursion, filter_map, list_any, sum_by}
@@ -23,19 +23,19 @@ use Rattle.data_laws.proofs.WholeLists.{kept_push, kept_same, left_out}
 use Rattle.data_laws.proofs.Headings.{AreApart, HasKnownType, IsOfKnown, apart_push, colls_kept, heading_kept, name_kept, new_coll, no_name, some_name, type_kept}
 use Rattle.data_laws.proofs.TileChanges.{Gives, tile_among}
 
--- what holds of records that have no fault: each type and each collection that one of them names is that of an earlier
+-- what holds for records without a fault: each type and each collection that one of them names is that of an earlier
 -- one
 pub record AreOrdered (elems : ℕ) (records : List Record) : Type 0 where
   pub known : AllByRecursion (HasKnownType (all_types elems records)) records
   pub named : AllByRecursion (IsOfKnown (headings_of elems records)) records
   pub apart : AreApart (headings_of elems records)
 
--- the data after one record more are those of all records
+-- the data after one more record are those of all records
 pub record IsOneMore (elems : ℕ) (records : List Record) (fields : Record) (e : Draft) : Type 0 where
   pub is : e ≡ data_of_records elems (records ++ fields ∷ [])
   pub ordered : AreOrdered elems (records ++ fields ∷ [])
 
--- a record that is not of a collection, and is no tile
+-- a record of neither a collection nor a tile
 record IsPlain (fields : Record) : Type 0 where
   declares_none : declares fields ≡ false
   no_tile : begins (codes "tile") fields ≡ false
@@ -109,7 +109,7 @@ type_more elems records fields e ordered word is =
 
 -- ---- records that add no type
 
--- the types are as before
+-- the types stay the same
 same_types : (elems : ℕ) (records : List Record) (fields : Record) → begins (codes "elems") fields ≡ false → types_of (records ++ fields ∷ []) ≡ types_of records
 same_types elems records fields other = left_out type_in records fields (rw other refl)
 
@@ -220,7 +220,7 @@ coll_made elems records fields known shape ordered other no_int t word type is n
       };
     }
 
--- the shape that a collection was asked to have
+-- the shape that a collection asked for
 shape_asked : (d : Draft) (type : List ℕ) (fields : Record) (at : ℕ) (size : AskedColl) → (parts : IsAsked d type fields at size) → shape_in fields at ≡ Some parts.shape
 shape_asked d type fields at size parts = rw (parts.are_rows, parts.are_columns) parts.is_shape
 
@@ -270,7 +270,7 @@ collof_more elems records fields e ordered word is =
 
 -- ---- tiles
 
--- the index of the collection that has a name
+-- the index of the collection with a name
 index_is : (d : Draft) (name : List ℕ) (known : ℕ × GrowingColl) → coll_named d name ≡ Some known → coll_index name d.colls ≡ Some known.0
 index_is d name known e =
     option_and_then_some (λ at. option_map (λ coll. (at, coll)) (slice_get d.colls at)) (coll_index name d.colls) known e
@@ -282,7 +282,7 @@ index_is d name known e =
         let same : (at, coll) ≡ known = (let s : ◌≡◌ {A = Option (ℕ × GrowingColl)} (Some (at, coll)) (Some known) = more in cc) in
         ap (λ (k : ℕ × GrowingColl). k.0) same
 
--- the place of a record, where no record before gave a tile
+-- the place of a record's tile, which no earlier record has
 record IsFree (coll : GrowingColl) (i j : ℤ) (index : ℕ) : Type 0 where
   is : tile_index coll.shape.0 coll.shape.1 i j ≡ Some index
   free : slice_get coll.tiles index ≡ Some None

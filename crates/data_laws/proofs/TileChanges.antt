@@ -1,4 +1,4 @@
--- The collections as one tile more is given.
+-- The collections when one more tile is added.
 use Rattle.std.proofs.Common.{◌≡◌, ℕ, zero, suc, ◌+◌, ◌<◌, ℤ, true, false, List, [], ◌∷◌, ◌++◌, map, drop, set, slice_get, bytes_eq, codes, Option, Some, None, option_map, refl, sym, ◌∙◌, ap, subst, inl, inr, arith}
 use Rattle.std.specs.List.{filter_map}
 use Rattle.std.proofs.lemmas.Bool.{eq-eqb, ne_eqb}
@@ -20,7 +20,7 @@ no_first : (tiles : List (List ℤ)) → slice_get tiles 0 ≡ None → tiles �
 no_first [] none = refl
 no_first (t ∷ ts) none = absurd cc
 
--- what a record of a tile says of a collection that has its name
+-- what the record of a tile shows about the collection that it names
 pub record Gives (fields : Record) (coll : GrowingColl) (index : ℕ) (values : List ℤ) : Type 0 where
   pub word : begins (codes "tile") fields ≡ true
   pub place : tile_index_in coll.shape fields ≡ Some index
@@ -59,7 +59,7 @@ others_kept records fields h hs named apart =
     (λ g other. tiles_kept records fields g (other_tile fields g (bytes_eq-apart (field fields 1) h.name g.name named other)))
     (none_pass (λ (g : Heading). bytes_eq h.name g.name) hs apart.0))
 
--- the collection of the name is changed, and no other one
+-- the collection with the name changes, and no other one
 pub tile_among : (records : List Record) (fields : Record) (hs : List Heading) (at : ℕ) (coll : GrowingColl) (index : ℕ) (values : List ℤ) → AreApart hs
     → coll_index (field fields 1) (map (with_tiles records) hs) ≡ Some at → slice_get (map (with_tiles records) hs) at ≡ Some coll → Gives fields coll index values
     → map (with_tiles (records ++ fields ∷ [])) hs ≡ set (map (with_tiles records) hs) at (changed coll index values)

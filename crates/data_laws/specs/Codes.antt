@@ -1,5 +1,5 @@
--- When each code of a fault fits a record, whatever the other codes do, and the order of the codes. Source: this
--- project's own choice.
+-- When each code of a fault fits a record, whatever the other codes do, and the order of the codes.
+-- Carried by: laws `faults_are_first`, `data_are_by_records`, `the_first_code_is_the_fault`.
 use Rattle.std.specs.Prelude.{◌≡◌, ℕ, ◌+◌, ◌-◌, ◌*◌, Bool, false, not, ◌&&◌, ◌||◌, ◌==◌, nat_le, nat_lt, List, [], ◌∷◌, length, drop, codes, find, Option, is_some, is_none, if◌then◌else◌}
 use Rattle.std.specs.Option.{option_and_then, option_map, option_map_or}
 use Rattle.std.specs.Result.{result_err}
@@ -13,7 +13,7 @@ use Rattle.data_read.specs.Draft.{GrowingColl, Draft, type_named, coll_named, is
 use Rattle.data_read.specs.Records.{column, columns, element_count, first_record, first_value, later_record, numbers, shape_of}
 use Rattle.data_laws.specs.WholeRecords.{Record, shape_in}
 
--- ---- records by their words
+-- ---- records, by their first field
 
 -- an `elems` record that passes the test
 abbrev pub is_type_with : Bool → Record → Bool
@@ -27,8 +27,8 @@ is_int_with test fields = begins (codes "int") fields && test
 abbrev pub is_tile_with : Bool → Record → Bool
 is_tile_with test fields = begins (codes "tile") fields && test
 
--- a record of a collection that passes the test of the name of its type and of the number of the field with its own
--- name
+-- a record of a collection that passes the test; the test is given the name of its type, and the number of the field
+-- with its own name
 abbrev pub is_coll_with : (List ℕ → ℕ → Bool) → Record → Bool
 is_coll_with test fields =
     if begins (codes "coll") fields
@@ -41,7 +41,7 @@ is_of_coll_with test d fields =
     is_tile_with
     (option_map_or (λ ((index, coll) : ℕ × GrowingColl). test coll) (coll_named d (field fields 1)) false) fields
 
--- a test of two numbers, passed only where both are there
+-- a test of two numbers, which fails if one of them is missing
 abbrev pub both_pass : {A B : Type 0} → (A → B → Bool) → Option A → Option B → Bool
 both_pass test a b = option_map_or (λ x. option_map_or (λ y. test x y) b false) a false
 
@@ -62,7 +62,7 @@ has_wrong_field_count fields =
     || (begins (codes "collof") fields && not ((length fields == 4) || (length fields == 5)))
     || is_tile_with (not (nat_le 4 (length fields))) fields
 
--- a name is not spelled as one
+-- a name is not spelled as a name
 abbrev pub has_bad_name : Record → Bool
 has_bad_name fields =
     is_type_with (not (is_name (field fields 1))) fields
@@ -76,7 +76,7 @@ has_taken_name d fields =
     is_int_with (not (is_new d (field fields 1))) fields
     || is_coll_with (λ type at. not (is_new d (field fields at))) fields
 
--- the tile has no value, or more than its type has elements
+-- the tile has no value, or more values than its type has elements
 abbrev pub has_wrong_value_count : Record → GrowingColl → Bool
 has_wrong_value_count fields coll =
     not
@@ -89,7 +89,7 @@ has_non_number fields coll =
     is_none (whole (field fields 2)) || is_none (column coll.shape.1 fields)
     || is_none (numbers (drop (first_value coll.shape.1) fields))
 
--- a field that should be a whole number is none
+-- a field that should be a whole number is not one
 abbrev pub has_bad_number : Draft → Record → Bool
 has_bad_number d fields =
     is_int_with (is_none (whole (field fields 2))) fields
@@ -104,8 +104,8 @@ has_wrong_tile_count fields =
     both_pass (λ rows cols. is_none (shape_of rows cols)) (whole (field fields (at + 1))) (columns fields (at + 2)))
     fields
 
--- how many elements the collection of a record has in all, if its type has this name; the collection's own name is the
--- field of this number
+-- how many elements the collection of a record has in all, if its type has this name; its own name is in the field of
+-- this number
 abbrev pub asked_elements : Draft → Record → List ℕ → ℕ → Option ℕ
 asked_elements d fields type at =
     option_and_then
@@ -113,7 +113,7 @@ asked_elements d fields type at =
     option_map (λ ((rows, cols) : ℕ × Option ℕ). tile_count rows cols * elements) (shape_in fields (at + 1)))
     (type_named d type)
 
--- with the collection that a record asks for the tiles of all collections have too many elements
+-- with the collection of this record, the tiles of all collections have too many elements
 abbrev pub has_too_many_elements : Draft → Record → Bool
 has_too_many_elements d fields =
     is_coll_with
@@ -121,18 +121,18 @@ has_too_many_elements d fields =
     option_map_or (λ n. not (nat_le (d.elements + n) most_elements)) (asked_elements d fields type at) false)
     fields
 
--- the tile's place is none of its collection
+-- the tile's place is outside its collection
 abbrev pub has_bad_index : Record → GrowingColl → Bool
 has_bad_index fields coll =
     both_pass (λ i j. is_none (slot_at coll i j)) (whole (field fields 2)) (column coll.shape.1 fields)
 
--- an earlier record gave the tile
+-- an earlier record has the same tile
 abbrev pub gives_tile_twice : Record → GrowingColl → Bool
 gives_tile_twice fields coll =
     both_pass (λ i j. option_map_or (λ slot. is_some slot.1) (slot_at coll i j) false)
     (whole (field fields 2)) (column coll.shape.1 fields)
 
--- whether a code fits a record after the first one, which comes after these data
+-- whether a code fits a record that follows the first one, given the data before it
 abbrev pub fits : Draft → Record → DataCode → Bool
 fits d fields TooLong = false
 fits d fields NoElems = false
@@ -163,7 +163,7 @@ fits_first fields code = false
 
 -- ---- the order of the codes
 
--- the codes in the order in which they are judged
+-- the codes, in the order in which they are judged
 abbrev pub all_codes : List DataCode
 all_codes =
     NoElems
@@ -185,7 +185,7 @@ all_codes =
     ∷ TileTwice
     ∷ []
 
--- the first code that fits a record after the first one, which comes after these data
+-- the first code that fits a record after the first one, given the data before it
 abbrev pub first_code : Draft → Record → Option DataCode
 first_code d fields = find (fits d fields) all_codes
 
@@ -193,10 +193,10 @@ first_code d fields = find (fits d fields) all_codes
 abbrev pub first_code_at_start : Record → Option DataCode
 first_code_at_start fields = find (fits_first fields) all_codes
 
--- the fault of a record is the first code that fits it, and a record that none fits has no fault
+-- The fault of a record is the first code that fits it. A record that no code fits has no fault.
 abbrev pub FaultIsFirstCode : Type 0
 FaultIsFirstCode = (d : Draft) (fields : Record) → result_err (later_record d fields) ≡ first_code d fields
 
--- the fault of the first record is the first code that fits it, and one that none fits has no fault
+-- The fault of the first record is the first code that fits it. If no code fits it, it has no fault.
 abbrev pub FaultAtStartIsFirstCode : Type 0
 FaultAtStartIsFirstCode = (fields : Record) → result_err (first_record fields) ≡ first_code_at_start fields

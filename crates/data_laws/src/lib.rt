@@ -1,4 +1,5 @@
-//! The data and the first fault of a text, from the whole list of its records.
+//! Laws of data files that no program cites: the data and the first fault follow from the whole list of records, with
+//! each code judged alone.
 #![tactic(auto)]
 
 mod laws;

@@ -9,7 +9,7 @@ use Rattle.data_read.proofs.Choices.{by_option, no_value}
 use Rattle.list_lemmas.proofs.Truth.{by_test}
 use Rattle.list_lemmas.proofs.Options.{by_result, same_Ok}
 
--- what a collection was asked to be
+-- the shape and the type that a collection asked for
 pub record IsAsked (d : Draft) (type : List ℕ) (fields : List (List ℕ)) (at : ℕ) (size : AskedColl) : Type 0 where
   pub known : ℕ × ℕ
   pub rows : ℤ

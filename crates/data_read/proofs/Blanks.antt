@@ -15,13 +15,13 @@ pub first_content : (bytes : List ℕ) (i : ℕ) → i < length bytes → is_bla
 unfolding after_blanks
 first_content bytes i lt w = rw (drop_more bytes i 0 lt, w) refl
 
--- a blank at the end counts for nothing
+-- a blank at the end does not count
 pub last_blank : (bytes : List ℕ) (b : ℕ) → is_blank b ≡ true → content_length (bytes ++ (b ∷ [])) ≡ content_length bytes
 unfolding content_length
 last_blank [] b w = rw w refl
 last_blank (x ∷ bytes) b w = rw (last_blank bytes b w) refl
 
--- a byte that is no blank ends what counts
+-- a byte that is no blank ends the content
 pub last_content : (bytes : List ℕ) (b : ℕ) → is_blank b ≡ false → content_length (bytes ++ (b ∷ [])) ≡ length bytes + 1
 unfolding content_length
 last_content [] b w = rw w refl

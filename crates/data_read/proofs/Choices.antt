@@ -1,4 +1,4 @@
--- What is known of a choice, a test or a value by its outcome.
+-- What the outcome of a choice, a test or a value shows.
 use Rattle.std.proofs.Common.{◌≡◌, Option, Some, None, Result, Ok, Err, refl}
 
 pub by_option : {A P : Type 0} (o : Option A) → (o ≡ None → P) → ((a : A) → o ≡ Some a → P) → P

@@ -1,4 +1,4 @@
--- Digits that spell a number that is not too large.
+-- Digits that spell a number within a limit.
 use Rattle.std.specs.Prelude.{nat_le}
 use Rattle.std.proofs.Common.{◌≡◌, ℕ, ◌≤◌, true, false, cond, List, [], ◌∷◌, Option, Some, None, refl, arith}
 use Rattle.std.specs.Prelude.{MatchOption, IfSome}

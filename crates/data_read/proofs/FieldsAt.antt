@@ -1,4 +1,4 @@
--- The field of a number in a record.
+-- The field with a given number in a record.
 use Rattle.std.proofs.Common.{◌≡◌, ℕ, zero, suc, List, [], ◌∷◌, get_or, Option, unwrap_or, refl}
 use Rattle.csv.specs.Records.{field_at}
 

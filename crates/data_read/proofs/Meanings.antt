@@ -1,4 +1,4 @@
--- What a name stands for, as integers, collections and tiles are added.
+-- The meanings of names, as integers, collections and tiles are added.
 use Rattle.std.proofs.Common.{◌≡◌, ℕ, zero, suc, ◌+◌, ◌<◌, ℤ, Bool, true, false, not, cond, ◌||◌, List, [], ◌∷◌, ◌++◌, length, get_or, set, Option, Some, None, is_some, option_map, bytes_eq, refl, sym, ◌∙◌, ap, subst, inl, inr, arith}
 use Rattle.std.proofs.lemmas.Bool.{cases_Bool, cond-true, cond-false, or_right}
 use Rattle.std.specs.List.{list_any}
@@ -27,7 +27,7 @@ by_collection (Some m) b at same = cc
 by_collection None true at same = absurd cc
 by_collection None false at same = absurd cc
 
--- a name that is new has no meaning
+-- a new name has no meaning
 pub no_meaning : (o : Option ℕ) (b : Bool) → not (is_some o || b) ≡ true → coll_or_int o b ≡ None
 no_meaning (Some at) b e = absurd cc
 no_meaning None true e = absurd cc

@@ -1,4 +1,4 @@
--- What a read of a record does to the records that a reader has left.
+-- How a read of a record changes the records that a reader has left.
 use Rattle.std.specs.Prelude.{◌==◌, ◌&&◌}
 use Rattle.std.proofs.Common.{◌≡◌, ℕ, zero, suc, ◌+◌, ◌<◌, ◌≤◌, Bool, true, false, cond, List, [], ◌∷◌, ◌++◌, length, Option, Some, None, refl, sym, ◌∙◌, ap, inl, arith}
 use Rattle.std.proofs.lemmas.Bool.{cond-false}
@@ -22,7 +22,7 @@ use Rattle.list_lemmas.proofs.Truth.{by_test}
 
 -- ---- a record ends between two records
 
--- an action that ends the record leaves this state
+-- an action that ends a record leaves a state between two records
 record EndsBetween (p : State × Action) : Type 0 where
   ends : is_end p.1 ≡ true → ends_at_end p.0 ≡ false
 
@@ -107,7 +107,7 @@ took_some cfg s fields field (c ∷ rest) p between e =
     let few = more.fewer in
     omega arith)
 
--- ---- the records do not depend on how many are asked for, where that is enough
+-- ---- the records do not depend on the bound, if it is large enough
 
 same_records : (cfg : Config) (n m : ℕ) (s : State) (xs : List ℕ) → ends_at_end s ≡ false → length xs < n → length xs < m → records_from cfg n s xs ≡ records_from cfg m s xs
 unfolding records_from
@@ -120,7 +120,7 @@ same_records cfg (suc n) (suc m) s xs between h k =
     let less = took_some cfg s [] [] xs p between e in
     rw e (ap (λ records. p.0 ∷ records) (same_records cfg n m p.1 p.2 (took cfg s [] [] xs p e).between (omega arith) (omega arith))))
 
--- the records of a text by its next one
+-- the records of a text, given its next one
 records_by : (cfg : Config) (n : ℕ) (s : State) (xs : List ℕ) → records_from cfg (n + 1) s xs ≡ records_next (records_from cfg n) (next_record cfg s [] [] xs)
 unfolding records_from
 records_by cfg n s xs = ap (λ (k : ℕ). records_from cfg k s xs) (let more : n + 1 ≡ suc n = omega arith in more)
@@ -172,7 +172,7 @@ record_found a b records fields has first same_flexible r =
       },
     )
 
--- where no record was found there is none
+-- if no record was found, none is left
 pub records_ended : (a b : Reader (Bor (List ℕ))) (records : List (List (List ℕ))) (fields : List (List ℕ)) → HasRecords a records → ReadRecord bytes_of a b false fields → records ≡ []
 records_ended a b records fields has r =
     has.records_are ∙ records_by default_config (length has.rest) (reader_state a) has.rest

@@ -1,4 +1,4 @@
--- The data so far, and what the records that are left make of them.
+-- The data so far, and what the remaining records make of them.
 use Rattle.std.proofs.Common.{◌≡◌, ℕ, ◌+◌, ◌-◌, Bool, true, false, List, [], ◌∷◌, length, Result, Ok, Err, refl, sym, ◌∙◌, ap, subst, arith}
 use denote.Ref.{Bor}
 use Rattle.csv.specs.declared.reader.Reader.{Reader}
@@ -26,8 +26,8 @@ Records = List (List (List ℕ))
 abbrev SliceReader : Type 0
 SliceReader = Reader (Bor (List ℕ))
 
--- of these records, which are added to this draft from the second on, that of this number is the next one, and those that are
--- left make of the draft so far what all of them make
+-- Records are added to the draft `first` from the second on. The record numbered `row` is next, and the remaining ones
+-- make of the draft so far what all of them make.
 pub record AddedSoFar (records : Records) (first : Draft) (row : ℕ) (d : Draft) (reader : SliceReader) : Type 0 where
   pub left : Records
   pub has : HasRecords reader left
@@ -42,7 +42,7 @@ no_more : (records : Records) (fields : List (List ℕ)) (reader : SliceReader) 
 no_more records fields reader true next e = absurd cc
 no_more records fields reader false next e = next
 
--- records that are added to sound data leave them sound
+-- records that are added to sound data keep them sound
 all_sound : (records : Records) (row : ℕ) (d after : Draft) → IsSound d → later_records row d records ≡ Ok after → IsSound after
 all_sound [] row d after sound is = subst IsSound (let same : d ≡ after = cc in same) sound
 all_sound (fields ∷ records) row d after sound is =
@@ -68,7 +68,7 @@ module _ (records : Records) (fields : List (List ℕ)) (reader : SliceReader) (
   later_of elems d is begins left more =
       ap all_records more ∙ ap (λ r. then_at 1 r (λ elements. later_records 2 (begun elements) left)) is ∙ ap (λ (b : Draft). later_records 2 b left) (sym begins)
 
-  -- the records after the first, by what adding them returned
+  -- the records after the first, given what adding them returned
   module _ (elems : ℕ) (d : Draft) (is : first_record fields ≡ Ok elems) (begins : d ≡ begun elems) where
     pub later_left : (left : Records) × (records ≡ fields ∷ left) × HasRecords reader left
     later_left = one_more records fields reader found next e

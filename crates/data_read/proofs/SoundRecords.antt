@@ -1,4 +1,4 @@
--- Each record leaves the data so far sound.
+-- Each record keeps the data so far sound.
 use Rattle.std.specs.Prelude.{◌==◌, ◌&&◌, ◌||◌, nat_le, nat_lt}
 use Rattle.std.proofs.Common.{◌≡◌, ℕ, suc, ◌+◌, ◌*◌, ◌<◌, ◌≤◌, ℤ, pos, negsuc, true, List, [], ◌∷◌, ◌++◌, length, map, get_or, replicate, codes, bytes_eq, Option, Some, None, option_map, option_and_then, Ok, IsTrue, refl, sym, ◌∙◌, ap, subst, inl, inr, arith, mul-pos}
 use Rattle.std.specs.List.{list_all, AllByRecursion}
@@ -121,7 +121,7 @@ int_sound d e fields sound is =
 
 -- ---- collections
 
--- a type that has a name is one of them
+-- a type that a name finds is one of the types
 record IsTypeAt (number : ℕ) (types : List (List ℕ × ℕ)) (known : ℕ × ℕ) : Type 0 where
   place : ℕ
   within : place < length types
@@ -157,7 +157,7 @@ with_coll_sound d name shape datatype elements sound within is some few room =
       at_most = room;
     }
 
--- a shape has from 1 to 65,536 tiles
+-- a shape has 1 to 65,536 tiles
 record HasTiles (shape : ℕ × Option ℕ) : Type 0 where
   some : 1 ≤ tile_count shape.0 shape.1
   few : tile_count shape.0 shape.1 ≤ 65536
@@ -201,7 +201,7 @@ shape_has : (rows : ℤ) (cols : Option ℤ) (shape : ℕ × Option ℕ) → sha
 shape_has rows None shape e = line_has (side rows) shape (side_parts rows) e
 shape_has rows (Some cols) shape e = matrix_has (side rows) (side cols) shape (side_parts rows) (side_parts cols) e
 
--- what a collection was asked to be
+-- the shape and the type that a collection asked for
 record IsSizeOf (d : Draft) (size : AskedColl) : Type 0 where
   within : size.datatype < length (counts_of d)
   is : get_or (counts_of d) size.datatype 0 ≡ size.elements

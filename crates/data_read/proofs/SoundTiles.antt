@@ -1,4 +1,4 @@
--- Records of tiles, and any record, leave the data so far sound.
+-- Records of tiles, and so all records, keep the data so far sound.
 use Rattle.std.specs.Prelude.{nat_le}
 use Rattle.std.proofs.Common.{◌≡◌, ℕ, ◌+◌, ◌-◌, ◌*◌, ℤ, List, length, drop, get_or, set, slice_get, codes, bytes_eq, Option, Some, None, option_map, Ok, refl, ◌∙◌, ap, subst, arith, length-set}
 use Rattle.std.specs.List.{sum_by}

@@ -1,4 +1,4 @@
--- What holds of the data so far after each record, and that the data are well made at the end.
+-- What holds for the data so far after each record, and that at the end the data are well made.
 use Rattle.std.specs.Prelude.{◌&&◌}
 use Rattle.std.proofs.Common.{◌≡◌, ℕ, zero, suc, ◌+◌, ◌*◌, ◌<◌, ◌≤◌, ℤ, pos, Bool, true, false, List, [], ◌∷◌, ◌++◌, length, map, get_or, replicate, unwrap_or, Option, IsTrue, refl, sym, ◌∙◌, ap, arith}
 use Rattle.std.specs.List.{list_all, AllByRecursion, sum_by}
@@ -38,7 +38,7 @@ all_true_push p (y ∷ ys) x all one = let parts = both (p y) (list_all p ys) al
 abbrev pub counts_of : Draft → List ℕ
 counts_of d = d.elems ∷ map (λ (type : List ℕ × ℕ). type.1) d.types
 
--- the tile has so many elements, once zeros are in the place of one that no record gave
+-- the tile has this many elements, with zeros if no record has it
 abbrev pub HasLength : ℕ → Option (List ℤ) → Type 0
 HasLength elements tile = length (unwrap_or tile (replicate elements (pos 0))) ≡ elements
 

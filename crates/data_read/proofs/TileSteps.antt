@@ -20,7 +20,7 @@ tile_step d fields name at coll enough named is_field index got =
     let here : coll_index (field fields 1) d.colls ≡ Some at = ap (λ (n : List ℕ). coll_index n d.colls) (sym is_field) ∙ index in
     rw (enough, named, here, got) refl
 
--- two reads of one place give one value
+-- two reads of one index return one value
 pub same_read : (colls : List GrowingColl) (at : ℕ) (a b : GrowingColl) → at < length colls → a ≡ get_or colls at a → b ≡ get_or colls at b → a ≡ b
 same_read colls at a b within is_a is_b = same_Some a b (sym (slice_get_read colls (length colls) at a refl within is_a) ∙ slice_get_read colls (length colls) at b refl within is_b)
 
@@ -30,7 +30,7 @@ pub tile_keyed : (ints : List (List ℕ × ℤ)) (colls : List GrowingColl) (at 
 tile_keyed ints colls at coll lent n known named is was =
     was ∙ ap (λ o. coll_or_int o (list_any (of_int n) ints)) (sym (index_set n colls at coll lent (named ∙ ap (λ (c : GrowingColl). c.name) is)))
 
--- the place of a tile has a fault
+-- the fault of a tile's place
 pub no_place : (fields : List (List ℕ)) (coll : GrowingColl) (i j : ℤ) (tile : List ℤ) (code : DataCode)
     → (nat_le 1 (length fields - first_value coll.shape.1) && nat_le (length fields - first_value coll.shape.1) coll.elements) ≡ true
     → whole (field fields 2) ≡ Some i → column coll.shape.1 fields ≡ Some j → option_map (opened coll.elements) (numbers (drop (first_value coll.shape.1) fields)) ≡ Some tile

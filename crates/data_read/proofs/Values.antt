@@ -41,7 +41,7 @@ numbers_length (g ∷ fields) zs all =
     let size : length zs ≡ length (parts.first ∷ parts.rest) = ap length (sym parts.is_all) in
     omega arith
 
--- a field that spells no number
+-- a field spells no number
 pub no_numbers : (fields : List (List ℕ)) (i : ℕ) → i < length fields → whole (without_blanks (get_or fields i [])) ≡ None → numbers fields ≡ None
 no_numbers [] i within e = absurd (omega arith)
 no_numbers (g ∷ fields) zero within e = ap (λ o. joined o (numbers fields)) e

@@ -1,5 +1,8 @@
 -- The fields of a record of a data file: blanks around them, names, and whole numbers. Names are spelled as in the JDF
 -- documentation; the rest is this project's own choice.
+-- Carried by: `read_data`; laws `data_laws::faults_are_first`, `data_laws::data_are_by_records`,
+-- `data_laws::the_first_code_is_the_fault`.
+-- Tested by: `data_codes.txt`, `data_forms.txt`, `data_limits.txt`, `data_orders.txt`.
 use Rattle.std.specs.Prelude.{ℕ, ◌+◌, Bool, ◌&&◌, ◌||◌, ◌==◌, ℤ, pos, neg_ℤ, List, [], ◌∷◌, take, get_or, Option, Some, None, if◌then◌else◌, bytes_eq}
 use Rattle.ptg_base.specs.Limits.{most_number}
 use Rattle.ptg_base.specs.Decimal.{is_decimal, decimal}
@@ -23,7 +26,7 @@ content_length (b ∷ bs) = if (content_length bs == 0) && is_blank b then 0 els
 abbrev pub without_blanks : List ℕ → List ℕ
 without_blanks bytes = take (content_length (after_blanks bytes)) (after_blanks bytes)
 
--- the field of this number, counted from 0, without the blanks around it; no bytes where the record has no such field
+-- the field of this number, counted from 0, without the blanks around it; no bytes if the record has no such field
 abbrev pub field : List (List ℕ) → ℕ → List ℕ
 field fields at = without_blanks (get_or fields at [])
 
@@ -39,7 +42,7 @@ positive digits = if is_decimal most_number digits then Some (pos (decimal digit
 abbrev pub negative : List ℕ → Option ℤ
 negative digits = if is_decimal (most_number + 1) digits then Some (neg_ℤ (pos (decimal digits))) else None
 
--- a whole number is a `-`, a `+` or no sign, and digits
+-- a whole number: perhaps a `-` or a `+`, and then digits
 abbrev pub whole : List ℕ → Option ℤ
 whole [] = None
 whole (b ∷ bs) = if b == 45 then negative bs else if b == 43 then positive bs else positive (b ∷ bs)

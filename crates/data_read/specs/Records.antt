@@ -1,5 +1,8 @@
--- What one record adds to the data, or the first code of its faults. Each record is judged test by test, in the order
--- of the codes, and the first test that fails names its fault. Source: this project's own choice.
+-- What one record adds to the data, or the code of its fault. Each record is judged test by test, in the order of the
+-- codes, and the first test that fails names the fault.
+-- Carried by: `read_data`; laws `data_laws::faults_are_first`, `data_laws::data_are_by_records`,
+-- `data_laws::the_first_code_is_the_fault`.
+-- Tested by: `data_codes.txt`, `data_forms.txt`, `data_limits.txt`, `data_orders.txt`.
 use Rattle.std.specs.Prelude.{ℕ, ◌+◌, ◌-◌, ◌*◌, ℤ, pos, negsuc, Bool, not, ◌&&◌, ◌||◌, ◌==◌, nat_le, nat_lt, List, [], ◌∷◌, length, drop, codes, Option, Some, None, is_some, Result, Ok, Err, option_map, option_and_then, if◌then◌else◌, ok_or}
 use Rattle.ptg_base.specs.Limits.{most_elements, most_named_types, most_tiles}
 use Rattle.ptg_base.specs.Returns.{and_then}
@@ -13,7 +16,7 @@ use Rattle.data_read.specs.declared.growing.AskedColl.{AskedColl as AskedStruct}
 use Rattle.data_read.specs.Fields.{field, is_name, whole, without_blanks, begins}
 use Rattle.data_read.specs.Draft.{Draft, type_named, coll_named, is_new, slot_at, opened, with_type, with_int, with_coll, with_tile}
 
--- the struct of what a collection is asked to be; laws of other crates name it by this
+-- the code's struct of the shape and the type that a collection asks for; laws of other crates use this name for it
 abbrev pub AskedColl : Type 0
 AskedColl = AskedStruct
 
@@ -25,7 +28,7 @@ require passed code next = if passed then next else Err code
 abbrev pub demand : {A B : Type 0} → Option A → DataCode → (A → Result B DataCode) → Result B DataCode
 demand a code next = and_then (ok_or a code) next
 
--- a number from 1 to 4,096
+-- the number, if it is from 1 to 4,096
 abbrev pub as_element_count : ℤ → Option ℕ
 as_element_count (pos n) = if is_element_count n then Some n else None
 as_element_count (negsuc n) = None
@@ -41,7 +44,7 @@ first_record fields =
     (require (length fields == 2) FieldCount
     (demand (element_count (field fields 1)) BadElems (λ elements. Ok elements)))
 
--- `elems,TYPE,E`: one type more; there are at most 16, DEFAULT counted
+-- `elems,TYPE,E`: one more type; there are at most 16, counting DEFAULT
 abbrev pub type_record : Draft → List (List ℕ) → Result Draft DataCode
 type_record d fields =
     require (not (length fields == 2)) ElemsTwice
@@ -52,7 +55,7 @@ type_record d fields =
     (require (nat_lt (length d.types) most_named_types) TooManyTypes
     (Ok (with_type d (field fields 1) elements)))))))
 
--- `int,NAME,V`: one integer more
+-- `int,NAME,V`: one more integer
 abbrev pub int_record : Draft → List (List ℕ) → Result Draft DataCode
 int_record d fields =
     require (length fields == 3) FieldCount
@@ -61,16 +64,16 @@ int_record d fields =
     (demand (whole (field fields 2)) BadNumber (λ value.
     Ok (with_int d (field fields 1) value)))))
 
--- the number of columns in the field of this number; none where the record ends before it
+-- the number of columns in the field of this number; none if the record ends before that field
 abbrev pub columns : List (List ℕ) → ℕ → Option (Option ℤ)
 columns fields at = if nat_lt at (length fields) then option_map (λ z. Some z) (whole (field fields at)) else Some None
 
--- a number from 1 to 65,536
+-- the number, if it is from 1 to 65,536
 abbrev pub side : ℤ → Option ℕ
 side (pos n) = if nat_le 1 n && nat_le n most_tiles then Some n else None
 side (negsuc n) = None
 
--- the shape of this many rows and columns, if it has from 1 to 65,536 tiles
+-- the shape with this many rows and columns, if it has 1 to 65,536 tiles
 abbrev pub shape_of : ℤ → Option ℤ → Option (ℕ × Option ℕ)
 shape_of rows None = option_map (λ r. (r, None)) (side rows)
 shape_of rows (Some cols) =
@@ -78,9 +81,9 @@ shape_of rows (Some cols) =
     (λ r. option_and_then (λ c. if nat_le (r * c) most_tiles then Some (r, Some c) else None) (side cols))
     (side rows)
 
--- the shape, the type and the elements of a tile of a collection of the type of this name: its rows are the field of
--- the number given, and its columns the next one, if there is one. The tiles of all collections have at most 2 ^ 24
--- elements
+-- the shape of a collection and the type of its tiles, which has this name. The rows are in the field of the given
+-- number; the columns, if there are any, are in the next one. The tiles of all collections have at most 2 ^ 24
+-- elements.
 abbrev pub asked_coll : Draft → List ℕ → List (List ℕ) → ℕ → Result AskedColl DataCode
 asked_coll d type fields at =
     demand (type_named d type) UnknownType (λ known.
@@ -90,7 +93,8 @@ asked_coll d type fields at =
     require (nat_le (d.elements + tile_count shape.0 shape.1 * known.1) most_elements) TooManyElements
     (Ok (record { shape = shape; datatype = known.0; elements = known.1 }))))))
 
--- a collection of the type of this name: its own name is the field of the number given, and its size follows
+-- one more collection, with tiles of the type with this name: its own name is in the field of the given number, and its
+-- size follows
 abbrev pub coll_of : Draft → List ℕ → List (List ℕ) → ℕ → Result Draft DataCode
 coll_of d type fields at =
     require (is_name type && is_name (field fields at)) BadName
@@ -98,17 +102,17 @@ coll_of d type fields at =
     (and_then (asked_coll d type fields (at + 1)) (λ size.
     Ok (with_coll d (field fields at) size.shape size.datatype size.elements))))
 
--- `coll,NAME,R` or `coll,NAME,R,C`: one collection more, of type DEFAULT
+-- `coll,NAME,R` or `coll,NAME,R,C`: one more collection, with tiles of type DEFAULT
 abbrev pub coll_record : Draft → List (List ℕ) → Result Draft DataCode
 coll_record d fields =
     require ((length fields == 3) || (length fields == 4)) FieldCount (coll_of d default_type fields 1)
 
--- `collof,TYPE,NAME,R` or `collof,TYPE,NAME,R,C`: one collection more, of the type of this name
+-- `collof,TYPE,NAME,R` or `collof,TYPE,NAME,R,C`: one more collection, with tiles of the type with this name
 abbrev pub collof_record : Draft → List (List ℕ) → Result Draft DataCode
 collof_record d fields =
     require ((length fields == 4) || (length fields == 5)) FieldCount (coll_of d (field fields 1) fields 2)
 
--- the field with the first value of a tile: it follows one index, or two where there are columns
+-- the number of the field that has the first value of a tile: it follows one index, or two if there are columns
 abbrev pub first_value : Option ℕ → ℕ
 first_value None = 3
 first_value (Some cols) = 4
@@ -124,14 +128,14 @@ numbers [] = Some []
 numbers (bytes ∷ fields) =
     option_and_then (λ z. option_map (λ zs. z ∷ zs) (numbers fields)) (whole (without_blanks bytes))
 
--- the index of the tile in row i and column j, which no record gave before
+-- the index of the tile in row i and column j, if no earlier record has that tile
 abbrev pub free_index : GrowingColl → ℤ → ℤ → Result ℕ DataCode
 free_index coll i j =
     demand (slot_at coll i j) BadIndex (λ slot.
     require (not (is_some slot.1)) TileTwice
     (Ok slot.0))
 
--- the index of a tile of this collection that no record gave before, and the tile
+-- the tile of a record, with its index in this collection, if no earlier record has that tile
 abbrev pub new_tile : List (List ℕ) → GrowingColl → Result (ℕ × List ℤ) DataCode
 new_tile fields coll =
     require (nat_le 1 (length fields - first_value coll.shape.1)
@@ -142,7 +146,7 @@ new_tile fields coll =
     and_then (free_index coll i j) (λ index.
     Ok (index, opened coll.elements values))))))
 
--- `tile,NAME,i,v0,..` or `tile,NAME,i,j,v0,..`: the opening values of a tile, as many as its type has elements at most;
+-- `tile,NAME,i,v0,..` or `tile,NAME,i,j,v0,..`: the opening values of a tile, at most as many as its type has elements;
 -- the others are 0
 abbrev pub tile_record : Draft → List (List ℕ) → Result Draft DataCode
 tile_record d fields =
@@ -152,7 +156,7 @@ tile_record d fields =
     and_then (new_tile fields found.1) (λ tile.
     Ok (with_tile d found.0 found.1 tile.0 tile.1)))))
 
--- a record after the first one, by its first field
+-- a record after the first one, chosen by its first field
 abbrev pub later_record : Draft → List (List ℕ) → Result Draft DataCode
 later_record d fields =
     if begins (codes "elems") fields then type_record d fields

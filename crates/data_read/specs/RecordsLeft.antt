@@ -1,4 +1,4 @@
--- The records that a reader has left.
+-- The records that a reader has still to read.
 use Rattle.std.specs.Prelude.{◌≡◌, ℕ, ◌+◌, ⊤, Bool, true, false, List, [], ◌∷◌, length, Option, Some}
 use Rattle.std.specs.Bool.{MatchBool}
 use denote.Ref.{Bor}
@@ -9,12 +9,11 @@ use Rattle.csv.specs.declared.error.ErrorKind.TheVariants as kind
 use Rattle.csv.specs.declared.reader.Reader.{Reader}
 use Rattle.csv.specs.declared.reader.Trim.TheVariants as trim
 
--- the bytes that a slice has left to read
+-- the bytes of a slice that are still to be read
 abbrev pub bytes_of : Bor (List ℕ) → Option (List ℕ)
 bytes_of slice = Some slice.now
 
--- the reader stands between two records of a text, and these are the records of what is left of it, of any number of
--- fields each
+-- the reader is between two records of a text, and these are the records that are left, each with any number of fields
 pub record HasRecords (reader : Reader (Bor (List ℕ))) (records : List (List (List ℕ))) : Type 0 where
   pub untrimmed : reader_trim reader ≡ trim.None
   pub ready : Ready reader
@@ -25,12 +24,12 @@ pub record HasRecords (reader : Reader (Bor (List ℕ))) (records : List (List (
   pub between : ends_at_end (reader_state reader) ≡ false
   pub records_are : records ≡ records_from default_config (length rest + 1) (reader_state reader) rest
 
--- there was no record, or these fields were the next one and the reader has those after it
+-- either there was no record, or these fields were the next one and the reader has the records after it
 abbrev pub NextRecord : List (List (List ℕ)) → Bool → List (List ℕ) → Reader (Bor (List ℕ)) → Type 0
 NextRecord records found fields reader =
     MatchBool found ((rest : List (List (List ℕ))) × (records ≡ fields ∷ rest) × HasRecords reader rest) (records ≡ [])
 
--- the reader underneath or memory is why a record was not read
+-- a record was not read because of the reader underneath or of memory
 abbrev pub IsOfReading : ErrorKind → Type 0
 IsOfReading (kind.Io e) = ⊤
 IsOfReading kind.OutOfMemory = ⊤

@@ -1,4 +1,4 @@
-//! Records of collections.
+//! Adds records of collections.
 
 ghost use Rattle.std.specs.Prelude.{◌≡◌, ◌≤◌, ◌+◌, ◌*◌, replicate, None, Some, IfOk, IfSome, OnOk, IsTrue};
 ghost use Rattle.ptg_base.specs.Limits.{most_elements, most_tiles};
@@ -17,13 +17,14 @@ use csv::ByteRecord;
 use ptg_base::{OutOfMemory, Refusal, Seq, Text, Tile, is_name};
 use std::alloc::Global;
 
-// How many tiles a collection may have.
+// The most tiles of a collection.
 const MOST_TILES: i64 = 65_536;
 
-// How many elements all tiles of the data may have.
+// The most elements of all tiles of the data.
 const MOST_ELEMENTS: u64 = 16_777_216;
 
-// The number of columns in the field of this number; none where the record ends before it.
+// The number of columns in the field of this number. `Some(None)`: the record ends before that field; `None`: it spells
+// no number.
 fn columns(fields: &ByteRecord, at: usize) -> Option<Option<i64>>
     ensures { result ≡ columns (fields_of fields.now) at }
 {
@@ -35,7 +36,7 @@ fn columns(fields: &ByteRecord, at: usize) -> Option<Option<i64>>
     }
 }
 
-// A number from 1 to 65,536.
+// The number, if it is from 1 to 65,536.
 fn side(n: i64) -> Option<u32>
     ensures side { result ≡ side n }
     ensures at_most { IfSome result (λ n. n ≤ most_tiles) }
@@ -47,7 +48,7 @@ fn side(n: i64) -> Option<u32>
     }
 }
 
-// The shape of this many rows and columns, if it has from 1 to 65,536 tiles.
+// The shape with this many rows and columns, if it has 1 to 65,536 tiles.
 fn shape_of(rows: i64, cols: Option<i64>) -> Option<(u32, Option<u32>)>
     ensures shape { result ≡ shape_of rows cols }
     ensures at_most { IfSome result (λ (rows, cols). tile_count rows cols ≤ most_tiles) }
@@ -63,7 +64,7 @@ fn shape_of(rows: i64, cols: Option<i64>) -> Option<(u32, Option<u32>)>
     Some((rows, Some(cols)))
 }
 
-// What the collection of a record is asked to be.
+// The shape and the type that a record asks for. Its rows are in the field `at`.
 fn asked_coll(
     all: &Growing,
     datatype: &[u8],
@@ -99,7 +100,7 @@ fn asked_coll(
     })
 }
 
-// This many places without a tile.
+// A list of this many places without a tile.
 fn no_tiles(alloc: Global, count: u32) -> Result<Seq<Option<Tile>>, OutOfMemory>
     ensures { IfOk result (λ tiles. tiles ≡ replicate count None) }
 {
@@ -110,7 +111,7 @@ fn no_tiles(alloc: Global, count: u32) -> Result<Seq<Option<Tile>>, OutOfMemory>
     Ok(tiles)
 }
 
-// Adds a collection of this name, which is new.
+// Adds a collection with this name, which must be new.
 fn push_coll(
     alloc: Global,
     all: &mut Growing,
@@ -141,8 +142,7 @@ fn push_coll(
     Ok(())
 }
 
-// Adds the collection of a record, of the type of this name; the name of the collection is the field of the number
-// given.
+// Adds the collection of a record, with tiles of the type named `datatype`. Its own name is in the field `at`.
 fn add_coll_of(
     alloc: Global,
     all: &mut Growing,

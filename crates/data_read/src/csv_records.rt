@@ -1,4 +1,4 @@
-//! The records of a text, one after another.
+//! Reads the records of a text, one after another.
 
 ghost use Rattle.std.specs.Prelude.{List, ℕ, IfOk};
 ghost use Rattle.csv.specs.Reading.{error_kind};
@@ -10,7 +10,7 @@ use csv::{ByteRecord, Error, ErrorKind, Reader, ReaderBuilder};
 use ptg_base::OutOfMemory;
 use std::alloc::Global;
 
-// A reader of the records of a text.
+// A reader at the first record of a text.
 pub(crate) fn reader_of(alloc: Global, text: &[u8]) -> Reader<&[u8]>
     ensures { HasRecords result (records_of text.now) }
 {
@@ -20,7 +20,7 @@ pub(crate) fn reader_of(alloc: Global, text: &[u8]) -> Reader<&[u8]>
         .from_reader(alloc, text)
 }
 
-// The next record, if there is one.
+// Reads the next record; false if there is none.
 pub(crate) fn next_record(
     reader: &mut Reader<&[u8]>,
     fields: &mut ByteRecord,
@@ -35,8 +35,8 @@ pub(crate) fn next_record(
     }
 }
 
-// Why a record was not read: records may have any number of fields, and bytes need not be text. A slice is read without
-// faults, so memory is left.
+// Why a record was not read. Records may have any number of fields, bytes need not be text, and reading a slice never
+// fails. So memory ran out.
 fn cause_of(error: &Error) -> OutOfMemory
     requires { IsOfReading (error_kind error.now) }
 {

@@ -1,4 +1,4 @@
-//! The fields of a record.
+//! Reads the fields of a record.
 
 ghost use Rattle.std.specs.Prelude.{◌≡◌, ◌≤◌, length, drop, IfSome, Some, None, if◌then◌else◌};
 ghost use Rattle.ptg_base.specs.Decimal.{decimal, is_decimal};
@@ -9,7 +9,7 @@ ghost use Rattle.data_read.specs.Records.{element_count};
 use csv::ByteRecord;
 use ptg_base::{MOST_NUMBER, decimal};
 
-// How many elements a tile may have.
+// The most elements of a tile.
 const MOST_TILE_ELEMENTS: i64 = 4096;
 
 // Whether the byte is a space or a tab.
@@ -19,7 +19,7 @@ fn is_blank(b: u8) -> bool
     b == b' ' || b == b'\t'
 }
 
-// How many blanks come first.
+// How many blanks the bytes begin with.
 fn first_blanks(bytes: &[u8]) -> usize
     ensures value { drop result bytes.now ≡ after_blanks bytes.now }
     ensures within { result ≤ length bytes.now }
@@ -32,7 +32,7 @@ fn first_blanks(bytes: &[u8]) -> usize
     bytes.len()
 }
 
-// How many bytes come before the blanks at the end.
+// How many bytes there are before the blanks at the end.
 fn content_length(bytes: &[u8]) -> usize
     ensures value { result ≡ content_length bytes.now }
     ensures within { result ≤ length bytes.now }
@@ -54,7 +54,7 @@ fn without_blanks(bytes: &[u8]) -> &[u8]
     &rest[..content_length(rest)]
 }
 
-// The field of this number, counted from 0, without the blanks around it.
+// The field of this number, counted from 0, without the blanks around it; empty if the record has no such field.
 pub(crate) fn field(fields: &ByteRecord, at: usize) -> &[u8]
     ensures { result.now ≡ field (fields_of fields.now) at }
 {
@@ -72,7 +72,7 @@ fn digits_at_most(digits: &[u8], most: u64) -> Option<u64>
     decimal(digits, most)
 }
 
-// The number of these digits, if it fits 64 bits with a sign.
+// The number that these digits spell, if it fits 64 bits with a sign.
 fn positive(digits: &[u8]) -> Option<i64>
     ensures { result ≡ positive digits.now }
 {
@@ -82,7 +82,7 @@ fn positive(digits: &[u8]) -> Option<i64>
     }
 }
 
-// The number of these digits after a minus, if it fits 64 bits with a sign.
+// The number that a minus and these digits spell, if it fits 64 bits with a sign.
 fn negative(digits: &[u8]) -> Option<i64>
     ensures { result ≡ negative digits.now }
 {
@@ -93,7 +93,7 @@ fn negative(digits: &[u8]) -> Option<i64>
     }
 }
 
-// The whole number that the bytes spell.
+// The whole number that the bytes spell, if they spell one that fits 64 bits with a sign.
 pub(crate) fn whole(bytes: &[u8]) -> Option<i64>
     ensures { result ≡ whole bytes.now }
 {
@@ -105,7 +105,7 @@ pub(crate) fn whole(bytes: &[u8]) -> Option<i64>
     }
 }
 
-// The number of elements that the bytes spell, from 1 to 4,096.
+// The number of elements that the bytes spell, if it is from 1 to 4,096.
 pub(crate) fn element_count(bytes: &[u8]) -> Option<u32>
     ensures { result ≡ element_count bytes.now }
 {

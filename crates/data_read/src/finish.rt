@@ -1,4 +1,4 @@
-//! The data of all records.
+//! Makes the data from all records.
 
 ghost use Rattle.std.specs.Prelude.{◌≡◌, map, pos, replicate, unwrap_or, IfOk, ℤ, Option, List};
 ghost use Rattle.coll_data.specs.WellMade.{IsWellMade};
@@ -10,7 +10,7 @@ use coll_data::{Coll, Given};
 use ptg_base::{OutOfMemory, Seq, Tile};
 use std::alloc::Global;
 
-// The tile that a record gave, or zeros.
+// The tile of a record, or else zeros.
 fn tile_or_zeros(alloc: Global, tile: Option<Tile>, elements: u32) -> Result<Tile, OutOfMemory>
     ensures { IfOk result (λ whole. whole ≡ unwrap_or tile (replicate elements (pos 0))) }
 {
@@ -20,7 +20,7 @@ fn tile_or_zeros(alloc: Global, tile: Option<Tile>, elements: u32) -> Result<Til
     }
 }
 
-// The tiles that records gave, and zeros for the others.
+// The tiles of records, with zeros for the others.
 fn whole_tiles(
     alloc: Global,
     tiles: Seq<Option<Tile>>,
@@ -36,7 +36,7 @@ fn whole_tiles(
     Ok(whole)
 }
 
-// A collection, with zeros where no record gave a tile.
+// A collection, with zeros for each tile that has no record.
 fn finished(alloc: Global, coll: GrowingColl) -> Result<Coll, OutOfMemory>
     ensures { IfOk result (λ whole. whole ≡ finished coll) }
 {
@@ -49,7 +49,7 @@ fn finished(alloc: Global, coll: GrowingColl) -> Result<Coll, OutOfMemory>
     })
 }
 
-// All collections.
+// All collections, with zeros for each tile that has no record.
 fn all_finished(alloc: Global, colls: Vec<GrowingColl>) -> Result<Seq<Coll>, OutOfMemory>
     ensures { IfOk result (λ whole. whole ≡ map finished colls.items) }
 {

@@ -6,7 +6,7 @@ ghost use Rattle.ptg_base.specs.Limits.{most_elements, most_named_types};
 use name_table::NameTable;
 use ptg_base::{Seq, Text, Tile};
 
-/// A collection, with the tiles that records gave.
+/// A collection with the tiles of the records so far.
 #[derive(Drop)]
 pub(crate) struct GrowingColl {
     pub(crate) name: Text,
@@ -14,11 +14,11 @@ pub(crate) struct GrowingColl {
     pub(crate) datatype: u32,
     /// How many elements each tile has.
     pub(crate) elements: u32,
-    /// For each place the tile that a record gave, row by row.
+    /// For each place the tile of its record, if there was one, row by row.
     pub(crate) tiles: Seq<Option<Tile>>,
 }
 
-/// What a collection is asked to be.
+/// The shape and the type of tiles that a record of a collection asks for.
 #[derive(Clone, Copy)]
 pub(crate) struct AskedColl {
     pub(crate) shape: (u32, Option<u32>),
@@ -26,11 +26,11 @@ pub(crate) struct AskedColl {
     pub(crate) elements: u32,
 }
 
-/// What a name stands for.
+/// The meaning of a name.
 #[derive(Clone, Copy, Drop)]
 pub(crate) enum Known {
     Integer,
-    /// The collection of this number.
+    /// The collection with this number.
     Collection(usize),
 }
 
@@ -43,7 +43,7 @@ pub(crate) struct Growing {
     pub(crate) colls: Vec<GrowingColl>,
     /// How many elements the tiles of all collections have.
     pub(crate) elements: u64,
-    /// What each name of an integer or a collection stands for.
+    /// The meanings of the names of integers and collections.
     pub(crate) names: NameTable<Known>,
     ghost elements_at_most: { elements ≤ most_elements },
     ghost types_at_most: { length types ≤ most_named_types },

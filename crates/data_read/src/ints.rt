@@ -1,4 +1,4 @@
-//! Records of integers.
+//! Adds records of integers.
 
 ghost use Rattle.std.specs.Prelude.{OnOk};
 ghost use Rattle.csv.specs.Records.{fields_of};

@@ -1,4 +1,4 @@
-//! The reader of data files.
+//! Reads a data file, or returns its first record's fault.
 #![tactic(auto)]
 
 mod colls;

@@ -1,4 +1,4 @@
-//! The names of integers and collections.
+//! Looks up the names of integers and collections.
 
 ghost use Rattle.std.specs.Prelude.{◌≡◌, ◌<◌, length, IfSome};
 ghost use Rattle.data_read.specs.Draft.{coll_index, is_new};
@@ -7,7 +7,7 @@ ghost use Rattle.data_read.specs.Growing.{draft_of, meaning, IsKeyed};
 use crate::growing::{Growing, Known};
 use ptg_base::Text;
 
-// What a name stands for.
+// The meaning of a name, if it has one.
 fn known(all: &Growing, name: &Text) -> Option<Known>
     requires { IsKeyed all.now }
     ensures { result ≡ meaning all.now.ints all.now.colls.items name.now }
@@ -23,7 +23,7 @@ pub(crate) fn is_new(all: &Growing, name: &Text) -> bool
     known(all, name).is_none()
 }
 
-// The number of the collection of this name.
+// The number of the collection with this name.
 pub(crate) fn coll_index(all: &Growing, name: &Text) -> Option<usize>
     requires { IsKeyed all.now }
     ensures index { result ≡ coll_index name.now all.now.colls.items }

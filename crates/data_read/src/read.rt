@@ -1,4 +1,4 @@
-//! The data that a text spells.
+//! Reads the data that a text spells.
 
 ghost use Rattle.std.specs.Prelude.{◌≡◌, ◌≤◌, ◌+◌, ℕ, List, Ok, Err, length};
 ghost use Rattle.std.specs.Result.{MatchResult};
@@ -27,7 +27,7 @@ fn read(alloc: Global, bytes: &[u8]) -> Result<Given, DataRefusal>
     read_records(alloc, &mut reader, &mut fields)
 }
 
-// The data of the records of a reader that is at its first one.
+// The data of the records of a reader that is at the first of them.
 fn read_records(
     alloc: Global,
     reader: &mut Reader<&[u8]>,
@@ -85,15 +85,15 @@ fn refused_at(row: u64, refusal: Refusal<DataCode>) -> DataRefusal
     }
 }
 
-// The refusal with this code at this row.
+// The refusal with this code, for the record of this number.
 fn refused(row: u64, code: DataCode) -> DataRefusal
     ensures { result ≡ Fault (record { row = row; code = code }) }
 {
     Refusal::Fault(DataFault { row, code })
 }
 
-/// The data that a text of at most 16 MiB spells. A text that spells none is refused with its first fault: that of the
-/// first record that has one, with the first code that fits it.
+/// Reads the data that a text of at most 16 MiB spells. If it spells none, it is refused with its first fault: that of
+/// the first record that has one, with the first code that fits it.
 pub fn read_data(alloc: Global, bytes: &[u8]) -> Result<Given, DataRefusal>
     requires { length bytes.now ≤ most_bytes }
     ensures exact { FindsOrRefuses (λ given. data_of bytes.now ≡ Ok given) (λ fault. data_of bytes.now ≡ Err fault)

@@ -1,4 +1,4 @@
-//! One record.
+//! Adds one record.
 
 ghost use Rattle.std.specs.Prelude.{◌≡◌, Ok, Err, OnOk};
 ghost use Rattle.std.specs.Result.{MatchResult};
@@ -35,7 +35,7 @@ fn first_record(fields: &ByteRecord) -> Result<u32, DataCode>
     }
 }
 
-// The data of the first record.
+// The data after the first record.
 pub(crate) fn start(alloc: Global, fields: &ByteRecord) -> Result<Growing, DataCode>
     ensures start { MatchResult result
         (λ all. (first_record (fields_of fields.now) ≡ Ok all.elems) × (draft_of all ≡ begun all.elems)) (λ code.
@@ -53,7 +53,7 @@ pub(crate) fn start(alloc: Global, fields: &ByteRecord) -> Result<Growing, DataC
     })
 }
 
-// Adds what a record after the first says.
+// Adds a record after the first one.
 pub(crate) fn add_record(
     alloc: Global,
     all: &mut Growing,

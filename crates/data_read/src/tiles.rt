@@ -1,4 +1,4 @@
-//! Records of tiles.
+//! Adds records of tiles.
 
 ghost use Rattle.std.specs.Prelude.{◌≡◌, ◌≤◌, ◌<◌, ◌-◌, length, drop, option_map, IfOk, OnOk};
 ghost use Rattle.csv.specs.Records.{fields_of};
@@ -15,7 +15,7 @@ use csv::ByteRecord;
 use ptg_base::{OutOfMemory, Refusal, Text, Tile, is_name};
 use std::alloc::Global;
 
-// The number of the field with the first value of a tile.
+// The number of the field that has the first value of a tile.
 fn first_value(cols: Option<u32>) -> usize
     ensures { result ≡ first_value cols }
 {
@@ -25,7 +25,7 @@ fn first_value(cols: Option<u32>) -> usize
     }
 }
 
-// The column of a tile.
+// The column of a tile; 0 in a collection of one dimension.
 fn column(cols: Option<u32>, fields: &ByteRecord) -> Option<i64>
     ensures { result ≡ column cols (fields_of fields.now) }
 {
@@ -35,7 +35,7 @@ fn column(cols: Option<u32>, fields: &ByteRecord) -> Option<i64>
     }
 }
 
-// The tile of the values in the fields from this one on, if each spells a number.
+// The tile with the values in the fields from `first` on, if each of them spells a number.
 fn opened_tile(
     alloc: Global,
     elements: u32,
@@ -57,7 +57,7 @@ fn opened_tile(
     Ok(Some(tile))
 }
 
-// The index of the tile in row i and column j, if no record gave that before.
+// The index of the tile in row i and column j, if no earlier record has that tile.
 #[tactic(auto, using(std::proofs::lemmas::Option::slice_get_past, std::proofs::lemmas::Option::slice_get_read))]
 fn free_index(coll: &GrowingColl, i: i64, j: i64) -> Result<usize, DataCode>
     ensures index { result ≡ free_index coll.now i j }
@@ -75,7 +75,7 @@ fn free_index(coll: &GrowingColl, i: i64, j: i64) -> Result<usize, DataCode>
     Ok(index)
 }
 
-// The index of a tile of this collection that no record gave before, and the tile.
+// The tile of a record, with its index in this collection, if no earlier record has that tile.
 fn new_tile(
     alloc: Global,
     coll: &GrowingColl,

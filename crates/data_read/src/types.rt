@@ -1,4 +1,4 @@
-//! The types of tiles.
+//! Adds records of types of tiles.
 
 ghost use Rattle.std.specs.Prelude.{◌≡◌, ◌<◌, ◌≤◌, Ok, Err, OnOk, length};
 ghost use Rattle.std.specs.Result.{MatchResult};
@@ -15,10 +15,10 @@ use csv::ByteRecord;
 use ptg_base::{Refusal, Text, is_name};
 use std::alloc::Global;
 
-// How many types the data may name besides DEFAULT.
+// The most types of the data besides DEFAULT.
 const MOST_NAMED_TYPES: usize = 15;
 
-// The number and the elements of the type of this name among those past DEFAULT.
+// The number and the elements of the type with this name, among those after DEFAULT.
 fn later_type(types: &[(Text, u32)], name: &[u8]) -> Option<(u32, u32)>
     requires { length types.now ≤ most_named_types }
     ensures { result ≡ type_among name.now 1 types.now }
@@ -33,7 +33,7 @@ fn later_type(types: &[(Text, u32)], name: &[u8]) -> Option<(u32, u32)>
     None
 }
 
-// The number and the elements of the type of this name.
+// The number and the elements of the type with this name.
 pub(crate) fn type_named(all: &Growing, name: &[u8]) -> Option<(u32, u32)>
     ensures { result ≡ type_named (draft_of all.now) name.now }
 {
@@ -43,7 +43,7 @@ pub(crate) fn type_named(all: &Growing, name: &[u8]) -> Option<(u32, u32)>
     later_type(all.types.as_slice(), name)
 }
 
-// The name and the elements of the type that the record adds.
+// The name and the elements of the type that a record adds.
 fn new_type<'a>(all: &Growing, fields: &'a ByteRecord) -> Result<(&'a [u8], u32), DataCode>
     ensures step { MatchResult result
         (λ type.

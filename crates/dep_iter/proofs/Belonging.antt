@@ -1,4 +1,4 @@
--- Which links are among those of targets and of tasks.
+-- Which links belong to targets, and to tasks.
 use Rattle.std.proofs.Common.{Option, ◌≡◌, ◌↔◌, ℕ, zero, suc, ◌+◌, ℤ, Bool, true, false, List, [], ◌∷◌, ◌++◌, take, map, refl, ap, sym, ◌∙◌, subst, add-zero, Some, None, slice_get, IsSomeAnd, IsTrue, inl, inr, arith}
 use Rattle.std.proofs.lemmas.Bool.{false≢true}
 use Rattle.std.specs.List.{flat_map}
@@ -28,7 +28,7 @@ use Rattle.dep_iter.specs.Items.{out_edges, out_edges_before}
 use Rattle.dep_iter.specs.Links.{all_links, edge_of_link, link, links_to, task_links}
 use Rattle.dep_iter.proofs.Joining.{edges_into-among, in_edges-links, items_to-among, out_edges-links}
 
--- a combination has a value of the first list, and the others are a combination of the other lists
+-- a value of the first list before a combination of the other lists is a combination, and the other way round
 pub to_product : (v : ℤ) (vs ws : List ℤ) (wss : List (List ℤ)) → IsIn v ws → IsIn vs (product wss) → IsIn (v ∷ vs) (product (ws ∷ wss))
 to_product v vs ws wss h k = IsIn-flat_map (λ u. map (λ l. u ∷ l) (product wss)) ws v (v ∷ vs) h (IsIn-map (λ l. v ∷ l) (product wss) vs k)
 
@@ -46,7 +46,7 @@ not_product ws wss h =
     let q = from_map (λ l. p.0 ∷ l) (product wss) [] p.2 in
     let k = q.2 in absurd cc
 
--- a link to a task that a target names
+-- links to a class's flow: one for each list of parameters
 pub to_links : (n class flow : ℕ) (ps : List ℤ) (cs : List (List ℤ)) → IsIn ps cs → IsIn (link n class flow ps) (map (link n class flow) cs)
 to_links n class flow ps cs h = IsIn-map (link n class flow) cs ps h
 
@@ -72,7 +72,7 @@ flat_map-numbered : (env : List ℤ) (n : ℕ) (xs : List Target) → all_links 
 flat_map-numbered env n [] = refl
 flat_map-numbered env n (x ∷ xs) = ap (λ l. links_to env n x ++ l) (flat_map-numbered env n xs)
 
--- a target that is listed by flow is one of the flow with its number
+-- a target that is listed with the number of a flow is a target of that flow
 pub from_by_flow : (g : FlowPlan → List Target) (n : ℕ) (fs : List FlowPlan) (a : ℕ × Target) → IsIn a (by_flow g n fs) → (k : ℕ) × (f : FlowPlan) × (slice_get fs k ≡ Some f) × (a.0 ≡ n + k) × IsIn a.1 (g f)
 from_by_flow g n [] a i = absurd i
 from_by_flow g n (f ∷ fs) a i = elim (from_append a (map (λ x. (n, x)) (g f)) (by_flow g (suc n) fs) i) [
@@ -86,7 +86,7 @@ module _ (env : List ℤ) (g : FlowPlan → List Target) where
       flat_map-append (λ (a : ℕ × Target). links_to env a.0 a.1) (map (λ x. (n, x)) (g f)) (by_flow g (suc n) fs)
       ∙ ap (λ l. l ++ all_links env (by_flow g (suc n) fs)) (flat_map-numbered env n (g f))
 
-  -- a link of the targets of flows is one of the targets of one of them
+  -- a link of the flows' targets is a link of one flow's targets
   from_flows : (n : ℕ) (fs : List FlowPlan) (l : Link) → IsIn l (all_links env (by_flow g n fs)) → (i : ℕ) × (l.near ≡ n + i) × IsSomeAnd (slice_get fs i) (λ f. IsIn l (flat_map (links_to env l.near) (g f)))
   from_flows n [] l h = absurd h
   from_flows n (f ∷ fs) l h =
@@ -106,7 +106,7 @@ module _ (env : List ℤ) (g : FlowPlan → List Target) where
       let k = subst (λ m. IsSomeAnd (slice_get fs i) (λ e. IsIn l (flat_map (links_to env m) (g e)))) (omega arith) h in
       rw (by_flow-links n f fs) (IsIn-append_right l (flat_map (links_to env n) (g f)) (all_links env (by_flow g (suc n) fs)) (to_flows (suc n) fs l i k))
 
--- the link that an edge into a task is, and that an edge out of a task is
+-- the link of an edge into a task, and that of an edge out of a task
 abbrev pub link_in : Edge → Link
 link_in e = record { near = e.in_flow; far = e.from; far_flow = e.out_flow }
 
@@ -129,7 +129,7 @@ from_edges_out t ls e h =
 pub to_edges_out : (t : Task) (ls : List Link) (e : Edge) → e.from ≡ t → IsIn (link_out e) ls → IsIn e (map (edge_of_link Out t) ls)
 to_edges_out t ls e q h = subst (λ u. IsIn e (map (edge_of_link Out u) ls)) q (IsIn-map (edge_of_link Out e.from) ls (link_out e) h)
 
--- the links of a task whose flow has the number of the link
+-- a link of a task is one of the flow with the link's number
 pub from_task : (P : Plan) (t : Task) (way : Direction) (l : Link) → IsIn l (task_links P t way) → IsSomeAnd (slice_get (flows_of P t) l.near) (λ f. IsIn l (flat_map (links_to (locals_of P t) l.near) (flow_targets way (locals_of P t) f)))
 from_task P t way l h =
     let env = locals_of P t in
@@ -142,7 +142,7 @@ to_task P t way l h =
     let env = locals_of P t in
     to_flows env (flow_targets way env) 0 (flows_of P t) l l.near (subst (λ m. IsSomeAnd (slice_get (flows_of P t) l.near) (λ f. IsIn l (flat_map (links_to env m) (flow_targets way env f)))) (omega arith) h)
 
--- an edge into a task is a link of the flow that it goes into
+-- an edge is one into a task if and only if its link is one of the flow that it goes into
 pub in_edge_is : (P : Plan) (t : Task) (e : Edge) → IsIn e (in_edges P t) ↔ ((e.to ≡ t) × IsSomeAnd (slice_get (flows_of P t) e.in_flow) (λ f. IsIn (link_in e) (flat_map (links_to (locals_of P t) e.in_flow) (flow_targets In (locals_of P t) f))))
 in_edge_is P t e = (
   λ h. let p = from_edges_in t (task_links P t In) e (rw (sym (in_edges-links P t)) at h) in (p.0, from_task P t In (link_in e) p.1),
@@ -155,7 +155,7 @@ out_edge_is P t e = (
   λ h. rw (sym (out_edges-links P t)) (to_edges_out t (task_links P t Out) e h.0 (to_task P t Out (link_out e) h.1)),
 )
 
--- the targets that count of dependences, by whether the first one holds
+-- the active targets of dependences, by whether the first dependence holds
 pub held-none : (first_only : Bool) (d : DepPlan) (ds : List DepPlan) (env : List ℤ) → held_target d env ≡ None → held_targets first_only (d ∷ ds) env ≡ held_targets first_only ds env
 held-none first_only d ds env e = ap (λ o. held_then first_only o (held_targets first_only ds env)) e
 
@@ -165,7 +165,7 @@ held-first d ds env x e = ap (λ o. held_then true o (held_targets true ds env))
 pub held-more : (d : DepPlan) (ds : List DepPlan) (env : List ℤ) (x : Target) → held_target d env ≡ Some x → held_targets false (d ∷ ds) env ≡ x ∷ held_targets false ds env
 held-more d ds env x e = ap (λ o. held_then false o (held_targets false ds env)) e
 
--- whether a flow's targets that count stand for a link, by the first dependence
+-- whether a flow's active targets stand for a link, by its first dependence
 module _ (env : List ℤ) (n : ℕ) (l : Link) (d : DepPlan) (ds : List DepPlan) where
   pub any-none : (first_only : Bool) (b : Bool) → held_target d env ≡ None → IsTrue b ↔ IsIn l (flat_map (links_to env n) (held_targets first_only ds env)) → IsTrue b ↔ IsIn l (flat_map (links_to env n) (held_targets first_only (d ∷ ds) env))
   any-none first_only b e w = rw (held-none first_only d ds env e) w
@@ -182,15 +182,15 @@ module _ (env : List ℤ) (n : ℕ) (l : Link) (d : DepPlan) (ds : List DepPlan)
         λ h. elim (from_append l (links_to env n x) (flat_map (links_to env n) (held_targets false ds env)) h) [ inl a ↦ absurd (not_here a) | inr k ↦ w.1 k ],
       )
 
--- the link that an edge is to the task that it is one of
+-- the link of an edge, for the task whose edge it is
 abbrev pub link_of : Direction → Edge → Link
 link_of d e = record { near = near_flow d e; far = far_task d e; far_flow = far_flow d e }
 
--- the links that these dependences of a flow give
+-- the links that these dependences of a flow stand for
 abbrev pub links_of : Direction → Plan → Task → ℕ → FlowPlan → List DepPlan → List Link
 links_of d P t n f ds = flat_map (links_to (locals_of P t) n) (held_targets (first_only d f.kind) ds (locals_of P t))
 
--- the edge of a flow that these dependences give
+-- these dependences of the flow stand for the edge
 abbrev pub IsGiven : Direction → Plan → Task → Edge → FlowPlan → List DepPlan → Type 0
 IsGiven d P t e f ds = IsIn (link_of d e) (links_of d P t (near_flow d e) f ds)
 
@@ -206,7 +206,7 @@ edge-by d P t e f near =
     let is = rw near.1 at (edge_is d P t e) in
     (λ h. (is.0 h).1, λ h. is.1 (near.0, h))
 
--- an edge that names no flow of a task is not one of the task
+-- if something holds of an optional flow, there is a flow
 some_flow : (Q : FlowPlan → Type 0) (o : Option FlowPlan) → IsSomeAnd o Q → (f : FlowPlan) × (o ≡ Some f)
 some_flow Q None h = absurd h
 some_flow Q (Some f) h = (f, refl)
@@ -218,8 +218,7 @@ edge-none d P t e none h =
     let p = some_flow _ (slice_get (flows_of P t) (near_flow d e)) k.1 in
     none p.0 (k.0, p.1)
 
--- whether an edge is one of those that the first dependences of its flow give, into the task, out of it, and in the
--- direction
+-- whether an edge comes from the first k dependences of its flow: into the task, out of it, and in either direction
 module _ (P : Plan) (t : Task) (e : Edge) (f : FlowPlan) (k : ℕ) where
   in_before-is : slice_get (flows_of P t) e.in_flow ≡ Some f
       → IsIn e (in_edges_before P t e.in_flow k) ↔ ((e.to ≡ t) × IsGiven In P t e f (take k f.ins))
@@ -254,7 +253,7 @@ module _ (P : Plan) (t : Task) (e : Edge) (f : FlowPlan) (k : ℕ) where
       let is = before-is d near.1 in
       (λ h. (is.0 h).1, λ h. is.1 (near.0, h))
 
--- without dependences, and without the flow, there are none
+-- without a flow, and without dependences, there are no edges
 none_of : (g : FlowPlan → List Edge) → ((f : FlowPlan) → g f ≡ []) → (o : Option FlowPlan) → option_map_or g o [] ≡ []
 none_of g h None = refl
 none_of g h (Some f) = h f

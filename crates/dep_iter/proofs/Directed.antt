@@ -1,4 +1,5 @@
--- The dependences of a flow in one direction: their targets are those of the flow, and they fit where all of it do.
+-- The dependences of a flow in one direction: their targets are those of the flow, and they fit if all of the flow's
+-- do.
 use Rattle.std.proofs.Common.{◌≡◌, refl, ℤ, List, IsTrue, ◌&&◌}
 use Rattle.std.proofs.lemmas.Bool.{and_parts}
 use Rattle.term_core.specs.declared.direction.Direction.{Direction}

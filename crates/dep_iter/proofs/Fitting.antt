@@ -1,4 +1,4 @@
--- The targets of a well made plan fit it, and the locals of its tasks.
+-- The targets of a well made plan fit it. The locals of its tasks.
 use Rattle.std.proofs.Common.{◌≡◌, ℕ, ℤ, Bool, true, ◌&&◌, List, [], ◌∷◌, length, refl, ap, sym, ◌∙◌, Option, Some, None, IsTrue, inl, inr}
 use Rattle.std.proofs.lemmas.Bool.{false≢true, and_from}
 use Rattle.std.specs.List.{find}
@@ -55,7 +55,7 @@ pub fits-class : (P : Plan) (types : ℕ) (s : ClassSpace) (c : ClassPlan) → I
 fits-class P types s c w =
     list_all-weaker (is_flow P.classes P.spaces P.colls types (length s.defs)) (λ (f : FlowPlan). dependences_fit P f.ins && dependences_fit P f.outs) (fits-flow P (length s.defs) types) c.flows w.flows
 
--- what a search finds where there is something to be found
+-- a search finds an element if one passes the test
 find-found : {A : Type 0} (test : A → Bool) (xs : List A) (x : A) → IsIn x xs → test x ≡ true → (y : A) × (find test xs ≡ Some y) × IsIn y xs × (test y ≡ true)
 find-found test [] x w h = absurd w
 find-found test (z ∷ xs) x w h =
@@ -66,7 +66,7 @@ find-found test (z ∷ xs) x w h =
       | inr t ↦ let p = find-found test xs x t h in (p.0, rw k p.1, inr p.2, p.3)
     ])
 
--- locals of a task that has no others are its locals
+-- if a list of locals of a task is its only one, it is the task's locals
 pub locals_with-only : (s : ClassSpace) (params locals : List ℤ) → IsLocalsOf s params locals → ((others : List ℤ) → IsLocalsOf s params others → locals ≡ others) → locals_with s params ≡ locals
 unfolding locals_with
 locals_with-only s params locals w only =

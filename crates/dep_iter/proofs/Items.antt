@@ -17,7 +17,7 @@ Edge-injective a b q = cc
 pub Write-injective : (a b : WriteBack) → item.Write a ≡ item.Write b → a ≡ b
 Write-injective a b q = cc
 
--- an edge is one of the edges of a list where it is one of its items; likewise a write-back
+-- an edge is one of the edges of a list of items if and only if it is one of the items; likewise a write-back
 pub edge_item : (is : List Item) (e : Edge) → IsIn e (filter_map edge_of is) → IsIn (item.Edge e) is
 edge_item [] e h = absurd h
 edge_item (item.Edge d ∷ is) e h = elim h [ inl q ↦ inl (ap (λ (x : Edge). item.Edge x) q) | inr t ↦ inr (edge_item is e t) ]
@@ -34,7 +34,7 @@ write_item (item.Write v ∷ is) w h = elim h [ inl q ↦ inl (ap (λ (x : Write
 pub item_write : (is : List Item) (w : WriteBack) → IsIn (item.Write w) is → IsIn w (filter_map write_of is)
 item_write is w h = IsIn-filter_map write_of is (item.Write w) w h refl
 
--- what a task sends is its edges and then its write-backs
+-- the items of a task are its edges and its write-backs
 pub items-in_order : (P : Plan) (t : Task) (i : Item) → IsIn i (items P t) ↔ IsIn i (edges_then_writes P t)
 items-in_order P t i = (there i, back i)
   where

@@ -71,7 +71,7 @@ write_backs-targets P t =
     flat_map-same (λ (a : ℕ × Target). writes_to t env a.0 a.1) (λ a. filter_map write_of (items_to t env a.0 a.1)) (λ a. sym (items_to-writes t env a.0 a.1)) (active_outs P t)
     ∙ sym (filter_map-flat_map write_of (λ (a : ℕ × Target). items_to t env a.0 a.1) (active_outs P t))
 
--- the edges that targets of one flow stand for, inward and outward, as links
+-- the edges that the targets of one flow stand for, in either direction, are their links as edges
 pub edges_into-among : (t : Task) (env : List ℤ) (n : ℕ) (xs : List Target) → flat_map (edges_into t env n) xs ≡ map (edge_of_link In t) (flat_map (links_to env n) xs)
 edges_into-among t env n xs =
     flat_map-same (edges_into t env n) (λ x. map (edge_of_link In t) (links_to env n x)) (edges_into-links t env n) xs ∙ sym (map-flat_map (edge_of_link In t) (links_to env n) xs)

@@ -14,7 +14,7 @@ use Rattle.list_lemmas.proofs.Joins.{map-map}
 use Rattle.std.proofs.lemmas.List.{append_assoc, map-append}
 use Rattle.std.proofs.lemmas.List.Concat.{flat_map-append}
 
--- where the later lists have no combination, all have none
+-- if the later lists have no combination, all lists together have none
 pub none_later : (vs : List ℤ) (vss : List (List ℤ)) → product vss ≡ [] → product (vs ∷ vss) ≡ []
 none_later [] vss e = refl
 none_later (v ∷ vs) vss e =
@@ -44,7 +44,7 @@ one_value (Err f) None h = refl
 one_value r (Some s) h =
     rw (h.0, h.1, h.2) (ap Ok (sym (values-one s.lo)))
 
--- where progressions were added to none, these are all
+-- if progressions were added to an empty list, the result has these alone
 pub all_added : (lists : List (List ℤ)) (new : List Steps) → AddsSteps lists [] new → (map steps_values new ≡ lists) × AllByRecursion HasFirst new
 all_added lists new w = (ap (map steps_values) w.extends ∙ w.same_values, rw w.extends w.have_first)
 
@@ -78,21 +78,21 @@ HasFirst-end (x ∷ ss) s h = let k = HasFirst-end ss s h.1 in ((h.0, k.0), k.1)
 
 -- ---- combinations by their last value
 
--- these values, and then each of those
+-- a list with each of these values at its end
 abbrev ended : List ℤ → List ℤ → List (List ℤ)
 ended ends ws = map (λ v. ws ++ v ∷ []) ends
 
 ended-cons : (ends : List ℤ) (u : ℤ) (ws : List ℤ) → map (λ zs. u ∷ zs) (ended ends ws) ≡ ended ends (u ∷ ws)
 ended-cons ends u ws = map-map (λ zs. u ∷ zs) (λ v. ws ++ v ∷ []) ends
 
--- a value before all of some combinations, each of which is ended
+-- combinations may be ended before or after a value is put before them
 begun-ended : (ends : List ℤ) (u : ℤ) (wss : List (List ℤ)) → map (λ zs. u ∷ zs) (flat_map (ended ends) wss) ≡ flat_map (ended ends) (map (λ ws. u ∷ ws) wss)
 begun-ended ends u [] = refl
 begun-ended ends u (ws ∷ wss) =
     map-append (λ zs. u ∷ zs) (ended ends ws) (flat_map (ended ends) wss)
     ∙ (ap (λ l. l ++ map (λ zs. u ∷ zs) (flat_map (ended ends) wss)) (ended-cons ends u ws) ∙ ap (λ l. ended ends (u ∷ ws) ++ l) (begun-ended ends u wss))
 
--- the same of each of these values
+-- the same for each of several values
 all-ended : (ends us : List ℤ) (wss : List (List ℤ)) → flat_map (λ u. map (λ zs. u ∷ zs) (flat_map (ended ends) wss)) us ≡ flat_map (ended ends) (flat_map (λ u. map (λ ws. u ∷ ws) wss) us)
 all-ended ends [] wss = refl
 all-ended ends (u ∷ us) wss =
@@ -100,7 +100,7 @@ all-ended ends (u ∷ us) wss =
     ∙ (ap (λ l. flat_map (ended ends) (map (λ ws. u ∷ ws) wss) ++ l) (all-ended ends us wss)
     ∙ sym (flat_map-append (ended ends) (map (λ ws. u ∷ ws) wss) (flat_map (λ u. map (λ ws. u ∷ ws) wss) us)))
 
--- one value each
+-- lists of one value each are the empty list, ended by each value
 singles : (vs : List ℤ) → flat_map (λ v. (v ∷ []) ∷ []) vs ≡ ended vs [] ++ []
 singles [] = refl
 singles (v ∷ vs) = ap (λ l. (v ∷ []) ∷ l) (singles vs)
@@ -140,7 +140,7 @@ product_after-end (x ∷ ss) (u ∷ vs) s v w =
 -- ---- one step on
 
 module _ (s : Steps) (v : ℤ) where
-  -- the last value goes on
+  -- the last value advances
   pub stepped : (ss : List Steps) (vs : List ℤ) (w : ℤ) → HasOneEach ss vs → (w ≡ v +ℤ s.step) × (is_within s.hi s.step w ≡ true)
       → combinations_left true (ss ++ s ∷ []) (vs ++ w ∷ []) ≡ product_after (ss ++ s ∷ []) (vs ++ v ∷ [])
   stepped ss vs w each h =
@@ -149,7 +149,7 @@ module _ (s : Steps) (v : ℤ) where
       ∙ (ap (λ (z : ℤ). ended (values z s.hi s.step) vs ++ flat_map (ended (steps_values s)) (product_after ss vs)) h.0
       ∙ sym (product_after-end ss vs s v each)))
 
-  -- the values before the last one go on, and it begins anew
+  -- the values before the last one advance, and the last one begins anew
   pub carried : (ss : List Steps) (vs new : List ℤ) (more : Bool) → HasOneEach ss vs → HasOneEach ss new → HasFirst s → is_within s.hi s.step (v +ℤ s.step) ≡ false
       → combinations_left more ss new ≡ product_after ss vs → combinations_left more (ss ++ s ∷ []) (new ++ s.lo ∷ []) ≡ product_after (ss ++ s ∷ []) (vs ++ v ∷ [])
   carried ss vs new more each after first past left = again more left ∙ sym (product_after-end ss vs s v each ∙ none)

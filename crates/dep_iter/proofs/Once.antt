@@ -1,4 +1,4 @@
--- No task is listed twice, and in a consistent job no edge and no write-back of a task.
+-- No task is listed twice. In a consistent job no task has an edge or a write-back twice.
 use Rattle.std.proofs.Common.{◌≡◌, ℕ, suc, ◌≤◌, List, [], ◌∷◌, map, refl, ap, Some, slice_get, inl, inr, arith}
 use Rattle.std.specs.List.{flat_map}
 use Rattle.ptg_base.specs.Lists.{HasNoRepeats, IsIn}

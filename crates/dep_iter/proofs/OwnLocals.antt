@@ -17,7 +17,7 @@ after : (front : List ℤ) (v : ℤ) (rest : List ℤ) → slice_index_or (front
 after [] v rest = refl
 after (u ∷ front) v rest = after front v rest
 
--- parameters that count up take what comes after the first locals
+-- parameters that count up take all locals after the first ones
 counted : (ps : List ℕ) (front rest : List ℤ) → counts_from (length front) ps ≡ true → length ps ≡ length rest
     → params_of ps (front ++ rest) ≡ rest
 counted [] front [] h e = refl

@@ -40,7 +40,7 @@ no_place_by d env (Err e) h = refl
 no_place_by d env (Ok true) h = no_place env d.yes (first_false _ _ h)
 no_place_by d env (Ok false) h = no_second_place env d.no (second_false (is_place d.yes) _ h)
 
--- a dependence none of whose targets is a place names none
+-- a dependence without a place among its targets names no place
 pub no_place_held : (d : DepPlan) (env : List ℤ) → names_place d ≡ false → place_held d env ≡ None
 no_place_held d env h = no_place_by d env (guard_value d.guard env) h
 
@@ -65,12 +65,12 @@ module _ (t : Task) (env : List ℤ) (n : ℕ) where
   none_then (Some target.New) later e = refl
   none_then (Some target.Null) later e = refl
 
--- a dependence that names a place gives its write-back first
+-- a dependence that names a place: its write-back comes first
 pub written_some : (t : Task) (env : List ℤ) (n : ℕ) (d : DepPlan) (ds : List DepPlan) (p : Place)
     → place_held d env ≡ Some p → writes_by t env n (d ∷ ds) ≡ write_back t n p ∷ writes_by t env n ds
 written_some t env n d ds p e = some_then t env n (held_target d env) (held_targets false ds env) p e
 
--- one that names none gives no write-back
+-- one that names none: the write-backs are those of the later ones
 pub written_none : (t : Task) (env : List ℤ) (n : ℕ) (d : DepPlan) (ds : List DepPlan)
     → place_held d env ≡ None → writes_by t env n (d ∷ ds) ≡ writes_by t env n ds
 written_none t env n d ds e = none_then t env n (held_target d env) (held_targets false ds env) e
@@ -102,7 +102,7 @@ no_writes_by t env n (d ∷ ds) h =
     let here = no_place_held d env (not-true (names_place d) (first_so _ _ h)) in
     written_none t env n d ds here ∙ no_writes_by t env n ds (second_so _ _ h)
 
--- flows none of whose out dependences names a place write nothing
+-- flows without a place among the targets of their out dependences write nothing back
 pub no_writes : (t : Task) (env : List ℤ) (n : ℕ) (fs : List FlowPlan) → list_all writes_nothing fs ≡ true
     → writes_of_flows t env n fs ≡ []
 no_writes t env n [] h = refl

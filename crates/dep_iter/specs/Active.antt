@@ -1,6 +1,8 @@
--- Which dependences of a task hold, and where they lead. Source: DAGuE (Parallel Computing, 2012) and PaRSEC (2013): of
--- a data flow's in dependences the first that holds is active; of its out dependences, and of a CTL flow's dependences,
--- all that hold.
+-- Which dependences of a task hold, and its active targets. Source: DAGuE (Parallel Computing, 2012) and PaRSEC (2013).
+-- Of a data flow's in dependences, the first that holds is active. Of its out dependences, and of a CTL flow's
+-- dependences, all that hold are.
+-- Carried by: `in_edges`, `out_edges`, `write_backs`, `data_source`, `well_task`.
+-- Tested by: `edges.txt`, `edges_cholesky.txt`.
 use Rattle.std.specs.Prelude.{ℕ, suc, ℤ, List, [], ◌∷◌, ◌++◌, map, Bool, true, false, Option, Some, None, Result, Ok}
 use Rattle.std.specs.Result.{result_unwrap_or}
 use Rattle.ptg_base.specs.Task.{Task}
@@ -19,33 +21,33 @@ use Rattle.plan_core.specs.declared.target.Target.{Target}
 use Rattle.plan_core.specs.Flows.{dependences}
 use Rattle.dep_iter.specs.Tasks.{locals_of, flows_of}
 
--- whether a guard holds under these locals, which is where it is not 0, or its fault; without a guard a dependence
+-- whether a guard holds under these locals, that is, its value is not 0; or its fault. A dependence without a guard
 -- always holds
 abbrev pub guard_value : Option Term → List ℤ → Result Bool ExprFault
 guard_value None env = Ok true
 guard_value (Some c) env = and_then (value c env) (λ v. Ok (holds v))
 
--- where a dependence leads whose guard holds, and where one leads whose guard does not
+-- the target of a dependence, by whether its guard holds
 abbrev pub target_by : DepPlan → Bool → Option Target
 target_by d true = Some d.yes
 target_by d false = d.no
 
--- the target of a dependence under these locals, None where it does not hold, or the fault of its guard
+-- the target of a dependence under these locals, None if it does not hold, or the fault of its guard
 abbrev pub active_target : DepPlan → List ℤ → Result (Option Target) ExprFault
 active_target d env = and_then (guard_value d.guard env) (λ b. Ok (target_by d b))
 
--- the target of a dependence under these locals, None where it does not hold or its guard has a fault. The guards that
--- a well task needs have none
+-- the target of a dependence under these locals, None if it does not hold or its guard has a fault. The guards that a
+-- well task needs have no fault
 abbrev pub held_target : DepPlan → List ℤ → Option Target
 held_target d env = result_unwrap_or (active_target d env) None
 
--- a target that is active, and the later ones; where the first alone counts, no later one
+-- a target, if there is one, before later ones; if only the first counts, it alone
 abbrev pub held_then : Bool → Option Target → List Target → List Target
 held_then first_only None later = later
 held_then true (Some x) later = x ∷ []
 held_then false (Some x) later = x ∷ later
 
--- the targets of these dependences that hold, in order; where the first alone counts, that of the first that holds
+-- the targets of those of these dependences that hold, in order; if only the first counts, that of the first that holds
 abbrev pub held_targets : Bool → List DepPlan → List ℤ → List Target
 held_targets first_only [] env = []
 held_targets first_only (d ∷ ds) env = held_then first_only (held_target d env) (held_targets first_only ds env)
@@ -62,12 +64,12 @@ flow_ins env f = flow_targets In env f
 abbrev pub flow_outs : List ℤ → FlowPlan → List Target
 flow_outs env f = flow_targets Out env f
 
--- what each of these flows gives, which are numbered from n on
+-- the lists that a function has for these flows, joined; the flows are numbered from n on
 abbrev pub by_number : {X : Type 0} → (ℕ → FlowPlan → List X) → ℕ → List FlowPlan → List X
 by_number g n [] = []
 by_number g n (f ∷ fs) = g n f ++ by_number g (suc n) fs
 
--- the targets of each of these flows, which are numbered from n on, with the number of their flow
+-- the targets of these flows, each with the number of its flow; the flows are numbered from n on
 abbrev pub by_flow : (FlowPlan → List Target) → ℕ → List FlowPlan → List (ℕ × Target)
 by_flow targets n [] = []
 by_flow targets n (f ∷ fs) = map (λ x. (n, x)) (targets f) ++ by_flow targets (suc n) fs

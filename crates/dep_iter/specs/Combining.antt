@@ -44,7 +44,7 @@ pub record AddsSteps (lists : List (List ℤ)) (old new : List Steps) : Type 0 w
   pub same_values : map steps_values added ≡ lists
   pub have_first : AllByRecursion HasFirst added
 
--- `new` extends `old` by the only one of these combinations
+-- `new` extends `old` by the only combination of this list
 pub record AddsOnly (lists : List (List ℤ)) (old new : List ℤ) : Type 0 where
   pub added : List ℤ
   pub extends : new ≡ old ++ added

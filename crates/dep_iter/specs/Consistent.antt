@@ -1,5 +1,7 @@
--- Consistent jobs. Source: PaRSEC (2013): each out edge has its in edge and each in edge its out edge; the limits, and
--- that no place is written twice, are this project's own choice.
+-- Consistent jobs: when a plan is consistent, and its counts. Source: PaRSEC (2013): each out edge has its in edge and
+-- each in edge its out edge. The limits, and that no place is written twice, are this project's own choice.
+-- Carried by: `Matched`, `edge_match::match_edges`.
+-- Tested by: `check.txt`.
 use Rattle.std.specs.Prelude.{◌≡◌, ◌≢◌, ◌≤◌, ◌↔◌, ◌==◌, ℕ, List, length, map, flat_map, filter, Bool, IsTrue, slice_get, Some}
 use Rattle.std.specs.List.{AllByRecursion}
 use Rattle.ptg_base.specs.Limits.{most_edges, most_prefixes, most_tasks}
@@ -23,7 +25,7 @@ use Rattle.dep_iter.specs.Items.{item_flow, items, out_edges, write_backs}
 use Rattle.dep_iter.specs.Hints.{affinity}
 use Rattle.dep_iter.specs.Well.{IsWellTask}
 
--- what must be so at each task
+-- what consistency requires of each task
 pub record IsWellConnected (P : Plan) (t : Task) : Type 0 where
   -- each expression that it needs has a value
   pub well : IsWellTask P t
@@ -64,8 +66,8 @@ is_data_edge P e = is_data (kind_of P.classes e.to.class e.in_flow)
 abbrev pub all_data : Plan → List Edge
 all_data P = filter (is_data_edge P) (all_in P)
 
--- That the two flows of a data edge have one datatype, and a collection that of the flow that reads or writes its
--- tiles, is part of every plan (`IsWellMade`)
+-- A consistent plan. Datatypes agree in every plan already (`IsWellMade`). Both flows of a data edge have the same one,
+-- and a collection has that of the flows that read or write its tiles.
 pub record IsConsistent (P : Plan) : Type 0 where
   -- each definition has a value under each prefix
   pub sound : AllByRecursion IsSound P.spaces
@@ -76,7 +78,7 @@ pub record IsConsistent (P : Plan) : Type 0 where
   pub written_once : HasNoRepeats (map (λ (w : WriteBack). w.place) (all_writes P))
   pub in_edges_at_most : length (all_in P) ≤ most_edges
   pub items_at_most : length (all_items P) ≤ most_edges
-  -- no edge occurs twice, and each edge out of a task is one into a task and the other way round
+  -- no edge occurs twice, and each edge out of a task is an edge into a task, and the other way round
   pub no_in_edge_twice : HasNoRepeats (all_in P)
   pub no_out_edge_twice : HasNoRepeats (all_out P)
   pub same_edges : (e : Edge) → IsIn e (all_in P) ↔ IsIn e (all_out P)
@@ -86,11 +88,14 @@ abbrev pub roots_among : Plan → List Task → List Task
 roots_among P ts = filter (λ t. goal P t == 0) ts
 
 -- the tasks of a job without an edge into them, in walk order
+-- Carried by: `Matched::trusted`, `Matched::roots`.
 abbrev pub roots : Plan → List Task
 roots P = roots_among P (all_tasks P)
 
 -- the counts of a job: its tasks, those without an edge into them, its edges, those that carry a tile, and its
 -- write-backs
+-- Carried by: `Matched::trusted`, `edge_match::match_edges`.
+-- Tested by: `check.txt` for the counts that are printed.
 pub record HasCounts (P : Plan) (c : Counts) : Type 0 where
   pub all_tasks : c.tasks ≡ length (all_tasks P)
   pub all_roots : c.roots ≡ length (roots P)

@@ -1,5 +1,6 @@
--- The edges of a task in one direction, and the two ends of an edge. Source: this project's own choice; each word joins
--- one of both directions.
+-- The edges of a task in one direction, and the two ends of an edge. Each definition joins one for each direction.
+-- Carried by: `TaskAt::has_edge`, `TaskAt::has_edge_before`, `has_other_end`.
+-- Tested by: `edges.txt`.
 use Rattle.std.specs.Prelude.{◌≡◌, ℕ, List, Some, slice_get}
 use Rattle.ptg_base.specs.Lists.{IsIn}
 use Rattle.ptg_base.specs.Task.{Task}
@@ -18,7 +19,7 @@ abbrev pub edge_at : Direction → Task → ℕ → Task → ℕ → Edge
 edge_at In t n u m = edge u m t n
 edge_at Out t n u m = edge t n u m
 
--- the task that the edge is one of
+-- the task whose edge this is
 abbrev pub near_task : Direction → Edge → Task
 near_task In e = e.to
 near_task Out e = e.from
@@ -43,7 +44,7 @@ abbrev pub edges_of : Direction → Plan → Task → List Edge
 edges_of In P t = in_edges P t
 edges_of Out P t = out_edges P t
 
--- the edges of flow n of a task that the first k dependences of the flow give
+-- the edges of flow n of a task that come from the first k dependences of the flow
 abbrev pub edges_before : Direction → Plan → Task → ℕ → ℕ → List Edge
 edges_before In P t n k = in_edges_before P t n k
 edges_before Out P t n k = out_edges_before P t n k

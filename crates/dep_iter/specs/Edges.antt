@@ -1,4 +1,7 @@
--- The edges into a task and where its tiles come from. Source: DAGuE (Parallel Computing, 2012) and PaRSEC (2013).
+-- The edges into a task (its in edges), and the source of each of its tiles. Source: DAGuE (Parallel Computing, 2012)
+-- and PaRSEC (2013).
+-- Carried by: `in_edges`, `data_source`.
+-- Tested by: `edges.txt`, `edges_cholesky.txt`.
 use Rattle.std.specs.Prelude.{ℕ, ℤ, List, [], ◌∷◌, map, flat_map, length, take, slice_get}
 use Rattle.std.specs.Option.{option_map_or}
 use Rattle.ptg_base.specs.Task.{Task}
@@ -36,28 +39,30 @@ abbrev pub goal : Plan → Task → ℕ
 goal P t = length (in_edges P t)
 
 -- the tasks that the edges into a task come from, one for each edge
+-- Carried by: `cert_check::check_chain`, `cert_check::check_cycle`.
+-- Tested by: `certificate_chains.txt`, `certificate_cycles.txt`.
 abbrev pub sources : Plan → Task → List Task
 sources P t = map (λ (e : Edge). e.from) (in_edges P t)
 
--- what a target of an in dependence of flow n is to the task
+-- the source that a target of an in dependence of flow n stands for
 abbrev pub source_at : Task → List ℤ → ℕ → Target → Source
 source_at t env n (target.Task class flow args) = source.Task (edge (task class (map (single_value env) args)) flow t n)
 source_at t env n (target.Element coll indices) = source.Place (place_of coll indices env)
 source_at t env n target.New = source.New
 source_at t env n target.Null = source.Null
 
--- the first of these targets is the source; without any there is none
+-- the source that the first of these targets stands for; Nothing if there are none
 abbrev pub source_among : Task → List ℤ → ℕ → List Target → Source
 source_among t env n [] = source.Nothing
 source_among t env n (x ∷ xs) = source_at t env n x
 
--- where the tile of a data flow of a task comes from: the first in dependence that holds says it
+-- where the tile of a data flow of a task comes from: the target of the first in dependence that holds
 unfoldable pub data_source : Plan → Task → ℕ → Source
 data_source P t n =
     option_map_or (λ f. source_among t (locals_of P t) n (flow_ins (locals_of P t) f)) (slice_get (flows_of P t) n)
     source.Nothing
 
--- the edges into flow n of a task that the first k in dependences of the flow give
+-- the edges into flow n of a task that come from the first k in dependences of the flow
 unfoldable pub in_edges_before : Plan → Task → ℕ → ℕ → List Edge
 in_edges_before P t n k =
     option_map_or

@@ -1,5 +1,7 @@
--- What a task sends: edges out of it and write-backs. Source: DAGuE (Parallel Computing, 2012) and PaRSEC (2013); that
--- `-> NULL` sends nothing is this project's own choice.
+-- The items that a task sends: edges out of it (its out edges) and write-backs. Source: DAGuE (Parallel Computing,
+-- 2012) and PaRSEC (2013); that `-> NULL` sends nothing is this project's own choice.
+-- Carried by: `out_edges`, `write_backs`, `TaskItems`.
+-- Tested by: `edges.txt`, `edges_cholesky.txt`.
 use Rattle.std.specs.Prelude.{ℕ, ℤ, List, [], ◌∷◌, ◌++◌, map, flat_map, filter_map, take, false, Option, Some, None, slice_get}
 use Rattle.std.specs.Option.{option_map_or}
 use Rattle.ptg_base.specs.Task.{Task}
@@ -35,12 +37,12 @@ items_to t env n target.Null = []
 unfoldable pub items : Plan → Task → List Item
 items P t = flat_map (λ (flow, target). items_to t (locals_of P t) flow target) (active_outs P t)
 
--- the edge that an item is
+-- the edge, if the item is one
 abbrev pub edge_of : Item → Option Edge
 edge_of (item.Edge e) = Some e
 edge_of (item.Write w) = None
 
--- the write-back that an item is
+-- the write-back, if the item is one
 abbrev pub write_of : Item → Option WriteBack
 write_of (item.Edge e) = None
 write_of (item.Write w) = Some w
@@ -66,7 +68,7 @@ abbrev pub item_flow : Item → ℕ
 item_flow (item.Edge e) = e.out_flow
 item_flow (item.Write w) = w.flow
 
--- the edges out of flow n of a task that the first k out dependences of the flow give
+-- the edges out of flow n of a task that come from the first k out dependences of the flow
 unfoldable pub out_edges_before : Plan → Task → ℕ → ℕ → List Edge
 out_edges_before P t n k =
     option_map_or

@@ -1,5 +1,5 @@
--- The edges of a task seen from the task: the tasks at the other ends. A link is an edge in without the task that it
--- goes into, or an edge out without the task that it comes from.
+-- The edges of a task, seen from the task. A link is an edge of a task without the task itself. It has the number of
+-- the task's flow, and the task at the other end with the number of its flow.
 use Rattle.std.specs.Prelude.{ℕ, ℤ, List, [], map, flat_map, Bool, true, ◌&&◌, is_some, length}
 use Rattle.std.specs.List.{list_all}
 use Rattle.std.specs.Option.{option_map_or}
@@ -34,11 +34,11 @@ links_to env n target.Null = []
 abbrev pub all_links : List ℤ → List (ℕ × Target) → List Link
 all_links env targets = flat_map (λ (flow, target). links_to env flow target) targets
 
--- the edge that a link of the task t in one direction is
+-- the edge of a link of the task t in one direction
 abbrev pub edge_of_link : Direction → Task → Link → Edge
 edge_of_link direction t l = edge_at direction t l.near l.far l.far_flow
 
--- whether a target names a flow of a class and has as many arguments as the class has parameters, if it names a task
+-- whether a target fits: if it names tasks, their class has the flow, and there is an argument for each parameter
 abbrev pub fits : Plan → Target → Bool
 fits P (target.Task class flow args) = is_some (flow_of P.classes class flow) && has_params P.spaces class (length args)
 fits P (target.Element coll indices) = true

@@ -1,5 +1,7 @@
--- That a task is one of a plan has one proof at most, so that a type may keep it: the task's class has a space, in which
--- no task occurs twice. Source: this project's own choice.
+-- For a type that keeps a task of a plan with its locals: that the task is one of the plan has at most one proof. The
+-- task's class has a space, in which no task occurs twice.
+-- Carried by: `TaskAt`.
+-- Tested by: `edges.txt`.
 use Rattle.std.proofs.Common.{◌≡◌, ℕ, ℤ, List, [], ◌∷◌, ap, refl, subst, inl, inr, Option, Some, None, slice_get}
 use Rattle.std.proofs.Common.{arith}
 use Rattle.std.proofs.Props.{props}
@@ -23,7 +25,7 @@ well_space P k s h =
     let c = slice_get_there P.classes k (omega arith) in
     (P.well_made.fit k c.0 s c.1 h).space
 
--- what is once in a list is there at one place
+-- in a list without repeats, an element is there in one way only
 one_place : {A : Type 0} → IsSet A → (x : A) (ys : List A) → HasNoRepeats ys → (a b : IsIn x ys) → a ≡ b
 one_place set x [] once a b = absurd a
 one_place set x (y ∷ ys) once (inl d) (inl e) = ap inl (set x y d e)

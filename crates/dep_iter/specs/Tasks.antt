@@ -1,5 +1,7 @@
--- The tasks of a job, and the locals of a task, under which all that its class says of it is evaluated. Source: DAGuE
+-- The tasks of a job, and the locals of a task, on which the expressions of its class are evaluated. Source: DAGuE
 -- (Parallel Computing, 2012): a task is named by its class and its parameters; the JDF documentation for locals.
+-- Carried by: `in_edges`, `out_edges`, `write_backs`, `data_source`, `affinity`, `priority`, `well_task`.
+-- Tested by: `edges.txt`, `edges_cholesky.txt`.
 use Rattle.std.specs.Prelude.{ℕ, suc, ℤ, List, [], ◌∷◌, ◌++◌, map, find, unwrap_or, slice_get, IsSomeAnd, Bool, true, ◌&&◌, ◌==◌, length}
 use Rattle.std.specs.Option.{option_map_or}
 use Rattle.std.specs.Ordering.{int_eq}
@@ -16,12 +18,14 @@ use Rattle.plan_core.specs.declared.plan.Plan.{Plan}
 abbrev pub task : ℕ → List ℤ → Task
 task class params = record { class = class; params = params }
 
--- the tasks of these classes, which are numbered from n on, in walk order
+-- the tasks of these classes in walk order; the classes are numbered from n on
 abbrev pub tasks_from : ℕ → List ClassSpace → List Task
 tasks_from n [] = []
 tasks_from n (s ∷ ss) = map (task n) (tasks s) ++ tasks_from (suc n) ss
 
 -- all tasks of a job, in walk order
+-- Carried by: `all_tasks`; law `all_tasks_are_listed`.
+-- Tested by: `edges.txt`.
 abbrev pub all_tasks : Plan → List Task
 all_tasks P = tasks_from 0 P.spaces
 
@@ -29,8 +33,7 @@ all_tasks P = tasks_from 0 P.spaces
 abbrev pub IsTask : Plan → Task → Type 0
 IsTask P t = IsSomeAnd (slice_get P.spaces t.class) (λ s. IsIn t.params (tasks s))
 
--- the full list of locals of a class in which the parameters have these values; it is empty where the class has no such
--- task
+-- the full list of locals of a class in which the parameters have these values; empty if the class has no such task
 unfoldable pub locals_with : ClassSpace → List ℤ → List ℤ
 locals_with s params =
     unwrap_or (find (λ locals. pointwise int_eq (params_of s.params locals) params) (all_locals s)) []

@@ -14,13 +14,13 @@ use Rattle.dep_iter.specs.Items.{write_back}
 use Rattle.dep_iter.specs.declared.link.Link.{Link}
 use Rattle.dep_iter.specs.Links.{all_links, dependences_fit, edge_of_link, flows_fit}
 
--- the targets left: those of the dependences left of the flow at hand, and those of the flows after it
+-- the targets left: those of the dependences left in the flow at hand, then those of the flows after it
 abbrev pub targets_left : Direction → List ℤ → Position → List (ℕ × Target)
 targets_left direction env p =
     map (λ x. (p.flow, x)) (held_targets p.first_only p.deps.now env)
     ++ by_flow (flow_targets direction env) p.next_flow p.flows.now
 
--- the edges left of a walk over those of a task in one direction: by these links, and by the targets left
+-- the edges left of a walk over a task's edges in one direction: those of these links, then those of the targets left
 abbrev pub edges_left : Direction → Task → List ℤ → List Link → Position → List Edge
 edges_left direction t env links p =
     map (edge_of_link direction t) links

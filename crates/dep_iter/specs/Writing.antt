@@ -48,10 +48,10 @@ place_held d env = option_and_then (place_named env) (held_target d env)
 abbrev pub writes_by : Task → List ℤ → ℕ → List DepPlan → List WriteBack
 writes_by t env n ds = flat_map (writes_to t env n) (held_targets false ds env)
 
--- the write-backs of these flows of a task, which are numbered from n on
+-- the write-backs of these flows of a task; the flows are numbered from n on
 abbrev pub writes_of_flows : Task → List ℤ → ℕ → List FlowPlan → List WriteBack
 writes_of_flows t env n fs = by_number (λ k (f : FlowPlan). writes_by t env k f.outs) n fs
 
--- the write-backs left: those of the dependences left of the flow at hand, and those of the flows after it
+-- the write-backs left: those of the dependences left in the flow at hand, then those of the flows after it
 abbrev pub writes_left : Task → List ℤ → WritePosition → List WriteBack
 writes_left t env p = writes_by t env p.flow p.deps.now ++ writes_of_flows t env p.next_flow p.flows.now

@@ -28,7 +28,7 @@ fn single_steps(e: &Expr, env: &[i64]) -> Option<Steps>
     }
 }
 
-// The progression of the values of an argument under these locals, or None where it has a fault.
+// The progression of the values of an argument under these locals, or None if it has a fault.
 pub(crate) fn arg_steps(arg: &Arg, env: &[i64]) -> Option<Steps>
     ensures { MatchOption result (is_ok (arguments.arg_values arg.now env.now) ≡ false) (λ s.
         arguments.arg_values arg.now env.now ≡ Ok (values s.lo s.hi s.step)) }
@@ -42,7 +42,7 @@ pub(crate) fn arg_steps(arg: &Arg, env: &[i64]) -> Option<Steps>
     }
 }
 
-// The progression of an argument, or None where it has no value.
+// The progression of an argument, or None if it has a fault or no value.
 pub(crate) fn nonempty(arg: &Arg, env: &[i64]) -> Option<Steps>
     ensures { MatchOption result (result_unwrap_or (arguments.arg_values arg.now env.now) [] ≡ []) (λ s.
         (result_unwrap_or (arguments.arg_values arg.now env.now) [] ≡ steps_values s) × HasFirst s) }
@@ -64,7 +64,8 @@ fn is_value(e: &Expr, env: &[i64], v: i64) -> bool
     }
 }
 
-// Whether a number is one of the values of an argument. The value of an expression is compared.
+// Whether a number is one of the values of an argument. The value of an expression is compared as it is, without a
+// progression.
 pub(crate) fn takes_value(arg: &Arg, env: &[i64], v: i64) -> bool
     ensures { IsTrue result ↔ IsIn v (result_unwrap_or (arguments.arg_values arg.now env.now) []) }
 {

@@ -17,8 +17,8 @@ use ptg_base::MOST_PARAMS;
 use range_space::{Numbers, Steps};
 use std::marker::Model;
 
-/// The combinations of values of arguments that are not yet given, the first argument outermost. It takes no memory,
-/// and goes on in place.
+/// The combinations of values of arguments that were not yet yielded, the first argument outermost. It takes no memory,
+/// and advances in place.
 #[derive(Drop)]
 pub struct Combinations {
     spans: ArrayVec<Steps, MOST_PARAMS>,
@@ -53,7 +53,7 @@ fn push_first(spans: &[Steps], values: &mut Numbers<MOST_PARAMS>)
     push_first(inner, values);
 }
 
-// Takes all numbers away.
+// Removes all numbers.
 fn clear(values: &mut Numbers<MOST_PARAMS>)
     ensures { values.new ≡ [] }
 {
@@ -62,8 +62,8 @@ fn clear(values: &mut Numbers<MOST_PARAMS>)
     }
 }
 
-// Goes on to the combination after this one: the last value that can goes on, and those after it begin anew. Answers
-// whether there is one.
+// Advances to the next combination: the last value that can advance does so, and those after it begin anew. Returns
+// whether there is a next one.
 fn advance(spans: &[Steps], at: &mut Numbers<MOST_PARAMS>) -> bool
     requires at_most { length at.old ≤ most_params }
     requires each { HasOneEach spans.now at.old }
@@ -86,7 +86,7 @@ fn advance(spans: &[Steps], at: &mut Numbers<MOST_PARAMS>) -> bool
     more
 }
 
-// Adds the progression of each argument, unless one has no values.
+// Adds the progression of each argument. Returns false as soon as one has no values.
 fn push_spans(args: &[Arg], env: &[i64], spans: &mut ArrayVec<Steps, MOST_PARAMS>) -> bool
     requires { length spans.old.items + length args.now ≤ most_params }
     ensures found { OnTrue result
@@ -117,8 +117,7 @@ impl Combinations {
         }
     }
 
-    /// The combinations of the values of these arguments under these locals. There are none where an argument has a
-    /// fault.
+    /// The combinations of the values of these arguments under these locals. There are none if an argument has a fault.
     pub fn new(args: &[Arg], env: &[i64]) -> Combinations
         requires { length args.now ≤ most_params }
         ensures { result ≡ combinations args.now env.now }
@@ -141,14 +140,14 @@ impl Combinations {
         }
     }
 
-    /// Takes all combinations away.
+    /// Removes all combinations.
     pub fn stop(&mut self)
         ensures { self.new ≡ [] }
     {
         self.live = false;
     }
 
-    /// The next combination, if there is one.
+    /// The next combination, if there is one. It is not removed.
     pub fn first(&self) -> Option<&[i64]>
         ensures first { option_copied result ≡ slice_get self.now 0 }
         ensures at_most { IfSome result (λ values. length values.now ≤ most_params) }
@@ -160,7 +159,7 @@ impl Combinations {
         }
     }
 
-    /// Goes on to the combination after the next one. Takes no more steps than there are arguments.
+    /// Skips the next combination. Takes no more steps than there are arguments.
     pub fn pass(&mut self)
         ensures { self.new ≡ drop 1 self.old }
     {
@@ -169,7 +168,7 @@ impl Combinations {
         }
     }
 
-    /// A copy of the next combination, and then None.
+    /// Takes the next combination: a copy of it, or None if there is none.
     pub fn next(&mut self) -> Option<Numbers<MOST_PARAMS>>
         ensures { YieldsFirst (λ left. left) self.old result self.new }
     {

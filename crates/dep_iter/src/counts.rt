@@ -7,7 +7,7 @@ pub struct Counts {
     pub tasks: u64,
     /// How many of its tasks have no edge into them.
     pub roots: u64,
-    /// How many edges it has, those of CTL flows among them.
+    /// How many edges it has, including those of CTL flows.
     pub edges: u64,
     /// How many of its edges carry a tile.
     pub data_edges: u64,

@@ -20,8 +20,8 @@ use ptg_base::{Edge, TaskId};
 use std::marker::Model;
 use term_core::Direction;
 
-/// An iterator over the edges of a task in one direction. Contracts see it as the list of those not yet given. It takes
-/// no memory.
+/// An iterator over the edges of a task in one direction. Contracts see it as the list of those not yet yielded. It
+/// takes no memory.
 #[derive(Drop)]
 pub struct TaskEdges<'a> {
     plan: &'a Plan,
@@ -54,7 +54,7 @@ pub type InEdges<'a> = TaskEdges<'a>;
 /// The edges out of a task.
 pub type OutEdges<'a> = TaskEdges<'a>;
 
-// The edges of a task with these locals in one direction.
+// The edges of a task in one direction, given its locals.
 fn task_edges<'a>(
     plan: &'a Plan,
     t: &TaskId,
@@ -75,8 +75,8 @@ fn task_edges<'a>(
     }
 }
 
-/// The edges into a task, by flow in the text's order; of a gather, the first argument outermost. They are evaluated as
-/// they are asked for.
+/// The edges into a task, by flow in the text's order; in a gather, the first argument is outermost. They are evaluated
+/// lazily.
 pub fn in_edges<'a>(plan: &'a Plan, t: &TaskId) -> InEdges<'a>
     requires { IsTask plan.now t.now }
     ensures { result ≡ edges.in_edges plan.now t.now }
@@ -84,7 +84,7 @@ pub fn in_edges<'a>(plan: &'a Plan, t: &TaskId) -> InEdges<'a>
     task_edges(plan, t, Locals::Own(locals_of(plan, t)), Direction::In)
 }
 
-/// The edges into a task with these locals.
+/// The edges into a task, given its locals.
 pub fn in_edges_under<'a>(plan: &'a Plan, t: &TaskId, env: &'a [i64]) -> InEdges<'a>
     requires task { IsTask plan.now t.now }
     requires locals { env.now ≡ tasks.locals_of plan.now t.now }
@@ -93,8 +93,8 @@ pub fn in_edges_under<'a>(plan: &'a Plan, t: &TaskId, env: &'a [i64]) -> InEdges
     task_edges(plan, t, Locals::Lent(env), Direction::In)
 }
 
-/// The edges out of a task, by flow and dependence in the text's order; of a broadcast, the first argument outermost.
-/// They are evaluated as they are asked for.
+/// The edges out of a task, by flow and dependence in the text's order; in a broadcast, the first argument is
+/// outermost. They are evaluated lazily.
 pub fn out_edges<'a>(plan: &'a Plan, t: &TaskId) -> OutEdges<'a>
     requires { IsTask plan.now t.now }
     ensures { result ≡ items.out_edges plan.now t.now }
@@ -102,7 +102,7 @@ pub fn out_edges<'a>(plan: &'a Plan, t: &TaskId) -> OutEdges<'a>
     task_edges(plan, t, Locals::Own(locals_of(plan, t)), Direction::Out)
 }
 
-/// The edges out of a task with these locals.
+/// The edges out of a task, given its locals.
 pub fn out_edges_under<'a>(plan: &'a Plan, t: &TaskId, env: &'a [i64]) -> OutEdges<'a>
     requires task { IsTask plan.now t.now }
     requires locals { env.now ≡ tasks.locals_of plan.now t.now }

@@ -1,4 +1,4 @@
-//! Whether an edge is one at its other end too.
+//! Whether the task at the other end of an edge has the edge too.
 
 ghost use Rattle.std.specs.Prelude.{◌↔◌, IsTrue};
 ghost use Rattle.dep_iter.specs.Directions.{HasOtherEnd};
@@ -9,8 +9,8 @@ use plan_core::Plan;
 use range_space::Numbers;
 use term_core::Direction;
 
-/// Whether an edge of a task is one of the task at its other end too: an edge into a task is one out of the task that
-/// it comes from. It is not where the job has no such task.
+/// Whether the task at the other end of an edge has the edge too. For `In` it must be an edge out of its source, and
+/// for `Out` an edge into its target. False if the job has no such task.
 pub fn has_other_end(plan: &Plan, direction: Direction, edge: &LentEdge) -> bool
     ensures { IsTrue result ↔ HasOtherEnd direction plan.now edge.now }
 {

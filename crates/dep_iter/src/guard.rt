@@ -1,4 +1,4 @@
-//! Guards, and where dependences lead.
+//! Guards, and the targets of dependences.
 
 ghost use Rattle.std.specs.Prelude.{◌≡◌};
 ghost use Rattle.std.specs.Option.{option_copied};
@@ -20,14 +20,14 @@ pub fn guard_value(guard: &Option<Expr>, env: &[i64]) -> Result<bool, ExprFault>
     }
 }
 
-/// Where a dependence leads whose guard holds, or does not.
+/// The target of a dependence, by whether its guard holds.
 pub fn target_by<'a>(d: &'a DepPlan, holds: bool) -> Option<&'a Target>
     ensures { option_copied result ≡ active.target_by d.now holds }
 {
     if holds { Some(&d.yes) } else { d.no.as_ref() }
 }
 
-/// The target of a dependence under these locals, if it holds. One whose guard has a fault does not hold.
+/// The target of a dependence under these locals, if it holds. A dependence whose guard has a fault does not hold.
 pub fn held_target<'a>(d: &'a DepPlan, env: &[i64]) -> Option<&'a Target>
     ensures { option_copied result ≡ active.held_target d.now env.now }
 {

@@ -15,7 +15,7 @@ use range_space::Numbers;
 use term_core::Expr;
 
 impl TaskAt<'_> {
-    /// The place of the affinity of the task, a hint where it would best run.
+    /// The place of the affinity of the task, a hint on where it would best run.
     #[tactic(auto, unfolding(crate::specs::Hints::affinity))]
     pub fn affinity(&self) -> Place
         ensures { result ≡ hints.affinity self.now.plan.now self.now.task.now }
@@ -28,7 +28,7 @@ impl TaskAt<'_> {
         )
     }
 
-    /// The priority of the task, 0 where none is written.
+    /// The priority of the task, or 0 if none is written.
     #[tactic(auto, unfolding(crate::specs::Hints::priority))]
     pub fn priority(&self) -> i64
         ensures { result ≡ hints.priority self.now.plan.now self.now.task.now }
@@ -37,7 +37,7 @@ impl TaskAt<'_> {
     }
 }
 
-/// The place of the affinity of a task, a hint where it would best run.
+/// The place of the affinity of a task, a hint on where it would best run.
 pub fn affinity(plan: &Plan, t: &TaskId) -> Place
     requires { IsTask plan.now t.now }
     ensures { result ≡ hints.affinity plan.now t.now }
@@ -45,7 +45,7 @@ pub fn affinity(plan: &Plan, t: &TaskId) -> Place
     TaskAt::of(plan, t, &mut Numbers::new()).affinity()
 }
 
-/// The place of the affinity of a task with these locals.
+/// The place of the affinity of a task, given its locals.
 pub fn affinity_under(plan: &Plan, t: &TaskId, env: &[i64]) -> Place
     requires task { IsTask plan.now t.now }
     requires locals { env.now ≡ tasks.locals_of plan.now t.now }
@@ -59,7 +59,7 @@ pub fn affinity_under(plan: &Plan, t: &TaskId, env: &[i64]) -> Place
     at.affinity()
 }
 
-// The number of a row and a column among the places of a collection with this many columns.
+// The index of a place by its row and column, in a collection with this many columns.
 fn number_in(columns: Option<u32>, row: u64, column: u64) -> u64
     requires row { row < 2 ^ 32 }
     requires column { IsColumn columns (pos column) }
@@ -71,14 +71,14 @@ fn number_in(columns: Option<u32>, row: u64, column: u64) -> u64
     }
 }
 
-// A law: how many rows a collection has fits 32 bits.
+// A law: the number of rows of a collection fits 32 bits.
 fn rows_fit(shape: &Shape)
     ensures { shape.now.rows < 2 ^ 32 }
 {
     let _rows = shape.rows;
 }
 
-/// The number of a place among those of its collection, row by row.
+/// The index of a place among those of its collection, row by row.
 pub fn place_number(plan: &Plan, p: &Place) -> u64
     requires { HasPlace plan.now.colls p.now }
     ensures { result ≡ hints.place_number plan.now p.now }
@@ -88,7 +88,7 @@ pub fn place_number(plan: &Plan, p: &Place) -> u64
     number_in(shape.cols, p.i.unsigned_abs(), p.j.unsigned_abs())
 }
 
-// The value of a priority, 0 where none is written.
+// The value of a priority, or 0 if none is written.
 fn priority_value(env: &[i64], priority: &Option<Expr>) -> i64
     ensures { result ≡ hints.priority_value env.now priority.now }
 {
@@ -98,7 +98,7 @@ fn priority_value(env: &[i64], priority: &Option<Expr>) -> i64
     }
 }
 
-/// The priority of a task, 0 where none is written.
+/// The priority of a task, or 0 if none is written.
 pub fn priority(plan: &Plan, t: &TaskId) -> i64
     requires { IsTask plan.now t.now }
     ensures { result ≡ hints.priority plan.now t.now }
@@ -106,7 +106,7 @@ pub fn priority(plan: &Plan, t: &TaskId) -> i64
     TaskAt::of(plan, t, &mut Numbers::new()).priority()
 }
 
-/// The priority of a task with these locals.
+/// The priority of a task, given its locals.
 pub fn priority_under(plan: &Plan, t: &TaskId, env: &[i64]) -> i64
     requires task { IsTask plan.now t.now }
     requires locals { env.now ≡ tasks.locals_of plan.now t.now }

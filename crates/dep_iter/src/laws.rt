@@ -13,19 +13,19 @@ ghost use Rattle.dep_iter.specs.Edges as edges;
 ghost use Rattle.dep_iter.specs.Items as items;
 ghost use Rattle.dep_iter.specs.Consistent as consistent;
 
-/// A law: the list of all tasks has the tasks of the job, as many as its classes have.
+/// A law: the list of all tasks has exactly the tasks of the job, as many as its classes have together.
 pub fn all_tasks_are_listed()
     ensures members { (P : Plan) (t : Task) → IsTask P t ↔ IsIn t (all_tasks P) }
     ensures count { (P : Plan) → length (all_tasks P) ≡ task_total P.spaces }
 {}
 
-/// A law: no more edges go into a task, and none more out of it, than the job has.
+/// A law: a task has no more edges into it, and no more out of it, than the job has.
 pub fn a_task_has_no_more_edges_than_the_job()
     ensures ins { (P : Plan) (t : Task) → IsTask P t → length (edges.in_edges P t) ≤ length (consistent.all_in P) }
     ensures outs { (P : Plan) (t : Task) → IsTask P t → length (items.out_edges P t) ≤ length (consistent.all_out P) }
 {}
 
-/// A law: the edges of a task are its links, of its in dependences and of its out dependences.
+/// A law: in each direction, the edges of a task are its links with the task itself added.
 pub fn edges_are_links()
     ensures ins { (P : Plan) (t : Task) → map (edge_of_link In t) (task_links P t In) ≡ edges.in_edges P t }
     ensures outs { (P : Plan) (t : Task) → map (edge_of_link Out t) (task_links P t Out) ≡ items.out_edges P t }

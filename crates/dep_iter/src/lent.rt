@@ -1,4 +1,4 @@
-//! Edges that are lent.
+//! Edges whose tasks are borrowed.
 
 ghost use Rattle.std.specs.Prelude.{◌≡◌};
 ghost use Rattle.dep_iter.specs.Directions as directions;
@@ -7,7 +7,7 @@ use ptg_base::{Edge, TaskId};
 use std::marker::Model;
 use term_core::Direction;
 
-/// An edge whose tasks are lent. Contracts see it as the edge; it copies no task.
+/// An edge whose tasks are borrowed, so that no task is copied. Contracts see it as the edge.
 #[derive(Drop)]
 pub struct LentEdge<'a> {
     from: &'a TaskId,
@@ -26,7 +26,7 @@ impl<'a> Model for LentEdge<'a> {
 }
 
 impl<'a> LentEdge<'a> {
-    /// This edge, with its tasks lent.
+    /// This edge, with its tasks borrowed.
     pub fn of(edge: &'a Edge) -> LentEdge<'a>
         ensures { result ≡ edge.now }
     {
@@ -38,7 +38,8 @@ impl<'a> LentEdge<'a> {
         }
     }
 
-    /// The edge between a flow of one task and a flow of another, as one into or out of the first.
+    /// The edge between a flow of the near task and a flow of the far one: into the near task for `In`, out of it for
+    /// `Out`.
     pub fn between(
         direction: Direction,
         near: &'a TaskId,
@@ -64,7 +65,7 @@ impl<'a> LentEdge<'a> {
         }
     }
 
-    /// The task of the edge in this direction: its target for In, its source for Out.
+    /// The task whose edge this is, in this direction: the target for `In`, the source for `Out`.
     pub fn near_task(&self, direction: Direction) -> &TaskId
         ensures { result.now ≡ directions.near_task direction self.now }
     {

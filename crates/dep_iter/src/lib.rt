@@ -1,4 +1,5 @@
-//! The edges of a task in both directions, evaluated as they are walked and never stored, and when a job is consistent.
+//! The edges of a task in both directions, computed during the walk and never stored. Also the tasks of a plan and what
+//! their classes say of them, and when a job is consistent.
 #![tactic(auto)]
 
 mod argument;

@@ -16,7 +16,7 @@ use plan_core::{Arg, Plan, Target};
 use ptg_base::Edge;
 use std::marker::Model;
 
-/// The links of one target that are not yet given.
+/// The links of one target that were not yet yielded.
 #[derive(Drop)]
 pub(crate) struct TargetLinks {
     near: u8,
@@ -35,7 +35,7 @@ impl Model for TargetLinks {
     ghost view = { λ t. map (link t.near t.class t.far_flow) t.params };
 }
 
-/// The arguments of a target that fits the plan are at most eight: as many as its class has parameters.
+/// A law: a target that fits the plan has at most eight arguments, as many as its class has parameters.
 pub fn arguments_at_most(plan: &Plan, class: u32, flow: u8, args: &[Arg])
     requires { IsTrue (fits plan.now (Task class flow args.now)) }
     ensures { length args.now ≤ most_params }
@@ -94,8 +94,8 @@ impl TargetLinks {
     }
 }
 
-// The next edge of a walk over those of a task in one direction, under its locals: by what is left of the target at
-// hand, or by the targets after it.
+// The next edge of a walk over a task's edges in one direction, under its locals. It comes from what is left of the
+// target at hand, or from the targets after it.
 pub(crate) fn next_edge<'a>(
     plan: &Plan,
     end: NearEnd,

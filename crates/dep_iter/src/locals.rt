@@ -1,4 +1,4 @@
-//! The locals that a walk over a task's dependences evaluates under.
+//! The locals on which a walk over a task's dependences evaluates.
 
 ghost use Rattle.std.specs.Prelude.{◌≡◌};
 ghost use Rattle.dep_iter.specs.WalkLocals.{walk_locals};
@@ -6,7 +6,7 @@ ghost use Rattle.dep_iter.specs.WalkLocals.{walk_locals};
 use ptg_base::MOST_LOCALS;
 use range_space::Numbers;
 
-// The locals of a task: the walk's own, or lent to it.
+// The locals of a task, owned by the walk or borrowed.
 #[derive(Drop)]
 pub enum Locals<'a> {
     Own(Numbers<MOST_LOCALS>),

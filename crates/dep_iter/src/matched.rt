@@ -73,15 +73,15 @@ impl Matched {
         self.counts.tasks
     }
 
-    /// How many of its tasks have no edge into them. A run begins with these, so whoever looks for them may stop after
-    /// this many.
+    /// How many of its tasks have no edge into them. A run begins with these, so a search for them may stop after this
+    /// many.
     pub fn roots(&self) -> u64
         ensures { result ≡ length (consistent.roots self.now) }
     {
         self.counts.roots
     }
 
-    /// How many edges it has, those of CTL flows among them.
+    /// How many edges it has, including those of CTL flows.
     pub fn edges(&self) -> u64
         ensures { result ≡ length (consistent.all_in self.now) }
     {

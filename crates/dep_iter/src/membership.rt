@@ -1,4 +1,4 @@
-//! Whether a task has an edge, by guards and ranges, without a walk over its edges.
+//! Whether a task has an edge, found from guards and ranges without a walk over its edges.
 
 ghost use Rattle.std.specs.Prelude.{◌≡◌, ◌↔◌, ℕ, IsTrue, MatchOption, flat_map, take};
 ghost use Rattle.ptg_base.specs.Lists.{IsIn};
@@ -19,8 +19,8 @@ use plan_core::{Arg, DepPlan, FlowPlan, Target};
 use ptg_base::TaskId;
 use term_core::Direction;
 
-/// Whether these numbers are one of the combinations of the values of these arguments. Takes time according to the
-/// arguments, however many values they have.
+/// Whether these numbers are one of the combinations of the values of these arguments. The time depends on the
+/// arguments alone, however many values they have.
 pub fn has_combination(args: &[Arg], env: &[i64], params: &[i64]) -> bool
     ensures { IsTrue result ↔ IsIn params.now (combinations args.now env.now) }
 {
@@ -53,7 +53,7 @@ fn leads_to(target: &Target, env: &[i64], far: &TaskId, far_flow: u8) -> bool
     has_combination(args.as_slice(), env, far.params())
 }
 
-// Whether a target of these dependences that counts stands for a link with this flow of this task.
+// Whether an active target of these dependences stands for a link with this flow of this task.
 fn any_leads_to(first_only: bool, deps: &[DepPlan], env: &[i64], far: &TaskId, far_flow: u8) -> bool
     ensures { (n : ℕ) → IsTrue result ↔ IsIn (record { near = n; far = far.now; far_flow = far_flow })
         (flat_map (links_to env.now n) (held_targets first_only deps.now env.now)) }
@@ -87,8 +87,8 @@ impl<'a> TaskAt<'a> {
         self.flow(edge.near_flow(direction))
     }
 
-    /// Whether the edge is one of those of the task, into it or out of it. Takes time according to the dependences of
-    /// one flow, however many edges they give.
+    /// Whether the task has the edge, into it or out of it. The time depends on the dependences of one flow alone,
+    /// however many edges they stand for.
     pub fn has_edge(&self, direction: Direction, edge: &LentEdge) -> bool
         ensures { IsTrue result ↔ IsIn edge.now (edges_of direction self.now.plan.now self.now.task.now) }
     {
@@ -105,15 +105,15 @@ impl<'a> TaskAt<'a> {
     }
 }
 
-// The first k of these dependences, or all where there are no more.
+// The first k of these dependences, or all if there are fewer.
 fn first_dependences<'a>(deps: &'a [DepPlan], k: usize) -> &'a [DepPlan]
     ensures { result.now ≡ take k deps.now }
 {
     if k < deps.len() { &deps[..k] } else { deps }
 }
 
-/// Whether one of the first `k` dependences of this flow gives the edge to its task, which has these locals. While the
-/// dependence with number `k` is walked, this is whether an earlier one gives its edge too.
+/// Whether the edge comes from one of the first `k` dependences of this flow; the flow's task has these locals. While
+/// dependence `k` is walked, this tells whether its edge comes from an earlier one too.
 pub fn has_edge_before(
     flow: &FlowPlan,
     direction: Direction,

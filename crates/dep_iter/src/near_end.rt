@@ -17,8 +17,8 @@ pub struct NearEnd<'a> {
 }
 
 impl NearEnd<'_> {
-    // The edge of flow `near` of the task with a flow of the task of this class with these parameters. It is built in
-    // place.
+    // The edge between flow `near` of the task and flow `far_flow` of the task of this class with these parameters. It
+    // is built in place.
     pub(crate) fn edge(self, near: u8, class: u32, far_flow: u8, params: &[i64]) -> Option<Edge>
         requires { length params.now ≤ most_params }
         ensures { result ≡ Some (edge_of_link self.entry.direction self.entry.task.now

@@ -13,7 +13,7 @@ pub(crate) fn value_or_zero(env: &[i64], e: &Expr) -> i64
     eval(e, env).unwrap_or(0)
 }
 
-// The value of the first of these expressions, or 0 where there is none.
+// The value of the first of these expressions, or 0 if there is none.
 fn first_or_zero(es: &[Expr], env: &[i64]) -> i64
     ensures { result ≡ slice_index_or (map (arguments.value_or_zero env.now) es.now) 0 (pos 0) }
 {

@@ -12,12 +12,12 @@ use crate::guard::held_target;
 use plan_core::{DepPlan, FlowPlan, Target};
 use term_core::Direction;
 
-/// Where a walk over the active targets of a task stands.
+/// The position of a walk over the active targets of a task.
 #[derive(Clone, Copy)]
 pub struct Position<'a> {
     /// The number of the flow at hand.
     pub flow: u8,
-    /// Whether of its dependences the first that holds counts alone.
+    /// Whether only the first of its dependences that holds counts.
     pub first_only: bool,
     /// Its dependences that are left.
     pub deps: &'a [DepPlan],
@@ -62,7 +62,7 @@ pub(crate) fn next_held<'a>(
     }
 }
 
-// The walk where it enters a flow, with the flows after it.
+// The position of a walk that enters a flow, with the flows after it.
 fn enter<'a>(
     direction: Direction,
     flow: &'a FlowPlan,
@@ -87,7 +87,7 @@ fn enter<'a>(
     }
 }
 
-// The next active target of a walk in one direction, under these locals. The walk then stands after it.
+// Returns the next active target of a walk in one direction, under these locals, and moves the walk past it.
 pub(crate) fn next_target<'a>(
     direction: Direction,
     env: &[i64],

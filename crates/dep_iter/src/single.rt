@@ -14,7 +14,8 @@ use ptg_base::{Edge, MOST_PARAMS};
 use range_space::Numbers;
 use term_core::{Expr, eval};
 
-// Adds the value of each of these arguments, if none of them is a range or has a fault: their only combination.
+// Adds the value of each of these arguments, which is their only combination. Returns false if one of them is a range
+// or has a fault.
 fn push_only(args: &[Arg], env: &[i64], values: &mut Numbers<MOST_PARAMS>) -> bool
     requires { length values.old + length args.now ≤ most_params }
     ensures { OnTrue result (AddsOnly (combinations args.now env.now) values.old values.new) }
@@ -32,8 +33,8 @@ fn push_only(args: &[Arg], env: &[i64], values: &mut Numbers<MOST_PARAMS>) -> bo
     push_only(others, env, values)
 }
 
-// The edge of a task that the only link of a target is, if its arguments have one value each. It is built without
-// progressions.
+// The only edge that a target stands for, if each of its arguments is a single expression with a value. It is built
+// without progressions.
 pub(crate) fn only_edge(
     plan: &Plan,
     end: NearEnd,

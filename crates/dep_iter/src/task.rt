@@ -60,7 +60,7 @@ fn params_are_locals(space: &ClassSpace) -> bool
     params.len() == space.defs.len() && counts_from(0, params)
 }
 
-// Whether the locals of a task are its parameters, by its class alone: then nothing is evaluated for them.
+// Whether the locals of a task are its parameters, as its class shows. Then nothing is evaluated for them.
 pub(crate) fn has_own_locals(plan: &Plan, t: &TaskId) -> bool
     ensures { OnTrue result (IsTask plan.now t.now → tasks.locals_of plan.now t.now ≡ t.now.params) }
 {
@@ -91,7 +91,7 @@ fn params_copy(t: &TaskId) -> Numbers<MOST_LOCALS>
     numbers
 }
 
-/// The locals of a task, under which all that its class says of it is evaluated.
+/// The locals of a task, on which the expressions of its class are evaluated.
 pub fn locals_of(plan: &Plan, t: &TaskId) -> Numbers<MOST_LOCALS>
     requires { IsTask plan.now t.now }
     ensures { result ≡ tasks.locals_of plan.now t.now }
@@ -103,8 +103,8 @@ pub fn locals_of(plan: &Plan, t: &TaskId) -> Numbers<MOST_LOCALS>
     range_space::locals_of(plan.space(t.class()), t.params())
 }
 
-/// The locals of a task, or None where the job has no such task, in one pass over the definitions. All that the calls
-/// under given locals say of the task is evaluated under them.
+/// The locals of a task, or None if the job has no such task, in one pass over the definitions. The calls named
+/// `.._under` evaluate on them.
 pub fn task_locals(plan: &Plan, t: &TaskId) -> Option<Numbers<MOST_LOCALS>>
     ensures { MatchOption result (IsTask plan.now t.now → ⊥)
         (λ locals. IsTask plan.now t.now × (locals ≡ tasks.locals_of plan.now t.now)) }

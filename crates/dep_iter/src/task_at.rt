@@ -12,7 +12,7 @@ use plan_core::{FlowPlan, Plan};
 use ptg_base::{MOST_LOCALS, TaskId};
 use range_space::Numbers;
 
-/// A task of a plan with its locals, under which all that its class says of it is evaluated.
+/// A task of a plan with its locals, on which the expressions of its class are evaluated.
 #[derive(Drop)]
 pub struct TaskAt<'a> {
     /// The plan.
@@ -25,7 +25,7 @@ pub struct TaskAt<'a> {
     pub ghost are_locals: { locals.now ≡ tasks.locals_of plan.now task.now },
 }
 
-// A task whose locals are its parameters, with these, or None where the job has no such task.
+// A task whose locals are its parameters, or None if the job has no such task.
 fn lent<'a>(plan: &'a Plan, task: &'a TaskId) -> Option<TaskAt<'a>>
     requires { IsTask plan.now task.now → tasks.locals_of plan.now task.now ≡ task.now.params }
     ensures none { IfNone result (IsTask plan.now task.now → ⊥) }
@@ -42,8 +42,8 @@ fn lent<'a>(plan: &'a Plan, task: &'a TaskId) -> Option<TaskAt<'a>>
 }
 
 impl<'a> TaskAt<'a> {
-    /// The task with its locals. They are filled in over what `room` holds, unless they are its parameters, which are
-    /// lent.
+    /// The task with its locals. If they are its parameters, they are borrowed from it; otherwise they replace what
+    /// `room` holds.
     pub fn of(plan: &'a Plan, task: &'a TaskId, room: &'a mut Numbers<MOST_LOCALS>) -> TaskAt<'a>
         requires { IsTask plan.now task.now }
         ensures plan { result.plan.now ≡ plan.now }
@@ -64,8 +64,8 @@ impl<'a> TaskAt<'a> {
         }
     }
 
-    /// The task with its locals, or None where the job has no such task. They are filled in over what `room` holds,
-    /// unless they are its parameters, which are lent.
+    /// The task with its locals, or None if the job has no such task. If they are its parameters, they are borrowed
+    /// from it; otherwise they replace what `room` holds.
     pub fn find(
         plan: &'a Plan,
         task: &'a TaskId,

@@ -12,7 +12,7 @@ use ptg_base::Item;
 use std::marker::Model;
 
 /// An iterator over what a task sends: its edges, and then its write-backs. Contracts see it as the list of the items
-/// not yet given. It takes no memory.
+/// not yet yielded. It takes no memory.
 #[derive(Drop)]
 pub struct TaskItems<'a> {
     edges: OutEdges<'a>,
@@ -42,7 +42,7 @@ fn next_item(edges: &mut OutEdges, writes: &mut WriteBacks) -> Option<Item>
 }
 
 impl<'a> TaskAt<'a> {
-    /// What the task sends: its edges, and then its write-backs. They are evaluated as they are asked for.
+    /// What the task sends: its edges, and then its write-backs. They are evaluated lazily.
     pub fn items(&self) -> TaskItems<'a>
         ensures { result ≡ edges_then_writes self.now.plan.now self.now.task.now }
     {

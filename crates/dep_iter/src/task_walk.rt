@@ -13,7 +13,7 @@ use ptg_base::TaskId;
 use range_space::Space;
 use std::marker::Model;
 
-// The tasks of a class that are not yet given.
+// The tasks of a class that were not yet yielded.
 #[derive(Drop)]
 struct ClassTasks<'a> {
     class: u32,
@@ -63,7 +63,7 @@ impl<'a> ClassTasks<'a> {
     }
 }
 
-// The next task of a walk: of those left of the class at hand, or of the classes from this number on.
+// The next task of a walk: of those left in the class at hand, or in the classes from number `later` on.
 fn next_task<'a>(plan: &'a Plan, later: &mut u32, at_hand: &mut ClassTasks<'a>) -> Option<TaskId>
     ensures { YieldsFirst (λ (left : List Task). left)
         (at_hand.old ++ tasks_from later.old (drop later.old plan.now.spaces)) result
@@ -80,7 +80,7 @@ fn next_task<'a>(plan: &'a Plan, later: &mut u32, at_hand: &mut ClassTasks<'a>) 
     next_task(plan, later, at_hand)
 }
 
-/// An iterator over the tasks of a plan, in walk order. Contracts see it as the list of those not yet given. It takes
+/// An iterator over the tasks of a plan, in walk order. Contracts see it as the list of those not yet yielded. It takes
 /// no memory.
 #[derive(Drop)]
 pub struct Tasks<'a> {

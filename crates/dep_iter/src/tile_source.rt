@@ -19,7 +19,7 @@ use plan_core::{Arg, FlowPlan, Plan, Target};
 use ptg_base::{Edge, MOST_PARAMS, TaskId};
 use range_space::Numbers;
 
-// The value of an argument that is no range.
+// The value of an argument that is no range; 0 for a range.
 fn single_value(env: &[i64], arg: &Arg) -> i64
     ensures { result ≡ arguments.single_value env.now arg.now }
 {
@@ -51,7 +51,7 @@ fn single_task(class: u32, args: &[Arg], env: &[i64]) -> TaskId
     TaskId::new(class, values.as_slice())
 }
 
-// What the target of an in dependence of this flow is to a task.
+// The source that the target of an in dependence of this flow stands for.
 fn source_at(plan: &Plan, t: &TaskId, env: &[i64], flow: u8, target: &Target) -> Source
     requires { IsTrue (fits plan.now target.now) }
     ensures { result ≡ edges.source_at t.now env.now flow target.now }
@@ -84,8 +84,8 @@ fn flow_source(plan: &Plan, t: &TaskId, env: &[i64], number: u8, flow: &FlowPlan
 }
 
 impl TaskAt<'_> {
-    /// Where the tile of a data flow of the task comes from, by the first in dependence that holds: `Source::Nothing`
-    /// exactly where none holds.
+    /// Where the tile of a data flow of the task comes from: the target of the first in dependence that holds. Returns
+    /// `Source::Nothing` if and only if none holds or there is no such flow.
     pub fn data_source(&self, flow: u8) -> Source
         ensures { result ≡ edges.data_source self.now.plan.now self.now.task.now flow }
     {
@@ -96,7 +96,8 @@ impl TaskAt<'_> {
     }
 }
 
-/// Where the tile of a data flow of a task comes from: `Source::Nothing` exactly where no in dependence holds.
+/// Where the tile of a data flow of a task comes from. Returns `Source::Nothing` if and only if no in dependence holds
+/// or there is no such flow.
 pub fn data_source(plan: &Plan, t: &TaskId, flow: u8) -> Source
     requires { IsTask plan.now t.now }
     ensures { result ≡ edges.data_source plan.now t.now flow }

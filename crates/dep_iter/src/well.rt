@@ -1,4 +1,4 @@
-//! Whether what a task needs has its values.
+//! Whether each expression that a task needs has a value.
 
 ghost use Rattle.std.specs.Prelude.{◌≡◌, ◌+◌, ◌≤◌, length, Some, None, IfErr, IfOk};
 ghost use Rattle.std.specs.List.{list_all};
@@ -18,7 +18,7 @@ use term_core::{Expr, eval};
 /// A task needs an expression that has no value, or a range of step 0.
 #[derive(Clone, Copy, Debug, PartialEq, Eq)]
 pub struct IllTask {
-    /// The first ill flow; None where the affinity or the priority is ill.
+    /// The first ill flow; None if the affinity or the priority is ill.
     pub flow: Option<u8>,
 }
 
@@ -71,7 +71,8 @@ pub fn has_arguments(env: &[i64], target: &Target) -> bool
     }
 }
 
-// Whether what these dependences need has its values; where the first that holds counts alone, they need no later ones.
+// Whether each expression that these dependences need has a value. If only the first that holds counts, the dependences
+// after it are not needed.
 fn are_well(first_only: bool, env: &[i64], deps: &[DepPlan]) -> bool
     ensures { result ≡ well.are_well first_only env.now deps.now }
 {
@@ -88,7 +89,7 @@ fn are_well(first_only: bool, env: &[i64], deps: &[DepPlan]) -> bool
     }
 }
 
-// Whether what the dependences of a flow need has its values.
+// Whether each expression that the dependences of a flow need has a value.
 fn is_well_flow(env: &[i64], flow: &FlowPlan) -> bool
     ensures { result ≡ well.is_well_flow env.now flow.now }
 {
@@ -117,9 +118,9 @@ fn has_hints(env: &[i64], class: &ClassPlan) -> bool
 }
 
 impl TaskAt<'_> {
-    /// Whether each expression that the task needs has a value and no range that it needs has step 0: those of its
-    /// affinity, its priority and its active dependences.
-    /// An `Err` names what is ill first: the affinity or the priority, or a flow.
+    /// Whether each expression that the task needs has a value, and no range that it needs has step 0. It needs those
+    /// of its affinity and priority, the guards of the dependences that are reached, and the arguments of the active
+    /// targets. An `Err` names what is ill first: the affinity or the priority, or a flow.
     #[tactic(auto, unfolding(crate::specs::Well::ill_part))]
     pub fn well(&self) -> Result<(), IllTask>
         ensures well { IfOk result (λ _. well.ill_part self.now.plan.now self.now.task.now ≡ None) }

@@ -14,7 +14,7 @@ use crate::place::place_of;
 use plan_core::{DepPlan, FlowPlan, Target};
 use ptg_base::{Place, TaskId, WriteBack};
 
-/// Where a walk over the write-backs of a task stands.
+/// The position of a walk over the write-backs of a task.
 #[derive(Clone, Copy)]
 pub struct WritePosition<'a> {
     /// The number of the flow at hand.
@@ -62,7 +62,7 @@ fn name_no_place(deps: &[DepPlan]) -> bool
     }
 }
 
-// Whether no out dependence of these flows names a place: then a task has no write-backs of them.
+// Whether no out dependence of these flows names a place. Then the flows have no write-backs.
 fn write_nothing(flows: &[FlowPlan]) -> bool
     ensures { result ≡ list_all writing.writes_nothing flows.now }
 {
@@ -72,8 +72,8 @@ fn write_nothing(flows: &[FlowPlan]) -> bool
     }
 }
 
-// The start of a walk over the write-backs of a task with these flows. There are none to walk over where no out
-// dependence names a place.
+// The start of a walk over the write-backs of a task with these flows. No flows are walked if no out dependence names a
+// place.
 #[tactic(auto, using(crate::proofs::Writing::no_writes))]
 pub(crate) fn start_writes<'a>(flows: &'a [FlowPlan]) -> WritePosition<'a>
     requires { length flows.now ≤ most_flows }
@@ -104,7 +104,7 @@ fn place_named(target: &Target, env: &[i64]) -> Option<Place>
     }
 }
 
-// The place that a dependence names under these locals, if it holds. The guard of one that has no place is not
+// The place that a dependence names under these locals, if it holds. If no target of it is a place, its guard is not
 // evaluated.
 #[tactic(auto, using(crate::proofs::Writing::no_place_held))]
 fn place_held(d: &DepPlan, env: &[i64]) -> Option<Place>
@@ -144,7 +144,7 @@ fn next_written<'a>(
     }
 }
 
-// The next write-back of a walk over those of a task, under its locals.
+// The next write-back of a walk over a task's write-backs, under its locals.
 pub(crate) fn next_write<'a>(
     t: &TaskId,
     env: &[i64],

@@ -15,7 +15,8 @@ use plan_core::Plan;
 use ptg_base::{TaskId, WriteBack};
 use std::marker::Model;
 
-/// An iterator over the write-backs of a task. Contracts see it as the list of those not yet given. It takes no memory.
+/// An iterator over the write-backs of a task. Contracts see it as the list of those not yet yielded. It takes no
+/// memory.
 #[derive(Drop)]
 pub struct WriteBacks<'a> {
     task: TaskId,
@@ -37,7 +38,7 @@ impl<'a> Model for WriteBacks<'a> {
     ghost invariant = { λ w. w.position.next_flow + length w.position.flows.now ≤ most_flows };
 }
 
-// The write-backs of a task with these locals.
+// The write-backs of a task, given its locals.
 fn task_writes<'a>(plan: &'a Plan, t: &TaskId, locals: Locals<'a>) -> WriteBacks<'a>
     requires task { IsTask plan.now t.now }
     requires locals { walk_locals locals ≡ tasks.locals_of plan.now t.now }
@@ -50,7 +51,7 @@ fn task_writes<'a>(plan: &'a Plan, t: &TaskId, locals: Locals<'a>) -> WriteBacks
     }
 }
 
-/// The write-backs of a task, by flow and dependence in the text's order. They are evaluated as they are asked for.
+/// The write-backs of a task, by flow and dependence in the text's order. They are evaluated lazily.
 pub fn write_backs<'a>(plan: &'a Plan, t: &TaskId) -> WriteBacks<'a>
     requires { IsTask plan.now t.now }
     ensures { result ≡ items.write_backs plan.now t.now }
@@ -58,7 +59,7 @@ pub fn write_backs<'a>(plan: &'a Plan, t: &TaskId) -> WriteBacks<'a>
     task_writes(plan, t, Locals::Own(locals_of(plan, t)))
 }
 
-/// The write-backs of a task with these locals.
+/// The write-backs of a task, given its locals.
 pub fn write_backs_under<'a>(plan: &'a Plan, t: &TaskId, env: &'a [i64]) -> WriteBacks<'a>
     requires task { IsTask plan.now t.now }
     requires locals { env.now ≡ tasks.locals_of plan.now t.now }

@@ -57,7 +57,7 @@ tile_of-tiles_by_flow n (Some t ∷ slots) (suc f) d m e h =
     ap (λ b. cond b (Some t) (tile_of (tiles_by_flow (n + 1) slots) m)) (ne_eqb m n (λ is. omega (arith, e, is)))
     ∙ tile_of-tiles_by_flow (n + 1) slots f d m (omega (arith, e)) (omega (arith, h))
 
--- there is no pair with a flow before the array
+-- taking out a flow before the array changes nothing
 none_goes : (m n : ℕ) (slots : List (Option (List ℤ))) → m < n → without_tile m (tiles_by_flow n slots) ≡ tiles_by_flow n slots
 none_goes m n [] h = refl
 none_goes m n (None ∷ slots) h = none_goes m (n + 1) slots (omega arith)

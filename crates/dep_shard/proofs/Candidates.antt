@@ -18,14 +18,14 @@ use Rattle.dep_shard.specs.Content.{Entries, entry_in, IsReady, HasNoReady, IsBe
 use Rattle.dep_shard.specs.Queue.{Candidate, order, is_candidate, is_live, HasEveryReady, HasLiveFront}
 use Rattle.std.proofs.lemmas.Bool.{false_from_ne_true}
 
--- the test of sameness holds of one task alone
+-- the test of sameness holds for one task only
 pub same_means : (a b : Task) → IsTrue (same_task a b) → a ≡ b
 same_means a b = (same_task-decides a b).0
 
 pub same_self : (a : Task) → same_task a a ≡ true
 same_self a = (same_task-decides a a).1 refl
 
--- the test of a candidate holds of one priority and task alone
+-- the test of a candidate holds for one priority and task only
 candidate_means : (p : ℤ) (t : Task) (x : Candidate) → is_candidate p t x ≡ true → (p ≡ x.0) × (t ≡ x.1.0)
 candidate_means p t x h =
     ((signed_Decides p x.0).0 (first_so (int_eq p x.0) (same_task t x.1.0) h), same_means t x.1.0 (second_so (int_eq p x.0) (same_task t x.1.0) h))
@@ -127,7 +127,7 @@ pub live_front : (es : Entries) (x : Candidate) (cs : List Candidate) → HasLiv
 live_front es x [] front first some = absurd (omega (arith, some))
 live_front es x (c ∷ rest) front first some = (λ i. is_live es (first i).0 (first i).1.0) ∙ front c rest refl
 
--- a live candidate stays where only the live ones are kept
+-- a live candidate stays if only the live ones are kept
 stays : (es : Entries) (p : ℤ) (t : Task) (rs : List Candidate) → is_live es p t ≡ true → list_any (is_candidate p t) rs ≡ true → list_any (is_candidate p t) (filter (λ x. is_live es x.0 x.1.0) rs) ≡ true
 stays es p t [] live any = any
 stays es p t (x ∷ xs) live any = by (stays es p t xs live) (is_candidate p t x) refl (is_live es x.0 x.1.0) refl

@@ -68,7 +68,7 @@ served t e x rs ss moves prio is p h =
     let here : is_candidate p t x ≡ true = subst (λ (u : Task). is_candidate p u x ≡ true) is (subst (λ (q : ℤ). is_candidate q x.1.0 x ≡ true) (prio ∙ level) (candidate_self x)) in
     sym (list_any-IsPermutation (is_candidate p t) (x ∷ rs) ss moves) ∙ ap (λ b. b || list_any (is_candidate p t) rs) here
 
--- One entry changes. If no more edges have come to the new one than it waits for, that holds of each.
+-- One entry changes. If the new one has received no more edges than it waits for, the same holds for every entry.
 at_most_after : (es fs : Entries) (t : Task) (w : Option Entry) → Updates es fs t w → ((e : Entry) → w ≡ Some e → e.arrived ≤ e.goal) → HaveAtMostGoal es → HaveAtMostGoal fs
 at_most_after es fs t w up new all u e is = by (same_task t u) refl
   where
@@ -170,7 +170,7 @@ updates_twice es fs gs t v w one two u = by (same_task t u) refl
     by true e = two u ∙ ap (λ b. cond b w (entry_in fs u)) e ∙ sym (ap (λ b. cond b w (entry_in es u)) e)
     by false e = two u ∙ ap (λ b. cond b w (entry_in fs u)) e ∙ one u ∙ ap (λ b. cond b v (entry_in es u)) e ∙ sym (ap (λ b. cond b w (entry_in es u)) e)
 
--- a fact that holds whatever the answer is
+-- a fact that holds whatever the result is
 pub if_none : {T : Type 0} (r : Option T) (P : Type 0) → P → IfNone r P
 if_none None P p = p
 if_none (Some x) P p = tt
@@ -194,7 +194,7 @@ pub looked_up : (es : Entries) (i : ℕ) (t : Task) (e : Entry) → IsDistinct s
 looked_up es i t e distinct is =
     (Found-position (same_task t) es i (index-first (same_task t) es i (own_first same_task task_equivalence es i t e distinct is))).value ∙ value_of es i t e is
 
--- As many entries wait as there are exactly if none is ready.
+-- All entries wait if and only if none is ready.
 pub calm : (es : Entries) (rs : List Candidate) (len capacity waiting : ℕ) → IsQueueOf es rs len capacity waiting → IsDistinct same_task (keys_of es) → (waiting ≡ length es) ↔ HasNoReady es
 calm es rs len capacity waiting k distinct = (
   λ all t e is ready. absurd (omega (arith, ready, all_wait (same_task t) es e (k.counted ∙ all) is)),
@@ -218,7 +218,7 @@ at_end [] x (suc n) h = absurd (omega (arith, h))
 at_end (e ∷ es) x zero h = absurd (omega (arith, h))
 at_end (e ∷ es) x (suc n) h = at_end es x n (omega (arith, h))
 
--- what stands at an index stands there alone
+-- an index has one entry
 pub one_row : (es : Entries) (i : ℕ) (t u : Task) (e f : Entry) → slice_get es i ≡ Some (t, e) → slice_get es i ≡ Some (u, f) → (t ≡ u) × (e ≡ f)
 one_row es i t u e f one other =
     let row : Task × Entry = (t, e) in

@@ -1,4 +1,4 @@
--- The tiles of all types, where those of one type change.
+-- The tiles of all types, when those of one type change.
 use Rattle.std.specs.Prelude.{◌≡◌, ℕ, ◌+◌, ◌<◌, ◌≤◌, List, [], ◌∷◌, length, map, slice_index, slice_index_or, slice_set, Some, None}
 use Rattle.std.proofs.Common.{zero, suc, refl, ap, subst, ◌∙◌, arith}
 use Rattle.std.proofs.lemmas.Bool.Decides.{nat_tests}

@@ -10,7 +10,7 @@ use Rattle.ptg_base.specs.TaskComparing.{same_task}
 use Rattle.dep_shard.specs.Content.{Entries}
 use Rattle.dep_shard.proofs.QueueLemmas.{task_equivalence}
 
--- where all tasks are distinct, what is inserted comes after what was there
+-- if all tasks are distinct, what is inserted comes after what was there
 insert_all-distinct : (done es : Entries) → IsDistinct same_task (keys_of (done ++ es)) → insert_all same_task done es ≡ done ++ es
 insert_all-distinct done [] distinct = sym (append-nil done)
 insert_all-distinct done (e ∷ es) distinct =

@@ -1,5 +1,7 @@
--- The tiles that came to a task, by the numbers of its flows. Source: DAGuE 2012, where a task keeps the data of its
--- dependences until it runs; one tile a flow, in flow order, is this project's own choice.
+-- The tiles that came to a task, in flow order, by the numbers of its flows. Source: DAGuE 2012, where a task keeps the
+-- data of its dependences until it runs.
+-- Carried by: `Arrivals::put`, `Arrivals::tile`, `Arrivals::take`.
+-- Tested by: `ptg_measure`.
 use Rattle.std.specs.Prelude.{ℕ, ◌+◌, ◌<◌, ◌≤◌, ℤ, not, nat_eq, nat_lt, if◌then◌else◌, List, [], ◌∷◌, filter, Option, Some, None}
 use Rattle.std.specs.Map.{lookup}
 use Rattle.ptg_base.specs.Entry.{FlowTile}
@@ -13,7 +15,7 @@ with_tile flow tile (t ∷ ts) =
     then (flow, tile) ∷ t ∷ ts
     else if nat_eq flow t.0 then (flow, tile) ∷ ts else t ∷ with_tile flow tile ts
 
--- Tiles that are listed from the last that came to the first, in order of flow number. Of one flow the last stays.
+-- Tiles that are listed latest first, put in order of flow number. Of the tiles of one flow the latest stays.
 abbrev pub in_flow_order : List FlowTile → List FlowTile
 in_flow_order [] = []
 in_flow_order (t ∷ ts) = with_tile t.0 t.1 (in_flow_order ts)
@@ -26,7 +28,7 @@ tile_of tiles flow = lookup (nat_eq flow) tiles
 abbrev pub without_tile : ℕ → List FlowTile → List FlowTile
 without_tile flow tiles = filter (λ ((n, tile) : FlowTile). not (nat_eq flow n)) tiles
 
--- The flow numbers rise from `least` at the earliest, and are below 8.
+-- The flow numbers rise, are at least `least`, and are below 8.
 abbrev pub RiseFrom : ℕ → List FlowTile → Type 0
 RiseFrom least [] = Unit {0}
 RiseFrom least (t ∷ ts) = (least ≤ t.0) × (t.0 < most_flows) × RiseFrom (t.0 + 1) ts

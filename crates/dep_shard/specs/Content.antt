@@ -1,6 +1,10 @@
--- What contracts see of a shard: its entries by task, what was written, what trapped, two numbers, and its spares.
--- Source: DAGuE 2012, where an entry counts the dependences that have come; the form of the table is this project's own
--- choice.
+-- The content of a shard as contracts see it: entries by task and index, ready or waiting, the best ready task, what
+-- was written, what trapped, two numbers, and spares. Source: DAGuE 2012, where an entry counts the dependences that
+-- have come.
+-- Carried by: `Shard::reserve`, `Shard::add_ready`, `Shard::index_of`, `Shard::arrive`, `Shard::arrive_at`,
+-- `Shard::arrive_first`, `Shard::best_ready`, `Shard::is_ready`, `Shard::take_ready`, `Shard::is_calm`,
+-- `Shard::into_parts`, `Shard::write`, `Shard::end`, `Shard::trap`.
+-- Tested by: `ptg_measure`.
 use Rattle.std.specs.Prelude.{◌≡◌, ℕ, ◌+◌, ◌<◌, ◌≤◌, ℤ, false, cond, List, [], length, slice_get, slice_index, Option, Some, None}
 use Rattle.std.specs.Map.{lookup}
 use Rattle.std.specs.Option.{unwrap_or}
@@ -105,7 +109,7 @@ with_arrival e flow tile =
 abbrev pub entry_before : Content → Task → ℕ → ℤ → Entry
 entry_before y t goal priority = unwrap_or (entry_of y t) (fresh goal priority)
 
--- new has this entry of t (`None`: it has none), and of each other task what old has
+-- new has this entry of t (`None`: no entry), and for each other task what old has
 abbrev pub Updates : Entries → Entries → Task → Option Entry → Type 0
 Updates old new t w = (u : Task) → entry_in new u ≡ cond (same_task t u) w (entry_in old u)
 
@@ -201,7 +205,7 @@ pub record KeepsEntriesAndWritten (old new : Content) : Type 0 where
 abbrev pub HasNoReady : Entries → Type 0
 HasNoReady entries = (t : Task) (e : Entry) → entry_in entries t ≡ Some e → IsReady e → ⊥
 
--- The greater priority is greater, and of equal ones that of the task that is first in task order.
+-- A greater priority is greater; of equal ones, that of the task which is first in task order.
 abbrev pub priority_cmp : ℤ × Task → ℤ × Task → Ordering
 priority_cmp a b = ordering_then (int_cmp a.0 b.0) (task_cmp b.1 a.1)
 

@@ -1,4 +1,4 @@
--- How a shard's queue of candidates serves its entries. Source: this project's own choice.
+-- How a shard's queue of candidates serves its entries.
 use Rattle.std.specs.Prelude.{◌≡◌, ℕ, ◌+◌, ◌≤◌, ℤ, Bool, true, false, ◌&&◌, nat_lt, nat_eq, List, ◌∷◌, Option, Some}
 use Rattle.std.specs.BinaryHeap.{IsHeap}
 use Rattle.std.specs.List.{list_any}
@@ -16,7 +16,8 @@ use Rattle.list_lemmas.specs.Counting.{count}
 abbrev pub Candidate : Type 0
 Candidate = ℤ × Reverse Task
 
--- how the queue orders its candidates: by priority, and of one priority the task first in task order is the greater
+-- how the queue orders its candidates: by priority, and at one priority the task that is first in task order is the
+-- greater
 abbrev pub order : Candidate → Candidate → Ordering
 order (p, a) (q, b) = priority_cmp (p, a.0) (q, b.0)
 
@@ -48,7 +49,7 @@ is_waiting e = nat_lt e.arrived e.goal
 abbrev pub count_waiting : Entries → ℕ
 count_waiting entries = count (λ ((t, e) : Task × Entry). is_waiting e) entries
 
--- to no entry more edges have come than it waits for
+-- no entry has received more edges than it waits for
 abbrev pub HaveAtMostGoal : Entries → Type 0
 HaveAtMostGoal entries = (t : Task) (e : Entry) → entry_in entries t ≡ Some e → e.arrived ≤ e.goal
 

@@ -1,4 +1,4 @@
--- What contracts see of a shard's table. Source: this project's own choice.
+-- What contracts see of a shard's table.
 use Rattle.std.specs.Prelude.{ℕ, ◌-◌, max}
 use Rattle.ptg_base.specs.Entry.{Entry}
 use Rattle.indexmap.specs.IndexMap.{set_value_at}
@@ -9,8 +9,8 @@ pub record TableContent : Type 0 where
   pub entries : Entries
   pub spare : ℕ
 
--- How many more entries can come without memory, where `len` are in use: as many as the map in use has room for, or as
--- the reserved map holds besides those.
+-- How many more entries can come without memory, if `len` are in use: as many as the map in use has room for, or as the
+-- reserved map can hold besides those.
 abbrev pub spare_of : ℕ → ℕ → ℕ → ℕ
 spare_of len room reserved = max room (reserved - len)
 

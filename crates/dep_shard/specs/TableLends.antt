@@ -6,6 +6,6 @@ use Rattle.dep_shard.specs.Table.{TableContent, with_entry_at}
 use Rattle.dep_shard.specs.contracts.entry.Entry.{the_row as entry_row}
 use Rattle.dep_shard.specs.contracts.table.Table.{the_row}
 
--- the index has the last entry after r
+-- at the index, the table ends with the entry that r ends with
 abbrev pub lends_entry : MutBor TableContent → ℕ → MutBor Entry → Fml
 lends_entry t index r = Lends the_row entry_row t r (with_entry_at t.now index)

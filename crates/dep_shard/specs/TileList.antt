@@ -1,4 +1,4 @@
--- The nodes of a list of tiles: each holds a tile and the nodes after it. Source: this project's own choice.
+-- The nodes of a list of tiles: each holds a tile and the nodes after it.
 use Rattle.std.specs.Prelude.{◌<◌, List, [], ◌∷◌}
 use Rattle.ptg_base.specs.Entry.{FlowTile}
 use Rattle.ptg_base.specs.Limits.{most_flows}

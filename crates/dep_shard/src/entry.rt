@@ -58,7 +58,7 @@ impl Entry {
         }
     }
 
-    // The tiles that have come. Their nodes go to those that are free.
+    // The tiles that have come. Their nodes become free.
     pub(crate) fn into_arrivals(self, free: &mut SpareNodes) -> Arrivals
         ensures { result ≡ self.tiles }
     {

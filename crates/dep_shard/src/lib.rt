@@ -1,4 +1,5 @@
-//! One shard of the dependency table.
+//! One shard of the dependency table: its entries by task and by index, and the best ready one. Memory for every
+//! addition can be reserved.
 #![tactic(auto)]
 
 mod arrivals;

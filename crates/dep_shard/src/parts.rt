@@ -13,7 +13,8 @@ use ptg_base::{TaskId, Tile, WriteBack};
 use std::marker::Model;
 use term_core::Trap;
 
-/// The entries that are left of a shard, to read, and what its tasks wrote back and which trapped, to have.
+/// The entries that are left of a shard, which can be read, and the write-backs and trapped tasks, which are handed
+/// over.
 #[derive(Drop)]
 pub struct Parts {
     pub entries: Entries,
@@ -43,7 +44,7 @@ impl Entries {
         Entries { table }
     }
 
-    /// How many there are. No two are of one task.
+    /// How many entries there are. No two are for the same task.
     pub fn len(&self) -> usize
         ensures len { result ≡ length self.now }
         ensures distinct { IsDistinct same_task (keys_of self.now) }

@@ -11,7 +11,7 @@ use std::collections::BinaryHeap;
 // A task with its priority. It was ready when it came to the queue, and is stale once it was taken.
 pub(crate) type Candidate = (i64, Reverse<TaskId>);
 
-// The greatest priority comes first, and of equal ones the first task.
+// The greatest priority comes first, and of equal ones the task that is first in task order.
 pub(crate) type Queue = BinaryHeap<Candidate>;
 
 // Whether the task of this candidate has a ready entry of its priority.

@@ -153,7 +153,7 @@ impl Shard {
         Ok(())
     }
 
-    // Enters a ready task, with the room that was promised.
+    // Adds an entry of a ready task, in room that was reserved.
     fn enter_ready(&mut self, t: &TaskId, priority: i64)
         requires new { entry_of self.old t.now ≡ None }
         requires room { 0 < self.old.spare.entries }
@@ -165,7 +165,7 @@ impl Shard {
         self.queue.push((priority, Reverse(t.copy()))).unwrap();
     }
 
-    // Adds an entry that waits, to which nothing has come, at the end of the list. Its index.
+    // Adds a waiting entry, to which nothing has come, at the end of the list. Returns its index.
     fn enter_waiting(&mut self, t: &TaskId, goal: u32, priority: i64) -> usize
         requires new { entry_of self.old t.now ≡ None }
         requires room { 0 < self.old.spare.entries }
@@ -181,8 +181,8 @@ impl Shard {
         index
     }
 
-    /// The best ready task: of the greatest priority, and of equal ones the first in task order. Looking drops
-    /// candidates that are stale, and changes nothing that contracts see but for spares that grow.
+    /// The best ready task: the one of the greatest priority, and of equal ones the first in task order. The search
+    /// drops stale candidates. Contracts see no change but spares that may grow.
     pub fn best_ready(&mut self) -> Option<TaskId>
         ensures same { IsUnchanged self.old self.new }
         ensures spare { KeepsSpares self.old.spare self.new.spare }
@@ -194,7 +194,8 @@ impl Shard {
         Some(best.1.0.copy())
     }
 
-    /// The index of a task's entry in the list of entries, if the task has one. It holds until entries come or go.
+    /// The index of a task's entry in the list of entries, if the task has one. It is valid until an entry comes or
+    /// goes.
     pub fn index_of(&self, t: &TaskId) -> Option<usize>
         ensures none { IfNone result (entry_of self.now t.now ≡ None) }
         ensures some { IfSome result (IsEntryAt self.now t.now) }
@@ -315,7 +316,7 @@ impl Shard {
         self.stock.copy_if_any(datatype, tile)
     }
 
-    // An edge comes to an entry that waits. The queue has room for its candidate.
+    // Notes that an edge has come to a waiting entry. The queue has room for its candidate.
     fn land(&mut self, index: usize, flow: u8, tile: Option<TileWithNode>) -> Arrived
         requires flow { flow < most_flows }
         requires waits { HasWaitingAt self.old index }
@@ -336,8 +337,8 @@ impl Shard {
         Arrived::Fired
     }
 
-    /// Takes the ready entry of a task out, with the tiles that came to it. The task runs from then on. `None` exactly
-    /// if it has no ready entry, and then the shard is as it was.
+    /// Takes the ready entry of a task out and returns the tiles that came to it. The task runs from then on. Returns
+    /// `None` if and only if the task has no ready entry; the shard is then unchanged.
     pub fn take_ready(&mut self, t: &TaskId) -> Option<Arrivals>
         requires { self.old.running < most_tasks }
         ensures none { IfNone result (HasNoReadyOf self.old t.now) }
@@ -389,7 +390,7 @@ impl Shard {
         Some(self.stock.arrivals_of(entry))
     }
 
-    // Drops the stale candidates where most are, so that they do not pile up until the next search.
+    // Drops the stale candidates if most candidates are stale, so that they do not pile up until the next search.
     fn drop_stale_if_many(&mut self)
         ensures same { IsUnchanged self.old self.new }
         ensures spare { KeepsSpares self.old.spare self.new.spare }
@@ -421,7 +422,7 @@ impl Shard {
         Ok(())
     }
 
-    /// A running task ends.
+    /// Notes that a running task has ended.
     pub fn end(&mut self)
         requires running { 0 < self.old.running }
         requires bound { self.old.ended < most_tasks }
@@ -434,8 +435,8 @@ impl Shard {
         self.ended += 1;
     }
 
-    /// Keeps the tiles of a task that has ended for later edges and write-backs, as far as there is room among the
-    /// spare tiles that were used. What contracts see stays, but for spares that grow.
+    /// Keeps the tiles of a task that has ended for later edges and write-backs, as far as there is room for them.
+    /// Contracts see no change but spares that may grow.
     pub fn reuse(&mut self, spent: &mut Arrivals)
         ensures same { IsUnchanged self.old self.new }
         ensures spare { KeepsSpares self.old.spare self.new.spare }
@@ -443,7 +444,7 @@ impl Shard {
         self.stock.keep_all(spent);
     }
 
-    /// A running task traps: it ends, and is noted with its cause. It uses a spare trapped task.
+    /// Notes that a running task has trapped: it ends, and is kept with its cause. It uses a spare trapped task.
     pub fn trap(&mut self, t: &TaskId, cause: Trap) -> Result<(), OutOfMemory>
         requires running { 0 < self.old.running }
         requires bound { self.old.ended < most_tasks }
@@ -460,7 +461,7 @@ impl Shard {
         Ok(())
     }
 
-    /// How many entries there are. No two are of one task.
+    /// How many entries there are. No two are for the same task.
     pub fn len(&self) -> usize
         ensures len { result ≡ length self.now.entries }
         ensures distinct { IsDistinct same_task (keys_of self.now.entries) }

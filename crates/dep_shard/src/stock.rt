@@ -93,7 +93,7 @@ impl TypeStock {
         self.pool.has_room_for(tile)
     }
 
-    // Keeps a tile for a later copy, where there is room for it.
+    // Keeps a tile for a later copy, if there is room for it.
     fn keep(&mut self, tile: Tile)
         ensures elems { self.new.elems ≡ self.old.elems }
         ensures more { self.old.spare ≤ self.new.spare }
@@ -104,7 +104,7 @@ impl TypeStock {
     }
 }
 
-// A copy of a tile: in one that is spare or was kept if there is any, else in new memory, which can then come back.
+// A copy of a tile: made in a spare or a kept one if there is any, else in new memory, which can be kept later.
 fn copy_in(pool: &mut TilePool, tile: &Tile) -> Result<Tile, OutOfMemory>
     requires { length tile.now ≡ pool.old.elems }
     ensures ok { IfOk result (λ copy. copy ≡ tile.now) }
@@ -119,8 +119,8 @@ fn copy_in(pool: &mut TilePool, tile: &Tile) -> Result<Tile, OutOfMemory>
     pool.copy_of(tile)
 }
 
-// Takes room to keep one more tile that nothing needs any more, up to the bound. One that is held in place is not worth
-// it. Refused memory is no failure: then the tile is freed.
+// Makes room to keep one more tile that nothing needs any more, up to the bound. A tile that is held in place is not
+// worth it. Refused memory is no failure: the tile is then freed.
 fn make_room_for(pool: &mut TilePool, tile: &Tile)
     ensures elems { pool.new.elems ≡ pool.old.elems }
     ensures spare { pool.new.spare ≡ pool.old.spare }
@@ -161,7 +161,7 @@ fn make_nodes(nodes: &mut SpareNodes, alloc: Global, n: usize) -> Result<(), Out
     Ok(())
 }
 
-// How many nodes that hold this many tiles of each type are kept at most.
+// The number of nodes that are kept for this many tiles of each type: one for each tile, up to the bound.
 fn free_nodes_of(tiles: &[u64]) -> usize {
     let mut nodes = 0;
     for n in tiles {
@@ -191,7 +191,7 @@ impl Model for Stock {
 }
 
 impl Stock {
-    // No reserved tiles, of types whose tiles have this many numbers.
+    // A stock without reserved tiles, for types whose tiles have this many numbers.
     pub(crate) fn new(alloc: Global, elems: &[u32]) -> Result<Stock, OutOfMemory>
         ensures { IfOk result (λ stock. stock.elems ≡ elems.now) }
     {

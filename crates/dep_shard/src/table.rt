@@ -24,15 +24,15 @@ type TaskMap = IndexMap<TaskId, Entry>;
 // Room for this many entries is never too much for the map in use.
 const SMALL_RESERVE: usize = 64;
 
-// Of the entries that were promised, one in this many is expected at a time.
+// One in this many of the reserved entries is expected at a time.
 const EXPECTED_FRACTION: usize = 16;
 
-// The entries of a shard by task: the map in use, and an empty one that is reserved and takes its place when it is
-// full. So the map in use stays small, and look-ups fast, while few of the entries that were promised are there.
+// The entries of a shard by task: the map in use, and an empty one that is reserved and takes its place once it is
+// full. So the map in use stays small, and look-ups fast, while few of the reserved entries are in use.
 #[derive(Drop)]
 pub(crate) struct Table {
     used: TaskMap,
-    // It has room for as many entries as were promised, those in use among them.
+    // It has room for all entries that were reserved, those in use among them.
     reserved: TaskMap,
 }
 
@@ -63,7 +63,7 @@ impl Table {
         }
     }
 
-    // How many entries there are. No two are of one task.
+    // How many entries there are. No two are for the same task.
     pub(crate) fn len(&self) -> usize
         ensures len { result ≡ length self.now.entries }
         ensures small { result < 2 ^ 63 }
@@ -140,7 +140,7 @@ impl Table {
         self.used.get_index(index)
     }
 
-    // The entry at this index with its task; the entry can be written.
+    // The entry at this index, which can be changed, with its task.
     pub(crate) fn pair_mut(&mut self, index: usize) -> (&TaskId, &mut Entry)
         requires { index < length self.old.entries }
         ensures* writes_back { sem 𝓛 (lends_entry self.entry index result.1) }
@@ -150,7 +150,7 @@ impl Table {
         self.used.pair_mut(index)
     }
 
-    // Takes the entry at this index out. The last one takes its place.
+    // Takes the entry at this index out. The last entry takes its place.
     pub(crate) fn swap_remove_index(&mut self, index: usize) -> Option<(TaskId, Entry)>
         ensures entry { result ≡ slice_get self.old.entries index }
         ensures entries { IfSome result (λ e. self.new.entries ≡ swap_remove self.old.entries index e) }
@@ -162,7 +162,7 @@ impl Table {
     }
 }
 
-// Makes room for one more entry in the map in use, by the reserved one if it has none.
+// Makes room for one more entry in the map in use: if it is full, the reserved map takes its place.
 fn make_room(used: &mut TaskMap, reserved: &mut TaskMap)
     requires empty { IsEmpty reserved.old }
     requires room { 0 < spare_of (index_map_len used.old) (spare used.old) (spare reserved.old) }
@@ -177,7 +177,8 @@ fn make_room(used: &mut TaskMap, reserved: &mut TaskMap)
     }
 }
 
-// Moves all entries in their order into the reserved map, and uses it from then on. The other one is reserved.
+// Moves all entries, in their order, into the reserved map, which is in use from then on. The other map becomes the
+// reserved one.
 fn take_over(used: &mut TaskMap, reserved: &mut TaskMap)
     requires empty { IsEmpty reserved.old }
     requires room { index_map_len used.old ≤ spare reserved.old }

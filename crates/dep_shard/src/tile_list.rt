@@ -8,8 +8,8 @@ use ptg_base::Tile;
 use std::marker::Model;
 use std::mem;
 
-// The tiles that came to a task so far, each after its flow, from the last that came to the first. An entry of a
-// task to which no tile came has no node, so that it is small.
+// The tiles that came to a task so far, each with its flow, the latest first. An entry to which no tile came has no
+// node, so that it is small.
 #[cycle(tile_list)]
 #[derive(Drop)]
 pub(crate) struct TileList {
@@ -32,7 +32,7 @@ pub(crate) enum TileNode {
     Held(u8, Tile, TileList),
 }
 
-// A shard keeps this many nodes that hold nothing any more. Further ones are freed.
+// A shard keeps at most this many nodes that hold nothing. Further ones are freed.
 pub(crate) const MOST_FREE_NODES: usize = 1 << 16;
 
 // Nodes that hold nothing.
@@ -78,7 +78,7 @@ impl TileList {
         }
     }
 
-    // Moves the tiles out. The nodes go to those that are free, up to the bound.
+    // Moves the tiles into `arrivals`. The nodes become free, and are kept up to the bound.
     pub(crate) fn move_to(self, arrivals: &mut Arrivals, free: &mut SpareNodes)
         requires { arrivals.old ≡ [] }
         ensures { arrivals.new ≡ in_flow_order self }

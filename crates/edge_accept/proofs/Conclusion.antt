@@ -1,4 +1,4 @@
--- A plan all of whose tasks were accepted is consistent, if as many edges go into its tasks as come out of them.
+-- If all tasks of a plan were accepted, and as many edges go into them as come out, the plan is consistent.
 use Rattle.std.proofs.Common.{◌≡◌, ◌≤◌, ℕ, Some, slice_get, [], length, map, ap, sym, ◌∙◌, subst, zero-add, arith}
 use Rattle.std.specs.List.{AllByRecursion, filter_map}
 use Rattle.ptg_base.specs.Lists.{HasNoRepeats, IsIn}

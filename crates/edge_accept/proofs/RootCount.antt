@@ -9,7 +9,7 @@ use Rattle.dep_iter.specs.Edges.{goal}
 abbrev pub root_total : Plan → List Task → ℕ
 root_total P ts = length (roots_among P ts)
 
--- the first task, by whether it is one
+-- the count with one more task before these, by whether that task has no edge into it
 pub first_root : (P : Plan) (t : Task) (ts : List Task) (b : Bool) → b ≡ (goal P t == 0)
     → root_total P (t ∷ ts) ≡ bool_byte b + root_total P ts
 first_root P t ts true h = rw (← h) (omega arith)

@@ -15,7 +15,7 @@ use Rattle.edge_accept.specs.declared.outs.Outs.{Outs}
 use Rattle.edge_accept.specs.Tallies.{AreSent, IsOnceIn, places_of}
 use Rattle.edge_accept.proofs.TaskFlows.{length-items}
 
--- edges that are written as items
+-- the edges of a list of edges that was made into items
 pub edges_only : (es : List Edge) → filter_map edge_of (map item.Edge es) ≡ es
 edges_only [] = refl
 edges_only (e ∷ es) = ap (λ l. e ∷ l) (edges_only es)
@@ -61,7 +61,7 @@ module _ (colls : List Shape) where
             (b.added (ps ++ places_of xs) (a.added ps k));
       }
 
-  -- where no more items were counted there are none
+  -- if the count of items did not grow, there are none
   pub sent_nothing : (s u : Outs) (is : List Item) → AreSent colls s u is → u.edges + u.writes ≡ s.edges + s.writes → is ≡ []
   sent_nothing s u is a same =
       let e = a.edges in

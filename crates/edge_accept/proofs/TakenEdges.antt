@@ -30,7 +30,7 @@ use Rattle.edge_accept.specs.declared.ins.Ins.{Ins}
 use Rattle.edge_accept.specs.Flows.{AreTaken, AreTakenOnce, IsSent}
 use Rattle.edge_accept.specs.Tallies.{Takes, TakesFrom, plan_of, task_of, env_of}
 
--- whether an edge carries a tile is said by the kind of the flow that it goes into
+-- the kind of the flow that an edge goes into decides whether it carries a tile
 kind_here : (o : Option ClassPlan) (n : ℕ) (f : FlowPlan) → slice_get (option_map_or (λ (c : ClassPlan). c.flows) o []) n ≡ Some f → option_map (λ (f : FlowPlan). f.kind) (option_and_then (λ (c : ClassPlan). slice_get c.flows n) o) ≡ Some f.kind
 kind_here None n f h = cc
 kind_here (Some c) n f h = ap (option_map (λ (f : FlowPlan). f.kind)) h
@@ -74,7 +74,7 @@ module _ (P : Plan) (earlier : List Edge) where
   pub once_nil : (s : Ins) → AreTakenOnce P earlier s s []
   once_nil s = record { taken = taken_nil s; once = tt }
 
-  -- edges, and those after them, which are looked up among them too
+  -- edges and then later edges, which were looked up among the former too
   pub once_after : (s u v : Ins) (xs ys : List Edge) → AreTakenOnce P earlier s u xs → AreTakenOnce P (earlier ++ xs) u v ys → AreTakenOnce P earlier s v (xs ++ ys)
   once_after s u v xs ys a b =
       let later : AreTaken P earlier u v ys = record {
@@ -88,7 +88,7 @@ module _ (P : Plan) (earlier : List Edge) where
         once = HasNoRepeats-append xs ys a.once b.once (λ e h k. b.taken.fresh e k (IsIn-append_right e earlier xs h));
       }
 
--- the targets of the first dependences that hold, with one more dependence, which does not hold or does
+-- the targets of the first dependences, with one more dependence that does not hold, or that does
 pub held-next_none : (first_only : Bool) (ds : List DepPlan) (k : ℕ) (d : DepPlan) (env : List ℤ) → slice_get ds k ≡ Some d
     → held_target d env ≡ None → held_targets first_only (take (suc k) ds) env ≡ held_targets first_only (take k ds) env
 held-next_none first_only [] k d env e none = absurd cc
@@ -108,7 +108,7 @@ held-next_some (c ∷ ds) (suc k) d env x e holds =
     ap (held_then false (held_target c env)) (held-next_some ds k d env x e holds)
     ∙ held_then-append (held_target c env) (held_targets false (take k ds) env) (x ∷ [])
 
--- the edges that the first dependences of a flow give
+-- the edges that the first dependences of a flow stand for
 module _ (at : FlowAt) where
   abbrev given : List DepPlan → List Edge
   given ds = flat_map (edges_into (task_of at) (env_of at) at.number) (held_targets (is_data at.flow.now.kind) ds (env_of at))
@@ -120,7 +120,7 @@ module _ (at : FlowAt) where
       (held_targets (is_data at.flow.now.kind) (take k at.flow.now.ins) env) in
       rw at.here (ap edges (sym at.task.now.are_locals))
 
-  -- where none is left
+  -- if no dependence is left
   pub takes_nothing : (k : ℕ) (s : Ins) → length at.flow.now.ins ≤ k → (IsTrue (takes_tile at.flow.now.kind) → ⊥) → TakesFrom at k s s
   takes_nothing k s past none =
       rw (drop_of_length-le at.flow.now.ins past)
@@ -142,11 +142,11 @@ module _ (at : FlowAt) where
         (record { source = h.source; taken = subst (λ es. AreTakenOnce (plan_of at) es s u (flat_map E (later first_only))) same h.taken })
 
     module _ (x : Target) (holds : held_target d (env_of at) ≡ Some x) where
-      -- the first that holds counts alone
+      -- if only the first that holds counts
       pub takes_alone : (s u : Ins) → is_data at.flow.now.kind ≡ true → Takes at k s u (x ∷ []) → TakesFrom at k s u
       takes_alone s u alone first = rw (drop_from at.flow.now.ins k d this, alone, holds) first
 
-      -- all that hold count
+      -- if all that hold count
       pub takes_more : (s u v : Ins) → is_data at.flow.now.kind ≡ false → Takes at k s u (x ∷ []) → TakesFrom at (suc k) u v → TakesFrom at k s v
       takes_more s u v all first rest =
           let before = in_edges_before (plan_of at) (task_of at) at.number k in

@@ -47,14 +47,14 @@ pub items-flows : (P : Plan) (t : Task) → items P t ≡ by_number (items_of_fl
 unfolding items
 items-flows P t = by_flow-is (items_to t (locals_of P t)) (flow_outs (locals_of P t)) 0 (flows_of P t)
 
--- what is so of a flow and of those after it
+-- what holds of a flow and of those after it holds of all
 pub each_more : (Q : ℕ → FlowPlan → Type 0) (n : ℕ) (f : FlowPlan) (fs : List FlowPlan) → Q n f
     → ((i : ℕ) (g : FlowPlan) → slice_get fs i ≡ Some g → Q (suc n + i) g)
     → (i : ℕ) (g : FlowPlan) → slice_get (f ∷ fs) i ≡ Some g → Q (n + i) g
 each_more Q n f fs here later zero g h = let same : f ≡ g = cc in rw (add-zero, sym same) here
 each_more Q n f fs here later (suc i) g h = let e : suc n + i ≡ n + suc i = omega arith in subst (λ m. Q m g) e (later i g h)
 
--- what one of the flows gives
+-- an element of the joined lists is one of some flow's list
 module _ {X : Type 0} (g : ℕ → FlowPlan → List X) where
   pub from_by_number : (n : ℕ) (fs : List FlowPlan) (x : X) → IsIn x (by_number g n fs)
       → (i : ℕ) × (f : FlowPlan) × ((slice_get fs i ≡ Some f) × IsIn x (g (n + i) f))
@@ -67,7 +67,7 @@ module _ {X : Type 0} (g : ℕ → FlowPlan → List X) where
         (suc p.0, p.1, (p.2.0, subst (λ m. IsIn x (g m p.1)) q p.2.1))
   ]
 
-  -- nothing is given twice, where each flow gives nothing twice and what it gives has its number
+  -- the joined lists repeat nothing, if no flow's list does and each element has the number of its flow
   pub once_by_number : (number : X → ℕ) → ((n : ℕ) (f : FlowPlan) (x : X) → IsIn x (g n f) → number x ≡ n) → (n : ℕ) (fs : List FlowPlan)
       → ((i : ℕ) (f : FlowPlan) → slice_get fs i ≡ Some f → HasNoRepeats (g (n + i) f)) → HasNoRepeats (by_number g n fs)
   once_by_number number is n [] once = tt
@@ -104,7 +104,7 @@ item_flow-sends P t x h =
     let i : p.0 ≡ item_flow x = omega arith in
     (p.1, (subst (λ m. slice_get (flows_of P t) m ≡ Some p.1) i p.2.0, subst (λ m. IsIn x (items_of_flow t env m p.1)) (sym k) p.2.1))
 
--- a source that is something is that of a flow
+-- a source other than Nothing is that of a flow
 some_flow : {A : Type 0} (o : Option A) (g : A → Source) (s : Source) → option_map_or g o source.Nothing ≡ s → s ≢ source.Nothing → (f : A) × (o ≡ Some f)
 some_flow None g s e h = absurd (h (sym e))
 some_flow (Some f) g s e h = (f, refl)
@@ -113,7 +113,7 @@ pub source_flow : (P : Plan) (t : Task) (n : ℕ) (s : Source) → data_source P
 unfolding data_source
 source_flow P t n s e h = some_flow (slice_get (flows_of P t) n) _ s e h
 
--- items are edges and write-backs
+-- there are as many items as edges and write-backs together
 pub length-items : (is : List Item) → length is ≡ length (filter_map edge_of is) + length (filter_map write_of is)
 length-items [] = refl
 length-items (item.Edge e ∷ is) = let k = length-items is in omega arith

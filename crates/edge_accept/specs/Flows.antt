@@ -1,5 +1,7 @@
--- What the walk shows of a task: that it is well, and that each edge into it is sent.
--- Source: PaRSEC (2013), in which each edge is written at both ends.
+-- What the walk shows of a task: it is well, and each edge into it is sent. Source: PaRSEC (2013), in which each edge
+-- is written at both ends.
+-- Carried by: inside `accepts`.
+-- Tested by: `accepted.txt`, `accepted_gathers.txt`, `accepted_squares.txt`.
 use Rattle.std.specs.Prelude.{◌≡◌, ◌+◌, ℕ, ℤ, List, [], flat_map, filter, length, IsTrue, slice_get}
 use Rattle.std.specs.Prelude.{Some}
 use Rattle.ptg_base.specs.Lists.{HasNoRepeats, IsIn}
@@ -28,24 +30,24 @@ edges_into_flow t env n f = flat_map (edges_into t env n) (flow_ins env f)
 abbrev pub items_of_flow : Task → List ℤ → ℕ → FlowPlan → List Item
 items_of_flow t env n f = flat_map (items_to t env n) (flow_outs env f)
 
--- an edge comes from a task of the job, and is one out of it
+-- an edge comes from a task of the job, and is one of the edges out of that task
 abbrev pub IsSent : Plan → Edge → Type 0
 IsSent P e = IsTask P e.from × IsIn e (out_edges P e.from)
 
--- the counts went on by these edges into tasks, each of which is sent and none of which was among the earlier ones
+-- these edges into tasks were counted; each of them is sent, and none is among the earlier ones
 pub record AreTaken (P : Plan) (earlier : List Edge) (old new : Ins) (es : List Edge) : Type 0 where
   pub sent : (e : Edge) → IsIn e es → IsSent P e
   pub fresh : (e : Edge) → IsIn e es → IsIn e earlier → ⊥
   pub edges : new.edges ≡ old.edges + length es
   pub data_edges : new.data_edges ≡ old.data_edges + length (filter (is_data_edge P) es)
 
--- and none occurs twice
+-- the same, and none of the edges occurs twice
 pub record AreTakenOnce (P : Plan) (earlier : List Edge) (old new : Ins) (es : List Edge) : Type 0 where
   pub taken : AreTaken P earlier old new es
   pub once : HasNoRepeats es
 
--- where the tile of a flow may come from, if the flow sends these items: from a place that exists; from `NULL` only
--- where nothing is sent; and from nowhere only where the flow takes no tile
+-- the source of a flow that sends these items is sound. A place exists; with `NULL` the flow sends nothing; and only a
+-- flow that takes no tile has no source
 abbrev pub IsSoundSource : Plan → FlowPlan → List Item → Source → Type 0
 IsSoundSource P f sent (source.Task e) = Unit {0}
 IsSoundSource P f sent (source.Place p) = HasPlace P.colls p
@@ -53,7 +55,7 @@ IsSoundSource P f sent source.New = Unit {0}
 IsSoundSource P f sent source.Null = sent ≡ []
 IsSoundSource P f sent source.Nothing = IsTrue (takes_tile f.kind) → ⊥
 
--- the source of flow n of a task with these locals
+-- the source of flow n of a task with these locals is sound
 abbrev pub HasSoundSource : Plan → Task → List ℤ → ℕ → FlowPlan → Type 0
 HasSoundSource P t env n f = IsSoundSource P f (items_of_flow t env n f) (data_source P t n)
 

@@ -1,4 +1,6 @@
--- What the walk has counted. Source: this project's own choice.
+-- What the walk has counted.
+-- Carried by: inside `accepts`.
+-- Tested by: `accepted.txt`, `accepted_gathers.txt`, `accepted_squares.txt`.
 use Rattle.std.specs.Prelude.{◌≡◌, ◌+◌, ℕ, ℤ, List, [], ◌++◌, drop, length, map, flat_map, filter_map, slice_get, Some}
 use Rattle.ptg_base.specs.Lists.{HasNoRepeats, IsIn}
 use Rattle.ptg_base.specs.Task.{Task}
@@ -31,11 +33,11 @@ plan_of at = at.task.now.plan.now
 abbrev pub task_of : FlowAt → Task
 task_of at = at.task.now.task.now
 
--- its locals
+-- the locals of the task of a flow
 abbrev pub env_of : FlowAt → List ℤ
 env_of at = at.task.now.locals.now
 
--- the flow may start from the first of these targets, which dependences from number k on give, and the edges that they
+-- the flow may start from the first of these targets of dependences from number k on, and the edges that the targets
 -- stand for were counted
 pub record Takes (at : FlowAt) (k : ℕ) (old new : Ins) (xs : List Target) : Type 0 where
   pub source : IsSoundSource (plan_of at) at.flow.now (items_of_flow (task_of at) (env_of at) at.number at.flow.now)
@@ -43,35 +45,34 @@ pub record Takes (at : FlowAt) (k : ℕ) (old new : Ins) (xs : List Target) : Ty
   pub taken : AreTakenOnce (plan_of at) (in_edges_before (plan_of at) (task_of at) at.number k) old new
       (flat_map (edges_into (task_of at) (env_of at) at.number) xs)
 
--- the flow may start from the first of all targets that count of the in dependences from number k on, and the edges
--- that they stand for were counted
+-- the same for all active targets of the in dependences from number k on
 abbrev pub TakesFrom : FlowAt → ℕ → Ins → Ins → Type 0
 TakesFrom at k old new =
     Takes at k old new (held_targets (is_data at.flow.now.kind) (drop k at.flow.now.ins) (env_of at))
 
--- the set has these places of the collections, and none of them was added twice
+-- the set has exactly these places of the collections, and none of them occurs twice in the list
 pub record IsOnceIn (colls : List Shape) (w : PlaceSet) (ps : List Place) : Type 0 where
   pub set : IsSetOf colls w ps
   pub once : HasNoRepeats ps
 
--- the places that items write
+-- the places that items write to
 abbrev pub places_of : List Item → List Place
 places_of is = map (λ (w : WriteBack). w.place) (filter_map write_of is)
 
--- these items were counted, and each place that they write exists and was added
+-- these items were counted, and each place that they write to exists and was added
 pub record AreSent (colls : List Shape) (old new : Outs) (is : List Item) : Type 0 where
   pub edges : new.edges ≡ old.edges + length (filter_map edge_of is)
   pub writes : new.writes ≡ old.writes + length (filter_map write_of is)
   pub exist : (p : Place) → IsIn p (places_of is) → HasPlace colls p
   pub added : (ps : List Place) → IsOnceIn colls old.written ps → IsOnceIn colls new.written (ps ++ places_of is)
 
--- these flows of a task, which are numbered from n on, are sound; the edges into them and what they send was counted
+-- these flows of a task, numbered from n on, are sound; the edges into them and what they send were counted
 pub record Accepts (P : Plan) (t : Task) (env : List ℤ) (old new : Tally) (n : ℕ) (fs : List FlowPlan) : Type 0 where
   pub sound : (i : ℕ) (f : FlowPlan) → slice_get fs i ≡ Some f → IsSoundFlow P t env (n + i) f
   pub taken : AreTaken P [] old.ins new.ins (by_number (edges_into_flow t env) n fs)
   pub sent : AreSent P.colls old.outs new.outs (by_number (items_of_flow t env) n fs)
 
--- the walk went on over these tasks, each of which is sound; what they receive, send and write was counted
+-- the walk went over these tasks: each is sound, and what they receive, send and write was counted
 pub record WentOver (P : Plan) (old new : Tally) (ts : List Task) : Type 0 where
   pub sound : (t : Task) → IsIn t ts → IsSoundTask P t
   pub taken : AreTaken P [] old.ins new.ins (flat_map (in_edges P) ts)

@@ -17,12 +17,12 @@ use plan_core::Plan;
 use ptg_base::OutOfMemory;
 use std::alloc::Global;
 
-/// The counts of a plan whose spaces are sound and have this many tasks, if one walk over its tasks shows that it is
-/// consistent. None says nothing.
+/// Accepts a plan and returns its counts, if one walk over its tasks shows that it is consistent. Its spaces are sound
+/// and have this many tasks. `None` says nothing about the plan.
 ///
-/// Each edge into a task is looked up among those out of its sender, and none occurs twice; the edges out of tasks are
-/// only counted. Where both are as many, each edge out of a task is one into a task, and none of them occurs twice
-/// either.
+/// Each edge into a task is looked up among the edges out of its source, and none occurs twice. The edges out of tasks
+/// are only counted. If both counts are equal, each edge out of a task is an edge into a task, and none of them occurs
+/// twice either.
 pub fn accepts(alloc: Global, plan: &Plan, tasks: u64) -> Result<Option<Counts>, OutOfMemory>
     requires sound { AllByRecursion IsSound plan.now.spaces }
     requires tasks { tasks ≡ length (all_tasks plan.now) }

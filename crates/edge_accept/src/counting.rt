@@ -21,7 +21,7 @@ impl Outs {
         self.edges + self.writes
     }
 
-    // Counts this many edges, if they are not too many.
+    // Counts this many edges. Returns false if they are too many.
     pub(crate) fn add_edges(&mut self, count: u64) -> bool
         ensures { (colls : List ShapeValue) (es : List EdgeValue) → IsCount count (length es)
             → OnTrue result (AreSent colls self.old self.new (map item.Edge es)) }
@@ -33,7 +33,7 @@ impl Outs {
         true
     }
 
-    // Counts a write-back, unless the limit is reached, if its place exists and was not added before.
+    // Counts a write-back. Returns false if the limit is reached, or if its place does not exist or was added before.
     pub(crate) fn add_write(&mut self, plan: &Plan, place: Place) -> bool
         ensures { (w : WriteBackValue) → w.place ≡ place
             → OnTrue result (AreSent plan.now.colls self.old self.new (item.Write w ∷ [])) }

@@ -13,8 +13,8 @@ use crate::taking::take_from;
 use crate::tally::Tally;
 use dep_iter::TaskAt;
 
-// Whether the flows of a task from this number on may start from their sources and write what they write; the edges
-// into them and what they send are counted.
+// Whether the flows of a task from this number on may start from their sources and write to their places. Counts the
+// edges into them and what they send.
 pub(crate) fn accept_flows(task: &TaskAt, number: u8, tally: &mut Tally) -> bool
     requires { IsTrue (list_all (is_well_flow task.now.locals.now) (flows_of task.now.plan.now task.now.task.now)) }
     ensures { OnTrue result (Accepts task.now.plan.now task.now.task.now task.now.locals.now tally.old tally.new number

@@ -16,7 +16,7 @@ pub(crate) struct Ins {
 }
 
 impl Ins {
-    // Counts an edge, which carries a tile or not, unless the limit is reached.
+    // Counts an edge, which may carry a tile. Returns false if the limit is reached.
     pub(crate) fn add(&mut self, carries_tile: bool) -> bool
         ensures edges { OnTrue result (self.new.edges ≡ self.old.edges + 1) }
         ensures data_edges { OnTrue result

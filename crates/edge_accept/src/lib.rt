@@ -1,4 +1,4 @@
-//! One walk over the tasks of a plan that accepts it if it is consistent, and counts its edges.
+//! One walk over the tasks of a plan that accepts it, with its counts, if the walk shows that it is consistent.
 #![tactic(auto)]
 
 mod accepting;

@@ -5,7 +5,7 @@ ghost use Rattle.ptg_base.specs.Limits.{most_edges};
 
 use place_set::PlaceSet;
 
-/// How many edges out of tasks and how many write-backs were counted, and the places that are written.
+/// How many edges out of tasks and how many write-backs were counted, and the places that are written to.
 #[derive(Drop)]
 pub(crate) struct Outs {
     pub(crate) edges: u64,

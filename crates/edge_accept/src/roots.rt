@@ -1,4 +1,4 @@
-//! The tasks that start at once.
+//! The tasks without an edge into them.
 
 ghost use Rattle.std.specs.Prelude.{◌≡◌, ◌==◌, length};
 ghost use Rattle.dep_iter.specs.Consistent.{roots};
@@ -9,7 +9,7 @@ use dep_iter::{all_tasks, all_tasks_are_listed, in_edges};
 use plan_core::Plan;
 use ptg_base::TaskId;
 
-// Whether no edge goes into the task. No more than the first is looked for.
+// Whether no edge goes into the task. At most one edge is looked for.
 fn is_root(plan: &Plan, t: &TaskId) -> bool
     requires { IsTask plan.now t.now }
     ensures { result ≡ (goal plan.now t.now == 0) }
@@ -17,8 +17,7 @@ fn is_root(plan: &Plan, t: &TaskId) -> bool
     in_edges(plan, t).next().is_none()
 }
 
-/// How many of a plan's `tasks` tasks have no edge into them. Where there is no task it looks at no
-/// value of a range.
+/// How many of a plan's `tasks` tasks have no edge into them. If there are no tasks, no range is walked.
 pub fn root_count(plan: &Plan, tasks: u64) -> u64
     requires { tasks ≡ length (all_tasks plan.now) }
     ensures { result ≡ length (roots plan.now) }

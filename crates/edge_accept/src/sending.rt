@@ -1,4 +1,4 @@
-//! What a flow sends: its edges are counted by arithmetic, and the places that it writes are looked up.
+//! What a flow sends: its edges are counted by arithmetic, and the places that it writes to are checked.
 
 ghost use Rattle.std.specs.Prelude.{ℕ, IsTrue, false, flat_map};
 ghost use Rattle.std.specs.Bool.{OnTrue};
@@ -13,7 +13,8 @@ use dep_iter::{held_target, place_of};
 use goal_count::combination_count;
 use plan_core::{DepPlan, Plan, Target};
 
-// Counts what a target stands for.
+// Counts the items that a target stands for. Returns false if there are too many, or if a place does not exist or was
+// written before.
 fn send_target(plan: &Plan, target: &Target, env: &[i64], outs: &mut Outs) -> bool
     requires { IsTrue (has_arguments env.now target.now) }
     ensures { (t : Task) (n : ℕ)
@@ -29,7 +30,7 @@ fn send_target(plan: &Plan, target: &Target, env: &[i64], outs: &mut Outs) -> bo
     }
 }
 
-// Counts what these out dependences send.
+// Counts the items that these out dependences send, or returns false as `send_target` does.
 pub(crate) fn send_all(plan: &Plan, deps: &[DepPlan], env: &[i64], outs: &mut Outs) -> bool
     requires { IsTrue (are_well false env.now deps.now) }
     ensures { (t : Task) (n : ℕ) → OnTrue result (AreSent plan.now.colls outs.old outs.new

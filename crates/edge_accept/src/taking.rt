@@ -1,5 +1,5 @@
-//! The edges into a flow, by its dependences: each is looked up among the edges out of its sender, and among the
-//! earlier ones of its flow.
+//! The edges into a flow, by its dependences: each is looked up among the edges out of its source, and among the
+//! earlier edges into the flow.
 
 ghost use Rattle.std.specs.Prelude.{◌≡◌, ◌∷◌, [], IsTrue};
 ghost use Rattle.std.specs.Bool.{OnTrue};
@@ -18,8 +18,8 @@ use plan_core::Target;
 use ptg_base::TaskId;
 use term_core::Direction;
 
-// Counts an edge into the flow, which dependence `k` gives, if it is one out of the task that it comes from and no
-// earlier dependence gives it.
+// Counts an edge into the flow that comes from dependence `k`. Returns false if its source does not have it as an out
+// edge, if it comes from an earlier dependence too, or if the limit is reached.
 fn take_edge(at: &FlowAt, k: usize, edge: &LentEdge, ins: &mut Ins) -> bool
     requires task { edge.now.to ≡ task_of at.now }
     requires flow { edge.now.in_flow ≡ at.now.number }
@@ -36,7 +36,7 @@ fn take_edge(at: &FlowAt, k: usize, edge: &LentEdge, ins: &mut Ins) -> bool
     ins.add(at.flow.kind.is_data())
 }
 
-// Whether the flow may start from a target of dependence `k`; the edges that the target stands for are counted.
+// Whether the flow may start from this target of dependence `k`. Counts the edges that the target stands for.
 fn take_target(at: &FlowAt, k: usize, target: &Target, ins: &mut Ins) -> bool
     requires { IsTrue (fits (plan_of at.now) target.now) }
     ensures { OnTrue result (Takes at.now k ins.old ins.new (target.now ∷ [])) }
@@ -66,8 +66,8 @@ fn take_target(at: &FlowAt, k: usize, target: &Target, ins: &mut Ins) -> bool
     }
 }
 
-// Whether the flow may start from its in dependences from number `k` on, if those before them do not hold or it takes
-// all that hold; the edges that they give are counted.
+// Whether the flow may start from its in dependences from number `k` on. In a data flow, none of those before `k`
+// holds. Counts the edges that they stand for.
 pub(crate) fn take_from(at: &FlowAt, k: usize, ins: &mut Ins) -> bool
     ensures { OnTrue result (TakesFrom at.now k ins.old ins.new) }
 {

@@ -28,7 +28,7 @@ fn is_sound(task: &TaskAt) -> bool
     task.plan.has_place(&task.affinity())
 }
 
-// Whether the task is sound; its edges and write-backs are counted.
+// Whether the task and its flows are sound. Counts its edges and write-backs.
 fn accept_task(task: &TaskAt, tally: &mut Tally) -> bool
     ensures { OnTrue result (WentOver task.now.plan.now tally.old tally.new (task.now.task.now ∷ [])) }
 {
@@ -38,7 +38,7 @@ fn accept_task(task: &TaskAt, tally: &mut Tally) -> bool
     accept_flows(task, 0, tally)
 }
 
-// Accepts a task, and says whether no edge goes into it.
+// Whether no edge goes into the task, or None if it is not accepted.
 fn accept_next(task: &TaskAt, tally: &mut Tally) -> Option<bool>
     ensures walk { IfSome result (λ _. WentOver task.now.plan.now tally.old tally.new (task.now.task.now ∷ [])) }
     ensures root { IfSome result (λ root. root ≡ (goal task.now.plan.now task.now.task.now == 0)) }
@@ -50,8 +50,8 @@ fn accept_next(task: &TaskAt, tally: &mut Tally) -> Option<bool>
     Some(tally.ins.edges == before)
 }
 
-// Goes over all tasks, in walk order, given their number, and counts those without an edge into them. Where there
-// is no task it looks at no value of a range.
+// Walks over all tasks, given their number, and counts those without an edge into them; None if one is not accepted. If
+// there are no tasks, no range is walked.
 pub(crate) fn accept_all(plan: &Plan, tasks: u64, tally: &mut Tally) -> Option<u64>
     requires { tasks ≡ length (all_tasks plan.now) }
     ensures walk { IfSome result (λ _. WentOver plan.now tally.old tally.new (all_tasks plan.now)) }

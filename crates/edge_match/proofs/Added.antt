@@ -1,4 +1,4 @@
--- What the marks of the first phase count: all edges into tasks, all items and all places that are written.
+-- What the marks of the first phase count: all edges into tasks, all items and all places that are written to.
 use Rattle.std.proofs.Common.{◌≡◌, ℕ, suc, List, [], ◌∷◌, ◌++◌, map, refl, ap, sym, ◌∙◌, subst}
 use Rattle.std.proofs.Common.{append_assoc}
 use Rattle.std.proofs.lemmas.List.{append-nil, map-append}
@@ -28,7 +28,7 @@ use Rattle.edge_match.specs.Marks.{task_marks, task_start}
 use Rattle.edge_match.proofs.Directed.{edges-numbered, flow_edges, in_flow_items}
 use Rattle.edge_match.proofs.Parts.{add_all-append}
 
--- these marks count these edges and items, and the places that the items write
+-- these marks count these edges and items, and the places that the items write to
 record Adds (ms : List Mark) (es : List Edge) (is : List Item) : Type 0 where
   after : (b : Before) → add_all b ms ≡ record { ins = b.ins ++ es; items = b.items ++ is; places = b.places ++ places_of is }
 
@@ -74,7 +74,7 @@ items-add s t n earlier (item.Write w ∷ is) = record {
 adds_nothing : (ms : List Mark) → ((b : Before) → add_all b ms ≡ b) → Adds ms [] []
 adds_nothing ms h = record { after = λ b. h b ∙ adds_none.after b }
 
--- what each of these flows adds, which are numbered from n on
+-- what these flows add; the flows are numbered from n on
 adds_by_number : (f : ℕ → FlowPlan → List Mark) (g : ℕ → FlowPlan → List Edge) (h : ℕ → FlowPlan → List Item)
     → ((n : ℕ) (x : FlowPlan) → Adds (f n x) (g n x) (h n x)) → (n : ℕ) (xs : List FlowPlan) → Adds (by_number f n xs) (by_number g n xs) (by_number h n xs)
 adds_by_number f g h each n [] = adds_none

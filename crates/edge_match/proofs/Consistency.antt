@@ -1,4 +1,4 @@
--- A plan is consistent exactly where its spaces are sound and within their limits and all its marks pass.
+-- A plan is consistent if and only if its spaces are sound and within their limits, and all its marks pass.
 use Rattle.std.proofs.Common.{◌≡◌, ◌≢◌, ◌↔◌, ℕ, ◌≤◌, List, [], length, refl, sym, ◌∙◌, subst, zero-add, Some, slice_get, arith}
 use Rattle.std.specs.List.{AllByRecursion, flat_map}
 use Rattle.ptg_base.specs.Lists.{HasNoRepeats, IsIn}
@@ -35,8 +35,7 @@ use Rattle.edge_match.proofs.Holding.{AllHold, AtTask, HoldsAt, IsConnected, IsQ
 use Rattle.edge_match.proofs.Holding.{connected, matched, matching, of_phase, quiet_items}
 use Rattle.edge_match.proofs.Parts.{AllPass-append, AllPass-parts}
 
--- the edges of a task in one direction and those of its flows: the same ones, and none twice where none of a flow is
--- twice
+-- the edges of a task in one direction are those of its flows; none occurs twice if none of a flow does
 module _ (P : Plan) (t : Task) (d : Direction) where
   pub of_flow : (n : ℕ) (f : FlowPlan) (e : Edge) → slice_get (flows_of P t) n ≡ Some f → IsIn e (flow_edges d P t n f) → IsIn e (edges_of d P t)
   of_flow n f e here h = rw (edges-numbered P t d) (to_by_number (flow_edges d P t) 0 (flows_of P t) n f e here (rw zero-add h))
@@ -53,7 +52,7 @@ module _ (P : Plan) (t : Task) (d : Direction) where
   task_once h =
       rw (edges-numbered P t d) (once_by_number (flow_edges d P t) (near_flow d) (λ n f e k. near_is P t n f d e k) 0 (flows_of P t) (λ i f here. rw zero-add (h i f here)))
 
--- an edge is one of the task near it
+-- the near task of an edge of a task is that task
 near : (d : Direction) (P : Plan) (t : Task) (e : Edge) → IsIn e (edges_of d P t) → near_task d e ≡ t
 near In P t e h = ((in_edge_is P t e).0 h).0
 near Out P t e h = ((out_edge_is P t e).0 h).0
@@ -65,8 +64,8 @@ all_once : (d : Direction) (P : Plan) → ((t : Task) → IsTask P t → HasNoRe
 all_once d P h =
     HasNoRepeats-flat_map (edges_of d P) (all_tasks P) (once-all_tasks P) (λ t k. h t ((listed P t).1 k)) (λ t u e k l. sym (near d P t e k) ∙ near d P u e l)
 
--- the facts of the first phase hold where all tasks are well connected, and those of the second where edges match and
--- none is twice
+-- the facts of the first phase hold if all tasks are well connected, and those of the second if edges match and none
+-- occurs twice
 module _ (P : Plan) where
   abbrev AllHoldIn : Phase → Type 0
   AllHoldIn phase = AllHold P (phase_marks phase P)
@@ -151,7 +150,7 @@ module _ (P : Plan) where
       let quiet = λ (t : Task) (n : ℕ) (f : FlowPlan) (d : Direction). quiet_items P d (data_source P t n) t n [] (flow_items d P t n f) in
       all_quiet b (phase_marks Matching P) ((of_phase IsQuiet Matching P).1 (λ t of_job. record { start = tt; flows = λ n f here. record { start = tt; directed = quiet t n f } }))
 
-  -- edges of all tasks that are matched in one direction are edges of all tasks in the other
+  -- if all tasks are matched in one direction, their edges in it are edges in the other
   others : (d : Direction) → ((t : Task) → IsTask P t → AreMatched d t) → (e : Edge) → IsIn e (all_edges d P) → IsIn e (all_edges (opposite d) P)
   others d m e h =
       let p = from_flat_map (edges_of d P) (all_tasks P) e h in

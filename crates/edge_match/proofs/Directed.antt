@@ -1,4 +1,4 @@
--- The edges of a flow in one direction: their marks, one after another, and those that its first dependences give.
+-- The edges of a flow in one direction: their marks, one after another, and those that its first dependences stand for.
 use Rattle.std.proofs.Common.{◌≡◌, ◌↔◌, ℕ, zero, suc, ℤ, Bool, true, false, List, [], ◌∷◌, ◌++◌, drop, take, map, refl, ap, sym}
 use Rattle.std.proofs.Common.{◌∙◌, subst, append_assoc, ◌+◌, Option, Some, None, slice_get, Result, Ok, Err, inl, inr}
 use Rattle.std.proofs.Common.{add-zero, arith}
@@ -85,7 +85,7 @@ module _ (P : Plan) (t : Task) (n : ℕ) (f : FlowPlan) where
   near_is In e h = into_flow_is t (locals_of P t) n f e (rw in_flow_edges at h)
   near_is Out e h = sent_flow_is t (locals_of P t) n f (item.Edge e) ((edge_among (flow_items Out P t n f) e).0 h)
 
--- marks of a list of items after those of another
+-- the marks of two lists of items, one after the other
 pub marks-append : (d : Direction) (phase : Phase) (s : Source) (t : Task) (n : ℕ) (earlier : List Edge) (xs ys : List Item)
     → item_marks d earlier (xs ++ ys) phase s t n
     ≡ item_marks d earlier xs phase s t n ++ item_marks d (earlier ++ filter_map edge_of xs) ys phase s t n
@@ -103,13 +103,13 @@ marks-append d phase s t n earlier (item.Write w ∷ xs) ys =
     ap (λ l. one ++ l) (marks-append d phase s t n earlier xs ys)
     ∙ sym (append_assoc one rest (item_marks d (earlier ++ filter_map edge_of xs) ys phase s t n))
 
--- the edges of one dependence: those that are left are checked after each of the others
+-- the edges of one dependence: those left are checked after those before them
 module _ (at : FlowAt) (d : Direction) (before : List Edge) where
   abbrev pub Rest : Counted → Counted → Result (Unit {0}) MatchFault → List Edge → Type 0
   Rest s u r es = (earlier : List Edge) → ((e : Edge) → IsIn e es → IsIn e earlier ↔ IsIn e before) → HasNoRepeats es
       → CheckedAt at.phase at s u r (item_marks d earlier (map item.Edge es))
 
-  -- checks of the edge at hand, wherever it is among the earlier ones exactly where an earlier dependence gives it
+  -- the edge at hand is checked, for any earlier edges that have it if and only if an earlier dependence stands for it
   abbrev pub One : Counted → Counted → Result (Unit {0}) MatchFault → Edge → Type 0
   One s u r e = (earlier : List Edge) → IsIn e earlier ↔ IsIn e before → CheckedAt at.phase at s u r (edge_marks d earlier e)
 
@@ -138,7 +138,7 @@ held-some : (b : Bool) (d : DepPlan) (ds : List DepPlan) (env : List ℤ) (x : T
 held-some true d ds env x e = rw e refl
 held-some false d ds env x e = rw e refl
 
--- the edges that the first dependences of a flow give
+-- the edges that the first dependences of a flow stand for
 first_edges : (at : FlowAt) (d : Direction) (k : ℕ) → before_at d at k ≡ filter_map edge_of (held_items d (task_of at)
     (locals_of (plan_of at) (task_of at)) at.number at.flow.now.kind (take k (dependences d at.flow.now)))
 unfolding in_edges_before out_edges_before
@@ -216,7 +216,7 @@ module _ (at : FlowAt) (d : Direction) where
           let rest_is : others alone ≡ all (marks_from d at (suc k)) = ap others any ∙ ap (λ es. all (item_marks d es (given (held later)))) (sym same) in
           rw split (followed h (rw rest_is more))
 
--- the edges of a flow with the tasks of a class that a dependence names, and that no two of them are the same
+-- the edges of a flow with the tasks of a class that a dependence names; no two of them are the same
 module _ (at : FlowAt) (class flow : ℕ) where
   abbrev pub edges_named : Direction → List (List ℤ) → List Edge
   edges_named d ps = map (λ (p : List ℤ). edge_at d (task_of at) at.number (task class p) flow) ps

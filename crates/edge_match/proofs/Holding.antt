@@ -1,5 +1,4 @@
--- What holds of all marks, by tasks, flows and directions; and that all pass where each fact holds and the limits are
--- kept.
+-- What holds of all marks, by tasks, flows and directions. All marks pass if each fact holds and the limits are kept.
 use Rattle.std.proofs.Common.{◌≡◌, ◌↔◌, ◌≢◌, ℕ, suc, ◌+◌, ◌≤◌, List, [], ◌∷◌, ◌++◌, length, length-append, refl, ap, sym, ◌∙◌, subst}
 use Rattle.std.proofs.Common.{append_assoc, add-zero, zero-add, Some, slice_get, inl, inr, arith}
 use Rattle.std.proofs.lemmas.List.{append-nil}
@@ -108,7 +107,7 @@ module _ (Q : Mark → Type 0) where
 
 -- ---- checks that pass
 
--- what a check says apart from what it counts
+-- what a check requires apart from what it counts
 abbrev pub HoldsAt : Plan → Check → Type 0
 HoldsAt P (Is f) = Holds P f
 HoldsAt P (CountsIn e) = Unit {0}
@@ -124,7 +123,7 @@ pub record IsWithinLimits (b : Before) : Type 0 where
   pub items_at_most : length b.items ≤ 4000000
   pub written_once : HasNoRepeats b.places
 
--- after a check the limits are kept where they were kept before it and it passes; and then it holds
+-- the limits are kept before a check and it passes, if and only if they are kept after it and it holds
 passes_and : (P : Plan) (b : Before) (c : Check) → (IsWithinLimits b × Passes P b c) ↔ (IsWithinLimits (add b c) × HoldsAt P c)
 passes_and P b (CountsIn e) =
     let l = length-append b.ins (e ∷ []) in (
@@ -147,7 +146,7 @@ passes_and P b (IsNewPlace p) = (
 )
 passes_and P b (Is f) = (λ h. h, λ h. h)
 
--- and likewise all marks pass where all hold and the limits are kept at their end
+-- likewise, all marks pass if and only if all hold and the limits are kept after them
 pub all_pass_and : (P : Plan) (b : Before) (ms : List Mark) → (IsWithinLimits b × AllPass P b ms) ↔ (IsWithinLimits (add_all b ms) × AllHold P ms)
 all_pass_and P b [] = (λ h. (h.0, tt), λ h. (h.0, tt))
 all_pass_and P b (m ∷ ms) =
@@ -200,7 +199,7 @@ module _ (P : Plan) (d : Direction) (s : Source) (t : Task) (n : ℕ) where
       (h e (inl refl), (not_before earlier e (filter_map edge_of is) once, later))
   matched earlier (item.Write w ∷ is) h once = matched earlier is h once
 
--- the marks of the first phase at items hold where each item is connected
+-- the marks of the first phase at items hold if and only if each item is connected
 module _ (P : Plan) (s : Source) (t : Task) (n : ℕ) where
   edge_connected : (d : Direction) (earlier : List Edge) (e : Edge) → AllHold P (edge_marks d earlier e Connecting s t n) ↔ IsConnected P d s (item.Edge e)
   edge_connected In earlier e = (λ h. (tt, h.0), λ h. (h.1, (tt, tt)))

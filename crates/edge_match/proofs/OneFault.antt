@@ -1,4 +1,4 @@
--- A plan has one first fault at most, and a consistent one has none.
+-- A plan has at most one first fault, and a consistent plan has none.
 use Rattle.std.proofs.Common.{◌≡◌, List, [], ◌∷◌, ◌++◌, refl, ap, sym, ◌∙◌, subst, ◌⊎◌, inl, inr, arith}
 use Rattle.plan_core.specs.declared.plan.Plan.{Plan}
 use Rattle.range_space.specs.declared.fault.SpaceFault.{SpaceFault}
@@ -19,11 +19,11 @@ use Rattle.edge_match.specs.FirstFault.{FailsWith, IsFirstFailure, IsFirstFault}
 use Rattle.edge_match.proofs.Consistency.{all_pass}
 use Rattle.edge_match.proofs.Parts.{AllPass-parts}
 
--- nothing fails where all marks pass
+-- no mark fails if all pass
 none_fails : (P : Plan) (b : Before) (ms : List Mark) (f : MatchFault) → AllPass P b ms → IsFirstFailure P b ms f → ⊥
 none_fails P b ms f h w = w.fails.0 (AllPass-parts P b w.passed (w.failed ∷ w.rest) (subst (AllPass P b) w.split h)).1.0
 
--- the marks cut at two, each the first that fails
+-- marks split at two marks, each the first that fails: it is the same one
 same_failure : (P : Plan) (b : Before) (xs ys : List Mark) (m n : Mark) (ms ns : List Mark) (f g : MatchFault) → xs ++ m ∷ ms ≡ ys ++ n ∷ ns → AllPass P b xs → AllPass P b ys → FailsWith P (add_all b xs) m f → FailsWith P (add_all b ys) n g → f ≡ g
 same_failure P b [] [] m n ms ns f g e h k s r =
     let same : m ≡ n = cc in
@@ -63,7 +63,7 @@ consistent_none P f w (inl a) =
     no_fault P.spaces a.0 w.sound (omega arith) w.prefixes_at_most a.1
 consistent_none P f w (inr v) = none_fails P nothing (marks P) f (all_pass P w) v.first
 
--- a refusal of a plan with a first fault says it, or want of memory
+-- a refusal of a plan with a first fault is that fault, or out of memory
 pub fault_or_memory : (P : Plan) (r : MatchRefusal) (f : MatchFault) → IsRefusalOf P r → IsFirstFault P f → (r ≡ refusal.Fault f) ⊎ (r ≡ refusal.OutOfMemory)
 fault_or_memory P (refusal.Fault g) f w h = inl (ap refusal.Fault (one_first P g f w h))
 fault_or_memory P refusal.OutOfMemory f w h = inr refl

@@ -36,7 +36,7 @@ module _ (P : Plan) where
       fails = w.fails;
     }
 
-    -- a failure in a second part is one of the whole, where the first part passes
+    -- a failure in a second part is one of the whole, if the first part passes
     pub failure_after : AllPass P b xs → IsFirstFailure P (add_all b xs) ys f → IsFirstFailure P b (xs ++ ys) f
     failure_after h w = record {
       passed = xs ++ w.passed;
@@ -65,7 +65,7 @@ stop {P} {s} {u} {v} {r} {f} {xs} ys e w =
     let p = err_from_is_err_and r e in
     rw (p.1 ∙ ap Err p.2) (record { after = λ b k. failure_before P b xs ys f (w.after b k) })
 
--- a part that passes, and what comes after it
+-- a part that passes, and the part after it
 both_parts : (P : Plan) (s u v : Counted) (x : Unit {0}) (r : Result (Unit {0}) MatchFault) (xs ys : List Mark)
     → Checked P s u (Ok x) xs → Checked P u v r ys → Checked P s v r (xs ++ ys)
 both_parts P s u v x (Ok y) xs ys w t = record {

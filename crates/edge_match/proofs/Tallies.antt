@@ -1,4 +1,4 @@
--- How the counts go on with an edge, an item or a place.
+-- How the counts grow by an edge, an item or a place.
 use Rattle.std.proofs.Common.{◌≡◌, ◌↔◌, ◌+◌, Bool, List, [], ◌∷◌, ◌++◌, IsTrue, refl, ap, ◌∙◌, Some}
 use Rattle.std.proofs.Common.{length-append, arith}
 use Rattle.ptg_base.specs.Lists.{IsIn}
@@ -22,7 +22,7 @@ use Rattle.edge_match.specs.FlowParts.{plan_of, task_of}
 use Rattle.edge_match.specs.Marks.{IsNewPlace, counts}
 
 module _ (P : Plan) (s u : Counted) where
-  -- a place, by the answer of the set that it is added to
+  -- a place, by what the set to which it is added returns
   pub one_more_place : (p : Place) → HasPlace P.colls p → u.ins ≡ s.ins → u.data_edges ≡ s.data_edges
       → u.items ≡ s.items → u.writes ≡ s.writes + 1 → (new : Bool)
       → ((ps : List Place) → HasPlace P.colls p → IsSetOf P.colls s.written ps → IsTrue new ↔ (IsIn p ps → ⊥))
@@ -42,7 +42,7 @@ module _ (P : Plan) (s u : Counted) where
         };
   }
 
--- what is counted has one code in each direction
+-- an edge that is one too many has the same code in each direction
 pub counts_code : (d : Direction) (e : Edge) → code_of (counts d e) ≡ code.TooManyEdges
 counts_code In e = refl
 counts_code Out e = refl

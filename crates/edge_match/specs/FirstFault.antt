@@ -1,5 +1,8 @@
--- The first fault of a plan that is not consistent. Source: this project's own choice; three phases, each in walk
--- order: the spaces, then all tasks and what they name, then that the edges match.
+-- The first fault of a plan that is not consistent. There are three phases, each in walk order: the spaces, then all
+-- tasks and what they name, then that the edges match.
+-- Carried by: `match_edges`; laws `a_consistent_plan_has_no_fault`, `fault_laws::a_plan_has_one_first_fault`,
+-- `fault_laws::a_plan_is_consistent_or_has_a_first_fault`, `fault_laws::a_first_fault_names_what_exists`.
+-- Tested by: `check_codes.txt`, `check_limits.txt`.
 use Rattle.std.specs.Prelude.{◌≡◌, List, ◌∷◌, ◌++◌, ◌⊎◌}
 use Rattle.term_core.specs.declared.direction.Direction.TheVariants.{In, Out}
 use Rattle.range_space.specs.declared.fault.SpaceFault.{SpaceFault}
@@ -32,11 +35,11 @@ code_of (CountsIn e) = code.TooManyEdges
 code_of (CountsItem i) = code.TooManyEdges
 code_of (IsNewPlace p) = code.DoubleWrite
 
--- a mark does not pass, and its fault is this
+-- a mark does not pass, and this is its fault
 abbrev pub FailsWith : Plan → Before → Mark → MatchFault → Type 0
 FailsWith P b m f = (Passes P b m.check → ⊥) × (f ≡ fault_at (code_of m.check) m.task m.flow)
 
--- the fault of the first of these marks that does not pass: all before it do
+-- the fault of the first of these marks that does not pass: all before it pass
 pub record IsFirstFailure (P : Plan) (b : Before) (ms : List Mark) (fault : MatchFault) : Type 0 where
   pub passed : List Mark
   pub failed : Mark

@@ -1,4 +1,5 @@
--- Parts of the pass at one flow. Source: this project's own choice.
+-- Parts of the pass at one flow.
+-- Carried by: inside `match_edges`.
 use Rattle.std.specs.Prelude.{ℕ, ℤ, List, Result, drop}
 use Rattle.ptg_base.specs.Task.{Task}
 use Rattle.ptg_base.specs.declared.edge.Edge.{Edge}
@@ -15,7 +16,7 @@ use Rattle.edge_match.specs.declared.flow_at.FlowAt.{FlowAt}
 use Rattle.edge_match.specs.Counted.{Checked}
 use Rattle.edge_match.specs.Marks.{Mark, held_items, item_marks}
 
--- marks by phase and by the source, the task and the number of a flow
+-- marks, given the phase, and the source, the task and the number of a flow
 abbrev pub FlowMarks : Type 0
 FlowMarks = Phase → Source → Task → ℕ → List Mark
 
@@ -27,21 +28,21 @@ plan_of at = at.task.now.plan.now
 abbrev pub task_of : FlowAt → Task
 task_of at = at.task.now.task.now
 
--- its locals
+-- the locals of the task of a flow
 abbrev pub env_of : FlowAt → List ℤ
 env_of at = at.task.now.locals.now
 
--- A part of the pass at this flow that went from these counts to those: all of these marks pass and are counted, or it
--- gives the fault of the first that does not.
+-- A part of the pass at this flow that takes the old counts to the new ones. Either all of these marks pass and are
+-- counted, or the result is the fault of the first that does not pass.
 abbrev pub CheckedAt : Phase → FlowAt → Counted → Counted → Result (Unit {0}) MatchFault → FlowMarks → Type 0
 CheckedAt phase at old new r ms =
     Checked (plan_of at) old new r (ms phase (data_source (plan_of at) (task_of at) at.number) (task_of at) at.number)
 
--- the edges that the first k dependences of the flow give
+-- the edges that the first k dependences of the flow stand for
 abbrev pub before_at : Direction → FlowAt → ℕ → List Edge
 before_at direction at k = edges_before direction (plan_of at) (task_of at) at.number k
 
--- the marks of what the dependences from number k on give
+-- the marks of the items that the dependences from number k on stand for
 abbrev pub marks_from : Direction → FlowAt → ℕ → FlowMarks
 marks_from direction at k =
     item_marks direction (before_at direction at k)

@@ -1,6 +1,9 @@
--- What is checked of a plan whose tasks are known, as one list of marks in their order: first that all tasks and their
--- edges exist, then that the edges match. Source: PaRSEC (2013), in which each edge is written at both ends; the order
--- is this project's own choice.
+-- What is checked of a plan whose tasks are known, as one list of marks in their order. First, all tasks and their
+-- edges exist; then, the edges match. Source: PaRSEC (2013), in which each edge is written at both ends; the order is
+-- this project's own choice.
+-- Carried by: `match_edges`; laws `a_consistent_plan_has_no_fault`, `fault_laws::a_plan_has_one_first_fault`,
+-- `fault_laws::a_plan_is_consistent_or_has_a_first_fault`, `fault_laws::a_first_fault_names_what_exists`.
+-- Tested by: `check_codes.txt`, `check_limits.txt`.
 use Rattle.std.specs.Prelude.{◌≡◌, ◌≢◌, ◌<◌, ℕ, ℤ, List, [], ◌∷◌, ◌++◌, map, flat_map, length, IsTrue}
 use Rattle.std.specs.Prelude.{Option, Some, None, unwrap_or}
 use Rattle.ptg_base.specs.Limits.{most_edges}
@@ -46,9 +49,9 @@ pub data Fact : Type 0 where
   HasSource : Source → Fact
   -- The task is one of the job.
   IsOfJob : Task → Fact
-  -- What sends has a tile, its source being this.
+  -- A flow with this source has a tile to send.
   HasTile : Source → Fact
-  -- The edge, into a task or out of it, is one of the task at its other end too.
+  -- The task at the other end of the edge, which goes into or out of a task, has the edge too.
   HasOther : Direction → Edge → Fact
   -- The edge is not among these earlier ones.
   IsNewEdge : List Edge → Edge → Fact
@@ -61,7 +64,7 @@ pub data Check : Type 0 where
   CountsIn : Edge → Check
   -- The item is counted: the limit is not reached.
   CountsItem : Item → Check
-  -- The place is not written before.
+  -- The place was not written before.
   IsNewPlace : Place → Check
 
 -- a check, and the task and the flow that its fault names
@@ -75,11 +78,12 @@ abbrev pub mark : Task → Option ℕ → Check → Mark
 mark t flow c = record { task = t; flow = flow; check = c }
 
 -- the items of flow n of the task t that a target of a dependence in this direction stands for; for `In`, its edges
+-- alone
 abbrev pub items_at : Direction → Task → List ℤ → ℕ → Target → List Item
 items_at In t env n = λ x. map item.Edge (edges_into t env n x)
 items_at Out t env n = items_to t env n
 
--- the items that those of these dependences of a flow of this kind that hold stand for
+-- the items that the active dependences among these, of a flow of this kind, stand for
 abbrev pub held_items : Direction → Task → List ℤ → ℕ → FlowKind → List DepPlan → List Item
 held_items direction t env n kind ds =
     flat_map (items_at direction t env n) (held_targets (first_only direction kind) ds env)
@@ -88,7 +92,7 @@ held_items direction t env n kind ds =
 abbrev pub flow_items : Direction → Plan → Task → ℕ → FlowPlan → List Item
 flow_items direction P t n f = held_items direction t (locals_of P t) n f.kind (dependences direction f)
 
--- the mark that flow n of the task t, whose source is this, has a tile to send
+-- the mark that flow n of the task t, with this source, has a tile to send
 abbrev pub tile_marks : Direction → Source → Task → ℕ → List Mark
 tile_marks In s t n = []
 tile_marks Out s t n = mark t (Some n) (Is (HasTile s)) ∷ []
@@ -98,7 +102,8 @@ abbrev pub counts : Direction → Edge → Check
 counts In e = CountsIn e
 counts Out e = CountsItem (item.Edge e)
 
--- the marks of an edge of flow n in each phase: its task exists and it is counted; it is one at its other end, and new
+-- the marks of an edge of flow n in each phase. In the first, its other task exists and it is counted; in the second,
+-- its other task has it too, and it is new
 abbrev pub edge_marks : Direction → List Edge → Edge → Phase → Source → Task → ℕ → List Mark
 edge_marks direction earlier e Connecting s t n =
     tile_marks direction s t n ++ mark t (Some n) (Is (IsOfJob (far_task direction e)))
@@ -121,7 +126,7 @@ item_marks direction earlier (item.Edge e ∷ is) phase s t n =
 item_marks direction earlier (item.Write w ∷ is) phase s t n =
     write_marks w phase s t n ++ item_marks direction earlier is phase s t n
 
--- the marks of a flow itself in each phase: it has an input if it must, and the place of its source exists
+-- the marks of a flow itself in each phase: it has a source if it must, and the place of its source exists
 abbrev pub flow_start : Phase → Plan → Task → ℕ → FlowPlan → List Mark
 flow_start Connecting P t n f =
     mark t (Some n) (Is (HasInput f.kind (data_source P t n)))
@@ -138,7 +143,7 @@ abbrev pub flow_marks : Phase → Plan → Task → ℕ → FlowPlan → List Ma
 flow_marks phase P t n f =
     flow_start phase P t n f ++ direction_marks In phase P t n f ++ direction_marks Out phase P t n f
 
--- the flow of an ill task that is ill, if it is one
+-- the first ill flow of an ill task, if it is a flow that is ill
 abbrev pub ill_flow : Plan → Task → Option ℕ
 ill_flow P t = unwrap_or (ill_part P t) None
 
@@ -160,7 +165,7 @@ phase_marks phase P = flat_map (task_marks phase P) (all_tasks P)
 abbrev pub marks : Plan → List Mark
 marks P = phase_marks Connecting P ++ phase_marks Matching P
 
--- what came before a mark: the edges into tasks and the items that were counted, and the places that were written
+-- what came before a mark: the edges into tasks and the items that were counted, and the places that were written to
 pub record Before : Type 0 where
   pub ins : List Edge
   pub items : List Item
@@ -188,7 +193,7 @@ Passes P b (CountsIn e) = length b.ins < most_edges
 Passes P b (CountsItem i) = length b.items < most_edges
 Passes P b (IsNewPlace p) = IsIn p b.places → ⊥
 
--- what came before the next one
+-- what came before the mark after a check
 abbrev pub add : Before → Check → Before
 add b (Is f) = b
 add b (CountsIn e) = record b { ins = b.ins ++ e ∷ [] }

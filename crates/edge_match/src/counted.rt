@@ -5,8 +5,8 @@ ghost use Rattle.ptg_base.specs.Limits.{most_edges};
 
 use place_set::PlaceSet;
 
-/// How many edges into tasks and items were counted, how many of those edges carry a tile, and which places are
-/// written.
+/// How many edges into tasks and items were counted, how many of those edges carry a tile, and which places are written
+/// to.
 #[derive(Drop)]
 pub(crate) struct Counted {
     pub(crate) ins: u64,

@@ -1,4 +1,4 @@
-//! How counts go on.
+//! Adds to the counts.
 
 ghost use Rattle.std.specs.Prelude.{◌≡◌, ◌<◌, IsTrue};
 ghost use Rattle.ptg_base.specs.declared.edge.Edge.{Edge as EdgeValue};
@@ -13,7 +13,7 @@ use crate::counted::Counted;
 use ptg_base::{MOST_EDGES, Place};
 
 impl Counted {
-    // Counts an edge into a task, which carries a tile or not, unless the limit is reached.
+    // Counts an edge into a task, which may carry a tile. Returns false if the limit is reached.
     pub(crate) fn add_in(&mut self, carries_tile: bool) -> bool
         ensures { (P : PlanValue) (e : EdgeValue) → is_data_edge P e ≡ carries_tile
             → Decides P self.old self.new result (CountsIn e) }
@@ -28,7 +28,7 @@ impl Counted {
         true
     }
 
-    // Counts an item, unless the limit is reached.
+    // Counts an item. Returns false if the limit is reached.
     pub(crate) fn add_item(&mut self) -> bool
         ensures counted { (P : PlanValue) (i : ItemValue) → Decides P self.old self.new result (CountsItem i) }
         ensures room { IsTrue result → self.new.writes < self.new.items }
@@ -40,7 +40,7 @@ impl Counted {
         true
     }
 
-    // Adds a place that is written, after its item was counted, and says whether it is new.
+    // Adds a place that is written to, after its item was counted, and returns whether it is new.
     pub(crate) fn add_place(&mut self, place: Place) -> bool
         requires { self.old.writes < self.old.items }
         ensures { (P : PlanValue) → HasPlace P.colls place → Decides P self.old self.new result (IsNewPlace place) }

@@ -1,4 +1,4 @@
-//! The dependences of a flow in one direction, and the edges that each gives.
+//! Checks of the dependences of a flow in one direction, and of the edges that each stands for.
 
 ghost use Rattle.std.specs.Prelude.{IsTrue};
 ghost use Rattle.dep_iter.specs.Links.{fits};

@@ -24,7 +24,7 @@ use dep_iter::{LentEdge, has_edge_before, has_other_end, is_task};
 use ptg_base::Place;
 use term_core::Direction;
 
-// The code of an edge that is none at its other end.
+// The code of an edge that the task at its other end does not have.
 fn unmatched(direction: Direction) -> MatchCode
     ensures { (e : EdgeValue) → fact_code (HasOther direction e) ≡ result }
 {
@@ -34,7 +34,7 @@ fn unmatched(direction: Direction) -> MatchCode
     }
 }
 
-// Counts an edge, one that carries a tile or not, unless the limit is reached.
+// Counts an edge, which may carry a tile. Returns false if the limit is reached.
 fn count_edge(direction: Direction, carries_tile: bool, counted: &mut Counted) -> bool
     ensures { (P : PlanValue) (e : EdgeValue) → (direction ≡ In → is_data_edge P e ≡ carries_tile)
         → Decides P counted.old counted.new result (counts direction e) }
@@ -45,7 +45,7 @@ fn count_edge(direction: Direction, carries_tile: bool, counted: &mut Counted) -
     }
 }
 
-// Whether what sends has a tile.
+// Checks that a flow that sends something has a tile.
 fn check_tile(at: &FlowAt, direction: Direction) -> Result<(), MatchFault>
     ensures { (p : PhaseValue) (s : CountedValue) → CheckedAt p at.now s s result (λ _. tile_marks direction) }
 {
@@ -55,7 +55,8 @@ fn check_tile(at: &FlowAt, direction: Direction) -> Result<(), MatchFault>
     }
 }
 
-// Whether what an edge of the flow names exists, and it is not one too many.
+// Checks that the flow has a tile if it sends the edge, that the edge's other task exists, and that there are not too
+// many edges.
 fn connect_edge(
     at: &FlowAt,
     direction: Direction,
@@ -76,7 +77,8 @@ fn connect_edge(
     at.require(fits, MatchCode::TooManyEdges)
 }
 
-// Whether an edge of the flow, which dependence `k` gives, is one at its other end, and no earlier dependence gives it.
+// Checks that the task at the other end of the edge has it too, and that it comes from no dependence of the flow before
+// `k`.
 fn match_edge(
     at: &FlowAt,
     direction: Direction,
@@ -97,7 +99,7 @@ fn match_edge(
     at.require(!double, MatchCode::DoubleEdge)
 }
 
-// Checks an edge of the flow, which dependence `k` gives.
+// Checks an edge of the flow that comes from dependence `k`.
 pub(crate) fn check_edge(
     at: &FlowAt,
     direction: Direction,
@@ -116,7 +118,8 @@ pub(crate) fn check_edge(
     }
 }
 
-// Whether a place that the flow writes exists and is not written before, and the write-back is not one too many.
+// Checks that the flow has a tile, that a place that it writes to exists and was not written before, and that there are
+// not too many items.
 fn connect_write(at: &FlowAt, place: Place, counted: &mut Counted) -> Result<(), MatchFault>
     ensures { (w : WriteBackValue) → w.place ≡ place
         → CheckedAt phase.Connecting at.now counted.old counted.new result (write_marks w) }

@@ -14,7 +14,7 @@ pub enum MatchCode {
     BadPlace,
     /// A READ or RW flow has no in dependence that holds.
     NoInput,
-    /// The other task of an edge is none of the job.
+    /// The other task of an edge is not one of the job.
     OutOfSpace,
     /// There are more than 4,000,000 edges into tasks, or more than 4,000,000 edges out of tasks and write-backs.
     TooManyEdges,
@@ -22,24 +22,25 @@ pub enum MatchCode {
     NullSent,
     /// A place is written twice.
     DoubleWrite,
-    /// An edge into a task is none out of the task that it comes from.
+    /// An edge into a task is not an edge out of its source.
     NoMatchingOut,
-    /// An edge out of a task is none into the task that it goes to.
+    /// An edge out of a task is not an edge into its target.
     NoMatchingIn,
-    /// Two dependences give the same edge.
+    /// Two dependences of a flow stand for the same edge.
     DoubleEdge,
 }
 
 /// The first fault of a job.
 #[derive(Debug, Drop)]
 pub struct MatchFault {
+    /// What is wrong.
     pub code: MatchCode,
     /// The number of the class.
     pub class: u32,
-    /// The parameters of the task; of a definition without a value, the values of the definitions before it; none where
-    /// tasks are too many.
+    /// The parameters of the task. For a definition without a value, the values of the definitions before it. Empty if
+    /// there are too many tasks.
     pub numbers: Numbers<MOST_LOCALS>,
-    /// The number of the flow, if it is one's fault.
+    /// The number of the flow, if a flow is at fault.
     pub flow: Option<u8>,
 }
 
@@ -48,6 +49,6 @@ pub struct MatchFault {
 pub enum MatchRefusal {
     /// The job is not consistent.
     Fault(MatchFault),
-    /// There was no memory.
+    /// Out of memory.
     OutOfMemory,
 }

@@ -1,4 +1,4 @@
-//! A flow of a task that is checked.
+//! A flow of a task, as it is checked.
 
 ghost use Rattle.std.specs.Prelude.{◌≡◌, ◌≢◌, ◌↔◌, ◌&&◌, ◌∷◌, [], IfOk, IsTrue, Some, slice_get};
 ghost use Rattle.dep_iter.specs.declared.source.Source.TheVariants as source_variant;
@@ -33,7 +33,7 @@ pub(crate) struct FlowAt<'a> {
 }
 
 impl<'a> FlowAt<'a> {
-    // An error with this code where a test of the flow does not hold.
+    // Returns an error with this code if a test of the flow does not hold.
     pub(crate) fn require(&self, holds: bool, code: MatchCode) -> Result<(), MatchFault>
         ensures holds { IfOk result (λ _. IsTrue holds) }
         ensures checked { (c : Check) (s u : CountedValue) → Decides self.now.task.now.plan.now s u holds c → code_of c ≡ code

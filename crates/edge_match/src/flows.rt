@@ -22,7 +22,7 @@ use dep_iter::{Source, TaskAt};
 use plan_core::Plan;
 use term_core::{Direction, FlowKind};
 
-// Whether an in dependence of a flow of this kind with this source holds, if one must.
+// Whether a flow of this kind with this source has an in dependence that holds, if it must.
 fn has_input(kind: FlowKind, source: &Source) -> bool
     ensures { IsTrue result ↔ (IsTrue (consistent.takes_tile kind) → source.now ≢ source_variant.Nothing) }
 {
@@ -49,7 +49,7 @@ fn has_place(plan: &Plan, source: &Source) -> bool
     }
 }
 
-// Whether the flow has a source, if it must, and the place of its source exists. It is checked in the first phase.
+// Checks in the first phase that the flow has a source, if it must, and that the place of its source exists.
 fn start_flow(at: &FlowAt, source: &Source) -> Result<(), MatchFault>
     requires { source.now ≡ data_source (plan_of at.now) (task_of at.now) at.now.number }
     ensures { (s : CountedValue) → Checked (plan_of at.now) s s result
@@ -64,7 +64,7 @@ fn start_flow(at: &FlowAt, source: &Source) -> Result<(), MatchFault>
     }
 }
 
-// Checks the edges of the flow in one direction, and with those out of it what it writes.
+// Checks the edges of the flow in one direction; for `Out`, its write-backs too.
 fn check_direction(
     at: &FlowAt,
     direction: Direction,

@@ -13,14 +13,14 @@ ghost use Rattle.edge_match.specs.Marks.{AllPass, add_all, marks, nothing, phase
 ghost use Rattle.edge_match.specs.declared.fault.MatchFault.{MatchFault};
 ghost use Rattle.edge_match.specs.declared.phase.Phase.TheVariants.{Connecting};
 
-/// A law: the first phase counts all edges into tasks, all items and all places that are written.
+/// A law: the first phase counts all edges into tasks, all items and all places that are written to.
 pub fn all_edges_and_items_are_counted()
     ensures { (P : Plan)
         → add_all nothing (phase_marks Connecting P)
         ≡ record { ins = all_in P; items = all_items P; places = map (λ (w : WriteBack). w.place) (all_writes P) } }
 {}
 
-/// A law: a plan is consistent where its spaces are sound and within their limits and all its marks pass.
+/// A law: a plan is consistent if its spaces are sound and within their limits, and all its marks pass.
 #[tactic(auto, using(crate::proofs::Consistency::passes_consistent))]
 pub fn a_plan_that_passes_is_consistent()
     ensures { (P : Plan) → AllByRecursion IsSound P.spaces → length (all_tasks P) ≤ most_tasks

@@ -1,5 +1,5 @@
-//! Whether a job is consistent: each edge out of a task is one into its target and the other way round, and all that
-//! tasks need exists.
+//! Whether a job is consistent, with its counts, or its first fault. Each edge out of a task must be an edge into its
+//! target, and the other way round, and all that tasks need must exist.
 #![tactic(auto)]
 
 mod counted;

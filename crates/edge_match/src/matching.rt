@@ -27,7 +27,7 @@ use plan_core::Plan;
 use range_space::{Numbers, SpaceFault, space_size};
 use std::alloc::Global;
 
-// A fault of the walk through the spaces, as one of the plan.
+// A fault of the walk through the spaces, as a fault of the plan.
 fn space_fault(fault: SpaceFault) -> MatchFault
     ensures { result ≡ faults.space_fault fault }
 {
@@ -47,7 +47,7 @@ fn space_fault(fault: SpaceFault) -> MatchFault
     }
 }
 
-// Nothing is counted yet.
+// The counts before anything is counted.
 fn nothing_counted(written: PlaceSet) -> Counted
     ensures { (P : PlanValue) → IsSetOf P.colls written [] → IsCounted P result nothing }
 {
@@ -60,7 +60,7 @@ fn nothing_counted(written: PlaceSet) -> Counted
     }
 }
 
-// Checks a plan of this many tasks, whose spaces have no fault, and gives its counts.
+// Checks a plan of this many tasks, whose spaces have no fault, and returns its counts.
 fn check_tasks(plan: &Plan, tasks: u64, mut counted: Counted) -> Result<Counts, MatchFault>
     requires tasks { tasks ≡ length (all_tasks plan.now) }
     requires nothing { IsCounted plan.now counted nothing }
@@ -80,8 +80,8 @@ fn check_tasks(plan: &Plan, tasks: u64, mut counted: Counted) -> Result<Counts, 
     })
 }
 
-// Checks a plan and gives its counts. Most consistent plans are accepted in one walk; of any other plan the phases find
-// the first fault.
+// Checks a plan and returns its counts. Most consistent plans are accepted in one walk. For any other plan, the two
+// phases find the first fault.
 fn check_plan(alloc: Global, plan: &Plan) -> Result<Counts, MatchRefusal>
     ensures consistent { IfOk result (λ counts. IsConsistent plan.now × HasCounts plan.now counts) }
     ensures refused { IfErr result (IsRefusalOf plan.now) }
@@ -106,8 +106,9 @@ fn check_plan(alloc: Global, plan: &Plan) -> Result<Counts, MatchRefusal>
     }
 }
 
-/// The plan, as one that is consistent, with its counts; or its first fault, and the plan back. Takes time according to
-/// the numbers of tasks and edges, and a byte of memory for each place of a collection.
+/// Returns the plan as a consistent one, with its counts. Otherwise returns the first fault, or out of memory, with the
+/// plan unchanged. The time grows with the numbers of tasks and edges; it takes a byte of memory for each place of a
+/// collection.
 pub fn match_edges(alloc: Global, plan: Plan) -> Result<Matched, (MatchRefusal, Plan)>
     ensures found { IfOk result (λ m. (m ≡ plan) × IsConsistent plan) }
     ensures back { IfErr result (λ (refusal, back). back ≡ plan) }

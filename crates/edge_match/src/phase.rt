@@ -1,6 +1,6 @@
 //! The phases of the pass over all tasks.
 
-/// In which phase a task is checked.
+/// The phase in which a task is checked.
 #[derive(Clone, Copy, Debug, PartialEq, Eq)]
 pub enum Phase {
     /// Whether what the task needs and names exists.

@@ -12,7 +12,7 @@ use crate::fault::{MatchCode, MatchFault};
 use ptg_base::TaskId;
 use range_space::Numbers;
 
-// The fault with this code of a task, of one of its flows or of none.
+// The fault with this code of a task, or of one of its flows.
 pub(crate) fn fault_at(code: MatchCode, t: &TaskId, flow: Option<u8>) -> MatchFault
     ensures { result ≡ fault_at code t.now flow }
 {
@@ -29,7 +29,7 @@ pub(crate) fn fault_at(code: MatchCode, t: &TaskId, flow: Option<u8>) -> MatchFa
     }
 }
 
-// An error with this code where a test of a task, or of one of its flows, does not hold.
+// Returns an error with this code if a test of a task, or of one of its flows, does not hold.
 pub(crate) fn require(
     holds: bool,
     code: MatchCode,

@@ -14,7 +14,7 @@ use dep_iter::{TaskAt, all_tasks, all_tasks_are_listed};
 use plan_core::Plan;
 use range_space::Numbers;
 
-// Whether each expression that the task needs has a value.
+// Checks that each expression that the task needs has a value.
 fn check_values(task: &TaskAt) -> Result<(), MatchFault>
     ensures { (s : CountedValue) → Checked task.now.plan.now s s result
         (mark task.now.task.now (ill_flow task.now.plan.now task.now.task.now)
@@ -26,8 +26,8 @@ fn check_values(task: &TaskAt) -> Result<(), MatchFault>
     }
 }
 
-// Whether each expression that the task needs has a value, and the place of its affinity exists. It is checked in the
-// first phase.
+// Checks in the first phase that each expression that the task needs has a value, and that the place of its affinity
+// exists.
 fn start_task(phase: Phase, task: &TaskAt) -> Result<(), MatchFault>
     ensures { (s : CountedValue) → Checked task.now.plan.now s s result
         (task_start phase task.now.plan.now task.now.task.now) }

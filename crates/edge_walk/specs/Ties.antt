@@ -1,5 +1,7 @@
--- What the active dependences of a task name, each with the numbers of its flow and of its dependence. Source: DAGuE
--- (Parallel Computing, 2012) and PaRSEC (2013), as the edges of a task.
+-- The ties of a task: what its active dependences name, with the numbers of the flow and of the dependence. Source:
+-- DAGuE (Parallel Computing, 2012) and PaRSEC (2013), as the edges of a task.
+-- Carried by: `ties_of`; law `ties_are_edges`.
+-- Tested by: `edges.txt`, `edges_cholesky.txt`, the stored run of `job_graph`.
 use Rattle.std.specs.Prelude.{ℕ, suc, ℤ, List, [], ◌∷◌, ◌++◌, map, flat_map, Bool, true, false, Option, Some, None}
 use Rattle.ptg_base.specs.Task.{Task}
 use Rattle.ptg_base.specs.declared.edge.Edge.{Edge}
@@ -28,15 +30,15 @@ pub record Numbered : Type 0 where
   pub dependence : ℕ
   pub target : Target
 
--- the target of dependence k, if it holds, before the targets of the later ones; where the first that holds counts
--- alone, without them
+-- the target of dependence k, if it holds, before the targets of the later ones; if only the first that holds counts,
+-- it alone
 abbrev pub numbered_then : Bool → ℕ → Option Target → List (ℕ × Target) → List (ℕ × Target)
 numbered_then first_only k None later = later
 numbered_then true k (Some x) later = (k, x) ∷ []
 numbered_then false k (Some x) later = (k, x) ∷ later
 
--- the targets of these dependences that hold, which are numbered from k on, each with its number; where the first that
--- holds counts alone, that of the first
+-- the targets of those of these dependences that hold, each with its number; if only the first that holds counts, that
+-- of the first. The dependences are numbered from k on
 abbrev pub numbered_targets : Bool → ℕ → List DepPlan → List ℤ → List (ℕ × Target)
 numbered_targets first_only k [] env = []
 numbered_targets first_only k (d ∷ ds) env =
@@ -50,13 +52,13 @@ numbered_flow direction env f = numbered_targets (first_only direction f.kind) 0
 abbrev pub numbered : ℕ → ℕ × Target → Numbered
 numbered n x = record { flow = n; dependence = x.0; target = x.1 }
 
--- the active dependences of these flows, which are numbered from n on
+-- the active dependences of these flows; the flows are numbered from n on
 abbrev pub active_from : Direction → List ℤ → ℕ → List FlowPlan → List Numbered
 active_from direction env n [] = []
 active_from direction env n (f ∷ fs) =
     map (numbered n) (numbered_flow direction env f) ++ active_from direction env (suc n) fs
 
--- what a target names that is no task
+-- what a target names, if it is no task
 abbrev pub single : List ℤ → Target → Option Far
 single env (target.Task class flow args) = None
 single env (target.Element coll indices) = Some (far.Place (place_of coll indices env))
@@ -71,8 +73,8 @@ tie n k x = record { flow = n; dependence = k; far = x }
 abbrev pub task_tie : ℕ → ℕ → ℕ → ℕ → List ℤ → Tie
 task_tie n k class flow params = tie n k (far.Flow (task class params) flow)
 
--- the ties of dependence k of flow n by a target: with each task that it names, one for each combination of values of
--- its arguments, or with the one thing that it names
+-- the ties of dependence k of flow n for a target: one for each combination of values of its arguments if it names
+-- tasks, else one alone
 abbrev pub ties_to : List ℤ → ℕ → ℕ → Target → List Tie
 ties_to env n k (target.Task class flow args) = map (task_tie n k class flow) (combinations args env)
 ties_to env n k (target.Element coll indices) = tie n k (far.Place (place_of coll indices env)) ∷ []
@@ -87,7 +89,7 @@ all_ties env actives = flat_map (λ (a : Numbered). ties_to env a.flow a.depende
 abbrev pub ties : Plan → Task → Direction → List Tie
 ties P t direction = all_ties (locals_of P t) (active_from direction (locals_of P t) 0 (flows_of P t))
 
--- the edge into flow n of the task t that what a dependence of the flow names is, if it is one
+-- the edge into flow n of the task t from what a dependence of the flow names, if that is a task's flow
 abbrev pub edge_from : Task → ℕ → Far → Option Edge
 edge_from t n (far.Flow s flow) = Some (edge s flow t n)
 edge_from t n (far.Place p) = None
@@ -101,10 +103,10 @@ item_to t n (far.Place p) = Some (item.Write (write_back t n p))
 item_to t n far.New = None
 item_to t n far.Null = None
 
--- the edge into a task that a tie of its in dependences is
+-- the edge into a task that a tie of its in dependences stands for, if any
 abbrev pub edge_by_in : Task → Tie → Option Edge
 edge_by_in t x = edge_from t x.flow x.far
 
--- the item that a task sends by a tie of its out dependences
+-- the item that a task sends by a tie of its out dependences, if any
 abbrev pub item_by_out : Task → Tie → Option Item
 item_by_out t x = item_to t x.flow x.far

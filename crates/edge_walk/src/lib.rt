@@ -1,4 +1,5 @@
-//! What the active dependences of a task name, one after another, each with the number of its dependence.
+//! What the active dependences of a task name, one after another, each with the number of its dependence. For graphs
+//! that are shown; no part of the program.
 #![tactic(auto)]
 
 mod laws;

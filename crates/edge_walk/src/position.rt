@@ -13,14 +13,14 @@ use dep_iter::held_target;
 use plan_core::{DepPlan, FlowPlan, Target};
 use term_core::Direction;
 
-/// Where a walk over the active dependences of a task stands.
+/// The position of a walk over the active dependences of a task.
 #[derive(Clone, Copy)]
 pub struct Position<'a> {
     /// The number of the flow at hand.
     pub flow: u8,
-    /// Whether of its dependences the first that holds counts alone.
+    /// Whether only the first of its dependences that holds counts.
     pub first_only: bool,
-    /// The number of the first of its dependences that are left.
+    /// The number of the first of its dependences left.
     pub dependence: usize,
     /// Its dependences that are left.
     pub deps: &'a [DepPlan],
@@ -30,18 +30,18 @@ pub struct Position<'a> {
     pub flows: &'a [FlowPlan],
 }
 
-/// An active dependence, and where a walk stands after it.
+/// An active dependence, and the position of a walk after it.
 #[derive(Clone, Copy)]
 pub struct Active<'a> {
     /// Its number.
     pub dependence: usize,
     /// What it names.
     pub target: &'a Target,
-    /// Where the walk stands after it.
+    /// The position of the walk after it.
     pub after: Position<'a>,
 }
 
-/// A dependence that holds, and those after it that count.
+/// A dependence that holds, and those after it that still count.
 #[derive(Clone, Copy)]
 pub struct Held<'a> {
     pub dependence: usize,
@@ -89,14 +89,14 @@ fn next_held<'a>(first_only: bool, k: usize, deps: &'a [DepPlan], env: &[i64]) -
     }
 }
 
-// A law: how many dependences there are fits 64 bits.
+// A law: the number of dependences fits 64 bits.
 fn count_fits(deps: &[DepPlan])
     ensures { length deps.now < 2 ^ 64 }
 {
     let _ = deps.len();
 }
 
-// The walk where it enters a flow, with the flows after it.
+// The position of a walk that enters a flow, with the flows after it.
 fn enter<'a>(
     direction: Direction,
     flow: &'a FlowPlan,
@@ -126,7 +126,7 @@ fn enter<'a>(
     }
 }
 
-// The next active dependence of a walk in one direction, under these locals, and where the walk stands after it.
+// The next active dependence of a walk in one direction, under these locals, and the position of the walk after it.
 pub(crate) fn next_active<'a>(
     direction: Direction,
     env: &[i64],

@@ -1,4 +1,4 @@
-//! What a target names that is no task.
+//! What a target names, if it is no task.
 
 ghost use Rattle.std.specs.Prelude.{◌≡◌};
 ghost use Rattle.edge_walk.specs.Ties as ties;

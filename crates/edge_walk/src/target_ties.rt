@@ -13,7 +13,8 @@ use plan_core::{Plan, Target};
 use ptg_base::TaskId;
 use std::marker::Model;
 
-/// The ties of one target that are not yet given: that of what it names if it is no task, else one for each task.
+/// The ties of one target that were not yet yielded: one for each task that it names, or the only one of a target that
+/// is no task.
 #[derive(Drop)]
 pub(crate) struct TargetTies {
     flow: u8,

@@ -15,7 +15,8 @@ pub enum Far {
     Null,
 }
 
-/// An active dependence of a task with one of the things that it names. One that names many tasks gives many ties.
+/// An active dependence of a task with one of the things that it names. A dependence that names many tasks has many
+/// ties.
 #[derive(Drop)]
 pub struct Tie {
     /// The number of the task's flow, from 0.
@@ -23,5 +24,6 @@ pub struct Tie {
     /// The number of the dependence among the flow's in dependences, or among its out dependences, from 0 in the
     /// text's order.
     pub dependence: usize,
+    /// What the dependence names.
     pub far: Far,
 }

@@ -19,7 +19,7 @@ use range_space::Numbers;
 use std::marker::Model;
 use term_core::Direction;
 
-/// An iterator over the ties of a task. Contracts see it as the list of those not yet given. It takes no memory.
+/// An iterator over the ties of a task. Contracts see it as the list of those not yet yielded. It takes no memory.
 #[derive(Drop)]
 pub struct Ties<'a> {
     plan: &'a Plan,
@@ -45,7 +45,8 @@ impl<'a> Model for Ties<'a> {
         × IsTrue (position_fits t.plan.now t.position) };
 }
 
-// The next tie of a walk under these locals: of those left of the dependence at hand, or of the dependences after it.
+// The next tie of a walk under these locals: from those left of the dependence at hand, or from the dependences after
+// it.
 fn next_tie<'a>(
     plan: &Plan,
     direction: Direction,
@@ -72,8 +73,8 @@ fn next_tie<'a>(
     next_tie(plan, direction, env, p, at_hand)
 }
 
-/// The ties of a task by its dependences in one direction: by flow and dependence in the text's order; of a
-/// dependence that names many tasks, the first argument outermost. They are evaluated as they are asked for.
+/// The ties of a task in one direction, by flow and dependence in the text's order; for a dependence that names many
+/// tasks, the first argument is outermost. They are evaluated lazily.
 pub fn ties_of<'a>(plan: &'a Plan, t: &TaskId, direction: Direction) -> Ties<'a>
     requires { IsTask plan.now t.now }
     ensures { result ≡ specs.ties plan.now t.now direction }

@@ -1,4 +1,4 @@
--- An expression that is resolved names only what its names are resolved to.
+-- A resolved expression is closed, if what its names mean is closed.
 use Rattle.std.proofs.Common.{◌≡◌, ℕ, ◌<◌, true, Ok, Err, refl, ap}
 use Rattle.std.specs.Prelude.{◌&&◌, nat_lt}
 use Rattle.std.proofs.lemmas.Bool.{lt-ltb, and_from}
@@ -13,7 +13,7 @@ use Rattle.expr_names.specs.Meanings.{value_of}
 use Rattle.expr_names.specs.Expressions.{together, term_of}
 use Rattle.list_lemmas.proofs.Options.{same_Ok, steps_of}
 
--- two parts that are there
+-- two parts that both resolve
 together_ok : {A B : Type 0} (reported : JdfFault → JdfFault → JdfFault) (r : Resolved A) (q : Resolved B) (z : A × B) → together reported r q ≡ Ok z → (r ≡ Ok z.0) × (q ≡ Ok z.1)
 together_ok reported (Ok x) (Ok y) z e = let same = same_Ok (x, y) z e in (ap (λ w. Ok w.0) same, ap (λ w. Ok w.1) same)
 together_ok reported (Ok x) (Err g) z e = absurd cc

@@ -1,4 +1,4 @@
--- Two parts of an expression, by what is returned for each.
+-- Two parts of an expression together, from what is returned for each.
 use Rattle.std.proofs.Common.{Ok, Err, refl}
 use Rattle.ptg_base.specs.declared.refusal.Refusal.{Refusal}
 use Rattle.ptg_base.specs.declared.refusal.Refusal.TheVariants.{Fault, OutOfMemory}

@@ -1,5 +1,7 @@
--- The expressions of a JDF with their names resolved, or the fault that is reported of those of its names. Source: the
--- JDF documentation; that one fault is reported is this project's own choice.
+-- The expressions of a JDF with their names resolved, or the fault that is reported of their names. Source: the JDF
+-- documentation; that one fault is reported is this project's own choice.
+-- Carried by: `term_of`, and with it `flow_check::check`, `body_names::resolve`.
+-- Tested by: `type_faults.txt`, `body_names.txt`.
 use Rattle.std.specs.Prelude.{Ok, Err}
 use Rattle.jdf_lex.specs.declared.fault.JdfFault.{JdfFault}
 use Rattle.term_core.specs.Term.{Term}
@@ -9,14 +11,14 @@ use Rattle.jdf_tree.specs.Expression.{Expression, Num, Name, Elem, Unary, Binary
 use Rattle.expr_names.specs.Symbols.{Resolved, SymbolTable}
 use Rattle.expr_names.specs.Meanings.{value_of}
 
--- two parts of an expression: both of them, or the fault of the one that has one, or which is reported of two faults
+-- two parts of an expression: both of them, or the fault of one, or whichever of two faults is reported
 abbrev pub together : {A B : Type 0} → (JdfFault → JdfFault → JdfFault) → Resolved A → Resolved B → Resolved (A × B)
 together reported (Ok x) (Ok y) = Ok (x, y)
 together reported (Ok x) (Err g) = Err g
 together reported (Err f) (Ok y) = Err f
 together reported (Err f) (Err g) = Err (reported f g)
 
--- the term that an expression is where names mean this
+-- the term of an expression whose names have these meanings, or the fault that is reported
 abbrev pub term_of : SymbolTable → Expression → Resolved Term
 term_of names (Num z spot) = Ok (term.Num z)
 term_of names (Name w) = value_of w (names.meaning w.text)

@@ -1,4 +1,4 @@
-//! Expressions with their names resolved.
+//! Resolves the names of expressions.
 
 ghost use Rattle.std.specs.Prelude.{◌≡◌};
 ghost use Rattle.ptg_base.specs.Returns.{Returns};
@@ -14,7 +14,8 @@ use jdf_tree::{ExprNode, ExprTree};
 use std::alloc::Global;
 use term_core::Expr;
 
-/// The term that an expression is where names mean this, or which fault is reported of those of its names.
+/// Returns the term of an expression, whose names mean what `symbols` says. If names have faults, it returns the one
+/// that `symbols` reports.
 pub fn term_of<S: Symbols>(alloc: Global, symbols: &S, tree: &ExprTree) -> Result<Expr, JdfRefusal>
     requires { S.is_sound symbols.now }
     ensures { Returns (λ e. e) result (term_of (S.table symbols.now) tree.now) }
@@ -22,7 +23,7 @@ pub fn term_of<S: Symbols>(alloc: Global, symbols: &S, tree: &ExprTree) -> Resul
     node_term(alloc, symbols, tree.node())
 }
 
-// Which refusal is reported of two; or that there was no memory, if either says so.
+// Which of two refusals is reported; out of memory, if either of them is that.
 fn reported<S: Symbols>(symbols: &S, first: JdfRefusal, second: JdfRefusal) -> JdfRefusal
     requires { S.is_sound symbols.now }
     ensures { result ≡ reported_refusal (S.table symbols.now).reported first second }
@@ -36,7 +37,7 @@ fn reported<S: Symbols>(symbols: &S, first: JdfRefusal, second: JdfRefusal) -> J
     }
 }
 
-// Two parts of an expression: both of them, or which fault is reported of theirs.
+// Two parts of an expression: both of them, or the fault of one, or whichever of two faults is reported.
 #[tactic(auto, using(crate::proofs::Together::both_there, crate::proofs::Together::second_refused, crate::proofs::Together::first_refused, crate::proofs::Together::both_refused))]
 fn together<S: Symbols, A: Drop, B: Drop>(
     symbols: &S,
@@ -61,7 +62,7 @@ fn together<S: Symbols, A: Drop, B: Drop>(
     }
 }
 
-// The term of a tree of boxed nodes.
+// The term of an expression, given the node at its root.
 #[tactic(auto, using(ptg_base::proofs::Refusals::refuses_before))]
 fn node_term<S: Symbols>(alloc: Global, symbols: &S, node: &ExprNode) -> Result<Expr, JdfRefusal>
     requires { S.is_sound symbols.now }

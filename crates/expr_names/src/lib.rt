@@ -1,5 +1,4 @@
-//! Expressions with their names resolved, or which fault is reported of those of their names: one resolver for bodies
-//! and for all that is outside of them.
+//! Resolves the names of an expression, in bodies and elsewhere, or returns the fault that is reported of its names.
 #![tactic(auto)]
 
 mod expression;

@@ -11,7 +11,7 @@ use name_table::NameTable;
 use ptg_base::Text;
 use term_core::Expr;
 
-/// What a name in an expression means.
+/// What a name in an expression means; `Nothing` if no such name is known there.
 #[derive(Clone, Copy, Debug, PartialEq, Eq)]
 pub enum Meaning {
     /// A variable of the body, by its slot.
@@ -27,7 +27,8 @@ pub enum Meaning {
     Nothing,
 }
 
-/// What a name means that is no variable, by the number of its definition and by the tables of the globals.
+/// What a name means that is no variable. `local` is the number of its definition, if it has one, and the globals are
+/// in the two tables.
 pub fn outer_meaning(
     local: Option<u16>,
     ints: &NameTable<i64>,
@@ -49,7 +50,8 @@ pub fn outer_meaning(
     }
 }
 
-/// The term of a name that means a number.
+/// Returns the term of a name that means a number, else a fault at the name: WrongKind for a collection, UnknownName
+/// for nothing.
 pub fn value_of(word: &Word, meaning: Meaning) -> Result<Expr, JdfRefusal>
     ensures { Returns (λ e. e) result (value_of word.now meaning) }
 {

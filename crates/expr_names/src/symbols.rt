@@ -9,27 +9,27 @@ use jdf_lex::{JdfFault, JdfRefusal};
 use jdf_tree::Word;
 use ptg_base::Text;
 
-/// What the names in an expression mean: a name before an index is a flow's.
+/// What the names in an expression mean. A name before an index names a flow; every other name has a `meaning`.
 pub trait Symbols {
     ghost use Rattle.expr_names.specs.Symbols.{SymbolTable};
 
-    /// What a look-up asks of the names.
+    /// What must hold for the names to be looked up.
     ghost is_sound: { Self → Type 0 };
 
-    /// What they mean.
+    /// The meanings, as a table.
     ghost table: { Self → SymbolTable };
 
-    /// What a name means that is not before an index.
+    /// What a name means if it is not before an index.
     fn meaning(&self, name: &Text) -> Meaning
         requires { is_sound self.now }
         ensures { result ≡ (table self.now).meaning name.now };
 
-    /// The number of the flow of a name before an index.
+    /// The number of the flow that a name before an index names, or the fault of the name.
     fn flow(&self, word: &Word) -> Result<u8, JdfRefusal>
         requires { is_sound self.now }
         ensures { Returns (λ n. n) result ((table self.now).flow word.now) };
 
-    /// Which fault is reported of those of two parts of an expression.
+    /// Which fault is reported if two parts of an expression have one each.
     fn reported(&self, first: JdfFault, second: JdfFault) -> JdfFault
         requires { is_sound self.now }
         ensures { result ≡ (table self.now).reported first second };

@@ -1,4 +1,4 @@
--- What reading from a token index on implies for the whole list of tokens.
+-- What reading from a token's index on implies for the whole list of tokens.
 use Rattle.std.proofs.Common.{◌≡◌, ℕ, ◌+◌, ◌-◌, ◌≤◌, List, length, take, drop, Result, Ok, Err, inl, inr, refl, sym, ap, ◌∙◌, arith, subst}
 use Rattle.std.specs.Prelude.{None}
 use Rattle.std.proofs.lemmas.List.{length-drop, take_rest}
@@ -29,7 +29,7 @@ answer x = Ok x
 abbrev refused : JdfFault → Answer
 refused f = Err (Fault f)
 
--- the slice of the code, and the part of the text
+-- reading the code's slice is reading the tokens from this index on
 at_front : (tokens : List Token) (from : ℕ) (a b : Part) (r : Read ExprWithSpot) → a ≡ b → reading productions (outer a) (take (length tokens - from) (drop from tokens)) ≡ r → reading productions (outer b) (drop from tokens) ≡ r
 at_front tokens from a b r same e =
     ap (λ (p : Part). reading productions (outer p) (drop from tokens)) (sym same) ∙ (ap (reading productions (outer a)) (sym (take_rest tokens from)) ∙ e)
@@ -38,7 +38,7 @@ module _ (tokens : List Token) (from : ℕ) (within : from ≤ length tokens) (a
   abbrev slice : List Token
   slice = take (length tokens - from) (drop from tokens)
 
-  -- where an expression was read
+  -- if an expression was read
   module _ (t : ExprWithSpot) (rest : List Token) (e : reading productions (outer a) slice ≡ Ok (t, rest)) where
     here : reading productions (outer part) (drop from tokens) ≡ Ok (t, rest)
     here = at_front tokens from a part (Ok (t, rest)) same e
@@ -83,7 +83,7 @@ module _ (tokens : List Token) (from : ℕ) (within : from ≤ length tokens) (a
   pub no_memory : (finish : Spot) → FindsOrRefuses (IsExpressionFrom part tokens from) (IsFaultFrom part tokens from finish) (Err OutOfMemory)
   no_memory finish = record { found = tt; only = λ x h. inr refl; fault = λ f h. absurd cc; refused = λ f h. inr refl }
 
-  -- where a fault was met
+  -- if a fault was met
   module _ (n : ℕ) (d : Code) (e : reading productions (outer a) slice ≡ Err (fault_from_end n d)) where
     met : reading productions (outer part) (drop from tokens) ≡ Err (fault_from_end n d)
     met = at_front tokens from a part (Err (fault_from_end n d)) same e

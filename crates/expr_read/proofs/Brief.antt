@@ -19,7 +19,7 @@ use Rattle.expr_read.specs.declared.window.Outermost.{Outermost}
 use Rattle.expr_read.specs.Precedences.{form_of, limited_form}
 use Rattle.expr_read.proofs.InWindow.{limited_is, form_sound, rest_is}
 
--- the first token that is too many is not among the next k, where k more may be counted
+-- the first token that is too many is not among the next k if k more may be counted
 at_least_from : (q : Terminal → Bool) (k i cap n : ℕ) (s : List Token) → i + k ≤ cap → k ≤ n → i + k ≤ min cap (get_or (token_indices q i s) n cap)
 at_least_from q zero i cap n s a b = omega (arith, not_before q s i n cap)
 at_least_from q (suc k) i cap zero s a b = absurd (omega arith)

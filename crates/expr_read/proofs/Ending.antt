@@ -1,4 +1,4 @@
--- Reading an expression at the start of some tokens finds its end, or its first fault.
+-- Reading an expression at the start of some tokens finds its end, or the first fault.
 use Rattle.std.proofs.Common.{◌≡◌, ℕ, ◌+◌, ◌-◌, ◌<◌, ◌≤◌, Bool, true, false, cond, List, [], ◌∷◌, ◌++◌, length, take, drop, Result, Ok, Err, refl, inl, inr, sym, ap, ◌∙◌, append_assoc, arith, subst}
 use Rattle.std.specs.Prelude.{Some, None, ◌==◌}
 use Rattle.std.proofs.lemmas.Bool.{cases_Bool, cases_lt, cases_order, eqb-true}
@@ -61,7 +61,7 @@ module _ (part : Part) where
         | inr (inr lt) ↦ absurd (k.with_it (omega (arith, lt, hw)) h.before.0 (begins_shorter s (q + 1) p h.before.0 (omega (arith, lt)) h.before.1))
       ]
 
-  -- the end, and the expression before it
+  -- if an expression was read, the end is after it, and it is the expression before the end
   pub read_ends : (s : List Token) (t : ExprWithSpot) (r : List Token) → read s ≡ Ok (t, r) → IsEnd part s (length s - length r) × Text (take (length s - length r) s) t None
   read_ends s t r e =
       let k = (sound productions claims productions_fine (outer part) (outer_fine part) s).accepted (t, r) e in
@@ -126,7 +126,7 @@ module _ (part : Part) where
           let same : d ≡ Syntax = (stop_is (sym other ∙ here)).1 in
           absurd cc
 
-  -- the first fault
+  -- if a fault was met, it is the first one
   pub read_fails : (s : List Token) (n : ℕ) (c : Code) → read s ≡ Err (fault_from_end n c) → IsFirstFaultOf part s (length s - n) c × (n ≤ length s)
   read_fails s n Syntax e =
       let here : all s ≡ Err (fault_from_end n Syntax) = rw e refl in

@@ -1,4 +1,4 @@
--- Reading operands and operators as the loop of the code does, and which production the next token decides for.
+-- Reading operands and operators as the code's loop does, and which production the next token selects.
 use Rattle.std.proofs.Common.{◌≡◌, ℕ, zero, suc, ◌<◌, ◌≤◌, Bool, true, false, cond, List, [], ◌∷◌, length, Ok, Err, refl, sym, ap, ◌∙◌, subst, Result}
 use Rattle.grammar_core.specs.declared.fault.ReadFault.{ReadFault}
 use Rattle.grammar_core.specs.declared.token.Spot.{Spot}
@@ -59,7 +59,7 @@ operands_are part precedence.Equality s = regroup (reading productions (relation
 operands_are part precedence.Conjunction s = regroup (reading productions (equality part) s) (tail part precedence.Conjunction) (λ x. with_spot x.0.spot (grouped x.0.tree x.1))
 operands_are part precedence.Disjunction s = regroup (reading productions (conjunction part) s) (tail part precedence.Disjunction) (λ x. with_spot x.0.spot (grouped x.0.tree x.1))
 
--- where no element is too many, the index of the first one does not matter
+-- if no element is too many, the index of the first one does not matter
 any_index : {A : Type 0} (q : Terminal → Bool) (p : List Token → Read A) (n i j : ℕ) (s : List Token) → many_at any (set q) p i n s ≡ many_at any (set q) p j n s
 unfolding many_at
 any_index q p zero i j s = refl
@@ -97,7 +97,7 @@ tail_goes_on part precedence spot left s o after t e =
         inner_go (Ok x) = refl
         inner_go (Err e) = refl
 
--- the loop continues, and the loop fails
+-- the loop goes on, and the loop fails
 pub loop_goes_on : (part : Part) (precedence : Precedence) (spot : Spot) (left : Expression) (s : List Token) (o : BinOp) (after : List Token) (right : ExprWithSpot) (next : List Token) (total : Read ExprWithSpot) → (starts (operators_of precedence) s ≡ true) × (reading productions (map operator_of (one_of (operators_of precedence))) s ≡ Ok (o, after))
     → reading productions (operand_of precedence part) after ≡ Ok (right, next) → joined spot left (tail part precedence s) ≡ total → joined spot (Binary o left right.tree) (tail part precedence next) ≡ total
 loop_goes_on part precedence spot left s o after right next total t e so_far = sym (tail_goes_on part precedence spot left s o after t.0 t.1 ∙ rw e refl) ∙ so_far
@@ -124,7 +124,7 @@ expr_reads part s = loops.followed_reads productions (disjunction part) (branche
 
 -- ---- refusals
 
--- a part fails, and the whole with the same fault
+-- if a part fails, the whole fails with the same fault
 pub fails_with : {A B : Type 0} (e : ReadRefusal) (part : Result A ReadFault) (whole : Result B ReadFault) → ReturnsRefusal e part → ((d : ReadFault) → part ≡ Err d → whole ≡ Err d) → ReturnsRefusal e whole
 fails_with errors.OutOfMemory part whole f same = tt
 fails_with (errors.Fault x) part whole f same = same x f

@@ -1,4 +1,4 @@
--- What the nonterminals of the grammar read.
+-- Reading a nonterminal of the grammar is reading its production.
 use Rattle.std.proofs.Common.{◌≡◌, List}
 use Rattle.grammar_core.specs.declared.token.Token.{Token}
 use Rattle.grammar_core.specs.Reading.{nonterminal_at, reading}

@@ -1,4 +1,4 @@
--- Reading in a window that ends after the token that a limit says is too many.
+-- Reading in a window that ends after the first token that a limit does not allow.
 use Rattle.std.proofs.Common.{◌≡◌, ℕ, suc, ◌-◌, ◌+◌, ◌≤◌, ◌<◌, List, ◌++◌, length, take, drop, false, append_assoc, Ok, Err, refl, sym, ap, ◌∙◌, arith}
 use Rattle.std.specs.Prelude.{◌==◌}
 use Rattle.std.proofs.lemmas.Bool.{le-ltb}
@@ -12,7 +12,7 @@ use Rattle.grammar_core.specs.Reading.{Read, judge, fault_from_end}
 use Rattle.grammar_core.proofs.Sound.{Sound}
 use Rattle.grammar_core.proofs.Windows.{window_ok, window_err, window_long}
 
--- p reads texts of G, and q is what the limit makes of it
+-- p reads texts of G, and q is reading with the limit
 module _ {A : Type 0} (L : Limit) (c : List Token → Code) (G : Language A) (p : List Token → Read A) (sound : (s : List Token) → Sound G p s) (q : List Token → Read A) (judged : (s : List Token) → q s ≡ judge (L.at s) (c s) s (p s)) where
   pub within_limit : (s : List Token) → length s ≤ L.at s → q s ≡ p s
   within_limit s le = judged s ∙ go (p s)
@@ -26,14 +26,14 @@ module _ {A : Type 0} (L : Limit) (c : List Token → Code) (G : Language A) (p 
       let k = (sound s).faulted f e in
       omega (arith, k.left, ap (λ (l : List Token). length l) k.parts, length-append k.word k.rest)
 
-  -- the rest of a window, with what is after it
+  -- the rest of a window, with the tokens after the window
   pub rest_is : (w v : List Token) (t : A) (rest : List Token) → p w ≡ Ok (t, rest) → drop (length w - length rest) (w ++ v) ≡ rest ++ v
   rest_is w v t rest e =
       let k = (sound w).accepted (t, rest) e in
       let n : length k.word ≡ length w - length rest = omega (arith, ap (λ (l : List Token). length l) k.parts, length-append k.word rest) in
       ap (λ (l : List Token). drop (length w - length rest) (l ++ v)) k.parts ∙ ap (λ (l : List Token). drop (length w - length rest) l) (append_assoc k.word rest v) ∙ drop_at k.word (rest ++ v) (length w - length rest) n
 
-  -- the window and what is after it, as the code splits the tokens
+  -- the window and the tokens after it, as the code splits them
   module _ (s w v : List Token) (limit : ℕ) (is_limit : limit ≡ L.at s) (front : w ≡ take (limit + 1) s) (back : v ≡ drop (limit + 1) s) (long : limit < length s) where
     parts : s ≡ w ++ v
     parts = sym (take-append-drop (limit + 1) s) ∙ ap (λ (l : List Token). l ++ drop (limit + 1) s) (sym front) ∙ ap (λ (l : List Token). w ++ l) (sym back)

@@ -1,5 +1,7 @@
--- The longest expression at the start of some tokens, and its first fault: for a reader who does not know where it
--- ends. Source: this project's own choice.
+-- The longest expression at the start of some tokens, or the first fault there, for callers that do not know where the
+-- expression ends.
+-- Carried by: `read_expr`.
+-- Tested by: `expressions.txt`, `body_syntax.txt`.
 use Rattle.std.specs.Prelude.{◌≡◌, ℕ, ◌+◌, ◌-◌, ◌<◌, ◌≤◌, List, length, take, drop, Bool, true, false, None, slice_get}
 use Rattle.std.specs.Option.{option_map_or}
 use Rattle.grammar_core.specs.declared.token.Spot.{Spot}
@@ -15,13 +17,13 @@ use Rattle.jdf_tree.specs.ExpressionGrammar.{with_spot, outer}
 use Rattle.jdf_tree.specs.Fault.{code_at_token}
 use Rattle.jdf_tree.specs.Grammar.{productions}
 
--- the part of a text that an expression is of: a body, where it may have elements of flows, or else a class
+-- the part of a text that an expression is in: a body, in which it may have elements of flows, or a class
 abbrev pub part_of : Bool → Part
 part_of true = Body
 part_of false = Class
 
--- The end of the expression: the index of the first token such that no expression begins with the tokens up to and with
--- it, or the number of tokens if there is no such token.
+-- The end of the expression: the index of the first token such that no expression begins with the tokens up to and
+-- including it. If there is no such token, it is the number of tokens.
 pub record IsEnd (part : Part) (s : List Token) (p : ℕ) : Type 0 where
   pub within : p ≤ length s
   pub before : (o : Fault) × Begins productions (outer part) (take p s) o
@@ -49,9 +51,10 @@ pub record IsExpressionFrom (part : Part) (tokens : List Token) (from : ℕ) (x 
   pub after : from ≤ x.1
   pub expression : IsExpression part (drop from tokens) x.0 (x.1 - from)
 
--- This is the first fault of what begins at the token of index `from`; after all tokens it is at `finish`.
+-- This is the first fault of the expression that begins at the token of index `from`; after all tokens it is at
+-- `finish`.
 pub record IsFaultFrom (part : Part) (tokens : List Token) (from : ℕ) (finish : Spot) (fault : JdfFault) : Type 0 where
-  -- how many tokens after `from` it is
+  -- how many tokens after `from` the fault is
   pub offset : ℕ
   pub code : Code
   pub first : IsFirstFaultOf part (drop from tokens) offset code

@@ -1,4 +1,4 @@
--- The productions of each precedence of operators, as the readers of the code name them.
+-- The productions of each precedence of operators, for the contracts of the functions that read them.
 use Rattle.std.specs.Prelude.{Bool}
 use Rattle.jdf_lex.specs.declared.terminal.Terminal.{Terminal}
 use Rattle.jdf_tree.specs.declared.expression.ExprWithSpot.{ExprWithSpot}

@@ -10,14 +10,14 @@ use jdf_lex::{JdfFault, JdfRefusal, Spot, Token};
 use jdf_tree::{ExprTree, Part, code_at_token};
 use std::alloc::Global;
 
-// The part of a text: a body, where elements of tiles may be read, or a class.
+// The part of a text: a body, in which expressions may have elements of tiles, or a class.
 fn part_of(in_body: bool) -> Part
     ensures { result ≡ part_of in_body }
 {
     if in_body { Part::Body } else { Part::Class }
 }
 
-/// The fault with this code at the token of index `token_index`, or at the spot `finish` where there is no such token.
+/// The fault with this code at the token of index `token_index`, or at the spot `finish` if there is no such token.
 pub fn fault_at(tokens: &[Token], finish: Spot, token_index: usize, code: Code) -> JdfFault
     ensures { result ≡ fault_at tokens.now finish token_index code }
 {
@@ -31,8 +31,8 @@ pub fn fault_at(tokens: &[Token], finish: Spot, token_index: usize, code: Code) 
     }
 }
 
-/// Reads the longest expression that begins at the token of index `from`: its tree, and the index of the token after
-/// it. Where `in_body` holds, it is an expression of a body. A fault after all tokens has the spot `finish`.
+/// Reads the longest expression that begins at the token of index `from`. Returns its tree and the index of the token
+/// after it. If `in_body`, it is an expression of a body. A fault after all tokens has the spot `finish`.
 pub fn read_expr(
     alloc: Global,
     tokens: &[Token],
@@ -41,7 +41,7 @@ pub fn read_expr(
     finish: Spot,
 ) -> Result<(ExprTree, usize), JdfRefusal>
     requires { from ≤ length tokens.now }
-    // What is read is the expression that begins there; a fault is its first one.
+    // What is returned is the expression that begins there; a fault is the first one.
     ensures exact { FindsOrRefuses (IsExpressionFrom (part_of in_body) tokens.now from)
         (IsFaultFrom (part_of in_body) tokens.now from finish) result }
 {

@@ -1,4 +1,4 @@
-//! Reads the expressions of a JDF text, and the names in it.
+//! Reads the expressions and the names of a JDF text.
 #![tactic(auto)]
 
 mod front;

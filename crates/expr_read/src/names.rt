@@ -23,7 +23,7 @@ fn is_name(part: Part, terminal: Terminal) -> bool
     }
 }
 
-/// Whether a name is next.
+/// Whether a name of this part of a text is next.
 pub fn is_name_next(part: Part, tokens: &[Token]) -> bool
     ensures { result ≡ starts (names part) tokens.now }
 {
@@ -43,7 +43,8 @@ fn word_of(alloc: Global, token: &Token) -> Result<Word, OutOfMemory>
     })
 }
 
-/// Takes a name: the name, and the tokens after it. Syntax at the next token if that is no name.
+/// Takes the next token if it is a name of this part of a text: returns the name and the tokens after it. Else refuses
+/// with `Syntax` at the next token.
 pub fn name(alloc: Global, part: Part, tokens: &[Token]) -> Result<(Word, &[Token]), ReadRefusal>
     ensures { Reads (name part) tokens.now result }
 {

@@ -17,7 +17,7 @@ fn has_leading_zero(text: &[u8]) -> bool
     text.len() > 1 && text[0] == b'0'
 }
 
-// The number with this spelling; None if numbers are not written so, or it is larger than `MOST_NUMBER`.
+// The number that the text spells; None if it is not decimal, has a leading zero, or is larger than `MOST_NUMBER`.
 #[tactic(auto, unfolding(jdf_tree::specs::Numbers::is_number))]
 fn value(text: &[u8]) -> Option<i64>
     ensures { MatchOption result (is_number text.now ≡ false) (λ z.
@@ -30,7 +30,8 @@ fn value(text: &[u8]) -> Option<i64>
     Some(number as i64)
 }
 
-/// Takes a number: its tree, and the tokens after it. BadNumber at a number that is not decimal or too large.
+/// Takes the next token if it is a number: returns its tree and the tokens after it. Refuses with `BadNumber` a number
+/// that is not decimal, has a leading zero or is too large, and with `Syntax` any other token.
 #[tactic(auto, unfolding(jdf_tree::specs::ExpressionGrammar::number))]
 pub(crate) fn number(tokens: &[Token]) -> Result<(ExprWithSpot, &[Token]), ReadRefusal>
     ensures { Reads number tokens.now result }

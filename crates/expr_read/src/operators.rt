@@ -199,7 +199,7 @@ fn operator_at(precedence: Precedence, tokens: &[Token]) -> Option<(BinOp, &[Tok
     Some((found, rest))
 }
 
-// An operand of the infix operators of this precedence: what binds tighter.
+// An operand of the infix operators of this precedence: its own infix operators bind tighter.
 #[cycle(expression)]
 fn operand(
     alloc: Global,
@@ -219,7 +219,7 @@ fn operand(
     }
 }
 
-// Operands with infix operators of this precedence between them, which group from the left.
+// Operands with infix operators of this precedence between them, grouped to the left.
 #[cycle(expression)]
 #[tactic(auto, using(crate::proofs::Loops::operands_are, crate::proofs::Loops::tail_ends, crate::proofs::Loops::tail_goes_on, crate::proofs::Loops::reading_shrinks, crate::proofs::Loops::operator_shrinks))]
 pub(crate) fn operands(

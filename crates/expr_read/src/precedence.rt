@@ -1,6 +1,6 @@
 //! The precedence of operators.
 
-/// The precedence of infix operators, the tightest first.
+/// The precedence of infix operators; those that bind tightest come first.
 #[derive(Clone, Copy)]
 pub(crate) enum Precedence {
     /// `*`, `/` and `%`

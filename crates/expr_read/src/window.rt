@@ -14,7 +14,7 @@ use jdf_lex::{GrammarCode, Token, expression_limit};
 use jdf_tree::{ExprWithSpot, Part};
 use std::alloc::Global;
 
-// This many tokens are within the limit, whatever they are.
+// This many tokens are within the limit of an expression, whatever they are.
 const WITHIN: usize = 128;
 
 // The kinds of outermost expressions.
@@ -26,7 +26,7 @@ enum Outermost {
     Guard,
 }
 
-// An outermost expression, without its limit.
+// Reads an outermost expression, without its limit.
 fn form(
     alloc: Global,
     outermost: Outermost,
@@ -40,8 +40,8 @@ fn form(
     }
 }
 
-// An expression that ends within the first `WITHIN` tokens, so that the limit need not be looked for; None if it does
-// not.
+// Reads an outermost expression that ends within the first `WITHIN` tokens, so that its limit need not be found. None
+// if it does not end there.
 #[tactic(auto, using(crate::proofs::Brief::brief_reads, crate::proofs::Loops::reading_shrinks))]
 fn brief(alloc: Global, outermost: Outermost, tokens: &[Token]) -> Option<(ExprWithSpot, &[Token])>
     ensures { IfSome result (λ (tree, rest).
@@ -57,7 +57,7 @@ fn brief(alloc: Global, outermost: Outermost, tokens: &[Token]) -> Option<(ExprW
     }
 }
 
-// An outermost expression is read in a window of tokens up to its limit, so that no text makes the recursion deep.
+// Reads an outermost expression in a window of tokens up to its limit, so that no text makes the recursion deep.
 #[tactic(auto, using(crate::proofs::InWindow::short, crate::proofs::InWindow::slice, crate::proofs::InWindow::cut, crate::proofs::InWindow::form_within, crate::proofs::Loops::reading_shrinks))]
 fn within_limit(
     alloc: Global,
@@ -89,7 +89,7 @@ fn within_limit(
     }
 }
 
-/// Reads an outermost expression: its tree, and the tokens after it.
+/// Reads an outermost expression. Returns its tree with its spot, and the tokens after it.
 pub fn outer(
     alloc: Global,
     part: Part,
@@ -100,7 +100,7 @@ pub fn outer(
     within_limit(alloc, Outermost::Expression(part), tokens)
 }
 
-/// Reads a guard: its tree, and the tokens after it.
+/// Reads a guard. Returns its tree with its spot, and the tokens after it.
 pub fn guard(alloc: Global, tokens: &[Token]) -> Result<(ExprWithSpot, &[Token]), ReadRefusal>
     ensures { Reads guard tokens.now result }
 {

@@ -34,7 +34,7 @@ use Rattle.std.proofs.lemmas.Int.{by_lt_z, ints}
 use Rattle.std.specs.Cmp.{unsigned_Decides, signed_Decides}
 use Rattle.ptg_base.specs.Lists.{IsIn}
 
--- ---- what holds or does not hold
+-- ---- things that hold or do not hold
 
 -- it holds or does not hold
 abbrev IsDecided : Type 0 → Type 0

@@ -21,7 +21,7 @@ use Rattle.edge_match.specs.Faults.{space_fault}
 use Rattle.edge_match.specs.FirstFault.{IsFirstFault, IsTaskFault}
 use Rattle.fault_laws.proofs.Named.{names_task}
 
--- a visit of this class, with fewer values than so many where a definition has none
+-- a visit of this class; if a definition has no value, with fewer than n values before it
 abbrev pub IsVisitOf : ℕ → ℕ → Visit → Type 0
 IsVisitOf class n (Prefix c) = c ≡ class
 IsVisitOf class n (walk.Task c) = c ≡ class

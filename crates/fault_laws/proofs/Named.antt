@@ -25,7 +25,7 @@ use Rattle.edge_match.specs.Marks.{Mark, edge_marks, flow_items, flow_start, ill
 use Rattle.edge_match.specs.Marks.{write_marks}
 use Rattle.edge_match.proofs.Holding.{AtFlow, join, of_phase, parts}
 
--- a mark is at a task of the job, and the flow of its fault, if it is one's, is one of that task
+-- a mark is at a task of the job, and its flow, if it names one, is one of that task
 abbrev pub IsNamed : Plan → Mark → Type 0
 IsNamed P m = IsTask P m.task × ((n : ℕ) → m.flow ≡ Some n → n < length (flows_of P m.task))
 
@@ -55,7 +55,7 @@ module _ (P : Plan) (t : Task) (of_job : IsTask P t) (n : ℕ) (below : n < leng
   named_flow : (phase : Phase) (f : FlowPlan) → AtFlow (IsNamed P) phase P t n f
   named_flow phase f = record { start = named_start phase f; directed = λ d. named_items phase d (data_source P t n) [] (flow_items d P t n f) }
 
--- the flow of an ill task that is ill is one of the task
+-- the ill flow of an ill task is one of the task
 first_or_later : (b : Bool) (o : Option ℕ) (n k : ℕ) → (if b then o else Some n) ≡ Some k → (o ≡ Some k) ⊎ (n ≡ k)
 first_or_later true o n k h = inl h
 first_or_later false o n k h = inr (let e : n ≡ k = cc in e)
@@ -87,7 +87,7 @@ named_task P Matching t h = tt
 named_phase : (P : Plan) (phase : Phase) → AllByRecursion (IsNamed P) (phase_marks phase P)
 named_phase P phase = (of_phase (IsNamed P) phase P).1 (λ t h. record { start = named_task P phase t h; flows = λ n f here. named_flow P t h n (slice_get_within (flows_of P t) n f here) phase f })
 
--- a fault of a task is named after the task and one of its flows
+-- a fault names a task of the job and, if any flow, one of that task
 abbrev pub NamesTask : Plan → MatchFault → Type 0
 NamesTask P f = IsTask P (task f.class f.numbers) × ((n : ℕ) → f.flow ≡ Some n → n < length (flows_of P (task f.class f.numbers)))
 

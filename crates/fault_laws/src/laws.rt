@@ -17,13 +17,13 @@ pub fn a_plan_is_consistent_or_has_a_first_fault()
     ensures { (P : Plan) → IsConsistent P ⊎ ((f : MatchFault) × IsFirstFault P f) }
 {}
 
-/// A law: a plan has one first fault at most.
+/// A law: a plan has at most one first fault.
 pub fn a_plan_has_one_first_fault()
     ensures { (P : Plan) (f g : MatchFault) → IsFirstFault P f → IsFirstFault P g → f ≡ g }
 {}
 
-/// A law: the class of a first fault exists, and so does its flow, if it has one. After the walk through the spaces its
-/// numbers name a task of the job; where a definition has no value they are fewer than the definitions of the class.
+/// A law: the class of a first fault exists, and so does its flow, if it names one. If the spaces have no fault, its
+/// numbers name a task of the job. If a definition has no value, they are fewer than the definitions of the class.
 pub fn a_first_fault_names_what_exists()
     ensures class { (P : Plan) (f : MatchFault) → IsFirstFault P f → f.class < length P.classes }
     ensures flow { (P : Plan) (f : MatchFault) (c : ClassPlan) (n : ℕ) → IsFirstFault P f

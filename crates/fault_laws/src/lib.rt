@@ -1,4 +1,5 @@
-//! Each plan is consistent or has a first fault, which is the only one, and what a first fault names exists.
+//! Laws of consistency that no program cites: each plan is consistent or has exactly one first fault, and what a first
+//! fault names exists.
 #![tactic(auto)]
 
 mod laws;

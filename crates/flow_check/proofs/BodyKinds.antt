@@ -1,4 +1,4 @@
--- A body that is resolved reads only flows with a tile, and changes no tile of a READ flow.
+-- A resolved body reads only flows that have a tile, and changes no tile of a READ flow.
 use Rattle.std.proofs.Common.{◌≡◌, ℕ, Bool, true, ◌&&◌, List, map, Option, Some, None, option_map, slice_get, refl, sym, ◌∙◌, ap}
 use Rattle.std.proofs.lemmas.Option.{slice_get-map}
 use Rattle.term_core.specs.declared.body.Stmt.{Stmt}
@@ -162,7 +162,7 @@ module _ (scope : Environment) where
   follow_good : (first : Resolved (Stmt × Bindings)) (rest : Resolver) → IfValue IsOne first → IsBlock rest → IfValue AreAll (follow first rest)
   follow_good first rest one more = after_if_value IsOne AreAll first _ one (λ x h. after_if_value AreAll AreAll (rest x.1) _ (more x.1) (λ y k. then_respects x.0 y.0 h k))
 
-  -- statements that are resolved respect the kinds of the flows
+  -- resolved statements respect the kinds of the flows
   pub kinds_respected : (t : Statements) (k : Bindings) → IfValue AreAll (resolved scope t k)
   kinds_respected Done k = refl
   kinds_respected (DeclareThen w e rest) k = follow_good (declare scope w e k) (resolved scope rest) (declare_good w e k) (kinds_respected rest)

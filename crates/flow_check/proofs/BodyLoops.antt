@@ -1,4 +1,4 @@
--- A body that is resolved sets no variable of a loop in the loop.
+-- In a resolved body, no loop assigns to its own variable.
 use Rattle.std.proofs.Common.{◌≡◌, ◌≢◌, ℕ, ℤ, ◌+◌, ◌<◌, Bool, true, false, not, ◌&&◌, ◌==◌, cond, List, [], ◌∷◌, length, Option, Some, None, refl, sym, ap, arith}
 use Rattle.std.specs.List.{AllByRecursion}
 use Rattle.std.specs.Str.{bytes_eq}
@@ -30,11 +30,11 @@ module _ (scope : Environment) where
   -- ---- a variable that is not set
 
   module _ (v : ℕ) where
-    -- a variable that may be assigned to has another slot
+    -- this variable has another slot than `v`, if it may be assigned to
     abbrev IsOther : Variable → Type 0
     IsOther u = u.is_loop_variable ≡ false → u.slot ≢ v
 
-    -- the slot is taken, and by none that may be assigned to
+    -- slot `v` is taken, and by no variable that may be assigned to
     abbrev IsFree : Bindings → Type 0
     IsFree k = (v < next_slot scope k) × AllByRecursion IsOther k.seen
 
@@ -90,7 +90,7 @@ module _ (scope : Environment) where
     other_slot : (n : ℕ) → n ≢ v → not (n == v) ≡ true
     other_slot n h = ap not (ne_eqb n v h)
 
-    -- the slot of the next variable is another one
+    -- the next variable gets another slot than `v`
     next_other : (k : Bindings) → v < next_slot scope k → next_slot scope k ≢ v
     next_other k h e = absurd (omega (arith, h, e))
 
@@ -150,7 +150,7 @@ module _ (scope : Environment) where
 
   -- ---- loops
 
-  -- all slots are taken
+  -- the slot of this variable is below `end`
   abbrev IsBelow : ℕ → Variable → Type 0
   IsBelow end u = u.slot < end
 
@@ -162,7 +162,7 @@ module _ (scope : Environment) where
       let end = length scope.locals + (k.declared + 1) in
       all_append (IsBelow end) k.seen (record { name = name; slot = next_slot scope k; is_loop_variable = loop } ∷ []) (each_weaker (IsBelow (next_slot scope k)) (IsBelow end) k.seen (λ u b. let c : u.slot < length scope.locals + k.declared = b in omega (arith, c)) h) (omega arith, tt)
 
-  -- in the block of a loop its variable is free
+  -- at the start of a loop's block, no variable that may be assigned to has the slot of the loop's variable
   loop_free : (k : Bindings) (name : List ℕ) → AreBelow k → IsFree (next_slot scope k) (with_variable scope name true (block_opened k))
   loop_free k name h = (
     omega arith,
@@ -215,7 +215,7 @@ module _ (scope : Environment) where
   abbrev LoopAll : ℕ → StatementList × Bindings → Type 0
   LoopAll v x = (never_sets v x.0 ≡ true) × (keeps_loop_variables x.0 ≡ true) × AreBelow x.1
 
-  -- the block of a loop does not set the loop's variable
+  -- the block of a loop does not assign to the loop's variable
   turn_keeps : (w : Word) (turn : Resolver) → ((v : ℕ) → NeverBlock v turn) → KeepsBlock turn → (k : Bindings) → AreBelow k → IfValue (LoopAll (next_slot scope k)) (in_block (λ m. with_variable scope w.text true (block_opened m)) turn k)
   turn_keeps w turn free good k h =
       let v = next_slot scope k in
@@ -241,7 +241,7 @@ module _ (scope : Environment) where
   follow_keeps : (first : Resolved (Stmt × Bindings)) (rest : Resolver) → IfValue KeepsOne first → KeepsBlock rest → IfValue KeepsAll (follow first rest)
   follow_keeps first rest one more = after_if_value KeepsOne KeepsAll first _ one (λ x h. after_if_value KeepsAll KeepsAll (rest x.1) _ (more x.1 h.1) (λ y l. (then_keeps x.0 y.0 h.0 l.0, l.1)))
 
-  -- statements that are resolved set no variable of a loop in the loop
+  -- in resolved statements no loop assigns to its own variable
   pub loops_kept : (t : Statements) → KeepsBlock (resolved scope t)
   loops_kept Done k h = (refl, h)
   loops_kept (DeclareThen w e rest) k h = follow_keeps (declare scope w e k) (resolved scope rest) (declare_keeps w e k h) (loops_kept rest)

@@ -1,4 +1,4 @@
--- What holds of each part of a body that is resolved: results of which something holds where there are any, and lists.
+-- Properties of each part of a resolved body: of a result, if there is one, and of the elements of lists.
 use Rattle.std.proofs.Common.{◌≡◌, ℕ, zero, suc, Bool, true, false, cond, List, [], ◌∷◌, ◌++◌, take, Some, Ok, Err, sym, subst}
 use Rattle.std.specs.Prelude.{reverse, find}
 use Rattle.std.specs.List.{AllByRecursion}

@@ -1,4 +1,4 @@
--- The word of each trap of a body that is read is one of the body's words.
+-- The word of each trap of a body is one of the body's words.
 use Rattle.std.proofs.Common.{◌≡◌, ℕ, Bool, ◌&&◌, List, [], ◌∷◌, ◌++◌, length, map, nat_lt, Some, slice_get, IsTrue, refl}
 use Rattle.std.specs.List.{list_all}
 use Rattle.std.proofs.lemmas.Bool.{lt-ltb, and_from}
@@ -8,7 +8,7 @@ use Rattle.std.specs.Cmp.{first_so, second_so}
 use Rattle.std.proofs.lemmas.Option.{slice_get_within}
 use Rattle.body_lang.specs.TrapWords.{numbers_of}
 
--- numbers that all have a word
+-- numbers that all have a word are below the number of words
 numbers_below : (words : List (List ℕ)) (ns : List ℕ) (ws : List (List ℕ)) → map (λ (n : ℕ). slice_get words n) ns ≡ map (λ (w : List ℕ). Some w) ws → IsTrue (list_all (λ n. nat_lt n (length words)) ns)
 numbers_below words [] ws e = refl
 numbers_below words (n ∷ ns) [] e = absurd cc

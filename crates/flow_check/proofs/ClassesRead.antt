@@ -53,7 +53,7 @@ plan_more job (y ∷ classes) (x ∷ bodies) c b h =
     go (Some u) (Some v) None = refl
     go (Some u) (Some v) (Some w) = refl
 
--- what is returned after one class more
+-- what is returned after one more class
 pub one_class : (job : Job) (classes : List ClassTree) (c : ClassTree) (r s : Result Plans (Refusal JdfFault)) (q : Result (ClassPlan × ClassSpace) (Refusal JdfFault))
     → ((p : Option Plans) (o : Option (ClassPlan × ClassSpace)) (fs gs : List JdfFault) → ReturnsChecked {A = Plans} r p fs → ReturnsChecked {A = ClassPlan × ClassSpace} q o gs → ReturnsChecked {A = Plans} s (both with_plan p o) (fs ++ gs))
     → AreRead job classes r → IsClassRead job c q → AreRead job (classes ++ c ∷ []) s
@@ -66,13 +66,13 @@ one_class job classes c r s q step h k = record {
       (step (classes_plan job classes h.bodies) (class_plan job c k.body) (classes_faults job classes h.bodies) (class_faults job c k.body) h.checked k.checked));
 }
 
--- the same, where that class is the next one of a list
+-- the same, if that class is the next one of a list
 pub next_class : (job : Job) (classes : List ClassTree) (i : ℕ) (c : ClassTree) (s : Result Plans (Refusal JdfFault)) → i < length classes → c ≡ get_or classes i c → AreRead job (take i classes ++ c ∷ []) s → AreRead job (take (i + 1) classes) s
 next_class job classes i c s lt at read =
     let more : take i classes ++ c ∷ [] ≡ take (i + 1) classes = ap (λ y. take i classes ++ y ∷ []) at ∙ sym (take_more classes i c lt) in
     subst (λ l. AreRead job l s) more read
 
--- with the rules about the names of globals and classes it is what is returned for the whole text
+-- with the rules on names of globals and classes, the result for all classes is that for the whole text
 pub resolved : (job : Job) (r s : Result Plans (Refusal JdfFault)) (gs : List JdfFault) → AreRead job job.jdf.classes r
     → ((p : Option Plans) (fs : List JdfFault) → ReturnsChecked {A = Plans} r p fs → ReturnsChecked {A = Plans} s p (fs ++ gs))
     → gs ≡ names_faults job → ReturnsResolved job s

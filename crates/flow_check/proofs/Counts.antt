@@ -1,4 +1,4 @@
--- How many collections data have at most: each has an element, and all together have at most 2 ^ 24.
+-- A bound on the number of collections: each has an element, and all together have at most 2 ^ 24.
 use Rattle.std.proofs.Common.{ℕ, zero, suc, ◌+◌, ◌*◌, ◌<◌, ◌≤◌, ◌^◌, nat_le, List, [], ◌∷◌, length, IsTrue, slice_index, arith, mul-pos}
 use Rattle.std.specs.List.{AllByRecursion, list_all, fold}
 use Rattle.coll_data.specs.declared.coll.Coll.{Coll}

@@ -1,4 +1,4 @@
--- Whether one of the globals of a JDF is missing from the tables of them.
+-- Whether a global of a JDF is missing from the tables of globals.
 use Rattle.std.proofs.Common.{◌≡◌, ℕ, Bool, true, not, ◌||◌, List, [], ◌∷◌, None, is_some, if◌then◌else◌, refl, ◌∙◌, ap}
 use Rattle.std.specs.List.{list_any, position}
 use Rattle.name_table.specs.Names.{value_named}
@@ -12,7 +12,7 @@ use Rattle.list_lemmas.proofs.Texts.{bytes_eq-self}
 use Rattle.flow_check.specs.Globals.{is_missing_here}
 use Rattle.flow_check.specs.Given.{is_given, is_missing}
 
--- tests that agree on words whose names are declared
+-- two tests that agree on words with declared names agree on whether some word passes
 any_declared : (p q : Word → Bool) (globals words : List Word) → ((name : List ℕ) → list_any (word_is name) words ≡ true → list_any (word_is name) globals ≡ true)
     → ((w : Word) → list_any (word_is w.text) globals ≡ true → p w ≡ q w) → list_any p words ≡ list_any q words
 any_declared p q globals [] among same = refl

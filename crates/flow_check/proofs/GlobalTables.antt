@@ -1,4 +1,4 @@
--- The tables of globals after one integer or collection of the data more.
+-- The tables of globals after one more integer or collection of the data.
 use Rattle.std.proofs.Common.{◌≡◌, ℕ, ℤ, ◌+◌, ◌<◌, Bool, true, false, cond, not, List, [], ◌∷◌, ◌++◌, length, take, get_or, Some, None, is_some, if◌then◌else◌, bytes_eq, refl, sym, ◌∙◌, ap}
 use Rattle.std.specs.Option.{option_or}
 use Rattle.std.specs.List.{position}
@@ -9,7 +9,7 @@ use Rattle.flow_check.specs.Globals.{with_value}
 use Rattle.flow_check.proofs.Tables.{if_named, table_step, table_skip, value_more, position_more}
 use Rattle.list_lemmas.proofs.Texts.{bytes_eq-sym}
 
--- a choice by a test, the other way round
+-- a choice by a test is the opposite choice by its negation
 pub by_not : {A : Type 0} (b : Bool) (x y : A) → (if b then x else y) ≡ (if not b then y else x)
 by_not true x y = refl
 by_not false x y = refl

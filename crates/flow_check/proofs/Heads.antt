@@ -1,4 +1,4 @@
--- The parts of a class, by the lists that its parts are.
+-- The parts of a class outside of its body, with its lists as arguments of their own.
 use Rattle.std.proofs.Common.{◌≡◌, List, ◌++◌, Option, Result, subst}
 use Rattle.ptg_base.specs.declared.refusal.Refusal.{Refusal}
 use Rattle.check_names.specs.TreesAndFaults.{JdfFault, DefTree, ArgTree, FlowTree, ClassTree}

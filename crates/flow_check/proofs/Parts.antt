@@ -1,4 +1,4 @@
--- Parts that are all there, element by element.
+-- If a function has a value at each element of a list: these values, element by element.
 use Rattle.std.proofs.Common.{◌≡◌, ℕ, zero, suc, List, [], ◌∷◌, map, Option, Some, slice_get, sym, ◌∙◌, ap}
 use Rattle.check_names.specs.Returns.{each}
 use Rattle.std.proofs.lemmas.Option.{same_Some}
@@ -12,7 +12,7 @@ parts_map f g k h (x ∷ xs) ys e =
     let rest = parts_map f g k h xs q.1 q.3 in
     ap (map g) (sym q.4) ∙ (λ i. first i ∷ rest i)
 
--- the part of one element
+-- the value at one element
 pub part_at : {A B : Type 0} (f : A → Option B) (xs : List A) (ys : List B) (n : ℕ) (x : A) → each f xs ≡ Some ys → slice_get xs n ≡ Some x → (y : B) × (f x ≡ Some y) × (slice_get ys n ≡ Some y)
 part_at f [] ys n x e at = absurd cc
 part_at f (z ∷ xs) ys zero x e at =

@@ -1,4 +1,4 @@
--- A JDF and its data have one plan at most.
+-- A JDF and its data have at most one plan.
 use Rattle.std.proofs.Common.{◌≡◌, ℕ, List, map, Result, Ok, Err, ◌⊎◌, inl, inr, refl, sym, ◌∙◌, ap, subst}
 use Rattle.std.proofs.Props.{props}
 use Rattle.ptg_base.specs.declared.refusal.Refusal.{Refusal}
@@ -20,7 +20,7 @@ use Rattle.flow_check.specs.Laws.{ResolvedIsAPlan, OnePlan, PlanHasNoFault}
 use Rattle.flow_check.proofs.Unique.{same_classes, one_first_fault, resolved_has_no_fault}
 use Rattle.flow_check.proofs.WellPlans.{well_plan}
 
--- what a plan is made of, and what makes it well made
+-- the lists that a plan consists of
 abbrev Lists : Type 0
 Lists = (List ClassPlan × List ClassSpace) × (List Shape × List ℕ)
 
@@ -30,14 +30,14 @@ lists_of p = ((p.classes, p.spaces), (p.colls, p.elems))
 abbrev AreWell : Lists → Type 0
 AreWell x = IsWellMade x.0.0 x.0.1 x.1.0 x.1.1
 
--- lists are well made in one way
+-- that lists are well made has at most one proof
 well_once : (classes : List ClassPlan) (spaces : List ClassSpace) (colls : List Shape) (elems : List ℕ) → IsProp (IsWellMade classes spaces colls elems)
 well_once classes spaces colls elems = hlevel props
 
 abbrev plan_from : (x : Lists) → AreWell x → Plan
 plan_from x h = record { classes = x.0.0; spaces = x.0.1; colls = x.1.0; elems = x.1.1; well_made = h }
 
--- plans with the same lists are one
+-- plans with the same lists are equal
 same_plan : (p q : Plan) → lists_of p ≡ lists_of q → p ≡ q
 same_plan p q e =
     subst (λ x. (h : AreWell x) → plan_from (lists_of p) p.well_made ≡ plan_from x h) e
@@ -74,6 +74,6 @@ is_plan : (job : Job) (r : Result Plan (Refusal JdfFault)) → ReturnsPlan job r
 is_plan job (Ok p) h = h
 is_plan job (Err e) h = tt
 
--- what the answer to a job is decides it
+-- what the type check returns is the one plan, the one first fault, or out of memory
 pub plan_or_fault : (job : Job) (r : Result Plan (Refusal JdfFault)) → ReturnsPlan job r → FindsOrRefuses (IsPlan job) (IsFirstFault job) r
 plan_or_fault job r h = record { found = is_plan job r h; only = only_plan job r h; fault = is_fault job r h; refused = only_fault job r h }

@@ -15,7 +15,7 @@ or_none : {V : Type 0} (o : Option V) → option_or o None ≡ o
 or_none None = refl
 or_none (Some x) = refl
 
--- a pair at the end of a list of pairs
+-- the value of a name after a pair is appended to a list of pairs
 pub value_pushed : {V : Type 0} (table : List (List ℕ × V)) (x : List ℕ) (v : V) (n : List ℕ) → value_named (table ++ (x, v) ∷ []) n ≡ option_or (value_named table n) (if_named x v n)
 value_pushed [] x v n = refl
 value_pushed (e ∷ table) x v n = go (value_pushed table x v n) (bytes_eq n e.0)
@@ -24,7 +24,7 @@ value_pushed (e ∷ table) x v n = go (value_pushed table x v n) (bytes_eq n e.0
     go later true = refl
     go later false = later
 
--- a pair added to a table
+-- the value of a name after a pair is added to a table
 value_added : {V : Type 0} (table after : List (List ℕ × V)) (x : List ℕ) (v : V) (new : Bool) → new ≡ not (is_some (value_named table x)) → after ≡ (if new then table ++ (x, v) ∷ [] else table)
     → (n : List ℕ) → value_named after n ≡ option_or (value_named table n) (if_named x v n)
 value_added {V} table after x v new e s n = go (is_some (value_named table x)) refl
@@ -45,7 +45,7 @@ value_added {V} table after x v new e s n = go (is_some (value_named table x)) r
         let l : after ≡ table ++ (x, v) ∷ [] = s ∙ ap (λ b. if b then table ++ (x, v) ∷ [] else table) (e ∙ ap not h) in
         ap (λ t. value_named t n) l ∙ value_pushed table x v n
 
--- a table of the declared names of a list, when the list has one name more that is declared
+-- a table of the declared names of a list, after the list gains a name that is declared
 pub table_step : {V : Type 0} (declared : List ℕ → Bool) (old more : List ℕ → Option V) (table after : List (List ℕ × V)) (x : List ℕ) (v : V) (new : Bool)
     → ((n : List ℕ) → value_named table n ≡ cond (declared n) (old n) None)
     → ((n : List ℕ) → more n ≡ option_or (old n) (if_named x v n))
@@ -59,7 +59,7 @@ table_step declared old more table after x v new tables mores given e s n =
     go false true h q = let d : declared n ≡ true = subst (λ m. declared m ≡ true) (sym ((bytes_decides n x).0 q)) given in absurd cc
     go false false h q = ap (λ b. cond b (Some v) None) q
 
--- and when it has one name more that is not
+-- and after it gains a name that is not declared
 pub table_skip : {V : Type 0} (declared : List ℕ → Bool) (old more : List ℕ → Option V) (table : List (List ℕ × V)) (x : List ℕ) (v : V)
     → ((n : List ℕ) → value_named table n ≡ cond (declared n) (old n) None)
     → ((n : List ℕ) → more n ≡ option_or (old n) (if_named x v n))
@@ -71,7 +71,7 @@ table_skip declared old more table x v tables mores other n = tables n ∙ go (d
     go true false h q = sym (mores n ∙ (ap (λ b. option_or (old n) (cond b (Some v) None)) q ∙ or_none (old n)))
     go false b h q = refl
 
--- one pair more of a list of pairs
+-- the value of a name in one more pair of a list of pairs
 pub value_more : {V : Type 0} (xs : List (List ℕ × V)) (i : ℕ) (d : List ℕ × V) (n : List ℕ) → i < length xs
     → value_named (take (i + 1) xs) n ≡ option_or (value_named (take i xs) n) (if_named (get_or xs i d).0 (get_or xs i d).1 n)
 value_more xs i d n lt = ap (λ l. value_named l n) (take_more xs i d lt) ∙ value_pushed (take i xs) (get_or xs i d).0 (get_or xs i d).1 n
@@ -93,7 +93,7 @@ module _ {X : Type 0} (p : X → Bool) where
       let e : 0 + length xs ≡ length xs = omega arith in
       position_from-zero p (xs ++ y ∷ []) ∙ (from_push 0 xs y ∙ (λ i. option_or (sym (position_from-zero p xs) i) (cond (p y) (Some (e i)) None)))
 
-  -- the first index among one element more
+  -- the first index among one more element
   pub position_more : (xs : List X) (i : ℕ) (d : X) → i < length xs → position p (take (i + 1) xs) ≡ option_or (position p (take i xs)) (cond (p (get_or xs i d)) (Some i) None)
   position_more xs i d lt =
       let count : length (take i xs) ≡ i = length-take-le i xs (omega arith) in

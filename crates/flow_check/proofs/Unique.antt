@@ -1,4 +1,4 @@
--- A JDF and its data have their classes in one way at most, or one first fault at most, and not both.
+-- The classes of a JDF and its data resolve in at most one way, or have at most one first fault, and never both.
 use Rattle.std.proofs.Common.{◌≡◌, ◌≤◌, ℕ, ℤ, Bool, length, List, [], ◌∷◌, Option, Ok, Err, refl, sym, ◌∙◌, ap, subst}
 use Rattle.term_core.specs.declared.space.ClassSpace.{ClassSpace}
 use Rattle.plan_core.specs.declared.class.ClassPlan.{ClassPlan}
@@ -52,7 +52,7 @@ one_list job (x ∷ classes) (b ∷ bs) (c ∷ cs) h k =
     let rest = one_list job classes bs cs h.1 k.1 in
     λ i. first i ∷ rest i
 
--- the classes are resolved in one way
+-- the classes are resolved in at most one way
 pub same_classes : (job : Job) (x y : List ClassPlan × List ClassSpace) → AreResolved job x.0 x.1 → AreResolved job y.0 y.1 → x ≡ y
 same_classes job x y h k = same_Some x y (sym h.plans ∙ (ap (classes_plan job job.jdf.classes) (one_list job job.jdf.classes h.bodies k.bodies h.read k.read) ∙ k.plans))
 

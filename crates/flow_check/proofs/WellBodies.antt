@@ -1,4 +1,4 @@
--- A body that is read is one that a plan may have.
+-- A body that was read is one that a plan may have.
 use Rattle.std.proofs.Common.{◌≡◌, ℕ, ◌+◌, true, List, length, Ok, IsTrue, subst}
 use Rattle.grammar_core.specs.declared.token.Token.{Token}
 use Rattle.term_core.specs.declared.body.Body.{Body}

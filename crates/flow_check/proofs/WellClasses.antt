@@ -1,4 +1,4 @@
--- A class whose names are resolved, and that breaks no rule, is one that a plan may have.
+-- A class that breaks no rule, with its names resolved, is one that a plan may have.
 use Rattle.std.proofs.Common.{◌≡◌, ℕ, suc, Bool, List, [], ◌∷◌, ◌++◌, length, map, flat_map, Option, Some, Ok, Err, IsTrue, refl, sym, ◌∙◌, ap, subst}
 use Rattle.std.specs.List.{list_all, AllByRecursion}
 use Rattle.std.specs.Result.{result_ok}
@@ -80,7 +80,7 @@ params_count job class s e =
 
 -- ---- lists
 
--- what holds of each element without a fault
+-- if the value of each element without a fault passes a test, all values of a list without faults pass it
 parts_sound : {A B : Type 0} (f : A → Option B) (g : A → List JdfFault) (p : B → Bool) (P : A → Type 0) → ((a : A) (b : B) → P a → g a ≡ [] → f a ≡ Some b → IsTrue (p b))
     → (xs : List A) (ys : List B) → AllByRecursion P xs → flat_map g xs ≡ [] → each f xs ≡ Some ys → IsTrue (list_all p ys)
 parts_sound f g p P h [] ys all none e = subst (λ l. IsTrue (list_all p l)) (same_Some [] ys e) refl

@@ -1,4 +1,4 @@
--- The parts of a plan that a JDF and its data resolve to are well made.
+-- If a JDF and its data resolve to a plan, the parts of that plan are well made.
 use Rattle.std.proofs.Common.{◌≡◌, ℕ, zero, suc, ◌≤◌, false, ◌&&◌, ◌==◌, List, [], ◌∷◌, length, map, Some, option_map, option_and_then, slice_get, IsTrue, nat_le, nat_lt, refl, sym, ◌∙◌, ap, subst, arith}
 use Rattle.std.specs.List.{list_all, AllByRecursion}
 use Rattle.std.specs.Option.{option_map_or}
@@ -45,7 +45,7 @@ record IsClassAt (job : Job) (class : ClassTree) (plans : Plans) (n : ℕ) : Typ
   none : class_faults job class body ≡ []
   is : IsClassOf job class body plan space
 
--- with one class more before it
+-- with one more class before it
 one_later : (job : Job) (class : ClassTree) (x : ClassPlan × ClassSpace) (xs : Plans) (n : ℕ) → IsClassAt job class xs n → IsClassAt job class (plan_first x xs) (suc n)
 one_later job class x xs n a = record { body = a.body; plan = a.plan; space = a.space; plan_at = a.plan_at; space_at = a.space_at; read = a.read; none = a.none; is = a.is }
 
@@ -153,6 +153,6 @@ module _ (job : Job) (classes : List ClassPlan) (spaces : List ClassSpace) (reso
         tile_lengths = data_well.element_counts;
       }
 
--- what a JDF within its limits and its data resolve to is well made
+-- what a JDF within its limits resolves to with well made data is well made
 pub well_plan : ResolvedIsWellMade
 well_plan job classes spaces within data_well h = well_parts job classes spaces h within data_well

@@ -1,5 +1,7 @@
--- The classes of a JDF with its data, and the first fault. Source: PaRSEC 2013 and the JDF documentation; that the
--- first fault of the whole text is named is this project's own choice.
+-- The resolved classes of a JDF with its data, and its first fault. Source: PaRSEC 2013 and the JDF documentation; that
+-- the first fault of the whole text is reported is this project's own choice.
+-- Carried by: `check`; law `one_answer`.
+-- Tested by: `type_faults.txt`, `type_places.txt`, `type_datatypes.txt`.
 use Rattle.std.specs.Prelude.{◌≡◌, List, [], ◌∷◌, ◌++◌, Option, Some, None, Result, Ok, Err}
 use Rattle.std.specs.List.{AllZip}
 use Rattle.term_core.specs.declared.space.ClassSpace.{ClassSpace}
@@ -18,35 +20,35 @@ use Rattle.flow_check.specs.Classes.{class_plan, class_faults}
 abbrev pub ReadBodies : Job → List ClassTree → List BodyResult → Type 0
 ReadBodies job classes bodies = AllZip (ReadsBody job) classes bodies
 
--- all faults of some classes, whose bodies were read so
+-- all faults of some classes, given the results of reading their bodies
 abbrev pub classes_faults : Job → List ClassTree → List BodyResult → List JdfFault
 classes_faults job [] bodies = []
 classes_faults job (c ∷ classes) [] = []
 classes_faults job (c ∷ classes) (b ∷ bodies) = class_faults job c b ++ classes_faults job classes bodies
 
--- the classes and their spaces with all names resolved, whose bodies were read so
+-- the classes and their spaces with all names resolved, given the results of reading their bodies
 abbrev pub classes_plan : Job → List ClassTree → List BodyResult → Option (List ClassPlan × List ClassSpace)
 classes_plan job [] bodies = Some ([], [])
 classes_plan job (c ∷ classes) [] = None
 classes_plan job (c ∷ classes) (b ∷ bodies) =
     both (λ x xs. (x.0 ∷ xs.0, x.1 ∷ xs.1)) (class_plan job c b) (classes_plan job classes bodies)
 
--- The result of resolving a class: its body was read, and it is what the class means, or the first of its faults.
+-- The result of reading and resolving a class: the class with its space, or the first of its faults.
 pub record IsClassRead (job : Job) (class : ClassTree)
     (r : Result (ClassPlan × ClassSpace) (Refusal JdfFault)) : Type 0 where
   pub body : BodyResult
   pub read : ReadsBody job class body
   pub checked : ReturnsChecked r (class_plan job class body) (class_faults job class body)
 
--- The result of resolving some classes in order: their bodies were read, and it is what the classes mean, or the first
--- of their faults.
+-- The result of reading and resolving some classes in order: the classes with their spaces, or the first of their
+-- faults.
 pub record AreRead (job : Job) (classes : List ClassTree)
     (r : Result (List ClassPlan × List ClassSpace) (Refusal JdfFault)) : Type 0 where
   pub bodies : List BodyResult
   pub read : ReadBodies job classes bodies
   pub checked : ReturnsChecked r (classes_plan job classes bodies) (classes_faults job classes bodies)
 
--- the faults of the names of globals and classes
+-- the faults of names that two globals or two classes share
 abbrev pub names_faults : Job → List JdfFault
 names_faults job =
     repeats (λ (w : Word). w) NameTwice job.jdf.globals ++ repeats (λ (c : ClassTree). c.name) NameTwice job.jdf.classes
@@ -55,7 +57,7 @@ names_faults job =
 abbrev pub faults_of : Job → List BodyResult → List JdfFault
 faults_of job bodies = classes_faults job job.jdf.classes bodies ++ names_faults job
 
--- The classes of a JDF and their spaces with all names resolved: no rule is broken.
+-- The classes of a JDF and their spaces, with all names resolved; no rule is broken.
 pub record AreResolved (job : Job) (classes : List ClassPlan) (spaces : List ClassSpace) : Type 0 where
   pub bodies : List BodyResult
   pub read : ReadBodies job job.jdf.classes bodies
@@ -68,7 +70,7 @@ pub record IsFirstFault (job : Job) (f : JdfFault) : Type 0 where
   pub read : ReadBodies job job.jdf.classes bodies
   pub first : first_fault (faults_of job bodies) ≡ Some f
 
--- The result of resolving all names: the classes with their spaces, or the first fault, unless there was no memory.
+-- The result of resolving all names: the classes with their spaces, the first fault, or out of memory.
 abbrev pub ReturnsResolved : Job → Result (List ClassPlan × List ClassSpace) (Refusal JdfFault) → Type 0
 ReturnsResolved job (Ok x) = AreResolved job x.0 x.1
 ReturnsResolved job (Err (Fault f)) = IsFirstFault job f

@@ -1,4 +1,6 @@
--- A class of tasks, outside of its body and with it. Source: the JDF documentation.
+-- A resolved class of tasks: the parts outside of its body, then the whole class. Source: the JDF documentation.
+-- Carried by: `check`; law `one_answer`.
+-- Tested by: `type_faults.txt`, `type_places.txt`, `type_datatypes.txt`.
 use Rattle.std.specs.Prelude.{ℕ, List, ◌++◌, flat_map, Option}
 use Rattle.std.specs.Result.{result_ok}
 use Rattle.term_core.specs.Term.{Term}
@@ -27,7 +29,7 @@ abbrev pub flows_faults : Job → List DefTree → List FlowTree → List JdfFau
 flows_faults job seen flows =
     flat_map (flow_faults job seen) flows ++ repeats (λ (f : FlowTree). f.name) NameTwice flows
 
--- the parts of a class outside of its body, from its space and its affinity, and from its flows and its priority
+-- the parts of a class outside of its body, put together from its space and affinity, and its flows and priority
 abbrev pub head_from : ClassSpace × (ℕ × List Term) → List FlowPlan × Option Term → ClassHead
 head_from (space, (coll, indices)) (flows, priority) = record {
   space = space;
@@ -44,13 +46,13 @@ head_of job class =
     (element_of job class.defs class.affinity class.affinity_args))
     (both (λ x y. (x, y)) (flows_of job class.defs class.flows) (option_term job class.defs class.priority))
 
--- all their faults
+-- all faults of these parts
 abbrev pub head_faults : Job → ClassTree → List JdfFault
 head_faults job class =
     (space_faults job class.params class.defs ++ element_faults job class.defs class.affinity class.affinity_args)
     ++ (flows_faults job class.defs class.flows ++ option_faults job class.defs class.priority)
 
--- the class of its parts
+-- the class with its space, put together from its parts
 abbrev pub class_from : ClassTree → ClassHead → Body × List (List ℕ) → ClassPlan × ClassSpace
 class_from class head b = (
   record {
@@ -64,10 +66,10 @@ class_from class head b = (
   head.space,
 )
 
--- a class and its space with all names resolved, whose body was read so
+-- a class and its space with all names resolved, given the result of reading its body
 abbrev pub class_plan : Job → ClassTree → BodyResult → Option (ClassPlan × ClassSpace)
 class_plan job class body = both (class_from class) (head_of job class) (result_ok body)
 
--- all faults of a class whose body was read so
+-- all faults of a class, given the result of reading its body
 abbrev pub class_faults : Job → ClassTree → BodyResult → List JdfFault
 class_faults job class body = head_faults job class ++ resolved_faults body

@@ -1,4 +1,6 @@
--- What the data of a job give for its globals. Source: the JDF documentation.
+-- Whether the data of a job have its globals. Source: the JDF documentation.
+-- Carried by: `missing`.
+-- Tested by: `type_faults.txt`, `type_places.txt`, `type_datatypes.txt`.
 use Rattle.std.specs.Prelude.{ℕ, Bool, not, ◌||◌, List, position, is_some}
 use Rattle.std.specs.List.{list_any}
 use Rattle.name_table.specs.Names.{value_named}

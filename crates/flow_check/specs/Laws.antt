@@ -13,11 +13,11 @@ use Rattle.check_names.specs.Names.{Job}
 use Rattle.flow_check.specs.Check.{AreResolved, IsFirstFault}
 use Rattle.flow_check.specs.Plans.{IsPlan}
 
--- A JDF and its data have one first fault at most.
+-- A JDF and its data have at most one first fault.
 abbrev pub OneFirstFault : Type 0
 OneFirstFault = (job : Job) (f g : JdfFault) → IsFirstFault job f → IsFirstFault job g → f ≡ g
 
--- The classes that a JDF within the limits resolves to with data that are well made, with what the data are, fit one
+-- If a JDF within the limits resolves with well made data, its classes, their spaces and the shapes of the data fit one
 -- another.
 abbrev pub ResolvedIsWellMade : Type 0
 ResolvedIsWellMade =
@@ -25,16 +25,16 @@ ResolvedIsWellMade =
     → well_data.IsWellMade job.given → AreResolved job classes spaces
     → IsWellMade classes spaces (map shape_of job.given.colls) (elements_by_type job.given)
 
--- A JDF and its data whose classes are resolved have a plan.
+-- If the classes of a JDF within the limits resolve with well made data, the JDF and its data have a plan.
 abbrev pub ResolvedIsAPlan : Type 0
 ResolvedIsAPlan =
     (job : Job) (classes : List ClassPlan) (spaces : List ClassSpace) → IsWithinLimits job.jdf
     → well_data.IsWellMade job.given → AreResolved job classes spaces → (p : Plan) × IsPlan job p
 
--- A JDF and its data have one plan at most.
+-- A JDF and its data have at most one plan.
 abbrev pub OnePlan : Type 0
 OnePlan = (job : Job) (p q : Plan) → IsPlan job p → IsPlan job q → p ≡ q
 
--- What has a plan has no fault.
+-- A JDF and data that have a plan have no fault.
 abbrev pub PlanHasNoFault : Type 0
 PlanHasNoFault = (job : Job) (p : Plan) (f : JdfFault) → IsPlan job p → IsFirstFault job f → ⊥

@@ -1,4 +1,6 @@
 -- The plan of a JDF with its data. Source: PaRSEC 2013 and the JDF documentation.
+-- Carried by: `check`; laws `one_answer`, `check_laws::a_job_has_a_plan_or_a_fault`.
+-- Tested by: `check.txt`, `edges.txt`.
 use Rattle.std.specs.Prelude.{Result, Ok, Err}
 use Rattle.ptg_base.specs.declared.refusal.Refusal.{Refusal}
 use Rattle.ptg_base.specs.declared.refusal.Refusal.TheVariants.{Fault, OutOfMemory}
@@ -8,12 +10,12 @@ use Rattle.check_names.specs.TreesAndFaults.{JdfFault}
 use Rattle.check_names.specs.Names.{Job}
 use Rattle.flow_check.specs.Check.{AreResolved, IsFirstFault}
 
--- The plan of a JDF and its data: the classes with their spaces, with all names resolved, and the data fit it.
+-- The plan of a JDF and its data: it has the resolved classes with their spaces, and the data fit it.
 pub record IsPlan (job : Job) (plan : Plan) : Type 0 where
   pub resolved : AreResolved job plan.classes plan.spaces
   pub fit : DataFit plan job.given
 
--- The result of the type check: the plan, or the first fault, unless there was no memory.
+-- The result of the type check: the plan, the first fault, or out of memory.
 abbrev pub ReturnsPlan : Job → Result Plan (Refusal JdfFault) → Type 0
 ReturnsPlan job (Ok plan) = IsPlan job plan
 ReturnsPlan job (Err (Fault f)) = IsFirstFault job f

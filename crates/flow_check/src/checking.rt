@@ -37,12 +37,12 @@ fn answer(alloc: Global, jdf: &Jdf, given: &Given, globals: &Globals) -> Result<
     }
 }
 
-/// The type check: the plan of a JDF with its data, whose globals are given by name; or the first fault of the whole
-/// text, by spot and then by code.
+/// The type check: returns the plan of a JDF with its data, or the first fault of the whole text, by spot and then by
+/// code. `globals` are the JDF's globals by name, as `globals_of` returns them.
 pub fn check(alloc: Global, jdf: &Jdf, given: &Given, globals: &Globals) -> Result<Plan, JdfRefusal>
     requires limits { IsWithinLimits jdf.now }
     requires globals { AreGlobals (record { jdf = jdf.now; given = given.now }) globals.now }
-    // What is found breaks no rule, and each name has its meaning; the fault is the first one.
+    // The plan is returned if all names resolve and no rule is broken, else the first fault, unless memory runs out.
     ensures exact { FindsOrRefuses (IsPlan (record { jdf = jdf.now; given = given.now }))
         (IsFirstFault (record { jdf = jdf.now; given = given.now })) result }
     // The data fit the plan.

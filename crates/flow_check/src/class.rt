@@ -23,7 +23,7 @@ use ptg_base::{OutOfMemory, Seq, Text};
 use std::alloc::Global;
 use term_core::{Body, ClassSpace};
 
-// What reading a body gives: the body and its trap words, or its first fault.
+// The result of reading a body: the body and its trap words, or its first fault.
 type BodyResult = Result<(Body, Seq<Text>), JdfFault>;
 
 /// A class with all names resolved and its space, or its first fault.
@@ -40,7 +40,7 @@ fn body(alloc: Global, class: &ClassTree, scope: &Scope) -> Result<BodyResult, O
     }
 }
 
-// A class with all names resolved, and its space. All of its definitions are seen.
+// A class with all names resolved, and its space. All of its definitions are in scope.
 fn class(context: &Context, class: &ClassTree, body: BodyResult) -> ClassResult
     requires context { IsContext context.now }
     requires seen { context.now.seen.now ≡ class.now.defs }
@@ -68,7 +68,8 @@ fn class(context: &Context, class: &ClassTree, body: BodyResult) -> ClassResult
     }
 }
 
-/// A class with all names resolved, and its space: its body, and then all that is outside of it.
+/// Reads a class: its body first, then everything outside of it. Returns the class with all names resolved, and its
+/// space.
 pub(crate) fn class_read(context: &Context, one: &ClassTree) -> Result<ClassResult, OutOfMemory>
     requires context { IsContext context.now }
     requires bounded { IsClassWithinLimits one.now }

@@ -15,7 +15,7 @@ use name_table::{NameSet, NameTable};
 use ptg_base::{OutOfMemory, Text};
 use std::alloc::Global;
 
-// A JDF with its data, and the names of its globals by key.
+// A JDF with its data, and the set of the names of its globals.
 #[derive(Clone, Copy)]
 struct Declared<'a> {
     alloc: Global,
@@ -55,7 +55,7 @@ fn add_int(alloc: Global, table: &mut NameTable<i64>, int: &(Text, i64)) -> Resu
     Ok(())
 }
 
-// Those of some integers of the data that are declared as globals, by name.
+// The values, by name, of the integers among `ints` that are declared as globals.
 fn ints_among(declared: &Declared, ints: &[(Text, i64)]) -> Result<NameTable<i64>, OutOfMemory>
     requires { AreDeclared (job_with declared.now) declared.now.names.now }
     ensures { IfOk result (λ table.
@@ -71,7 +71,7 @@ fn ints_among(declared: &Declared, ints: &[(Text, i64)]) -> Result<NameTable<i64
     Ok(table)
 }
 
-// Adds the number of a name, unless the table has one.
+// Adds a name with its number, unless the table has that name.
 #[tactic(auto, using(crate::proofs::GlobalTables::added_value))]
 fn add_number(
     alloc: Global,
@@ -85,7 +85,7 @@ fn add_number(
     Ok(())
 }
 
-// The numbers of those of some collections of the data that are declared as globals, by name.
+// The numbers, by name, of the collections among `colls` that are declared as globals.
 fn numbers_among(declared: &Declared, colls: &[Coll]) -> Result<NameTable<u32>, OutOfMemory>
     requires declared { AreDeclared (job_with declared.now) declared.now.names.now }
     requires at_most { length colls.now ≤ most_elements }
@@ -122,8 +122,8 @@ fn globals_among(
     })
 }
 
-/// The globals of a JDF by name: the value of each that is an integer of the data, and the number of each that is a
-/// collection.
+/// The globals of a JDF by name: the value of each integer, and the number of each collection among the collections of
+/// the data. A global that the data lack is in neither table.
 pub fn globals_of(alloc: Global, jdf: &Jdf, given: &Given) -> Result<Globals, OutOfMemory>
     ensures { IfOk result (λ globals. AreGlobals (record { jdf = jdf.now; given = given.now }) globals) }
 {

@@ -23,7 +23,7 @@ pub(crate) struct ClassHead {
     pub(crate) priority: Option<Expr>,
 }
 
-// The flows of a class, of which no two have one name.
+// The flows of a class; no two may have the same name.
 fn flows(context: &Context, flows: &[FlowTree]) -> Result<Seq<FlowPlan>, JdfRefusal>
     requires { IsContext context.now }
     ensures { ReturnsChecked result (flows_of (job_of context.now) context.now.seen.now flows.now)
@@ -36,7 +36,7 @@ fn flows(context: &Context, flows: &[FlowTree]) -> Result<Seq<FlowPlan>, JdfRefu
     and_rules(parts, repeats(context.alloc, JdfCode::NameTwice, flows))
 }
 
-/// The parts of a class outside of its body, with their names resolved. All definitions of the class are seen.
+/// The parts of a class outside of its body, with their names resolved. All definitions of the class are in scope.
 pub(crate) fn head(context: &Context, class: &ClassTree) -> Result<ClassHead, JdfRefusal>
     requires context { IsContext context.now }
     requires seen { context.now.seen.now ≡ class.now.defs }

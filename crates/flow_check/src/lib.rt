@@ -1,5 +1,5 @@
-//! The type check of a JDF: its globals by name, whether one is missing from data, and the plan of a text with all
-//! names resolved, or the first fault of the whole text.
+//! The type check: the plan of a JDF with its data, or the first fault of the whole text. Also the globals of a JDF by
+//! name, and whether the data lack one.
 #![tactic(auto)]
 
 mod checking;

@@ -27,7 +27,8 @@ fn any_is_missing(globals: &Globals, words: &[Word]) -> bool
     words.iter().any(|global| is_missing_here(globals, global))
 }
 
-/// Whether some global of a JDF is neither an integer nor a collection of the data, by the tables of its globals.
+/// Whether some global of a JDF is neither an integer nor a collection of the data. It is looked up in the tables of
+/// the globals, not in the data.
 pub fn missing(jdf: &Jdf, globals: &Globals) -> bool
     ensures { (given : Data) → AreGlobals (record { jdf = jdf.now; given = given }) globals.now
         → result ≡ is_missing jdf.now given }

@@ -1,4 +1,4 @@
-//! A plan, by its classes and by what the data are.
+//! Makes a plan from its classes and the shapes of the data.
 
 ghost use Rattle.std.specs.Prelude.{◌≡◌, ◌∷◌, ℕ, List, map, IfOk};
 ghost use Rattle.coll_data.specs.WellMade.{elements_by_type};
@@ -28,7 +28,7 @@ fn shapes(alloc: Global, colls: &[Coll]) -> Result<Seq<Shape>, OutOfMemory>
     Ok(shapes)
 }
 
-// How many elements each type has: DEFAULT, and these.
+// The element counts of the types: `default` for DEFAULT, then those of `types`.
 fn element_counts(
     alloc: Global,
     default: u32,
@@ -44,7 +44,7 @@ fn element_counts(
     Ok(counts)
 }
 
-// How many elements each type of the data has, by its number.
+// The element count of each type of the data, by the number of the type.
 fn elements(alloc: Global, given: &Given) -> Result<Seq<u32>, OutOfMemory>
     ensures { IfOk result (λ counts. counts ≡ elements_by_type given.now) }
 {

@@ -12,7 +12,7 @@ use jdf_tree::{ClassTree, DefTree, FlowTree};
 use ptg_base::{OutOfMemory, Seq, Text};
 use std::alloc::Global;
 
-// The definitions of a class by name.
+// The names of the definitions of a class.
 fn local_names(alloc: Global, defs: &[DefTree]) -> Result<Seq<Text>, OutOfMemory>
     ensures { IfOk result (λ names. names ≡ local_names defs.now) }
 {
@@ -23,7 +23,7 @@ fn local_names(alloc: Global, defs: &[DefTree]) -> Result<Seq<Text>, OutOfMemory
     Ok(names)
 }
 
-// The flows of a class by name and kind.
+// The names and kinds of the flows of a class.
 fn flow_names(alloc: Global, flows: &[FlowTree]) -> Result<Seq<FlowName>, OutOfMemory>
     ensures { IfOk result (λ names. names ≡ flow_names flows.now) }
 {

@@ -1,4 +1,4 @@
-//! All names of a JDF with its data.
+//! Resolves all names of a JDF with its data.
 
 ghost use Rattle.std.specs.Prelude.{[], ◌∷◌, ◌++◌, List, Option, Some, IfOk};
 ghost use Rattle.std.specs.List.{AllByRecursion};
@@ -26,7 +26,7 @@ use term_core::ClassSpace;
 /// Some classes and their spaces, in order, or their first fault.
 pub(crate) type ClassesResult = Result<(Seq<ClassPlan>, Seq<ClassSpace>), JdfRefusal>;
 
-// The results for some classes, and for one more.
+// The results for some classes, with that of one more class added.
 fn with_class(classes: ClassesResult, class: ClassResult) -> ClassesResult
     ensures { (p : Option (List ClassPlan × List ClassSpace)) (q : Option (ClassPlan × ClassSpace))
         (fs gs : List JdfFault)
@@ -64,7 +64,7 @@ fn read_classes(context: &Context, classes: &[ClassTree]) -> Result<ClassesResul
     Ok(results)
 }
 
-// No two globals have one name, and no two classes.
+// Checks that no two globals have the same name, and no two classes.
 fn names(alloc: Global, globals: &[Word], classes: &[ClassTree]) -> Result<(), JdfRefusal>
     ensures { ReturnsChecked result (Some tt)
         (repeats (λ (w : Word). w) NameTwice globals.now ++ repeats (λ (c : ClassTree). c.name) NameTwice classes.now) }

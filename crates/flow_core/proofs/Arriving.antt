@@ -30,19 +30,19 @@ weigh-none : {A : Type 0} (xs : List A) → weigh (λ _. 0) xs ≡ 0
 weigh-none [] = refl
 weigh-none (x ∷ xs) = omega (arith, weigh-none xs)
 
--- a table of numbers has one sum, by rows and by columns
+-- a table of numbers has the same sum by rows and by columns
 weigh-swap : {A B : Type 0} (f : A → B → ℕ) (xs : List A) (ys : List B) → weigh (λ x. weigh (f x) ys) xs ≡ weigh (λ y. weigh (λ x. f x y) xs) ys
 weigh-swap f [] ys = sym (weigh-none ys)
 weigh-swap f (x ∷ xs) ys = ap (λ n. weigh (f x) ys + n) (weigh-swap f xs ys) ∙ sym (weigh-plus (f x) (λ y. weigh (λ z. f z y) xs) ys)
 
--- a test of a number that is 0 or 1 is that number
+-- a number that is 0 or 1 is the truth value of the test whether it is over 0
 test_of : (n : ℕ) → n ≤ 1 → as_number (nat_lt 0 n) ≡ n
 test_of zero h = refl
 test_of (suc zero) h = refl
 test_of (suc (suc n)) h = absurd (omega arith)
 
 module _ (P : Plan) (G : Data) (con : IsConsistent P) (S : MachineState) (sound : IsSoundState P G S) (t : Task) (job : IsTask P t) where
-  -- how often the item that was sent is an edge into the task
+  -- the edges into the task that are the sent item: one if it is an edge into the task, else none
   here : (i : Item) → ((e : Edge) → i ≡ item.Edge e → IsIn e (in_edges P e.to)) → count (λ e. same_item (item.Edge e) i) (in_edges P t) ≡ as_number (is_edge_to t i)
   here (item.Edge d) into =
       by_test (same_task t d.to)

@@ -1,4 +1,4 @@
--- When a run that fits its job may go on, and that it then fits still.
+-- When a run that fits its job may go on, and that it still fits afterwards.
 use Rattle.std.proofs.Common.{◌≡◌, ℕ, ◌+◌, ◌<◌, ◌≤◌, Bool, true, false, cond, is_some, List, [], ◌∷◌, ◌++◌, refl, ap, sym, ◌∙◌, subst, Option, Some, None, Ok, Err, IsTrue, ◌↔◌, nat_eq, eq-eqb, ltb-true, lt-ltb, inl, inr, arith}
 use Rattle.std.proofs.lemmas.Bool.{eqb-true, false≢true}
 use Rattle.std.specs.Prelude.{unwrap_or}
@@ -100,7 +100,7 @@ module _ (P : Plan) (G : Data) (con : IsConsistent P) (r : RunState) (fits : Fit
     λ may. (may.task, (key_count t r.claims).1 may.unclaimed, sym (arrived_are P G con (machine r) fits.sound t may.task) ∙ may.all_arrived),
   )
 
-  -- the same, where the edges that were sent to it are counted
+  -- the same, by the count of the edges that were sent to it
   pub counted : (t : Task) → IsTask P t → mark_of r t ≡ None → (sent all : ℕ) → sent ≡ edge_count_to t r.sends → all ≡ goal P t → IsTrue (nat_eq sent all) ↔ MayClaim P (machine r) t
   counted t job none sent all sent_is all_is = (
     λ k. (claimable t).0 (job, none, sym sent_is ∙ eqb-true sent all k ∙ all_is),
@@ -201,7 +201,7 @@ module _ (P : Plan) (G : Data) (con : IsConsistent P) (r : RunState) (fits : Fit
         | inr all ↦ let was = ltb-true 0 (send_count (machine r) i) (all i output.is_item) in absurd (omega (arith, was, unsent))
       ]
 
-  -- the tiles of a task may go once each item of it was sent
+  -- the tiles of a task may be dropped once each of its items was sent
   pub let_go_fits : (t : Task) (new : RunState) → HasLetGo t r new → HasSentAll P r t → Fits P G new
   let_go_fits t new gone all = record {
     sound = subst (IsSoundState P G) (sym same) fits.sound;
@@ -221,7 +221,7 @@ module _ (P : Plan) (G : Data) (con : IsConsistent P) (r : RunState) (fits : Fit
       sent_as : (i : Item) → is_sent (machine r) i ≡ true → is_sent (machine new) i ≡ true
       sent_as i h = ap (λ (S : MachineState). is_sent S i) same ∙ h
 
-  -- the task of an item that may be sent
+  -- the sender of an output is a task of the job
   pub sender_task : (i : Item) → has_outputs (end_of r (sender i)) ≡ true → IsTask P (sender i)
   sender_task i h =
       let e = with_outputs (end_of r (sender i)) h in
@@ -245,7 +245,7 @@ module _ (P : Plan) (G : Data) (con : IsConsistent P) (r : RunState) (fits : Fit
       by None h = refl
       by (Some x) h = let full = (fits.sound.claimed_have_all e.to (found_key e.to r.claims x h)).all_arrived in absurd (omega (arith, full, not_full.2))
 
-  -- and fewer edges have come to it than a job may have
+  -- and fewer edges were sent to it than a job may have
   pub target_count : edge_count_to e.to r.sends < 4000000
   target_count =
       let part = length-part (in_edges P) (all_tasks P) e.to ((listed P e.to).0 not_full.0) in
@@ -275,7 +275,7 @@ unclaimed_unread r (item.Edge e) h = by (mark_of r e.to) h
     by (Some x) k = absurd (false≢true (sym k))
 unclaimed_unread r (item.Write w) h = refl
 
--- whether an item is one of its task, by whether it is among the edges or the write-backs
+-- whether an item is one of its task, by whether it is one of the task's edges or write-backs
 pub edge_by : (P : Plan) (i : Item) (e : Edge) (b : Bool) → i ≡ item.Edge e → IsTrue b ↔ IsIn e (out_edges P e.from) → IsTrue b ↔ IsIn i (items P (sender i))
 edge_by P i e b is h =
     subst (λ j. IsTrue b ↔ IsIn j (items P (sender j))) (sym is) (λ k. edge_item (items P e.from) e (h.0 k), λ k. h.1 (item_edge (items P e.from) e k))
@@ -291,7 +291,7 @@ pub counts_push : (old new : List (Task × ℕ)) (claims : List (Task × Option 
 counts_push old new claims sends x counts more u none =
     omega (arith, more u, counts u none, weigh-push (λ (y : SentItem). as_number (is_edge_to u y.item)) sends x)
 
--- the counts of a table after a claim, where the other tasks keep their numbers
+-- the counts of a table after a claim, if the other tasks keep their numbers
 pub counts_claim : (old new : List (Task × ℕ)) (claims : List (Task × Option Ended)) (sends : List SentItem) (t : Task) → CountsArrivals old claims sends
     → ((u : Task) → same_task u t ≡ false → lookup (same_task u) new ≡ lookup (same_task u) old) → CountsArrivals new (claims ++ (t, None) ∷ []) sends
 counts_claim old new claims sends t counts others u none =

@@ -1,4 +1,4 @@
--- What follows of the tiles that a run keeps.
+-- Which tiles a run keeps, and what follows.
 use Rattle.std.proofs.Common.{◌≡◌, ℤ, Bool, true, false, not, cond, is_some, List, [], ◌∷◌, ◌++◌, refl, ap, sym, ◌∙◌, subst, Option, Some, None, IsTrue, ◌↔◌, arith}
 use Rattle.std.proofs.lemmas.Bool.{false≢true}
 use Rattle.std.specs.Prelude.{unwrap_or}
@@ -25,7 +25,7 @@ use Rattle.flow_core.specs.Rows.{write_with, writes_among}
 use Rattle.flow_core.specs.SentItems.{IsUnsent, all_sent}
 use Rattle.flow_core.proofs.Lookups.{end_push, same}
 
--- an item was not sent where it is not found
+-- an item is not found if and only if it was not sent
 pub unsent_as : (i : Item) (xs : List SentItem) → (sent_as i xs ≡ None) ↔ IsUnsent xs i
 unsent_as i [] = (λ _. refl, λ _. refl)
 unsent_as i (x ∷ xs) =
@@ -117,7 +117,7 @@ kept_as claims s h (item.Write w) unread = ap (sent_as (item.Write w)) h.writes 
 pub kept_tile : (claims : List (Task × Option Ended)) (s : SentAndKept) → AreKept claims s → (e : Edge) → is_read claims (item.Edge e) ≡ false → first_tile (item.Edge e) s.edges ≡ first_tile (item.Edge e) s.sends
 kept_tile claims s h e unread = sym (tile_as (item.Edge e) s.edges) ∙ ap option_flatten (h.edges e unread) ∙ tile_as (item.Edge e) s.sends
 
--- an item is unsent exactly if it is not kept, unless it was read
+-- unless it was read, an item is unsent if and only if it is not kept
 pub unkept : (claims : List (Task × Option Ended)) (s : SentAndKept) → AreKept claims s → (i : Item) → is_read claims i ≡ false → (b : Bool) → b ≡ is_some (sent_as i (kept_with i s)) → IsTrue (not b) ↔ IsUnsent s.sends i
 unkept claims s h i unread b is = by (sent_as i s.sends) refl
   where

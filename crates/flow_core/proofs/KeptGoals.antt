@@ -1,4 +1,4 @@
--- Goals that are kept, as one is added and one goes.
+-- The goals that are kept, after one is added and after one is removed.
 use Rattle.std.proofs.Common.{◌≡◌, ℕ, cond, List, ap, sym, ◌∙◌, Some}
 use Rattle.std.specs.Map.{lookup}
 use Rattle.ptg_base.specs.Task.{Task}

@@ -19,7 +19,7 @@ use Rattle.flow_meaning.proofs.Comparing.{same_item-decides}
 use Rattle.flow_core.specs.SentItems.{all_sent}
 use Rattle.flow_meaning.specs.Numbers.{number_for}
 
--- tests that hold of the same are the same
+-- tests that decide the same are equal
 same_tests : {P : Type 0} (a b : Bool) → IsTrue a ↔ P → IsTrue b ↔ P → a ≡ b
 same_tests true true f g = refl
 same_tests true false f g = sym (g.1 (f.0 refl))
@@ -38,7 +38,7 @@ module _ (eq : Item → Item → Bool) (decides : (a b : Item) → IsTrue (eq a 
   add_by es fs i tile none e = ap all_sent (e ∙ insert_entry-absent eq i tile es (absent_from_lookup (eq i) es none)) ∙ sent_push es i tile
 
 module _ {X : Type 0} where
-  -- a task is among the keys, or a look-up finds none
+  -- a look-up finds nothing if and only if the task is not among the keys
   pub key_count : (t : Task) (es : List (Task × X)) → (lookup (same_task t) es ≡ None) ↔ (count (same_task t) (keys_of es) ≡ 0)
   key_count t [] = (λ _. refl, λ _. refl)
   key_count t (e ∷ es) =
@@ -70,7 +70,7 @@ module _ {X : Type 0} where
         | inr later ↦ let p = key_found t es later in (p.0, ap (λ b. cond b (Some e.1) (lookup (same_task t) es)) k ∙ p.1)
       ])
 
-  -- where a look-up finds nothing in the longer list, it found nothing before
+  -- if a look-up finds nothing in the longer list, it found nothing before
   pub none_before : (test : Task → Bool) (es : List (Task × X)) (t : Task) (x : X) → lookup test (es ++ (t, x) ∷ []) ≡ None → (lookup test es ≡ None) × (test t ≡ false)
   none_before test [] t x none = (refl, by_test (test t) (λ k. let no : Some x ≡ None = sym (ap (λ b. cond b (Some x) None) k) ∙ none in cc) (λ k. k))
   none_before test (e ∷ es) t x none =
@@ -145,7 +145,7 @@ added old new t key u n same is up =
     let value : number_for new u ≡ number_for old u = ap (λ o. unwrap_or o 0) (up ∙ ap (λ b. cond b (Some (n + 1)) (lookup (same_task u) old)) miss) in
     omega (arith, value, ap as_number q))
 
--- a write-back at the head of a list, and one behind it
+-- a write-back at the head of a list, and one after it
 pub listed_first : {A : Type 0} (w other : A) (left rest : List A) → left ≡ other ∷ rest → other ≡ w → IsTrue true ↔ IsIn w left
 listed_first w other left rest e same = (λ _. subst (IsIn w) (sym e) (inl (sym same)), λ _. refl)
 

@@ -125,7 +125,7 @@ pub same_running : (r : RunState) (i : Item) (b : Bool) → running_tasks (cond 
 same_running r i true = refl
 same_running r i false = refl
 
--- after a call of `send` for an item, which gave this answer
+-- after a call of `send` for an item, which returned this
 module _ (P : Plan) (G : Data) (con : IsConsistent P) (r : RunState) (fits : Fits P G r) (i : Item) where
   -- an item that is owed was sent, now or before
   pub owed_sent : (b : Bool) → IsTrue b ↔ MaySendNow P G r i → (js : List Item) → OwesOnly P (i ∷ js) r → OwesOnly P js (cond b (with_send i r) r)
@@ -236,7 +236,7 @@ pub has_ended : (P : Plan) (G : Data) (r new : RunState) (fits : Fits P G r) (t 
 has_ended P G r new fits t running last none_ready nothing_owed trap f =
     subst (λ s. HasEnded P G t running r s trap) (sym f.marked) (ended_so P G r fits t running last none_ready nothing_owed f.end trap f.trapped)
 
--- where nothing is running and nothing is left to do, no event is possible
+-- if nothing is running and nothing is left to do, no event is possible
 pub at_rest : (P : Plan) (G : Data) → IsConsistent P → (r : RunState) → IsBetweenTasks P G r [] → IsQuiescent P G (machine r)
 at_rest P G con r b = (rests P G con (machine r) b.fits.sound).1 (record { none_ready = b.none_ready; all_finished = λ t i. let k = key_found t r.claims i in finished t k.0 k.1 })
   where
@@ -245,7 +245,7 @@ at_rest P G con r b = (rests P G con (machine r) b.fits.sound).1 (record { none_
     finished t (Some (Err cause)) h = inl (ap has_outputs (b.fits.ends t (Err cause) (ap (λ m. unwrap_or m None) h)))
     finished t (Some (Ok tiles)) h = inr (λ i mine. elim (b.nothing_owed t tiles (ap (λ m. unwrap_or m None) h) i mine) [ inl s ↦ s | inr x ↦ absurd x ])
 
--- a run in which all tasks that need no edge were claimed
+-- a run in which all tasks without an edge into them were claimed
 pub all_opened : (P : Plan) (G : Data) (r : RunState) (running : List Task) → Fits P G opening_run → HasDone P (all_tasks P) [] opening_run r → running ≡ running_tasks r → IsBetweenTasks P G r running
 all_opened P G r running fits d is = record {
   fits = d.fits G fits;
@@ -288,7 +288,7 @@ all_done P ts is a b w =
     let sent : w.sent ≡ is = sym (append-nil w.sent) ∙ sym w.split_items in
     subst (λ l. HasDone P l is a b) tasks (subst (λ l. HasDone P w.tasks l a b) sent w.done)
 
--- where what is left is done at once, all is done
+-- if what is left is done at once, all is done
 pub rest_done : (P : Plan) (ts left : List Task) (a b : RunState) → IsSoFar P ts left [] [] a b → HasDone P left [] b b → HasDone P ts [] a b
 rest_done P ts left a b w d =
     let none : w.sent ≡ [] = sym (append-nil w.sent) ∙ sym w.split_items in
@@ -298,7 +298,7 @@ rest_done P ts left a b w d =
 pub last_task : (P : Plan) (G : Data) (r : RunState) (fits : Fits P G r) (t : Task) (running : List Task) → running ++ t ∷ [] ≡ running_tasks r → IsTask P t
 last_task P G r fits t running last = (fits.sound.claimed_have_all t (found_key t r.claims None (last_runs P G r fits t running last))).task
 
--- the tiles that a task left go once nothing is owed
+-- the tiles that a task left are dropped once nothing is owed
 pub let_go_between : (P : Plan) (G : Data) → IsConsistent P → (t : Task) (last new : RunState) (tasks : List Task) → IsBetweenTasks P G last tasks → has_outputs (end_of last t) ≡ true → HasLetGo t last new → IsBetweenTasks P G new tasks
 let_go_between P G con t last new tasks b outputs gone = record {
   fits = let_go_fits P G con last b.fits t new gone (λ i mine. elim (b.nothing_owed t o.0 o.1 i mine) [ inl s ↦ s | inr x ↦ absurd x ]);
@@ -331,7 +331,7 @@ between_sent P G t running old new trap e fits last now d is = record {
   nothing_owed = d.sent [] (λ u tiles end i mine. elim (e.owes u tiles end i mine) [ inl s ↦ inl s | inr k ↦ inr (IsIn-append_left i (items P t) [] k) ]);
 }
 
--- no task is running where there are none
+-- if the list of running tasks is empty, no task is running
 pub idle : (r : RunState) → [] ≡ running_tasks r → (t : Task) → IsRunning r t → ⊥
 idle r none t h = subst (IsIn t) (sym none) (marked_running r.claims t h)
 

@@ -1,4 +1,4 @@
--- An opening is complete once as many tasks were claimed as no edge goes into.
+-- An opening is complete once as many tasks were claimed as have no edge into them.
 use Rattle.std.proofs.Common.{◌≡◌, ◌≤◌, ◌==◌, Bool, false, List, [], ◌∷◌, length, refl, ap, sym, ◌∙◌, subst, inl, inr, eq-eqb, arith}
 use Rattle.std.specs.Map.{keys_of}
 use Rattle.ptg_base.specs.Lists.{IsIn}
@@ -39,7 +39,7 @@ module _ (P : Plan) (r : RunState) (o : IsOpening r) where
   root : (t : Task) → IsTask P t → arrived P (machine r) t ≡ goal P t → IsIn t (roots P)
   root t job all = (IsIn-filter (λ (u : Task). goal P u == 0) (all_tasks P) t).1 ((listed P t).0 job, eq-eqb (goal P t) 0 (sym all ∙ none_come t))
 
-  -- where as many tasks were claimed as no edge goes into, no other task may be claimed
+  -- if as many tasks were claimed as have no edge into them, no other task may be claimed
   pub opened_all : (G : Data) → Fits P G r → (running : List Task) → running ≡ running_tasks r → length running ≡ length (roots P) → MayClaimOnly P [] r
   opened_all G fits running are full t may =
       let more : Once (t ∷ keys_of r.claims) = λ u.
@@ -53,6 +53,6 @@ module _ (P : Plan) (r : RunState) (o : IsOpening r) where
       ]) in
       absurd (omega (arith, room, ap length are, ap length o.running, full))
 
--- where no task may be claimed, the rest of an opening is done
+-- if no task may be claimed, the rest of an opening is done
 pub nothing_more : (P : Plan) (ts : List Task) (r : RunState) → MayClaimOnly P [] r → HasDone P ts [] r r
 nothing_more P ts r none = record { claimed = λ us h t may. absurd (none t may); sent = λ js h. h; ended = refl; ends = λ t. refl; fits = λ G h. h }

@@ -1,4 +1,4 @@
--- Searches for what may happen next, and what follows where nothing is found.
+-- Searches for what may happen next, and what follows if nothing is found.
 use Rattle.std.proofs.Common.{◌≡◌, ◌≤◌, Bool, true, false, not, cond, List, [], ◌∷◌, refl, ap, sym, ◌∙◌, subst, Option, Some, None, Ok, Err, IsTrue, ◌↔◌, inl, inr, arith}
 use Rattle.std.proofs.lemmas.Bool.{false≢true}
 use Rattle.std.specs.Prelude.{unwrap_or}
@@ -33,7 +33,7 @@ use Rattle.flow_core.specs.Quiet.{HasOne, Owes}
 use Rattle.flow_core.proofs.Lookups.{key_found}
 use Rattle.flow_core.proofs.Fitting.{sendable}
 
--- how far a search has come: what is left is part of all, and if one of all is so, one of what is left is
+-- how far a search has come: what is left is part of all, and if a member of all passes, a member of what is left does
 pub record IsSearched {A : Type 0} (Q : A → Type 0) (all left : List A) : Type 0 where
   pub among : (x : A) → IsIn x left → IsIn x all
   pub later : HasOne Q all → HasOne Q left
@@ -54,7 +54,7 @@ module _ {A : Type 0} (Q : A → Type 0) where
   pub search_ends : (all : List A) → IsSearched Q all [] → IsTrue false ↔ HasOne Q all
   search_ends all s = (λ h. absurd (false≢true h), λ h. absurd ((s.later h).1))
 
--- an item of a task is unsent exactly if an edge or a write-back is
+-- an item of a task is unsent if and only if an edge or a write-back of it is
 module _ (P : Plan) (sends : List SentItem) (t : Task) (end : Option Ended) where
   pub edge_owed : has_outputs end ≡ true → HasOne (λ (e : Edge). IsUnsent sends (item.Edge e)) (out_edges P t) → IsTrue true ↔ Owes P sends (t, end)
   edge_owed h one = (λ k. (h, (item.Edge one.0, edge_item (items P t) one.0 one.1, one.2)), λ o. refl)
@@ -103,11 +103,11 @@ entry_found (d ∷ cs) c once i = elim i [
 ]
 
 module _ (P : Plan) (G : Data) (con : IsConsistent P) (r : RunState) (fits : Fits P G r) (idle : (t : Task) → IsRunning r t → ⊥) where
-  -- where a task may be claimed, a claim is possible
+  -- if a task may be claimed, a claim is possible
   pub not_quiet_ready : HasOne (MayClaim P (machine r)) (all_tasks P) → IsTrue false ↔ IsQuiescent P G (machine r)
   not_quiet_ready one = (λ h. absurd (false≢true h), λ quiet. absurd (quiet (Claim one.0) one.2))
 
-  -- where an item is owed, a send is possible
+  -- if an item is owed, a send is possible
   owed_possible : HasOne (Owes P r.sends) r.claims → IsQuiescent P G (machine r) → ⊥
   owed_possible one quiet =
       let c = one.0 in
@@ -118,7 +118,7 @@ module _ (P : Plan) (G : Data) (con : IsConsistent P) (r : RunState) (fits : Fit
       let outputs : has_outputs (end_of r (sender one.2.1.0)) ≡ true = ap (λ u. has_outputs (end_of r u)) from ∙ ap has_outputs end ∙ one.2.0 in
       quiet (Send one.2.1.0) ((sendable P G con r fits one.2.1.0).0 (outputs, one.2.1.2, subst (λ u. IsIn one.2.1.0 (items P u)) (sym from) mine)).may
 
-  -- where neither is so, nothing is possible
+  -- if neither is so, nothing is possible
   all_quiet : (HasOne (MayClaim P (machine r)) (all_tasks P) → ⊥) → (HasOne (Owes P r.sends) r.claims → ⊥) → IsQuiescent P G (machine r)
   all_quiet none_ready none_owed =
       (rests P G con (machine r) fits.sound).1 (record {

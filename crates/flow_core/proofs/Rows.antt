@@ -49,7 +49,7 @@ pub one_wait : (P : Plan) (S : MachineState) (t : Task) (rows : List WaitRow) �
 one_wait P S t rows k = ap (λ l. rows ++ l) (sym (ap (λ b. map (wait_row P S) (cond b (t ∷ []) [])) k))
 
 module _ (P : Plan) (G : Data) (con : IsConsistent P) (r : RunState) (fits : Fits P G r) (t : Task) where
-  -- a claimed task waits no more
+  -- a claimed task does not wait
   pub claimed_waits : is_some (mark_of r t) ≡ true → is_waiting P (machine r) t ≡ false
   claimed_waits h =
       by_test (claim_count (machine r) t == 0)
@@ -76,7 +76,7 @@ module _ (P : Plan) (G : Data) (con : IsConsistent P) (r : RunState) (fits : Fit
     pub row_is : record { task = t; arrived = sent; goal = all } ≡ wait_row P (machine r) t
     row_is = λ i. record { task = t; arrived = sym come i; goal = all_is i }
 
--- of keys that are there once, a look-up finds the entry
+-- a look-up finds an entry whose key occurs at most once
 once_found : {X : Type 0} (t : Task) (x : X) (es : List (Task × X)) → IsIn (t, x) es → count (same_task t) (keys_of es) ≤ 1 → lookup (same_task t) es ≡ Some x
 once_found t x [] i h = absurd i
 once_found t x (e ∷ es) i h = elim i [
@@ -103,7 +103,7 @@ module _ (P : Plan) (G : Data) (con : IsConsistent P) (r : RunState) (fits : Fit
       ended_so : mark_of r t ≡ Some (Some end) → end_of r t ≡ Some end
       ended_so k = ap (λ m. unwrap_or m None) k
 
-  -- where no task runs, the trapped tasks are those of the machine
+  -- if no task is running, the trapped tasks are those of the machine
   pub traps_are : (rows : List TrapRow) → rows ≡ in_task_order (λ (r : TrapRow). r.task) (claim_traps r.claims) → rows ≡ state_traps P G (machine r)
   unfolding state_traps
   traps_are rows e =
@@ -119,12 +119,12 @@ answer_trapped P G S rows are some = by rows some ∙ ap (state_answer_by P G S)
     by [] some = absurd (some refl)
     by (row ∷ rows) some = refl
 
--- the answer where no task has trapped
+-- the answer if no task has trapped
 pub answer_untrapped : (P : Plan) (G : Data) (S : MachineState) (rows : List TrapRow) → rows ≡ state_traps P G S → rows ≡ [] → state_answer_by P G S [] ≡ state_answer P G S
 unfolding state_answer
 answer_untrapped P G S rows are none = ap (state_answer_by P G S) (sym none ∙ are)
 
--- the rows of different tasks are of different tasks
+-- a task has at most as many rows as claims
 count-traps : (t : Task) (claims : List (Task × Option Ended)) → count (λ (r : TrapRow). same_task t r.task) (claim_traps claims) ≤ count (same_task t) (keys_of claims)
 count-traps t [] = omega arith
 count-traps t (c ∷ claims) =

@@ -16,7 +16,7 @@ use Rattle.flow_core.specs.OneThread.{ended_among, running_among}
 abbrev Claims : Type 0
 Claims = List (Task × Option Ended)
 
--- a task occurs once at most
+-- each task occurs at most once
 abbrev pub Once : List Task → Type 0
 Once ts = (t : Task) → count (same_task t) ts ≤ 1
 

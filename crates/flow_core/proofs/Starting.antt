@@ -31,7 +31,7 @@ datatypes_known P t job =
     (list_all-weaker (is_flow P.classes P.spaces P.colls (length P.elems) locals) (has_datatype P)
     (λ f k. lt-ltb f.datatype (length P.elems) (known_type (length P.elems) f.kind f.datatype P.well_made.has_default (and_parts _ _ (and_parts _ _ (and_parts _ _ k).0).0).0)) h.class.flows w.flows)
 
--- how a task ends whose body was run on the tiles that were sent to it
+-- how a task ends, if its body was run on the tiles that were sent to it
 pub ran : (P Q : Plan) (G : Data) (r : RunState) (d : Delivery) (t : Task) (tiles : List (Option (List ℤ))) (end : Ended) → Q ≡ P → ((e : Edge) → e.to ≡ t → d e ≡ sent_tile r.sends e)
     → tiles ≡ starting_tiles Q G d t → option_map (λ (c : ClassPlan). body_meaning c.body (locals_of Q t) tiles) (slice_get Q.classes t.class) ≡ Some end
     → end_in P G (machine r) t ≡ Some end

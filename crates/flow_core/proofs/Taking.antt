@@ -1,4 +1,4 @@
--- The tiles that come by edges, put to those that a task starts on.
+-- The tiles that come by edges, put among those that a task starts on.
 use Rattle.std.proofs.Common.{◌≡◌, ℕ, zero, suc, ◌+◌, ◌≤◌, ℤ, Bool, true, false, cond, List, [], ◌∷◌, ◌++◌, length, refl, ap, sym, ◌∙◌, append_assoc, add-one, Option, Some, None, slice_get, slice_set, arith}
 use Rattle.std.specs.Prelude.{option_map}
 use Rattle.std.specs.Option.{option_map_or}
@@ -82,7 +82,7 @@ module _ (P : Plan) (G : Data) where
       ∙ sym (ap (λ b. cond b (tile_from P G g f (data_source P t n)) None) k))
       (λ k. ap (λ b. cond b (tile_from P G d f (data_source P t n)) None) k ∙ sym (ap (λ b. cond b (tile_from P G g f (data_source P t n)) None) k))
 
-  -- flows from m on start on the same where the edges to them deliver the same
+  -- flows from m on start on the same if the edges to them deliver the same
   module _ (d g : Delivery) (t : Task) (m : ℕ) (same : (e : Edge) → e.to ≡ t → m ≤ e.in_flow → d e ≡ g e) where
     tile_same : (n : ℕ) (f : FlowPlan) → m ≤ n → starting_tile P G d t n f ≡ starting_tile P G g t n f
     tile_same n f h = by (edge_into P t n f) refl
@@ -102,7 +102,7 @@ module _ (P : Plan) (G : Data) where
       e ∙ sym (append_assoc before (y ∷ []) (tiles_from P G nothing_delivered t (suc n) rest))
       ∙ (λ i. (before ++ is i ∷ []) ++ tiles_from P G nothing_delivered t (sym (add-one n) i) rest)
 
--- a write behind a list of this length
+-- a write right after a list of this length
 pub set_at : {A : Type 0} (before rest : List A) (x y : A) (n : ℕ) → length before ≡ n → slice_set (before ++ x ∷ rest) n y ≡ before ++ y ∷ rest
 set_at [] rest x y zero h = refl
 set_at [] rest x y (suc n) h = absurd (omega arith)
@@ -129,7 +129,7 @@ edge_of_its_source P t n f = by (is_data (Some f.kind))
     by true = refl
     by false = refl
 
--- an edge that is seen as an item
+-- an edge that is missing as an item is missing
 pub no_item : (o : Option Edge) → option_map (λ e. item.Edge e) o ≡ None → o ≡ None
 no_item None h = refl
 no_item (Some e) h = absurd cc

@@ -22,7 +22,7 @@ use Rattle.flow_core.specs.Fits.{Fits}
 use Rattle.flow_core.specs.Rows.{write_with, writes_among}
 
 module _ (P : Plan) (G : Data) (con : IsConsistent P) (r : RunState) (fits : Fits P G r) (known : DataFit P G) (well : IsWellMade G) where
-  -- what is said of the write-backs among some items
+  -- what holds of the write-backs among some items
   record HasWrites (sends : List SentItem) : Type 0 where
     writable : All (IsWritable G) (writes_among sends)
     are : with_tiles (writes_among sends) ≡ filter_map (λ (x : SentItem). written_by x.item x.tile) sends

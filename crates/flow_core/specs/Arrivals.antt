@@ -1,5 +1,5 @@
--- How many edges have come to each task, as a table that a run keeps. Source: DAGuE (Parallel Computing, 2012), where
--- an entry counts the dependences that have come.
+-- How many edges have arrived at each task, as a table that a run keeps. Source: DAGuE (Parallel Computing, 2012),
+-- where an entry counts the dependences that have come.
 use Rattle.std.specs.Prelude.{◌≡◌, ℕ, List, Bool, false, Option, None}
 use Rattle.std.specs.Map.{lookup}
 use Rattle.ptg_base.specs.Task.{Task}

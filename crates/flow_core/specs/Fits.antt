@@ -1,4 +1,7 @@
--- When a run is one of a job and its data, and what it may do next. Source: this project's own choice.
+-- When a run is one of a job and its data, and what it may do next.
+-- Carried by: `State::claim`, `State::finish`, `State::send`, `State::quiescent`, `State::answer`; laws
+-- `calls_are_events`, `items_of_ctl_flows_carry_no_tile`.
+-- Tested by: `jobs.txt`, `answers.txt`, `run_orders`.
 use Rattle.std.specs.Prelude.{◌≡◌, ◌⊎◌, IsTrue, Option, Some, Ok}
 use Rattle.std.specs.Result.{result_err}
 use Rattle.ptg_base.specs.Lists.{IsIn}
@@ -18,8 +21,8 @@ use Rattle.flow_core.specs.RunState.{RunState, IsRunning, KeepsTiles, Tiles, end
 abbrev pub HasSentAll : Plan → RunState → Task → Type 0
 HasSentAll P r t = (i : Item) → IsIn i (items P t) → IsTrue (is_sent (machine r) i)
 
--- the run fits the job and its data: its state is sound; each task that has ended has ended as the backward meaning
--- says; and one that has ended without a trap keeps its tiles, or all its items were sent
+-- the run fits the job and its data. Its state is sound. Each task that has ended has ended as the backward meaning
+-- says. One that has ended without a trap keeps its tiles, or all its items were sent
 pub record Fits (P : Plan) (G : Data) (r : RunState) : Type 0 where
   pub sound : IsSoundState P G (machine r)
   pub ends : (t : Task) (end : Ended) → end_of r t ≡ Some end → ended P G t ≡ Some end

@@ -1,4 +1,5 @@
--- The goals that one thread keeps of tasks that are not claimed yet. Source: this project's own choice.
+-- The goals that one thread keeps for tasks that are not claimed yet.
+-- Carried by: inside `run_one`.
 use Rattle.std.specs.Prelude.{◌≡◌, ℕ, List, Some}
 use Rattle.std.specs.Map.{lookup}
 use Rattle.ptg_base.specs.Task.{Task}

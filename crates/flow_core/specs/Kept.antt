@@ -1,5 +1,4 @@
--- Which tiles a run still keeps of those that were sent: that of an edge goes once its task has read it. Source: this
--- project's own choice.
+-- Which of the tiles that were sent a run still keeps: that of an edge is dropped once its target has read it.
 use Rattle.std.specs.Prelude.{◌≡◌, ℤ, Bool, true, false, List, [], ◌∷◌, ◌++◌, filter, Option, Some, None, is_some, unwrap_or, if◌then◌else◌}
 use Rattle.std.specs.Map.{lookup}
 use Rattle.ptg_base.specs.Task.{Task}
@@ -32,7 +31,7 @@ abbrev pub sent_as : Item → List SentItem → Option (Option (List ℤ))
 sent_as i [] = None
 sent_as i (x ∷ xs) = if same_item i x.item then Some x.tile else sent_as i xs
 
--- the items among which an item is kept
+-- the kept items of the kind of an item: write-backs or edges
 abbrev pub kept_with : Item → SentAndKept → List SentItem
 kept_with i s = if is_write i then s.writes else s.edges
 
@@ -44,7 +43,7 @@ with_sent s x = record {
   writes = if is_write x.item then s.writes ++ x ∷ [] else s.writes;
 }
 
--- whether an item is an edge whose task has ended
+-- whether an item is an edge whose target has ended
 abbrev pub is_read : List (Task × Option Ended) → Item → Bool
 is_read claims (item.Edge e) = is_some (unwrap_or (lookup (same_task e.to) claims) None)
 is_read claims (item.Write w) = false
@@ -55,6 +54,6 @@ pub record AreKept (claims : List (Task × Option Ended)) (s : SentAndKept) : Ty
       → sent_as (item.Edge e) s.edges ≡ sent_as (item.Edge e) s.sends
   pub writes : s.writes ≡ written s.sends
 
--- of edges to other tasks than this one, those that were kept are kept
+-- edges to other tasks than this one are kept as they were
 abbrev pub TakesOnlyTo : Task → List SentItem → List SentItem → Type 0
 TakesOnlyTo t old new = (e : Edge) → same_task t e.to ≡ false → sent_as (item.Edge e) new ≡ sent_as (item.Edge e) old

@@ -1,5 +1,6 @@
--- How one thread runs a job: it runs one task after another, and between two of them claims each task that may be
--- claimed and sends each item that may be sent. Source: this project's own choice.
+-- How one thread runs a job, one task after another; and a run that only opens. Between two tasks it claims each task
+-- that may be claimed, and sends each item that may be sent.
+-- Carried by: inside `run_one`.
 use Rattle.std.specs.Prelude.{◌≡◌, ◌⊎◌, ℕ, ℤ, List, [], ◌++◌, length, filter, is_none, is_some, IsTrue, Option, Some, Ok}
 use Rattle.std.specs.Map.{keys_of}
 use Rattle.ptg_base.specs.Lists.{IsIn}
@@ -39,8 +40,8 @@ OwesOnly P is r =
     (t : Task) (tiles : List (Option (List ℤ))) → end_of r t ≡ Some (Ok tiles)
     → (i : Item) → IsIn i (items P t) → IsTrue (is_sent (machine r) i) ⊎ IsIn i is
 
--- these tasks were claimed where they could be, and these items were sent; no task has ended meanwhile, and what has
--- ended is as it was
+-- those of these tasks that could be claimed were claimed, and these items were sent; no task has ended meanwhile, and
+-- all ends are as they were
 pub record HasDone (P : Plan) (ts : List Task) (is : List Item) (old new : RunState) : Type 0 where
   pub claimed : (us : List Task) → MayClaimOnly P (ts ++ us) old → MayClaimOnly P us new
   pub sent : (js : List Item) → OwesOnly P (is ++ js) old → OwesOnly P js new

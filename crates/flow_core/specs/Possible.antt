@@ -1,4 +1,4 @@
--- What the steps of a send find and need. Source: this project's own choice.
+-- What the steps of a send find and need.
 use Rattle.std.specs.Prelude.{◌≡◌, ◌≤◌, Bool, false, is_some, IsTrue, Some, None, Ok}
 use Rattle.ptg_base.specs.Limits.{most_edges}
 use Rattle.ptg_base.specs.Lists.{IsIn}
@@ -18,7 +18,7 @@ pub record KeepsTilesFor (r : RunState) (i : Item) : Type 0 where
   pub end : end_of r (sender i) ≡ Some (Ok tiles)
   pub kept : KeepsTiles r (sender i) tiles
 
--- the task that an item goes to, if it is an edge, is not claimed, and fewer edges have come to it than a job may have
+-- if an item is an edge, its target is not claimed, and no more edges were sent to it than a job may have
 abbrev pub GoesToWaiting : RunState → Item → Type 0
 GoesToWaiting r i = (u : Task) → IsTrue (is_edge_to u i) → (mark_of r u ≡ None) × (edge_count_to u r.sends ≤ most_edges)
 

@@ -1,4 +1,4 @@
--- What of a run may happen next: claims of tasks, and sends of items. Source: this project's own choice.
+-- What may happen next in a run: claims of tasks, and sends of items.
 use Rattle.std.specs.Prelude.{List, IsTrue, Option}
 use Rattle.ptg_base.specs.Lists.{IsIn}
 use Rattle.ptg_base.specs.Task.{Task}
@@ -8,7 +8,7 @@ use Rattle.flow_meaning.specs.Ending.{Ended, has_outputs}
 use Rattle.flow_meaning.specs.Machine.{SentItem}
 use Rattle.flow_core.specs.SentItems.{IsUnsent}
 
--- one of the list is so: std's `Any`, by membership in place of an index
+-- something holds of a member of the list: std's `Any`, by membership in place of an index
 abbrev pub HasOne : {A : Type 0} → (A → Type 0) → List A → Type 0
 HasOne {A} Q xs = (x : A) × IsIn x xs × Q x
 

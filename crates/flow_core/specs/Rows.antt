@@ -1,5 +1,4 @@
--- The parts of the answer as a run has them: its trapped tasks, its waiting tasks, and what was written back. Source:
--- this project's own choice.
+-- The parts of the answer as a run has them: its trapped tasks, its waiting tasks, and what was written back.
 use Rattle.std.specs.Prelude.{ℤ, List, map, filter, flat_map, filter_map, Option, None, option_map}
 use Rattle.ptg_base.specs.Task.{Task}
 use Rattle.ptg_base.specs.declared.edge.WriteBack.{WriteBack}
@@ -21,7 +20,7 @@ claim_traps claims = flat_map (λ ((t, ended) : Task × Option Ended). trap_rows
 abbrev pub waits_among : Plan → MachineState → List Task → List WaitRow
 waits_among P S ts = map (wait_row P S) (filter (is_waiting P S) ts)
 
--- the write-back that was sent, with its tile
+-- the write-back with its tile, if the item is one and has a tile
 abbrev pub write_with : Item → Option (List ℤ) → Option (WriteBack × List ℤ)
 write_with (item.Edge e) tile = None
 write_with (item.Write w) tile = option_map (λ (numbers : List ℤ). (w, numbers)) tile

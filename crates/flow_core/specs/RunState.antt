@@ -1,6 +1,10 @@
--- A run on one thread as contracts see it: the claimed tasks, each with how it ended once it has; the items that were
--- sent, each with its tile; and the tiles of ended tasks that are kept for sends. Source: DAGuE (Parallel Computing,
--- 2012): a task runs once all its dependences have come, and then satisfies those of its successors.
+-- A run on one thread as contracts see it. It has the claimed tasks, each with how it ended once it has, and the items
+-- that were sent, each with its tile. It also has the tiles of ended tasks that are kept for sends. Source: DAGuE
+-- (Parallel Computing, 2012): a task runs once all its dependences have come, and then satisfies those of its
+-- successors.
+-- Carried by: `State::claim`, `State::finish`, `State::send`, `State::quiescent`, `State::answer`; laws
+-- `calls_are_events`, `items_of_ctl_flows_carry_no_tile`.
+-- Tested by: `jobs.txt`, `answers.txt`, `run_orders`.
 use Rattle.std.specs.Prelude.{◌≡◌, ℤ, false, List, [], ◌∷◌, ◌++◌, Option, Some, None, Ok, Err, unwrap_or}
 use Rattle.std.specs.Map.{keys_of, lookup, set_value}
 use Rattle.indexmap.specs.IndexMap.{insert_entry}
@@ -20,7 +24,7 @@ pub record RunState : Type 0 where
   pub claims : List (Task × Option Ended)
   -- the items that were sent, in the order of the sends
   pub sends : List SentItem
-  -- the tasks that have ended without a trap and whose tiles were not let go, each with them
+  -- the tasks that have ended without a trap and whose tiles were not dropped, each with its tiles
   pub outputs : List (Task × Tiles)
 
 -- Nothing is claimed, and nothing is sent.
@@ -43,16 +47,16 @@ IsRunning r t = mark_of r t ≡ Some None
 abbrev pub end_of : RunState → Task → Option Ended
 end_of r t = unwrap_or (mark_of r t) None
 
--- the run after a task is claimed, which is running then
+-- the run after a task is claimed; the task is running then
 abbrev pub with_claim : Task → RunState → RunState
 with_claim t r = record { claims = r.claims ++ (t, None) ∷ []; sends = r.sends; outputs = r.outputs }
 
--- the tiles that are kept after a task has ended so
+-- the tiles that are kept after a task has ended in this way
 abbrev pub with_tiles : Task → Ended → List (Task × Tiles) → List (Task × Tiles)
 with_tiles t (Ok tiles) outputs = insert_entry same_task outputs t tiles
 with_tiles t (Err cause) outputs = outputs
 
--- the run after a task has ended so
+-- the run after a task has ended in this way
 abbrev pub with_end : Task → Ended → RunState → RunState
 with_end t end r =
     record {
@@ -73,7 +77,7 @@ with_send i r = record { claims = r.claims; sends = r.sends ++ send_of r i ∷ [
 abbrev pub KeepsTiles : RunState → Task → Tiles → Type 0
 KeepsTiles r t tiles = lookup (same_task t) r.outputs ≡ Some tiles
 
--- the run after the tiles that a task left are let go
+-- the run after the tiles that a task left are dropped
 pub record HasLetGo (t : Task) (old new : RunState) : Type 0 where
   pub claims : new.claims ≡ old.claims
   pub sends : new.sends ≡ old.sends

@@ -1,4 +1,4 @@
--- The items that were sent, as a run keeps them: by item, each with its tile. Source: this project's own choice.
+-- The items that were sent, as a run keeps them: by item, each with its tile.
 use Rattle.std.specs.Prelude.{◌≡◌, ℤ, List, Option, map}
 use Rattle.ptg_base.specs.declared.edge.Item.{Item}
 use Rattle.list_lemmas.specs.Counting.{count}

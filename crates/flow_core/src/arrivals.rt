@@ -1,4 +1,4 @@
-//! How many edges have come to each task.
+//! How many edges have arrived at each task.
 
 ghost use Rattle.std.specs.Prelude.{◌≡◌, ◌+◌, ◌<◌, ◌≤◌, IsTrue};
 ghost use Rattle.ptg_base.specs.Limits.{most_edges};

@@ -33,7 +33,7 @@ pub(crate) fn claim_if_ready(
     Ok(())
 }
 
-// Claims the task to which an edge has come, if it may be claimed. Its goal is counted when the first edge comes.
+// Claims a task at which an edge has arrived, if it may be claimed. Its goal is computed when the first edge arrives.
 pub(crate) fn claim_if_come(runner: &mut Runner, m: &Matched, t: &TaskId) -> Result<(), OutOfMemory>
     requires task { IsTask m.now t.now }
     requires fits { FitsSome m.now runner.old.run }
@@ -53,7 +53,7 @@ pub(crate) fn claim_if_come(runner: &mut Runner, m: &Matched, t: &TaskId) -> Res
     Ok(())
 }
 
-// Whether as many tasks were claimed as no edge goes into, in a run that only opens: then no other may be claimed.
+// Whether a run that only opens has claimed as many tasks as have no edge into them. Then no other task may be claimed.
 fn is_open(runner: &Runner, m: &Matched) -> bool
     requires fits { FitsSome m.now runner.now.run }
     requires running { runner.now.running.items ≡ running_tasks runner.now.run }

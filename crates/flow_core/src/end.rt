@@ -10,7 +10,7 @@ use crate::body::Ran;
 use std::marker::Model;
 use term_core::Trap;
 
-// How a task ended, as only proofs see it. It takes no memory.
+// How a task ended, for proofs alone. It takes no memory.
 #[derive(Drop)]
 pub struct SeenEnd {
     pub ghost end: { Ended },
@@ -21,7 +21,7 @@ impl Model for SeenEnd {
 }
 
 impl SeenEnd {
-    // As the body of the task ended.
+    // How the body of the task ended.
     fn of(_ran: &Ran) -> SeenEnd
         ensures { result.end ≡ _ran.now.end }
     {
@@ -59,7 +59,7 @@ fn trap_of(ran: &Ran) -> Option<Trap>
 }
 
 impl End {
-    // As the body of the task ended.
+    // How the body of the task ended.
     pub(crate) fn of(ran: &Ran) -> End
         ensures { result ≡ ran.now.end }
     {

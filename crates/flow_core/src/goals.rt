@@ -1,4 +1,4 @@
-//! The goals of the tasks to which edges have come.
+//! The goals of the tasks at which edges have arrived.
 
 ghost use Rattle.std.specs.Prelude.{◌≡◌, OnOk};
 ghost use Rattle.dep_iter.specs.Edges as edges;
@@ -10,7 +10,7 @@ use goal_count::goal;
 use indexmap::IndexMap;
 use ptg_base::{OutOfMemory, TaskId};
 
-// The goal of a task. It is counted only where the table does not have it.
+// The goal of a task. It is computed only if the table does not have it.
 pub(crate) fn goal_by(table: &IndexMap<TaskId, u32>, m: &Matched, t: &TaskId) -> u32
     requires task { IsTask m.now t.now }
     requires goals { AreGoals m.now table.now.entries }

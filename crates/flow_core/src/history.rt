@@ -1,4 +1,4 @@
-//! What was sent, as only proofs see it.
+//! What was sent, for proofs alone.
 
 ghost use Rattle.std.specs.Prelude.{◌≡◌, List, [], ◌∷◌, ◌++◌};
 ghost use Rattle.std.specs.Borrow.{ftrue};

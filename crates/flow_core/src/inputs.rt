@@ -56,7 +56,7 @@ fn unsourced_tile(alloc: Global, plan: &Plan, flow: &FlowPlan) -> Result<Option<
     }
 }
 
-// The tile that a source gives a flow, but for one that comes by an edge.
+// The tile that a flow gets from its source, or None if it comes by an edge.
 fn tile_from(
     alloc: Global,
     plan: &Plan,
@@ -87,7 +87,7 @@ fn source_of(at: &TaskAt, number: u8, flow: &FlowPlan) -> Source
     at.data_source(number)
 }
 
-// The edge that a source is.
+// The edge, if the source is one.
 fn edge_of(source: Source) -> Option<Item>
     ensures { result ≡ option_map (λ e. item.Edge e) (edge_of_source source) }
 {
@@ -108,7 +108,7 @@ pub(crate) struct Inputs {
     pub(crate) edges: Vec<Option<Item>>,
 }
 
-// Adds what each of these flows starts on, which are numbered from `number` on.
+// Adds what each of these flows starts on; the flows are numbered from `number` on.
 fn push_inputs(
     alloc: Global,
     given: &Given,
@@ -138,7 +138,7 @@ fn push_inputs(
     push_inputs(alloc, given, at, number + 1, others, inputs)
 }
 
-// What a task starts on. Where each of its flows comes from is asked once.
+// What a task starts on. The source of each of its flows is looked up once.
 pub(crate) fn inputs_of(alloc: Global, given: &Given, at: &TaskAt) -> Result<Inputs, OutOfMemory>
     ensures tiles { IfOk result (λ found.
         found.tiles.items

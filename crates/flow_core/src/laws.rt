@@ -18,7 +18,7 @@ ghost use Rattle.flow_meaning.specs.Machine.{Claim, Send, SentItem, sender, stat
 ghost use Rattle.flow_core.specs.RunState.{RunState, machine, with_claim, with_end, with_send};
 ghost use Rattle.flow_core.specs.Fits.{Fits, MaySendNow};
 
-/// A law: a claim and a send are the events of the machine; the end of a task is none.
+/// A law: a claim and a send are events of the machine; the end of a task is no event.
 pub fn calls_are_events()
     ensures claim { (P : Plan) (G : Data) (r : RunState) (t : Task)
         → machine (with_claim t r) ≡ state_after P G (machine r) (Claim t) }

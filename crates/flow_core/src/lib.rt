@@ -1,4 +1,4 @@
-//! A run on one thread: tasks are claimed, run and ended, and items are sent, as the event machine of the job says.
+//! A run on one thread, event by event: the plain program that tests compare with.
 #![tactic(auto)]
 
 mod arrivals;

@@ -1,4 +1,4 @@
-//! A job, run by one thread.
+//! Runs a job on one thread.
 
 ghost use Rattle.std.specs.Prelude.{◌≡◌, ◌∷◌, ◌++◌, ◌+◌, [], OnOk, IfOk};
 ghost use Rattle.plan_data.specs.Fit.{DataFit};
@@ -69,7 +69,7 @@ fn opened(alloc: Global, m: &Matched, given: &Given) -> Result<Runner, OutOfMemo
     Ok(runner)
 }
 
-/// The answer of a job, run by one thread.
+/// Runs a job on one thread, and returns its answer.
 pub fn run_one(alloc: Global, m: &Matched, given: Given) -> Result<Outcome, OutOfMemory>
     requires { DataFit m.now given }
     ensures { IfOk result (λ outcome. outcome ≡ meaning.answer m.now given) }

@@ -69,7 +69,7 @@ fn is_left(left: &mut WriteBacks, write: &WriteBack) -> bool
     is_left(left, write)
 }
 
-// Whether the item is one of the task that it names as its sender.
+// Whether the task that the item names as its sender has this item.
 pub(crate) fn is_item(plan: &Plan, item: &Item) -> bool
     requires { IsTask plan.now (machine.sender item.now) }
     ensures { IsTrue result ↔ IsIn item.now (items.items plan.now (machine.sender item.now)) }

@@ -17,7 +17,8 @@ use dep_iter::{Matched, TaskAt};
 use ptg_base::{Item, OutOfMemory, TaskId};
 use range_space::Numbers;
 
-// Sends an item of a task that has ended without a trap, and claims the task that it goes to if it may be claimed then.
+// Sends an item of a task that has ended without a trap. If it is an edge whose target may be claimed then, claims that
+// task.
 fn send_item(runner: &mut Runner, m: &Matched, item: &Item) -> Result<(), OutOfMemory>
     requires output { IsOutputItem m.now runner.old.run item.now }
     requires fits { FitsSome m.now runner.old.run }

@@ -1,4 +1,4 @@
-//! The items that were sent, and the tiles that are kept of them.
+//! The items that were sent, and the tiles that are kept for them.
 
 ghost use Rattle.std.specs.Prelude.{◌≡◌, [], ◌∷◌, ◌++◌, IfOk, OnOk, OnErr, None, is_some, option_to_list};
 ghost use Rattle.ptg_base.specs.declared.edge.Item.{Item as ItemValue};
@@ -137,7 +137,7 @@ impl SentItems {
         self.edges.contains_key(item)
     }
 
-    // Takes an edge with its tile out of those that are kept.
+    // Removes an edge from those that are kept, and returns its tile, if it has one.
     pub(crate) fn take(&mut self, item: &Item) -> Option<Tile>
         ensures tile { result ≡ first_tile item.now self.old.edges }
         ensures others { (other : ItemValue) → (item.now ≡ other → ⊥)

@@ -38,13 +38,13 @@ use std::alloc::Global;
 use std::marker::Model;
 use term_core::Trap;
 
-/// A run on one thread. Contracts see the claimed tasks, each with how it ended once it has; the items that were sent,
-/// each with its tile; and which tiles of ended tasks are kept.
+/// A run on one thread. Contracts see the claimed tasks, each with how it ended once it has, and the items that were
+/// sent, each with its tile. They also see which tiles of ended tasks are kept.
 pub struct State {
     alloc: Global,
     // The claimed tasks in the order of the claims, each with how it ended; `None` while it runs.
     claims: IndexMap<TaskId, Option<End>>,
-    // The tiles that each task left which has ended without a trap, until they are let go.
+    // For each task that has ended without a trap, the tiles that it left, until they are dropped.
     outputs: IndexMap<TaskId, Seq<Option<Tile>>>,
     sent: SentItems,
     // How many edges were sent to each task that is not claimed, if one was.
@@ -99,8 +99,8 @@ impl State {
         }
     }
 
-    /// Claims a task, which runs from then on: true exactly if it is a task of the job, is not claimed, and all edges
-    /// into it were sent. Else nothing changes, nor does it without memory.
+    /// Claims a task, which is running from then on. Returns true if and only if it is a task of the job, was not
+    /// claimed, and all edges into it were sent. Otherwise, and when out of memory, nothing changes.
     pub fn claim(&mut self, m: &Matched, t: &TaskId) -> Result<bool, OutOfMemory>
         ensures exact { IfOk result (λ claimed.
             (G : Data) → Fits m.now G self.old → IsTrue claimed ↔ MayClaim m.now (machine self.old) t.now) }
@@ -173,7 +173,7 @@ impl State {
         self.has_all(m, t, goal)
     }
 
-    // Whether as many edges have come to a task that is not claimed as its goal says.
+    // Whether as many edges have arrived at an unclaimed task as its goal says.
     fn has_all(&self, m: &Matched, t: &TaskId, goal: u32) -> bool
         requires task { IsTask m.now t.now }
         requires unclaimed { mark_of self.now t.now ≡ None }
@@ -205,8 +205,8 @@ impl State {
         }
     }
 
-    /// Runs the body of a running task on the tiles that were sent to it, and notes how it ended: with a trap exactly
-    /// if the call gives its cause. Nothing else changes, and nothing at all without memory.
+    /// Runs the body of a running task on the tiles that were sent to it, and notes how it ended. Returns the cause of
+    /// the trap, if it trapped. Nothing else changes, and nothing at all when out of memory.
     pub fn finish(
         &mut self,
         m: &Matched,
@@ -238,8 +238,8 @@ impl State {
         Ok(trap)
     }
 
-    /// Sends an item with the tile that its task left: true exactly if it was not sent, and is an item of a task that
-    /// has ended without a trap. Else nothing changes, nor does it without memory.
+    /// Sends an item with the tile that its task left. Returns true if and only if it was not sent before, and is an
+    /// item of a task that has ended without a trap. Otherwise, and when out of memory, nothing changes.
     pub fn send(&mut self, m: &Matched, item: &Item) -> Result<bool, OutOfMemory>
         requires fits { FitsSome m.now self.old }
         ensures exact { IfOk result (λ sent.
@@ -254,7 +254,7 @@ impl State {
         self.send_output(m, item)
     }
 
-    // Whether an item is an output.
+    // Whether an item is an output: one of a task that has ended without a trap.
     fn is_output(&self, m: &Matched, item: &Item) -> bool
         requires fits { FitsSome m.now self.now }
         ensures output { IsTrue result ↔ IsOutputItem m.now self.now item.now }
@@ -295,7 +295,7 @@ impl State {
         }
     }
 
-    // Whether an output was not sent. All edges into a claimed task were sent.
+    // Whether an output was not sent yet. All edges into a claimed task were sent, whether or not they are still kept.
     fn is_unsent(&self, m: &Matched, item: &Item) -> bool
         requires fits { FitsSome m.now self.now }
         requires output { IsOutputItem m.now self.now item.now }
@@ -345,7 +345,7 @@ impl State {
         Ok(())
     }
 
-    // Lets go the tiles that a task left.
+    // Drops the tiles that a task left.
     pub(crate) fn let_go(&mut self, t: &TaskId)
         ensures { HasLetGo t.now self.old self.new }
     {

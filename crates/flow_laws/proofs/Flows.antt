@@ -1,4 +1,4 @@
--- A flow that is resolved to one which a plan may have, and whose dependences have one datatype, has no fault.
+-- A flow has no fault if it is resolved to one that a plan may have and its dependences have one datatype.
 use Rattle.std.proofs.Common.{◌≡◌, ℕ, suc, ◌+◌, Bool, true, false, not, ◌&&◌, cond, List, [], ◌∷◌, ◌++◌, inl, inr, length, filter, flat_map, Option, Some, None, is_none, is_some, nat_le, IsTrue, refl, sym, ◌∙◌, ap}
 use Rattle.std.specs.List.{list_all}
 use Rattle.std.specs.Str.{bytes_eq}
@@ -47,7 +47,7 @@ use Rattle.std.specs.Option.{option_map_or}
 
 -- ---- lists
 
--- no element that is kept has a fault
+-- no kept element has a fault
 none_kept : {A B : Type 0} (f : A → Option B) (g : A → List JdfFault) (keep : A → Bool) (p : B → Bool) (P : A → Type 0) → ((a : A) (b : B) → keep a ≡ true → P a → f a ≡ Some b → IsTrue (p b) → g a ≡ [])
     → (xs : List A) (ys : List B) → ((a : A) → IsIn a xs → P a) → each f (filter keep xs) ≡ Some ys → IsTrue (list_all p ys) → flat_map g (filter keep xs) ≡ []
 none_kept f g keep p P h [] ys all e passes = refl
@@ -61,7 +61,7 @@ none_kept {A} {B} f g keep p P h (x ∷ xs) ys all e passes = go (keep x) refl (
         none_joined (g x) (flat_map g (filter keep xs)) (h x q.0 k (all x (inl refl)) q.2 (first_so (p q.0) (list_all p q.1) two)) (more q.1 q.3 (second_so (p q.0) (list_all p q.1) two))
     go false k more s = more ys s passes
 
--- an element that is kept is one of those without a fault
+-- if no kept element has a fault, neither has this one
 none_of : {A : Type 0} (g : A → List JdfFault) (keep : A → Bool) (xs : List A) (x : A) → flat_map g (filter keep xs) ≡ [] → keep x ≡ true → IsIn x xs → g x ≡ []
 none_of g keep [] x none k among = absurd among
 none_of g keep (y ∷ ys) x none k among = go (keep y) refl none (λ n i. none_of g keep ys x n k i)
@@ -179,7 +179,7 @@ some_if_not : {A : Type 0} (o : Option A) → is_none o ≡ false → (x : A) ×
 some_if_not None e = absurd (false≢true (sym e))
 some_if_not (Some x) e = (x, refl)
 
--- a datatype that a CTL flow may have is DEFAULT
+-- the only datatype that a CTL flow may have is DEFAULT
 control_default : (d : Data) (k : FlowKind) (written : Option Word) → is_control k ≡ true → written_faults d k written ≡ [] → type_of_written written ≡ default_type
 control_default d k None c e = refl
 control_default d k (Some w) c e =

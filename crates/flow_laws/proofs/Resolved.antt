@@ -58,7 +58,7 @@ arguments_no_fault job seen args xs e = none_each (argument_of job seen) (argume
 pub indices_no_fault : (job : Job) (seen : List DefTree) (args : List ArgTree) (ts : List Term) → indices_of job seen args ≡ Some ts → indices_faults job seen args ≡ []
 indices_no_fault job seen args ts e = none_each (index_of job seen) (index_faults job seen) (λ a t h. index_no_fault job seen a t h) args ts e
 
--- where nothing is resolved to a range there is none
+-- if an argument is resolved to no range, it is none
 no_range : (job : Job) (seen : List DefTree) (code : JdfCode) (a : ArgTree) (x : Arg) → argument_of job seen a ≡ Some x → is_span x ≡ false → range_faults code a ≡ []
 no_range job seen code (tree.One e) x h s = refl
 no_range job seen code (tree.Span spot lo hi step) x h s =

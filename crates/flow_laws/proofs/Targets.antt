@@ -1,4 +1,4 @@
--- A target that is resolved to one which the flow may have breaks no rule.
+-- A target breaks no rule if it is resolved to one that the flow may have.
 use Rattle.std.proofs.Common.{◌≡◌, ℕ, Bool, true, false, not, ◌&&◌, ◌==◌, List, [], ◌++◌, length, Option, Some, None, option_and_then, is_none, is_some, slice_get, IsTrue, refl, sym, ◌∙◌, ap, subst, eq-eqb}
 use Rattle.std.proofs.lemmas.Bool.{eqb-true, false≢true, not-true}
 use Rattle.std.specs.List.{list_all, list_any}
@@ -70,7 +70,7 @@ control_kind Write e = absurd (false≢true e)
 control_kind Rw e = absurd (false≢true e)
 control_kind Ctl e = refl
 
--- a flow of a task that may be a target is of the same sort
+-- if a flow of a task may be a target, both flows carry order or both carry a tile
 in_sort : (classes : List ClassPlan) (k j : FlowKind) (n m : ℕ) (args : List Arg) → kinds.kind_of classes n m ≡ Some j → IsTrue (is_in_target classes k (plan.Task n m args)) → are_mixed k j ≡ false
 in_sort classes Read j n m args at h = control_not_data j (sym (ap kinds.is_data at) ∙ first_so (kinds.is_data (kinds.kind_of classes n m)) (not (list_any is_span args)) h)
 in_sort classes Write j n m args at h = absurd (false≢true h)
@@ -87,7 +87,8 @@ task_sort : (classes : List ClassPlan) (k j : FlowKind) (direction : Direction) 
 task_sort classes k j In n m args at h = in_sort classes k j n m args at h
 task_sort classes k j Out n m args at h = out_sort classes k j n m args at h
 
--- an in dependence of a tile that is only written names no task, and that of another tile no range of tasks
+-- an in dependence of a flow that is only written names no task; that of another flow with a tile names no range of
+-- tasks
 task_way : (classes : List ClassPlan) (k : FlowKind) (name class : Word) (args : List ArgTree) (n m : ℕ) (ys : List Arg) → (list_any is_span ys ≡ false → ranges_faults RangeInDataInput args ≡ [])
     → IsTrue (is_in_target classes k (plan.Task n m ys)) → in_faults k (tree.Task name class args) ≡ []
 task_way classes Read name class args n m ys ranges h = ranges (not-true (list_any is_span ys) (second_so (kinds.is_data (kinds.kind_of classes n m)) (not (list_any is_span ys)) h))
@@ -110,7 +111,7 @@ element_way Rw In name args = refl
 element_way Ctl In name args = refl
 element_way k Out name args = refl
 
--- a new tile that may be a target, and none
+-- a new tile that may be a target, and no tile
 new_sort : (classes : List ClassPlan) (k : FlowKind) (direction : Direction) → IsTrue (allowed classes k direction plan.New) → (is_control k ≡ false) × (is_same direction In ≡ true)
 new_sort classes Read In h = (refl, refl)
 new_sort classes Write In h = (refl, refl)
@@ -151,7 +152,7 @@ same_params (Some s) a b e f = sym (eqb-true (length s.params) a e) ∙ eqb-true
 at_some : {A : Type 0} (f : A → Bool) (o : Option A) (x : A) → o ≡ Some x → option_map_or f o false ≡ true → f x ≡ true
 at_some f o x is h = sym (ap (λ z. option_map_or f z false) is) ∙ h
 
--- a flow of the same type, by the number of its type
+-- a flow whose type has the same number has the same type
 same_flow_type : (d : Data) (flow other : FlowTree) (n : ℕ) → flow_type d flow ≡ Some n → flow_type d other ≡ Some n → (not (is_control flow.kind) && is_other_flow (type_of_flow flow) other) ≡ false
 same_flow_type d flow other n e f = by (is_control flow.kind) (is_control other.kind) refl refl where
   by : (a b : Bool) → is_control flow.kind ≡ a → is_control other.kind ≡ b → (not a && (not b && not (bytes_eq (type_of_flow other) (type_of_flow flow)))) ≡ false

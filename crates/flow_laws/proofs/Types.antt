@@ -1,4 +1,4 @@
--- The numbers of types, and what they say of their names.
+-- The numbers of types, and which names have them.
 use Rattle.std.proofs.Common.{◌≡◌, ℕ, zero, suc, ◌+◌, Bool, true, false, not, ◌&&◌, cond, List, [], ◌∷◌, Some, None, option_map, slice_get, refl, sym, ◌∙◌, ap, arith}
 use Rattle.std.specs.List.{position, position_from}
 use Rattle.std.specs.Str.{bytes_eq}
@@ -12,7 +12,7 @@ use Rattle.check_flows.specs.Kinds.{is_control}
 use Rattle.coll_data.specs.Types.{default_type}
 use Rattle.check_flows.specs.Datatypes.{allowed_type, type_is, type_number}
 
--- what is found passes
+-- an element that is found passes the test
 found_from : {A : Type 0} (p : A → Bool) (i : ℕ) (xs : List A) (n : ℕ) → position_from p i xs ≡ Some n → (k : ℕ) × (x : A) × (n ≡ i + k) × (slice_get xs k ≡ Some x) × (p x ≡ true)
 found_from p i [] n e = absurd cc
 found_from {A} p i (x ∷ xs) n e = by (p x) refl e (found_from p (i + 1) xs n) where
@@ -27,7 +27,7 @@ found p xs n e =
     let same : q.0 ≡ n = omega (arith, sum) in
     (q.1, ap (slice_get xs) (sym same) ∙ q.3, q.4)
 
--- a type of the data by its number
+-- a type of the data, found by its number
 numbered : (d : Data) (name : List ℕ) (n : ℕ) → option_map suc (position (type_is name) d.types) ≡ Some n → (k : ℕ) × (t : List ℕ × ℕ) × (suc k ≡ n) × (slice_get d.types k ≡ Some t) × (t.0 ≡ name)
 numbered d name n e =
     let p = from_option_map suc (position (type_is name) d.types) n e in
@@ -58,7 +58,7 @@ one_name d a b n e f = by (bytes_eq a default_type) (bytes_eq b default_type) re
       let one : s.1 ≡ t.1 = same_Some s.1 t.1 (sym s.3 ∙ (ap (slice_get d.types) same ∙ t.3)) in
       sym s.4 ∙ (ap (λ (z : List ℕ × ℕ). z.0) one ∙ t.4)
 
--- the type that a flow may have, by its kind
+-- the type that a flow may have, given its kind
 pub control_name : (d : Data) (k : FlowKind) (name : List ℕ) (n : ℕ) → is_control k ≡ true → allowed_type d k name ≡ Some n → name ≡ default_type
 control_name d k name n c e = by (bytes_eq name default_type) refl (ap (λ b. cond (b && not (bytes_eq name default_type)) None (type_number d name)) (sym c) ∙ e) where
   by : (b : Bool) → bytes_eq name default_type ≡ b → cond (not b) None (type_number d name) ≡ Some n → name ≡ default_type

@@ -11,25 +11,25 @@ use Rattle.check_names.specs.Names.{Job}
 use Rattle.check_names.specs.Arguments.{arguments_of, ranges_faults, indices_of}
 use Rattle.check_names.specs.Expressions.{option_term}
 
--- Arguments that are resolved name only definitions that are seen.
+-- Resolved arguments name only definitions that are seen.
 abbrev pub ArgumentsAreClosed : Type 0
 ArgumentsAreClosed =
     (job : Job) (seen : List DefTree) (args : List ArgTree) (xs : List Arg) → arguments_of job seen args ≡ Some xs
     → IsTrue (list_all (is_closed_arg (length seen)) xs)
 
--- Indices that are resolved name only definitions that are seen.
+-- Resolved indices name only definitions that are seen.
 abbrev pub IndicesAreClosed : Type 0
 IndicesAreClosed =
     (job : Job) (seen : List DefTree) (args : List ArgTree) (ts : List Term) → indices_of job seen args ≡ Some ts
     → IsTrue (list_all (is_closed (length seen)) ts)
 
--- An expression that may be left out and is resolved names only definitions that are seen.
+-- A resolved expression, which may be left out, names only definitions that are seen.
 abbrev pub OptionIsClosed : Type 0
 OptionIsClosed =
     (job : Job) (seen : List DefTree) (e : Option Expression) (o : Option Term) → option_term job seen e ≡ Some o
     → IsTrue (is_closed_option (length seen) o)
 
--- Where no argument is a range, none is resolved to one.
+-- If no argument is a range, none is resolved to one.
 abbrev pub ArgumentsAreNoRanges : Type 0
 ArgumentsAreNoRanges =
     (job : Job) (seen : List DefTree) (code : JdfCode) (args : List ArgTree) (xs : List Arg)

@@ -1,10 +1,11 @@
--- The datatypes that are written on the dependences of a flow. Source: this project's own choice.
+-- The datatypes that are written on the dependences of a flow.
+-- Carried by: law `a_flow_that_fits_has_no_fault`.
 use Rattle.std.specs.Prelude.{◌≡◌}
 use Rattle.ptg_base.specs.Lists.{IsIn}
 use Rattle.check_names.specs.TreesAndFaults.{DepTree, FlowTree}
 use Rattle.check_flows.specs.Datatypes.{type_of_flow, type_of_written}
 
--- Each dependence of a flow has the datatype of the first one; where none is written that is DEFAULT. A plan has one
--- datatype for each flow, so this is a rule about the text alone.
+-- Each dependence of a flow has the datatype of the first one. A dependence on which none is written has DEFAULT. A
+-- plan has one datatype for each flow, so this is a rule about the text alone.
 abbrev pub HasOneDatatype : FlowTree → Type 0
 HasOneDatatype flow = (dep : DepTree) → IsIn dep flow.deps → type_of_written dep.datatype ≡ type_of_flow flow

@@ -1,4 +1,4 @@
-//! Laws of faults and of what is resolved: where there is no fault, and which names there can be.
+//! Laws of faults and of resolved parts: when there is no fault, and which names can occur.
 
 ghost use Rattle.std.specs.Prelude.{◌≡◌, ℕ, IsTrue, List, Option, Some, [], length, suc};
 ghost use Rattle.term_core.specs.Term.{Term};
@@ -22,7 +22,7 @@ ghost use Rattle.check_flows.specs.Elements.{element_faults, element_of};
 ghost use Rattle.flow_laws.specs.Closed.{ArgumentsAreClosed, ArgumentsAreNoRanges, IndicesAreClosed, OptionIsClosed};
 ghost use Rattle.flow_laws.specs.Datatypes.{HasOneDatatype};
 
-/// A law: arguments, indices and expressions that are resolved have no fault.
+/// A law: resolved arguments, indices and expressions have no fault.
 pub fn what_is_resolved_has_no_fault()
     ensures arguments { (job : Job) (seen : List DefTree) (args : List ArgTree) (xs : List Arg)
         → arguments_of job seen args ≡ Some xs → arguments_faults job seen args ≡ [] }
@@ -32,14 +32,14 @@ pub fn what_is_resolved_has_no_fault()
         → option_term job seen e ≡ Some o → option_faults job seen e ≡ [] }
 {}
 
-/// A law: types of the data with one number have one name; so those of different names have different numbers.
+/// A law: two names of types with the same number are the same, so different names have different numbers.
 pub fn types_of_one_number_have_one_name()
     ensures { (d : Data) (a b : List ℕ) (n : ℕ) → type_number d a ≡ Some n → type_number d b ≡ Some n → a ≡ b }
 {}
 
-/// A law: where a plan has the parts of a job, an element that is resolved to one of the plan's has no fault. Neither
-/// has a flow that is resolved to one which the plan may have, if its dependences have one datatype; and those of a
-/// flow without a fault have one.
+/// A law, for a plan with the parts of a job. An element has no fault if it is resolved to an element of the plan. A
+/// flow has none if it is resolved to a flow that the plan may have and its dependences have one datatype. The
+/// dependences of a flow without a fault have one datatype.
 pub fn a_flow_that_fits_has_no_fault()
     ensures element { (job : Job) (classes : List ClassPlan) (spaces : List ClassSpace) (colls : List Shape)
         → HaveParts job classes spaces colls
@@ -55,8 +55,8 @@ pub fn a_flow_that_fits_has_no_fault()
         → HasOneDatatype flow }
 {}
 
-/// A law: arguments, indices and expressions that are resolved name only definitions that are seen; and where no
-/// argument is a range none is resolved to one.
+/// A law: resolved arguments, indices and expressions name only definitions that are seen. If no argument is a range,
+/// none is resolved to one.
 pub fn what_is_resolved_is_closed()
     ensures arguments { ArgumentsAreClosed }
     ensures indices { IndicesAreClosed }

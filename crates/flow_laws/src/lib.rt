@@ -1,4 +1,4 @@
-//! The type check refuses no more than its rules, and what it resolves names only what is seen.
+//! Laws of flows that no program cites: what fits has no fault, and what is resolved names only what is seen.
 #![tactic(auto)]
 
 mod laws;

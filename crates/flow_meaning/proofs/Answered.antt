@@ -1,4 +1,4 @@
--- The answer that a quiescent sound state has is that of the meaning.
+-- The answer of a quiescent sound state is that of the backward meaning.
 use Rattle.std.proofs.Common.{◌≡◌, ℕ, suc, ℤ, Bool, true, false, cond, eqb, List, [], ◌∷◌, ◌++◌, length, refl, ap, sym, ◌∙◌, subst, Option, Some, None, is_some, ◌⊎◌, inl, inr, Ok, Err, arith}
 use Rattle.std.specs.Prelude.{unwrap_or}
 use Rattle.std.proofs.lemmas.Bool.{false≢true, eqb-true}
@@ -38,7 +38,7 @@ use Rattle.flow_meaning.proofs.PlaceIndex.{one_place}
 use Rattle.flow_meaning.proofs.Quiet.{sent_are_items, waiting_same}
 use Rattle.flow_meaning.proofs.Rest.{item_sender}
 
--- an entry of what was written is a send of a write-back
+-- a write-back with its tile; each is a send of a write-back
 abbrev Written : Type 0
 Written = WriteBack × Option (List ℤ)
 
@@ -66,7 +66,7 @@ written_send : (xs : List SentItem) (w : WriteBack) (tile : Option (List ℤ)) �
 written_send [] w tile h = absurd h
 written_send (x ∷ xs) w tile h = written_step x xs w tile (λ k. written_send xs w tile k) x.item x.tile refl refl h
 
--- a send of a write-back is an entry of what was written
+-- each send of a write-back is in the list of what was written
 put_in : (i : Item) (o : Option (List ℤ)) (l : List Written) (r : Written) → IsIn r l → IsIn r (cons_option (written_by i o) l)
 put_in (item.Edge e) o l r h = h
 put_in (item.Write w) o l r h = inr h
@@ -81,7 +81,7 @@ send_written (y ∷ ys) x w h e = elim h [
   | inr t ↦ put_in y.item y.tile (filter_map entry_of_send ys) (w, x.tile) (send_written ys x w t e)
 ]
 
--- the first that passes, or none passes
+-- the tile of the first write-back that passes the test, or none passes
 module _ (P : Plan) (G : Data) (here : Place → Bool) where
   first_of_writes : (ws : List WriteBack) → ((w : WriteBack) × IsIn w ws × (here w.place ≡ true) × (written_to P G here ws ≡ written_tile P G w)) ⊎ (((w : WriteBack) → IsIn w ws → here w.place ≡ false) × (written_to P G here ws ≡ None))
   first_of_writes [] = inr (λ w i. absurd i, refl)
@@ -107,7 +107,7 @@ module _ (P : Plan) (G : Data) (here : Place → Bool) where
         | inr n ↦ inr (λ v i. elim i [ inl e ↦ ap (λ (u : Written). here u.0.place) e ∙ k | inr t ↦ n.0 v t ], step ∙ n.1)
       ])
 
-  -- both lists have the same tile at a place, where there is one write-back to it at most
+  -- both lists have the same tile at a place, if there is at most one write-back to it
   same_first : (ws : List WriteBack) (rs : List Written) → ((w v : WriteBack) → IsIn w ws → IsIn v ws → here w.place ≡ true → here v.place ≡ true → w ≡ v) →
       ((w : WriteBack) → IsIn w ws → IsIn {A = Written} (w, written_tile P G w) rs) → ((r : Written) → IsIn r rs → IsIn r.0 ws × (r.1 ≡ written_tile P G r.0)) → written_to P G here ws ≡ first_written here rs
   same_first ws rs only to from = elim (first_of_writes ws) [
@@ -139,7 +139,7 @@ module _ (at bt : (Place → Bool) → Option (List ℤ)) (same : (c : ℕ) (x :
   data_same : (G : Data) → replaced_data at G ≡ replaced_data bt G
   data_same G = ap (λ cs. record G { colls = cs }) (colls_same 0 G.colls)
 
--- where no row is left in order there was none
+-- if no row is left in order, there was none
 ordered_empty : {A : Type 0} (key : A → Task) (xs : List A) → in_task_order key xs ≡ [] → xs ≡ []
 ordered_empty key [] e = refl
 ordered_empty key (x ∷ xs) e = absurd (never (in_task_order key xs) e)
@@ -168,7 +168,7 @@ untrapped t (Some (Ok tiles)) e h = refl
 untrapped t (Some (Err cause)) e h = absurd cc
 
 module _ (P : Plan) (G : Data) (con : IsConsistent P) (S : MachineState) (sound : IsSoundState P G S) (quiet : IsQuiescent P G S) where
-  -- where no task traps and all run, each has outputs
+  -- if no task traps and all run, each has outputs
   all_outputs : trapped P G ≡ [] → length (ran P G) ≡ length (all_tasks P) → (t : Task) → IsTask P t → has_outputs (ended P G t) ≡ true
   unfolding trapped ran
   all_outputs none all t job =
@@ -204,7 +204,7 @@ module _ (P : Plan) (G : Data) (con : IsConsistent P) (S : MachineState) (sound 
     one_write : (c : ℕ) (x : Coll) (k : ℕ) (w v : WriteBack) → IsIn w (all_writes P) → IsIn v (all_writes P) → is_place_of c x k w.place ≡ true → is_place_of c x k v.place ≡ true → w ≡ v
     one_write c x k w v i j h g = one_from_map (λ (u : WriteBack). u.place) (all_writes P) con.written_once w v i j (one_place c x k w.place v.place h g)
 
-    -- the data that was written are those of the meaning
+    -- the final data of the state are those of the meaning
     final_same : final_data P G ≡ state_data G S
     unfolding final_data state_data
     final_same =

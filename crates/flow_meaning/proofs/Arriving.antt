@@ -1,4 +1,4 @@
--- What a send changes: one more edge has come to its target, and nothing elsewhere.
+-- What a send changes: one more edge has arrived at its target, and nothing else changes.
 use Rattle.std.proofs.Common.{◌≡◌, ◌≢◌, ◌+◌, ◌≤◌, true, false, List, [], ◌∷◌, ◌++◌, refl, ap, sym, ◌∙◌, subst, inl, inr, nat_lt, arith, cond, None}
 use Rattle.std.proofs.lemmas.Bool.{false_from_ne_true, le-ltb, lt-ltb}
 use Rattle.ptg_base.specs.Lists.{HasNoRepeats, IsIn}
@@ -40,7 +40,7 @@ no_edge (d ∷ ds) e h =
     let other : same_item (item.Edge d) (item.Edge e) ≡ false = false_from_ne_true (same_item (item.Edge d) (item.Edge e)) (λ k. h (inl (sym (Edge-injective d e ((same_item-decides (item.Edge d) (item.Edge e)).0 k))))) in
     omega (arith, ap as_number other, no_edge ds e (λ i. h (inr i)))
 
--- how often an edge is among edges without repeats
+-- an edge occurs at most once among edges without repeats
 pub edge_once : (es : List Edge) → HasNoRepeats es → (e : Edge) → count (λ d. same_item (item.Edge d) (item.Edge e)) es ≤ 1
 edge_once [] h e = omega arith
 edge_once (d ∷ ds) h e =
@@ -55,7 +55,7 @@ module _ (P : Plan) (G : Data) (S : MachineState) (i : Item) (may : MaySend P G 
   sum_of : (j : Item) → send_count (state_after P G S (Send i)) j ≡ send_count S j + as_number (same_item j i)
   sum_of j = weigh-push (λ (x : SentItem). as_number (same_item j x.item)) S.sends (sent_with P G S i)
 
-  -- an item was sent then if it was before or is the one that is sent
+  -- after a send, an item was sent if it was before or is the one that is sent
   sent_then : (j : Item) → as_number (is_sent (state_after P G S (Send i)) j) ≡ as_number (is_sent S j) + as_number (same_item j i)
   sent_then j =
       by_test (same_item j i)
@@ -94,7 +94,7 @@ module _ (P : Plan) (G : Data) (con : IsConsistent P) (S : MachineState) (sound 
   pub writes_not : (w : WriteBack) → MaySend P G S (item.Write w) → (t : Task) → arrived P (state_after P G S (Send (item.Write w))) t ≡ arrived P S t
   writes_not w may t = let none = no_write w (in_edges P t) in omega (arith, came P G S (item.Write w) may (in_edges P t))
 
--- the tile of what is sent last
+-- the tile of an item that is sent last and was not sent before
 first_here : (i : Item) (xs : List SentItem) (x : SentItem) → count (λ (y : SentItem). same_item i y.item) xs ≡ 0 → same_item i x.item ≡ true → first_tile i (xs ++ x ∷ []) ≡ x.tile
 first_here i [] x none h = ap (λ b. cond b x.tile None) h
 first_here i (y ∷ ys) x none h =

@@ -46,7 +46,7 @@ module _ (passes : Target → Bool) (locals : ℕ) (env : List ℤ) (x : Target)
     | inr later ↦ rest later
   ]
 
-  -- a target that holds is one that its dependence may have
+  -- an active target is one that its dependence may have
   held_passes : (ds : List DepPlan) → ((d : DepPlan) → IsIn d ds → is_dependence locals passes d ≡ true) → IsIn x (held_targets false ds env) → passes x ≡ true
   held_passes [] all i = absurd i
   held_passes (d ∷ ds) all i = first_or_later d ds (all d (inl refl)) (λ j. held_passes ds (λ c k. all c (inr k)) j) (held_target d env) refl i

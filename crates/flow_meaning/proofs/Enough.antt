@@ -28,7 +28,7 @@ pub with_outputs : (o : Option Ended) → has_outputs o ≡ true → (v : Ended)
 with_outputs None h = absurd (false≢true h)
 with_outputs (Some v) h = (v, refl)
 
--- two answers are the same where the second has what the first has, and is there only where the first is
+-- two optional values are equal, if the second has what the first has, and is there only if the first is
 same_answer : {A : Type 0} (a b : Option A) → ((v : A) → a ≡ Some v → b ≡ Some v) → (is_some b ≡ true → is_some a ≡ true) → b ≡ a
 same_answer None None f g = refl
 same_answer None (Some w) f g = absurd (false≢true (g refl))
@@ -71,7 +71,7 @@ module _ (P : Plan) (G : Data) (con : IsConsistent P) where
   no_fewer : (n : ℕ) → ended_count n ≤ ended_count (suc n)
   no_fewer n = count-le (has_ended n) (has_ended (suc n)) (all_tasks P) (λ t i. ends_too n t ((listed P t).1 i))
 
-  -- where as many have ended as before, nothing new was found
+  -- if as many have ended as before, nothing new was found
   no_more : (n : ℕ) → ended_count n ≡ ended_count (suc n) → IsStable n
   no_more n same t task =
       let le : (u : Task) → IsIn u (all_tasks P) → as_number (has_ended n u) ≤ as_number (has_ended (suc n) u) = λ u i. one_le (has_ended n u) (has_ended (suc n) u) (ends_too n u ((listed P u).1 i)) in
@@ -107,12 +107,12 @@ module _ (P : Plan) (G : Data) (con : IsConsistent P) where
       at zero = subst IsStable (sym (add-zero (length (all_tasks P)))) stable
       at (suc more) = let m : suc (length (all_tasks P) + more) ≡ length (all_tasks P) + suc more = omega arith in subst IsStable m (still_stable (length (all_tasks P) + more) (at more))
 
-  -- how a task ends is by how its sources end
+  -- how a task ends is determined by how its sources end
   pub fixed : (t : Task) → IsTask P t → ended P G t ≡ ended_after P G (ended P G) t
   unfolding ended ended_within
   fixed t task = sym (stable t task)
 
-  -- a task ends whose sources all have outputs
+  -- a task ends if its sources all have outputs
   pub ends_after : (t : Task) → IsTask P t → ((e : Edge) → IsIn e (in_edges P t) → has_outputs (ended P G e.from) ≡ true) → is_some (ended P G t) ≡ true
   unfolding ended_on
   ends_after t job sources =
@@ -121,7 +121,7 @@ module _ (P : Plan) (G : Data) (con : IsConsistent P) where
       ap is_some (fixed t job ∙ ap (λ b. cond b (ended_on P G (source_tile (ended P G)) t) None) all
       ∙ ap (λ o. option_map (λ (c : ClassPlan). body_meaning c.body (locals_of P t) (starting_tiles P G (source_tile (ended P G)) t)) o) h.class_is)
 
-  -- what any round finds is how the task ends
+  -- how any round finds that a task ends is how it ends
   pub found : (n : ℕ) (t : Task) → IsTask P t → (v : Ended) → ended_within P G n t ≡ Some v → ended P G t ≡ Some v
   found n t task v e =
       let m : n + length (all_tasks P) ≡ length (all_tasks P) + n = omega arith in

@@ -41,7 +41,7 @@ claim_member S t h =
 pub member_claim : (S : MachineState) (t : Task) → IsIn t S.claims → 0 < claim_count S t
 member_claim S t i = count-some (same_task t) S.claims t i ((same_task-decides t t).1 refl)
 
--- an item that was sent is that of one of the sends
+-- an item that was sent is the item of one of the sends
 pub send_member : (S : MachineState) (i : Item) → is_sent S i ≡ true → (x : SentItem) × IsIn x S.sends × (x.item ≡ i)
 send_member S i h =
     let p = some_passes (λ (x : SentItem). same_item i x.item) S.sends (ltb-true 0 (send_count S i) h) in
@@ -54,7 +54,7 @@ member_send S x i =
 pub unsent : (S : MachineState) (i : Item) → is_sent S i ≡ false → send_count S i ≡ 0
 unsent S i h = let k = ltb-false 0 (send_count S i) h in omega arith
 
--- all edges into a task were sent, where as many were as there are
+-- if as many edges into a task were sent as there are, each was
 pub each_arrived : (P : Plan) (S : MachineState) (t : Task) → arrived P S t ≡ goal P t → (e : Edge) → IsIn e (in_edges P t) → is_sent S (item.Edge e) ≡ true
 each_arrived P S t h e i = all_pass (λ d. is_sent S (item.Edge d)) (in_edges P t) (omega (arith, h)) e i
 
@@ -91,7 +91,7 @@ module _ (P : Plan) (G : Data) (con : IsConsistent P) (S : MachineState) (sound 
     same_delivery : (e : Edge) → IsIn e (in_edges P t) → sent_tile S.sends e ≡ source_tile (ended P G) e
     same_delivery e i = (delivers e (each_arrived P S t fed.all_arrived e i)).tile
 
-    -- a task all of whose in edges were sent ends as the backward meaning says
+    -- if all edges into a task were sent, it ends as the backward meaning says
     pub ends_so : ended P G t ≡ end_in P G S t
     ends_so =
         let all : has_all_sources P (ended P G) t ≡ true = list_all-from_members (λ (e : Edge). has_outputs (ended P G e.from)) (in_edges P t) (λ e i. (delivers e (each_arrived P S t fed.all_arrived e i)).outputs) in
@@ -99,14 +99,14 @@ module _ (P : Plan) (G : Data) (con : IsConsistent P) (S : MachineState) (sound 
         ∙ ap (λ b. cond b (ended_on P G (source_tile (ended P G)) t) None) all
         ∙ sym (ended_on-same P G con t fed.task (sent_tile S.sends) (source_tile (ended P G)) same_delivery)
 
-    -- so it ends
+    -- so the task ends
     pub it_ends : is_some (ended P G t) ≡ true
     unfolding ended_on
     it_ends =
         let h = class_of P t fed.task in
         ap is_some (ends_so ∙ ap (λ o. option_map (λ (c : ClassPlan). body_meaning c.body (locals_of P t) (starting_tiles P G (sent_tile S.sends) t)) o) h.class_is)
 
-    -- and what was sent to it are its inputs
+    -- and the tiles that were sent to it are its inputs
     pub has_inputs : delivered_tiles P (sent_tile S.sends) t ≡ inputs P G t
     has_inputs = delivered_tiles-same P G con t fed.task (sent_tile S.sends) (source_tile (ended P G)) same_delivery
 
@@ -166,7 +166,7 @@ module _ (P : Plan) (G : Data) (con : IsConsistent P) (S : MachineState) (sound 
   event_sound (Claim t) may = claim_sound t may
   event_sound (Send i) may = send_sound i may
 
--- of a task that was not claimed nothing was sent
+-- no item of a task that was not claimed was sent
 pub unclaimed_unsent : (P : Plan) (G : Data) (S : MachineState) → IsSoundState P G S → (i : Item) → claim_count S (sender i) ≡ 0 → send_count S i ≡ 0
 unclaimed_unsent P G S sound i none =
     by_test (is_sent S i)
@@ -176,7 +176,7 @@ unclaimed_unsent P G S sound i none =
     absurd (omega (arith, more, none)))
     (λ k. unsent S i k)
 
--- nothing has happened yet, so nothing is wrong
+-- the opening state is sound, as nothing has happened
 pub opening_sound : (P : Plan) (G : Data) → IsSoundState P G opening_state
 opening_sound P G = record { claimed_once = λ t. omega arith; sent_once = λ i. omega arith; claimed_have_all = λ t i. absurd i; sent_are_outputs = λ x i. absurd i }
 

@@ -1,4 +1,4 @@
--- No task is listed twice, and a quiescent state has claimed each task that runs once.
+-- No task is listed twice. In a quiescent state, each task that runs was claimed once.
 use Rattle.std.proofs.Common.{◌≡◌, ◌≤◌, Bool, false, cond, List, [], ◌∷◌, ◌++◌, length, refl, ap, sym, ◌∙◌, Option, Some, None, is_some, ◌⊎◌, inl, inr, Ok, Err, arith}
 use Rattle.std.proofs.lemmas.Bool.{false≢true, cases_eq}
 use Rattle.std.specs.List.{filter, flat_map}

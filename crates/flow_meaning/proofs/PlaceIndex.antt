@@ -1,4 +1,4 @@
--- A tile is that of one place.
+-- A tile belongs to one place.
 use Rattle.std.proofs.Common.{◌≡◌, ℕ, true, ap, sym, ◌∙◌, Option, Some, None, eqb}
 use Rattle.std.proofs.lemmas.Bool.{false≢true, and_parts, eqb-true}
 use Rattle.std.specs.Option.{option_eq}
@@ -12,7 +12,7 @@ index_is : (o : Option ℕ) (k : ℕ) → option_eq eqb o (Some k) ≡ true → 
 index_is None k h = absurd (false≢true h)
 index_is (Some i) k h = ap (λ n. Some n) (eqb-true i k h)
 
--- two places of one tile are one
+-- two places of the same tile are equal
 pub one_place : (c : ℕ) (x : Coll) (k : ℕ) (p q : Place) → is_place_of c x k p ≡ true → is_place_of c x k q ≡ true → p ≡ q
 one_place c x k p q h g =
     let a = and_parts (eqb p.coll c) (option_eq eqb (tile_index x.shape.0 x.shape.1 p.i p.j) (Some k)) h in

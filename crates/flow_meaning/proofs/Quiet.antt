@@ -1,4 +1,4 @@
--- What a quiescent sound state has: what the backward meaning says.
+-- A quiescent sound state has what the backward meaning says.
 use Rattle.std.proofs.Common.{◌≡◌, ◌↔◌, ℕ, zero, suc, ◌<◌, ◌≤◌, Bool, true, false, ◌&&◌, cond, List, [], ◌∷◌, ◌++◌, map, length, refl, ap, sym, ◌∙◌, subst, Option, Some, None, is_some, inl, inr, nat_lt, arith}
 use Rattle.std.proofs.lemmas.Bool.{false≢true, cases_eq, eq-eqb, ne_eqb, lt-ltb}
 use Rattle.std.specs.List.{filter, flat_map}
@@ -107,7 +107,7 @@ module _ (P : Plan) (G : Data) (con : IsConsistent P) (S : MachineState) (sound 
         let s = sent_are_items (item.Edge e) (source_is_task P con t task e i) in
         same_test (is_sent S (item.Edge e)) (has_outputs (ended P G e.from)) (λ h. (s.0 h).1) (λ o. s.1 (in_edge_item P con t task e i, o)))
 
-    -- a task that does not run and was sent something waits, since else it could be claimed
+    -- a task that does not run but was sent something waits, since otherwise it could be claimed
     waits : (t : Task) → IsTask P t → is_some (ended P G t) ≡ false → is_waiting P S t ≡ nat_lt 0 (arrived P S t)
     waits t task h =
         let none : claim_count S t ≡ 0 = elim (cases_eq (claim_count S t) 0) [

@@ -1,4 +1,4 @@
--- In whatever order tasks were claimed and items sent, the state is as sound.
+-- The order in which tasks were claimed and items sent does not matter to a state.
 use Rattle.std.proofs.Common.{ℕ, ◌≡◌, ◌↔◌, ◌≤◌, ℤ, ◌&&◌, List, refl, ap, sym, ◌∙◌, subst, Option, Some, None, IsTrue, nat_lt, arith, cond, ◌==◌, ◌||◌, [], ◌∷◌}
 use Rattle.std.proofs.lemmas.Bool.{false≢true}
 use Rattle.std.specs.Cmp.{first_so, second_so}
@@ -98,7 +98,7 @@ module _ (S T : MachineState) (r : IsReordered S T) where
   pub back : IsReordered T S
   back = record { claims = HasSameMembers-sym S.claims T.claims r.claims; sends = HasSameMembers-sym S.sends T.sends r.sends }
 
--- a tile was sent with an item alone that was sent
+-- there is no tile for an item that was not sent
 pub first_none : (i : Item) (xs : List SentItem) → count (λ (x : SentItem). same_item i x.item) xs ≡ 0 → first_tile i xs ≡ None
 first_none i [] h = refl
 first_none i (x ∷ xs) h =
@@ -124,7 +124,8 @@ module _ (P : Plan) (G : Data) (con : IsConsistent P) (S T : MachineState) (soun
           let none = unsent S (item.Edge e) h in
           first_none (item.Edge e) S.sends none ∙ sym (first_none (item.Edge e) T.sends (sym (sends_same S T r (item.Edge e)) ∙ none)))
 
-  -- what a table holds of a task, by how often it was claimed, how many edges into it came, and what they deliver
+  -- what a table holds of a task, by how often it was claimed, how many edges into it have arrived, and what they
+  -- deliver
   abbrev entry_by : Task → ℕ → ℕ → Delivery → Option Entry
   entry_by t claims came delivered =
       cond (((claims == 0) && (came == goal P t)) || ((claims == 0) && (nat_lt 0 came && nat_lt came (goal P t))))

@@ -1,4 +1,4 @@
--- A sound state is quiescent exactly where no task may be claimed and each claimed task does no more.
+-- A sound state is quiescent if and only if no task may be claimed and each claimed task is finished.
 use Rattle.std.proofs.Common.{◌≡◌, ◌↔◌, ℕ, ℤ, List, ap, sym, ◌∙◌, subst, inl, inr, arith}
 use Rattle.std.proofs.lemmas.Bool.{false≢true, ltb-true}
 use Rattle.ptg_base.specs.Lists.{IsIn}

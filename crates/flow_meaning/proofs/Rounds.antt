@@ -56,12 +56,12 @@ module _ (P : Plan) (G : Data) (con : IsConsistent P) (t : Task) (task : IsTask 
         let rest = delivered_to-same (suc n) fs (λ i other e. subst (λ m. slice_get (flows_of P t) m ≡ Some other) (omega arith) (at (suc i) other e)) in
         ap (λ x. x ++ delivered_to P f t (suc n) fs) first ∙ ap (λ l. delivered_tile P g t n flow ++ l) rest
 
-    -- the same tiles come to a task where the edges into it deliver the same
+    -- the same tiles come to a task if the edges into it deliver the same
     pub delivered_tiles-same : delivered_tiles P f t ≡ delivered_tiles P g t
     unfolding delivered_tiles
     delivered_tiles-same = delivered_to-same 0 (flows_of P t) (λ i flow e. subst (λ m. slice_get (flows_of P t) m ≡ Some flow) (omega arith) e)
 
-    -- a task ends in the same way where the edges into it deliver the same
+    -- a task ends in the same way if the edges into it deliver the same
     pub ended_on-same : ended_on P G f t ≡ ended_on P G g t
     unfolding ended_on starting_tiles
     ended_on-same =
@@ -69,7 +69,7 @@ module _ (P : Plan) (G : Data) (con : IsConsistent P) (t : Task) (task : IsTask 
         ap (λ l. option_map (λ (c : ClassPlan). body_meaning c.body (locals_of P t) l) (slice_get P.classes t.class)) tiles
 
   module _ (f g : Task → Option Ended) where
-    -- a task ends in the same way where the sources of the edges into it end in the same way
+    -- a task ends in the same way if the sources of the edges into it end in the same way
     pub ended_after-same : ((e : Edge) → IsIn e (in_edges P t) → f e.from ≡ g e.from) → ended_after P G f t ≡ ended_after P G g t
     ended_after-same same =
         let test : has_all_sources P f t ≡ has_all_sources P g t = tests (in_edges P t) (λ e i. ap has_outputs (same e i)) in

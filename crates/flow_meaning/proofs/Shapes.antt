@@ -1,4 +1,5 @@
--- A body keeps the shape of the tiles of its task: as many entries, absent ones absent, and the others as long.
+-- A body keeps the shape of its task's tiles: as many entries, absent ones stay absent, and the others keep their
+-- length.
 use Rattle.std.proofs.Common.{◌≡◌, ℕ, ◌-◌, ◌<◌, ℤ, Bool, true, false, cond, List, [], ◌∷◌, length, get_or, set, refl, ap, sym, ◌∙◌, subst, Option, Some, None, Result, Ok, Err, inl, inr, ◌==◌}
 use Rattle.std.specs.Prelude.{option_map}
 use Rattle.std.proofs.lemmas.Bool.{cases_eq, cases_lt}

@@ -1,4 +1,4 @@
--- The tiles that tasks leave have the sizes that the types of their flows say.
+-- The tiles that tasks leave have the sizes of their flows' types.
 use Rattle.std.proofs.Common.{◌≡◌, ◌≢◌, ℕ, zero, suc, ◌+◌, ℤ, Bool, true, false, cond, eqb, List, [], ◌∷◌, length, get_or, refl, ap, sym, ◌∙◌, subst, add-zero, Option, Some, None, slice_get, slice_index, Ok, Err, inl, inr, arith}
 use Rattle.std.specs.Prelude.{option_map, option_and_then, map}
 use Rattle.std.specs.Option.{option_map_or}
@@ -71,7 +71,7 @@ flow_is P s k = by (slice_get P.classes s.class)
     by None = cc
     by (Some c) = refl
 
--- what a task's source flow is
+-- the flow with this number of a class exists, carries a tile and has this datatype
 pub record IsSourceFlow (P : Plan) (class k datatype : ℕ) : Type 0 where
   pub flow : FlowPlan
   pub is : flow_of P.classes class k ≡ Some flow
@@ -150,7 +150,7 @@ tile_size : (elements : List ℕ) (c : Coll) → IsWellColl elements c → (inde
 tile_size elements c well None tile e = absurd cc
 tile_size elements c well (Some k) tile e = each_at (λ (tile : List ℤ). length tile ≡ slice_index elements c.datatype) c.tiles k tile well.tile_lengths e
 
--- a place of the plan has a tile of the size that its collection's type says
+-- a place of the plan has a tile of the size of its collection's type
 place_size : (P : Plan) (G : Data) → DataFit P G → IsWellMade G → (p : Place) (datatype : ℕ) → HasPlace P.colls p → option_map_or (λ (s : Shape). eqb s.datatype datatype) (slice_get P.colls p.coll) false ≡ true →
     option_map length (tile_at G.colls p) ≡ Some (slice_index P.elems datatype)
 place_size P G fit well p datatype exists type =
@@ -234,7 +234,7 @@ module _ (P : Plan) (G : Data) (con : IsConsistent P) (fit : DataFit P G) (well 
   unfolding ended
   ended_sized = round_sized (length (all_tasks P))
 
-  -- there are as many as it has flows
+  -- the tiles are as many as the task has flows
   pub ended_places : (t : Task) → IsTask P t → (tiles : List (Option (List ℤ))) → ended P G t ≡ Some (Ok tiles) → length tiles ≡ length (flows_of P t)
   ended_places t job tiles e =
       let f = sym (fixed P G con t job) ∙ e in

@@ -1,4 +1,4 @@
--- Where the source of a data flow is an edge, that edge is one of those into the task.
+-- If the source of a data flow is an edge, that edge is one of those into the task.
 use Rattle.std.proofs.Common.{◌≡◌, ℕ, zero, suc, ◌+◌, ℤ, pos, Bool, true, false, not, cond, is_some, ◌&&◌, ◌||◌, List, [], ◌∷◌, ◌++◌, length, map, refl, ap, sym, ◌∙◌, subst, add-zero, Option, Some, None, slice_get, IsSomeAnd, Result, Ok, Err, is_ok, ◌⊎◌, inl, inr, arith}
 use Rattle.std.proofs.lemmas.Bool.{false≢true, and_parts}
 use Rattle.std.specs.Prelude.{option_map}
@@ -41,7 +41,7 @@ use Rattle.dep_iter.specs.Well.{IsWellTask, are_well, first_ill_flow, has_arg, h
 use Rattle.dep_iter.specs.Links.{link, links_to}
 use Rattle.dep_iter.proofs.Belonging.{in_edge_is, link_in}
 
--- an argument that is no range and has a value has that one
+-- the values of an argument that is no range: one value, or its fault
 abbrev listed_number : Result ℤ ExprFault → Result (List ℤ) SpanFault
 listed_number r = and_then (map_fault Expr r) (λ z. Ok (z ∷ []))
 
@@ -57,7 +57,7 @@ no_span : (a b : Bool) → not (a || b) ≡ true → (a ≡ false) × (not b ≡
 no_span true b h = absurd (false≢true h)
 no_span false b h = (refl, h)
 
--- arguments none of which is a range have one combination
+-- arguments without a range among them have one combination
 one_combination : (env : List ℤ) (args : List Arg) → list_all (has_arg env) args ≡ true → not (list_any is_span args) ≡ true → combinations args env ≡ map (single_value env) args ∷ []
 one_combination env [] h s = refl
 one_combination env (a ∷ args) h s =
@@ -67,7 +67,7 @@ one_combination env (a ∷ args) h s =
     let rest = one_combination env args well.1 plain.1 in
     ap (λ vs. flat_map (λ v. map (λ ws. v ∷ ws) (combinations args env)) vs) first ∙ ap (λ cs. map (λ ws. single_value env a ∷ ws) cs ++ []) rest
 
--- the first target that holds is one of a dependence, and what it needs has its values
+-- an active target is that of one of the dependences, and its arguments have their values
 pub record IsHeld (env : List ℤ) (ds : List DepPlan) (x : Target) : Type 0 where
   pub dependence : DepPlan
   pub among : IsIn dependence ds
@@ -94,7 +94,7 @@ held : (env : List ℤ) (ds : List DepPlan) (x : Target) (rest : List Target) �
 held env [] x rest h w = absurd cc
 held env (d ∷ ds) x rest h w = held_step env d ds x rest (active_target d env) refl h w (λ a b. held env ds x rest a b)
 
--- a target of a dependence that passes
+-- each target of a dependence that passes the test passes too
 pub passing : (locals : ℕ) (passes : Target → Bool) (d : DepPlan) (b : Bool) (x : Target) → is_dependence locals passes d ≡ true → target_by d b ≡ Some x → passes x ≡ true
 passing locals passes d true x h e =
     let p = and_parts (is_closed_option locals d.guard && passes d.yes) (is_second passes d.guard d.no) h in
@@ -215,7 +215,7 @@ module _ (P : Plan) (t : Task) (task_of_job : IsTask P t) (well : IsWellTask P t
   unfolding data_source
   source_in e s = from_targets (flow_ins (locals_of P t) f) e refl (rw here at s)
 
-  -- of targets of which the first that holds counts alone, one holds at most
+  -- if only the first target that holds counts, at most one is active
   one_target : (ds : List DepPlan) (env : List ℤ) → (held_targets true ds env ≡ []) ⊎ ((x : Target) × (held_targets true ds env ≡ x ∷ []))
   one_target [] env = inl refl
   one_target (d ∷ ds) env = step (held_target d env) (one_target ds env)
@@ -258,7 +258,7 @@ module _ (P : Plan) (t : Task) (task_of_job : IsTask P t) (well : IsWellTask P t
       back : (xs : List Target) → held_targets true f.ins (locals_of P t) ≡ xs → flow_ins (locals_of P t) f ≡ xs
       back xs e = subst (λ b. held_targets b f.ins (locals_of P t) ≡ xs) (sym carries) e
 
-  -- an edge into the flow is its source
+  -- if an edge goes into the flow, it is the flow's source
   pub only_source : (e : Edge) → e.in_flow ≡ n → IsIn e (in_edges P t) → data_source P t n ≡ source.Task e
   unfolding data_source
   only_source e at h =
@@ -287,7 +287,7 @@ module _ (P : Plan) (t : Task) (task_of_job : IsTask P t) (well : IsWellTask P t
   from_first [] is s e = inl (sym e)
   from_first (x ∷ rest) is s e = inr (x, held (locals_of P t) f.ins x rest (ins_first (x ∷ rest) is) ins_well, e)
 
-  -- a source is that of a target of an in dependence, or there is none
+  -- a source is that of an active target of an in dependence, or Nothing
   pub source_target : (s : Source) → data_source P t n ≡ s → (s ≡ source.Nothing) ⊎ ((x : Target) × IsHeld (locals_of P t) f.ins x × (source_at t (locals_of P t) n x ≡ s))
   unfolding data_source
   source_target s e = from_first (flow_ins (locals_of P t) f) refl s (rw here at e)

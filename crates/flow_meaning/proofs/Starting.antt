@@ -25,7 +25,7 @@ use Rattle.dep_iter.proofs.Fitting.{locals_with-only}
 use Rattle.flow_meaning.specs.Starting.{Delivery, starting_tiles, tiles_from}
 use Rattle.flow_meaning.proofs.SourceEdges.{class_of, flows_are}
 
--- there is a tile, or none, for each flow
+-- there is an entry for each flow
 pub length-tiles_from : (P : Plan) (G : Data) (d : Delivery) (t : Task) (n : ℕ) (fs : List FlowPlan) → length (tiles_from P G d t n fs) ≡ length fs
 length-tiles_from P G d t n [] = refl
 length-tiles_from P G d t n (f ∷ fs) = ap suc (length-tiles_from P G d t (suc n) fs)

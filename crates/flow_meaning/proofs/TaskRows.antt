@@ -1,4 +1,4 @@
--- Rows of tasks in task order are the same, in whatever order the tasks come.
+-- Rows in task order are the same, whatever order the tasks come in.
 use Rattle.std.proofs.Common.{◌≡◌, ◌≢◌, ◌≤◌, true, false, not, List, [], ◌∷◌, ◌++◌, refl, ap, sym, ◌∙◌, ◌⊎◌, inl, inr, arith}
 use Rattle.std.proofs.lemmas.Bool.{false≢true, false_from_ne_true}
 use Rattle.std.specs.List.{flat_map}
@@ -14,7 +14,7 @@ use Rattle.list_lemmas.proofs.Counts.{count-some, without, without-weigh, same_i
 use Rattle.list_lemmas.proofs.Tasks.{before_trans, insert_here, insert_past}
 use Rattle.list_lemmas.specs.Counting.{HasSameMembers, as_number, count}
 
--- of two different tasks one is before the other, and not the other way round
+-- exactly one of two different tasks is before the other
 before_other : (a b : Task) → a ≢ b → task_before a b ≡ not (task_before b a)
 before_other a b ne = by (task_cmp a b) (task_cmp-compares a b)
   where
@@ -48,7 +48,7 @@ module _ {A : Type 0} (key : A → Task) where
       (λ h. sym (insert_swap y x h (before_other (key x) (key y) ne ∙ ap not h) l))
       (λ h. insert_swap x y (before_other (key x) (key y) ne ∙ ap not h) h l)
 
-  -- each task has one row at most
+  -- each task has at most one row
   abbrev pub HaveOneRow : (Task → List A) → Type 0
   HaveOneRow g = (t : Task) → (g t ≡ []) ⊎ ((x : A) × (g t ≡ x ∷ []) × (key x ≡ t))
 

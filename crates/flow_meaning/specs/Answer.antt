@@ -1,5 +1,7 @@
--- The answer of a job: all tasks that trap; else the final data, where all tasks run; else the stall, with the
--- discovered tasks that wait. Source: this project's own choice.
+-- The answer of a job: all tasks that trap, if any do; else the final data, if all tasks run; else the stall, with the
+-- tasks that wait.
+-- Carried by: `flow_core::run_one`.
+-- Tested by: `jobs.txt`, `answers.txt`, `chain.txt`, `traps.txt`, `stalls.txt`, `examples.txt`.
 use Rattle.std.specs.Prelude.{ℕ, nat_lt, ◌==◌, List, [], ◌∷◌, length, filter, flat_map, Ok, Err, Option, Some, None, is_some, if◌then◌else◌}
 use Rattle.ptg_base.specs.Task.{Task}
 use Rattle.ptg_base.specs.TaskOrder.{in_task_order}
@@ -21,7 +23,7 @@ use Rattle.flow_meaning.specs.Final.{final_data}
 unfoldable pub ran : Plan → Data → List Task
 ran P G = filter (λ t. is_some (ended P G t)) (all_tasks P)
 
--- the row of a task that ends so, if it traps
+-- the row of a task with this end, if it traps
 abbrev pub trap_rows : Task → Option Ended → List TrapRow
 trap_rows t None = []
 trap_rows t (Some (Ok tiles)) = []
@@ -50,7 +52,7 @@ abbrev pub answer_from : List TrapRow → ℕ → ℕ → List WaitRow → Data 
 answer_from (r ∷ rows) n all waits final = Trapped (r ∷ rows)
 answer_from [] n all waits final = if n == all then Complete all final else Stalled n all waits
 
--- the answer, where these tasks trap
+-- the answer, given the rows of the tasks that trap
 abbrev pub answer_by : Plan → Data → List TrapRow → Outcome
 answer_by P G rows = answer_from rows (length (ran P G)) (length (all_tasks P)) (waiting P G) (final_data P G)
 

@@ -1,4 +1,4 @@
--- When two places, edges, write-backs or items are the same: where all their numbers are.
+-- When two places, edges, write-backs or items are the same: when all their numbers are.
 use Rattle.std.specs.Prelude.{Bool, false, ◌&&◌, nat_eq}
 use Rattle.std.specs.Ordering.{int_eq}
 use Rattle.ptg_base.specs.TaskComparing.{same_task}

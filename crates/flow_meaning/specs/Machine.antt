@@ -1,6 +1,7 @@
--- The event machine of a job: tasks are claimed and items are sent, in any order in which each event is possible.
--- Source: DAGuE (Parallel Computing, 2012): a task may run once all its dependences have come, and then satisfies those
--- of its successors.
+-- The event machine of a job, and its quiescence: tasks are claimed and items are sent, in any order in which each
+-- event is possible. Source: DAGuE (Parallel Computing, 2012): a task may run once all its dependences have come, and
+-- then satisfies those of its successors.
+-- Carried by: laws of `flow_meaning`.
 use Rattle.std.specs.Prelude.{◌≡◌, ℕ, ℤ, nat_lt, List, [], ◌∷◌, ◌++◌, Bool, IsTrue, Option, None, if◌then◌else◌, ◌&&◌}
 use Rattle.std.specs.Option.{option_eq}
 use Rattle.std.specs.Ordering.{int_eq}
@@ -20,12 +21,12 @@ use Rattle.flow_meaning.specs.Comparing.{same_item}
 use Rattle.flow_meaning.specs.Starting.{Delivery}
 use Rattle.flow_meaning.specs.Ending.{Ended, has_outputs, output_tile, ended_on}
 
--- an item that was sent, and the tile that was sent with it: none with an edge of a CTL flow
+-- an item that was sent, and the tile that was sent with it; there is none with an edge of a CTL flow
 pub record SentItem : Type 0 where
   pub item : Item
   pub tile : Option (List ℤ)
 
--- an item with the tile that a task which ends so leaves in the flow of the item
+-- an item with the tile that its task leaves in the item's flow, if the task ends so
 abbrev pub item_from : Option Ended → Item → SentItem
 item_from end i = record { item = i; tile = output_tile end (item_flow i) }
 
@@ -37,8 +38,8 @@ same_tile = option_eq (pointwise int_eq)
 abbrev pub same_sent_item : SentItem → SentItem → Bool
 same_sent_item a b = same_item a.item b.item && same_tile a.tile b.tile
 
--- what has happened: the tasks that were claimed, and the items that were sent. An event adds to a list at its end. No
--- law reads the order of a list, but the one that claims are a legal order
+-- what has happened: the tasks that were claimed, and the items that were sent. An event adds to a list at its end. The
+-- order of the lists matters to one law alone: that claims are a legal order
 pub record MachineState : Type 0 where
   pub claims : List Task
   pub sends : List SentItem
@@ -73,8 +74,8 @@ abbrev pub first_tile : Item → List SentItem → Option (List ℤ)
 first_tile i [] = None
 first_tile i (x ∷ xs) = if same_item i x.item then x.tile else first_tile i xs
 
--- what each edge delivers where these items were sent: the tile that was sent first with it (in a sound state it is sent
--- at most once)
+-- what each edge delivers if these items were sent: the tile that was first sent with it. In a sound state an edge is
+-- sent at most once
 abbrev pub sent_tile : List SentItem → Delivery
 sent_tile sends e = first_tile (item.Edge e) sends
 
@@ -87,14 +88,14 @@ pub data Event : Type 0 where
   Claim : Task → Event
   Send : Item → Event
 
--- a task may be claimed that was not, once all edges into it were sent
+-- a task that was not claimed may be claimed once all edges into it were sent
 pub record MayClaim (P : Plan) (S : MachineState) (t : Task) : Type 0 where
   pub task : IsTask P t
   pub unclaimed : claim_count S t ≡ 0
   pub all_arrived : arrived P S t ≡ goal P t
 
--- an item may be sent that was not, once its task was claimed, if the body of the task has outputs on the tiles that
--- were sent to it
+-- an item that was not sent may be sent once its task was claimed, if the task has outputs on the tiles that were sent
+-- to it
 pub record MaySend (P : Plan) (G : Data) (S : MachineState) (i : Item) : Type 0 where
   pub unsent : send_count S i ≡ 0
   pub claimed : IsIn (sender i) S.claims
@@ -115,7 +116,7 @@ abbrev pub state_after : Plan → Data → MachineState → Event → MachineSta
 state_after P G S (Claim t) = record { claims = S.claims ++ t ∷ []; sends = S.sends }
 state_after P G S (Send i) = record { claims = S.claims; sends = S.sends ++ sent_with P G S i ∷ [] }
 
--- these events happen one after another, each where it is possible, and lead from one state to another
+-- these events happen one after another, each when it is possible, and lead from one state to another
 abbrev pub Happen : Plan → Data → List Event → MachineState → MachineState → Type 0
 Happen P G [] S T = S ≡ T
 Happen P G (e ∷ es) S T = IsPossible P G S e × Happen P G es (state_after P G S e) T

@@ -1,4 +1,4 @@
--- A table of numbers by task. Source: this project's own choice.
+-- A table of numbers by task.
 use Rattle.std.specs.Prelude.{ℕ, List, unwrap_or}
 use Rattle.std.specs.Map.{lookup}
 use Rattle.ptg_base.specs.Task.{Task}

@@ -1,5 +1,5 @@
 -- Sound states of the event machine: what is claimed may run, and what is sent is what the backward meaning says.
--- Source: this project's own choice.
+-- Carried by: laws of `flow_meaning`.
 use Rattle.std.specs.Prelude.{◌≡◌, ◌≤◌, ◌⊎◌, List, IsTrue, IsFalse}
 use Rattle.ptg_base.specs.Lists.{IsIn}
 use Rattle.ptg_base.specs.Task.{Task}
@@ -14,7 +14,7 @@ use Rattle.flow_meaning.specs.Ending.{has_outputs, output_tile}
 use Rattle.flow_meaning.specs.Backward.{ended}
 use Rattle.flow_meaning.specs.Machine.{Event, Happen, MachineState, MayClaim, SentItem, arrived, claim_count, is_sent, opening_state, send_count, sender, item_from}
 
--- a task of the job all of whose in edges were sent
+-- all edges into a task of the job were sent
 pub record HasAllArrived (P : Plan) (S : MachineState) (t : Task) : Type 0 where
   pub task : IsTask P t
   pub all_arrived : arrived P S t ≡ goal P t
@@ -23,8 +23,8 @@ pub record HasAllArrived (P : Plan) (S : MachineState) (t : Task) : Type 0 where
 abbrev pub with_its_tile : Plan → Data → Item → SentItem
 with_its_tile P G i = item_from (ended P G (sender i)) i
 
--- an item of a claimed task that has outputs by the backward meaning, sent with the tile that the task leaves in the
--- flow of the item
+-- an item of a claimed task was sent: by the backward meaning the task has outputs, and leaves this tile in the item's
+-- flow
 pub record IsOutput (P : Plan) (G : Data) (S : MachineState) (x : SentItem) : Type 0 where
   pub claimed : IsIn (sender x.item) S.claims
   pub is_item : IsIn x.item (items P (sender x.item))
@@ -51,11 +51,11 @@ pub record IsReached (P : Plan) (G : Data) (S : MachineState) : Type 0 where
   pub happen : Happen P G events opening_state state
   pub same : IsReordered S state
 
--- a claimed task that does no more: it traps, or all its items were sent
+-- a claimed task is finished: it traps, or all its items were sent
 abbrev pub IsFinished : Plan → Data → MachineState → Task → Type 0
 IsFinished P G S t = IsFalse (has_outputs (ended P G t)) ⊎ ((i : Item) → IsIn i (items P t) → IsTrue (is_sent S i))
 
--- no task may be claimed, and each claimed task does no more
+-- no task may be claimed, and each claimed task is finished
 pub record IsAtRest (P : Plan) (G : Data) (S : MachineState) : Type 0 where
   pub none_ready : (t : Task) → MayClaim P S t → ⊥
   pub all_finished : (t : Task) → IsIn t S.claims → IsFinished P G S t

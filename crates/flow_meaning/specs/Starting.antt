@@ -1,6 +1,8 @@
--- The tiles that a task starts on, by flow, where it is known what the edges into it deliver. Source: DAGuE (Parallel
--- Computing, 2012): a task runs on what its sources gave; PaRSEC (2013) for `NEW`; that a new tile is zeros, and that a
--- WRITE flow without a source starts as new, is this project's own choice.
+-- The tiles that a task starts on, by flow, given what the edges into it deliver. Source: DAGuE (Parallel Computing,
+-- 2012): a task runs on the outputs of its sources; PaRSEC (2013) for `NEW`. That a new tile is zeros, and that a WRITE
+-- flow without a source starts as new, is this project's own choice.
+-- Carried by: `flow_core::run_one`; laws `a_task_ends_by_its_sources`, `what_a_round_finds_stays`.
+-- Tested by: `jobs.txt`, `answers.txt`, `chain.txt`, `traps.txt`, `stalls.txt`, `examples.txt`.
 use Rattle.std.specs.Prelude.{ℕ, suc, ℤ, pos, List, [], ◌∷◌, ◌++◌, map, replicate, slice_index, Option, Some, None, option_to_list, if◌then◌else◌}
 use Rattle.ptg_base.specs.Entry.{FlowTile}
 use Rattle.ptg_base.specs.Task.{Task}
@@ -37,8 +39,8 @@ unsourced_tile Write new = Some new
 unsourced_tile Rw new = None
 unsourced_tile Ctl new = None
 
--- the tile that a source gives a flow: what the edge delivers, the element as the data give it, or a new tile; `NULL`
--- gives none
+-- the tile that a flow gets from its source: what the edge delivers, the element of the data, or a new tile; none from
+-- `NULL`
 abbrev pub tile_from : Plan → Data → Delivery → FlowPlan → Source → Option (List ℤ)
 tile_from P G delivered f (source.Task e) = delivered e
 tile_from P G delivered f (source.Place p) = tile_at G.colls p
@@ -51,7 +53,7 @@ abbrev pub starting_tile : Plan → Data → Delivery → Task → ℕ → FlowP
 starting_tile P G delivered t n f =
     if is_data (Some f.kind) then tile_from P G delivered f (data_source P t n) else None
 
--- the tiles that these flows of a task start on, which are numbered from n on
+-- the tiles that these flows of a task start on; the flows are numbered from n on
 abbrev pub tiles_from : Plan → Data → Delivery → Task → ℕ → List FlowPlan → List (Option (List ℤ))
 tiles_from P G delivered t n [] = []
 tiles_from P G delivered t n (f ∷ fs) = starting_tile P G delivered t n f ∷ tiles_from P G delivered t (suc n) fs

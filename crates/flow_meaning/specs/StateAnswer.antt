@@ -1,5 +1,6 @@
--- The answer of a job as a quiescent state of the event machine has it: by how the claimed tasks end, what was written
--- back and which tasks wait. Source: this project's own choice.
+-- The answer of a job from a quiescent state of the event machine: from how the claimed tasks end, what was written
+-- back and which tasks wait.
+-- Carried by: laws of `flow_meaning`.
 use Rattle.std.specs.Prelude.{ℤ, List, [], ◌∷◌, length, flat_map, Bool, Option, None, if◌then◌else◌}
 use Rattle.ptg_base.specs.TaskOrder.{in_task_order}
 use Rattle.ptg_base.specs.declared.place.Place.{Place}
@@ -23,15 +24,15 @@ abbrev pub first_written : (Place → Bool) → List (WriteBack × Option (List 
 first_written here [] = None
 first_written here (w ∷ ws) = if here w.0.place then w.1 else first_written here ws
 
--- the data with each place replaced to which a tile was written back
+-- the data with the tile of each place replaced by what was written back to it, if anything was
 unfoldable pub state_data : Data → MachineState → Data
 state_data G S = replaced_data (λ here. first_written here (written S)) G
 
--- the answer, where these tasks trap
+-- the answer, given the rows of the tasks that trap
 abbrev pub state_answer_by : Plan → Data → MachineState → List TrapRow → Outcome
 state_answer_by P G S rows =
     answer_from rows (length S.claims) (length (all_tasks P)) (waiting_rows P S) (state_data G S)
 
--- the answer of a job, as a quiescent state has it
+-- the answer of a job from a quiescent state
 unfoldable pub state_answer : Plan → Data → MachineState → Outcome
 state_answer P G S = state_answer_by P G S (state_traps P G S)

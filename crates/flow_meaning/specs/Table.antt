@@ -1,6 +1,7 @@
 -- What a table of dependences holds in a state of the event machine: the tasks that are ready, those that wait, and
 -- what was written back. Source: DAGuE (Parallel Computing, 2012), where an entry counts the dependences that have
 -- come.
+-- Carried by: laws of `flow_meaning`.
 use Rattle.std.specs.Prelude.{ℤ, nat_lt, ◌==◌, List, map, filter, filter_map, Bool, ◌&&◌, ◌||◌, Option, Some, None, if◌then◌else◌}
 use Rattle.ptg_base.specs.Entry.{Entry}
 use Rattle.ptg_base.specs.Task.{Task}
@@ -16,8 +17,8 @@ use Rattle.flow_meaning.specs.declared.outcome.WaitRow.{WaitRow}
 use Rattle.flow_meaning.specs.Starting.{delivered_tiles}
 use Rattle.flow_meaning.specs.Machine.{SentItem, MachineState, claim_count, arrived, sent_tile}
 
--- what a table holds of a task that is not claimed: the number of edges into it, how many of them were sent, its
--- priority, and the tiles that were sent to it
+-- what a table holds of an unclaimed task: the number of edges into it, how many of them were sent, its priority, and
+-- the tiles that were sent to it
 abbrev pub entry_of : Plan → MachineState → Task → Entry
 entry_of P S t =
     record {
@@ -39,7 +40,7 @@ is_ready P S t = is_unclaimed S t && (arrived P S t == goal P t)
 abbrev pub is_waiting : Plan → MachineState → Task → Bool
 is_waiting P S t = is_unclaimed S t && (nat_lt 0 (arrived P S t) && nat_lt (arrived P S t) (goal P t))
 
--- the entry of a task, if it has one: it does where it is ready or waits. It is asked for tasks of the job alone
+-- the entry of a task, if it is ready or waits. It is used for tasks of the job alone
 abbrev pub table_entry : Plan → MachineState → Task → Option Entry
 table_entry P S t = if is_ready P S t || is_waiting P S t then Some (entry_of P S t) else None
 
@@ -59,7 +60,7 @@ wait_row P S t = record { task = t; arrived = arrived P S t; goal = goal P t }
 unfoldable pub waiting_rows : Plan → MachineState → List WaitRow
 waiting_rows P S = in_task_order (λ (r : WaitRow). r.task) (map (wait_row P S) (waiting_tasks P S))
 
--- the write-back that was sent, with its tile
+-- the write-back with its tile, if the item is one
 abbrev pub written_by : Item → Option (List ℤ) → Option (WriteBack × Option (List ℤ))
 written_by (item.Edge e) tile = None
 written_by (item.Write w) tile = Some (w, tile)

@@ -16,8 +16,8 @@ ghost use Rattle.dep_iter.specs.Consistent.{IsConsistent};
 ghost use Rattle.flow_meaning.specs.Ending.{Ended};
 ghost use Rattle.flow_meaning.specs.Backward.{ended, ended_after, ended_within};
 
-/// A law: in a well task, an edge that is the source of a data flow is one of those into the task, and it is the only
-/// one into its flow.
+/// A law: if the source of a data flow of a well task is an edge, that edge goes into the task. It is the only one into
+/// that flow.
 pub fn the_source_of_a_flow_is_the_edge_into_it()
     ensures among { (P : Plan) (t : Task) (n : ℕ) (f : FlowPlan) (e : Edge) → IsTask P t → IsWellTask P t
         → slice_get (flows_of P t) n ≡ Some f → IsTrue (is_data (Some f.kind)) → data_source P t n ≡ source.Task e
@@ -27,7 +27,7 @@ pub fn the_source_of_a_flow_is_the_edge_into_it()
         → data_source P t n ≡ source.Task e }
 {}
 
-/// A law: what a round finds stays so in later rounds, so no task ends in two ways.
+/// A law: if a round finds how a task ends, later rounds find the same. So no task ends in two ways.
 pub fn what_a_round_finds_stays()
     ensures stays { (P : Plan) (G : Data) (n more : ℕ) (t : Task) (end : Ended) → IsConsistent P → IsTask P t
         → ended_within P G n t ≡ Some end → ended_within P G (n + more) t ≡ Some end }

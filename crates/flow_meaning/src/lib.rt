@@ -1,4 +1,4 @@
-//! What a job computes, and the event machine that every run of a job is: definitions and their laws.
+//! What a job computes, and the event machine that describes every run: definitions, and laws that the two agree.
 #![tactic(auto)]
 
 mod laws;

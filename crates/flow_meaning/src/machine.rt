@@ -1,4 +1,4 @@
-//! Laws of the event machine: whatever events happen, forward is as backward.
+//! Laws of the event machine: whatever events happen, it agrees with the backward meaning.
 
 ghost use Rattle.std.specs.Prelude.{◌≡◌, ◌≢◌, ◌↔◌, ◌+◌, List, IsSome, IsTrue};
 ghost use Rattle.ptg_base.specs.Lists.{IsIn};
@@ -23,8 +23,8 @@ ghost use Rattle.flow_meaning.specs.Sound.{IsAtRest, HasAllArrived, IsReordered,
 ghost use Rattle.flow_meaning.specs.StateAnswer.{state_answer, state_traps};
 ghost use Rattle.flow_meaning.specs.Table.{table_entry, waiting_rows};
 
-/// A law: the opening state is sound, and every list of events leads from a sound state to a sound state. So no task is
-/// claimed twice, and no item is sent twice.
+/// A law: the opening state is sound, and every list of possible events leads from a sound state to a sound state. So
+/// no task is claimed twice, and no item is sent twice.
 pub fn events_keep_states_sound()
     ensures opening { (P : Plan) (G : Data) → IsSoundState P G opening_state }
     ensures event { (P : Plan) (G : Data) (S : MachineState) (e : Event) → IsConsistent P → IsSoundState P G S
@@ -33,8 +33,8 @@ pub fn events_keep_states_sound()
         → Happen P G es S T → IsSoundState P G T }
 {}
 
-/// A law: in a sound state, the tiles that were sent to a task are its inputs once all edges into it were sent, and so
-/// for every claimed task. On these the task ends as the backward meaning says.
+/// A law: in a sound state, once all edges into a task were sent, the tiles that were sent to it are its inputs. This
+/// is so for every claimed task. On these tiles the task ends as the backward meaning says.
 pub fn tasks_have_their_inputs()
     ensures inputs { (P : Plan) (G : Data) (S : MachineState) (t : Task) → IsConsistent P → IsSoundState P G S
         → HasAllArrived P S t → delivered_tiles P (sent_tile S.sends) t ≡ inputs P G t }
@@ -44,9 +44,9 @@ pub fn tasks_have_their_inputs()
         → HasAllArrived P S t → IsSome (ended P G t) }
 {}
 
-/// A law: a send of an edge is one more arrival at the edge's target, and changes the arrivals of no other task; a send
-/// of a write-back changes none. The edge delivers what its task leaves in its flow, and other edges deliver what they
-/// did.
+/// A law: a send of an edge is one more arrival at the edge's target, and changes the arrivals of no other task. A send
+/// of a write-back changes none. The edge delivers what its source leaves in its flow, and other edges deliver what
+/// they did before.
 pub fn an_edge_arrives_at_its_target()
     ensures target { (P : Plan) (G : Data) (S : MachineState) (e : Edge) → IsConsistent P → IsSoundState P G S
         → MaySend P G S (item.Edge e) → arrived P (state_after P G S (Send (item.Edge e))) e.to ≡ arrived P S e.to + 1 }
@@ -62,15 +62,16 @@ pub fn an_edge_arrives_at_its_target()
         → sent_tile (state_after P G S (Send i)).sends d ≡ sent_tile S.sends d }
 {}
 
-/// A law: a sound state is quiescent exactly where no task may be claimed and each claimed task does no more.
+/// A law: a sound state is quiescent if and only if it is at rest. At rest, no task may be claimed, and each claimed
+/// task traps or has sent all its items.
 pub fn quiescent_states_are_at_rest()
     ensures { (P : Plan) (G : Data) (S : MachineState) → IsConsistent P → IsSoundState P G S
         → IsQuiescent P G S ↔ IsAtRest P G S }
 {}
 
-/// A law: in a quiescent sound state, the tasks that were claimed are those that run, each once; the items that were
-/// sent are those of the tasks that have outputs; the tasks that wait and those that trap are those of the backward
-/// meaning, and so is the answer.
+/// A law: in a quiescent sound state, the claimed tasks are those that run, each once. The items that were sent are
+/// those of the tasks that have outputs. The tasks that wait, those that trap and the answer are those of the backward
+/// meaning.
 pub fn a_quiescent_state_has_the_meaning()
     ensures claims { (P : Plan) (G : Data) (S : MachineState) → IsConsistent P → IsSoundState P G S → IsQuiescent P G S
         → HasSameMembers S.claims (ran P G) }
@@ -85,8 +86,8 @@ pub fn a_quiescent_state_has_the_meaning()
         → answer P G ≡ state_answer P G S }
 {}
 
-/// A law: in whatever order tasks were claimed and items sent, the state is as sound, the same events are possible, and
-/// a table holds the same.
+/// A law: the order in which tasks were claimed and items sent does not matter. A reordered sound state is sound, the
+/// same events are possible in it, and a table holds the same.
 pub fn order_does_not_matter()
     ensures sound { (P : Plan) (G : Data) (S T : MachineState) → IsSoundState P G S → IsReordered S T
         → IsSoundState P G T }
@@ -98,8 +99,8 @@ pub fn order_does_not_matter()
         → IsReordered S T → table_entry P S t ≡ table_entry P T t }
 {}
 
-/// A law: lists of tasks have the same members, each as often, exactly where each task occurs equally often in both;
-/// likewise lists of what was sent.
+/// A law: two lists of tasks have the same members, each as often, if and only if each task occurs equally often in
+/// both. Likewise two lists of sent items.
 pub fn the_same_members_are_the_same_counts()
     ensures claims { (xs ys : List Task) → HasSameMembers xs ys ↔ HaveSameCounts same_task xs ys }
     ensures sends { (xs ys : List SentItem) → HasSameMembers xs ys ↔ HaveSameCounts same_sent_item xs ys }

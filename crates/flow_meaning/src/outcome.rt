@@ -11,7 +11,7 @@ pub struct TrapRow {
     pub cause: Trap,
 }
 
-/// A task that waits: how many of the edges into it have come, and how many there are.
+/// A task that waits: how many of the edges into it have arrived, and how many there are.
 #[derive(Drop)]
 pub struct WaitRow {
     pub task: TaskId,
@@ -22,9 +22,9 @@ pub struct WaitRow {
 /// The answer of a job.
 #[derive(Drop)]
 pub enum Outcome {
-    /// All tasks ran: how many, and the data with what they wrote back.
+    /// All tasks ran: their number, and the data after their write-backs.
     Complete(u64, Given),
-    /// Some task trapped: all that did, in task order.
+    /// Some task trapped: all tasks that did, in task order.
     Trapped(Seq<TrapRow>),
     /// Some task could not run: how many ran, how many there are, and those that wait, in task order.
     Stalled(u64, u64, Seq<WaitRow>),

@@ -6,14 +6,14 @@ use std::sync::atomic::{AtomicU64, Ordering};
 use std::thread::Threads;
 use worker_core::Gate;
 
-/// How many bodies have begun.
+/// Counts the bodies that have begun.
 #[derive(Drop)]
 pub struct Begun {
     begun: AtomicU64,
 }
 
 impl Begun {
-    /// No body has begun.
+    /// A gate before any body has begun.
     pub fn new() -> Begun {
         Begun {
             begun: AtomicU64::new(0),

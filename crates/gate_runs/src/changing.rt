@@ -1,10 +1,10 @@
-//! A file that changes once it was read to its end.
+//! Files that change once one of them was read to its end.
 
 ghost use Rattle.std.specs.Prelude.{◌<◌, ◌≤◌, length, IfOk};
 
 use ptg_io::{Failed, Files, MemFiles, Offset, ReadHistory};
 
-/// Files in memory, and others that take their place once one was read to its end.
+/// Files in memory, and those that take their place once one of them was read to its end.
 #[derive(Drop)]
 pub struct TwoStates {
     pub before: MemFiles,
@@ -13,7 +13,7 @@ pub struct TwoStates {
 }
 
 impl TwoStates {
-    // Reads the files as they are, and changes them at the end of one.
+    // Reads a file as it is now, and changes all files if the read was at the end of one.
     fn read(&mut self, name: &str, from: u64, into: &mut [u8]) -> Result<usize, Failed>
         requires { 0 < length into.old }
         ensures { IfOk result (λ n. n ≤ length into.new) }
@@ -27,7 +27,7 @@ impl TwoStates {
     }
 }
 
-/// Files that change once one was read to its end. Contracts see what reads gave.
+/// Files that change once one of them was read to its end. Contracts see what the reads returned.
 #[derive(Drop)]
 pub struct ChangingFiles {
     states: TwoStates,

@@ -1,5 +1,6 @@
-//! The program with a gate that counts the bodies that begin. With a preload a run that wants memory has begun no body.
-//! Where one has, this is printed, so that a run with status 9 and no text shows that none had.
+//! The program with a gate that counts the bodies that begin. A preloaded run that is out of memory has begun no body.
+//! If one has begun in a run that is out of memory, the program prints so. A run with status 9 and no text shows that
+//! none had.
 
 use crate::begun::Begun;
 use ptg_base::Text;
@@ -12,7 +13,7 @@ use std::rt::Files;
 use std::sync::Wait;
 use std::thread::Threads;
 
-/// Carries out a command, over the system's files.
+/// Carries out a command over the system's files.
 pub fn carried_out<R: Threads + Wait + Files + Print + Sync>(
     rt: &R,
     alloc: Global,
@@ -22,7 +23,7 @@ pub fn carried_out<R: Threads + Wait + Files + Print + Sync>(
     let ended = carry_out(rt, alloc, words, io::writer(rt), &gate);
     let bodies = gate.bodies();
     if ended.status == Status::OutOfMemory && bodies > 0 {
-        // A line that can't be written gives way to a status that no run without memory has.
+        // If the line can't be written, the status is one that no run out of memory has.
         if println!(rt; "no memory after the begin of {bodies} bodies").is_err() {
             return ExitCode::FAILURE;
         }

@@ -8,17 +8,17 @@ use std::sync::atomic::{AtomicU64, Ordering};
 use std::thread::Threads;
 use worker_core::Gate;
 
-// Tasks of at most four classes with at most three parameters from 0 to 3 have a number each below this.
+// Tasks of at most four classes, with at most three parameters from 0 to 3, each have a number below this.
 const TASKS: usize = 256;
 
-/// Counts the bodies of each task, and those of tasks that have no number.
+/// Counts the bodies of each task, and those of tasks without a number.
 #[derive(Drop)]
 pub struct Counting {
     bodies: Vec<AtomicU64>,
     others: AtomicU64,
 }
 
-/// How many tasks had their body run once, and how many bodies there were besides.
+/// How many tasks had their body run once, and how many other bodies there were.
 #[derive(Clone, Copy)]
 pub struct Counts {
     once: u64,
@@ -31,7 +31,7 @@ impl fmt::Display for Counts {
     }
 }
 
-// A digit of the number of a task: its parameter, where there is one from 0 to 3.
+// A digit of the number of a task: its parameter if there is one from 0 to 3, else 0.
 fn digit(params: &[i64], at: usize) -> usize {
     match params.get(at) {
         Some(1) => 1,
@@ -52,7 +52,7 @@ pub fn number_of(task: &TaskId) -> usize {
 }
 
 impl Counting {
-    /// No body was run.
+    /// A gate before any body was run.
     pub fn new(alloc: Global) -> Result<Counting, OutOfMemory> {
         let mut bodies = Vec::new(alloc);
         for _ in 0..TASKS {

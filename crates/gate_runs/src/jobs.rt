@@ -1,6 +1,6 @@
 //! The jobs that are run, with what is printed of them.
 
-/// Two tasks that need nothing of each other.
+/// Two tasks without an edge between them.
 pub const PAIR: &[u8] = b"D
 
 T(k)
@@ -16,7 +16,7 @@ pub const ONE_TILE: &[u8] = b"elems,1
 coll,D,1
 ";
 
-/// Its answer, with the data of one tile.
+/// What is printed of it with the data of one tile.
 pub const PAIR_ANSWER: &[u8] = b"complete,2
 tile,D,0,0
 ";
@@ -27,7 +27,7 @@ int,NT,4
 coll,D,4,4
 ";
 
-/// Its answer.
+/// What is printed of it.
 pub const CHOLESKY_ANSWER: &[u8] = b"complete,20
 tile,D,0,0,1,0,1
 tile,D,0,1,0,0,0
@@ -47,7 +47,7 @@ tile,D,3,2,3,3,1
 tile,D,3,3,4,6,1
 ";
 
-/// The made job with an extern block, an option, comments and properties, which mean nothing.
+/// The made job with an extern block, an option, comments and properties, which change nothing.
 pub const DECORATED: &[u8] = b"extern \"C\" %{
 #include <stdio.h>
 %}
@@ -109,7 +109,7 @@ C[0] = C[0] + 1; C[1] = C[1] + k;
 END
 ";
 
-/// T(0) waits for itself beside an edge that comes.
+/// T(0) waits for itself, and for an edge that arrives.
 pub const STALL: &[u8] = b"D
 
 S(z)
@@ -129,12 +129,12 @@ BODY
 END
 ";
 
-/// Its answer, with the data of one tile.
+/// What is printed of it with the data of one tile.
 pub const STALL_ANSWER: &[u8] = b"stalled,1,2
 wait,T,0,1,2
 ";
 
-/// Four tasks alone, two of which trap.
+/// Four tasks without edges; two of them trap.
 pub const TRAPS: &[u8] = b"D
 
 T(k)
@@ -147,7 +147,7 @@ if (k == 3) { A[1] = 1; }
 END
 ";
 
-/// Its answer, with the data of one tile.
+/// What is printed of it with the data of one tile.
 pub const TRAPS_ANSWER: &[u8] = b"trapped,2
 trap,T,2,divide
 trap,T,3,index

@@ -1,7 +1,9 @@
-//! Runs jobs through the program with gates that wait, count or note, and prints how each run ends. Two bodies at once
-//! show that there are two threads, a count of the bodies of each task that each is run once, and the notes of the
-//! tasks of one worker that `trace` prints them in their order. What `trace` prints is replayed. A job is also run from
-//! one file that changes between its loads. With arguments it is the program with a gate that counts bodies.
+//! Runs jobs through the program with gates that wait, count or note, and prints how each run ends. With arguments it
+//! is the program with a gate that counts bodies.
+//!
+//! Two bodies at once show that there are two threads. A count of each task's bodies shows that each is run once. The
+//! notes of one worker's tasks show that `trace` prints them in their order. What `trace` prints is replayed. A job is
+//! also run from one file that changes between its loads.
 #![tactic(auto)]
 
 mod begun;
@@ -33,7 +35,7 @@ use std::sync::Wait;
 use std::thread::Threads;
 use worker_core::Always;
 
-// Two tasks, the first of which may run its body only once the second has come.
+// Runs two tasks. The one that comes first may run its body only once the other has come.
 fn meet<R: Threads + Wait + Print + Sync>(rt: &R, alloc: Global) -> io::Result<()> {
     let gate = Meeting::new();
     let job = Job {
@@ -48,7 +50,7 @@ fn meet<R: Threads + Wait + Print + Sync>(rt: &R, alloc: Global) -> io::Result<(
     Ok(())
 }
 
-// Each body of the Cholesky job with four rows of tiles is counted. Its text is the made one, or a decorated one.
+// Counts each body of the Cholesky job with four rows of tiles. Its text is the made one, or a decorated one.
 fn count<R: Threads + Wait + Print + Sync>(
     rt: &R,
     alloc: Global,
@@ -70,7 +72,7 @@ fn count<R: Threads + Wait + Print + Sync>(
     Ok(())
 }
 
-// The tasks of the Cholesky job are noted in the order in which one worker runs them, and its trace must be that order.
+// Notes the tasks of the Cholesky job in the order in which one worker runs them. The trace must have that order.
 fn note<R: Threads + Wait + Print + Sync>(rt: &R, alloc: Global, options: &str) -> io::Result<()> {
     let job = Job {
         jdf: JDF,
@@ -87,7 +89,7 @@ fn note<R: Threads + Wait + Print + Sync>(rt: &R, alloc: Global, options: &str) 
     Ok(())
 }
 
-// A job is run with these options, and what `trace` prints of it with the same ones is replayed.
+// Runs a job with several numbers of workers, and replays what `trace` prints of it with the same ones.
 fn replay<R: Threads + Wait + Print + Sync>(
     rt: &R,
     alloc: Global,
@@ -107,7 +109,7 @@ fn replay<R: Threads + Wait + Print + Sync>(
     Ok(())
 }
 
-// The traces of a job that is complete, of one that stalls and of one with traps are replayed.
+// Replays the traces of a job that is complete, of one that stalls and of one with traps.
 fn replay_all<R: Threads + Wait + Print + Sync>(rt: &R, alloc: Global) -> io::Result<()> {
     for (name, jdf, data, answer) in [
         ("cholesky", JDF, CHOLESKY_DATA, CHOLESKY_ANSWER),
@@ -119,7 +121,7 @@ fn replay_all<R: Threads + Wait + Print + Sync>(rt: &R, alloc: Global) -> io::Re
     Ok(())
 }
 
-// The JDF and the data of the Cholesky job are loaded from one file, which changes between its loads.
+// Loads the JDF and the data of the Cholesky job from one file, which changes between its loads.
 fn change<R: Threads + Wait + Print + Sync>(rt: &R, alloc: Global) -> io::Result<()> {
     let job = Job {
         jdf: JDF,

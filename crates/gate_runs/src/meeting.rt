@@ -6,10 +6,10 @@ use std::sync::atomic::{AtomicBool, AtomicU64, Ordering};
 use std::thread::{Threads, yield_now};
 use worker_core::Gate;
 
-// After this many looks the gate gives up, and lets the body run alone.
+// After this many looks the gate gives up and lets the body run alone.
 const LOOKS: u64 = 100_000_000;
 
-// It lets other threads run after this many looks.
+// Once in this many looks it lets other threads run.
 const PATIENCE: u64 = 1_000;
 
 /// Holds the first body until the second has come, or until it gives up.
@@ -20,7 +20,7 @@ pub struct Meeting {
 }
 
 impl Meeting {
-    /// No body has come.
+    /// A gate before any body has come.
     pub fn new() -> Meeting {
         Meeting {
             come: AtomicU64::new(0),
@@ -28,7 +28,7 @@ impl Meeting {
         }
     }
 
-    /// How it ended.
+    /// How the meeting ended.
     pub fn end(&self) -> &'static str {
         if self.gave_up.load(Ordering::SeqCst) {
             "gave up"

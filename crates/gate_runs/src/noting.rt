@@ -9,10 +9,10 @@ use std::sync::atomic::{AtomicU64, Ordering};
 use std::thread::Threads;
 use worker_core::Gate;
 
-// It notes this many tasks, and counts those after them.
+// It notes the first tasks, this many, and only counts the later ones.
 const NOTES: usize = 64;
 
-// The classes of the Cholesky job in their order, each with how many parameters it has.
+// The classes of the Cholesky job in their order, each with its number of parameters.
 const CLASSES: [(&str, u64); 4] = [("potrf", 1), ("trsm", 2), ("herk", 2), ("gemm", 3)];
 
 /// Notes the numbers of the tasks of the Cholesky job in the order in which they come.
@@ -23,7 +23,7 @@ pub struct Noting {
 }
 
 impl Noting {
-    /// No task has come.
+    /// A gate before any task has come.
     pub fn new(alloc: Global) -> Result<Noting, OutOfMemory> {
         let mut numbers = Vec::new(alloc);
         for _ in 0..NOTES {
@@ -35,7 +35,7 @@ impl Noting {
         })
     }
 
-    /// How many tasks have come.
+    /// The number of tasks that have come.
     pub fn come(&self) -> u64 {
         self.come.load(Ordering::SeqCst)
     }

@@ -1,4 +1,4 @@
-//! A run of a job through the program, over files in memory.
+//! Runs of a job through the program, over files in memory.
 
 use crate::changing::ChangingFiles;
 use crate::noting::Noting;
@@ -11,7 +11,7 @@ use std::sync::Wait;
 use std::thread::Threads;
 use worker_core::Gate;
 
-/// A job's two texts, and what is printed of it.
+/// A job's two texts, and what `run` must print of it.
 #[derive(Drop)]
 pub struct Job<'a> {
     pub jdf: &'a [u8],
@@ -32,12 +32,12 @@ impl fmt::Display for End {
     }
 }
 
-// The name of what was printed, if it is what was looked for.
+// The name of what was printed, if it is what was expected.
 fn name_if(is_so: bool, name: &'static str) -> &'static str {
     if is_so { name } else { "another text" }
 }
 
-// The words of a command with these options.
+// The arguments of a command with these options.
 fn words(alloc: Global, verb: &str, options: &str) -> Result<Vec<Text>, OutOfMemory> {
     let mut list = Vec::new(alloc);
     for word in [verb, "job.jdf", "job.csv"] {
@@ -77,7 +77,7 @@ fn printed<R: Threads + Wait + Sync, G: Gate>(
     Ok((out, ended.status.code()))
 }
 
-// Files in memory that have one file.
+// Files in memory with one file.
 fn one_file(alloc: Global, name: &str, bytes: &[u8]) -> Result<MemFiles, OutOfMemory> {
     let name = Text::of(alloc, name.as_bytes())?;
     let mut list = Seq::new(alloc);
@@ -85,7 +85,7 @@ fn one_file(alloc: Global, name: &str, bytes: &[u8]) -> Result<MemFiles, OutOfMe
     MemFiles::new(alloc, list, Seq::new(alloc))
 }
 
-/// Runs a job whose two files are one that changes between its loads, with this gate.
+/// Runs a job with this gate, from one file that holds the JDF at its first load and the data at its second.
 pub fn ran_from_one_file<R: Threads + Wait + Sync, G: Gate>(
     rt: &R,
     alloc: Global,

@@ -62,7 +62,7 @@ length-by_flow env n (f ∷ fs) =
 pub length-task_links : (P : Plan) (t : Task) → length (task_links P t In) ≡ flows_count (locals_of P t) (flows_of P t)
 length-task_links P t = length-by_flow (locals_of P t) 0 (flows_of P t)
 
--- a product, one factor of which may be too large where the other is 0
+-- a product; if one factor is 0, the other one may be too large
 product_is : (a b m n r : ℕ) → (r ≤ 4000000 → r ≡ a * b) → (a ≤ 4000000 → a ≡ m) → (b ≤ 4000000 → b ≡ n) → r ≤ 4000000
     → r ≡ m * n
 product_is zero b m n r e h k small = rw (sym (h (omega arith))) (e small ∙ zero-mul b ∙ sym (zero-mul n))
@@ -86,6 +86,6 @@ times a b m n r e f h k = (
       f (subst (λ x. x ≤ 4000000) p small) ∙ sym p,
 )
 
--- the number of edges into a task, whose links they are
+-- the number of edges into a task, from its links
 pub length-in_edges : (P : Plan) (t : Task) → map (edge_of_link In t) (task_links P t In) ≡ in_edges P t → flows_count (locals_of P t) (flows_of P t) ≡ length (in_edges P t)
 length-in_edges P t links = sym (length-task_links P t) ∙ sym (length-map (task_links P t In) (edge_of_link In t)) ∙ ap length links

@@ -1,5 +1,7 @@
--- How many edges go into a task, by its dependences: the product of the counts of the arguments for each target of a
--- task.
+-- How many edges go into a task, by its dependences: for each target that names tasks, the number of combinations of
+-- its arguments' values.
+-- Carried by: inside `goal`.
+-- Tested by: `edges.txt`, `edges_cholesky.txt`.
 use Rattle.std.specs.Prelude.{◌≡◌, ◌≤◌, ℕ, ℤ, List, Bool, length, sum_by}
 use Rattle.ptg_base.specs.Limits.{most_edges}
 use Rattle.plan_core.specs.declared.flow.DepPlan.{DepPlan}
@@ -21,10 +23,10 @@ target_count env (target.Element coll indices) = 0
 target_count env target.New = 0
 target_count env target.Null = 0
 
--- how many these dependences give
+-- how many edges these dependences stand for
 abbrev pub held_count : Bool → List DepPlan → List ℤ → ℕ
 held_count first_only ds env = sum_by (target_count env) (held_targets first_only ds env)
 
--- how many go into these flows
+-- how many edges go into these flows
 abbrev pub flows_count : List ℤ → List FlowPlan → ℕ
 flows_count env fs = sum_by (λ (f : FlowPlan). held_count (is_data f.kind) f.ins env) fs

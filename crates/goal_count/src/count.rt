@@ -1,5 +1,5 @@
 //! The number of edges into a task: 1 for each plain edge, and for a gather the product of the counts of its ranges.
-//! Counts stop at the greatest number of their type.
+//! Counts saturate at the greatest number of their type.
 
 ghost use Rattle.std.specs.Prelude.{◌≡◌, [], IsTrue, length};
 ghost use Rattle.std.specs.List.{list_all};
@@ -33,8 +33,8 @@ fn value_count(range: &Range, env: &[i64]) -> u64
 }
 
 /// How many combinations the values of these arguments have: the product of their counts. An argument without a value
-/// makes it 0, however many values the others have. A number over 4,000,000 says only that they are too many. What is no
-/// range has one value, which is not evaluated.
+/// makes it 0, however many values the others have. A result over 4,000,000 says only that there are more than that. An
+/// argument that is no range counts as one value, and is not evaluated.
 pub fn combination_count(args: &[Arg], env: &[i64]) -> u64
     requires { IsTrue (list_all (has_arg env.now) args.now) }
     ensures { IsCount result (length (combinations args.now env.now)) }
@@ -64,7 +64,7 @@ fn target_count(target: &Target, env: &[i64]) -> u64
     }
 }
 
-// How many edges these dependences give.
+// How many edges these dependences stand for.
 fn held_count(first_only: bool, deps: &[DepPlan], env: &[i64]) -> u64
     requires { IsTrue (are_well first_only env.now deps.now) }
     ensures { IsCount result (counting.held_count first_only deps.now env.now) }
@@ -112,7 +112,7 @@ pub fn goal(m: &Matched, t: &TaskId) -> u32
     goal_of(&TaskAt::of(m.plan(), t, &mut Numbers::new()))
 }
 
-/// How many edges go into a task with these locals. No edge is walked.
+/// How many edges go into a task of a consistent plan, given its locals. No edge is walked.
 pub fn goal_under(m: &Matched, t: &TaskId, env: &[i64]) -> u32
     requires task { IsTask m.now t.now }
     requires locals { env.now ≡ tasks.locals_of m.now t.now }

@@ -1,4 +1,4 @@
-//! How many edges go into a task, counted by arithmetic.
+//! Counts the edges into a task by arithmetic over the ranges; no edge is walked.
 #![tactic(auto)]
 
 mod count;

@@ -1,5 +1,5 @@
--- Where all of the tokens were read as a text, a token after them is never a syntax fault: reading continues with it,
--- or ends before it.
+-- If all of the tokens were read as a text, a token after them is never a syntax fault: reading continues with it, or
+-- ends before it.
 use Rattle.std.proofs.Common.{◌≡◌, ℕ, zero, suc, ◌-◌, ◌<◌, ◌≤◌, Bool, true, false, cond, List, [], ◌∷◌, ◌++◌, length, Ok, Err, refl, ◌⊎◌, inl, inr, sym, ap, ◌∙◌, append_assoc, arith, subst}
 use Rattle.std.specs.Prelude.{Option, Some, None, not}
 use Rattle.std.proofs.lemmas.Bool.{and_parts, and_from, not-true, both_ways, cases_order}
@@ -94,14 +94,14 @@ module _ {N : Type 0} {Tree : N → Type 0} (body : (n : N) → Production N Tre
       let left = k.left in
       omega (arith, left, ap (λ (l : List Token). length l) k.parts, length-append k.word k.rest)
 
-  -- where the next token is in the first set, it is no syntax fault
+  -- if the next token is in the first set, it is no syntax fault
   goes_past : {A : Type 0} (g : Production N Tree A) → is_fine c g ≡ true → (s : List Token) → starts (first g) s ≡ true → Passes true (reading body g) s
   goes_past g ok s b = passes c (nonterminal_at body) (nonterminal_shrinks body) (nonterminal_faults body c fine) true (λ _. false) g ok (safe_true (λ _. false) g) s (λ e. absurd cc) b
 
   no_fault_at : {A : Type 0} (g : Production N Tree A) → is_fine c g ≡ true → (s : List Token) → starts (first g) s ≡ true → reading body g s ≡ Err (fault_from_end (length s) Syntax) → ⊥
   no_fault_at g ok s b e = let k = (goes_past g ok s b).0 (fault_from_end (length s) Syntax) e (λ _. refl) in omega (arith, k)
 
-  -- a single token of both first sets is no whole text
+  -- a single token that is in both first sets is no whole text
   not_alone : (a : Terminal → Bool) (y : Token) → a (terminal_of y) ≡ true → {A : Type 0} (g : Production N Tree A) → is_fine c g ≡ true → may_be_empty g ≡ false → alone a g ≡ false → (x : A × List Token) → reading body g (y ∷ []) ≡ Ok x → x.1 ≡ [] → ⊥
   not_alone a y at g ok full single x e none =
       let t = (sound body c fine g ok (y ∷ [])).accepted x e in
@@ -112,7 +112,7 @@ module _ {N : Type 0} {Tree : N → Type 0} (body : (n : N) → Production N Tre
         | inr (inr u) ↦ both_ways (may_be_empty g) full u.1
       ]
 
-  -- which of two productions a whole text is of does not depend on what follows it
+  -- which of two productions a whole text is read as does not depend on what follows it
   same_pick : {A : Type 0} (q : Terminal → Bool) (g h : Production N Tree A) → is_fine c (pick q g h) ≡ true → (w r : List Token) (x : A × List Token) → reading body (pick q g h) w ≡ Ok x → x.1 ≡ [] → picks (first g) (first h) q (w ++ r) ≡ picks (first g) (first h) q w
   same_pick q g h ok [] r x e none =
       let f2 = and_parts (is_fine c h) _ (and_parts (is_fine c g) _ ok).1 in
@@ -312,6 +312,6 @@ module _ {N : Type 0} {Tree : N → Type 0} (body : (n : N) → Production N Tre
   name_goes_on (suc k) n w r x lt e none f =
       run_goes_on k (name_goes_on k) (body n) (name_fine body c fine n) (names_only n) w r x (omega (arith, lt)) (sym (nonterminal_is body n w) ∙ e) none (sym (nonterminal_is body n (w ++ r)) ∙ f)
 
-  -- Where all of w was read, reading more tokens never has a syntax fault right after w.
+  -- If all of w was read, reading more tokens never has a syntax fault right after w.
   pub no_syntax_fault_after : {A : Type 0} (g : Production N Tree A) → is_fine c g ≡ true → LimitsOnly g → (w r : List Token) (x : A × List Token) → reading body g w ≡ Ok x → x.1 ≡ [] → reading body g (w ++ r) ≡ Err (fault_from_end (length r) Syntax) → ⊥
   no_syntax_fault_after g ok l w r x e none f = run_goes_on (length w) (name_goes_on (length w)) g ok l w r x (omega arith) e none f

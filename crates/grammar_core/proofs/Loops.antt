@@ -1,4 +1,4 @@
--- Steps of reading as a loop of the code takes them, for every grammar.
+-- The steps of reading that a loop of the code takes, for every grammar.
 use Rattle.std.proofs.Common.{◌≡◌, ℕ, suc, ◌<◌, ◌≤◌, Bool, true, false, cond, List, [], ◌∷◌, ◌++◌, length, Result, Ok, Err, refl, sym, ap, ◌∙◌, append_assoc}
 use Rattle.std.specs.Prelude.{Option, Some, None}
 use Rattle.std.proofs.lemmas.List.{append-nil}
@@ -39,7 +39,7 @@ with_option true (Ok x) t w f = refl
 with_option true (Err e) t w f = refl
 with_option false r t w f = refl
 
--- the elements that were read, and those that are still to be read
+-- the elements that were read, followed by those that are still to be read
 unfoldable pub so_far : {A : Type 0} → List A → Read (List A) → Read (List A)
 so_far front read = read >>= applied (λ xs. front ++ xs)
 
@@ -59,7 +59,7 @@ module _ {N : Type 0} {Tree : N → Type 0} (body : (n : N) → Production N Tre
   pub reading_shrinks : {A : Type 0} (g : Production N Tree A) (s : List Token) (t : A) (r : List Token) → reading body g s ≡ Ok (t, r) → length r ≤ length s
   reading_shrinks g s t r e = (run_shrinks (nonterminal_at body) (nonterminal_shrinks body) g s (t, r) e).0
 
-  -- and fewer where a text of the production is never empty
+  -- and fewer if a text of the production is never empty
   pub reading_consumes : {A : Type 0} (g : Production N Tree A) → may_be_empty g ≡ false → (s : List Token) (t : A) (r : List Token) → reading body g s ≡ Ok (t, r) → length r < length s
   reading_consumes g full s t r e = (run_shrinks (nonterminal_at body) (nonterminal_shrinks body) g s (t, r) e).1 full
 
@@ -73,7 +73,7 @@ module _ {N : Type 0} {Tree : N → Type 0} (body : (n : N) → Production N Tre
       go (Ok a) = with_option (starts (first h) a.1) (reading body h a.1) a.1 a.0 f
       go (Err e) = refl
 
-  -- ---- lists, whose elements may be too many
+  -- ---- lists, which may have too many elements
 
   -- the elements from index i on
   unfoldable pub many_from : {A : Type 0} → (ℕ → Option Code) → Production N Tree A → ℕ → List Token → Read (List A)
@@ -94,7 +94,7 @@ module _ {N : Type 0} {Tree : N → Type 0} (body : (n : N) → Production N Tre
   unfolding many_from
   many_begins full g s = so_far_nothing (many_from full g 0 s)
 
-  -- where the list is not full, it continues with one more element
+  -- if the list is not full and an element is next, the list goes on with that element
   pub many_goes_on : {A : Type 0} (full : ℕ → Option Code) (g : Production N Tree A) (f : Terminal → Bool) → IsListed g f → (i : ℕ) (old : List A) (s : List Token) (x : A) (next : List Token) (total : Read (List A)) (new : List A) → new ≡ old ++ x ∷ []
       → full i ≡ None → starts f s ≡ true → reading body g s ≡ Ok (x, next) → so_far old (many_from full g i s) ≡ total → so_far new (many_from full g (suc i) next) ≡ total
   many_goes_on {A} full g f l i old s x next total new e room t r before =

@@ -1,4 +1,4 @@
--- What a production derives is what reading gives, where the next token does not continue it.
+-- Reading returns what a production derives if the next token does not continue it.
 use Rattle.std.proofs.Common.{◌≡◌, ℕ, suc, ◌≤◌, arith, Bool, true, false, cond, List, [], ◌∷◌, length, Ok, Err, refl, inl, inr, ap, ◌∙◌}
 use Rattle.std.specs.Prelude.{Option, Some, None, ◌-◌, nat_lt, ◌&&◌, ◌||◌, not}
 use Rattle.std.proofs.lemmas.Bool.{and_parts, and_from, not-true, both_ways, cases_Bool, cond-true, cond-false, ltb-true}
@@ -36,7 +36,7 @@ head_tail : (q : Terminal → Bool) (s : List Token) → starts q s ≡ true →
 head_tail q [] h = absurd cc
 head_tail q (x ∷ m) h = (x, m, refl, h)
 
--- ---- what reading gives for a text with this first fault
+-- ---- what reading returns for a text with this first fault
 
 abbrev pub outcome : {A : Type 0} → List Token → A → Fault → List Token → Read A
 outcome s t None r = Ok (t, r)
@@ -46,7 +46,7 @@ abbrev pub InText : Fault → ℕ → Type 0
 InText None n = Unit {0}
 InText (Some f) n = f.0 ≤ n
 
--- a text is within the tokens, and its fault is within the text
+-- a text is within the tokens, and its fault, if it has one, is within the text
 abbrev pub Fits : List Token → Fault → List Token → Type 0
 Fits s o r = (length r ≤ length s) × InText o (taken s r)
 

@@ -1,4 +1,4 @@
--- Where the next token is in the first set of a production, reading takes it.
+-- If the next token is in the first set of a production, reading takes it.
 use Rattle.std.proofs.Common.{◌≡◌, ℕ, zero, suc, ◌<◌, ◌≤◌, Bool, true, false, List, [], ◌∷◌, length, Ok, Err, refl, inl, inr, sym, ap, ◌∙◌, arith}
 use Rattle.std.specs.Prelude.{Option, Some, None, ◌-◌, nat_lt, ◌&&◌, ◌||◌, not}
 use Rattle.std.proofs.lemmas.Bool.{and_parts, and_from, or_cases, not-true, both_ways, cases_Bool, le-ltb}
@@ -19,7 +19,7 @@ use Rattle.grammar_core.proofs.Sound.{left_is}
 use Rattle.list_lemmas.proofs.Truth.{chosen}
 use Rattle.list_lemmas.proofs.Options.{same_Ok, Ok≢Err}
 
--- a fault is not before the tokens that are read
+-- a fault of reading is at one of the tokens that are read, or at their end
 abbrev pub FaultsWithin : {A : Type 0} → (List Token → Read A) → Type 0
 FaultsWithin p = (s : List Token) (n : ReadFault) → p s ≡ Err n → n.left ≤ length s
 
@@ -96,7 +96,7 @@ picked_right a b q (x ∷ s) e h =
     ]
 
 module _ {N : Type 0} {Tree : N → Type 0} (c : Claims N) (p : (n : N) → List Token → Read (Tree n)) (h : (n : N) → Shrinks (p n)) (l : (n : N) → FaultsWithin (p n)) where
-  -- where the next token is not in the first set, an empty text is read
+  -- if the next token is not in the first set, and a text may be empty, an empty text is read
   stays : {A : Type 0} (g : Production N Tree A) → is_fine c g ≡ true → (s : List Token) → starts (first g) s ≡ false → may_be_empty g ≡ true → (t : A) × (run p g s ≡ Ok (t, s))
   stays (one_of q) fine s e empty = absurd cc
   stays (checked q good d) fine s e empty = absurd cc
@@ -289,7 +289,7 @@ module _ {N : Type 0} {Tree : N → Type 0} (c : Claims N) (p : (n : N) → List
     λ x e. (run_shrinks p h (after_token q m) s x e).1 refl,
   )
 
--- where only Syntax is asked of, each production is safe
+-- if only the fault Syntax counts, each production is safe
 pub safe_true : {N : Type 0} {Tree : N → Type 0} (b0 : Terminal → Bool) {A : Type 0} (g : Production N Tree A) → is_safe true b0 g ≡ true
 safe_true b0 (one_of q) = refl
 safe_true b0 (checked q good d) = refl

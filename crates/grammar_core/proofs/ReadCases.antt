@@ -58,7 +58,7 @@ judge_ok l c s (Ok y) x e =
     ]
 judge_ok l c s (Err d) x e = elim (chosen (nat_lt l (length s - d.left)) (Err (fault_from_end (length s - l) c)) (Err d) (Ok x) e) [ inl u ↦ absurd cc | inr u ↦ absurd cc ]
 
--- where a limited text fails, it was too long, or its fault is after the limit, or it has an earlier fault
+-- if reading a limited text fails, the text was too long, its fault comes after the limit, or it has an earlier fault
 pub judge_err : {A : Type 0} (l : ℕ) (c : Code) (s : List Token) (r : Read A) (n : ReadFault) → judge l c s r ≡ Err n
     → ((x : A × List Token) × (r ≡ Ok x) × (nat_lt l (length s - length x.1) ≡ true) × (n ≡ fault_from_end (length s - l) c))
     ⊎ (((d : ReadFault) × (r ≡ Err d) × (nat_lt l (length s - d.left) ≡ true) × (n ≡ fault_from_end (length s - l) c)) ⊎ ((r ≡ Err n) × (nat_lt l (length s - n.left) ≡ false)))

@@ -1,4 +1,4 @@
--- What the tests over all terminals imply.
+-- What the tests of all terminals imply.
 use Rattle.std.proofs.Common.{◌≡◌, ℕ, zero, suc, ◌<◌, Bool, true, false, List, [], ◌∷◌, refl, sym, inl, inr, ap, subst, arith}
 use Rattle.std.specs.Prelude.{◌&&◌, ◌||◌, not}
 use Rattle.std.proofs.lemmas.Bool.{and_parts, or_cases, not-true, both_ways, cases_Bool, cases_lt, or_right}
@@ -29,7 +29,7 @@ within_at a b h x e = go (a (terminal_of x)) (b (terminal_of x)) e (all_at (λ y
     go true t x e = e
     go false t x e = absurd cc
 
--- two sets with the same terminals
+-- two sets with the same terminals have the same tokens
 pub alike_at : (a b : Terminal → Bool) → is_within a b ≡ true → is_within b a ≡ true → (x : Token) → a (terminal_of x) ≡ b (terminal_of x)
 alike_at a b h k x = go (a (terminal_of x)) (b (terminal_of x)) (within_at a b h x) (within_at b a k x)
   where

@@ -1,5 +1,5 @@
--- What it is to read a language soundly: what is read is derived so, a fault has a completion up to it, and neither
--- depends on more than the next token.
+-- Sound reading of a language: what is read is derived with the same tree, and the tokens before a fault can be
+-- completed to a text. Neither depends on more than the next token.
 use Rattle.std.proofs.Common.{◌≡◌, ◌≢◌, ℕ, ◌+◌, ◌≤◌, Bool, List, [], ◌∷◌, ◌++◌, length, Ok, Err, refl, ap, ◌∙◌, length-append, arith}
 use Rattle.std.specs.Prelude.{Some, None}
 use Rattle.std.proofs.lemmas.Option.{same_Some, none-some}
@@ -44,8 +44,8 @@ pub record Extends (rest more : List Token) : Type 0 where
   pub rest_is : rest ≡ head ∷ rest_tail
   pub more_is : more ≡ head ∷ more_tail
 
--- After w tokens reading met the code c: a fault of a limit is the first one of the text, and before Syntax there is no
--- fault.
+-- After w tokens reading met the code c: if c is a limit's, it is the first fault of the text; if it is Syntax, no
+-- fault comes before it.
 pub record Late (c : Code) (w : ℕ) (o : Fault) : Type 0 where
   pub from : IsFrom w o
   pub exact : c ≢ Syntax → o ≡ Some (w, c)
@@ -69,7 +69,7 @@ pub record Sound {A : Type 0} (G : Language A) (p : List Token → Read A) (s : 
   pub accepted : (x : A × List Token) → p s ≡ Ok x → Accepted G p s x
   pub faulted : (n : ReadFault) → p s ≡ Err n → Faulted G p s n
 
--- some text of the language
+-- a text of the language
 pub record Text {A : Type 0} (G : Language A) : Type 0 where
   pub word : List Token
   pub tree : A

@@ -1,4 +1,4 @@
--- A choice by the next token, or by the one after it, an optional text and a mapped tree are read soundly.
+-- A choice by the next token or by the one after it, an optional text, and a mapped tree are read soundly.
 use Rattle.std.proofs.Common.{◌≡◌, Bool, true, false, cond, List, [], ◌∷◌, ◌++◌, length, Ok, Err, refl, ◌⊎◌, inl, inr, sym, ap, ◌∙◌, arith, subst}
 use Rattle.std.specs.Prelude.{Option, Some, None, ◌&&◌}
 use Rattle.std.proofs.lemmas.Bool.{cases_Bool}
@@ -20,7 +20,7 @@ abbrev pub Either : {A : Type 0} → Language A → Language A → Language A
 Either G H s t o r = G s t o r ⊎ H s t o r
 
 module _ {A : Type 0} (G : Language A) (H : Language A) (p : List Token → Read A) (q : List Token → Read A) (test : List Token → Bool) where
-  -- the test gives the same for lists that begin alike
+  -- the test has the same result for lists that begin alike
   left_accepted : (s : List Token) (x : A × List Token) → (g : Accepted G p s x) → ((r : List Token) → SameHead x.1 r → test (g.word ++ r) ≡ true) → Accepted (Either G H) (λ l. cond (test l) (p l) (q l)) s x
   left_accepted s x g is = record { word = g.word; parts = g.parts; derives = λ z. inl (g.derives z); same = λ r same. rw (is r same) (g.same r same) }
 
@@ -33,7 +33,7 @@ module _ {A : Type 0} (G : Language A) (H : Language A) (p : List Token → Read
   right_faulted : (s : List Token) (n : ReadFault) → (h : Faulted H q s n) → ((r : List Token) → SameHead h.rest r → test (h.word ++ r) ≡ false) → Faulted (Either G H) (λ l. cond (test l) (p l) (q l)) s n
   right_faulted s n h is = record { word = h.word; rest = h.rest; parts = h.parts; left = h.left; more = h.more; tree = h.tree; fault = h.fault; late = h.late; extends = h.extends; derives = λ z. inr (h.derives z); same = λ r same. rw (is r same) (h.same r same) }
 
--- what is decided by the next token alone
+-- a test of the next token is the same for lists that begin alike
 pub starts_along : (f : Terminal → Bool) (s w r r' : List Token) (b : Bool) → s ≡ w ++ r → SameHead r r' → starts f s ≡ b → starts f (w ++ r') ≡ b
 starts_along f s w r r' b parts same is = sym (starts_same f (w ++ r) (w ++ r') (same_head_after w r r' same)) ∙ ap (λ (l : List Token). starts f l) (sym parts) ∙ is
 
@@ -107,7 +107,7 @@ opt_sound {A} G p f s g =
 
 -- ---- a choice by the token after the next one
 
--- what is decided by the next two tokens, where some token was taken or the next one decides
+-- a test of the next two tokens is the same for lists that begin alike, if a token was taken or the next one decides
 picks_along : (a b q : Terminal → Bool) (s w r r' : List Token) (t : Bool) → s ≡ w ++ r → SameHead r r' → (w ≡ [] → starts a s ≡ true → starts b s ≡ true → ⊥) → picks a b q s ≡ t → picks a b q (w ++ r') ≡ t
 picks_along a b q s [] [] [] t e same full is = sym (ap (λ (l : List Token). picks a b q l) e) ∙ is
 picks_along a b q s [] [] (y ∷ r') t e same full is = absurd same

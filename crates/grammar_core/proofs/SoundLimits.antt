@@ -93,7 +93,7 @@ module _ {A : Type 0} (L : Limit) (c : Code) (G : Language A) (p : List Token �
             rw (t.same r same, low) refl;
       }
 
-  -- past the limit reading gives the code at the limit, whatever follows
+  -- past the limit reading returns the code at the limit, whatever follows
   past : (s u : List Token) (y : Token) (v r : List Token) → s ≡ u ++ y ∷ v → L.at (u ++ y ∷ r) ≡ length u
       → ((x : A × List Token) → p s ≡ Ok x → length x.1 < suc (length v)) → ((d : ReadFault) → p s ≡ Err d → d.left < suc (length v))
       → judged (u ++ y ∷ r) ≡ Err (fault_from_end (length (y ∷ r)) c)

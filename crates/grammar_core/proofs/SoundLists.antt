@@ -17,7 +17,7 @@ use Rattle.grammar_core.proofs.SoundChoices.{starts_along}
 use Rattle.list_lemmas.proofs.Truth.{chosen}
 use Rattle.list_lemmas.proofs.Options.{same_Ok, Ok≢Err}
 
--- some text that begins with this token
+-- a text that begins with this token
 record Led {A : Type 0} (G : Language A) (x : Token) : Type 0 where
   more : List Token
   tree : A
@@ -67,7 +67,7 @@ module _ {A : Type 0} (full : ℕ → Option Code) (G : Language A) (p : List To
   abbrev pub rest_of : ℕ → A × List Token → Read (List A)
   rest_of i a = many (suc i) a.1 >>= λ more. Ok (a.0 ∷ more.0, more.1)
 
-  -- one more element, where it is not too many
+  -- one more element, which is not too many
   many_derive : (i : ℕ) (w m z : List Token) (n : ℕ) (a : A) (b : List A) (x y : Fault) → full i ≡ None → length w ≡ n → G (w ++ m) a x m → Many full G (suc i) m b y z → Many full G i (w ++ m) (a ∷ b) (then_fault x n y) z
   many_derive i w m z n a b x y none e g h =
       (m, x, y, g, h, ap (λ (k : ℕ). then_fault x k y) (sym (taken_is w m ∙ e)) ∙ ap (λ (d : Option Code). then_fault (option_or (at_start d) x) (taken (w ++ m) m) y) (sym none))

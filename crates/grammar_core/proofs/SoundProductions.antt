@@ -37,7 +37,7 @@ texts c R names (after_token q n) fine =
     let text = names n in
     record { word = one.0 ∷ text.word; tree = (one.0, text.tree); fault = λ z. then_fault None 1 (text.fault z); derives = λ z. (text.word ++ z, text.fault z, one.1 (text.word ++ z), text.derives z, refl) }
 
--- one without nonterminals
+-- and, if `has_plain`, a text without nonterminals
 pub plain_text : {N : Type 0} {Tree : N → Type 0} (R : (n : N) → Language (Tree n)) {A : Type 0} (g : Production N Tree A) → has_plain g ≡ true → Text (Derives R g)
 plain_text R (one_of q) h = let one = one_text q h in record { word = one.0 ∷ []; tree = one.0; fault = λ z. None; derives = λ z. (one.1 z, refl) }
 plain_text R (checked q good d) h = let one = one_text q h in record { word = one.0 ∷ []; tree = one.0; fault = λ z. bad_unless (good one.0) d; derives = λ z. (one.1 z, refl) }

@@ -15,7 +15,7 @@ Both G H s t o r = (m : List Token) × (x y : Fault) × G s t.0 x m × H m t.1 y
 abbrev pub both_at : {A B : Type 0} → (List Token → Read A) → (List Token → Read B) → List Token → Read (A × B)
 both_at p q s = p s >>= λ a. q a.1 >>= λ b. Ok ((a.0, b.0), b.1)
 
--- both texts, where the first has n tokens
+-- both texts, of which the first has n tokens
 both_derive : {A B : Type 0} (G : Language A) (H : Language B) (w m z : List Token) (n : ℕ) (a : A) (b : B) (x y : Fault) → length w ≡ n → G (w ++ m) a x m → H m b y z → Both G H (w ++ m) (a, b) (then_fault x n y) z
 both_derive G H w m z n a b x y e g h = (m, x, y, g, h, ap (λ (k : ℕ). then_fault x k y) (sym (taken_is w m ∙ e)))
 

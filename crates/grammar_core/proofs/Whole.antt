@@ -1,4 +1,4 @@
--- Where each nonterminal passes the test, reading is exact: the trees that are derived, and the first fault.
+-- If each nonterminal passes the test, reading is exact: it returns the tree that is derived, or the first fault.
 use Rattle.std.proofs.Common.{◌≡◌, ◌≢◌, ℕ, zero, suc, ◌+◌, ◌-◌, ◌<◌, ◌≤◌, Bool, true, false, cond, List, [], ◌∷◌, ◌++◌, length, take, drop, Result, Ok, Err, refl, inl, inr, sym, ap, ◌∙◌, append_assoc, arith, subst}
 use Rattle.std.specs.Prelude.{Option, Some, None, nat_lt, ◌==◌, not}
 use Rattle.std.proofs.lemmas.Bool.{and_parts, not-true, both_ways, eqb-true, eqb-false, cases_lt, cases_order}
@@ -25,7 +25,7 @@ use Rattle.list_lemmas.proofs.Truth.{chosen}
 use Rattle.list_lemmas.proofs.Options.{same_Ok, Ok≢Err, same_Err}
 use Rattle.list_lemmas.proofs.Joins.{longer_front}
 
--- a list is split in one way into a word and a rest of given length
+-- there is one way to split a list into a word and a rest of a given length
 same_cut : (w w' r r' : List Token) → w ++ r ≡ w' ++ r' → length r ≡ length r' → (w ≡ w') × (r ≡ r')
 same_cut w w' r r' e l =
     let n : length w ≡ length w' = omega (arith, length-append w r, length-append w' r', ap (λ (s : List Token). length s) e) in (
@@ -116,7 +116,7 @@ module _ {N : Type 0} {Tree : N → Type 0} (body : (n : N) → Production N Tre
   within_only (suc k) n s t o r h stops =
       nonterminal_is body n s ∙ only c (DerivedWithin body k) (nonterminal_at body) (nonterminal_shrinks body) (within_fits k) (within_begins k) (within_only k) (body n) (name_fine n) s t o r h (starts_within (continuing c (body n)) (c.continues n) r (name_sets n).1 stops)
 
-  -- What a production derives is what reading gives, where the next token does not continue it.
+  -- Reading returns what a production derives if the next token does not continue it.
   pub reads : {A : Type 0} (g : Production N Tree A) → is_fine c g ≡ true → (s : List Token) (t : A) (o : Fault) (r : List Token) → Derives (Derived body) g s t o r → starts (continuing c g) r ≡ false → reading body g s ≡ outcome s t o r
   reads g ok s t o r h stops =
       only c (Derived body) (nonterminal_at body) (nonterminal_shrinks body) (λ n s t o r d. within_fits d.depth n s t o r d.derives) (λ n s t o r d. within_begins d.depth n s t o r d.derives) (λ n s t o r d. within_only d.depth n s t o r d.derives) g ok s t o r h stops
@@ -231,7 +231,7 @@ module _ {N : Type 0} {Tree : N → Type 0} (body : (n : N) → Production N Tre
           ]
         ]
 
-    -- a text with a fault of a limit is not read as Syntax
+    -- reading a text with a fault of a limit does not return Syntax
     meets : (s : List Token) (t : A) (o : Fault) → IsText body g s t o → (n : ℕ) → reading body g s ≡ Err (fault_from_end n Syntax) → ⊥
     meets s t o h n e = go o (text_limits s t o h) (reads g ok s t o [] h refl)
       where
@@ -361,7 +361,7 @@ module _ {N : Type 0} {Tree : N → Type 0} (body : (n : N) → Production N Tre
           | inr (inr lt) ↦ absurd (k.with_it (let w = h.within in omega (arith, lt, w)) h.before.0 (begins_shorter s (q + 1) p h.before.0 (omega (arith, lt)) h.before.1))
         ]
 
-        -- a fault of a limit before the index would be one of each text that begins so
+        -- a fault of a limit before the index would be one of each text that begins with these tokens
         from_limit : (q : ℕ) (d : Code) → IsLimitFault body g s q d → ⊥
         from_limit q d k = elim (cases_lt q p) [
           | inr le ↦ h.with_it (let w = k.within in omega (arith, le, w)) (Some (q, d)) (begins_shorter s (p + 1) (q + 1) (Some (q, d)) (omega (arith, le)) k.there)
@@ -401,7 +401,7 @@ module _ {N : Type 0} {Tree : N → Type 0} (body : (n : N) → Production N Tre
                 λ i. Err (fault_from_end (n0 i) (is i))
             by_code d is f = absurd (from_limit (length s - n.left) d (subst (λ (c : Code). IsFirstFault body g s (length s - n.left) c) is f))
 
-    -- The first fault is the one that reading gives.
+    -- The first fault is the one that reading returns.
     pub one_fault : (s : List Token) (p : ℕ) (c : Code) → IsFirstFault body g s p c → whole body g s ≡ Err (fault_from_end (length s - p) c)
     one_fault s p Syntax h = syntax_is_read s p h
     one_fault s p c h = limit_is_read s p c h

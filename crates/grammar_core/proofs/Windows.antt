@@ -1,4 +1,4 @@
--- Reading only the tokens up to a limit (a window) gives what reading all of them gives.
+-- Reading only the tokens up to a limit (a window) returns what reading all of them returns.
 use Rattle.std.proofs.Common.{◌≡◌, ℕ, suc, ◌+◌, ◌-◌, ◌<◌, ◌≤◌, false, List, [], ◌∷◌, ◌++◌, length, Ok, Err, refl, sym, ap, ◌∙◌, append_assoc, length-append, arith, subst}
 use Rattle.std.specs.Prelude.{nat_lt}
 use Rattle.std.proofs.lemmas.Bool.{le-ltb, lt-ltb}
@@ -25,7 +25,7 @@ module _ {A : Type 0} (L : Limit) (c : Code) (G : Language A) (p : List Token �
   head_kept [] lt = absurd (omega arith)
   head_kept (x ∷ r) lt = refl
 
-  -- what ends inside the window is the same outside of it
+  -- a result that ends inside the window is the result of reading all tokens
   pub window_ok : (t : A) (rest : List Token) → 0 < length rest → p w ≡ Ok (t, rest) → judge (L.at s) c s (p s) ≡ Ok (t, rest ++ v)
   window_ok t rest some e =
       let k = (sound w).accepted (t, rest) e in
@@ -39,7 +39,7 @@ module _ {A : Type 0} (L : Limit) (c : Code) (G : Language A) (p : List Token �
       let at : p s ≡ Err (fault_from_end (length (k.rest ++ v)) n.code) = ap p (sym (whole_is k.word k.rest k.parts)) ∙ k.same (k.rest ++ v) (head_kept k.rest more) in
       rw (at, inside_window k.word k.rest k.parts more) (ap (λ (m : ℕ). Err (fault_from_end m n.code)) (length-append k.rest v ∙ ap (λ (m : ℕ). m + length v) k.left))
 
-  -- what does not end inside the window is too long
+  -- a text that does not end inside the window is too long
   pub window_long : ((t : A) (rest : List Token) → 0 < length rest → p w ≡ Ok (t, rest) → ⊥) → ((n : ReadFault) → 0 < n.left → p w ≡ Err n → ⊥) → judge (L.at s) c s (p s) ≡ Err (fault_from_end (length s - L.at s) c)
   window_long no_tree no_fault = go (p s) refl
     where

@@ -1,5 +1,7 @@
--- Why the index of the token that is too many makes a limit. These proofs stand in specs/ since a limit by count holds
--- them.
+-- The index of the first token that is too many, by count, is a limit: proofs of the properties of limits. They are in
+-- specs/ because a limit by count has them as its fields.
+-- Carried by: law `text_laws::is_read_exactly`; the readers of `expr_read`, `jdf_read`, `body_read`.
+-- Tested by: `body_limits.txt`, `too_many.txt`, `long_expressions.txt`.
 use Rattle.std.proofs.Common.{◌≡◌, ℕ, zero, suc, ◌+◌, ◌≤◌, min, Bool, true, false, List, [], ◌∷◌, ◌++◌, length, get_or, refl, arith}
 use Rattle.grammar_core.specs.declared.token.Token.{Token}
 use Rattle.grammar_core.specs.Terminals.{Terminal}
@@ -33,7 +35,7 @@ module _ (q : Terminal → Bool) where
       go true e (suc m) f = rw (indices_kept i x s e) (omega (arith, f m))
       go false e m f = rw (indices_passed i x s e) (omega (arith, f m))
 
-  -- limit_keeps and limit_stays, where the first token has index i
+  -- limit_keeps and limit_stays if the first token has index i
   keeps_from : (w : List Token) (i cap n : ℕ) (r r' : List Token)
       → i + length w ≤ min cap (get_or (token_indices q i (w ++ r)) n cap)
       → i + length w ≤ min cap (get_or (token_indices q i (w ++ r')) n cap)

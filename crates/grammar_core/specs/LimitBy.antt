@@ -1,11 +1,13 @@
--- Limits by a test of a token and the tokens before it.
+-- Limits by a test of a token with the tokens before it.
+-- Carried by: the readers of `expr_read`, `jdf_read`, `body_read`.
+-- Tested by: `body_limits.txt`, `too_many.txt`, `long_expressions.txt`.
 use Rattle.std.proofs.Common.{◌≡◌, ℕ, suc, ◌≤◌, Bool, true, false, cond, List, [], ◌∷◌, ◌++◌, length, refl, arith}
 use Rattle.std.specs.Prelude.{if◌then◌else◌}
 use Rattle.grammar_core.specs.declared.token.Token.{Token}
 use Rattle.grammar_core.specs.Production.{Limit}
 
--- The index of the first token that is too many by the test p, or one after the last token. The list `front` has the
--- tokens before them.
+-- The index of the first token that is too many according to the test p; one more than the number of tokens if none is.
+-- The list `front` has the tokens before these.
 unfoldable pub index_by : (List Token → Token → Bool) → List Token → List Token → ℕ
 index_by p front [] = 1
 index_by p front (x ∷ s) = if p front x then 0 else suc (index_by p (front ++ x ∷ []) s)
@@ -43,7 +45,7 @@ module _ (p : List Token → Token → Bool) where
   index_one none [] = omega arith
   index_one none (x ∷ s) = rw (none x) (omega arith)
 
--- The limit by a test that no first token meets.
+-- The limit by a test that no first token passes.
 abbrev pub limit_by : (p : List Token → Token → Bool) → ((x : Token) → p [] x ≡ false) → Limit
 limit_by p none =
     record {

@@ -1,4 +1,5 @@
--- The test for predictive grammars: those that one token of lookahead reads. Source: the field's LL(1) grammars.
+-- The test for predictive grammars: those that can be read with one token of lookahead, and a second one at a `pick`.
+-- Source: the field's LL(1) grammars.
 use Rattle.std.specs.Prelude.{◌≡◌, ℕ, Option, Some, None, Bool, true, false, ◌&&◌, ◌||◌, not, is_none}
 use Rattle.grammar_core.specs.Terminals.{Terminal}
 use Rattle.grammar_core.specs.declared.code.Code.{Code}
@@ -7,7 +8,7 @@ use Rattle.grammar_core.specs.Terminals.{terminal_count, some_is, are_disjoint, 
 use Rattle.grammar_core.specs.Production.{Production, one_of, checked, seq, map, alt, opt, star, pick, after_token, limited}
 use Rattle.grammar_core.specs.Reading.{may_be_empty, first}
 
--- Two sets of terminals that are claimed of each nonterminal: its first set, and the terminals with which reading would
+-- Two sets of terminals, claimed of each nonterminal: its first set, and the terminals with which reading would
 -- continue a text of it.
 pub record Claims (N : Type 0) : Type 0 where
   pub firsts : N → Terminal → Bool
@@ -54,7 +55,7 @@ second c a (star full g) k = second c a g k || (alone a g && first g k)
 second c a (after_token q n) k = some_is (λ x. a x && q x) terminal_count && c.firsts n k
 second c a (limited l d g) k = second c a g k
 
--- the terminals in both first sets
+-- the terminals that are in both first sets
 abbrev pub both_first : {N : Type 0} {Tree : N → Type 0} {A : Type 0} → Production N Tree A → Production N Tree A
     → Terminal → Bool
 both_first g h k = first g k && first h k
@@ -69,7 +70,8 @@ abbrev pub are_limits : Option Code → Bool
 are_limits None = true
 are_limits (Some d) = is_limit d
 
--- No text of the production has a fault at a first token of the set a; where w holds, this is only asked of Syntax.
+-- Whether no text of the production has a fault at its first token if that is in the set a. If w holds, only the fault
+-- Syntax counts.
 abbrev pub is_safe : {N : Type 0} {Tree : N → Type 0} → Bool → (Terminal → Bool) → {A : Type 0} → Production N Tree A
     → Bool
 is_safe w a (one_of q) = true
@@ -83,7 +85,8 @@ is_safe w a (star full g) = is_safe w a g && (w || is_none (full 0))
 is_safe w a (after_token q n) = true
 is_safe w a (limited l d g) = is_safe w a g
 
--- The next token decides at each point of the production what to read, and each part of it has a text.
+-- Whether the next token (at a `pick`, the next two) decides at each point of the production what to read, and each
+-- part of it has a text.
 abbrev pub is_fine : {N : Type 0} {Tree : N → Type 0} → Claims N → {A : Type 0} → Production N Tree A → Bool
 is_fine c (one_of q) = some_is q terminal_count
 is_fine c (checked q good d) = some_is q terminal_count && is_limit d
@@ -114,8 +117,8 @@ has_plain (star full g) = true
 has_plain (after_token q n) = false
 has_plain (limited l d g) = has_plain g
 
--- The production of this nonterminal is fine and never empty, has a text without nonterminals, and its two sets are
--- within the claimed ones.
+-- Whether the production of this nonterminal is fine and never empty, has a text without nonterminals, and has its two
+-- sets within the claimed ones.
 abbrev pub are_names : {N : Type 0} {Tree : N → Type 0} → ((n : N) → Production N Tree (Tree n)) → Claims N → N → Bool
 are_names body c n =
     is_fine c (body n) && (has_plain (body n) && (not (may_be_empty (body n))

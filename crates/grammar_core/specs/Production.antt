@@ -1,6 +1,7 @@
 -- Grammars as data: which texts a production derives, with which trees and first faults. Nothing here says how a text
 -- is read: no lookahead, no order of choice. Source: the field's context-free grammars with synthesized attributes.
--- That the first fault counts, and limits, are this project's own choice.
+-- Carried by: law `text_laws::is_read_exactly`; the readers of `expr_read`, `jdf_read`, `body_read`.
+-- Tested by: `body_limits.txt`, `too_many.txt`, `long_expressions.txt`.
 use Rattle.std.specs.Prelude.{◌≡◌, ℕ, zero, suc, Bool, true, false, List, [], ◌∷◌, Option, Some, None, ◌⊎◌, ◌++◌, ◌≤◌, ◌<◌, ◌+◌, ◌-◌, length, take, nat_lt, if◌then◌else◌}
 use Rattle.std.specs.Option.{option_or}
 use Rattle.grammar_core.specs.declared.token.Token.{Token}
@@ -15,9 +16,9 @@ pub record Limit : Type 0 where
   pub at : List Token → ℕ
   -- at least one token fits
   pub one : (s : List Token) → 1 ≤ at s
-  -- whether a front fits depends on it alone
+  -- whether a front of the tokens fits depends on that front alone
   pub keeps : (w r r' : List Token) → length w ≤ at (w ++ r) → length w ≤ at (w ++ r')
-  -- where it ends depends on no later token
+  -- where the limit falls depends on no later token
   pub stays : (w : List Token) (x : Token) (r r' : List Token) → at (w ++ x ∷ r) ≡ length w
       → at (w ++ x ∷ r') ≡ length w
 
@@ -26,27 +27,29 @@ pub record Limit : Type 0 where
 pub data Production (N : Type 0) (Tree : N → Type 0) : Type 0 → Type 1 where
   -- a token whose terminal is in the set
   one_of : (Terminal → Bool) → Production N Tree Token
-  -- a token whose terminal is in the set; the code is its fault unless the test holds of it
+  -- a token whose terminal is in the set; if it fails the test, it has a fault with the code
   checked : (Terminal → Bool) → (Token → Bool) → Code → Production N Tree Token
   -- one text after another
   seq : {A B : Type 0} → Production N Tree A → Production N Tree B → Production N Tree (A × B)
   map : {A B : Type 0} → (A → B) → Production N Tree A → Production N Tree B
   alt : {A : Type 0} → Production N Tree A → Production N Tree A → Production N Tree A
   opt : {A : Type 0} → Production N Tree A → Production N Tree (Option A)
-  -- any number of elements; where the function has a code for index i, element i is too many and the code its fault
+  -- any number of elements; if the function has a code for index i, element i is too many, and has a fault with the
+  -- code
   star : {A : Type 0} → (ℕ → Option Code) → Production N Tree A → Production N Tree (List A)
-  -- either of two, which may begin alike; reading takes the first one where the token after the next one is in the set
+  -- Either of two, which may begin alike. If the next token may begin both, reading takes the first one exactly when
+  -- the token after it is in the set.
   pick : {A : Type 0} → (Terminal → Bool) → Production N Tree A → Production N Tree A → Production N Tree A
-  -- a token whose terminal is in the set, and a text of the nonterminal after it
+  -- a token whose terminal is in the set, followed by a text of the nonterminal
   after_token : (Terminal → Bool) → (n : N) → Production N Tree (Token × Tree n)
-  -- a text within the limit, or else the code at the first token that is too many
+  -- a text with a limit; if it is longer, the first token that is too many has a fault with the code
   limited : {A : Type 0} → Limit → Code → Production N Tree A → Production N Tree A
 
--- The first fault of a text, by its token index in the text; None where the text has no fault.
+-- The first fault of a text: the index of its token in the text, and its code. None if the text has no fault.
 abbrev pub Fault : Type 0
 Fault = Option (ℕ × Code)
 
--- the first of two faults, where the second is one of a text that begins n tokens later
+-- the first fault of two texts, the second of which begins n tokens later
 abbrev pub then_fault : Fault → ℕ → Fault → Fault
 then_fault (Some f) n o = Some f
 then_fault None n None = None
@@ -57,13 +60,13 @@ abbrev pub at_start : Option Code → Fault
 at_start None = None
 at_start (Some c) = Some (0, c)
 
--- a fault at the first token, unless the test holds of the token
+-- a fault at the first token, unless it passes the test
 abbrev pub bad_unless : Bool → Code → Fault
 bad_unless true c = None
 bad_unless false c = Some (0, c)
 
--- The first fault of a text of n tokens with the limit l: c at l where the text is longer or has its own fault after l,
--- and else its own fault.
+-- The first fault of a text of n tokens with the limit l. It is c at l if the text is longer or its own fault comes
+-- after l, else its own fault.
 abbrev pub cut_at : ℕ → Code → ℕ → Fault → Fault
 cut_at l c n None = if nat_lt l n then Some (l, c) else None
 cut_at l c n (Some f) = if nat_lt l f.0 then Some (l, c) else Some f
@@ -72,7 +75,7 @@ cut_at l c n (Some f) = if nat_lt l f.0 then Some (l, c) else Some f
 abbrev pub taken : List Token → List Token → ℕ
 taken s r = length s - length r
 
--- s is a token x of this set and the rest r
+-- s is a token x of this set, followed by the rest r
 abbrev pub IsOne : (Terminal → Bool) → List Token → Token → List Token → Type 0
 IsOne q s x r = (s ≡ x ∷ r) × (q (terminal_of x) ≡ true)
 
@@ -93,8 +96,8 @@ Many full G i s (a ∷ more) o r =
     (m : List Token) × (x y : Fault) × G s a x m × Many full G (suc i) m more y r
     × (o ≡ then_fault (option_or (at_start (full i)) x) (taken s m) y)
 
--- The production derives the tokens of s before the rest r, with the tree t and the first fault o, where R are the
--- languages of the nonterminals.
+-- The production derives the tokens of s before the rest r, with the tree t and the first fault o, given the languages
+-- R of the nonterminals.
 abbrev pub Derives : {N : Type 0} {Tree : N → Type 0} → ((n : N) → Language (Tree n)) → {A : Type 0}
     → Production N Tree A → Language A
 Derives R (one_of q) s t o r = IsOne q s t r × (o ≡ None)
@@ -139,8 +142,8 @@ abbrev pub IsFrom : ℕ → Fault → Type 0
 IsFrom n None = Unit {0}
 IsFrom n (Some f) = n ≤ f.0
 
--- A fault Syntax: the first token with which no text begins any more, or the end of tokens that begin a text and are
--- none; and there is no other fault before.
+-- A fault Syntax is at the first token such that no text begins with the tokens up to and including it. If there is no
+-- such token, but the tokens are no text, it is at their end. No other fault comes before it.
 pub record IsSyntaxFault {N : Type 0} {Tree : N → Type 0} (body : (n : N) → Production N Tree (Tree n))
     {A : Type 0} (g : Production N Tree A) (s : List Token) (index : ℕ) : Type 0 where
   pub within : index ≤ length s

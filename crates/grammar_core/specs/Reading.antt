@@ -9,7 +9,7 @@ use Rattle.grammar_core.specs.declared.code.Code.TheVariants.{Syntax}
 use Rattle.grammar_core.specs.declared.fault.ReadFault.{ReadFault}
 use Rattle.grammar_core.specs.Production.{Production, one_of, checked, seq, map, alt, opt, star, pick, after_token, limited}
 
--- The fault with this code, where this many tokens are left.
+-- The fault with this code at which this many tokens are left.
 abbrev pub fault_from_end : ℕ → Code → ReadFault
 fault_from_end left code = record { left = left; code = code }
 
@@ -17,8 +17,8 @@ fault_from_end left code = record { left = left; code = code }
 abbrev pub Read : Type 0 → Type 0
 Read A = Result (A × List Token) ReadFault
 
--- `r >>= next` reads one part after another: r is what reading the first part gave, and `next` reads what follows, by
--- the value of r and the tokens left. If r is a fault, that is the result. It is `and_then`, written between the two.
+-- `r >>= next` reads one part after another: r is the result of reading the first part, and `next` reads on, given the
+-- value of r and the tokens left. If r is a fault, that is the result. It is `and_then` as an infix operator.
 infixl 10 ◌>>=◌
 abbrev pub ◌>>=◌ : {A B : Type 0} → Result A ReadFault → (A → Result B ReadFault) → Result B ReadFault
 r >>= next = and_then r next
@@ -63,8 +63,8 @@ abbrev pub starts : (Terminal → Bool) → List Token → Bool
 starts q [] = false
 starts q (x ∷ s) = q (terminal_of x)
 
--- Whether the first of two productions is next. a and b are their first sets. Where the next token is in both, the
--- token after it decides: it is in q for the first production.
+-- Whether the first of two productions is next. a and b are their first sets. If the next token is in both, the token
+-- after it decides: it is in q for the first production.
 abbrev pub picks : (Terminal → Bool) → (Terminal → Bool) → (Terminal → Bool) → List Token → Bool
 picks a b q [] = false
 picks a b q (x ∷ s) = if b (terminal_of x) then (a (terminal_of x) && starts q s) else a (terminal_of x)
@@ -74,13 +74,13 @@ abbrev pub token_at : (Terminal → Bool) → List Token → Read Token
 token_at q [] = Err (fault_from_end 0 Syntax)
 token_at q (x ∷ s) = if q (terminal_of x) then Ok (x, s) else Err (fault_from_end (length (x ∷ s)) Syntax)
 
--- the result r of reading s, unless the element is too many: then its code, at the first token of s
+-- the result r of reading the element that s begins with; if the element is too many, its code at the first token of s
 abbrev pub refuse : {A : Type 0} → Option Code → List Token → Read A → Read A
 refuse None s r = r
 refuse (Some c) s r = Err (fault_from_end (length s) c)
 
--- The elements of a list from index i on, as long as the next token is in q; p reads an element, and `full` says
--- whether element i is too many. The number n bounds the recursion.
+-- The elements of a list from index i on, for as long as the next token is in q. The function p reads an element, and
+-- `full` has a code for each index that is too many. The number n bounds the recursion.
 unfoldable pub many_at : {A : Type 0} → (ℕ → Option Code) → (Terminal → Bool) → (List Token → Read A) → ℕ → ℕ
     → List Token → Read (List A)
 many_at full q p i zero s = Ok ([], s)
@@ -90,17 +90,17 @@ many_at full q p i (suc n) s =
     (p s >>= λ (a, left). many_at full q p (suc i) n left >>= λ (more, rest). Ok (a ∷ more, rest))
     else Ok ([], s)
 
--- the token that was read first in s if the test holds of it, or else the code c at it
+-- the token that was read first in s if it passes the test, else the code c at it
 abbrev pub check : (Token → Bool) → Code → List Token → Token × List Token → Read Token
 check good c s x = if good x.0 then Ok x else Err (fault_from_end (length s) c)
 
--- The result of reading s where at most l tokens may be taken: more tokens, or a fault after the limit, is the code c
--- at the limit.
+-- The result of reading s if at most l tokens may be taken. If more were taken, or a fault comes after the limit, it is
+-- the code c at the limit.
 abbrev pub judge : {A : Type 0} → ℕ → Code → List Token → Read A → Read A
 judge l c s (Ok x) = if nat_lt l (length s - length x.1) then Err (fault_from_end (length s - l) c) else Ok x
 judge l c s (Err e) = if nat_lt l (length s - e.left) then Err (fault_from_end (length s - l) c) else Err e
 
--- Reading a production, where p reads the nonterminals.
+-- Reading a production, given p, which reads the nonterminals.
 abbrev pub run : {N : Type 0} {Tree : N → Type 0} → ((n : N) → List Token → Read (Tree n)) → {A : Type 0}
     → Production N Tree A → List Token → Read A
 run p (one_of q) s = token_at q s
@@ -114,7 +114,7 @@ run p (star full g) s = many_at full (first g) (run p g) 0 (length s) s
 run p (after_token q n) s = token_at q s >>= λ (token, left). p n left >>= λ (b, rest). Ok ((token, b), rest)
 run p (limited l c g) s = judge (l.at s) c s (run p g s)
 
--- Reading a nonterminal, where at most k nonterminals are inside one another.
+-- Reading a nonterminal with at most k nonterminals inside one another.
 unfoldable pub nonterminal_within : {N : Type 0} {Tree : N → Type 0} → ((n : N) → Production N Tree (Tree n)) → ℕ
     → (n : N) → List Token → Read (Tree n)
 nonterminal_within body zero n s = Err (fault_from_end (length s) Syntax)
@@ -131,7 +131,7 @@ abbrev pub reading : {N : Type 0} {Tree : N → Type 0} → ((n : N) → Product
     → Production N Tree A → List Token → Read A
 reading body g s = run (nonterminal_at body) g s
 
--- Reading a production that is to take all of the tokens.
+-- Reading a production that must take all of the tokens.
 abbrev pub whole : {N : Type 0} {Tree : N → Type 0} → ((n : N) → Production N Tree (Tree n)) → {A : Type 0}
     → Production N Tree A → List Token → Result A ReadFault
 whole body g s =

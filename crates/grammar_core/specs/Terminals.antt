@@ -10,7 +10,7 @@ Terminal = ℕ
 abbrev pub terminal_count : ℕ
 terminal_count = 64
 
--- The terminal of a token: its number, reduced to those below `terminal_count`, so that every token has one.
+-- The terminal of a token: its number modulo `terminal_count`, so that every token has one.
 unfoldable pub terminal_of : Token → Terminal
 terminal_of x = x.terminal % terminal_count
 

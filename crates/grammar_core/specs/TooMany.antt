@@ -1,11 +1,13 @@
--- The index of the first token that is too many. Limits by count are this project's own choice.
+-- The index of the first token that is too many, by count.
+-- Carried by: law `text_laws::is_read_exactly`; the readers of `expr_read`, `jdf_read`, `body_read`.
+-- Tested by: `body_limits.txt`, `too_many.txt`, `long_expressions.txt`.
 use Rattle.std.specs.Prelude.{ℕ, Bool, List, min, map, filter, slice_index_or}
 use Rattle.std.specs.List.{enumerate_from}
 use Rattle.grammar_core.specs.declared.token.Token.{Token}
 use Rattle.grammar_core.specs.Terminals.{Terminal}
 use Rattle.grammar_core.specs.Terminals.{terminal_of}
 
--- the indices of the tokens of this set, where the first token has index i
+-- the indices of the tokens of this set, if the first token has index i
 unfoldable pub token_indices : (Terminal → Bool) → ℕ → List Token → List ℕ
 token_indices q i s = map (λ p. p.0) (filter (λ p. q (terminal_of p.1)) (enumerate_from i s))
 

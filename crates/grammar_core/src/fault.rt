@@ -10,17 +10,16 @@ use ptg_base::Refusal;
 /// The first fault of a list of tokens, by its distance from the end of the list.
 #[derive(Clone, Copy, Debug, PartialEq, Eq)]
 pub struct ReadFault {
-    /// How many tokens are left at the fault: those from the token that is wrong on. Zero says that the tokens end too
-    /// early.
+    /// How many tokens are left at the fault, including the wrong one. It is 0 if the tokens end too early.
     pub left: usize,
     /// What is wrong there.
     pub code: Code,
 }
 
-/// Why tokens could not be read: their first fault, or want of memory.
+/// Why tokens could not be read: their first fault, or out of memory.
 pub type ReadRefusal = Refusal<ReadFault>;
 
-/// The refusal for a fault at the first of these tokens, or at the end where there is none.
+/// The refusal for a fault at the first of these tokens, or at the end if there are none.
 pub fn refusal_at(tokens: &[Token], code: Code) -> ReadRefusal
     ensures { result ≡ fault_with (length tokens.now) code }
 {

@@ -1,4 +1,5 @@
-//! Grammars as data: what they derive, what a reader with one token of lookahead reads, and that both agree.
+//! Grammars as data over tokens with numbered terminals: what they derive, and with which first fault. They are read
+//! with one token of lookahead, or two if productions begin alike; it is proved that both agree.
 #![tactic(auto)]
 
 mod code;

@@ -9,11 +9,11 @@ pub struct Spot {
     pub column: u32,
 }
 
-/// A token: the number of its terminal in the alphabet of the text, its spot, and its bytes, which are those of the
+/// A token: the number of its terminal in the alphabet of the text, its spot, and its bytes. These are the bytes of the
 /// text from index `start` up to but not including `end`.
 #[derive(Drop)]
 pub struct Token {
-    /// From 0 to 63; a larger number counts as its remainder by 64.
+    /// From 0 to 63. A larger number stands for its remainder by 64.
     pub terminal: u8,
     pub text: Text,
     pub start: u32,

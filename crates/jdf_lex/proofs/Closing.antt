@@ -58,7 +58,7 @@ empty_more [] [] e f = refl
 empty_more [] (m ∷ ms) e f = absurd (false≢true f)
 empty_more (b ∷ bs) more e f = absurd (false≢true e)
 
--- A word that ends at the first such byte has no longer one.
+-- If a word ends at the first such byte, no longer word does.
 pub closed_once : (p : LexicalUnit) (h : Bool) (w more : List ℕ) → is_closed p h w ≡ true → is_closed p h (w ++ more) ≡ true → more ≡ []
 closed_once p h [] more e f = absurd (false≢true e)
 closed_once p h (b ∷ bs) more e f =
@@ -73,7 +73,7 @@ closed_once p h (b ∷ bs) more e f =
           (sym (cond-false t (is_empty (bs ++ more)) (is_closed p affected (bs ++ more)) goes) ∙ f)
     ]
 
--- If no end is found, there is none.
+-- If no such byte is found, no front ends at one.
 pub closed_none : (p : LexicalUnit) (h : Bool) (xs : List ℕ) → closed_len p h xs ≡ no_length → (w after : List ℕ) → xs ≡ w ++ after → is_closed p h w ≡ true → ⊥
 closed_none p h xs e [] after is closed = false≢true closed
 closed_none p h [] e (b ∷ w) after is closed = cc

@@ -10,7 +10,7 @@ use Rattle.jdf_lex.specs.Counted.{is_counted}
 use Rattle.grammar_core.specs.TooMany.{token_indices, limit_at}
 use Rattle.grammar_core.specs.CountedLimit.{indices_none, indices_kept, indices_passed, not_before}
 
--- what the code found about the token at this index
+-- what the code found of the token at this index holds of its terminal
 pub found : (x y : Token) (k : Terminal) (r b : Bool) → x ≡ y → k ≡ terminal_of x → r ≡ is_counted k → r ≡ b → is_counted (terminal_of y) ≡ b
 found x y k r b e f g h = ap (λ (z : Token). is_counted (terminal_of z)) (sym e) ∙ (sym (ap is_counted f) ∙ (sym g ∙ h))
 

@@ -1,4 +1,5 @@
--- The unit found at a position is the longest there, and if none is found, the text does not end the unit that begins.
+-- The unit found at a position is the longest one there; if none is found, the text does not end the unit that begins
+-- there.
 use Rattle.std.proofs.Common.{◌≡◌, ℕ, suc, ◌+◌, ◌<◌, ◌≤◌, true, false, cond, eqb, List, [], ◌∷◌, ◌++◌, length, take, drop, Option, Some, None, refl, sym, ◌∙◌, ap, subst, inl, inr, arith}
 use Rattle.std.specs.List.{list_all, prefix_len}
 use Rattle.std.specs.Prelude.{codes}
@@ -117,7 +118,7 @@ mark_is_front (a ∷ b ∷ rest) e =
           ]
     ]
 
--- ---- where the unit is a mark, a mark begins
+-- ---- if the unit is a mark, a mark begins there
 
 plain_mark : (b : ℕ) (bs : List ℕ) → plain_unit b bs ≡ TokenOf Mark → begins_mark (b ∷ bs) ≡ true
 plain_mark b bs e =

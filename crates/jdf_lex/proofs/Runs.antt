@@ -21,7 +21,7 @@ prefix_passes q (x ∷ xs) =
       | inr fails ↦ subst (λ n. list_all q (take n (x ∷ xs)) ≡ true) (prefix_none q x xs fails) refl
     ]
 
--- The element after it does not.
+-- The element after that front does not.
 prefix_stops : (q : ℕ → Bool) (xs : List ℕ) (m : ℕ) (ys : List ℕ) → drop (prefix_len q xs) xs ≡ m ∷ ys → q m ≡ true → ⊥
 prefix_stops q xs m ys e passes =
     elim (cases_lt (prefix_len q xs) (length xs)) [

@@ -16,7 +16,7 @@ use Rattle.jdf_lex.specs.Reading.{token_here, front_unit, IsCursorIn, IsScanned}
 use Rattle.jdf_lex.proofs.Fronts.{front_found, front_none, Found, found_unit, nothing}
 use Rattle.std.proofs.lemmas.Bool.{false_from_ne_true}
 
--- Two scans, the second from the end of the first, are one scan.
+-- Two scans, of which the second begins at the end of the first, are one scan.
 joined : (mid mid_left front left before rest : List ℕ) (ts us : List Token) → IsLexedTo mid mid_left before rest ts → IsLexedTo front left mid mid_left us → IsLexedTo front left before rest (ts ++ us)
 joined mid mid_left front left before rest ts us (nothing_more) second = second
 joined mid mid_left front left before rest ts us (dropped_then _ _ _ p w x dropped is unit on) second =

@@ -1,5 +1,5 @@
--- A text has one list of tokens or one first fault: at most one unit is at a position, so two scans of a text agree as
--- far as both go.
+-- A text has at most one list of tokens and at most one first fault. At most one unit is at a position, so two scans of
+-- a text agree as far as both go.
 use Rattle.std.proofs.Common.{◌≡◌, ℕ, ◌+◌, ◌<◌, ◌≤◌, ◌⊎◌, true, List, [], ◌∷◌, ◌++◌, length, Option, Some, None, refl, sym, ◌∙◌, ap, subst, inl, inr, arith, length-append}
 use Rattle.std.proofs.lemmas.Bool.{both_ways, cases_lt, false≢true}
 use Rattle.std.proofs.lemmas.List.{append_cancel_left, append-nil}
@@ -118,7 +118,7 @@ after_token far last before rest us t w x past stops is token (token_then _ _ vs
       subst (λ z. IsLexedTo far last (before ++ w) z vs) same.lefts (subst (λ z. IsLexedTo far last (before ++ z) y vs) same.words on),
     )
 
--- A scan continues where another, no longer, scan stops.
+-- A scan continues where another one stops that has no more tokens.
 pub continues_after : (front left far last before rest : List ℕ) (ts us : List Token) → HasNoDropped last → HasNoUnit last ⊎ (length ts ≤ length us)
     → IsLexedTo front left before rest ts → IsLexedTo far last before rest us → (vs : List Token) × (us ≡ ts ++ vs) × IsLexedTo far last front left vs
 continues_after front left far last before rest ts us past stops (nothing_more) second = (us, refl, second)
@@ -160,7 +160,7 @@ one_list text tokens others end other_end one other =
 final_has_no_token : (left : List ℕ) → HasNoUnit left → HasToken left → ⊥
 final_has_no_token left final token = final (TokenOf token.kind) token.word token.after token.whole token.unit
 
--- No scan with as few tokens as one that ends before a token reaches the end.
+-- If a scan stops before a token, no scan with at most as many tokens reaches the end.
 too_many : (far last front left text : List ℕ) (ts us : List Token) → HasNoUnit last → HasToken left → length us ≤ length ts
     → IsLexedTo front left [] text ts → IsLexedTo far last [] text us → ⊥
 too_many far last front left text ts us final token at_most one other =

@@ -1,4 +1,4 @@
--- The codes that the grammar of JDF states, and their numbers. Source: this project's own choice.
+-- The codes that the grammar of JDF states, and their numbers.
 use Rattle.std.specs.Prelude.{ℕ, List, [], ◌∷◌, slice_get, unwrap_or}
 use Rattle.grammar_core.specs.declared.code.Code.{Code}
 use Rattle.grammar_core.specs.declared.code.Code.TheVariants.{Stated}
@@ -23,7 +23,7 @@ all_codes =
     grammar.BadNumber ∷ grammar.ExprTooLong ∷ grammar.TooManyClasses ∷ grammar.TooManyParams ∷ grammar.TooManyLocals
     ∷ grammar.TooManyFlows ∷ grammar.TooManyDeps ∷ grammar.TooDeep ∷ grammar.TooManyVars ∷ []
 
--- The code with this number; BadNumber where there is none (a grammar states no other number).
+-- The code with this number; BadNumber if there is none (the grammar states no other number).
 unfoldable pub code_at : ℕ → GrammarCode
 code_at n = unwrap_or (slice_get all_codes n) grammar.BadNumber
 

@@ -1,5 +1,6 @@
--- The limit of an expression: 512 tokens, and 128 names, numbers and operators among them. Source: this project's own
--- choice.
+-- The limit of an expression: 512 tokens, of which at most 128 are names, numbers, operators or "?".
+-- Carried by: law `text_laws::is_read_exactly`; the readers of `expr_read`, `jdf_read`, `body_read`.
+-- Tested by: `body_limits.txt`, `too_many.txt`, `long_expressions.txt`.
 use Rattle.std.specs.Prelude.{ℕ, pred, Bool, ◌||◌}
 use Rattle.jdf_lex.specs.declared.terminal.Terminal.{Terminal}
 use Rattle.jdf_lex.specs.declared.terminal.Terminal.TheVariants.{Name, TypeWord, Int, If, Else, For, Trap, Number, Question, Plus, Minus, Star, Slash, Percent, Equal, NotEqual, Less, AtMost, Greater, AtLeast, And, AndAnd, Or, OrOr, Not}
@@ -8,7 +9,7 @@ use Rattle.grammar_core.specs.Production.{Limit}
 use Rattle.grammar_core.specs.CountedLimit.{limit_one, limit_keeps, limit_stays}
 use Rattle.grammar_core.specs.TooMany.{limit_at}
 
--- the words that are names outside of bodies
+-- the words that are names outside of bodies, including `type` and the words that have a meaning in bodies alone
 abbrev pub is_name : Terminal → Bool
 is_name k = is Name k || is TypeWord k || is Int k || is If k || is Else k || is For k || is Trap k
 
@@ -27,7 +28,7 @@ most_expression_tokens = 512
 abbrev pub most_counted : ℕ
 most_counted = 128
 
--- at most this many tokens, and at most this many of them counted; the indices of the last ones are one less
+-- the limit: at most 512 tokens, and at most 128 counted ones among them
 abbrev pub expression_limit : Limit
 expression_limit =
     record {

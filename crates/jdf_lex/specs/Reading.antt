@@ -1,5 +1,5 @@
 -- How the lexer finds lexical units, as functions of the rest of the text: the results of this crate's private calls.
--- Lemmas in proofs/ tie them to the lexical units of a text.
+-- Lemmas in proofs/ relate them to the lexical units of a text.
 use Rattle.std.specs.Prelude.{◌≡◌, ℕ, ◌+◌, ◌≤◌, Bool, false, List, [], ◌∷◌, length, take, drop, if◌then◌else◌, Option, Some, None, option_map, option_and_then}
 use Rattle.std.specs.List.{prefix_len, slice_range}
 use Rattle.ptg_base.specs.Limits.{most_tokens}
@@ -19,7 +19,7 @@ mark_len [] = 0
 mark_len (a ∷ []) = if is_mark (a ∷ []) then 1 else 0
 mark_len (a ∷ b ∷ rest) = if is_mark (a ∷ b ∷ []) then 2 else (if is_mark (a ∷ []) then 1 else 0)
 
--- the number of bytes up to and including the first that ends the unit
+-- the number of bytes up to and including the first one that ends the unit, if there is one
 abbrev pub closed_len : LexicalUnit → Bool → List ℕ → Option ℕ
 closed_len unit affected [] = None
 closed_len unit affected (b ∷ bs) =

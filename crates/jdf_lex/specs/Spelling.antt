@@ -1,6 +1,8 @@
 -- How blanks, comments and tokens are spelled, according to the JDF documentation, with the marks of its expressions,
 -- ranges, dependences and bodies. The first bytes at a position decide which lexical unit begins there; which words
 -- are spelled as that unit depends on the words alone.
+-- Carried by: `tokens`; laws `one_list_of_tokens`, `text_laws::units_as_written` and the others of `text_laws`.
+-- Tested by: `token_lists.txt`, `tokens.txt`, `unclosed.txt`, `long_texts.txt`.
 use Rattle.std.specs.Prelude.{ℕ, Bool, true, false, not, ◌&&◌, ◌||◌, ◌==◌, nat_le, nat_eq, List, [], ◌∷◌, drop, codes, if◌then◌else◌, Option, Some, None}
 use Rattle.std.specs.List.{list_any, list_all, starts_with}
 use Rattle.jdf_lex.specs.declared.lexical_unit.LexicalUnit.{LexicalUnit}
@@ -9,15 +11,15 @@ pub use Rattle.ptg_base.specs.Decimal.{is_digit}
 pub use Rattle.ptg_base.specs.Names.{is_letter, is_part}
 use Rattle.jdf_lex.specs.declared.kind.TokenKind.TheVariants.{Name, Number, Quoted, Raw, OptionLine, Mark, Other}
 
--- a space, a tab, CR or LF
+-- whether a byte is a space, a tab, CR or LF
 abbrev pub is_blank : ℕ → Bool
 is_blank b = list_any (λ c. c == b) (32 ∷ 9 ∷ 13 ∷ 10 ∷ [])
 
--- not LF
+-- whether a byte is not LF
 abbrev pub is_not_lf : ℕ → Bool
 is_not_lf b = not (b == 10)
 
--- In UTF-8 a character is a byte and the bytes from 128 to 191 that follow it.
+-- Whether a byte continues a character: in UTF-8 a character is a byte and the bytes from 128 to 191 that follow it.
 abbrev pub continues_character : ℕ → Bool
 continues_character b = nat_le 128 b && nat_le b 191
 
@@ -110,9 +112,9 @@ is_closed unit affected [] = false
 is_closed unit affected (b ∷ bs) =
     if ends_unit unit affected b then is_empty bs else is_closed unit (affects_next unit affected b) bs
 
--- Whether a word is spelled as a unit, if the unit begins with it: a comment, a raw block and a quoted text end where
--- their closing mark first does, a mark is one of the marks, and the other units are a byte and bytes that continue it.
--- The law `UnitsAsWritten` says the same by the written form of each unit.
+-- Whether a word is spelled as a unit, if the unit begins with it. A block comment, a raw block and a quoted text end
+-- where their closing mark first does. A mark is one of the marks. Any other unit is a byte and bytes that continue it.
+-- The law `UnitsAsWritten` says the same in terms of the written form of each unit.
 abbrev pub is_spelling : LexicalUnit → List ℕ → Bool
 is_spelling unit [] = false
 is_spelling BlockComment (b ∷ bs) = is_closed BlockComment false (drop 1 bs)

@@ -1,5 +1,4 @@
--- The terminals of JDF: how they are spelled (source: the JDF documentation), and their numbers (this project's own
--- choice).
+-- The terminals of JDF: how they are spelled, and their numbers. Source of the spellings: the JDF documentation.
 use Rattle.std.specs.Prelude.{ℕ, Bool, List, [], ◌∷◌, ◌==◌, if◌then◌else◌, codes, slice_get, unwrap_or}
 use Rattle.std.specs.Str.{bytes_eq}
 use Rattle.grammar_core.specs.declared.token.Token.{Token}
@@ -9,7 +8,7 @@ use Rattle.jdf_lex.specs.declared.kind.TokenKind.TheVariants as kinds
 use Rattle.jdf_lex.specs.declared.terminal.Terminal.{Terminal}
 use Rattle.jdf_lex.specs.declared.terminal.Terminal.TheVariants.{Name, TypeWord, Int, If, Else, For, Trap, Number, Quoted, Raw, OptionLine, Other, Extern, Body, End, Read, Write, Rw, Ctl, New, Null, LeftParen, RightParen, LeftBracket, RightBracket, LeftBrace, RightBrace, Comma, Semicolon, Colon, Question, Assign, Dots, Inward, Outward, Plus, Minus, Star, Slash, Percent, Equal, NotEqual, Less, AtMost, Greater, AtLeast, And, AndAnd, Or, OrOr, Not}
 
--- the terminal that a table has for a spelling, or else `other`
+-- the terminal that a table has for a spelling, or `other` if it has none
 abbrev pub spelled : List (List ℕ × Terminal) → List ℕ → Terminal → Terminal
 spelled [] text other = other
 spelled (w ∷ ws) text other = if bytes_eq w.0 text then w.1 else spelled ws text other
@@ -42,7 +41,7 @@ terminal_by kinds.OptionLine text = OptionLine
 terminal_by kinds.Mark text = spelled marks text Other
 terminal_by kinds.Other text = Other
 
--- the number of a terminal, which its tokens have
+-- the number of a terminal, as its tokens have it
 abbrev pub number_of : Terminal → ℕ
 number_of Name = 0
 number_of TypeWord = 1
@@ -104,11 +103,11 @@ all_terminals =
     ∷ RightBrace ∷ Comma ∷ Semicolon ∷ Colon ∷ Question ∷ Assign ∷ Dots ∷ Inward ∷ Outward ∷ Plus ∷ Minus ∷ Star ∷ Slash
     ∷ Percent ∷ Equal ∷ NotEqual ∷ Less ∷ AtMost ∷ Greater ∷ AtLeast ∷ And ∷ AndAnd ∷ Or ∷ OrOr ∷ Not ∷ []
 
--- the set of one terminal
+-- whether two terminals are the same; `is a` is the set of a alone
 abbrev pub is : Terminal → Terminal → Bool
 is a b = number_of a == number_of b
 
--- The terminal with this number; Other where there is none.
+-- The terminal with this number; Other if there is none.
 unfoldable pub terminal_at : ℕ → Terminal
 terminal_at n = unwrap_or (slice_get all_terminals n) Other
 

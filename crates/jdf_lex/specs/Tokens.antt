@@ -1,5 +1,6 @@
 -- The tokens of a JDF text and its first token fault, as relations: nothing here walks the bytes as a program would.
--- That a text is refused with its first fault is this project's own choice.
+-- Carried by: `tokens`; laws `one_list_of_tokens`, `text_laws::units_as_written` and the others of `text_laws`.
+-- Tested by: `token_lists.txt`, `tokens.txt`, `unclosed.txt`, `long_texts.txt`.
 use Rattle.std.specs.Prelude.{◌≡◌, ℕ, ◌+◌, ◌≤◌, ◌⊎◌, Bool, true, false, not, ◌==◌, List, [], ◌∷◌, ◌++◌, length, count_by, Some, IsTrue, IsFalse}
 use Rattle.std.specs.List.{suffix_len}
 use Rattle.ptg_base.specs.Limits.{most_tokens}
@@ -17,14 +18,14 @@ use Rattle.jdf_lex.specs.Terminals.{number_of, terminal_by}
 use Rattle.jdf_lex.specs.Spelling.{begins_part, unit_at, is_spelling}
 pub use Rattle.jdf_lex.specs.Spelling.{is_letter, is_digit, is_part, is_blank}
 
--- the spot after the front of a text: its line is one more than the number of LF bytes in the front, its column one
--- more than the number of bytes after the last LF
+-- The spot after the front of a text. Its line is one more than the number of LF bytes in the front, and its column one
+-- more than the number of bytes after the last LF.
 abbrev pub spot_after : List ℕ → Spot
 spot_after front =
     record { line = 1 + count_by (λ b. b == 10) front; column = 1 + suffix_len (λ b. not (b == 10)) front }
 
--- The word, followed by `left`, is this unit: the unit begins there, the word is spelled as it, and no longer word that
--- begins there is.
+-- The word, followed by `left`, is this unit: the unit begins there, the word is spelled as this unit, and no longer
+-- word that begins there is.
 pub record IsUnit (unit : LexicalUnit) (word left : List ℕ) : Type 0 where
   pub begins : unit_at (word ++ left) ≡ Some unit
   pub spelled : IsTrue (is_spelling unit word)
@@ -40,14 +41,14 @@ pub record IsToken (before word left : List ℕ) (token : Token) : Type 0 where
   pub unit : IsUnit (TokenOf kind) word left
   pub terminal : token.terminal ≡ number_of (terminal_by kind word)
 
--- Blanks and comments are dropped.
+-- Whether a unit is dropped: blanks and comments are.
 abbrev pub is_dropped : LexicalUnit → Bool
 is_dropped Blank = true
 is_dropped LineComment = true
 is_dropped BlockComment = true
 is_dropped (TokenOf kind) = false
 
--- The text after `before` is `rest`. From there up to the end of `front`, where `left` follows, the text has these
+-- The text after `before` is `rest`. From there to the end of `front`, after which `left` follows, the text has these
 -- tokens, with blanks and comments between them.
 pub data IsLexedTo (front left : List ℕ) : List ℕ → List ℕ → List Token → Type 0 where
   nothing_more : IsLexedTo front left front left []
@@ -69,7 +70,7 @@ OneListOfTokens =
     → IsLexed text tokens end → IsLexed text others other_end → (tokens ≡ others) × (end ≡ other_end)
 
 -- At each position the longest word is taken: no word that is spelled as a unit by itself is longer. Only `%option` is
--- not an option line where a letter, digit or `_` follows.
+-- no option line if a letter, digit or `_` follows it.
 abbrev pub LongestIsTaken : Type 0
 LongestIsTaken =
     (unit other : LexicalUnit) (word left longer after : List ℕ)
@@ -98,7 +99,7 @@ IsFaultAt tokens left code =
     ((code ≡ Unclosed) × IsUnclosed left × (length tokens ≤ most_tokens))
     ⊎ ((code ≡ TooManyTokens) × HasToken left × (length tokens ≡ most_tokens))
 
--- the first token fault of a text: before its spot are only tokens, blanks and comments
+-- the first token fault of a text: before its spot there are only tokens, blanks and comments
 pub record IsTokenFault (text : List ℕ) (fault : JdfFault) : Type 0 where
   pub tokens : List Token
   pub front : List ℕ

@@ -25,14 +25,14 @@ pub fn is_not_lf(b: u8) -> bool
     b != b'\n'
 }
 
-/// Whether the byte continues a UTF-8 character.
+/// Whether the byte continues a UTF-8 character: it is from 128 to 191.
 pub fn continues_character(b: u8) -> bool
     ensures { result ≡ continues_character b }
 {
     matches!(b, 128..=191)
 }
 
-// Whether the byte is a mark.
+// Whether the byte is a mark by itself.
 fn is_short_mark(a: u8) -> bool
     ensures { result ≡ is_mark (a ∷ []) }
 {

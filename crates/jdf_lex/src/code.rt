@@ -42,14 +42,14 @@ const CODES: [GrammarCode; 9] = [
 ];
 
 impl GrammarCode {
-    /// The code by its number, as a grammar states it.
+    /// The code as a grammar states it: by its number.
     pub fn code(self) -> Code
         ensures { result ≡ stated self }
     {
         Code::Stated(self as u8)
     }
 
-    /// The code with this number; `BadNumber` where there is none.
+    /// The code with this number; `BadNumber` if there is none.
     #[tactic(auto, unfolding(crate::specs::Codes::code_at))]
     pub fn at(number: u8) -> GrammarCode
         ensures { result ≡ code_at number }

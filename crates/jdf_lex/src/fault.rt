@@ -57,7 +57,7 @@ pub enum JdfCode {
     Arity,
     /// A control flow is connected to a data flow, or a body names it.
     CtlMixed,
-    /// A flow that is only written has an input.
+    /// A WRITE flow takes its tile from a task or from `NULL`.
     WriteInput,
     /// `NEW` is the target of an output.
     NewSent,
@@ -84,7 +84,7 @@ pub struct JdfFault {
     pub code: JdfCode,
 }
 
-/// Why a text was not read: its fault, or want of memory.
+/// Why a text was not read: its fault, or out of memory.
 pub type JdfRefusal = Refusal<JdfFault>;
 
 /// The refusal for a fault with this code at a spot.

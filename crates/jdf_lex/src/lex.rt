@@ -113,7 +113,7 @@ fn lex(alloc: Global, text: &[u8]) -> Result<Lexed, JdfRefusal>
 /// Each byte is read a bounded number of times; no clause says so.
 pub fn tokens(alloc: Global, text: &str) -> Result<Lexed, JdfRefusal>
     requires { length text.now ≤ most_bytes }
-    // What is found is the list of the text's tokens; the fault is the first one.
+    // A list that is returned is the list of the text's tokens; a fault is the first one.
     ensures exact { FindsOrRefuses (IsTokensOf text.now) (IsTokenFault text.now) result }
 {
     lex(alloc, text.as_bytes())

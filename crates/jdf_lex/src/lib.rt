@@ -1,5 +1,5 @@
-//! The tokens of a JDF text, with their spots, and the alphabet of its grammar: the terminals and the codes, how long
-//! an expression may be, and looking at the next token.
+//! The tokens of a JDF text with their lines and columns, and the alphabet of its grammar: the terminals, the codes of
+//! faults, and how long an expression may be.
 #![tactic(auto)]
 
 mod bytes;

@@ -9,10 +9,10 @@ use grammar_core::Token;
 // How many tokens an expression may have.
 const MOST_EXPRESSION_TOKENS: usize = 512;
 
-// How many of its tokens may be names, numbers, operators and `?`.
+// How many of its tokens may be names, numbers, operators or `?`.
 const MOST_COUNTED: usize = 128;
 
-// Whether this terminal is a name, a number, an operator or `?`.
+// Whether this terminal is a name outside of bodies, a number, an operator or `?`.
 #[tactic(auto, unfolding(crate::specs::Counted::is_counted))]
 fn is_counted(terminal: Terminal) -> bool
     ensures { result ≡ is_counted terminal }

@@ -1,4 +1,4 @@
-//! Looking at the next token.
+//! Tests of the next token.
 
 ghost use Rattle.std.specs.Prelude.{◌≡◌};
 ghost use Rattle.jdf_lex.specs.Terminals.{is};
@@ -18,7 +18,8 @@ pub fn is_next(tokens: &[Token], wanted: Terminal) -> bool
     }
 }
 
-/// Takes a token of this terminal: the token and the tokens after it. Syntax at the next token if that is another one.
+/// Takes the next token if it is this terminal: returns it and the tokens after it. Else refuses with `Syntax` at the
+/// next token.
 pub fn expect(tokens: &[Token], wanted: Terminal) -> Result<(&Token, &[Token]), ReadRefusal>
     ensures { Returns (λ (token, rest). (token.now, rest.now)) result (token_at (is wanted) tokens.now) }
 {

@@ -6,7 +6,8 @@ ghost use Rattle.jdf_lex.specs.Terminals.{number_of, spelled, terminal_by, termi
 use crate::kind::TokenKind;
 use grammar_core::Token;
 
-/// A terminal of the grammar. A reserved word or a mark is a terminal of its own; any other token counts by its kind.
+/// A terminal of the grammar. Some words and each mark are terminals of their own. Any other token has the terminal of
+/// its kind.
 #[derive(Clone, Copy, Debug, PartialEq, Eq)]
 pub enum Terminal {
     /// A name that is none of the words below.
@@ -113,7 +114,7 @@ pub enum Terminal {
     Not,
 }
 
-// How many terminals a grammar may have. The number of a token counts as its remainder by it.
+// How many terminals a grammar may have. The number in a token stands for its remainder by this.
 const TERMINAL_COUNT: u8 = 64;
 
 // The terminals, each at the index that is its number.
@@ -224,7 +225,7 @@ const MARKS: [(&[u8], Terminal); 30] = [
     (b"!", Terminal::Not),
 ];
 
-// The terminal that the table has for this spelling, or else `other`.
+// The terminal that the table has for this spelling, or `other` if it has none.
 fn spelled(table: &[(&[u8], Terminal)], text: &[u8], other: Terminal) -> Terminal
     ensures { result ≡ spelled (map (λ (word, terminal). (word.now, terminal)) table.now) text.now other }
 {
@@ -236,7 +237,7 @@ fn spelled(table: &[(&[u8], Terminal)], text: &[u8], other: Terminal) -> Termina
     other
 }
 
-// The terminal at this index; `Other` where there is none.
+// The terminal at this index; `Other` if there is none.
 fn entry(table: &[Terminal], index: usize) -> Terminal
     ensures { result ≡ unwrap_or (slice_get table.now index) Terminal.Other }
 {
@@ -247,7 +248,7 @@ fn entry(table: &[Terminal], index: usize) -> Terminal
 }
 
 impl Terminal {
-    /// The number of the terminal, which its tokens have.
+    /// The number of the terminal, as its tokens have it.
     pub fn number(self) -> u8
         ensures { result ≡ number_of self }
     {

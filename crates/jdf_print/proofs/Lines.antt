@@ -1,4 +1,4 @@
--- The bytes put part by part are the text of all the fragments.
+-- Bytes that are appended part by part are the text of all the fragments.
 use Rattle.std.proofs.Common.{◌≡◌, ℕ, List, [], ◌∷◌, ◌++◌, append_assoc, codes}
 use Rattle.std.proofs.lemmas.Grind.{flat_map-append}
 use Rattle.jdf_print.specs.Fragments.{Fragment, token, blank, text, line, newline, space}
@@ -8,7 +8,7 @@ class_text : (old : List ℕ) (head defs affinity flows priority body : List Fra
     ≡ old ++ text (newline ∷ (head ++ (defs ++ (affinity ++ (flows ++ (priority ++ (line (token (codes "BODY") ∷ []) ++ (body ++ line (token (codes "END") ∷ [])))))))))
 class_text old head defs affinity flows priority body = simp (flat_map-append, append_assoc)
 
--- The parts of a class after `old`.
+-- The parts of a class, appended to `old` one after the other.
 pub class_written : (old a b c d e f g h : List ℕ) (head defs affinity flows priority body : List Fragment)
     → a ≡ old ++ 10 ∷ [] → b ≡ a ++ text head → c ≡ b ++ text defs → d ≡ c ++ text affinity → e ≡ d ++ text flows → f ≡ e ++ text priority
     → g ≡ f ++ codes "BODY\n" → h ≡ g ++ text body
@@ -21,7 +21,7 @@ dependence_text : (old arrow : List ℕ) (guard target other datatype : List Fra
     ≡ old ++ text (line (blank (codes "  ") ∷ token arrow ∷ space ∷ (guard ++ (target ++ (other ++ datatype)))))
 dependence_text old arrow guard target other datatype = simp (flat_map-append, append_assoc)
 
--- The parts of a dependence after `old`.
+-- The parts of a dependence, appended to `old` one after the other.
 pub dependence_written : (old arrow a b c d e f g : List ℕ) (guard target other datatype : List Fragment)
     → a ≡ old ++ codes "  " → b ≡ a ++ arrow → c ≡ b ++ codes " " → d ≡ c ++ text guard → e ≡ d ++ text target → f ≡ e ++ text other → g ≡ f ++ text datatype
     → g ++ codes "\n" ≡ old ++ text (line (blank (codes "  ") ∷ token arrow ∷ space ∷ (guard ++ (target ++ (other ++ datatype)))))

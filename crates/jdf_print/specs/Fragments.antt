@@ -1,4 +1,6 @@
--- A text as fragments: tokens and blanks between them.
+-- A text as fragments: tokens, and the blanks between them.
+-- Carried by: `print`; law `print_laws::reads_back`.
+-- Tested by: `spelling.txt`, `expressions.txt`.
 use Rattle.std.specs.Prelude.{ℕ, ◌+◌, List, [], ◌∷◌, ◌++◌, flat_map, codes}
 
 -- a fragment of a text
@@ -25,7 +27,7 @@ space = blank (32 ∷ [])
 abbrev pub newline : Fragment
 newline = blank (10 ∷ [])
 
--- A line: its fragments and LF.
+-- A line: its fragments and then LF.
 abbrev pub line : List Fragment → List Fragment
 line fragments = fragments ++ newline ∷ []
 
@@ -33,7 +35,7 @@ line fragments = fragments ++ newline ∷ []
 abbrev pub between : List ℕ → List Fragment
 between mark = space ∷ token mark ∷ space ∷ []
 
--- The lists one after the other, with `separator` between each two.
+-- The lists one after the other, with `separator` between each two neighbours.
 abbrev pub separated : List Fragment → List (List Fragment) → List Fragment
 separated separator [] = []
 separated separator (x ∷ []) = x

@@ -1,5 +1,6 @@
--- The canonical spelling of a tree, which `show` prints. The form is this project's own choice: a line for each part,
--- and every operator in parentheses.
+-- The canonical spelling of a tree, which `show` prints: a line for each part, and every operator in parentheses.
+-- Carried by: `print`; law `print_laws::reads_back`.
+-- Tested by: `spelling.txt`, `expressions.txt`.
 use Rattle.std.specs.Prelude.{ℕ, List, [], ◌∷◌, ◌++◌, map, flat_map, Option, Some, None, codes}
 use Rattle.std.specs.Fmt.{signed_decimal}
 use Rattle.grammar_core.specs.declared.token.Token.{Token}
@@ -30,7 +31,7 @@ abbrev pub sign : UnOp → List ℕ
 sign un.Neg = codes "-"
 sign un.Not = codes "!"
 
--- The word of an infix operator: And is `&&`, Or is `||`.
+-- The word of an infix operator; And is `&&`, and Or is `||`.
 abbrev pub operator : BinOp → List ℕ
 operator bin.Add = codes "+"
 operator bin.Sub = codes "-"
@@ -50,7 +51,7 @@ operator bin.Or = codes "||"
 abbrev pub enclosed : List Fragment → List Fragment
 enclosed fragments = token (codes "(") ∷ (fragments ++ token (codes ")") ∷ [])
 
--- An expression: every operator is in parentheses with its operands, and a number is its digits.
+-- An expression: every operator is in parentheses with its operands.
 abbrev pub expression : Expression → List Fragment
 expression (tree.Num z spot) = token (signed_decimal z) ∷ []
 expression (tree.Name w) = token w.text ∷ []
@@ -86,7 +87,7 @@ abbrev pub guard : Option Expression → List Fragment
 guard None = []
 guard (Some c) = expression c ++ between (codes "?")
 
--- the target of a dependence for where its guard is false, after `:`, if there is one
+-- the target that is taken if the guard is false, after `:`, if there is one
 abbrev pub other : Option TargetTree → List Fragment
 other None = []
 other (Some t) = between (codes ":") ++ target t
@@ -129,7 +130,7 @@ abbrev pub priority : Option Expression → List Fragment
 priority None = []
 priority (Some e) = line (token (codes ";") ∷ space ∷ expression e)
 
--- The tokens of a body with single spaces between them on a line, or nothing if there are none.
+-- The tokens of a body on one line, with single spaces between them, or nothing if there are none.
 abbrev pub body : List Token → List Fragment
 body [] = []
 body (x ∷ xs) = line (separated (space ∷ []) (map (λ t. token t.text ∷ []) (x ∷ xs)))

@@ -1,4 +1,4 @@
-//! Arguments and ranges.
+//! Prints arguments and ranges.
 
 ghost use Rattle.std.specs.Prelude.{◌≡◌, ◌++◌, OnOk, map};
 ghost use Rattle.std.specs.List.{flat_map};

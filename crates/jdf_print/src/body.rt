@@ -1,4 +1,4 @@
-//! Bodies, token by token.
+//! Prints bodies, token by token.
 
 ghost use Rattle.std.specs.Prelude.{◌≡◌, ◌∷◌, [], ◌++◌, OnOk};
 ghost use Rattle.std.specs.List.{flat_map};

@@ -1,4 +1,4 @@
-//! Classes: heads, definitions, affinities, flows, priorities.
+//! Prints classes: heads, definitions, affinities, flows, priorities and bodies.
 
 ghost use Rattle.std.specs.Prelude.{◌≡◌, ◌∷◌, [], ◌++◌, OnOk, map};
 ghost use Rattle.std.specs.List.{flat_map};
@@ -26,7 +26,7 @@ fn word_of_kind(kind: FlowKind) -> &'static [u8]
     }
 }
 
-// Appends dependences, each on a line.
+// Appends dependences, each on a line of its own.
 fn put_dependences(out: &mut Seq<u8>, deps: &[DepTree]) -> Result<(), OutOfMemory>
     ensures { OnOk result (out.new ≡ out.old ++ text (flat_map dependence deps.now)) }
 {

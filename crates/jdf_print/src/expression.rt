@@ -1,4 +1,4 @@
-//! Expressions.
+//! Prints expressions.
 
 ghost use Rattle.std.specs.Prelude.{◌≡◌, ◌++◌, OnOk};
 ghost use Rattle.jdf_print.specs.Fragments.{text};
@@ -21,7 +21,7 @@ fn sign_of(op: UnOp) -> &'static [u8]
     }
 }
 
-// The spelling of an operator; And and Or, which have two, have the double one.
+// The spelling of an infix operator. And and Or, which have two spellings, get the double one.
 fn operator_of(op: BinOp) -> &'static [u8]
     ensures { result.now ≡ operator op }
 {
@@ -42,7 +42,7 @@ fn operator_of(op: BinOp) -> &'static [u8]
     }
 }
 
-// Appends an expression by the node at its root, every operator in parentheses.
+// Appends an expression, given the node at its root, with every operator in parentheses.
 fn put_node(out: &mut Seq<u8>, node: &ExprNode) -> Result<(), OutOfMemory>
     ensures { OnOk result (out.new ≡ out.old ++ text (expression (expression_of node.now))) }
 {

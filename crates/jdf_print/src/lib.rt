@@ -1,4 +1,4 @@
-//! The canonical spelling of a JDF tree.
+//! Prints the canonical spelling of a JDF tree.
 #![tactic(auto)]
 
 mod argument;

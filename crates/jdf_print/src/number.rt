@@ -1,4 +1,4 @@
-//! Numbers in decimal digits.
+//! Prints numbers in decimal digits.
 
 ghost use Rattle.std.specs.Prelude.{◌≡◌, ◌++◌, OnOk};
 ghost use Rattle.std.specs.Fmt.{signed_decimal};

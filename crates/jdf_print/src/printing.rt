@@ -11,7 +11,7 @@ use jdf_tree::{ClassTree, Jdf, Word};
 use ptg_base::{OutOfMemory, Seq, Text};
 use std::alloc::Global;
 
-// Appends each global on a line.
+// Appends the globals, each on a line of its own.
 fn put_globals(out: &mut Seq<u8>, names: &[Word]) -> Result<(), OutOfMemory>
     ensures { OnOk result (out.new ≡ out.old ++ text (flat_map (λ w. line (token w.text ∷ [])) names.now)) }
 {
@@ -32,7 +32,7 @@ fn put_classes(out: &mut Seq<u8>, classes: &[ClassTree]) -> Result<(), OutOfMemo
     Ok(())
 }
 
-/// The canonical spelling of a tree; fails only if memory runs out.
+/// Returns the canonical spelling of a tree; fails only if memory runs out.
 pub fn print(alloc: Global, jdf: &Jdf) -> Result<Text, OutOfMemory>
     ensures { IfOk result (λ t. t ≡ spelling jdf.now) }
 {

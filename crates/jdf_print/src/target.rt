@@ -1,4 +1,4 @@
-//! Dependences and their targets.
+//! Prints dependences and their targets.
 
 ghost use Rattle.std.specs.Prelude.{◌≡◌, ◌++◌, OnOk};
 ghost use Rattle.jdf_print.specs.Fragments.{text};
@@ -44,7 +44,7 @@ fn put_guard(out: &mut Seq<u8>, condition: &Option<ExprTree>) -> Result<(), OutO
     }
 }
 
-// Appends the target for a guard that is false, if there is one.
+// Appends `:` and the target that is taken if the guard is false, if there is one.
 fn put_other(out: &mut Seq<u8>, no: &Option<TargetTree>) -> Result<(), OutOfMemory>
     ensures { OnOk result (out.new ≡ out.old ++ text (other no.now)) }
 {
@@ -57,7 +57,7 @@ fn put_other(out: &mut Seq<u8>, no: &Option<TargetTree>) -> Result<(), OutOfMemo
     }
 }
 
-// Appends the name of a datatype in its brackets, if there is one.
+// Appends the name of a datatype as ` [type = NAME]`, if there is one.
 fn put_datatype(out: &mut Seq<u8>, name: &Option<Word>) -> Result<(), OutOfMemory>
     ensures { OnOk result (out.new ≡ out.old ++ text (datatype name.now)) }
 {

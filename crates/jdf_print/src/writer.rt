@@ -1,4 +1,4 @@
-//! Bytes and words at the end of the output.
+//! Appends bytes and words to the output.
 
 ghost use Rattle.std.specs.Prelude.{◌≡◌, ◌++◌, OnOk};
 ghost use Rattle.jdf_print.specs.Fragments.{text};

@@ -26,7 +26,7 @@ use Rattle.jdf_tree.specs.Grammar.{productions, skip, class_and_skips, classes, 
 use Rattle.jdf_read.specs.Next.{past, is_class, is_skip, leading}
 use Rattle.jdf_read.proofs.Parts.{with_rest}
 
--- what is read of a file
+-- the result of reading a file
 unfoldable pub opened : List Token → Read Jdf
 opened s = nonterminal_at productions a_file s
 
@@ -91,7 +91,7 @@ back_of x = x.1
 abbrev global_of : Word × Option (List Token) → Option Word
 global_of x = Some x.0
 
--- properties, from the readers of their parts
+-- reading properties, from how their parts are read
 abbrev props : Read Token → (List Token → Read (List Token)) → (List Token → Read Token) → Read (List Token)
 props left tokens right = (left >>= λ b. ((tokens b.1 >>= λ c. right c.1 >>= pair_with c.0) >>= applied front_of) >>= pair_with b.0) >>= applied back_of
 
@@ -186,7 +186,7 @@ global_led : (x : Token) (s : List Token) → TerminalIs (terminal_of x) false f
 unfolding file_after_global leading skip properties opened
 global_led x s t b = rw (t.extern_is, t.option_is, t.named_is, b) (global_same x (nonterminal_at productions a_file s))
 
--- which of these it is
+-- the classes c if a name before "(" is next, else l
 abbrev either : Bool → Bool → Read Jdf → Read Jdf → Read Jdf
 either is_named paren c l = cond (is_named && paren) c l
 
@@ -214,7 +214,7 @@ opened_step s = opened_is s ∙ file_reads s
 
 -- ---- the loop
 
--- the globals that were read, and what is still to be read
+-- the globals that were read, followed by those of the rest
 abbrev in_front : List Word → Jdf → Jdf
 in_front front jdf = record { globals = front ++ jdf.globals; classes = jdf.classes }
 
@@ -229,7 +229,7 @@ with_nothing (Err e) = refl
 pub file_begins : (s : List Token) → with_front [] (opened s) ≡ reading productions file s
 file_begins s = with_nothing (opened s) ∙ opened_is s
 
--- the globals, with what was read before the rest
+-- the globals, with the one that was read if there is one
 abbrev longer_by : List Word → Option Word → List Word
 longer_by front None = front
 longer_by front (Some name) = front ++ name ∷ []
@@ -246,7 +246,7 @@ pub file_goes_on : (front : List Word) (s : List Token) (a : Option Word) (next 
 file_goes_on front s a next total c e before =
     sym (ap (λ (r : Read Jdf). with_front front r) (opened_step s) ∙ rw (c, e) (one_more front a (opened next))) ∙ before
 
--- the same for a skipped part and for a global
+-- the same for a skipped part, and for a global
 pub skipped_goes_on : (front : List Word) (s next : List Token) (total : Read Jdf) → is_class s ≡ false → reading productions leading s ≡ Ok (None, next) → with_front front (opened s) ≡ total → with_front front (opened next) ≡ total
 skipped_goes_on front s next total c e before = file_goes_on front s None next total c e before
 

@@ -33,7 +33,8 @@ target_goes_on : (s : List Token) → starts may_follow_target_name s ≡ (start
 target_goes_on [] = refl
 target_goes_on (x ∷ s) = refl
 
--- the terminals after which an unguarded target is read, where b says what follows
+-- whether an unguarded target is read if this terminal is next; b tells whether the token after it may follow a
+-- target's name
 abbrev begins_target : Bool → ℕ → Bool
 begins_target b k = cond (first guarded k) (first unguarded k && b) (first unguarded k)
 

@@ -1,4 +1,4 @@
--- How many elements of a list were read, where there is a limit.
+-- How many elements of a list with a limit were read.
 use Rattle.std.proofs.Common.{◌≡◌, ℕ, suc, ◌<◌, ◌≤◌, ◌-◌, List, [], ◌∷◌, ◌++◌, length, Ok, ap, ◌∙◌, arith}
 use Rattle.grammar_core.specs.declared.token.Token.{Token}
 use Rattle.grammar_core.specs.Reading.{reading}
@@ -9,7 +9,7 @@ use Rattle.jdf_tree.specs.Grammar.{productions, class_and_skips, classes}
 use Rattle.jdf_read.proofs.ListSteps.{counted}
 use Rattle.jdf_read.proofs.Listed.{classes_after_first}
 
--- what holds of the first class alone
+-- what holds after the first class was read
 pub record First (s next : List Token) (list : List ClassTree) : Type 0 where
   pub reads : so_far list (counted 63 TooManyClasses class_and_skips (length list - 1) next) ≡ reading productions classes s
   pub at_most : length list ≤ 64
@@ -26,7 +26,7 @@ first_within s x next empty list none added read =
       some = omega (arith, one);
     }
 
--- what holds of the number of classes before and after another one is read
+-- what holds of the numbers of classes before and after another one was read
 pub record Another (n m : ℕ) : Type 0 where
   pub room : n - 1 < 63
   pub next : m - 1 ≡ suc (n - 1)
@@ -39,7 +39,7 @@ another_within n m len is not_full at_most some up = record { room = omega arith
 pub room : (len n : ℕ) → len ≡ n → (len ≡ 64 → ⊥) → n ≤ 64 → n - 1 < 63
 room len n is not_full at_most = omega arith
 
--- another element has room in a list that may have `most`
+-- there is room for another element in a list that is not full
 pub room_left : (most n len : ℕ) → len ≡ n → (len ≡ most → ⊥) → n ≤ most → n < most
 room_left most n len is not_full at_most = omega arith
 

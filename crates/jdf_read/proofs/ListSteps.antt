@@ -1,4 +1,4 @@
--- Lists of the grammar with a limit and lists of at least one, element by element, as a loop reads them.
+-- Lists of the grammar, with a limit or with at least one element, as a loop reads them element by element.
 use Rattle.std.proofs.Common.{◌≡◌, ℕ, suc, ◌<◌, Bool, true, false, cond, List, [], ◌∷◌, ◌++◌, length, Ok, Err, refl, sym, ap, ◌∙◌, arith}
 use Rattle.std.specs.Prelude.{Option, Some, None, nat_le}
 use Rattle.std.proofs.lemmas.Bool.{cond-true, cond-false, lt-leb, le-leb}
@@ -17,7 +17,7 @@ use Rattle.jdf_tree.specs.ClassGrammar.{full_at}
 use Rattle.jdf_tree.specs.Grammar.{productions}
 use Rattle.jdf_tree.proofs.Lists.{again, rest_of}
 
--- one element before the others
+-- the first element and the others as one list
 abbrev joined : {A : Type 0} → A × List A → List A
 joined x = x.0 ∷ x.1
 
@@ -51,7 +51,7 @@ pub some_fail : {A : Type 0} (e : ReadRefusal) (full : ℕ → Option Code) (g h
 some_fail errors.OutOfMemory full g h s f = tt
 some_fail (errors.Fault x) full g h s f = some_is full g h s ∙ rw f refl
 
--- the elements from index i on, of which there may be n in all
+-- the elements from index i on of a list that may have n
 unfoldable pub counted : {A : Type 0} → ℕ → Code → Grammar A → ℕ → List Token → Read (List A)
 counted n c g i s = many_from productions (full_at n c) g i s
 

@@ -1,4 +1,4 @@
--- The lists of the grammar: their elements are never empty, with these first sets.
+-- The lists of the grammar: their elements are never empty, and have these first sets.
 use Rattle.std.proofs.Common.{◌≡◌, List, [], ◌∷◌, ◌++◌, Ok, refl}
 use Rattle.ptg_base.specs.Returns.{ReturnsRefusal}
 use Rattle.grammar_core.specs.declared.token.Token.{Token}
@@ -47,7 +47,7 @@ pub classes_listed : IsListed productions class_and_skips (set (names Class))
 unfolding class_and_skips class head
 classes_listed = record { full = refl; begins = λ s. refl }
 
--- ---- where the first element of a list was read, and where it was refused
+-- ---- if the first element of a list was read, and if it was refused
 
 pub arguments_after_first : (s : List Token) (x : ArgTree) (next : List Token) (list : List ArgTree) → list ≡ [] ++ x ∷ [] → reading productions argument s ≡ Ok (x, next) → so_far list (rest_of next_argument next) ≡ reading productions arguments s
 unfolding arguments next_argument

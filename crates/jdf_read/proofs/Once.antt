@@ -1,4 +1,4 @@
--- Each text has a tree or a first fault, one at most of each, and not both.
+-- Each text has a tree or a first fault, at most one of each, and not both.
 use Rattle.std.proofs.Common.{◌≡◌, ℕ, ◌<◌, ◌≤◌, List, length, take, Ok, Err, sym, ap, ◌∙◌, subst, inl, inr, arith}
 use Rattle.std.specs.Prelude.{Some, None, ◌⊎◌, slice_get}
 use Rattle.std.proofs.lemmas.List.{take_all}
@@ -63,7 +63,7 @@ not_both bytes a f x (inr (inr (inr y))) = no_grammar_fault bytes a f x y
 
 -- ---- one first fault
 
--- the JDF fault of a token index and a code of the grammar
+-- f is the JDF fault for this token index and this code of the grammar
 abbrev IsNamed : List Token → Spot → ℕ → Code → JdfFault → Type 0
 IsNamed tokens end token_index c f =
     ((token : Token) × (slice_get tokens token_index ≡ Some token) × (f ≡ record { spot = token.spot; code = code_at_token c }))
@@ -72,7 +72,7 @@ IsNamed tokens end token_index c f =
 too_short : (bytes : List ℕ) → 16777216 < length bytes → length bytes ≤ 16777216 → ⊥
 too_short bytes a b = omega (arith, a, b)
 
--- a token index and a code have one JDF fault
+-- there is one JDF fault for a token index and a code
 same_named : (tokens : List Token) (end : Spot) (token_index : ℕ) (c : Code) (f g : JdfFault) → IsNamed tokens end token_index c f → IsNamed tokens end token_index c g → f ≡ g
 same_named tokens end token_index c f g (inl x) (inl y) =
     let same : x.0 ≡ y.0 = same_Some x.0 y.0 (sym x.1 ∙ y.1) in

@@ -1,4 +1,4 @@
--- The parts of a class one after another; some are skipped.
+-- The parts of a class are read one after another; some are skipped.
 use Rattle.std.proofs.Common.{◌≡◌, List, Ok, Err, refl, ◌∙◌}
 use Rattle.std.specs.Prelude.{Option}
 use Rattle.grammar_core.specs.declared.token.Token.{Token}
@@ -55,7 +55,7 @@ class_reads s = regroup (reading productions head s) (reading productions rest) 
     go (Ok a) = refl
     go (Err e) = refl
 
--- a skipped part, and what is read after it
+-- skipping a part and then reading on is reading both without the tree of the first
 passed_over : {A B : Type 0} (r : Read A) (q : List Token → Read B) → (r >>= λ a. q a.1) ≡ ((r >>= λ x. Ok x.1) >>= q)
 passed_over (Ok a) q = refl
 passed_over (Err e) q = refl

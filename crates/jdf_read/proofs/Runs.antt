@@ -49,7 +49,7 @@ run_reads q s = run_from q 0 s
 
 -- ---- properties
 
--- the tokens after the run, where it was split off
+-- splitting off the run is reading a list of tokens of the set
 pub split_is : (q : Terminal → Bool) (s front back : List Token) → front ≡ take (run_len q s) s → back ≡ drop (run_len q s) s → reading productions (star any (one_of q)) s ≡ Ok (front, back)
 split_is q s front back f b = run_reads q s ∙ sym (rw (f, b) refl)
 

@@ -1,4 +1,4 @@
--- The tests of the next tokens that the readers of the code make, and the parts that they skip.
+-- The tests of the next tokens that this crate's functions make, and the parts of a text that they read or skip.
 use Rattle.std.specs.Prelude.{Bool, false, ◌&&◌, ◌||◌, List, [], ◌∷◌, Option, Some, None, Result, Ok}
 use Rattle.grammar_core.specs.declared.fault.ReadFault.{ReadFault}
 use Rattle.grammar_core.specs.declared.token.Token.{Token}
@@ -18,18 +18,18 @@ use Rattle.jdf_tree.specs.GrammarParts.{prefixed_by, name}
 use Rattle.jdf_tree.specs.ClassGrammar.{argument, properties, head, Rest, rest, class_of}
 use Rattle.jdf_tree.specs.Grammar.{productions, skip}
 
--- The tokens after a text of this production, whose tree is not kept.
+-- The tokens after a text of this production, without its tree, or the fault.
 abbrev pub past : {A : Type 0} → Grammar A → List Token → Result (List Token) ReadFault
 past g s = reading productions g s >>= λ (a, left). Ok left
 
--- Whether a target is next, and not a guard: `NEW`, `NULL`, or a name before a name or "(".
+-- Whether a target is next, and not a guard: `NEW`, `NULL`, or a name that another name or "(" follows.
 abbrev pub is_target : List Token → Bool
 is_target [] = false
 is_target (x ∷ s) =
     is terminal.New (terminal_of x) || is terminal.Null (terminal_of x)
     || (is_name (terminal_of x) && (starts is_name s || starts (is terminal.LeftParen) s))
 
--- Whether a class is next, and not a global or a skipped part: a name before "(".
+-- Whether a class is next, and not a global or a skipped part: a name that "(" follows.
 abbrev pub is_class : List Token → Bool
 is_class [] = false
 is_class (x ∷ s) = is_name (terminal_of x) && starts (is terminal.LeftParen) s

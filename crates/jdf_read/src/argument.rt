@@ -16,7 +16,7 @@ use jdf_tree::{ArgTree, Part};
 use ptg_base::Seq;
 use std::alloc::Global;
 
-/// `expr (".." expr (".." expr)?)?`
+/// Reads `expr (".." expr (".." expr)?)?`.
 #[tactic(auto, unfolding(jdf_tree::specs::ClassGrammar::argument))]
 pub(crate) fn argument(alloc: Global, tokens: &[Token]) -> Result<(ArgTree, &[Token]), ReadRefusal>
     ensures { Reads argument tokens.now result }
@@ -86,7 +86,7 @@ fn maybe_arguments(alloc: Global, tokens: &[Token]) -> Result<(Seq<ArgTree>, &[T
     arguments(alloc, tokens)
 }
 
-/// `"(" arguments? ")"`
+/// Reads `"(" arguments? ")"`.
 #[tactic(auto, unfolding(jdf_tree::specs::ClassGrammar::call))]
 pub(crate) fn call(alloc: Global, tokens: &[Token]) -> Result<(Seq<ArgTree>, &[Token]), ReadRefusal>
     ensures { Reads call tokens.now result }

@@ -35,7 +35,7 @@ fn is_body_next(tokens: &[Token]) -> bool
     }
 }
 
-// The number of tokens from here on that are in the body.
+// The number of tokens up to the first that may not be in a body.
 fn body_len(tokens: &[Token]) -> usize
     ensures value { result ≡ prefix_len (λ x. is_in_body (terminal_of x)) tokens.now }
     ensures within { result ≤ length tokens.now }
@@ -70,7 +70,7 @@ fn copies_of(alloc: Global, tokens: &[Token]) -> Result<Seq<Token>, OutOfMemory>
     Ok(copies)
 }
 
-// The tokens of a body, which may be none.
+// The tokens of a body, which may be none, copied.
 #[tactic(auto, using(crate::proofs::Runs::body_is, crate::proofs::Runs::no_body))]
 fn body_tokens(alloc: Global, tokens: &[Token]) -> Result<(Seq<Token>, &[Token]), ReadRefusal>
     ensures { Reads (maybe body_tokens) tokens.now result }
@@ -82,7 +82,7 @@ fn body_tokens(alloc: Global, tokens: &[Token]) -> Result<(Seq<Token>, &[Token])
     Ok((copies_of(alloc, body)?, rest))
 }
 
-/// `BODY properties? tokens? END`: the tokens, and the spot of `END`.
+/// Reads `BODY properties? tokens? END`: the tokens, and the spot of `END`.
 pub(crate) fn body(
     alloc: Global,
     tokens: &[Token],

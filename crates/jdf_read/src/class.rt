@@ -1,4 +1,4 @@
-//! Reads classes, and skips what is between them.
+//! Reads classes, and skips the extern blocks and option lines between them.
 
 ghost use Rattle.std.specs.Prelude.{◌≡◌};
 ghost use Rattle.ptg_base.specs.Returns.{Returns};
@@ -67,7 +67,7 @@ fn class_rest(
     ))
 }
 
-// A class: its name and parameters, and the rest.
+// A class: its name and parameters, then the rest.
 #[tactic(auto, using(crate::proofs::Parts::class_reads))]
 fn class(alloc: Global, tokens: &[Token]) -> Result<(ClassTree, &[Token]), ReadRefusal>
     ensures { Reads class tokens.now result }
@@ -83,7 +83,7 @@ pub(crate) fn is_skip_next(tokens: &[Token]) -> bool
     is_next(tokens, Terminal::Extern) || is_next(tokens, Terminal::OptionLine)
 }
 
-/// `extern Quoted Raw | OptionLine`: the tokens after it.
+/// Skips `extern Quoted Raw | OptionLine`, and returns the tokens after it.
 #[tactic(auto, unfolding(jdf_tree::specs::Grammar::skip))]
 pub(crate) fn past_skip(tokens: &[Token]) -> Result<&[Token], ReadRefusal>
     ensures { Returns (λ rest. rest.now) result (past skip tokens.now) }
@@ -98,7 +98,7 @@ pub(crate) fn past_skip(tokens: &[Token]) -> Result<&[Token], ReadRefusal>
     Ok(rest)
 }
 
-// The tokens after all extern blocks and option lines here.
+// Skips all extern blocks and option lines that are next, and returns the tokens after them.
 #[tactic(auto, using(crate::proofs::Skips::skips_go_on, crate::proofs::Skips::skips_fail, crate::proofs::Skips::skips_end))]
 fn past_skips(tokens: &[Token]) -> Result<&[Token], ReadRefusal>
     ensures { Returns (λ rest. rest.now) result (past (star any skip) tokens.now) }
@@ -119,7 +119,7 @@ fn class_and_skips(alloc: Global, tokens: &[Token]) -> Result<(ClassTree, &[Toke
     Ok((class, rest))
 }
 
-/// The classes of a text, without what is skipped after each.
+/// Reads the classes of a text, and skips the extern blocks and option lines after each.
 pub(crate) fn classes(
     alloc: Global,
     tokens: &[Token],

@@ -19,7 +19,7 @@ use term_core::Direction;
 // How many dependences a flow may have.
 const MOST_DEPENDENCES: usize = 16;
 
-// A dependence after its arrow: its guard, the target where the guard holds, and the target where it does not.
+// A dependence after its arrow: its guard, the target if the guard holds, and the target if it does not.
 type Choice = (Option<ExprTree>, TargetTree, Option<TargetTree>);
 
 // A target without a guard.
@@ -62,7 +62,7 @@ fn is_target_next(tokens: &[Token]) -> bool
     }
 }
 
-// The targets after an arrow, with or without a guard: a name before a name or `(` begins a target.
+// The targets after an arrow, with or without a guard. A name before a name or `(` begins a target.
 #[tactic(auto, using(crate::proofs::Begins::choice_reads))]
 fn choice(alloc: Global, tokens: &[Token]) -> Result<(Choice, &[Token]), ReadRefusal>
     ensures { Reads (pick may_follow_target_name unguarded guarded) tokens.now result }
@@ -84,7 +84,7 @@ fn is_arrow_next(tokens: &[Token]) -> bool
     }
 }
 
-// The direction of an arrow.
+// The direction of an arrow: in for `<-`, else out.
 fn direction_by(terminal: Terminal) -> Direction
     ensures { result ≡ direction_by terminal }
 {
@@ -94,7 +94,7 @@ fn direction_by(terminal: Terminal) -> Direction
     }
 }
 
-// Takes an arrow: its direction, and the tokens after it.
+// Takes an arrow: returns its direction, and the tokens after it.
 #[tactic(auto, unfolding(jdf_tree::specs::ClassGrammar::arrow))]
 fn arrow(tokens: &[Token]) -> Result<(Direction, &[Token]), ReadRefusal>
     ensures { Reads arrow tokens.now result }
@@ -152,7 +152,7 @@ fn dependence(alloc: Global, tokens: &[Token]) -> Result<(DepTree, &[Token]), Re
     ))
 }
 
-/// The dependences of a flow.
+/// Reads the dependences of a flow.
 pub(crate) fn dependences(
     alloc: Global,
     tokens: &[Token],

@@ -14,7 +14,7 @@ use ptg_base::{MOST_FLOWS, Seq};
 use std::alloc::Global;
 use term_core::FlowKind;
 
-// The kind of flow that this terminal names, if it names one.
+// The kind of flows that this terminal names, if it names one.
 fn kind_by(terminal: Terminal) -> Option<FlowKind>
     ensures { MatchOption result (is_kind terminal ≡ false) (λ kind.
         (is_kind terminal ≡ true) × (kind ≡ kind_by terminal)) }
@@ -63,7 +63,7 @@ fn flow(alloc: Global, tokens: &[Token]) -> Result<(FlowTree, &[Token]), ReadRef
     Ok((FlowTree { kind, name, deps }, rest))
 }
 
-/// The flows of a class.
+/// Reads the flows of a class.
 pub(crate) fn flows(
     alloc: Global,
     tokens: &[Token],

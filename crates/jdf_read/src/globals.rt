@@ -24,7 +24,8 @@ fn is_class_next(tokens: &[Token]) -> bool
     }
 }
 
-// A part that is skipped, or a global and its properties.
+// Reads one part before the first class: an extern block or option line, which is skipped, or a global and its
+// properties.
 fn leading(alloc: Global, tokens: &[Token]) -> Result<(Option<Word>, &[Token]), ReadRefusal>
     ensures { Reads leading tokens.now result }
 {
@@ -37,7 +38,7 @@ fn leading(alloc: Global, tokens: &[Token]) -> Result<(Option<Word>, &[Token]), 
     Ok((Some(global), rest))
 }
 
-/// A text: globals and skipped parts, and the classes.
+/// Reads a text: globals and skipped parts, then the classes.
 pub(crate) fn file(alloc: Global, tokens: &[Token]) -> Result<(Jdf, &[Token]), ReadRefusal>
     ensures { Reads file tokens.now result }
 {

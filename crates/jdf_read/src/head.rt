@@ -21,7 +21,7 @@ use jdf_tree::{ArgTree, DefTree, Part, Word};
 use ptg_base::{MOST_LOCALS, MOST_PARAMS, Seq};
 use std::alloc::Global;
 
-// How many tokens the most parameters are, with the comma after each.
+// How many tokens the greatest number of parameters has, with a comma after each.
 const MOST_PARAMETER_TOKENS: usize = 2 * MOST_PARAMS;
 
 // `"," name`
@@ -48,14 +48,14 @@ fn names(alloc: Global, tokens: &[Token]) -> Result<(Seq<Word>, &[Token]), ReadR
     Ok((list, rest))
 }
 
-// Whether more tokens were taken than eight parameters have, if this many are left.
+// Whether more tokens were taken than eight parameters with their commas have, if this many are left.
 fn is_over(tokens: &[Token], left: usize) -> bool
     ensures { result ≡ nat_lt most_parameter_tokens (length tokens.now - left) }
 {
     MOST_PARAMETER_TOKENS < tokens.len().saturating_sub(left)
 }
 
-// The names, at most 8.
+// The names of the parameters, at most 8.
 #[tactic(auto, unfolding(jdf_tree::specs::ClassGrammar::parameters))]
 fn parameters(alloc: Global, tokens: &[Token]) -> Result<(Seq<Word>, &[Token]), ReadRefusal>
     ensures { Reads parameters tokens.now result }
@@ -115,7 +115,7 @@ fn properties(tokens: &[Token]) -> Result<(&[Token], &[Token]), ReadRefusal>
     Ok((skipped, rest))
 }
 
-/// `properties?`: the tokens after them.
+/// Skips `properties?`, and returns the tokens after them.
 #[tactic(auto, using(crate::proofs::Begins::properties_begin))]
 pub(crate) fn past_properties(tokens: &[Token]) -> Result<&[Token], ReadRefusal>
     ensures { Returns (λ rest. rest.now) result (past (opt properties) tokens.now) }
@@ -127,7 +127,7 @@ pub(crate) fn past_properties(tokens: &[Token]) -> Result<&[Token], ReadRefusal>
     Ok(rest)
 }
 
-/// `name "(" parameters? ")" properties?`: the name and the parameters.
+/// Reads `name "(" parameters? ")" properties?`: the name and the parameters.
 pub(crate) fn signature(
     alloc: Global,
     tokens: &[Token],
@@ -151,7 +151,7 @@ fn definition(alloc: Global, tokens: &[Token]) -> Result<(DefTree, &[Token]), Re
     Ok((DefTree { name, value }, rest))
 }
 
-/// The definitions of a class.
+/// Reads the definitions of a class.
 pub(crate) fn definitions(
     alloc: Global,
     tokens: &[Token],
@@ -171,7 +171,7 @@ pub(crate) fn definitions(
     Ok((list, rest))
 }
 
-/// `":" name "(" arguments? ")"`
+/// Reads `":" name "(" arguments? ")"`.
 #[tactic(auto, unfolding(jdf_tree::specs::ClassGrammar::affinity))]
 pub(crate) fn affinity(
     alloc: Global,

@@ -1,4 +1,4 @@
-//! Reads the text of a JDF into its tree, or gives its first fault.
+//! Reads a JDF text into its tree, or returns its first fault.
 #![tactic(auto)]
 
 mod argument;

@@ -10,7 +10,7 @@ use jdf_lex::{Terminal, Token, expect, is_next};
 use jdf_tree::{Part, TargetTree};
 use std::alloc::Global;
 
-// `name name? call`: one name is a collection's; of two names the second is a class's.
+// `name name? call`: one name is a collection's; of two names, the first is a flow's and the second a class's.
 #[tactic(auto, unfolding(jdf_tree::specs::ClassGrammar::called))]
 fn called(alloc: Global, tokens: &[Token]) -> Result<(TargetTree, &[Token]), ReadRefusal>
     ensures { Reads called tokens.now result }
@@ -25,7 +25,7 @@ fn called(alloc: Global, tokens: &[Token]) -> Result<(TargetTree, &[Token]), Rea
     Ok((TargetTree::Task(first, class, arguments), rest))
 }
 
-/// `name name call | name call | NEW | NULL`
+/// Reads `name name call | name call | NEW | NULL`.
 #[tactic(auto, unfolding(jdf_tree::specs::ClassGrammar::target))]
 pub(crate) fn target(alloc: Global, tokens: &[Token]) -> Result<(TargetTree, &[Token]), ReadRefusal>
     ensures { Reads target tokens.now result }

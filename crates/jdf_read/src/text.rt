@@ -60,7 +60,7 @@ fn spot_after(front: &[u8]) -> Spot
     }
 }
 
-// The fault with this code where this many tokens are left: at the next token, or Truncated at the end.
+// The fault with this code if this many tokens are left: at the first of these, or Truncated at the end.
 fn grammar_fault(lexed: &Lexed, left: usize, code: Code) -> JdfFault
     ensures at_token { (token : Token) → slice_get lexed.now.tokens (length lexed.now.tokens - left) ≡ Some token
         → result ≡ record { spot = token.spot; code = code_at_token code } }
@@ -116,7 +116,7 @@ fn read_bytes(alloc: Global, bytes: &[u8]) -> Result<Jdf, JdfRefusal>
     }
 }
 
-/// The tree of a JDF text, or its first fault.
+/// Reads a JDF text: returns its tree, or its first fault.
 pub fn read(alloc: Global, bytes: &[u8]) -> Result<Jdf, JdfRefusal>
     ensures exact { FindsOrRefuses (IsJdf bytes.now) (IsJdfFault bytes.now) result }
 {

@@ -1,4 +1,4 @@
--- The grammar is predictive: one token of lookahead reads it, and a second one where two productions begin alike.
+-- The grammar is predictive: it is read with one token of lookahead, and a second one if two productions begin alike.
 use Rattle.std.proofs.Common.{◌≡◌, true, refl}
 use Rattle.jdf_tree.specs.declared.part.Part.{Part}
 use Rattle.jdf_tree.specs.declared.part.Part.TheVariants.{Class, Body}

@@ -16,7 +16,7 @@ list_moves {g = g} s x next l e = reading_consumes productions g l.full s x next
 
 -- ---- lists without a limit
 
--- where no element is too many, the index of the first one does not matter
+-- if no element is too many, the index of the first one does not matter
 any_index : {A : Type 0} (q : Terminal → Bool) (p : List Token → Read A) (n i j : ℕ) (s : List Token) → many_at any q p i n s ≡ many_at any q p j n s
 unfolding many_at
 any_index q p zero i j s = refl

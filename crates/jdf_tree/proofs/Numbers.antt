@@ -1,4 +1,4 @@
--- What the test of numbers consists of.
+-- What the tests of a number imply.
 use Rattle.std.proofs.Common.{◌≡◌, ℕ, ◌≤◌, true, List, [], ◌∷◌}
 use Rattle.std.specs.Prelude.{nat_le}
 use Rattle.std.specs.List.{list_all}

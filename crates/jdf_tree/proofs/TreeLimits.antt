@@ -51,7 +51,7 @@ full_none n c i e = by_test (nat_le n i) refl
     by_test true t = let no : some_code ≡ None = subst (λ (b : Bool). cond b (Some c) None ≡ None) t e in absurd (cc)
     by_test false t = grind (arith, nat_tests)
 
--- a text that is not cut at the limit has no more tokens
+-- a text without a fault at the limit has no other fault, and no more tokens than the limit
 pub cut_none : (l : ℕ) (c : Code) (n : ℕ) (x : Fault) → None ≡ cut_at l c n x → (x ≡ None) × (n ≤ l)
 cut_none l c n None e = (refl, by_test (nat_lt l n) refl)
   where
@@ -79,7 +79,7 @@ module _ {A : Type 0} (n : ℕ) (c : Code) (G : Language A) (P : A → Type 0) (
       let later = many_within (suc i) h.0 more r (subst (λ (o : Fault). Many (full_at n c) G (suc i) h.0 more o r) faults.1 h.4) lt in
       (omega (arith, later.0), (holds s a h.0 (subst (λ (o : Fault). G s a o h.0) none.1 h.3), later.1))
 
--- each text of G takes two tokens
+-- texts of G, each of which has two tokens
 module _ {A : Type 0} (G : Language A) (two : (s : List Token) (t : A) (o : Fault) (r : List Token) → G s t o r → length s ≡ 2 + length r) where
   many_twos : (i : ℕ) (s : List Token) (ts : List A) (o : Fault) (r : List Token) → Many any G i s ts o r → length s ≡ 2 * length ts + length r
   many_twos i s [] o r h = let same = ap (λ (l : List Token). length l) h.0 in omega (arith, same)
@@ -91,7 +91,7 @@ module _ {A : Type 0} (G : Language A) (two : (s : List Token) (t : A) (o : Faul
 abbrev choice : Grammar Choice
 choice = pick may_follow_target_name unguarded guarded
 
--- ---- texts without a fault, where R are the languages of the nonterminals
+-- ---- texts without a fault, given the languages R of the nonterminals
 
 module _ (R : (n : Nonterminal) → Language (TreeOf n)) where
   seq_none : {A B : Type 0} (g : Grammar A) (h : Grammar B) (s : List Token) (t : A × B) (r : List Token) → Derives R (seq g h) s t None r

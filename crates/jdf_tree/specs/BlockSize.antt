@@ -1,4 +1,5 @@
--- Each block inside a block has fewer statements. This proof stands in specs/ since the model of a block cites it.
+-- The depth of a block is at most the number of its statements. The proof is in specs/ because the model of a block
+-- cites it.
 use Rattle.std.specs.Prelude.{◌≤◌, List, [], ◌∷◌, max}
 use Rattle.std.proofs.Common.{arith}
 use denote.Param.Weighed.{most}

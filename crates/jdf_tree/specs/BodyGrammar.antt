@@ -1,4 +1,6 @@
--- The grammar of the body of a class. The language of bodies is this project's own choice.
+-- The grammar of the body of a class.
+-- Carried by: `body_read::tree`, `body_read::read`.
+-- Tested by: `body_syntax.txt`, `body_reserved.txt`, `body_limits.txt`, `body_two_faults.txt`.
 use Rattle.std.specs.Prelude.{Bool, Option, Some, None, ◌||◌, unwrap_or}
 use Rattle.jdf_lex.specs.declared.terminal.Terminal.{Terminal}
 use Rattle.jdf_lex.specs.declared.terminal.Terminal.TheVariants as terminal
@@ -47,7 +49,7 @@ assign_of (w, (Some at, e)) = Put w at.tree e.tree
 unfoldable pub assignment : Grammar StmtTree
 assignment = map assign_of (seq (name Body) (seq (opt element) value))
 
--- the choice with this condition, this block and this else part; one that is left out is an empty block
+-- the choice with this condition, this block and this else part; an else part that is left out is an empty block
 abbrev pub if_of : ExprWithSpot × (Statements × Option Statements) → StmtTree
 if_of (c, (then_block, else_block)) = If c.tree then_block (unwrap_or else_block Done)
 
@@ -99,6 +101,6 @@ block_rest = suffixed_by terminal.RightBrace statements
 unfoldable pub text : Grammar Statements
 text = alt block statements
 
--- body = text, in which at most 32 blocks nest, and at most 256 variables are declared
+-- body = text, in which blocks nest at most 32 deep, and at most 256 variables are declared
 unfoldable pub body : Grammar Statements
 body = limited variable_limit TooManyVars (limited block_limit TooDeep text)

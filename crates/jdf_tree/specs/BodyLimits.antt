@@ -1,4 +1,6 @@
--- How deep the blocks of a body may nest, and how many variables it may declare. Source: this project's own choice.
+-- How deep the blocks of a body may nest, and how many variables it may declare.
+-- Carried by: `body_read::tree`, `body_read::read`.
+-- Tested by: `body_syntax.txt`, `body_reserved.txt`, `body_limits.txt`, `body_two_faults.txt`.
 use Rattle.std.specs.Prelude.{◌≡◌, ℕ, ◌-◌, Bool, true, false, nat_le, ◌&&◌, ◌||◌, List, [], if◌then◌else◌, count_by, refl, ◌+◌}
 use Rattle.ptg_base.specs.Limits.{most_variables}
 use Rattle.grammar_core.specs.declared.token.Token.{Token}
@@ -17,7 +19,7 @@ how_many q s = count_by (λ x. q (terminal_of x)) s
 abbrev pub open_blocks : List Token → ℕ
 open_blocks s = how_many (is terminal.LeftBrace) s - how_many (is terminal.RightBrace) s
 
--- how deep blocks may be nested
+-- how deep blocks may nest
 abbrev pub most_nested : ℕ
 most_nested = 32
 
@@ -25,19 +27,19 @@ most_nested = 32
 abbrev pub most_blocks : List Token → ℕ
 most_blocks s = if starts (is terminal.LeftBrace) s then most_nested + 1 else most_nested
 
--- A brace is too deep if as many blocks are open before it as may be.
+-- Whether a token is a brace that opens a block too deep: the greatest number of blocks is open before it.
 unfoldable pub is_too_deep : List Token → Token → Bool
 is_too_deep front x = is terminal.LeftBrace (terminal_of x) && nat_le (most_blocks front) (open_blocks front)
 
--- the words that declare a variable
+-- whether a terminal is a word that declares a variable
 abbrev pub declares : Terminal → Bool
 declares k = is terminal.Int k || is terminal.For k
 
--- A declaration is too many if `most_variables` are before it.
+-- Whether a token declares a variable too many: `most_variables` are declared before it.
 unfoldable pub is_too_many : List Token → Token → Bool
 is_too_many front x = declares (terminal_of x) && nat_le most_variables (how_many declares front)
 
--- what is false as well is false
+-- a conjunction with false is false
 never : (b : Bool) → (b && false) ≡ false
 never b = elim b as (λ v. (v && false) ≡ false) [ true ↦ refl | false ↦ refl ]
 
@@ -46,15 +48,15 @@ pub none_too_deep : (x : Token) → is_too_deep [] x ≡ false
 unfolding is_too_deep
 none_too_deep x = never (is terminal.LeftBrace (terminal_of x))
 
--- the first token of a body is not a declaration too many
+-- the first token of a body does not declare a variable too many
 pub none_too_many : (x : Token) → is_too_many [] x ≡ false
 unfolding is_too_many
 none_too_many x = never (declares (terminal_of x))
 
--- blocks are nested at most `most_nested` deep
+-- the limit: blocks nest at most `most_nested` deep
 unfoldable pub block_limit : Limit
 block_limit = limit_by is_too_deep none_too_deep
 
--- at most `most_variables` variables
+-- the limit: at most `most_variables` variables
 unfoldable pub variable_limit : Limit
 variable_limit = limit_by is_too_many none_too_many

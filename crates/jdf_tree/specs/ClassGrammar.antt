@@ -1,5 +1,6 @@
--- The grammar of a class of tasks. Source: the JDF documentation; the limits, and `-> NULL`, are this project's own
--- choice.
+-- The grammar of a class of tasks. Source: the JDF documentation, except for `-> NULL`.
+-- Carried by: `jdf_read::read`; law `trees_are_within_limits`.
+-- Tested by: `spelling.txt`, `as_many_as_may_be.txt`.
 use Rattle.std.proofs.Common.{arith}
 use Rattle.std.specs.Prelude.{ℕ, ◌≤◌, ◌*◌, Bool, nat_le, not, List, ◌∷◌, Option, Some, None, option_map, ◌||◌, ◌&&◌, if◌then◌else◌}
 use Rattle.ptg_base.specs.Limits.{most_dependences, most_flows, most_locals, most_params}
@@ -33,7 +34,7 @@ use Rattle.jdf_tree.specs.Nonterminal.{Grammar}
 use Rattle.jdf_tree.specs.GrammarParts.{word, prefixed_by, suffixed_by, any, listed, maybe, name}
 use Rattle.jdf_tree.specs.ExpressionGrammar.{outer, guard}
 
--- the elements from index n on are too many, with this code
+-- the code for element i of a list: c from index n on, since these elements are too many
 abbrev pub full_at : ℕ → Code → ℕ → Option Code
 full_at n c i = if nat_le n i then Some c else None
 
@@ -61,7 +62,7 @@ call = prefixed_by terminal.LeftParen (suffixed_by terminal.RightParen (maybe ar
 
 -- ---- dependences
 
--- one name is a collection's; of two names the second is a class's
+-- one name is a collection's; of two names, the first is a flow's and the second a class's
 abbrev pub target_of : Word × (Option Word × List ArgTree) → TargetTree
 target_of (a, (None, args)) = Element a args
 target_of (a, (Some b, args)) = Task a b args
@@ -74,7 +75,7 @@ called = map target_of (seq (name Class) (seq (opt (name Class)) call))
 unfoldable pub target : Grammar TargetTree
 target = alt (map (λ x. New x.spot) (word terminal.New)) (alt (map (λ x. Null x.spot) (word terminal.Null)) called)
 
--- a dependence after its arrow: its guard, the target where the guard holds, and the target where it does not
+-- a dependence after its arrow: its guard, the target if the guard holds, and the target if it does not
 abbrev pub Choice : Type 0
 Choice = Option Expression × TargetTree × Option TargetTree
 
@@ -88,7 +89,7 @@ guarded =
     map (λ (condition, (one, other)). (Some condition.tree, one, other))
     (seq guard (prefixed_by terminal.Question (seq target (opt (prefixed_by terminal.Colon target)))))
 
--- the two arrows
+-- whether a terminal is one of the two arrows
 abbrev pub is_arrow : Terminal → Bool
 is_arrow k = is terminal.Inward k || is terminal.Outward k
 
@@ -155,11 +156,12 @@ flows = star (full_at most_flows TooManyFlows) flow
 
 -- ---- parameters, definitions, affinity, priority
 
--- how many tokens the most parameters are, with the comma after each; the token after them is a name too many
+-- how many tokens the greatest number of parameters has, with a comma after each; the token after these is the name
+-- that is too many
 abbrev pub most_parameter_tokens : ℕ
 most_parameter_tokens = 2 * most_params
 
--- the most parameters have a token at least
+-- that is at least one token
 pub some_tokens : 1 ≤ most_parameter_tokens
 some_tokens = omega arith
 
@@ -207,14 +209,14 @@ unfoldable pub properties : Grammar (List Token)
 properties =
     prefixed_by terminal.LeftBracket (suffixed_by terminal.RightBracket (star any (one_of is_no_right_bracket)))
 
--- the tokens of a body: names, numbers and marks, reserved words but END among them
+-- whether a token may be in a body: names, numbers, marks, and reserved words other than END
 abbrev pub is_in_body : Terminal → Bool
 is_in_body k =
     not
     (is terminal.End k || is terminal.Quoted k || is terminal.Raw k || is terminal.OptionLine k
     || is terminal.Other k)
 
--- the first token of a body, which is not "["
+-- whether a token may be the first one of a body: any of these but "["
 abbrev pub begins_body : Terminal → Bool
 begins_body k = is_in_body k && not (is terminal.LeftBracket k)
 

@@ -15,5 +15,5 @@ pub data Expression : Type 0 where
   -- a prefix operator, its operand, and the operator's spot
   Unary : UnOp → Expression → Spot → Expression
   Binary : BinOp → Expression → Expression → Expression
-  -- the second where the first is not 0, else the third
+  -- the second expression if the first is not 0, else the third
   Choose : Expression → Expression → Expression → Expression

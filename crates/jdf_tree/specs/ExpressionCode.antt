@@ -1,5 +1,5 @@
--- An injective code of expressions as trees of numbers, which the model of an expression needs. Its proof stands here
--- since the model holds it.
+-- An injective code of expressions as trees of numbers, which the model of an expression needs. The proof is in specs/
+-- because the model includes it.
 use Rattle.std.specs.Prelude.{◌≡◌, ℕ, List, refl}
 use Rattle.std.specs.Coded.{Coded, code_by, coded×, coded_list, coded_ℕ, coded_ℤ}
 use base.Stored.{Gv, gnum, gcons}

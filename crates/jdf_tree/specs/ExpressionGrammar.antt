@@ -1,5 +1,7 @@
--- The grammar of expressions. Source: the JDF documentation; ranks and grouping are those of C. The single `&` and `|`
--- are this project's own choice.
+-- The grammar of expressions. Source: the JDF documentation; precedence and grouping are those of C, but the single `&`
+-- and `|` are read as `&&` and `||`.
+-- Carried by: `jdf_read::read`; law `trees_are_within_limits`.
+-- Tested by: `spelling.txt`, `as_many_as_may_be.txt`.
 use Rattle.std.specs.Prelude.{pos, Bool, List, [], ◌∷◌, Option, Some, None, ◌||◌}
 use Rattle.grammar_core.specs.declared.token.Spot.{Spot}
 use Rattle.grammar_core.specs.declared.token.Token.{Token}
@@ -31,7 +33,7 @@ with_spot spot tree = record { spot = spot; tree = tree }
 abbrev pub number_at : Token → ExprWithSpot
 number_at x = with_spot x.spot (Num (pos (decimal x.text)) x.spot)
 
--- Whether the number is written as an expression may have it.
+-- Whether a number is written as numbers of expressions must be.
 abbrev pub is_good : Token → Bool
 is_good x = is_number x.text
 
@@ -90,7 +92,7 @@ signed part = map signed_of (after_token is_sign (a_unary part))
 unfoldable pub unary : Part → Grammar ExprWithSpot
 unary part = alt (signed part) (alt number (alt (reference part) (parens part)))
 
--- the infix operator of a mark; other marks give Or
+-- the infix operator of a mark; Or for every other terminal
 abbrev pub operator_by : Terminal → BinOp
 operator_by terminal.Star = bin.Mul
 operator_by terminal.Slash = bin.Div
@@ -111,18 +113,18 @@ operator_by _ = bin.Or
 abbrev pub operator_of : Token → BinOp
 operator_of x = operator_by (terminal_of x)
 
--- operators group to the left
+-- an expression, with more operators and operands that group to the left
 abbrev pub grouped : Expression → List (BinOp × ExprWithSpot) → Expression
 grouped a [] = a
 grouped a (x ∷ xs) = grouped (Binary x.0 a x.1.tree) xs
 
--- operand (operator operand)*, where the operators are in this set
+-- operand (operator operand)*, with operators of this set
 abbrev pub ranked : (Terminal → Bool) → Grammar ExprWithSpot → Grammar ExprWithSpot
 ranked ops operand =
     map (λ (a, more). with_spot a.spot (grouped a.tree more))
     (seq operand (star any (seq (map operator_of (one_of ops)) operand)))
 
--- the operators of products; of the groups of infix operators this one binds tightest, the last one least
+-- the operators of products; these bind tightest, and each group below binds less tightly than the one before it
 abbrev pub is_product : Terminal → Bool
 is_product k = is terminal.Star k || is terminal.Slash k || is terminal.Percent k
 
@@ -183,7 +185,8 @@ branches part = seq (inside terminal.Question part) (inside terminal.Colon part)
 unfoldable pub expr : Part → Grammar ExprWithSpot
 expr part = map chosen (seq (disjunction part) (opt (branches part)))
 
--- An outermost expression, which has a limit: at most 512 tokens, and 128 names, numbers, operators and "?".
+-- An outermost expression, which has a limit: at most 512 tokens, and among them at most 128 names, numbers, operators
+-- and "?".
 unfoldable pub outer : Part → Grammar ExprWithSpot
 outer part = limited expression_limit ExprTooLong (expr part)
 

@@ -1,4 +1,6 @@
--- The first fault of a text. Its codes and their order are this project's own choice.
+-- The first fault of a text.
+-- Carried by: `jdf_read::read`.
+-- Tested by: `syntax.txt`, `truncated.txt`, `numbers.txt`, `not_utf8.txt`, `lines_and_columns.txt`.
 use Rattle.std.specs.Prelude.{◌≡◌, ℕ, ◌<◌, ◌≤◌, List, length, take, Some, None, slice_get, ◌⊎◌}
 use Rattle.std.specs.Str.{IsUtf8}
 use Rattle.ptg_base.specs.Limits.{most_bytes, most_tokens}
@@ -16,11 +18,11 @@ use Rattle.jdf_lex.specs.Codes.{code_at}
 use Rattle.grammar_core.specs.Production.{IsFirstFault}
 use Rattle.jdf_tree.specs.Grammar.{productions, file}
 
--- the spot of the first byte
+-- the spot of the first byte of a text
 abbrev pub first_spot : Spot
 first_spot = record { line = 1; column = 1 }
 
--- The text stops being UTF-8 at this byte: the bytes before it are UTF-8, and no front of the text that is longer is.
+-- The text stops being UTF-8 at this byte: the bytes before it are UTF-8, and no longer front of the text is.
 pub record StopsBeingUtf8 (bytes : List ℕ) (at : ℕ) : Type 0 where
   pub within : at < length bytes
   pub before : IsUtf8 (take at bytes)
@@ -43,7 +45,7 @@ abbrev pub code_at_token : Code → JdfCode
 code_at_token code.Syntax = jdf.Syntax
 code_at_token (code.Stated number) = stated_code (code_at number)
 
--- The first fault of the tokens by the grammar: at a token, or Truncated at the end of the text.
+-- The first fault of the tokens according to the grammar: at a token, or Truncated at the end of the text.
 pub record IsGrammarFault (tokens : List Token) (end : Spot) (fault : JdfFault) : Type 0 where
   pub token_index : ℕ
   pub code : Code

@@ -1,4 +1,6 @@
 -- The grammar of a JDF text. Source: the JDF documentation. Extern blocks, options and properties are skipped unread.
+-- Carried by: `jdf_read::read`; law `trees_are_within_limits`.
+-- Tested by: `spelling.txt`, `as_many_as_may_be.txt`.
 use Rattle.std.specs.Prelude.{Bool, false, List, [], ◌∷◌, ◌||◌, ◌-◌}
 use Rattle.ptg_base.specs.Limits.{most_classes}
 use Rattle.grammar_core.specs.declared.token.Token.{Token}
@@ -27,11 +29,11 @@ skip =
     alt (map (λ (extern, others). extern) (seq (word terminal.Extern) (seq (word terminal.Quoted) (word terminal.Raw))))
     (word terminal.OptionLine)
 
--- class skip*
+-- class_and_skips = class skip*
 unfoldable pub class_and_skips : Grammar ClassTree
 class_and_skips = map (λ (one, skipped). one) (seq class (star any skip))
 
--- classes = class skip* (class skip*)*, at most 64; the first one is not in the list that is counted
+-- classes = class skip* (class skip*)*, at most 64 classes; the list that is counted begins with the second one
 unfoldable pub classes : Grammar (List ClassTree)
 classes =
     map (λ (one, more). one ∷ more)
@@ -45,29 +47,29 @@ without_globals classes = record { globals = []; classes = classes }
 abbrev pub with_global : Word → Jdf → Jdf
 with_global name jdf = record { globals = name ∷ jdf.globals; classes = jdf.classes }
 
--- extern Quoted Raw file
+-- file_after_extern = extern Quoted Raw file
 unfoldable pub file_after_extern : Grammar Jdf
 file_after_extern =
     map (λ (extern, (quoted, (raw, jdf))). jdf)
     (seq (word terminal.Extern) (seq (word terminal.Quoted) (after_token (is terminal.Raw) a_file)))
 
--- OptionLine file
+-- file_after_option = OptionLine file
 unfoldable pub file_after_option : Grammar Jdf
 file_after_option = map (λ (option, jdf). jdf) (after_token (is terminal.OptionLine) a_file)
 
--- name "[" tokens "]" file
+-- file_after_properties = name "[" tokens "]" file
 unfoldable pub file_after_properties : Grammar Jdf
 file_after_properties =
     map (λ (global, (opening, (tokens, (closing, jdf)))). with_global global jdf)
     (seq (name Class) (seq (word terminal.LeftBracket)
     (seq (star any (one_of is_no_right_bracket)) (after_token (is terminal.RightBracket) a_file))))
 
--- name file
+-- file_after_global = name file
 unfoldable pub file_after_global : Grammar Jdf
 file_after_global = map (λ (global, jdf). with_global (word_of global) jdf) (after_token is_name a_file)
 
--- file = skip file | classes | name properties? file, where properties = "[" tokens "]" and a name before "(" begins
--- the first class; so it is (skip | name properties?)* class (skip | class)*
+-- file = skip file | classes | name properties? file, where properties = "[" tokens "]", and a name before "(" begins
+-- the first class; so file is (skip | name properties?)* class (skip | class)*
 unfoldable pub file : Grammar Jdf
 file =
     alt file_after_extern
@@ -91,7 +93,7 @@ begins_operand part k =
 abbrev pub begins_file : Terminal → Bool
 begins_file k = is terminal.Extern k || is terminal.OptionLine k || is_name k
 
--- the marks of all infix operators, and "?"
+-- whether a terminal is the mark of an infix operator, or "?"
 abbrev pub is_operator : Terminal → Bool
 is_operator k =
     is_product k || is_sum k || is_relation k || is_equality k || is_conjunction k || is_disjunction k
@@ -102,20 +104,20 @@ abbrev pub continues_name : Part → Terminal → Bool
 continues_name Class k = false
 continues_name Body k = is terminal.LeftBracket k
 
--- the terminals that the test for predictive grammars claims as the first ones of each nonterminal
+-- the first set of each nonterminal, as claimed for the test of predictive grammars
 abbrev pub begins : Nonterminal → Terminal → Bool
 begins (an_expr part) k = begins_operand part k
 begins (a_unary part) k = begins_operand part k
 begins a_file k = begins_file k
 begins a_block k = begins_statement k || is terminal.RightBrace k
 
--- the terminals that the test claims as those that continue a text of each nonterminal
+-- the terminals that continue a text of each nonterminal, as claimed for the test
 abbrev pub continues : Nonterminal → Terminal → Bool
 continues (an_expr part) k = is_operator k || continues_name part k
 continues (a_unary part) k = continues_name part k
 continues a_file k = begins_file k
 continues a_block k = false
 
--- the claims of the test for predictive grammars: both sets of each nonterminal
+-- the claims for the test of predictive grammars: both sets of each nonterminal
 abbrev pub claims : Claims Nonterminal
 claims = record { firsts = λ n. set (begins n); continues = λ n. set (continues n) }

@@ -1,4 +1,4 @@
--- Small productions that the grammar is built from.
+-- Small productions from which the grammar is built.
 use Rattle.std.specs.Prelude.{ℕ, Bool, List, [], ◌∷◌, Option, None, ◌||◌, unwrap_or}
 use Rattle.grammar_core.specs.declared.token.Token.{Token}
 use Rattle.jdf_lex.specs.declared.terminal.Terminal.{Terminal}
@@ -33,11 +33,11 @@ any i = None
 abbrev pub listed : {A : Type 0} → Grammar A → Grammar (List A)
 listed g = map (λ (one, more). one ∷ more) (seq g (star any (prefixed_by terminal.Comma g)))
 
--- a list that may be left out, and is empty then
+-- a list that may be left out and then is empty
 abbrev pub maybe : {A : Type 0} → Grammar (List A) → Grammar (List A)
 maybe g = map (λ o. unwrap_or o []) (opt g)
 
--- The terminals that are names: no reserved word, and in a body not int, if, else, for and trap.
+-- The terminals that are names: not the reserved words, and in a body not int, if, else, for and trap either.
 abbrev pub names : Part → Terminal → Bool
 names Class k = is_name k
 names Body k = is terminal.Name k || is terminal.TypeWord k

@@ -1,4 +1,6 @@
--- The text of a JDF. Source: the JDF documentation; the limits are this project's own choice.
+-- The text of a JDF. Source: the JDF documentation.
+-- Carried by: `jdf_read::read`; law `trees_are_within_limits`.
+-- Tested by: `spelling.txt`, `as_many_as_may_be.txt`.
 use Rattle.std.specs.Prelude.{ℕ, ◌≤◌, List, length, None}
 use Rattle.std.specs.Str.{IsUtf8}
 use Rattle.ptg_base.specs.Limits.{most_bytes, most_tokens}

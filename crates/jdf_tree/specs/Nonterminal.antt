@@ -11,7 +11,7 @@ pub data Nonterminal : Type 0 where
   an_expr : Part → Nonterminal
   -- the operand of a prefix operator
   a_unary : Part → Nonterminal
-  -- the rest of a text from a global, a skipped part or the first class on
+  -- the rest of a text, from a global, a skipped part or the first class on
   a_file : Nonterminal
   -- the rest of a block of a body, after its opening brace
   a_block : Nonterminal

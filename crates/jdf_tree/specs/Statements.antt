@@ -1,5 +1,4 @@
 -- Statements in the text of a body as a tree: none, or one and the statements after it.
--- Source: the language of bodies is this project's own choice.
 use Rattle.std.specs.Prelude.{ℕ, ◌+◌}
 use Rattle.jdf_tree.specs.declared.expression.Word.{Word}
 use Rattle.jdf_tree.specs.Expression.{Expression}
@@ -14,14 +13,14 @@ pub data Statements : Type 0 where
   SetThen : Word → Expression → Statements → Statements
   -- `A[e1] = e2;`, and the rest
   PutThen : Word → Expression → Expression → Statements → Statements
-  -- `if (e) { .. } else { .. }`, where the second block may be left out, and the rest
+  -- `if (e) { .. } else { .. }`, whose second block is empty if it is left out, and the rest
   IfThen : Expression → Statements → Statements → Statements → Statements
   -- `for i = a .. b { .. }`, and the rest
   ForThen : Word → Expression → Expression → Statements → Statements → Statements
   -- `trap word;`, and the rest
   TrapThen : Word → Statements → Statements
 
--- the number of statements, with those of inner blocks
+-- the number of statements, including those of inner blocks
 abbrev pub count_of_statements : Statements → ℕ
 count_of_statements Done = 0
 count_of_statements (DeclareThen w e rest) = count_of_statements rest + 1

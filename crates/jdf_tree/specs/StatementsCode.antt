@@ -1,5 +1,5 @@
--- An injective code of statements as trees of numbers, which the model of a block needs. Its proof stands here since
--- the model holds it.
+-- An injective code of statements as trees of numbers, which the model of a block needs. The proof is in specs/ because
+-- the model includes it.
 use Rattle.std.specs.Prelude.{◌≡◌, refl}
 use Rattle.std.specs.Coded.{Coded}
 use base.Stored.{Gv, gnum, gcons}

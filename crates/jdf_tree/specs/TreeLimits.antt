@@ -1,5 +1,7 @@
--- How much the tree of a text has at most, and what a second target stands with. A text with more is refused as it is
--- read. The limits are this project's own choice.
+-- The limits of the tree of a text, and that a second target comes with a guard. A text that is over a limit is refused
+-- as it is read.
+-- Carried by: law `trees_are_within_limits`.
+-- Tested by: `as_many_as_may_be.txt`.
 use Rattle.std.specs.Prelude.{ℕ, ◌≤◌, List, length, IsSome}
 use Rattle.std.specs.List.{AllByRecursion}
 use Rattle.ptg_base.specs.Limits.{most_classes, most_dependences, most_flows, most_locals, most_params}
@@ -9,7 +11,7 @@ use Rattle.jdf_tree.specs.declared.tree.ClassTree.{ClassTree}
 use Rattle.jdf_tree.specs.declared.tree.Jdf.{Jdf}
 use Rattle.jdf_tree.specs.Jdf.{IsJdf}
 
--- A dependence with a target for where its guard does not hold has a guard.
+-- A dependence with a second target, for a guard that does not hold, has a guard.
 abbrev pub HasGuardForSecond : DepTree → Type 0
 HasGuardForSecond dep = IsSome dep.no → IsSome dep.guard
 

@@ -36,16 +36,16 @@ impl Drop for ExprTree {
     }
 }
 
-/// One operation of an expression, and its operands.
+/// A node of an expression: a number, a name, or an operation with its operands.
 #[derive(Drop)]
 pub enum ExprNode {
     /// A number, and its spot.
     Num(i64, Spot),
     /// A name alone.
     Name(Word),
-    /// An element of the tile of a flow.
+    /// An element of the tile of a flow: the flow and the index.
     Elem(Word, Box<ExprNode>),
-    /// The operator, its operand and the operator's spot.
+    /// A prefix operator, its operand and the operator's spot.
     Unary(UnOp, Box<ExprNode>, Spot),
     /// An infix operator and its two operands.
     Binary(BinOp, Box<ExprNode>, Box<ExprNode>),
@@ -146,7 +146,7 @@ impl ExprTree {
         })
     }
 
-    // The operation at the root, taken out.
+    // The root of the tree.
     fn into_node(self) -> ExprNode
         ensures { expression_of result ≡ self }
     {
@@ -154,7 +154,7 @@ impl ExprTree {
         node
     }
 
-    /// The operation at the root, for callers that walk the tree.
+    /// The root, for callers that walk the tree.
     pub fn node(&self) -> &ExprNode
         ensures { expression_of result.now ≡ self.now }
     {

@@ -1,4 +1,5 @@
-//! The tree of a JDF text, and the grammar that relates texts and trees.
+//! The tree of a JDF text and of the text of a body; the grammars of the whole language, and the first fault of a text,
+//! as definitions.
 #![tactic(auto)]
 
 mod body;

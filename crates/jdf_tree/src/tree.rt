@@ -59,7 +59,7 @@ impl Drop for TargetTree {
     }
 }
 
-/// A dependence. Its target is `yes` if it has no guard or the guard holds, and else `no`.
+/// A dependence. Its target is `yes` if it has no guard or the guard holds, else `no`, which may be left out.
 pub struct DepTree {
     /// Its arrow: `<-` is in, and `->` is out.
     pub direction: Direction,

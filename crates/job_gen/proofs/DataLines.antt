@@ -1,4 +1,4 @@
--- The data's lines, put together from the left, are the pieces that are printed, put together from the right.
+-- The lines of the data, joined from the left, are the pieces that are printed, joined from the right.
 use Rattle.std.proofs.Common.{◌≡◌, ℕ, List, [], ◌∷◌, ◌++◌, codes, append_assoc, ap}
 use Rattle.std.specs.Fmt.{decimal}
 use Rattle.job_gen.specs.Job.{text_of, data_text}

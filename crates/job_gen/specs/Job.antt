@@ -1,5 +1,7 @@
--- The made job: a graph of the shape of a tiled Cholesky factorization. Its tiles count the tasks that changed them in
--- place of numbers of a matrix. Source: the tiled factorization of DAGuE 2012; the texts are this project's own choice.
+-- The made job: a graph of the shape of a tiled Cholesky factorization. Its tiles count the tasks that changed them,
+-- instead of holding numbers of a matrix. Source: the tiled factorization of DAGuE 2012.
+-- Carried by: `make`.
+-- Tested by: `demo.txt`.
 use Rattle.std.specs.Prelude.{ℕ, List, [], ◌∷◌, ◌++◌, flat_map, codes}
 use Rattle.std.specs.Fmt.{decimal}
 

@@ -1,4 +1,4 @@
-//! The made job: the texts of a graph of the shape of a tiled Cholesky factorization, for 1 to 96 rows of tiles.
+//! The texts of a made job: a graph of the shape of a tiled Cholesky factorization, for 1 to 96 rows of tiles.
 #![tactic(auto)]
 
 ghost use Rattle.std.specs.Prelude.{◌≡◌, ◌≤◌, IfOk};
@@ -8,7 +8,7 @@ ghost use Rattle.job_gen.specs.Job.{jdf_text, data_text};
 use ptg_base::{OutOfMemory, Text};
 use std::alloc::Global;
 
-/// The job's JDF. The number of rows is its global NT, so the text is the same for all of them.
+/// The job's JDF. The number of rows is its global NT, so the text is the same for every number.
 pub const JDF: &[u8] = b"D
 NT
 

@@ -4,7 +4,8 @@ use dep_iter::{guard_value, has_arguments, target_by};
 use plan_core::{DepPlan, FlowPlan};
 use term_core::Direction;
 
-/// The direction of the first such dependence of a flow, and its number among those of that direction.
+/// The direction of the first dependence of a flow that needs such an expression, and its number among those of that
+/// direction.
 pub fn ill_dependence(flow: &FlowPlan, env: &[i64]) -> Option<(Direction, usize)> {
     match first_ill(flow.kind.is_data(), flow.ins.as_slice(), env) {
         Some(number) => Some((Direction::In, number)),
@@ -12,8 +13,8 @@ pub fn ill_dependence(flow: &FlowPlan, env: &[i64]) -> Option<(Direction, usize)
     }
 }
 
-// The number of the first of these dependences that is so; where the first that holds counts alone, none after it is
-// looked at.
+// The number of the first of these dependences that needs such an expression. If `first_only`, none after the first
+// active one is looked at.
 fn first_ill(first_only: bool, deps: &[DepPlan], env: &[i64]) -> Option<usize> {
     for (number, dependence) in deps.iter().enumerate() {
         let Ok(holds) = guard_value(&dependence.guard, env) else {

@@ -1,4 +1,4 @@
-//! Lines of fields, printed as they come, up to this many.
+//! Lines of fields, printed as they come, up to a limit.
 
 use crate::failure::Failure;
 use std::alloc::Global;
@@ -17,7 +17,7 @@ pub struct Lines<W: Write + Drop> {
 }
 
 impl<W: Write + Drop> Lines<W> {
-    /// At most this many lines, to this writer.
+    /// Writes at most this many lines, to this writer.
     pub fn new(alloc: Global, writer: W, most: u64) -> Lines<W> {
         Lines {
             writer,

@@ -1,4 +1,5 @@
-//! Prints the graph of a job, line by line: its tasks, and what their active dependences name.
+//! Prints the graph of a job, line by line, for explanations and pictures: its tasks, and what their active dependences
+//! name.
 #![tactic(auto)]
 
 mod dependence;
@@ -24,7 +25,7 @@ use std::process::ExitCode;
 use std::rt::{Env, Files};
 use std::{env, io};
 
-// What is printed where the words ask for nothing.
+// What is printed if the words ask for nothing.
 const USAGE: &str = "usage: job_graph JDF DATA MOST [CLASS,PARAMETER..]";
 
 fn main(rt: HostRuntime) -> io::Result<ExitCode> {
@@ -78,7 +79,7 @@ fn bytes_of<R: Files + AllocGlobal>(rt: &R, name: &str) -> Result<Seq<u8>, Failu
     Ok(load(rt.alloc(), &mut files, name)?)
 }
 
-// Prints what is asked for. What was begun before the last line was one too many is printed too.
+// Prints what is asked for. If the limit ends it, the lines before the limit are printed all the same.
 fn print<R: Print + AllocGlobal>(
     rt: &R,
     request: &Request,

@@ -19,12 +19,12 @@ pub fn name_of(name: &Text) -> &str {
     shown(name.bytes())
 }
 
-/// The name of a class, or `-` where there is none.
+/// The name of a class, or `-` if there is none.
 pub fn class_name(plan: &Plan, class: u32) -> &str {
     shown(plan_core::class_name(plan, class))
 }
 
-/// The name of a flow of a class, or `-` where there is none.
+/// The name of a flow of a class, or `-` if there is none.
 pub fn flow_name(plan: &Plan, class: u32, flow: u8) -> &str {
     shown(plan_core::flow_name(plan, class, Some(flow)))
 }

@@ -11,7 +11,7 @@ use range_space::{Numbers, param_value, steps_of};
 use std::io::Write;
 use term_core::{ClassSpace, Def, Range, eval};
 
-/// The lines of a task that the job has not: itself, and the first definition that does not allow it.
+/// The lines of a task that the job does not have: itself, and the first definition that does not allow it.
 pub fn add_no_task<W: Write + Drop>(
     lines: &mut Lines<W>,
     tree: &Jdf,
@@ -40,7 +40,7 @@ pub fn add_no_task<W: Write + Drop>(
     Ok(())
 }
 
-// The value of a definition in a task with these locals before it, or the line that says why there is none.
+// The value of a definition in a task with these locals before it. If there is none, adds the line that says why.
 fn value_of<W: Write + Drop>(
     lines: &mut Lines<W>,
     space: &ClassSpace,

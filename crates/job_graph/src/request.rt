@@ -10,17 +10,17 @@ pub struct TaskName<'a> {
     pub params: Vec<i64>,
 }
 
-/// The graph of a job, or what concerns one task of it.
+/// A request for the graph of a job, or for what concerns one task of it.
 #[derive(Drop)]
 pub struct Request<'a> {
     pub jdf: &'a str,
     pub data: &'a str,
-    /// This many lines are printed at most.
+    /// At most this many lines are printed.
     pub most: u64,
     pub task: Option<TaskName<'a>>,
 }
 
-/// What the words ask for, of which the first one is the program's name.
+/// What the words ask for. The first word is the program's name.
 pub fn request_of<'a>(alloc: Global, words: &'a [String]) -> Result<Request<'a>, Failure> {
     let (jdf, data, most, task) = match words {
         [_, jdf, data, most] => (jdf, data, most, None),

@@ -130,7 +130,7 @@ fn add_ill<W: Write + Drop>(
     lines.end()
 }
 
-// Where the dependence of a flow stands that needs an expression without a value.
+// Where in the text the dependence of a flow is that needs an expression without a value.
 fn ill_in_text(tree: &Jdf, plan: &Plan, task: &TaskId, flow: u8) -> Option<InText>
     requires { IsTask plan.now task.now }
 {

@@ -1,4 +1,4 @@
--- A fault of the JDF is the verdict whatever the data are, and a consistent plan has its data.
+-- A fault of the JDF's text is the verdict, whatever the data's text is. The data of a consistent plan fit it.
 use Rattle.std.proofs.Common.{sym, subst, inl, inr}
 use Rattle.plan_data.specs.Fit.{DataFit}
 use Rattle.job_laws.specs.Laws.{JdfIsJudgedAlone, DataFitPlan}

@@ -1,4 +1,5 @@
--- In a consistent job of two texts the names of classes are spelled as names, and the parameters of tasks have 64 bits.
+-- In a consistent job of two texts, the names of classes are spelled as names, and the parameters of tasks have 64
+-- bits.
 use Rattle.std.proofs.Common.{◌≡◌, ℕ, zero, suc, ℤ, Bool, true, false, cond, ◌&&◌, List, [], ◌∷◌, ◌++◌, Option, Some, None, is_some, option_map, IsTrue, Result, Ok, Err, refl, ap, sym, ◌∙◌, subst, arith, inl, inr, length, slice_get}
 use Rattle.std.specs.List.{AllByRecursion, list_all}
 use Rattle.std.specs.Map.{lookup}

@@ -1,4 +1,5 @@
 -- How the names and the parameters of a consistent job of two texts are spelled.
+-- Carried by: law `jobs_are_spelled`.
 use Rattle.std.specs.Prelude.{ℕ, List, IsTrue}
 use Rattle.std.specs.List.{list_all}
 use Rattle.ptg_base.specs.Names.{is_name}
@@ -11,7 +12,7 @@ use Rattle.dep_iter.specs.Tasks.{IsTask}
 use Rattle.job_stages.specs.Verdict.{TextsDenote}
 use Rattle.job_stages.specs.declared.verdict.JobVerdict.TheVariants as verdicts
 
--- the classes of its tasks have names that are spelled as names
+-- the names of the classes of its tasks are spelled as names
 abbrev pub NamesAreSpelled : Type 0
 NamesAreSpelled =
     (jdf_text data_text : List ℕ) (P : Plan) (given : Data)

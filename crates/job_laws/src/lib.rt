@@ -1,5 +1,5 @@
-//! Laws of verdicts that no program cites: every job has one, its JDF is judged alone, its data fit its plan, and
-//! its names and parameters are spelled as those of a trace.
+//! Laws of verdicts that no program cites: every job has one, its JDF is judged alone, and its data fit its plan. Its
+//! names and parameters are spelled as those of a trace.
 #![tactic(auto)]
 
 mod laws;

@@ -20,7 +20,7 @@ pub only_verdict : (jdf_text data_text : List ℕ) (r : Result JobVerdict OutOfM
 only_verdict jdf_text data_text (Ok w) v h k = texts_once jdf_text data_text w v h k
 only_verdict jdf_text data_text (Err x) v h k = tt
 
--- the first fault of a plan, with the plan back
+-- the first fault of a plan, with the plan that was returned
 pub unmatched : (job : Job) (P Q : Plan) (f : MatchFault) → HasPlan job P → Q ≡ P → IsFirstFault P f → HasPlan job Q × IsFirstFault Q f
 unmatched job P Q f has e first = subst (λ (p : Plan). HasPlan job p × IsFirstFault p f) (sym e) (has, first)
 
@@ -31,7 +31,7 @@ fault_judged jdf_text data_text f g e h = inl (g, subst (IsJdfFault jdf_text) (s
 pub only_fault : (jdf_text data_text : List ℕ) (f g : JdfFault) (v : JobVerdict) → g ≡ f → IsJdfFault jdf_text f → TextsDenote jdf_text data_text v → verdicts.Jdf g ≡ v
 only_fault jdf_text data_text f g v e h k = texts_once jdf_text data_text (verdicts.Jdf g) v (fault_judged jdf_text data_text f g e h) k
 
--- the plan and the data of a verdict, where it is a consistent job
+-- the plan and the data of a verdict, if it is a consistent job
 abbrev pub consistent_in : JobVerdict → Option (Plan × Data)
 consistent_in (verdicts.Jdf fault) = None
 consistent_in (verdicts.Data fault) = None

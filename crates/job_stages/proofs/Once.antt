@@ -1,5 +1,5 @@
--- Two texts denote one verdict at most: what each step finds is one thing, and no step finds both a fault and what the
--- next one needs.
+-- Two texts denote at most one verdict: each step finds only one thing, and never both a fault and what the next step
+-- needs.
 use Rattle.std.proofs.Common.{◌≡◌, ℕ, List, Result, Ok, Err, sym, ◌∙◌, ap, subst, inl, inr, arith}
 use Rattle.jdf_read.proofs.Once.{one_tree, one_fault, not_both}
 use Rattle.coll_data.specs.Data.{Data}

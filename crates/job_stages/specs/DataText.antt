@@ -1,5 +1,6 @@
--- The text of a data file, of any length: the data that it spells, or its first fault. Source: this project's own
--- choice.
+-- The text of a data file, of any length: the data that it spells, or its first fault.
+-- Carried by: `judge_texts`, `judge_data`; laws `one_verdict`, `job_laws::every_job_has_a_verdict`.
+-- Tested by: `check.txt`, `check_codes.txt`.
 use Rattle.std.specs.Prelude.{◌≡◌, ◌⊎◌, ℕ, ◌<◌, ◌≤◌, List, length, Ok, Err}
 use Rattle.ptg_base.specs.Limits.{most_bytes}
 use Rattle.coll_data.specs.Data.{Data}
@@ -12,7 +13,7 @@ pub record IsData (text : List ℕ) (given : Data) : Type 0 where
   pub bytes_at_most : length text ≤ most_bytes
   pub spelled : data_of text ≡ Ok given
 
--- the fault of a text of more than 16 MiB, which is none of a record
+-- the fault of a text of more than 16 MiB; it is at no record
 abbrev pub too_long : DataFault
 too_long = record { row = 0; code = TooLong }
 

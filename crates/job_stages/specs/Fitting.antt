@@ -1,4 +1,6 @@
--- A verdict whose data fit its plan, so that it may be run. Source: this project's own choice.
+-- A verdict whose data fit its plan, so that it may be run.
+-- Carried by: `judge_texts`.
+-- Tested by: `check.txt`, `examples.txt`.
 use Rattle.plan_data.specs.Fit.{DataFit}
 use Rattle.job_stages.specs.declared.verdict.JobVerdict.{JobVerdict}
 use Rattle.job_stages.specs.declared.verdict.JobVerdict.TheVariants.{Jdf, Data as DataRefused, Inconsistent, Consistent}

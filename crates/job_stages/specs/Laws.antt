@@ -4,11 +4,11 @@ use Rattle.check_names.specs.Names.{Job}
 use Rattle.job_stages.specs.declared.verdict.JobVerdict.{JobVerdict}
 use Rattle.job_stages.specs.Verdict.{JobDenotes, TextsDenote}
 
--- A JDF with its data denotes one verdict at most.
+-- A JDF with its data denotes at most one verdict.
 abbrev pub OneVerdictOfJob : Type 0
 OneVerdictOfJob = (job : Job) (v w : JobVerdict) → JobDenotes job v → JobDenotes job w → v ≡ w
 
--- Two texts denote one verdict at most.
+-- Two texts denote at most one verdict.
 abbrev pub OneVerdict : Type 0
 OneVerdict =
     (jdf_text data_text : List ℕ) (v w : JobVerdict) → TextsDenote jdf_text data_text v

@@ -1,5 +1,6 @@
 -- The stages that the text of a JDF and the text of its data reach: a job, the values of all its globals, a plan.
--- Source: this project's own choice, over the definitions of the stages.
+-- Carried by: `judge_texts`, `judge_data`; laws `one_verdict`, `job_laws::every_job_has_a_verdict`.
+-- Tested by: `check.txt`, `check_codes.txt`.
 use Rattle.std.specs.Prelude.{◌≡◌, ℕ, List, true, false}
 use Rattle.jdf_tree.specs.Jdf.{IsJdf}
 use Rattle.check_names.specs.Names.{Job}
@@ -17,11 +18,11 @@ pub record HasJob (jdf_text data_text : List ℕ) (job : Job) : Type 0 where
 abbrev pub HasMissingGlobal : Job → Type 0
 HasMissingGlobal job = is_missing job.jdf job.given ≡ true
 
--- the data give each global of the JDF
+-- the data have each global of the JDF
 abbrev pub HasGlobals : Job → Type 0
 HasGlobals job = is_missing job.jdf job.given ≡ false
 
--- The data give each global, and with all names resolved this is the plan.
+-- The data have each global of the JDF, and with all names resolved this is the plan.
 pub record HasPlan (job : Job) (P : Plan) : Type 0 where
   pub globals : HasGlobals job
   pub plan : IsPlan job P

@@ -1,5 +1,7 @@
--- What the text of a JDF and the text of its data denote. Source: this project's own choice of the order of refusals:
--- the JDF's text, the data's text, a global missing from the data, the names and kinds of the JDF, consistency.
+-- What the text of a JDF and the text of its data denote. Refusals come in this order: the JDF's text, the data's text,
+-- a global missing from the data, the names and kinds of the JDF, consistency.
+-- Carried by: `judge_texts`, `judge_data`; laws `one_verdict`, `job_laws::every_job_has_a_verdict`.
+-- Tested by: `check.txt`, `check_codes.txt`.
 use Rattle.std.specs.Prelude.{◌≡◌, ◌⊎◌, ℕ, ◌+◌, List}
 use Rattle.jdf_lex.specs.declared.fault.JdfFault.{JdfFault}
 use Rattle.jdf_tree.specs.declared.tree.Jdf.{Jdf}
@@ -21,9 +23,9 @@ use Rattle.job_stages.specs.Stages.{HasJob, HasGlobals, HasPlan, HasMissingGloba
 abbrev pub missing_name : Data → DataFault
 missing_name given = record { row = given.records_read + 1; code = MissingName }
 
--- A JDF with its data denotes this verdict: a global missing from the data; else the first fault of the JDF's names and
--- kinds; else the first fault of the plan, with the plan, whose names are printed; else the plan, which is consistent,
--- with the data.
+-- A JDF with its data denotes one of four verdicts, the first that applies. A global is missing from the data. The
+-- names and kinds of the JDF have a first fault. The plan has a first fault; the verdict keeps the plan, whose names
+-- are printed. The plan is consistent; the verdict keeps it with the data.
 abbrev pub JobDenotes : Job → JobVerdict → Type 0
 JobDenotes job (verdicts.Data fault) = HasMissingGlobal job × (fault ≡ missing_name job.given)
 JobDenotes job (verdicts.Jdf fault) = HasGlobals job × types.IsFirstFault job fault

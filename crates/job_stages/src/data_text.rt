@@ -10,7 +10,7 @@ use data_read::read_data;
 use ptg_base::{MOST_BYTES, OutOfMemory};
 use std::alloc::Global;
 
-/// The fault of a data file that was not read to its end, since it has more than 16 MiB.
+/// The fault of a data file of more than 16 MiB, which is not read to its end.
 pub fn data_too_long() -> DataFault
     ensures { result ≡ too_long }
 {
@@ -30,7 +30,8 @@ pub fn given_of(alloc: Global, text: &[u8]) -> Result<Given, DataRefusal>
     read_data(alloc, text)
 }
 
-/// The fault of data from which a global is missing. No text has so many records that there is no row after them.
+/// The fault of data that lack a global, at the row after their last record. If that row has no number, returns out of
+/// memory; no text has so many records.
 pub(crate) fn missing_name(given: &Given) -> Result<DataFault, OutOfMemory>
     ensures { IfOk result (λ f. f ≡ missing_name given.now) }
 {

@@ -12,7 +12,7 @@ use jdf_read::read;
 use jdf_tree::{Jdf, trees_are_within_limits};
 use std::alloc::Global;
 
-/// The fault of a JDF text that was not read to its end, since it has more than 16 MiB.
+/// The fault of a JDF text of more than 16 MiB, which is not read to its end.
 pub fn jdf_too_long() -> JdfFault
     ensures { result ≡ too_long }
 {

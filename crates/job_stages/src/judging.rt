@@ -33,11 +33,11 @@ pub fn judge_texts(
     jdf_text: &[u8],
     data_text: &[u8],
 ) -> Result<JobVerdict, OutOfMemory>
-    // What is answered the two texts denote.
+    // The verdict that is returned is one that the two texts denote.
     ensures found { IfOk result (TextsDenote jdf_text.now data_text.now) }
-    // What they denote is answered, unless memory runs out.
+    // The verdict that they denote is returned, unless memory runs out.
     ensures only { (v : Verdict) → TextsDenote jdf_text.now data_text.now v → IfOk result (λ w. w ≡ v) }
-    // And it may be run.
+    // The data fit the plan of a consistent job, so it may be run.
     ensures fit { IfOk result HasFittingData }
 {
     one_verdict();
@@ -54,13 +54,13 @@ pub fn job_of_texts(
     jdf_text: &[u8],
     data_text: &[u8],
 ) -> Result<Option<(Matched, Given)>, OutOfMemory>
-    // What is answered the two texts denote.
+    // A job that is returned is the consistent one that the two texts denote.
     ensures found { IfOk result (λ o. IfSome o (λ (matched, given).
         TextsDenote jdf_text.now data_text.now (Consistent matched given))) }
-    // The consistent job that they denote is answered, unless memory runs out.
+    // The consistent job that they denote is returned, unless memory runs out.
     ensures only { (P : PlanValue) (given : Data) → TextsDenote jdf_text.now data_text.now (Consistent P given)
         → IfOk result (λ o. o ≡ Some (P, given)) }
-    // And it may be run.
+    // The data fit the plan of a consistent job, so it may be run.
     ensures fit { IfOk result (λ o. IfSome o (λ (matched, given). DataFit matched given)) }
 {
     match judge_texts(alloc, jdf_text, data_text)? {
@@ -69,7 +69,7 @@ pub fn job_of_texts(
     }
 }
 
-/// The verdict on a JDF and the text of its data, for each text that the JDF was read from.
+/// The verdict on a JDF and the text of its data, whatever text the JDF was read from.
 pub fn judge_data(alloc: Global, jdf: &Jdf, data_text: &[u8]) -> Result<JobVerdict, OutOfMemory>
     requires { IsWithinLimits jdf.now }
     ensures found { (text : List ℕ) → IsJdf text jdf.now → IfOk result (TextsDenote text data_text.now) }

@@ -1,5 +1,4 @@
-//! What the text of a JDF and the text of its data come to: a refusal, a plan that is not consistent, or a consistent
-//! plan.
+//! What a JDF and its data come to: a refusal, an inconsistency, or a consistent plan with its data.
 #![tactic(auto)]
 
 mod data_text;

@@ -13,7 +13,7 @@ pub enum JobVerdict {
     Jdf(JdfFault),
     /// The data have this fault.
     Data(DataFault),
-    /// The plan, which has the names of its classes and flows, is not consistent: this is its first fault.
+    /// The plan is not consistent, and this is its first fault. The plan has the names of the fault's class and flow.
     Inconsistent(Plan, MatchFault),
     /// The plan is consistent; these are its data.
     Consistent(Matched, Given),

@@ -19,7 +19,7 @@ pub weigh-le : {A : Type 0} (f g : A → ℕ) (xs : List A) → ((x : A) → IsI
 weigh-le f g [] h = omega arith
 weigh-le f g (x ∷ xs) h = omega (arith, h x (inl refl), weigh-le f g xs (λ y i. h y (inr i)))
 
--- where one weight is nowhere greater than another and the sums are the same, the weights are
+-- if one weight is nowhere greater than another and its sum is no smaller, the weights are equal at each member
 pub weigh-tight : {A : Type 0} (f g : A → ℕ) (xs : List A) → ((x : A) → IsIn x xs → f x ≤ g x) → weigh g xs ≤ weigh f xs
     → (x : A) → IsIn x xs → g x ≤ f x
 weigh-tight f g [] h s x i = absurd i
@@ -31,7 +31,7 @@ weigh-tight f g (y ∷ ys) h s x i =
       | inr t ↦ weigh-tight f g ys (λ z j. h z (inr j)) (omega arith) x t
     ]
 
--- weights that agree on the members sum up alike
+-- weights that agree on the members have the same sum
 pub weigh-same : {A : Type 0} (f g : A → ℕ) (xs : List A) → ((x : A) → IsIn x xs → g x ≡ f x) → weigh g xs ≡ weigh f xs
 weigh-same f g [] h = refl
 weigh-same f g (x ∷ xs) h = omega (arith, h x (inl refl), weigh-same f g xs (λ y i. h y (inr i)))
@@ -44,13 +44,13 @@ pub weigh-one : {A : Type 0} (xs : List A) → weigh (λ _. 1) xs ≡ length xs
 weigh-one [] = refl
 weigh-one (x ∷ xs) = omega (arith, weigh-one xs)
 
--- members that weigh the same
+-- the sum if all members weigh the same
 pub weigh-each : {A : Type 0} (f : A → ℕ) (n : ℕ) (xs : List A) → ((x : A) → IsIn x xs → f x ≡ n)
     → weigh f xs ≡ n * length xs
 weigh-each f n [] h = omega arith
 weigh-each f n (x ∷ xs) h = omega (arith, h x (inl refl), weigh-each f n xs (λ y i. h y (inr i)))
 
--- members that weigh at most 4096 each
+-- the bound of the sum if each member weighs at most 4096
 pub weigh-at_most : {A : Type 0} (f : A → ℕ) (xs : List A) → ((x : A) → f x ≤ 4096) → weigh f xs ≤ 4096 * length xs
 weigh-at_most f [] h = omega arith
 weigh-at_most f (x ∷ xs) h = omega (arith, h x, weigh-at_most f xs h)
@@ -77,7 +77,7 @@ pub weigh-sum : {A : Type 0} (f : A → ℕ) (xs : List A) → weigh f xs ≡ su
 weigh-sum f [] = refl
 weigh-sum f (x ∷ xs) = omega (arith, weigh-sum f xs, sum_by-cons f x xs)
 
--- the members that pass a test weigh as all members do where the others weigh nothing
+-- the members that pass a test weigh as much as all members do if the others weigh 0
 pub weigh-filter : {A : Type 0} (test : A → Bool) (f : A → ℕ) (xs : List A)
     → weigh f (filter test xs) ≡ weigh (λ x. if test x then f x else 0) xs
 weigh-filter test f [] = refl
@@ -113,7 +113,7 @@ pub count-all : {A : Type 0} (test : A → Bool) (xs : List A) → ((x : A) → 
 count-all test [] h = refl
 count-all test (x ∷ xs) h = omega (arith, ap as_number (h x (inl refl)), count-all test xs (λ y i. h y (inr i)))
 
--- where as many pass as there are, each passes
+-- if as many members pass as there are, each passes
 pub all_pass : {A : Type 0} (test : A → Bool) (xs : List A) → length xs ≤ count test xs → (x : A) → IsIn x xs
     → test x ≡ true
 all_pass test xs s x i =
@@ -123,7 +123,7 @@ pub count-le : {A : Type 0} (p q : A → Bool) (xs : List A) → ((x : A) → Is
     → count p xs ≤ count q xs
 count-le p q xs h = weigh-le (λ x. as_number (p x)) (λ x. as_number (q x)) xs (λ x i. one_le (p x) (q x) (h x i))
 
--- tests that agree on the members count alike
+-- tests that agree on the members have the same count
 pub count-same : {A : Type 0} (p q : A → Bool) (xs : List A) → ((x : A) → IsIn x xs → q x ≡ p x)
     → count q xs ≡ count p xs
 count-same p q [] h = refl
@@ -148,7 +148,7 @@ count-some test (y ∷ ys) x i e = elim i [
   | inr t ↦ omega (arith, count-some test ys x t e)
 ]
 
--- where a count is more than 0, some member passes
+-- if a count is more than 0, some member passes
 passes_first : {A : Type 0} (test : A → Bool) (x : A) (xs : List A) (b : Bool) → test x ≡ b
     → 0 < as_number b + count test xs → (0 < count test xs → (y : A) × IsIn y xs × (test y ≡ true))
     → (y : A) × IsIn y (x ∷ xs) × (test y ≡ true)
@@ -160,7 +160,7 @@ pub some_passes : {A : Type 0} (test : A → Bool) (xs : List A) → 0 < count t
 some_passes test [] h = absurd (omega arith)
 some_passes test (x ∷ xs) h = passes_first test x xs (test x) refl h (λ k. some_passes test xs k)
 
--- in a list without repeats each is counted once at most
+-- in a list without repeats each value is counted at most once
 pub count-once : {A : Type 0} (same : A → A → Bool) → ((a b : A) → same a b ≡ true → a ≡ b) → (xs : List A)
     → HasNoRepeats xs → (x : A) → count (same x) xs ≤ 1
 count-once same one [] w x = omega arith
@@ -174,7 +174,7 @@ count-once same one (y ∷ ys) w x =
     omega (arith, none, ap as_number k))
     (λ k. omega (arith, ap as_number k, count-once same one ys w.1 x))
 
--- as many are left as are counted
+-- a filter keeps as many members as pass its test
 pub length-filter : {A : Type 0} (p : A → Bool) (xs : List A) → length (filter p xs) ≡ count p xs
 length-filter p [] = refl
 length-filter {A} p (x ∷ xs) = by (p x) (length-filter p xs)
@@ -184,7 +184,7 @@ length-filter {A} p (x ∷ xs) = by (p x) (length-filter p xs)
     by true e = omega (arith, e)
     by false e = omega (arith, e)
 
--- a list without one of its members
+-- the list with one of its members removed
 unfoldable pub without : {A : Type 0} (x : A) (xs : List A) → IsIn x xs → List A
 without x [] i = []
 without x (y ∷ ys) (inl e) = ys
@@ -203,7 +203,7 @@ without-length x [] i = absurd i
 without-length x (y ∷ ys) (inl e) = refl
 without-length x (y ∷ ys) (inr i) = ap suc (without-length x ys i)
 
--- what is in a list is in it without another of its members
+-- a member stays if another one is removed
 pub still : {A : Type 0} (x t : A) (zs : List A) (i : IsIn x zs) → IsIn t zs → (t ≡ x → ⊥) → IsIn t (without x zs i)
 unfolding without
 still x t [] i j other = absurd i
@@ -212,7 +212,7 @@ still x t (z ∷ zs) (inl e) (inr j) other = j
 still x t (z ∷ zs) (inr i) (inl q) other = inl q
 still x t (z ∷ zs) (inr i) (inr j) other = inr (still x t zs i j other)
 
--- a member is the one that is left out, or is in the list without it
+-- a member is the one that is removed, or stays
 pub or_still : {A : Type 0} (x t : A) (zs : List A) (i : IsIn x zs) → IsIn t zs → (t ≡ x) ⊎ IsIn t (without x zs i)
 unfolding without
 or_still x t [] i j = absurd i
@@ -221,7 +221,7 @@ or_still x t (z ∷ zs) (inl e) (inr j) = inr j
 or_still x t (z ∷ zs) (inr i) (inl q) = inr (inl q)
 or_still x t (z ∷ zs) (inr i) (inr j) = elim (or_still x t zs i j) [ inl same ↦ inl same | inr k ↦ inr (inr k) ]
 
--- a member of a list is one of every list with the same members
+-- a member of a list is in every list with the same members
 pub same_in : {A : Type 0} (test : A → A → Bool) → ((a b : A) → IsTrue (test a b) ↔ (a ≡ b)) → (xs ys : List A)
     → HasSameMembers xs ys → (x : A) → IsIn x xs → IsIn x ys
 same_in test decides xs ys same x i =
@@ -231,7 +231,7 @@ same_in test decides xs ys same x i =
 pub HasSameMembers-sym : {A : Type 0} (xs ys : List A) → HasSameMembers xs ys → HasSameMembers ys xs
 HasSameMembers-sym xs ys same f = sym (same f)
 
--- lists have the same members exactly where each member occurs equally often in both
+-- lists have the same members if and only if each value occurs equally often in both
 module _ {A : Type 0} (same : A → A → Bool) (decides : (a b : A) → IsTrue (same a b) ↔ (a ≡ b)) where
   to_members : (xs ys : List A) → HaveSameCounts same xs ys → HasSameMembers xs ys
   to_members [] [] h f = refl

@@ -20,7 +20,7 @@ pub HasNoRepeats-push : {A : Type 0} (xs : List A) (x : A) → HasNoRepeats xs �
     → HasNoRepeats (xs ++ x ∷ [])
 HasNoRepeats-push xs x w n = HasNoRepeats-append xs (x ∷ []) w (λ k. k, tt) (λ z h k. elim k [ inl e ↦ n (subst (λ y. IsIn y xs) e h) | inr none ↦ none ])
 
--- the parts of a joined list without repeats
+-- if an append has no repeats, neither part has any
 pub HasNoRepeats-left : {A : Type 0} (xs ys : List A) → HasNoRepeats (xs ++ ys) → HasNoRepeats xs
 HasNoRepeats-left [] ys h = tt
 HasNoRepeats-left (x ∷ xs) ys h = ((λ i. h.0 (IsIn-append_left x xs ys i)), HasNoRepeats-left xs ys h.1)
@@ -29,7 +29,7 @@ pub HasNoRepeats-right : {A : Type 0} (xs ys : List A) → HasNoRepeats (xs ++ y
 HasNoRepeats-right [] ys h = h
 HasNoRepeats-right (x ∷ xs) ys h = HasNoRepeats-right xs ys h.1
 
--- a part of a list that is joined without repeats has none
+-- the same for both parts at once; and no member is in both
 pub HasNoRepeats-parts : {A : Type 0} (xs ys : List A) → HasNoRepeats (xs ++ ys) → HasNoRepeats xs × HasNoRepeats ys
 HasNoRepeats-parts [] ys h = (tt, h)
 HasNoRepeats-parts (x ∷ xs) ys h = let p = HasNoRepeats-parts xs ys h.1 in ((λ i. h.0 (IsIn-append_left x xs ys i), p.0), p.1)
@@ -41,7 +41,7 @@ HasNoRepeats-apart (y ∷ xs) ys h x i j = elim i [
   | inr later ↦ HasNoRepeats-apart xs ys h.1 x later j
 ]
 
--- a list without repeats stands for things without repeats, where no two members stand for the same
+-- a map of a list without repeats has none if no two members are mapped to the same value
 pub HasNoRepeats-map_members : {A B : Type 0} (f : A → B) (xs : List A) → HasNoRepeats xs
     → ((x y : A) → IsIn x xs → IsIn y xs → f x ≡ f y → x ≡ y) → HasNoRepeats (map f xs)
 HasNoRepeats-map_members f [] w one = tt
@@ -56,12 +56,12 @@ pub HasNoRepeats-map : {A B : Type 0} (f : A → B) (xs : List A) → HasNoRepea
     → HasNoRepeats (map f xs)
 HasNoRepeats-map f xs w one = HasNoRepeats-map_members f xs w (λ x y h k e. one x y e)
 
--- members, where what they stand for is not repeated
+-- a list has no repeats if its map has none
 pub HasNoRepeats-from_map : {A B : Type 0} (f : A → B) (xs : List A) → HasNoRepeats (map f xs) → HasNoRepeats xs
 HasNoRepeats-from_map f [] h = tt
 HasNoRepeats-from_map f (x ∷ xs) h = (λ i. h.0 (IsIn-map f xs x i), HasNoRepeats-from_map f xs h.1)
 
--- of a list that stands for things without repeats, two members that stand for the same are one
+-- if a map has no repeats, two members that are mapped to the same value are one
 pub one_from_map : {A B : Type 0} (f : A → B) (xs : List A) → HasNoRepeats (map f xs) → (x y : A) → IsIn x xs
     → IsIn y xs → f x ≡ f y → x ≡ y
 one_from_map f [] once x y i j same = absurd i
@@ -80,7 +80,7 @@ HasNoRepeats-flat_map f (v ∷ vs) w each apart =
     let same = apart v p.0 x h p.2 in
     w.0 (subst (λ z. IsIn z vs) (sym same) p.1))
 
--- of lists that are joined without repeats none has any
+-- if joined lists have no repeats, each of them has none
 pub HasNoRepeats-part : {A B : Type 0} (f : A → List B) (xs : List A) → HasNoRepeats (flat_map f xs) → (x : A)
     → IsIn x xs → HasNoRepeats (f x)
 HasNoRepeats-part f [] h x i = absurd i
@@ -90,7 +90,7 @@ HasNoRepeats-part f (y ∷ ys) h x i =
       | inr t ↦ HasNoRepeats-part f ys (HasNoRepeats-right (f y) (flat_map f ys) h) x t
     ]
 
--- what a filter leaves
+-- a filter of a list without repeats has none
 pub HasNoRepeats-filter : {A : Type 0} (p : A → Bool) (xs : List A) → HasNoRepeats xs → HasNoRepeats (filter p xs)
 HasNoRepeats-filter p [] h = tt
 HasNoRepeats-filter {A} p (x ∷ xs) h = by (p x) (HasNoRepeats-filter p xs h.1)
@@ -99,7 +99,7 @@ HasNoRepeats-filter {A} p (x ∷ xs) h = by (p x) (HasNoRepeats-filter p xs h.1)
     by true rest = (λ i. h.0 ((IsIn-filter p xs x).0 i).0, rest)
     by false rest = rest
 
--- over a list without repeats a count falls by one where the test fails now at one member alone
+-- a count over a list without repeats falls by one if the test changes at one member alone, which passed and now fails
 pub count-falls : {A : Type 0} (p q : A → Bool) (xs : List A) (x : A) → HasNoRepeats xs → IsIn x xs → p x ≡ true
     → q x ≡ false → ((y : A) → (y ≡ x → ⊥) → q y ≡ p y) → count q xs + 1 ≡ count p xs
 count-falls p q [] x once i was is others = absurd i
@@ -118,7 +118,7 @@ no_longer (x ∷ xs) ys once among =
     no_longer xs (without x ys i) once.1 (λ t j. still x t ys i (among t (inr j)) (λ same. once.0 (subst (λ u. IsIn u xs) same j))) in
     omega (arith, rest, without-length x ys i)
 
--- and where it is as long it has all members of the other
+-- and if it is no shorter, it has all members of the other
 pub onto : {A : Type 0} (xs ys : List A) → HasNoRepeats xs → ((x : A) → IsIn x xs → IsIn x ys) → length ys ≤ length xs
     → (y : A) → IsIn y ys → IsIn y xs
 onto [] [] once among few y j = j

@@ -12,7 +12,7 @@ use Rattle.std.specs.List.{range_with_len}
 abbrev pub cells : ℕ → ℕ → List (List ℕ)
 cells cols i = map (λ j. i ∷ j ∷ []) (range_with_len 0 cols)
 
--- those of so many rows, from row a on
+-- the places of this many rows, from row a on
 abbrev pub rows_from : ℕ → ℕ → ℕ → List (List ℕ)
 rows_from cols a rows = flat_map (cells cols) (range_with_len a rows)
 

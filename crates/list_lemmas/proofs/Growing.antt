@@ -1,9 +1,9 @@
--- Of a list, all members have what is wanted, or one lacks it; and lists that grow by one member after another, as long
--- as one may follow.
+-- All members of a list have a property, or one lacks it; and lists that grow member by member for as long as one may
+-- follow.
 use Rattle.std.proofs.Common.{ℕ, zero, suc, ◌+◌, ◌≤◌, List, [], ◌∷◌, ◌++◌, length, refl, sym, subst, ◌⊎◌, inl, inr, arith, length-append}
 use Rattle.ptg_base.specs.Lists.{IsIn}
 
--- all members have what is wanted, or one lacks it
+-- if each member has the property or lacks it, all members have it, or one lacks it
 pub all_or_one : {A : Type 0} (Has Lacks : A → Type 0) (xs : List A) → ((x : A) → IsIn x xs → Has x ⊎ Lacks x)
     → ((x : A) → IsIn x xs → Has x) ⊎ ((x : A) × IsIn x xs × Lacks x)
 all_or_one Has Lacks [] decide = inl (λ x i. absurd i)
@@ -15,7 +15,7 @@ all_or_one Has Lacks (x ∷ xs) decide = elim (decide x (inl refl)) [
   ]
 ]
 
--- lists that are begun with none and grow by members of `all` that may follow: they are never longer than `all`
+-- lists that begin empty and grow by members of `all` that may follow: they are never longer than `all`
 module _ {A : Type 0} (all : List A) (MayFollow : List A → A → Type 0) (IsGrown : List A → Type 0)
     (decide : (xs : List A) (x : A) → IsIn x all → (MayFollow xs x → ⊥) ⊎ MayFollow xs x)
     (push : (xs : List A) (x : A) → IsGrown xs → MayFollow xs x → IsGrown (xs ++ x ∷ []))
@@ -32,6 +32,6 @@ module _ {A : Type 0} (all : List A) (MayFollow : List A → A → Type 0) (IsGr
       | inr p ↦ grow n (xs ++ p.0 ∷ []) (push xs p.0 grown p.2) (omega (arith, room, length-append xs (p.0 ∷ [])))
     ]
 
-    -- such a list that none may follow
+    -- such a list that no member may follow
     pub grown_to_the_end : IsGrown [] → (ys : List A) × IsGrown ys × ((x : A) → IsIn x all → MayFollow ys x → ⊥)
     grown_to_the_end none = grow (length all) [] none (omega arith)

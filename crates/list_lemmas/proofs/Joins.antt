@@ -17,11 +17,11 @@ pub rest_nil : {A : Type 0} (xs ys : List A) → xs ++ ys ≡ [] → ys ≡ []
 rest_nil [] ys e = e
 rest_nil (x ∷ xs) ys e = absurd cc
 
--- lists with one more element at the end
+-- lists with one more element at the end are the same only if these elements are
 pub last_from_push : {A : Type 0} (xs ys : List A) (x y : A) → xs ++ x ∷ [] ≡ ys ++ y ∷ [] → x ≡ y
 last_from_push xs ys x y e = (same_from_push xs ys x y e).1
 
--- of two fronts of a list the shorter one begins the longer
+-- of two fronts of a list, the shorter one is a front of the longer one
 pub longer_front : {A : Type 0} (w a u b : List A) → w ++ a ≡ u ++ b → length w ≤ length u
     → (v : List A) × (u ≡ w ++ v) × (a ≡ v ++ b)
 longer_front [] a u b e shorter = (u, refl, e)
@@ -32,7 +32,7 @@ longer_front (x ∷ w) a (y ∷ u) b e shorter =
     let rest = longer_front w a u b tails (omega arith) in
     (rest.0, (λ i. sym heads i ∷ rest.1 i), rest.2)
 
--- the length of a list, and of one with another element
+-- one more element makes a list longer by one
 pub length_longer : {A : Type 0} (old new : List A) (x : A) → new ≡ old ++ x ∷ [] → length new ≡ suc (length old)
 length_longer {A} old new x e = ap (λ (l : List A). length l) e ∙ (length-append old (x ∷ []) ∙ omega arith)
 
@@ -81,7 +81,7 @@ length-filter_map_le {A} {B} h (x ∷ xs) = by (h x) (length-filter_map_le h xs)
     by None rest = omega (arith, rest)
     by (Some y) rest = omega (arith, rest)
 
--- lists that are joined from fewer members each
+-- if each part is no longer, the joined list is no longer
 pub length-flat_map_le : {A B C : Type 0} (f : A → List B) (g : A → List C) (xs : List A)
     → ((x : A) → length (f x) ≤ length (g x)) → length (flat_map f xs) ≤ length (flat_map g xs)
 length-flat_map_le f g [] h = omega arith

@@ -50,7 +50,7 @@ pub from_map : {A B : Type 0} (f : A → B) (xs : List A) (y : B) → IsIn y (ma
 from_map f [] y w = absurd w
 from_map f (x ∷ xs) y w = elim w [ inl e ↦ (x, inl refl, e) | inr t ↦ let p = from_map f xs y t in (p.0, inr p.1, p.2) ]
 
--- members of a list that pass a test
+-- the members of a filter are the members of the list that pass its test
 pub IsIn-filter : {A : Type 0} (test : A → Bool) (xs : List A) (x : A)
     → IsIn x (filter test xs) ↔ (IsIn x xs × (test x ≡ true))
 IsIn-filter test [] x = (λ i. absurd i, λ p. absurd p.0)
@@ -65,7 +65,7 @@ IsIn-filter test (y ∷ ys) x =
       λ p. elim p.0 [ inl e ↦ absurd (false≢true (sym k ∙ ap test (sym e) ∙ p.1)) | inr t ↦ (IsIn-filter test ys x).1 (t, p.1) ],
     ))
 
--- what a filter keeps was there and passes
+-- a member of a filter is a member of the list and passes
 pub from_filter : {A : Type 0} (test : A → Bool) (xs : List A) (x : A) → IsIn x (filter test xs)
     → IsIn x xs × (test x ≡ true)
 from_filter test [] x i = absurd i
@@ -76,7 +76,7 @@ from_filter {A} test (y ∷ ys) x i = among (test y) refl (from_filter test ys x
     among true k later j = elim j [ inl e ↦ (inl e, ap test e ∙ k) | inr t ↦ let p = later t in (inr p.0, p.1) ]
     among false k later j = let p = later j in (inr p.0, p.1)
 
--- what a member stands for is among what all members stand for
+-- if h maps a member to a value, the value is in the list's `filter_map`
 pub IsIn-filter_map : {A B : Type 0} (h : A → Option B) (xs : List A) (x : A) (y : B) → IsIn x xs → h x ≡ Some y
     → IsIn y (filter_map h xs)
 IsIn-filter_map h [] x y i e = absurd i
@@ -89,7 +89,7 @@ IsIn-filter_map {A} {B} h (z ∷ zs) x y i e = elim i [
     further None is j = rw is j
     further (Some w) is j = rw is (inr j)
 
--- what a filter gives stands for a member
+-- y is what h maps some member to
 pub record StandsFor {A B : Type 0} (h : A → Option B) (xs : List A) (y : B) : Type 0 where
   pub member : A
   pub among : IsIn member xs
@@ -120,7 +120,7 @@ pub list_all-from_members : {A : Type 0} (test : A → Bool) (xs : List A) → (
 list_all-from_members test [] h = refl
 list_all-from_members test (y ∷ ys) h = and_from (test y) (list_all test ys) (h y (inl refl)) (list_all-from_members test ys (λ x i. h x (inr i)))
 
--- a list of which some pass a test has a member that does, and the other way round
+-- `list_any` holds if and only if some member passes the test
 pub some_member_passes : {A : Type 0} (test : A → Bool) (xs : List A) → list_any test xs ≡ true
     → (x : A) × IsIn x xs × (test x ≡ true)
 some_member_passes test [] h = absurd (false≢true h)
@@ -143,7 +143,7 @@ pub All-from_members : {A : Type 0} (Q : A → Type 0) (xs : List A) → ((x : A
 All-from_members Q [] h = All-nil Q
 All-from_members Q (x ∷ xs) h = All-cons Q x xs (h x (inl refl)) (All-from_members Q xs (λ y i. h y (inr i)))
 
--- a part of a joined list is no longer than the list
+-- a part is no longer than the joined list
 pub length-part : {A B : Type 0} (f : A → List B) (xs : List A) (x : A) → IsIn x xs
     → length (f x) ≤ length (flat_map f xs)
 length-part f [] x h = absurd h

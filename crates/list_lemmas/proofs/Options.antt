@@ -37,7 +37,7 @@ pub some_from_one_more : (o : Option ℕ) (at : ℕ) → option_map (λ n. n + 1
 some_from_one_more None at e = absurd cc
 some_from_one_more (Some m) at e = (m, refl, cc)
 
--- what equal results hold, and an `Ok` is no `Err`
+-- equal `Ok`s hold the same value, equal `Err`s the same fault, and an `Ok` is no `Err`
 pub same_Ok : {A E : Type 0} (x y : A) → ◌≡◌ {A = Result A E} (Ok x) (Ok y) → x ≡ y
 same_Ok x y e = cc
 
@@ -47,7 +47,7 @@ same_Err d e same = cc
 pub Ok≢Err : {A E : Type 0} (x : A) (e : E) → ◌≡◌ {A = Result A E} (Ok x) (Err e) → ⊥
 Ok≢Err x e same = cc
 
--- what an `OnOk` says of an `Ok`
+-- what `OnOk` says of a result holds if that is an `Ok`
 pub on_success : {T E P : Type 0} (r : Result T E) (x : T) → r ≡ Ok x → OnOk r P → P
 on_success {T} {E} {P} r x e h = subst (λ (s : Result T E). OnOk s P) e h
 
@@ -55,7 +55,7 @@ pub by_result : {A E P : Type 0} (r : Result A E) → ((a : A) → r ≡ Ok a �
 by_result (Ok a) if_ok if_err = if_ok a refl
 by_result (Err e) if_ok if_err = if_err e refl
 
--- what an answer of two steps comes from
+-- if two steps return a value, each of them returned one
 pub steps_of : {A B F : Type 0} (r : Result A F) (next : A → Result B F) (y : B) → and_then r next ≡ Ok y
     → (x : A) × (r ≡ Ok x) × (next x ≡ Ok y)
 steps_of (Ok x) next y e = (x, refl, e)

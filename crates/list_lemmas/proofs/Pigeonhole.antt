@@ -28,7 +28,7 @@ without_this x z us vs n h = elim (from_append z us (x ∷ vs) h) [
   | inr b ↦ elim b [ inl e ↦ absurd (n e) | inr c ↦ IsIn-append_right z us vs c ]
 ]
 
--- a list at one of its members
+-- a list, split at one of its members
 pub cut_at : {A : Type 0} (x : A) (ys : List A) → IsIn x ys → (us : List A) × (vs : List A) × (ys ≡ us ++ x ∷ vs)
 cut_at x [] h = absurd h
 cut_at x (y ∷ ys) h = elim h [
@@ -36,7 +36,7 @@ cut_at x (y ∷ ys) h = elim h [
   | inr k ↦ let p = cut_at x ys k in (y ∷ p.0, p.1, ap (λ l. y ∷ l) p.2)
 ]
 
--- then the other list has no repeats either, and has no other members
+-- then the other list has no repeats and no other members
 pub pigeonhole : {A : Type 0} (xs ys : List A) → HasNoRepeats xs → ((x : A) → IsIn x xs → IsIn x ys)
     → length ys ≤ length xs → HasNoRepeats ys × ((y : A) → IsIn y ys → IsIn y xs)
 pigeonhole [] [] w among short = (tt, λ y h. h)

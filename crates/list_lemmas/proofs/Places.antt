@@ -1,4 +1,4 @@
--- What a list has at a place, and what holds there.
+-- What a list has at an index.
 use Rattle.std.proofs.Common.{List, Some, [], arith, length, refl, slice_get, suc, zero, ℕ, ◌<◌, ◌∷◌, ◌≡◌, inl, inr, ap}
 use Rattle.std.proofs.Common.{slice_index_or, sym, IsSomeAnd, ◌++◌, ◌⊎◌, slice_set, ◌≢◌, drop, slice_index, Bool}
 use Rattle.std.proofs.Common.{IsTrue, subst, set, cond, false, true, ◌+◌, ◌∙◌, pos, replicate, get_or}
@@ -12,14 +12,14 @@ slice_get_there [] n h = absurd (omega arith)
 slice_get_there (x ∷ xs) zero h = (x, refl)
 slice_get_there (x ∷ xs) (suc n) h = slice_get_there xs n (omega arith)
 
--- the member at an index
+-- at an index below its length a list has a member
 pub slice_get_member : {A : Type 0} (xs : List A) (n : ℕ) → n < length xs
     → (x : A) × (slice_get xs n ≡ Some x) × IsIn x xs
 slice_get_member [] n h = absurd (omega arith)
 slice_get_member (x ∷ xs) zero h = (x, refl, inl refl)
 slice_get_member (x ∷ xs) (suc n) h = let p = slice_get_member xs n (omega arith) in (p.0, p.1, inr p.2)
 
--- what is at an index
+-- from `slice_index_or` to `slice_get`
 pub slice_get_at : {A : Type 0} (xs : List A) (n : ℕ) (x : A) → n < length xs → x ≡ slice_index_or xs n x
     → slice_get xs n ≡ Some x
 slice_get_at [] n x h e = absurd (omega arith)
@@ -32,7 +32,7 @@ slice_get_below [] n Q h = absurd h
 slice_get_below (x ∷ xs) zero Q h = omega arith
 slice_get_below (x ∷ xs) (suc n) Q h = let k = slice_get_below xs n Q h in omega arith
 
--- a member of a list with one more is one of the list, or the one more
+-- what is at an index after a push was there before, or is the pushed element
 pub slice_get_push : {A : Type 0} (xs : List A) (x : A) (k : ℕ) (y : A) → slice_get (xs ++ x ∷ []) k ≡ Some y
     → (slice_get xs k ≡ Some y) ⊎ (x ≡ y)
 slice_get_push [] x zero y e = inr cc
@@ -48,13 +48,13 @@ slice_get-set_other (z ∷ zs) zero (suc j) x h = refl
 slice_get-set_other (z ∷ zs) (suc k) zero x h = refl
 slice_get-set_other (z ∷ zs) (suc k) (suc j) x h = slice_get-set_other zs k j x (λ e. h (ap suc e))
 
--- a read after a write to a list
+-- a read returns what was written at its index
 pub slice_get-set_same : {A : Type 0} (xs : List A) (k : ℕ) (x y : A) → slice_get (slice_set xs k x) k ≡ Some y → x ≡ y
 slice_get-set_same [] k x y h = absurd cc
 slice_get-set_same (z ∷ zs) zero x y h = cc
 slice_get-set_same (z ∷ zs) (suc k) x y h = slice_get-set_same zs k x y h
 
--- the members of a list from a place on
+-- a list from an index on: the element there, and the list from the next index on
 pub drop_from : {A : Type 0} (xs : List A) (k : ℕ) (x : A) → slice_get xs k ≡ Some x → drop k xs ≡ x ∷ drop (suc k) xs
 drop_from [] k x e = absurd cc
 drop_from (y ∷ xs) zero x e = let same : y ≡ x = cc in ap (λ z. z ∷ xs) same
@@ -65,7 +65,7 @@ IsIn-slice_get [] k x e = absurd cc
 IsIn-slice_get (y ∷ ys) zero x e = inl cc
 IsIn-slice_get (y ∷ ys) (suc k) x e = inr (IsIn-slice_get ys k x e)
 
--- where a member is
+-- a member has an index
 pub place_of_member : {A : Type 0} (xs : List A) (x : A) → IsIn x xs → (n : ℕ) × (slice_get xs n ≡ Some x)
 place_of_member [] x i = absurd i
 place_of_member (y ∷ ys) x i = elim i [
@@ -81,7 +81,7 @@ index_of_member y (x ∷ xs) i = elim i [
   | inr t ↦ let p = index_of_member y xs t in (suc p.0, omega (arith, p.1), λ d. p.2 d)
 ]
 
--- a number that a list has at a place
+-- from `slice_get` to `slice_index`
 pub slice_index_at : (ns : List ℕ) (k n : ℕ) → slice_get ns k ≡ Some n → slice_index ns k ≡ n
 slice_index_at [] k n e = absurd cc
 slice_index_at (m ∷ ns) zero n e = cc

@@ -17,14 +17,14 @@ use Rattle.list_lemmas.specs.Counting.{count, as_number}
 before_of : (a b : Task) → task_cmp a b ≡ Less → task_before a b ≡ true
 before_of a b h = (task_cmp-compares a b).before.0 h
 
--- what a comparison answers, and which task is before the other
+-- which task is before the other, from their comparison and back
 less_of : (a b : Task) → task_before a b ≡ true → task_cmp a b ≡ Less
 less_of a b h = (task_cmp-compares a b).before.1 h
 
 pub before_trans : (a b c : Task) → task_before a b ≡ true → task_before b c ≡ true → task_before a c ≡ true
 before_trans a b c h k = before_of a c (task_cmp-total.trans a b c (less_of a b h) (less_of b c k))
 
--- a task that is counted is a member, and a member is counted
+-- a task that is counted is a member; one that is no member is counted 0 times
 pub counted_member : (t : Task) (ts : List Task) → 0 < count (same_task t) ts → IsIn t ts
 counted_member t ts h = let p = some_passes (same_task t) ts h in subst (λ u. IsIn u ts) (sym ((same_task-decides t p.0).0 p.2)) p.1
 
@@ -34,7 +34,7 @@ uncounted t ts h = elim (cases_eq (count (same_task t) ts) 0) [ inl z ↦ z | in
 pub once_each : (ts : List Task) → HasNoRepeats ts → (t : Task) → count (same_task t) ts ≤ 1
 once_each ts h t = count-once same_task (λ a b k. (same_task-decides a b).0 k) ts h t
 
--- tasks of which each is counted once at most have no repeats
+-- a list of tasks has no repeats if each task is counted at most once
 pub distinct_once : (ts : List Task) → ((t : Task) → count (same_task t) ts ≤ 1) → HasNoRepeats ts
 distinct_once [] h = tt
 distinct_once (t ∷ ts) h = (
@@ -52,7 +52,7 @@ none_member t (u ∷ us) h i =
       | inr later ↦ none_member t us (sym (ap (λ b. b || list_any (same_task t) us) k) ∙ h) later
     ])
 
--- whether a task is among these
+-- a task is among these or not
 pub member_or_not : (t : Task) (ts : List Task) → IsIn t ts ⊎ (IsIn t ts → ⊥)
 member_or_not t [] = inr (λ i. i)
 member_or_not t (u ∷ us) =
@@ -63,12 +63,12 @@ member_or_not t (u ∷ us) =
       | inr absent ↦ inr (λ i. elim i [ inl e ↦ false≢true (sym k ∙ (same_task-decides t u).1 e) | inr later ↦ absent later ])
     ])
 
--- of tasks, all are among these, or one is not
+-- all of the tasks `us` are in `ts`, or one is not
 pub all_or_absent : (ts us : List Task)
     → ((t : Task) → IsIn t us → IsIn t ts) ⊎ ((t : Task) × IsIn t us × (IsIn t ts → ⊥))
 all_or_absent ts us = all_or_one (λ t. IsIn t ts) (λ t. IsIn t ts → ⊥) us (λ t i. member_or_not t ts)
 
--- rows in task order: where one is inserted, and which rows there are then
+-- rows in task order: where a row is inserted, and which rows there are then
 module _ {A : Type 0} (key : A → Task) where
   pub insert_past : (x z : A) (zs : List A) → task_before (key z) (key x) ≡ true
       → insert_by key x (z ∷ zs) ≡ z ∷ insert_by key x zs

@@ -25,7 +25,7 @@ bytes_eq-sym_false a b apart =
     false_from_ne_true (bytes_eq b a)
     (λ same. false≢true (sym apart ∙ (bytes_decides a b).1 (sym ((bytes_decides b a).0 same))))
 
--- a name that is another name's is no third one
+-- if a is b and b is not c, a is not c
 pub bytes_eq-apart : (a b c : List ℕ) → bytes_eq a b ≡ true → bytes_eq b c ≡ false → bytes_eq a c ≡ false
 bytes_eq-apart a b c same apart = subst (λ n. bytes_eq n c ≡ false) (sym ((bytes_decides a b).0 same)) apart
 

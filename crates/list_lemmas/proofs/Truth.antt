@@ -1,4 +1,4 @@
--- Truth values: cases by a test, and what follows of both, either and not.
+-- Truth values: cases by a test, and what follows from both, either and not.
 use Rattle.std.proofs.Common.{Bool, false, refl, true, ◌≡◌, ◌&&◌, ◌||◌, ap, not, sym, ◌∙◌, cond, inl, inr, ◌⊎◌}
 use Rattle.std.proofs.lemmas.Bool.{false≢true}
 use Rattle.std.specs.Bool.{OnTrue, OnFalse}
@@ -39,7 +39,7 @@ pub cond-same : {A : Type 0} (b : Bool) (x y z : A) → (b ≡ true → x ≡ y)
 cond-same true x y z h = h refl
 cond-same false x y z h = refl
 
--- what follows from a fact of one answer
+-- a fact under a test may be weakened
 pub on_true_weaker : {P Q : Type 0} (b : Bool) → (P → Q) → OnTrue b P → OnTrue b Q
 on_true_weaker true f h = f h
 on_true_weaker false f h = h

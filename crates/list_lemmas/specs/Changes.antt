@@ -1,7 +1,7 @@
--- A change of one item of a list, where the others stay. Source: this project's own choice.
+-- A change of one item of a list, in which the others stay.
 use Rattle.std.specs.Prelude.{◌≡◌, ◌≢◌, ℕ, List, length, Some, slice_get}
 
--- the item k changes by R, and the others stay
+-- item k, if the list has one, changes according to R, and the others stay
 pub record ChangesAt {A : Type 0} (R : A → A → Type 0) (k : ℕ) (old new : List A) : Type 0 where
   pub count : length new ≡ length old
   pub others : (i : ℕ) → i ≢ k → slice_get new i ≡ slice_get old i

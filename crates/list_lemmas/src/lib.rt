@@ -1,2 +1,2 @@
-//! Lists: weights and counts of their members, and the lemmas on lists, truth values and options that crates share.
+//! Lemmas on lists, truth values and options that crates share, and the weights and counts of list members. No code.
 #![tactic(auto)]

@@ -1,4 +1,4 @@
--- What an index finds is the number of the name among all names.
+-- An index finds the number of the name among all names.
 use Rattle.std.proofs.Common.{◌≡◌, ℕ, zero, suc, ◌+◌, ◌<◌, Bool, true, false, ◌&&◌, cond, List, [], ◌∷◌, length, Option, Some, None, nat_eq, get_or, refl, sym, ap, subst, ◌∙◌, arith}
 use Rattle.std.specs.Prelude.{slice_get}
 use Rattle.std.specs.Cmp.{second_so}
@@ -37,7 +37,7 @@ found_sound names x name i is h =
     go (Some j) s e = s i e
     go None s e = rest (has_room (bucket_at x.buckets.items name)) e
 
--- no name is there twice
+-- no name of an index occurs twice
 pub each_once : (names : List (List ℕ)) (x : Index) → IsIndexOf names x → IsEachOnce names
 each_once names x is i j name p q = same_Some i j (sym (is.finds name i p) ∙ is.finds name j q)
 
@@ -74,7 +74,7 @@ index_found names x name is = go (position_from (λ (n : List ℕ). bytes_eq n n
     go (Some i) e = let p = position_at names name 0 i e in subst (λ k. found names x name ≡ Some k) (omega (arith, p.1)) (is.finds name p.0 p.2)
     go None e = none (found names x name) (λ j f. nowhere names name 0 j e (found_sound names x name j is f))
 
--- a name that one index does not find, no other index of the same names finds
+-- if one index does not find a name, no other index of the same names does
 pub still_new : (names : List (List ℕ)) (x y : Index) (name : List ℕ) → IsIndexOf names x → IsIndexOf names y → found names x name ≡ None → found names y name ≡ None
 still_new names x y name is it none = index_found names y name it ∙ (sym (index_found names x name is) ∙ none)
 
@@ -104,7 +104,7 @@ module _ {V : Type 0} where
       go true t ih = let f : Some zero ≡ None = none zero (ap Some (sym (same_bytes name p.0 t))) in absurd cc
       go false t ih = ih
 
-  -- the value at the number that was found
+  -- the value at the number that was found is that of the name
   pub value_found : (pairs : List (List ℕ × V)) (x : Index) (name : List ℕ) (i : ℕ) (p : List ℕ × V) → IsIndexOf (keys_of pairs) x → found (keys_of pairs) x name ≡ Some i → slice_get pairs i ≡ Some p
       → Some p.1 ≡ value_named pairs name
   value_found pairs x name i p is f e =
@@ -119,7 +119,7 @@ module _ {V : Type 0} where
       let is' : IsIndexOf (keys_of shown) x = subst (λ (l : List (List ℕ × V)). IsIndexOf (keys_of l) x) (sym same) is in
       omega (arith, slice_get_within (keys_of shown) i name (found_sound (keys_of shown) x name i is' f), length-keys_of shown)
 
-  -- the value at the number that was found
+  -- the value at the number that was found is that of the name
   pub value_there : (self pairs shown : List (List ℕ × V)) (x : Index) (name : List ℕ) (i : ℕ) (p : List ℕ × V) → IsIndexOf (keys_of pairs) x → pairs ≡ self → shown ≡ pairs → found (keys_of shown) x name ≡ Some i → p ≡ get_or pairs i p
       → Some p.1 ≡ value_named self name
   value_there self pairs shown x name i p is view same f e =

@@ -1,4 +1,4 @@
--- An index after one more name.
+-- An index to which a name was added.
 use Rattle.std.proofs.Common.{◌≡◌, ℕ, ◌<◌, Bool, true, false, ◌&&◌, cond, List, [], ◌∷◌, ◌++◌, length, Option, Some, None, nat_eq, get_or, refl, sym, ap, subst, ◌∙◌, arith, eq-eqb, eqb-true, ◌%◌, ◌^◌}
 use Rattle.std.specs.Prelude.{slice_get, slice_set}
 use Rattle.std.specs.Cmp.{second_so}
@@ -18,14 +18,14 @@ use Rattle.name_table.specs.Index.{has_number, in_bucket, has_room, bucket_at, b
 use Rattle.name_table.proofs.Items.{same_bytes, bytes_same, number_has, has_number_of, kept_at, last_at, old_or_last, number_kept}
 use Rattle.name_table.proofs.Found.{slot_sound}
 
--- names are found in a bucket as before, once another name is new
+-- other names are found in a bucket as before once a name was added
 same_names : (names : List (List ℕ)) (new name : List ℕ) (mark : ℕ) (slots : List Slot) → bytes_eq new name ≡ false → in_bucket (names ++ new ∷ []) name mark slots ≡ in_bucket names name mark slots
 same_names names new name mark [] h = refl
 same_names names new name mark (s ∷ slots) h =
     ap (λ b. cond (nat_eq s.mark mark && b) (Some s.number) (in_bucket (names ++ new ∷ []) name mark slots)) (number_kept names new name s.number h)
     ∙ ap (λ r. cond (nat_eq s.mark mark && has_number names name s.number) (Some s.number) r) (same_names names new name mark slots h)
 
--- what a bucket has, it has after one more slot
+-- what a bucket has, it has with one more slot too
 slot_kept : (names : List (List ℕ)) (name : List ℕ) (mark i : ℕ) (slots : List Slot) (t : Slot) → in_bucket names name mark slots ≡ Some i → in_bucket names name mark (slots ++ t ∷ []) ≡ Some i
 slot_kept names name mark i [] t h = absurd cc
 slot_kept names name mark i (s ∷ slots) t h = go (nat_eq s.mark mark && has_number names name s.number) h (λ e. slot_kept names name mark i slots t e)
@@ -45,7 +45,7 @@ slot_added names name mark k (s ∷ slots) once has = go (nat_eq s.mark mark && 
     go true t ih = ap Some (once s.number (second_so (nat_eq s.mark mark) (has_number names name s.number) t))
     go false t ih = ih
 
--- the buckets, one of which has one more slot
+-- the buckets, with one more slot in one of them
 abbrev pub one_more : List (List Slot) → ℕ → Slot → List (List Slot)
 one_more buckets at t = slice_set buckets at (get_or buckets at [] ++ t ∷ [])
 
@@ -62,7 +62,7 @@ bucket_missed buckets at t name s =
     ∙ get_or-set_other buckets at (bucket_of (length buckets) name) (get_or buckets at [] ++ t ∷ []) [] (eqb-false (bucket_of (length buckets) name) at s)
 
 module _ (names : List (List ℕ)) (x : Index) (new : List ℕ) (is : IsIndexOf names x) (none : found names x new ≡ None) where
-  -- an earlier name is another one
+  -- an earlier name differs from the new one
   apart : (name : List ℕ) (i : ℕ) → slice_get names i ≡ Some name → bytes_eq new name ≡ false
   apart name i e = go (bytes_eq new name) refl
     where
@@ -70,7 +70,7 @@ module _ (names : List (List ℕ)) (x : Index) (new : List ℕ) (is : IsIndexOf 
       go true t = let f : found names x new ≡ Some i = subst (λ n. found names x n ≡ Some i) (sym (same_bytes new name t)) (is.finds name i e) in absurd cc
       go false t = refl
 
-  -- the new name has the last number alone
+  -- the new name has the last number, and no other
   last_alone : (j : ℕ) → has_number (names ++ new ∷ []) new j ≡ true → j ≡ length names
   last_alone j h = old_or_last (j ≡ length names) names new new j (number_has (names ++ new ∷ []) new j h) (λ e. let f : found names x new ≡ Some j = is.finds new j e in absurd cc) (λ e s. e)
 
@@ -84,7 +84,7 @@ module _ (names : List (List ℕ)) (x : Index) (new : List ℕ) (is : IsIndexOf 
     in_its_bucket : (name : List ℕ) (i : ℕ) → in_bucket after name (mark_of name) (bucket_at y.buckets.items name) ≡ Some i → found after y name ≡ Some i
     in_its_bucket name i e = ap (λ r. option_or r (cond (has_room (bucket_at y.buckets.items name)) None (among_others y name))) e
 
-    -- a name in whose bucket and among the others nothing changes
+    -- a name is found as before if nothing changes in its bucket and for it in the map
     finds_unchanged : (name : List ℕ) (i : ℕ) → slice_get names i ≡ Some name → bucket_at y.buckets.items name ≡ bucket_at x.buckets.items name → among_others y name ≡ among_others x name → found after y name ≡ Some i
     finds_unchanged name i e b o =
         ap (λ l. option_or (in_bucket after name (mark_of name) l) (cond (has_room l) None (among_others y name))) b
@@ -191,7 +191,7 @@ module _ (names : List (List ℕ)) (x y : Index) (name shown : List ℕ) (mixed_
       ∙ ap (λ j. one_more x.buckets.items j (record { mark = mark_of name; number = length names })) bucket_is))))
       ) same
 
-  -- the name was put among the others
+  -- the name was put into the map
   pub other_put : (key : List ℕ) → false ≡ has_room old → key ≡ name → y.buckets ≡ x.buckets → ((q : List ℕ) → among_others y q ≡ cond (is_at (slice_cmp nat_cmp key) q) (Some number) (among_others x q)) → IsIndexOf (names ++ name ∷ []) y
   other_put key r e same put =
       other_indexed names x name is none y (room_is false r) (ap (λ v. v.items) same)

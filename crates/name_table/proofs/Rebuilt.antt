@@ -1,4 +1,4 @@
--- An index of the first names, and of one name more.
+-- An index of the first names, and of one more.
 use Rattle.std.proofs.Common.{◌≡◌, ℕ, zero, suc, ◌+◌, ◌<◌, List, [], ◌∷◌, ◌++◌, length, take, get_or, Option, Some, None, refl, sym, ap, subst, ◌∙◌, arith, length-take}
 use Rattle.std.specs.Prelude.{slice_get, option_map}
 use Rattle.std.specs.Result.{OnOk}

@@ -1,4 +1,4 @@
-//! The slots of a bucket.
+//! Buckets of slots.
 
 ghost use Rattle.std.specs.Prelude.{◌≡◌, ◌<◌, [], ◌∷◌, ◌++◌, length};
 ghost use Rattle.name_table.specs.Index.{has_room, most_slots};
@@ -6,7 +6,7 @@ ghost use Rattle.name_table.specs.Index.{has_room, most_slots};
 use arrayvec::ArrayVec;
 use std::marker::Model;
 
-/// The number of a name, with what tells most names of a bucket apart.
+/// The number of a name, with a mark that tells most names of a bucket apart.
 #[derive(Clone, Copy, Default, Drop)]
 pub struct Slot {
     pub mark: u32,
@@ -16,7 +16,7 @@ pub struct Slot {
 // How many slots a bucket has room for.
 const MOST_SLOTS: usize = 7;
 
-/// At most seven slots, seen as their list.
+/// At most seven slots. Contracts see them as their list.
 #[derive(Drop)]
 pub struct Bucket {
     slots: ArrayVec<Slot, MOST_SLOTS>,
@@ -32,7 +32,7 @@ impl Model for Bucket {
 }
 
 impl Bucket {
-    /// A bucket with no slot.
+    /// An empty bucket.
     pub fn new() -> Bucket
         ensures { result ≡ [] }
     {
@@ -41,7 +41,7 @@ impl Bucket {
         }
     }
 
-    /// Whether there is room for one more.
+    /// Whether there is room for one more slot.
     pub fn has_room(&self) -> bool
         ensures { result ≡ has_room self.now }
     {

@@ -1,4 +1,4 @@
-//! An index of names: the number of each, found at once where a bucket has it, and else by order.
+//! An index of names: the number of each, in a bucket, or in an ordered map if the bucket is full.
 
 ghost use Rattle.std.specs.Prelude.{◌≡◌, ◌<◌, ◌*◌, ◌+◌, [], ◌∷◌, ◌++◌, ℕ, List, None, length, IfOk, OnOk, OnErr};
 ghost use Rattle.std.specs.Map.{keys_of};
@@ -11,9 +11,8 @@ use ptg_base::{OutOfMemory, Text};
 use std::alloc::Global;
 use std::collections::BTreeMap;
 
-/// The numbers of names. A bucket has at most seven; the names for which their bucket has no room are in a map by their
-/// order.
-/// So a look-up never takes more steps than a few and those of the map, however the names were chosen.
+/// The numbers of names. A bucket has room for seven; names that find no room in theirs are in an ordered map. So a
+/// look-up takes at most the few steps of a bucket and those of the map, however the names were chosen.
 pub struct Index {
     pub(crate) buckets: Vec<Bucket>,
     pub(crate) others: BTreeMap<Text, u32>,
@@ -28,7 +27,7 @@ impl Drop for Index {
     }
 }
 
-// Whether the name has this number.
+// Whether the name has this number among these.
 fn has_number<V>(names: &[(Text, V)], name: &Text, number: u32) -> bool
     ensures { result ≡ has_number (keys_of names.now) name.now number }
 {
@@ -76,7 +75,7 @@ impl Index {
         })
     }
 
-    // The number of a name, where it is one of these.
+    // The number of a name, if it is one of these.
     pub(crate) fn number_of<V>(&self, names: &[(Text, V)], name: &Text) -> Option<u32>
         ensures { result ≡ found (keys_of names.now) self.now name.now }
     {
@@ -92,7 +91,7 @@ impl Index {
         self.others.get(name).copied()
     }
 
-    // Puts the number of a name into its bucket, or else among the others.
+    // Puts the number of a new name into its bucket, or into the map if the bucket is full.
     fn put(&mut self, alloc: Global, name: &Text, number: u32) -> Result<(), OutOfMemory>
         requires { 0 < length self.old.buckets.items }
         ensures put { OnOk result
@@ -114,7 +113,7 @@ impl Index {
         Ok(())
     }
 
-    // The index of names of which each is there once, with this many buckets.
+    // The index of these names, none of which repeats, with this many buckets.
     fn rebuilt<V>(alloc: Global, names: &[(Text, V)], count: usize) -> Result<Index, OutOfMemory>
         requires count { 0 < count }
         requires once { IsEachOnce (keys_of names.now) }
@@ -131,7 +130,8 @@ impl Index {
         Ok(index)
     }
 
-    // Makes as many buckets as serve for one more name.
+    // Makes room for one more name: rebuilds the index with twice as many buckets and one more, unless there are more
+    // than a quarter as many buckets as names.
     fn make_room<V>(
         &mut self,
         alloc: Global,
@@ -151,7 +151,7 @@ impl Index {
         Ok(())
     }
 
-    // Gives a name the number that comes next.
+    // Adds a new name, with the next number.
     pub(crate) fn add<V>(
         &mut self,
         alloc: Global,

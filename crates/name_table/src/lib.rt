@@ -1,4 +1,5 @@
-//! Names, looked up by key: a table of the values of names, and a set of names.
+//! A table of the values of names, and a set of names, each in the order in which names were added. Names are looked up
+//! in buckets, and by their order if a bucket is full.
 #![tactic(auto)]
 
 mod bucket;

@@ -1,4 +1,4 @@
-//! Names mixed to numbers.
+//! Hashing of names.
 
 ghost use Rattle.std.specs.Prelude.{◌≡◌, ◌<◌, ◌^◌, ◌%◌};
 ghost use Rattle.name_table.specs.Index.{mixed, with_byte};
@@ -6,8 +6,8 @@ ghost use Rattle.name_table.specs.Index.{mixed, with_byte};
 // 2^64 divided by the golden ratio, as in Knuth's multiplicative hashing.
 const MULTIPLIER: u64 = 11400714819323198485;
 
-// What one more byte makes of a number: digits count on, so that names that differ in a final number get numbers one
-// after another.
+// Mixes one more byte into a number. Digits are appended in decimal, so that names that end in consecutive numbers of
+// equally many digits get consecutive numbers.
 #[tactic(auto, unfolding(crate::specs::Index::with_byte))]
 fn with_byte(number: u64, byte: u8) -> u64
     ensures { result ≡ with_byte number byte }
@@ -20,7 +20,7 @@ fn with_byte(number: u64, byte: u8) -> u64
         .wrapping_mul(MULTIPLIER)
 }
 
-// The number that a name is mixed to.
+// The hash of a name.
 pub(crate) fn mixed(name: &[u8]) -> u64
     ensures { result ≡ mixed name.now }
 {
@@ -31,14 +31,14 @@ pub(crate) fn mixed(name: &[u8]) -> u64
     number
 }
 
-// The low half of a number.
+// The low 32 bits of a number.
 pub(crate) fn low(number: u64) -> u32
     ensures { result ≡ number % 2 ^ 32 }
 {
     (number % 4294967296) as u32
 }
 
-// What is left of a number after the greatest multiple of a count.
+// The remainder of a number by a count.
 pub(crate) fn within(number: u64, count: usize) -> usize
     requires { 0 < count }
     ensures left { result ≡ number % count }

@@ -8,7 +8,8 @@ use ptg_base::{OutOfMemory, Seq, Text};
 use std::alloc::Global;
 use std::marker::Model;
 
-/// A set of names, seen as the list of them in the order in which they were added. Each name is in it once.
+/// A set of names. Contracts see it as the list of its names in the order in which they were added. No name is in it
+/// twice.
 #[derive(Drop)]
 pub struct NameSet {
     names: NameTable<()>,
@@ -24,7 +25,7 @@ impl Model for NameSet {
 }
 
 impl NameSet {
-    /// A set of no names, which takes no memory.
+    /// The empty set. It takes no memory.
     pub fn new(alloc: Global) -> NameSet
         ensures { result ≡ [] }
     {
@@ -47,7 +48,7 @@ impl NameSet {
         self.names.get(name).is_some()
     }
 
-    /// The number of the name, counted from 0, where the set has it.
+    /// The number of the name in the order of adding, from 0, if the set has it.
     pub fn index_of(&self, name: &Text) -> Option<usize>
         ensures index { result ≡ index_named self.now name.now }
         ensures found { is_some result ≡ has_name self.now name.now }
@@ -56,7 +57,8 @@ impl NameSet {
         self.names.number_of(name)
     }
 
-    /// Adds a name, where the set does not have it yet. Returns whether it was new; an `Err` changes nothing.
+    /// Adds a name if the set does not have it yet, and returns whether it was new. After an `Err` the set is as it
+    /// was.
     pub fn add(&mut self, name: Text) -> Result<bool, OutOfMemory>
         ensures added { IfOk result (λ new. new ≡ not (has_name self.old name)) }
         ensures names { IfOk result (λ new. self.new ≡ (if new then self.old ++ name ∷ [] else self.old)) }
@@ -65,7 +67,7 @@ impl NameSet {
         self.names.add(name, ())
     }
 
-    /// The names alone, in their order.
+    /// The names, in the order in which they were added.
     pub fn into_seq(self, alloc: Global) -> Result<Seq<Text>, OutOfMemory>
         ensures { IfOk result (λ names. names ≡ self) }
     {

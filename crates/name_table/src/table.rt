@@ -11,8 +11,8 @@ use ptg_base::{OutOfMemory, Text};
 use std::alloc::Global;
 use std::marker::Model;
 
-/// A table from names to values, seen as the list of its pairs in the order in which they were added. Each name has one
-/// value.
+/// A table from names to values. Contracts see it as the list of its pairs in the order in which they were added. No
+/// name is in it twice.
 ///
 /// Names are looked up by an index that no choice of names makes slow.
 pub struct NameTable<V> {
@@ -45,7 +45,7 @@ impl<V> Model for NameTable<V> {
 }
 
 impl<V> NameTable<V> {
-    /// A table of no names, which takes no memory.
+    /// The empty table. It takes no memory.
     pub fn new(alloc: Global) -> NameTable<V>
         ensures { result ≡ [] }
     {
@@ -63,7 +63,7 @@ impl<V> NameTable<V> {
         self.pairs.len()
     }
 
-    /// The value of a name, where the table has it.
+    /// The value of a name, if the table has it.
     pub fn get(&self, name: &Text) -> Option<&V>
         ensures { option_copied result ≡ value_named self.now name.now }
     {
@@ -73,7 +73,7 @@ impl<V> NameTable<V> {
         }
     }
 
-    /// The number of a name in the order in which names were added, where the table has it.
+    /// The number of a name in the order of adding, from 0, if the table has it.
     pub(crate) fn number_of(&self, name: &Text) -> Option<usize>
         ensures { result ≡ index_named (keys_of self.now) name.now }
     {
@@ -97,8 +97,8 @@ impl<V> NameTable<V> {
 }
 
 impl<V: Drop> NameTable<V> {
-    /// Adds a name and its value, where the table does not have the name yet. Returns whether it was new; an `Err`
-    /// changes nothing.
+    /// Adds a name and its value if the table does not have the name yet, and returns whether it was new. After an
+    /// `Err` the table is as it was.
     pub fn add(&mut self, name: Text, value: V) -> Result<bool, OutOfMemory>
         ensures added { IfOk result (λ new. new ≡ not (is_some (value_named self.old name))) }
         ensures entries { IfOk result (λ new. self.new ≡ (if new then self.old ++ (name, value) ∷ [] else self.old)) }
@@ -112,7 +112,7 @@ impl<V: Drop> NameTable<V> {
     }
 }
 
-// Puts a pair of a new name after the others. An `Err` changes nothing.
+// Adds the pair of a new name at the end. After an `Err` the pairs are as they were.
 fn put<V: Drop>(
     alloc: Global,
     pairs: &mut Vec<(Text, V)>,

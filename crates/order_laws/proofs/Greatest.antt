@@ -1,4 +1,4 @@
--- A greatest legal order has the tasks of each legal order and, where no task traps, those that run, each once.
+-- A greatest legal order has the tasks of each legal order and, if no task traps, those that run, each once.
 use Rattle.std.proofs.Common.{List, [], ◌∷◌, ◌++◌, sym, subst, inl, inr, ◌≡◌, refl, ◌∙◌, is_some, arith}
 use Rattle.ptg_base.specs.Lists.{IsIn}
 use Rattle.ptg_base.specs.Task.{Task}
@@ -23,7 +23,7 @@ use Rattle.flow_meaning.specs.Answer.{ran, trapped}
 use Rattle.task_order.proofs.Running.{members_ran}
 
 module _ (P : Plan) (ts : List Task) (g : IsGreatestOrder P ts) where
-  -- a legal order has no other members
+  -- the members of any legal order are members of this one
   pub has_those : (before us : List Task) → IsLegalAfter P before us → ((t : Task) → IsIn t before → IsIn t ts) → (t : Task) → IsIn t us → IsIn t ts
   has_those before [] l has t i = absurd i
   has_those before (u ∷ us) l has t i =

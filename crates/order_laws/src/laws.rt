@@ -17,7 +17,7 @@ pub fn no_legal_order_has_more()
         → IsIn t ts }
 {}
 
-/// A law: where no task traps, a greatest legal order has the tasks that run, each once.
+/// A law: if no task traps, a greatest legal order has the tasks that run, each once.
 pub fn a_greatest_order_has_the_tasks_that_run()
     ensures { (P : Plan) (G : Data) (ts : List Task) → IsConsistent P → trapped P G ≡ [] → IsGreatestOrder P ts
         → HasSameMembers ts (ran P G) }

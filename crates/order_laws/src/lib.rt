@@ -1,5 +1,5 @@
-//! Laws of greatest legal orders that no program cites: no legal order has more tasks, and without traps they are those
-//! that run.
+//! Laws of greatest legal orders that no program cites: such an order has the tasks of each legal order and, without
+//! traps, those that run.
 #![tactic(auto)]
 
 mod laws;

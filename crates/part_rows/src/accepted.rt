@@ -38,7 +38,7 @@ fn add_answer(alloc: Global, text: &mut String, plan: &Plan) -> Result<(), Why> 
     Ok(())
 }
 
-/// Whether the walk accepts the plan. A plan whose spaces have a fault is not walked.
+/// Whether the walk accepts the plan. A plan whose spaces have a fault is not walked, and not accepted.
 pub fn is_accepted(alloc: Global, plan: &Plan) -> Result<bool, Why> {
     all_tasks_are_listed();
     let Ok(tasks) = space_size(plan.spaces.as_slice()) else {

@@ -10,7 +10,7 @@ use row_files::{Printed, Why};
 use std::alloc::Global;
 use term_core::Trap;
 
-/// Reads the syntax of a body, whatever its names mean: `read`, or its first fault.
+/// Reads the syntax of a body, whatever its names mean. Returns `read`, or its first fault.
 pub fn read_syntax(alloc: Global, text: &[u8]) -> Result<Printed, Why> {
     let lexed = lexed(alloc, text)?;
     match body_read::read(alloc, lexed.tokens.as_slice(), lexed.end) {
@@ -19,7 +19,7 @@ pub fn read_syntax(alloc: Global, text: &[u8]) -> Result<Printed, Why> {
     }
 }
 
-/// Reads a body: `read`, or its first fault.
+/// Reads a body. Returns `read`, or its first fault.
 pub fn read_names(alloc: Global, text: &[u8]) -> Result<Printed, Why> {
     let lexed = lexed(alloc, text)?;
     let globals = globals(alloc)?;
@@ -30,9 +30,9 @@ pub fn read_names(alloc: Global, text: &[u8]) -> Result<Printed, Why> {
     }
 }
 
-/// Runs a body where `k` is 2 and `m` is 5, the tiles of `A`, `R` and `B` have this many zeros, and `C` has none: what
-/// the tile of `A` is in the end, or why the body traps. With 0 elements `A` has no tile, and the others have one
-/// element.
+/// Runs a body with `k` = 2 and `m` = 5. The tiles of `A`, `R` and `B` have this many zeros, and `C` has no tile.
+/// Returns the tile of `A` at the end, or why the body traps. With 0 elements `A` has no tile, and the other two have
+/// one element.
 pub fn run(alloc: Global, text: &[u8], elements: &[u8]) -> Result<Printed, Why> {
     let elements = elements_of(elements)?;
     let lexed = lexed(alloc, text)?;
@@ -83,7 +83,7 @@ fn is_read(alloc: Global) -> Result<Printed, Why> {
     printed(format!(in alloc; "read\n")?, 0)
 }
 
-// The numbers of a tile, or `absent` where there is none.
+// The numbers of a tile, or `absent` if there is none.
 fn ended(alloc: Global, tile: &Option<Tile>) -> Result<Printed, Why> {
     let Some(tile) = tile else {
         return printed(format!(in alloc; "absent\n")?, 0);
@@ -96,7 +96,7 @@ fn ended(alloc: Global, tile: &Option<Tile>) -> Result<Printed, Why> {
     printed(text, 0)
 }
 
-// The cause of a trap; of a trap word the word itself.
+// The cause of a trap; for a trap word, the word itself.
 fn trapped(alloc: Global, trap: Trap, words: &[Text]) -> Result<Printed, Why> {
     let Trap::Word(number) = trap else {
         return printed(format!(in alloc; "trap,{trap:?}\n")?, 5);

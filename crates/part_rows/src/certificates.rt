@@ -132,7 +132,7 @@ const EDITS: [Edit; 5] = [
     Edit::Lowered,
 ];
 
-// A line with what came of lists that were tried.
+// A line with the verdict on a list, and how many of the lists that differ from it were accepted.
 fn add_tried(text: &mut String, word: &str, itself: bool, tried: Tried) -> Result<(), Why> {
     let verdict = if itself { "accepted" } else { "refused" };
     write!(
@@ -143,7 +143,7 @@ fn add_tried(text: &mut String, word: &str, itself: bool, tried: Tried) -> Resul
     Ok(())
 }
 
-// The cycle with one entry otherwise.
+// Tries the cycle with one entry edited.
 fn cycles_tried(alloc: Global, m: &Matched, cycle: &[TaskId]) -> Result<Tried, OutOfMemory> {
     let rows = rows_of(alloc, cycle)?;
     let mut tried = NONE_TRIED;
@@ -172,7 +172,7 @@ fn is_accepted(
     check_chain(m, weights, chain.as_slice(), levels)
 }
 
-// The chain with one entry otherwise.
+// Tries the chain with one entry edited.
 fn chains_tried(
     alloc: Global,
     m: &Matched,
@@ -193,7 +193,7 @@ fn chains_tried(
     Ok(tried)
 }
 
-// The levels with one entry otherwise.
+// Tries the levels with one entry edited.
 fn levels_tried(
     alloc: Global,
     m: &Matched,

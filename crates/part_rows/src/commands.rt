@@ -5,8 +5,8 @@ use ptg_words::{Order, WordsRefusal, words};
 use row_files::{Printed, Why};
 use std::alloc::{AllocError, Global};
 
-/// Reads words: the command that they form, with its names and numbers after its verb, and whether it has a preload; or
-/// `usage`.
+/// Reads words. Returns the command that they form: its verb, its files and numbers, and for `run` whether it has a
+/// preload. If they form none, returns `usage`.
 pub fn read(alloc: Global, list: &[Text]) -> Result<Printed, Why> {
     match words(alloc, list) {
         Ok(order) => Ok(Printed {

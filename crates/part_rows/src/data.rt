@@ -6,7 +6,7 @@ use ptg_base::{Refusal, Text};
 use row_files::{Printed, Why};
 use std::alloc::Global;
 
-/// Reads a data file: the number of its records, and what they give in the order of the file's format; or its first
+/// Reads a data file. Returns the number of its records, and what they give in the order of the format; or its first
 /// fault.
 pub fn read(alloc: Global, bytes: &[u8]) -> Result<Printed, Why> {
     match given_of(alloc, bytes) {

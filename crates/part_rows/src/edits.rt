@@ -16,7 +16,7 @@ pub enum Edit {
     Lowered,
 }
 
-// A task with its first parameter one more, where it has one or two; else with its class one more.
+// A task with its first parameter one greater, if it has one or two; otherwise with its class number one greater.
 fn another(t: &TaskId) -> TaskId {
     match t.params() {
         [a] => TaskId::new(t.class(), &[a.wrapping_add(1)]),
@@ -25,7 +25,7 @@ fn another(t: &TaskId) -> TaskId {
     }
 }
 
-// Adds what stands in the place of an entry.
+// Adds what replaces an entry.
 fn push_edited(
     list: &mut Vec<(TaskId, u64)>,
     row: &(TaskId, u64),

@@ -1,4 +1,4 @@
-//! Parts that are called with a job: its JDF, its data, and with some a text that is read as its trace.
+//! Parts that are called with a job: its JDF, its data, and for some a text that is read as its trace.
 
 ghost use Rattle.std.specs.Prelude.{IfOk};
 ghost use Rattle.plan_data.specs.Fit.{DataFit};
@@ -107,13 +107,13 @@ fn certificate(alloc: Global, jdf: &[u8], table: &[u8]) -> Result<Printed, Why> 
     certificates::shown(alloc, &matched, given)
 }
 
-// What a text comes to as the trace of a job.
+// The verdict on a text as the trace of a job.
 fn replay(alloc: Global, jdf: &[u8], table: &[u8], trace: &[u8]) -> Result<Printed, Why> {
     let (matched, given) = job_of(alloc, jdf, table)?;
     replays::replayed(alloc, &matched, given, trace)
 }
 
-// The same of a text that is read as a list of tasks first.
+// The same for a text that is first read as a list of tasks.
 fn list(alloc: Global, jdf: &[u8], table: &[u8], trace: &[u8]) -> Result<Printed, Why> {
     let (matched, given) = job_of(alloc, jdf, table)?;
     replays::listed(alloc, &matched, given, trace)

@@ -1,5 +1,8 @@
-//! Rows of parts whose results no verb prints: each is a call of such a part with what it must give, written down in a
-//! file. The words name the files. Prints the rows that came out otherwise.
+//! Rows of parts whose results no verb prints: commands, tokens, bodies and data alone, the edges of tasks, the walk
+//! that accepts a job, certificates and traces.
+//!
+//! Each row is a call of a part with its wanted result, written in a file. The program's arguments name the files. It
+//! prints the rows that do not come out as wanted.
 #![tactic(auto)]
 
 mod accepted;
@@ -48,7 +51,7 @@ impl Call for Parts {
     }
 }
 
-// What the part prints that a row's words call.
+// What is printed by the part that a row's words call.
 fn part_printed(alloc: Global, row_call: &RowCall) -> Result<Printed, Why> {
     let [word, words @ ..] = row_call.words.as_slice() else {
         return Err(Why("no word that says what is called"));

@@ -1,4 +1,4 @@
-//! What a text comes to as the trace of a job, as it is printed.
+//! The verdict on a text as the trace of a job, as it is printed.
 
 ghost use Rattle.plan_data.specs.Fit.{DataFit};
 
@@ -14,19 +14,19 @@ use std::alloc::Global;
 use trace_core::{TraceFault, TraceRefusal, read_trace, trace_text};
 use trace_replay::{judge_trace, replay};
 
-// The status of an answer where all tasks ran.
+// The status of an answer if all tasks ran.
 const COMPLETE: u8 = 0;
 
-// The status of an answer where a task trapped.
+// The status of an answer if a task trapped.
 const TRAPPED: u8 = 5;
 
-// The status of an answer where a task never ran.
+// The status of an answer if a task never ran.
 const STALLED: u8 = 6;
 
 // The status of a fault of a trace.
 const TRACE_REFUSED: u8 = 11;
 
-/// The answer of a job, where the text is that of its tasks in an order in which they may run; else the text's first
+/// The answer of a job, if the text is that of its tasks in an order in which they may run; otherwise the text's first
 /// fault.
 pub fn replayed(alloc: Global, m: &Matched, given: Given, trace: &[u8]) -> Result<Printed, Why>
     requires { DataFit m.now given }
@@ -38,8 +38,8 @@ pub fn replayed(alloc: Global, m: &Matched, given: Given, trace: &[u8]) -> Resul
     }
 }
 
-/// The text of the tasks that were read, and what comes of them in this order: the answer of the job, or the list's
-/// first fault. Of a text that is not one of different tasks of the job its first fault as such.
+/// The text of the tasks that were read, and the result of running them in this order: the answer of the job, or the
+/// list's first fault. If the text is no list of different tasks of the job, its first fault as such a list.
 pub fn listed(alloc: Global, m: &Matched, given: Given, trace: &[u8]) -> Result<Printed, Why>
     requires { DataFit m.now given }
 {
@@ -61,14 +61,14 @@ pub fn listed(alloc: Global, m: &Matched, given: Given, trace: &[u8]) -> Result<
     })
 }
 
-// An answer.
+// What is printed of an answer, with its status.
 fn answered(alloc: Global, plan: &Plan, outcome: &Outcome) -> Result<Printed, Why> {
     let mut sink = MemSink::new(alloc, Seq::new(alloc));
     let printing = report(plan, outcome, &mut sink);
     printed(alloc, printing, &sink, status_of(outcome))
 }
 
-// What came out by a call that printed it, with its status.
+// What a call printed, with its status.
 fn printed(
     alloc: Global,
     printing: Result<(), Failed>,
@@ -93,7 +93,7 @@ fn status_of(outcome: &Outcome) -> u8 {
     }
 }
 
-// What stopped a reading or a replay.
+// What is printed of what stopped a reading or a replay.
 fn unread(alloc: Global, stopped: TraceRefusal) -> Result<Printed, Why> {
     match stopped {
         Refusal::Fault(fault) => refused(alloc, fault),
@@ -101,7 +101,7 @@ fn unread(alloc: Global, stopped: TraceRefusal) -> Result<Printed, Why> {
     }
 }
 
-// A fault.
+// What is printed of a fault, with its status.
 fn refused(alloc: Global, fault: TraceFault) -> Result<Printed, Why> {
     let mut sink = MemSink::new(alloc, Seq::new(alloc));
     let printing = refusal(&Line::Trace(fault), &mut sink);

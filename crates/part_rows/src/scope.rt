@@ -14,7 +14,7 @@ pub struct Tables {
     colls: NameTable<u32>,
 }
 
-/// The integer is `NB` with the value 7, and the collection is `D`.
+/// The globals: the integer `NB` with the value 7, and the collection `D`.
 pub fn globals(alloc: Global) -> Result<Tables, Why> {
     let mut ints = NameTable::new(alloc);
     ints.add(Text::of(alloc, b"NB")?, 7)?;
@@ -23,7 +23,7 @@ pub fn globals(alloc: Global) -> Result<Tables, Why> {
     Ok(Tables { ints, colls })
 }
 
-/// Besides these globals the locals are `k` and `m`, and the flows are `A` of kind RW, `R` of kind READ, `B` of kind
+/// The scope of these globals, with the locals `k` and `m` and the flows `A` of kind RW, `R` of kind READ, `B` of kind
 /// WRITE and `C` of kind CTL.
 pub fn scope<'a>(alloc: Global, globals: &'a Tables) -> Result<Scope<'a>, Why> {
     let locals = vec![in alloc; Text::of(alloc, b"k")?, Text::of(alloc, b"m")?]?;

@@ -10,11 +10,11 @@ use row_files::{Printed, Why};
 use std::alloc::Global;
 use term_core::{ClassSpace, Def, Range};
 
-// So many values of a range are shown.
+// At most this many values of a range are shown.
 const SHOWN: usize = 6;
 
-/// For each class how many values the range of its first definition has, and the first six of them. The job need not be
-/// consistent.
+/// For each class, how many values the range of its first definition has, and the first six of them. The job need not
+/// be consistent.
 pub fn ranges(alloc: Global, verdict: &JobVerdict) -> Result<Printed, Why> {
     let plan = plan_of(verdict)?;
     let mut text = String::new(alloc);

@@ -12,7 +12,7 @@ use row_files::{Printed, Why};
 use std::alloc::Global;
 use term_core::Direction;
 
-/// The tasks of a job in walk order, each with its goal, its priority and the place of its affinity, and below it a
+/// The tasks of a job in walk order, each with its goal, its priority and the place of its affinity. Below a task is a
 /// line for each source of a data flow that is no task, for each edge into it, for each edge out of it, and for each
 /// write-back.
 pub fn shown(alloc: Global, matched: &Matched) -> Result<Printed, Why> {
@@ -34,7 +34,7 @@ pub fn shown(alloc: Global, matched: &Matched) -> Result<Printed, Why> {
     })
 }
 
-// The task with its hints and its goal.
+// The task with its goal, its priority and the place of its affinity.
 fn add_head(text: &mut String, matched: &Matched, task: &TaskId) -> Result<(), Why>
     requires { IsTask matched.now task.now }
 {

@@ -5,8 +5,8 @@ use ptg_base::MOST_BYTES;
 use row_files::{Printed, Why};
 use std::alloc::Global;
 
-/// Reads the tokens of a text: each with its terminal, its line, its column and what it is, and the end of the text; or
-/// the text's first fault.
+/// Reads the tokens of a text. Returns each with its terminal, its line, its column and its text, and then the end of
+/// the text; or the text's first fault.
 pub fn read(alloc: Global, text: &[u8]) -> Result<Printed, Why> {
     match lexed(alloc, text)? {
         Ok(lexed) => shown(alloc, &lexed),
@@ -23,7 +23,7 @@ pub fn lexed(alloc: Global, text: &[u8]) -> Result<Result<Lexed, JdfRefusal>, Wh
     Ok(tokens(alloc, text))
 }
 
-/// What a text is refused with.
+/// What is printed of the refusal of a text.
 pub fn refused(alloc: Global, refusal: JdfRefusal) -> Result<Printed, Why> {
     let JdfRefusal::Fault(fault) = refusal else {
         return Err(Why("there is no memory for it"));

@@ -17,7 +17,7 @@ in_columns : (o : Option ℕ) (j : ℤ) → IsColumn o j → IsRow (unwrap_or o 
 in_columns None j h = rw h (omega (arith, ints), omega (arith, ints))
 in_columns (Some c) j h = h
 
--- the rows of the collection of a place, which are within them
+-- the rows of the collection of a place that exists; the place is within them
 set_of : (cs : List Shape) (ss : List Rows) (n : ℕ) (i j : ℤ) → map size_of ss ≡ map size cs
     → IsSomeAnd (slice_get cs n) (λ c. IsRow c.rows i × IsColumn c.cols j)
     → (s : Rows) × (slice_get ss n ≡ Some s) × IsWithin s i j
@@ -30,7 +30,7 @@ set_of (c ∷ cs) (s ∷ ss) zero i j e h =
     (s, refl, (rw rows h.0, rw cols (in_columns c.cols j h.1)))
 set_of (c ∷ cs) (s ∷ ss) (suc n) i j e h = set_of cs ss n i j (cc) h
 
--- an element of a list in which one was replaced
+-- an element of a list after one of its elements was replaced
 get_set : {A : Type 0} (xs : List A) (n m : ℕ) (x y : A) → slice_get xs n ≡ Some x
     → ((m ≡ n) × (slice_get (slice_set xs n y) m ≡ Some y)) ⊎ ((m ≢ n) × (slice_get (slice_set xs n y) m ≡ slice_get xs m))
 get_set [] n m x y h = absurd cc

@@ -1,5 +1,5 @@
 -- Which places a set has, by one truth value for each place of a collection, row by row.
--- Source: this project's own choice.
+-- Carried by: `PlaceSet`.
 use Rattle.std.specs.Prelude.{◌≡◌, ◌↔◌, ℕ, ℤ, List, Bool, false, map, Some, unsigned_abs}
 use Rattle.std.specs.Prelude.{slice_get, slice_index_or, unwrap_or, IsTrue}
 use Rattle.std.specs.Option.{option_map_or}
@@ -19,15 +19,15 @@ size shape = (shape.rows, unwrap_or shape.cols 1)
 abbrev pub size_of : Rows → ℕ × ℕ
 size_of s = (s.rows, s.cols)
 
--- there are this row and this column
+-- this row and this column exist
 abbrev pub IsWithin : Rows → ℤ → ℤ → Type 0
 IsWithin s i j = IsRow s.rows i × IsRow s.cols j
 
--- the truth value of a row and a column
+-- whether the set has the place in this row and column
 abbrev pub has_at : Rows → ℤ → ℤ → Bool
 has_at s i j = slice_index_or s.has.items (number_in (Some s.cols) (unsigned_abs i) (unsigned_abs j)) false
 
--- as many rows and columns as the shape, and no place
+-- the set has as many rows and columns as the shape, and no place
 abbrev pub IsEmpty : Shape → Rows → Type 0
 IsEmpty shape s = (size_of s ≡ size shape) × ((i j : ℤ) → IsTrue (has_at s i j) → ⊥)
 
@@ -35,7 +35,7 @@ IsEmpty shape s = (size_of s ≡ size shape) × ((i j : ℤ) → IsTrue (has_at 
 unfoldable pub has : PlaceSet → Place → Bool
 has w p = option_map_or (λ (s : Rows). has_at s p.i p.j) (slice_get w.sets.items p.coll) false
 
--- of the places of collections of these shapes, the set has those of the list
+-- among the places of collections of these shapes, the set has exactly those of the list
 pub record IsSetOf (colls : List Shape) (w : PlaceSet) (ps : List Place) : Type 0 where
   pub shapes : map size_of w.sets.items ≡ map size colls
   pub members : (p : Place) → HasPlace colls p → IsTrue (has w p) ↔ IsIn p ps

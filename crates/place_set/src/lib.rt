@@ -1,4 +1,4 @@
-//! Sets of places of collections.
+//! A set of places of collections, a byte for each place.
 #![tactic(auto)]
 
 mod rows;
@@ -18,7 +18,7 @@ use ptg_base::{OutOfMemory, Place};
 use std::alloc::Global;
 
 impl Rows {
-    // No place of a collection of this shape.
+    // An empty set of places of a collection of this shape.
     fn new(alloc: Global, shape: &Shape) -> Result<Rows, OutOfMemory>
         ensures { IfOk result (IsEmpty shape.now) }
     {
@@ -31,7 +31,7 @@ impl Rows {
         })
     }
 
-    // The number of a place by its row and column, if it has them.
+    // The index of a place by its row and column, if the collection has them.
     fn index(&self, i: i64, j: i64) -> Option<usize>
         ensures { MatchOption result (IsWithin self.now i j → ⊥)
             (λ k. (k ≡ number_in (Some self.now.cols) (unsigned_abs i) (unsigned_abs j))
@@ -49,7 +49,7 @@ impl Rows {
         if at < self.has.len() { Some(at) } else { None }
     }
 
-    // Adds the place in this row and column, and says whether it is new.
+    // Adds the place in this row and column, and returns whether it is new.
     fn insert(&mut self, i: i64, j: i64) -> bool
         ensures rows { self.new.rows ≡ self.old.rows }
         ensures cols { self.new.cols ≡ self.old.cols }
@@ -66,7 +66,7 @@ impl Rows {
     }
 }
 
-/// A set of places of some collections, with a byte for each place that they have.
+/// A set of places of some collections, with a byte for each place of them.
 #[derive(Drop)]
 pub struct PlaceSet {
     sets: Vec<Rows>,
@@ -84,7 +84,7 @@ impl PlaceSet {
         Ok(PlaceSet { sets })
     }
 
-    /// Adds a place, and says whether it is new.
+    /// Adds a place, and returns whether it is new. Returns false for a place outside the collections.
     pub fn insert(&mut self, p: Place) -> bool
         ensures fresh { (colls : List ShapeValue) (ps : List PlaceValue) → HasPlace colls p → IsSetOf colls self.old ps
             → IsTrue result ↔ (IsIn p ps → ⊥) }

@@ -1,4 +1,4 @@
--- What holds of each element of a list holds of one of them.
+-- What holds for each element of a list holds for one of them.
 use Rattle.std.proofs.Common.{◌≡◌, ℕ, zero, suc, Bool, List, [], ◌∷◌, Some, slice_get, IsTrue, sym, subst}
 use Rattle.std.specs.List.{list_all}
 use Rattle.std.specs.Cmp.{first_so, second_so}

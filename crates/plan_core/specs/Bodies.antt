@@ -1,12 +1,14 @@
--- What a body may read and change: tiles according to the kinds of their flows, its trap words, and the variables of
--- its loops. Source: PaRSEC 2013 for the kinds; the language of bodies is this project's own choice.
+-- What a body may read and change: tiles according to the kinds of their flows, trap words, and the variables of loops.
+-- Source: PaRSEC 2013 for the kinds; the language of bodies is this project's own choice.
+-- Carried by: `Plan::new`.
+-- Tested by: `check_codes.txt`, `type_places.txt`.
 use Rattle.std.specs.Prelude.{ℕ, List, Bool, true, not, ◌&&◌, ◌==◌, nat_lt, slice_get}
 use Rattle.term_core.specs.Term.{Term, Num, Local, Elem, Unary, Binary, Choose}
 use Rattle.term_core.specs.StatementList.{StatementList, Done, SetThen, PutThen, IfThen, ForThen, TrapThen}
 use Rattle.term_core.specs.declared.flow.FlowKind.{FlowKind}
 use Rattle.plan_core.specs.Kinds.{is_data, is_writable}
 
--- whether every element that an expression reads is one of a flow with a tile; the list has the kinds of the flows
+-- whether each element that an expression reads is of a flow with a tile; the list has the kinds of the flows
 abbrev pub reads_data : List FlowKind → Term → Bool
 reads_data kinds (Num z) = true
 reads_data kinds (Local n) = true
@@ -27,7 +29,7 @@ respects_kinds kinds (ForThen n lo hi turn rest) =
     reads_data kinds lo && reads_data kinds hi && respects_kinds kinds turn && respects_kinds kinds rest
 respects_kinds kinds (TrapThen w rest) = respects_kinds kinds rest
 
--- whether the word of each trap is one of this many
+-- whether each trap has a word among this many
 abbrev pub has_words : ℕ → StatementList → Bool
 has_words count Done = true
 has_words count (SetThen n e rest) = has_words count rest

@@ -1,5 +1,7 @@
 -- The flows of a job by number, and their kinds: a CTL flow carries order alone, every other flow carries a tile.
 -- Source: PaRSEC 2013.
+-- Carried by: `Plan::new`.
+-- Tested by: `check_codes.txt`, `type_places.txt`.
 use Rattle.std.specs.Prelude.{ℕ, List, Option, Some, None, Bool, false, slice_get, option_map, option_and_then}
 use Rattle.term_core.specs.declared.flow.FlowKind.{FlowKind}
 use Rattle.term_core.specs.Kinds as kinds
@@ -10,7 +12,7 @@ use Rattle.plan_core.specs.declared.class.ClassPlan.{ClassPlan}
 abbrev pub flow_of : List ClassPlan → ℕ → ℕ → Option FlowPlan
 flow_of classes class flow = option_and_then (λ (c : ClassPlan). slice_get c.flows flow) (slice_get classes class)
 
--- its kind
+-- the kind of that flow, if there is one
 abbrev pub kind_of : List ClassPlan → ℕ → ℕ → Option FlowKind
 kind_of classes class flow = option_map (λ (f : FlowPlan). f.kind) (flow_of classes class flow)
 

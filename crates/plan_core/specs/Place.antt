@@ -1,4 +1,6 @@
 -- The places of the collections of a plan.
+-- Carried by: `Plan::has_place`.
+-- Tested by: `check_codes.txt`, `type_places.txt`.
 use Rattle.std.specs.Prelude.{List}
 use Rattle.ptg_base.specs.declared.place.Place.{Place}
 pub use Rattle.ptg_base.specs.Places.{IsRow, IsColumn}

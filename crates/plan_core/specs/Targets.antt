@@ -1,4 +1,7 @@
--- What a target names exists, and its tiles have the flow's datatype. Source: the JDF documentation.
+-- The rules that what a target names exists, and that its tiles have the flow's datatype. Source: the JDF
+-- documentation.
+-- Carried by: `Plan::new`.
+-- Tested by: `check_codes.txt`, `type_places.txt`.
 use Rattle.std.specs.Prelude.{ℕ, List, Option, Some, None, Bool, true, false, ◌&&◌, ◌==◌, length, is_some, slice_get}
 use Rattle.std.specs.List.{list_all}
 use Rattle.std.specs.Option.{option_map_or}
@@ -13,7 +16,7 @@ use Rattle.plan_core.specs.declared.target.Target.TheVariants.{Task, Element, Ne
 use Rattle.plan_core.specs.Closed.{is_closed_arg}
 use Rattle.plan_core.specs.Kinds.{flow_of}
 
--- how many dimensions a collection has, by its number of columns
+-- how many dimensions a collection has: two if it has a number of columns
 abbrev pub dimensions : Option ℕ → ℕ
 dimensions None = 1
 dimensions (Some cols) = 2
@@ -27,12 +30,12 @@ has_params spaces class count =
 abbrev pub has_dimensions : List Shape → ℕ → ℕ → Bool
 has_dimensions colls coll count = option_map_or (λ (s : Shape). dimensions s.cols == count) (slice_get colls coll) false
 
--- whether these are the indices of an element of the collection: one for each dimension, over this many locals
+-- whether these are the indices of an element of the collection: one for each dimension, naming only this many locals
 abbrev pub is_element : List Shape → ℕ → ℕ → List Term → Bool
 is_element colls locals coll indices = has_dimensions colls coll (length indices) && list_all (is_closed locals) indices
 
--- whether what a target names exists: a flow of a class with an argument for each parameter, or an element; its
--- expressions are over this many locals
+-- whether what a target names exists: a flow of a class, with an argument for each parameter, or an element. Its
+-- expressions name only this many locals.
 abbrev pub exists_target : List ClassPlan → List ClassSpace → List Shape → ℕ → Target → Bool
 exists_target classes spaces colls locals (Task class flow args) =
     is_some (flow_of classes class flow) && has_params spaces class (length args)
@@ -41,7 +44,7 @@ exists_target classes spaces colls locals (Element coll indices) = is_element co
 exists_target classes spaces colls locals New = true
 exists_target classes spaces colls locals Null = true
 
--- whether a target's tiles are of this datatype: the flow's or the collection's own; a new tile takes the flow's
+-- whether a target's tiles have this datatype: that of its flow or collection; a new tile takes the flow's
 abbrev pub has_datatype : List ClassPlan → List Shape → ℕ → Target → Bool
 has_datatype classes colls datatype (Task class flow args) =
     option_map_or (λ (f : FlowPlan). f.datatype == datatype) (flow_of classes class flow) false

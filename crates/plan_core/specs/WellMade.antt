@@ -1,5 +1,7 @@
--- When the parts of a plan fit one another. Source: the JDF documentation and PaRSEC 2013; the limits are this
--- project's own choice.
+-- Well made plans: when the parts of a plan fit one another. Source: the JDF documentation and PaRSEC 2013; the limits
+-- are this project's own choice.
+-- Carried by: `Plan::new`, `Plan::has_place`, `Plan::elements`.
+-- Tested by: `check_codes.txt`, `type_places.txt`.
 use Rattle.std.specs.Prelude.{◌≡◌, ℕ, List, Some, Bool, ◌&&◌, ◌≤◌, nat_le, nat_lt, length, map, IsTrue, slice_get}
 use Rattle.std.specs.List.{list_all}
 use Rattle.std.specs.Str.{bytes_eq}
@@ -17,8 +19,8 @@ use Rattle.plan_core.specs.Targets.{is_element}
 use Rattle.plan_core.specs.Flows.{is_flow}
 use Rattle.plan_core.specs.Bodies.{respects_kinds, has_words, keeps_loop_variables}
 
--- a class with this space, in a job with these classes, spaces, collections and this many datatypes; that its body is
--- well made bounds its flows by 8
+-- a class with this space, in a job with these classes, spaces and collections, and with this many datatypes. That its
+-- body is well made bounds its flows by 8.
 pub record IsWellClass (classes : List ClassPlan) (spaces : List ClassSpace) (colls : List Shape) (types : ℕ)
     (s : ClassSpace) (c : ClassPlan) : Type 0 where
   pub space : IsWellSpace s
@@ -31,13 +33,13 @@ pub record IsWellClass (classes : List ClassPlan) (spaces : List ClassSpace) (co
   pub words : IsTrue (has_words (length c.trap_words) c.body.statements)
   pub loops : IsTrue (keeps_loop_variables c.body.statements)
 
--- whether a collection has 1 to 65,536 tiles, of one of this many datatypes
+-- whether a collection has 1 to 65,536 tiles, with one of this many datatypes
 abbrev pub is_shape : ℕ → Shape → Bool
 is_shape types s =
     nat_le 1 (tile_count s.rows s.cols) && nat_le (tile_count s.rows s.cols) most_tiles && nat_lt s.datatype types
 
--- at most 64 classes of different names, each with its space; 1 to 16 datatypes, given by the length of their tiles;
--- collections of these
+-- At most 64 classes with different names, each with its space; 1 to 16 datatypes, given by the lengths of their tiles;
+-- and collections with these datatypes.
 pub record IsWellMade (classes : List ClassPlan) (spaces : List ClassSpace) (colls : List Shape)
     (elems : List ℕ) : Type 0 where
   pub classes_at_most : length classes ≤ most_classes

@@ -1,14 +1,14 @@
-//! Classes of tasks.
+//! Classes of tasks in a plan.
 
 use crate::flow::FlowPlan;
 use ptg_base::{Seq, Text};
 use term_core::{Body, Expr};
 
-/// Where the tasks of a class would best run: an element of a collection, by expressions over their locals.
+/// Where the tasks of a class would best run: at an element of a collection, given by expressions over their locals.
 pub struct AffinityPlan {
     /// The number of the collection.
     pub coll: u32,
-    /// An index for each of its dimensions.
+    /// An index for each dimension of the collection.
     pub indices: Seq<Expr>,
 }
 
@@ -21,16 +21,16 @@ impl Drop for AffinityPlan {
     }
 }
 
-/// A class of tasks. Its locals are numbered as the definitions of its space.
+/// A class of tasks. Its locals have the numbers of the definitions of its space.
 pub struct ClassPlan {
     pub name: Text,
     pub affinity: AffinityPlan,
     /// Its flows, in the text's order.
     pub flows: Seq<FlowPlan>,
-    /// The priority of its tasks, a hint.
+    /// The priority of its tasks: a hint only.
     pub priority: Option<Expr>,
     pub body: Body,
-    /// The words of the body's traps, by number.
+    /// The words of the body's traps, by their numbers.
     pub trap_words: Seq<Text>,
 }
 

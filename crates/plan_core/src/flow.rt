@@ -1,4 +1,4 @@
-//! Flows and their dependences.
+//! Flows of a plan and their dependences.
 
 ghost use Rattle.std.specs.Prelude.{◌≡◌};
 ghost use Rattle.plan_core.specs.Flows as flows;
@@ -7,7 +7,7 @@ use crate::target::Target;
 use ptg_base::{Seq, Text};
 use term_core::{Direction, Expr, FlowKind};
 
-/// A dependence on `yes` where it has no guard or the guard is not 0, else on `no`.
+/// A dependence on `yes` if it has no guard or its guard is not 0, else on `no`, if there is one.
 pub struct DepPlan {
     pub guard: Option<Expr>,
     pub yes: Target,
@@ -28,7 +28,7 @@ impl Drop for DepPlan {
 pub struct FlowPlan {
     pub name: Text,
     pub kind: FlowKind,
-    /// The number of the type of its tiles; 0 for a CTL flow, which has none.
+    /// The number of the type of its tiles; 0 for a CTL flow, which has no tiles.
     pub datatype: u32,
     /// Its in dependences, in the text's order.
     pub ins: Seq<DepPlan>,

@@ -1,4 +1,5 @@
-//! A job with all its names resolved: its classes, their flows and spaces, and its collections, by number.
+//! A plan: a job with all its names resolved into numbers of classes, flows, locals and collections. The parts of a
+//! plan always fit one another.
 #![tactic(auto)]
 
 mod class;

@@ -11,7 +11,7 @@ use crate::shape::Shape;
 use ptg_base::{Place, Seq};
 use term_core::ClassSpace;
 
-/// A job with all its names resolved, for the data that it was resolved with.
+/// A job with all its names resolved. It holds for the data that it was resolved with.
 pub struct Plan {
     /// The classes, in the text's order.
     pub classes: Seq<ClassPlan>,
@@ -19,7 +19,7 @@ pub struct Plan {
     pub spaces: Seq<ClassSpace>,
     /// The collections, in the data's order.
     pub colls: Seq<Shape>,
-    /// How many numbers a tile has, by the number of its type; type 0 is DEFAULT.
+    /// How many numbers a tile of each type has, by the number of the type; type 0 is DEFAULT.
     pub elems: Seq<u32>,
     /// Every number names something that exists, each target has as many arguments as it needs, and flows, targets,
     /// datatypes and bodies fit one another.
@@ -38,7 +38,7 @@ impl Drop for Plan {
 }
 
 impl Plan {
-    /// The plan with these parts.
+    /// The plan with these parts, which must fit one another.
     pub fn new(
         classes: Seq<ClassPlan>,
         spaces: Seq<ClassSpace>,
@@ -103,7 +103,7 @@ impl Plan {
         *self.elems.get(datatype as usize)
     }
 
-    /// Whether the place's collection exists and has its row and column.
+    /// Whether the place's collection exists and has the place's row and column.
     pub fn has_place(&self, p: &Place) -> bool
         ensures { IsTrue result ↔ HasPlace self.now.colls p.now }
     {

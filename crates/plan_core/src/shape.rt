@@ -1,11 +1,11 @@
-//! The shapes of collections.
+//! Shapes of collections.
 
 ghost use Rattle.std.specs.Prelude.{◌↔◌, IsTrue};
 ghost use Rattle.plan_core.specs.Place.{IsRow, IsColumn};
 
 use ptg_base::Text;
 
-/// A collection of the data, without its tiles: how many rows of tiles it has, and how many columns where it has two
+/// A collection of the data without its tiles: its number of rows of tiles, and its number of columns if it has two
 /// dimensions.
 #[derive(Drop)]
 pub struct Shape {
@@ -24,7 +24,7 @@ impl Shape {
         0 <= i && i < i64::from(self.rows)
     }
 
-    /// Whether it has this column, which is 0 in one dimension.
+    /// Whether it has this column. In one dimension the only column is 0.
     pub fn has_column(&self, j: i64) -> bool
         ensures { IsTrue result ↔ IsColumn self.now.cols j }
     {

@@ -1,4 +1,4 @@
-//! The targets of dependences.
+//! Targets of dependences.
 
 use ptg_base::Seq;
 use term_core::{Expr, Range};
@@ -7,7 +7,7 @@ use term_core::{Expr, Range};
 pub enum Arg {
     /// The value of a parameter.
     One(Expr),
-    /// Each value of a range, with an edge for each.
+    /// Every value of a range; each makes an edge of its own.
     Span(Range),
 }
 
@@ -22,11 +22,11 @@ impl Drop for Arg {
 
 /// The other end of a dependence.
 pub enum Target {
-    /// The numbers of a class and of a flow of it, and an argument for each parameter of the class.
+    /// The number of a class, the number of one of its flows, and an argument for each parameter of the class.
     Task(u32, u8, Seq<Arg>),
     /// The number of a collection, and an index for each of its dimensions.
     Element(u32, Seq<Expr>),
-    /// A tile of zeros.
+    /// A new tile of zeros.
     New,
     /// No tile.
     Null,

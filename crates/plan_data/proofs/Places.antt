@@ -1,4 +1,4 @@
--- Data that fit a plan have its places.
+-- Data that fit a plan have the plan's places.
 use Rattle.std.proofs.Common.{ℕ, zero, suc, ◌↔◌, List, [], ◌∷◌, map, IsSomeAnd, slice_get, ℤ, subst}
 use Rattle.ptg_base.specs.declared.place.Place.{Place}
 use Rattle.ptg_base.specs.Places.{IsRow, IsColumn}
@@ -10,7 +10,7 @@ use Rattle.coll_data.specs.Data.{Data}
 use Rattle.coll_data.specs.Tiles as tiles
 use Rattle.plan_data.specs.Fit.{shape_of, DataFit}
 
--- at one collection of the list, whose number is n
+-- the same for the collection with the number n in a list
 at_places : (cs : List Coll) (n : ℕ) (i j : ℤ) → IsSomeAnd (slice_get (map shape_of cs) n) (λ (s : Shape). IsRow s.rows i × IsColumn s.cols j) ↔ IsSomeAnd (slice_get cs n) (λ (c : Coll). IsRow c.shape.0 i × IsColumn c.shape.1 j)
 at_places [] zero i j = (λ w. w, λ w. w)
 at_places [] (suc n) i j = (λ w. w, λ w. w)

@@ -1,4 +1,4 @@
-//! The tiles of data that fit a plan.
+//! Finds the tiles of data that fit a plan.
 
 ghost use Rattle.std.specs.Prelude.{◌≡◌, Some, IfSome, length, slice_get, slice_index};
 ghost use Rattle.plan_core.specs.declared.shape.Shape.{Shape};
@@ -10,7 +10,7 @@ use coll_data::Given;
 use plan_core::Plan;
 use ptg_base::{Place, Tile};
 
-/// The tile that the data give at a place of the plan.
+/// The tile that the data have at a place of the plan.
 pub fn opening_tile<'a>(plan: &Plan, given: &'a Given, place: &Place) -> &'a Tile
     requires fit { DataFit plan.now given.now }
     requires exists { HasPlace plan.now.colls place.now }

@@ -1,4 +1,4 @@
-//! When data fit a plan, and what follows from it.
+//! When data fit a plan: they have its collections and datatypes, and so a tile at each of its places.
 #![tactic(auto)]
 
 mod fit;

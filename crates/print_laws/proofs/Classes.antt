@@ -171,7 +171,7 @@ parameter_list_reads_back ws formed few s r h =
       like = k.like;
     }
 
--- A collection and its indices.
+-- a collection and its indices, with spots replaced
 abbrev affinity_plain : Word × List ArgTree → Word × List ArgTree
 affinity_plain x = (same.word x.0, map same.argument x.1)
 
@@ -205,18 +205,18 @@ priority_reads_back (Some e) formed s r h =
 
 -- ---- bodies
 
--- A token of a body, printed as it is.
+-- A token of a body, which is printed as it is.
 pub record IsInBody (x : Token) : Type 0 where
   pub terminal : x.terminal ≡ number_of (terminal_at x.text)
   pub written : IsWritten x.text
   pub allowed : grammar.is_in_body (terminal_of x) ≡ true
 
--- The first of them is not `[`.
+-- The tokens of a body; the first one is not `[`.
 abbrev pub IsBody : List Token → Type 0
 IsBody [] = Unit {0}
 IsBody (x ∷ xs) = IsInBody x × (grammar.begins_body (terminal_of x) ≡ true) × Every IsInBody xs
 
--- The terminal of the token that it is like.
+-- The terminal of a token that is read back is that of the printed one.
 same_terminal : (x y : Token) → y.terminal ≡ number_of (terminal_at y.text) → IsLike x y.text → terminal_of x ≡ terminal_of y
 same_terminal x y terminal like = like_terminal x y.text like ∙ sym (like_terminal y y.text (terminal, refl))
 

@@ -1,4 +1,4 @@
--- Derivations whose names have any depth have one common depth.
+-- Derivations whose nonterminals are derived at any depth have one common depth.
 use Rattle.std.proofs.Common.{ℕ, zero, suc, ◌+◌, ◌≤◌, List, [], ◌∷◌, inl, inr, arith}
 use Rattle.std.specs.Prelude.{Option, Some, None}
 use Rattle.grammar_core.specs.declared.token.Token.{Token}
@@ -66,6 +66,6 @@ module _ {N : Type 0} {Tree : N → Type 0} (body : (n : N) → Production N Tre
   at_depth (after_token q n) s t o r h = (h.3.depth, (h.0, h.1, h.2, h.3.derives, h.4))
   at_depth (limited l c g) s t o r h = let a = at_depth g s t h.0 r h.1 in (a.0, (h.0, a.1, h.2))
 
-  -- What the form of a name spells, the name spells.
+  -- What the production of a nonterminal derives, the nonterminal derives.
   pub named : (n : N) (s : List Token) (t : Tree n) (o : Fault) (r : List Token) → Derives (Derived body) (body n) s t o r → Derived body n s t o r
   named n s t o r h = let a = at_depth (body n) s t o r h in record { depth = suc a.0; derives = a.1 }

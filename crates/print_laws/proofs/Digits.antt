@@ -1,4 +1,4 @@
--- The digits of a number from 0 to 2^63 - 1 are spelled as a number of a text is, and their value is the number.
+-- The digits of a number from 0 to 2^63 - 1 are spelled as a number in a text, and their value is the number.
 use Rattle.std.proofs.Common.{◌≡◌, ℕ, ℤ, pos, subst, zero, suc, ◌+◌, ◌*◌, ◌-◌, ◌/◌, ◌%◌, ◌^◌, ◌≤◌, ◌<◌, Bool, true, false, List, [], ◌∷◌, ◌++◌, length, refl, sym, ap, ◌∙◌, arith, length-append}
 use Rattle.std.specs.Prelude.{◌==◌}
 use Rattle.std.specs.List.{list_all}
@@ -78,7 +78,7 @@ are_digits n fit = decimal_by_steps AreDigits small large n fit
 abbrev pub IsNumber : ℤ → Type 0
 IsNumber z = (n : ℕ) × (z ≡ pos n) × (n ≤ 9223372036854775807)
 
--- What the grammar needs to know of the number's spelling.
+-- What the grammar needs to know about the number's spelling.
 pub record NumberFacts (z : ℤ) : Type 0 where
   pub good : is_number (fmt.signed_decimal z) ≡ true
   pub value : pos (decimal (fmt.signed_decimal z)) ≡ z

@@ -1,4 +1,4 @@
--- The rest after a derivation is the end of the tokens; a derivation without a fault has parts without one.
+-- What a derivation leaves is the end of the tokens; and if it has no fault, its parts have none.
 use Rattle.std.proofs.Common.{◌≡◌, ℕ, suc, List, [], ◌∷◌, ◌++◌, refl, sym, ap, ◌∙◌, inl, inr, append_assoc}
 use Rattle.std.specs.Prelude.{Option, Some, None}
 use Rattle.std.specs.Option.{option_or}

@@ -39,8 +39,8 @@ DerivesTree g s t r = Derives (Derived productions) g s t None r
 abbrev pub IsName : List ℕ → Type 0
 IsName w = IsWritten w × (is_name (terminal_at w) ≡ true)
 
--- An expression that a class of a text can have: no element, its names are names, and its numbers are numbers of a
--- text.
+-- An expression that a class of a text can have: it has no element, its names are names, and its numbers are numbers of
+-- a text.
 abbrev pub IsWellFormed : Expression → Type 0
 IsWellFormed (Num z spot) = IsNumber z
 IsWellFormed (Name w) = IsName w.text
@@ -58,7 +58,7 @@ two : (ops : Terminal → Bool) (g : Grammar ExprWithSpot) (x : Token) (s : List
     → DerivesTree g s a n → n ≡ x ∷ m → ops (terminal_of x) ≡ true → DerivesTree g m b r → DerivesTree (ranked ops g) s (with_spot a.spot (Binary (operator_of x) a.tree b.tree)) r
 two ops g x s a n m b r ha e q hb = ((a, (operator_of x, b) ∷ []), (n, None, None, ha, (r, None, None, (m, None, None, (x, ((e, q), refl), refl), hb, refl), (refl, refl), refl), refl), refl)
 
--- The ranks of operators, from the one that binds most tightly.
+-- The ranks of operators, the tightest binding first.
 abbrev Ranks : Type 0
 Ranks = List (Terminal → Bool)
 
@@ -138,7 +138,7 @@ module _ (x : Token) (s : List Token) (a : ExprWithSpot) (n m : List Token) (b :
   by_disjunction : is_disjunction (terminal_of x) ≡ true → Both
   by_disjunction q = by_rank (is_product ∷ is_sum ∷ is_relation ∷ is_equality ∷ is_conjunction ∷ []) is_disjunction [] refl q
 
-  -- A test of the word's terminal is also one of the token's.
+  -- What a test says of the word's terminal, it says of the token's.
   along : (o : BinOp) → IsLike x (print.operator o) → (q : Terminal → Bool) → q (terminal_at (print.operator o)) ≡ true → q (terminal_of x) ≡ true
   along o like q t = ap q (like_terminal x (print.operator o) like) ∙ t
 
@@ -158,7 +158,7 @@ module _ (x : Token) (s : List Token) (a : ExprWithSpot) (n m : List Token) (b :
   both_derives bin.And h = by_conjunction (along bin.And h is_conjunction refl)
   both_derives bin.Or h = by_disjunction (along bin.Or h is_disjunction refl)
 
--- The operator of an operator's spelling is that operator.
+-- The spelling of an operator is read as that operator.
 operator_back : (o : BinOp) (x : Token) → IsLike x (print.operator o) → operator_of x ≡ o
 unfolding words marks
 operator_back o x h = ap operator_by (like_terminal x (print.operator o) h) ∙ go o

@@ -1,4 +1,4 @@
--- Derivations by the small productions that the grammar is made of.
+-- Derivations by the small productions that the grammar consists of.
 use Rattle.std.proofs.Common.{◌≡◌, ℕ, suc, ◌+◌, ◌≤◌, ◌<◌, true, List, [], ◌∷◌, ◌++◌, length, map, refl, sym, ap, subst, ◌∙◌, arith}
 use Rattle.std.specs.Prelude.{Option, Some, None, nat_le, codes}
 use Rattle.std.specs.List.{flat_map}
@@ -35,7 +35,7 @@ pub record ReadsBackAs {A B : Type 0} (g : Grammar A) (erase : A → B) (b : B) 
   pub derives : DerivesTree g s tree r
   pub like : erase tree ≡ b
 
--- The property holds of each of a list.
+-- The property holds for each element of a list.
 abbrev pub Every : {A : Type 0} → (A → Type 0) → List A → Type 0
 Every P [] = Unit {0}
 Every P (x ∷ xs) = P x × Every P xs
@@ -59,7 +59,7 @@ before_derives k g w e x s m t r derives h like = ((t, x), (m, None, None, deriv
 pub name_derives : (w : List ℕ) → IsName w → (x : Token) (s m : List Token) → s ≡ x ∷ m → IsLike x w → DerivesTree (name Class) s (word_of x) m
 name_derives w formed x s m h like = (x, (is_one (names Class) w formed.1 x s m h like, refl), refl)
 
--- The same word but for its spot.
+-- A token with the text of a word is the same word but for its spot.
 pub same_word : (x : Token) (w : Word) → IsLike x w.text → same.word (word_of x) ≡ same.word w
 same_word x w like = ap (λ (t : List ℕ). same.word (record { text = t; spot = w.spot })) like.1
 
@@ -69,7 +69,7 @@ reads_line ps s r h = let k = reads_both ps _ s r h in let R : List Token → Ty
 
 -- ---- outermost expressions
 
--- An expression of a class, not too long.
+-- A well-formed expression of a class that is not too long.
 abbrev pub IsOuter : Expression → Type 0
 IsOuter e = IsWellFormed e × (weight e ≤ 128)
 
@@ -138,7 +138,7 @@ none = None
 no_fault : (full : ℕ → Option Code) (i : ℕ) → full i ≡ None → (n : ℕ) → then_fault (option_or (at_start (full i)) None) n None ≡ none
 no_fault full i e n = ap (λ (c : Option Code). then_fault (option_or (at_start c) None) n None) e
 
--- Derivations one after the other.
+-- The elements of a list, derived one after the other.
 record StarReadsBack {A B : Type 0} (full : ℕ → Option Code) (i : ℕ) (g : Grammar A) (erase : A → B) (bs : List B) (s r : List Token) : Type 0 where
   trees : List A
   derives : Many full (Derives (Derived productions) g) i s trees None r

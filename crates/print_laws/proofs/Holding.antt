@@ -1,4 +1,4 @@
--- Properties of the trees of a production from properties of the trees of its parts.
+-- Properties of the trees of a production, from properties of the trees of its parts.
 use Rattle.std.proofs.Common.{◌≡◌, ℕ, suc, ◌+◌, ◌≤◌, Bool, true, false, cond, List, [], ◌∷◌, length, refl, sym, subst, ◌∙◌, inl, inr, arith}
 use Rattle.std.specs.Prelude.{Option, Some, None, nat_le}
 use Rattle.std.proofs.lemmas.Bool.{leb-false}
@@ -21,12 +21,12 @@ use Rattle.print_laws.proofs.Ends.{Shortens, derives_has_end, none_or}
 use Rattle.print_laws.proofs.Known.{IsKnown, name_known}
 use Rattle.print_laws.proofs.WellFormedExpressions.{known_rest}
 
--- The property holds of the tree, if there is one.
+-- The property holds for the tree, if there is one.
 abbrev pub IfPresent : {A : Type 0} → (A → Type 0) → Option A → Type 0
 IfPresent P None = Unit {0}
 IfPresent P (Some a) = P a
 
--- The property holds of each tree, and there are at most n.
+-- The property holds for each tree, and there are at most n.
 abbrev pub AtMostEvery : {A : Type 0} → ℕ → (A → Type 0) → List A → Type 0
 AtMostEvery n P ts = (length ts ≤ n) × Every P ts
 

@@ -1,4 +1,4 @@
--- The kind and the word of a token, from its terminal.
+-- The kind and the word of a token, from the token's terminal.
 use Rattle.std.proofs.Common.{◌≡◌, ℕ, Bool, true, false, cond, List, [], ◌∷◌, refl, sym, ap, ◌∙◌}
 use Rattle.std.specs.Prelude.{not, ◌&&◌}
 use Rattle.std.specs.Str.{bytes_eq}

@@ -1,4 +1,4 @@
--- In the spelling of a well-formed tree no word is continued by what follows it.
+-- In the spelling of a well-formed tree, no word is continued by what follows it.
 use Rattle.std.proofs.Common.{◌≡◌, ℕ, ℤ, Bool, true, false, cond, List, [], ◌∷◌, ◌++◌, map, refl, sym, subst, inl, inr, arith}
 use Rattle.std.specs.Prelude.{Option, Some, None, codes, nat_lt, ◌==◌, ◌||◌}
 use Rattle.std.specs.List.{flat_map, list_all}
@@ -116,11 +116,11 @@ gap = (inl refl, tt)
 line_end : Every IsGap (10 ∷ [])
 line_end = (inr refl, tt)
 
--- A name or a number before what does not continue it.
+-- A name or a number, if what follows does not continue it.
 word_lexes : (w : List ℕ) (ps : List Fragment) (after : List ℕ) → IsWord w → begins_part (text ps ++ after) ≡ false → IsLexable ps after → IsLexable (token w ∷ ps) after
 word_lexes w ps after formed stop rest = (parts_unit w (text ps ++ after) formed.0 formed.1 stop, written_ascii w formed.0, rest)
 
--- A word, a space and what follows.
+-- A word, a space, and what follows them.
 spaced : (w : List ℕ) (ps : List Fragment) (after : List ℕ) → IsWritten w → IsLexable ps after → IsLexable (token w ∷ space ∷ ps) after
 spaced w ps after written rest = (written_before_gap w 32 (text ps ++ after) written (inl refl), written_ascii w written, (gap, rest))
 
@@ -199,7 +199,7 @@ expression_lexes (Choose c a b) formed after stop =
 
 -- ---- lists
 
--- Each is lexed before what does not continue a word.
+-- Each is lexed if what follows does not continue a word.
 abbrev EachIsLexable : {A : Type 0} → (A → Type 0) → (A → List Fragment) → Type 0
 EachIsLexable {A = A} P f = (a : A) → P a → (after : List ℕ) → begins_part after ≡ false → IsLexable (f a) after
 
@@ -210,7 +210,7 @@ commas_lex P f each (x ∷ y ∷ ys) m after stop =
     let rest = with_commas (map f (y ∷ ys)) in
     both_lex (f x) (comma ++ rest) after (each x m.0 _ refl) (spaced (codes ",") rest after refl (commas_lex P f each (y ∷ ys) m.1 after stop))
 
--- Each is lexed before anything.
+-- Each is lexed, whatever follows.
 abbrev LinesAreLexable : {A : Type 0} → (A → Type 0) → (A → List Fragment) → Type 0
 LinesAreLexable {A = A} P f = (a : A) → P a → (after : List ℕ) → IsLexable (f a) after
 

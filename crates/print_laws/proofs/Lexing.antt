@@ -16,11 +16,11 @@ use Rattle.print_laws.proofs.Forms.{Every}
 use Rattle.print_laws.proofs.Marks.{IsGap, gap_unit}
 use Rattle.std.proofs.lemmas.Bool.{and_from}
 
--- The token of a word after these bytes.
+-- The token of a word that follows these bytes.
 abbrev pub token_at : List ℕ → List ℕ → Token
 token_at before word = record { terminal = number_of (terminal_at word); text = word; start = length before; end = length before + length word; spot = spot_after before }
 
--- The tokens of fragments after these bytes.
+-- The tokens of fragments that follow these bytes.
 abbrev pub tokens_at : List ℕ → List Fragment → List Token
 tokens_at before [] = []
 tokens_at before (token word ∷ ps) = token_at before word ∷ tokens_at (before ++ word) ps
@@ -39,7 +39,8 @@ tokens_counted (blank bytes ∷ ps) before = tokens_counted ps (before ++ bytes)
 abbrev pub is_ascii : List ℕ → Bool
 is_ascii bs = list_all (λ b. nat_lt b 128) bs
 
--- Each word of the fragments is a token before what follows it, with `after` following the last, and each blank is one.
+-- Each word of the fragments is a token, given what follows it, and each blank is a gap; `after` follows the last
+-- fragment.
 abbrev pub IsLexable : List Fragment → List ℕ → Type 0
 IsLexable [] after = Unit {0}
 IsLexable (token word ∷ ps) after = IsUnit (lex.TokenOf (kind_of word)) word (text ps ++ after) × (is_ascii word ≡ true) × IsLexable ps after
@@ -77,7 +78,7 @@ lexed_from (blank bytes ∷ ps) before h =
     let more = subst L (append_assoc before bytes (text ps)) (lexed_from ps (before ++ bytes) h.1) in
     past_blanks (before ++ (bytes ++ text ps)) [] bytes before (text ps) (tokens_at (before ++ bytes) ps) h.0 more
 
--- The tokens of the text of such fragments are their words.
+-- The tokens of the text of such fragments are the fragments' words.
 pub lexed : (ps : List Fragment) → IsLexable ps [] → IsLexed (text ps) (tokens_at [] ps) (spot_after (text ps))
 lexed ps h = (lexed_from ps [] h, refl)
 

@@ -1,4 +1,4 @@
--- A front of the tokens is within a limit if it has at most so many tokens, and at most so many that count.
+-- A front of the tokens is within a limit if both its tokens and those that count are few enough.
 use Rattle.std.proofs.Common.{◌≡◌, ℕ, zero, suc, ◌+◌, ◌≤◌, min, Bool, true, false, cond, List, [], ◌∷◌, ◌++◌, length, get_or, refl, arith}
 use Rattle.std.specs.Prelude.{Some, None, nat_lt}
 use Rattle.grammar_core.specs.declared.token.Token.{Token}
@@ -27,7 +27,7 @@ few_from q (x ∷ w) i cap n r a b = go (q (terminal_of x)) refl n (λ m h. few_
     go true e (suc m) f h = rw (indices_kept (set q) i x (w ++ r) e) (omega (arith, f m (omega arith)))
     go false e m f h = rw (indices_passed (set q) i x (w ++ r) e) (omega (arith, f m (omega arith)))
 
--- At most so many tokens are within the limit.
+-- A front of at most `cap` tokens with at most n that count is within the limit.
 pub few_fit : (q : Terminal → Bool) (w : List Token) (cap n : ℕ) (r : List Token) → length w ≤ cap → number_of q w ≤ n → length w ≤ limit_at q cap n (w ++ r)
 unfolding too_many.limit_at
 few_fit q w cap n r a b = omega (arith, few_from q w 0 cap n r (omega arith) b)
@@ -42,7 +42,7 @@ from_few q (x ∷ w) i cap n r h = go (q (terminal_of x)) refl n (λ m. from_few
     go true e (suc m) f h = let k = rw (indices_kept (set q) i x (w ++ r) e) at h in omega (arith, f m (omega (arith, k)))
     go false e m f h = let k = rw (indices_passed (set q) i x (w ++ r) e) at h in omega (arith, f m (omega (arith, k)))
 
--- Tokens within the limit are at most so many.
+-- A front within the limit has at most n tokens that count.
 pub fit_few : (q : Terminal → Bool) (w : List Token) (cap n : ℕ) (r : List Token) → length w ≤ limit_at q cap n (w ++ r) → number_of q w ≤ n
 unfolding too_many.limit_at
 fit_few q w cap n r h = from_few q w 0 cap n r (omega arith)
@@ -54,7 +54,7 @@ number_of-append q (x ∷ v) w = omega (arith, number_of-append q v w)
 abbrev AreEqual : Fault → Fault → Type 0
 AreEqual a b = a ≡ b
 
--- Without a token too many there is no fault.
+-- If there is no token too many, there is no fault.
 pub no_cut : (l : ℕ) (c : Code) (n : ℕ) → n ≤ l → AreEqual None (cut_at l c n None)
 no_cut l c n h = go (nat_lt l n) refl
   where

@@ -1,4 +1,4 @@
--- The lexical unit of a word of the spelling, before the bytes that may follow it.
+-- The lexical unit of a word of the spelling, given the bytes that may follow it.
 use Rattle.std.proofs.Common.{◌≡◌, ℕ, Bool, true, false, cond, List, [], ◌∷◌, ◌++◌, refl, sym, ap, subst, ◌∙◌, inl, inr, arith}
 use Rattle.std.specs.Prelude.{◌⊎◌, not, ◌&&◌, ◌||◌, ◌==◌, nat_eq, Some, if◌then◌else◌}
 use Rattle.std.specs.List.{list_any, list_all}
@@ -67,7 +67,7 @@ one_of_two : (q : ℕ → Bool) (m a : ℕ) (b c : Bool) → (m == a) ≡ b → 
 one_of_two q m a true c e h f t = ap q (sym (eqb-true m a e)) ∙ h
 one_of_two q m a false c e h f t = f t
 
--- What holds of each of a list holds of a number in it.
+-- What holds for each number of a list holds for one that is in it.
 pub among : (q : ℕ → Bool) (ms : List ℕ) → list_all q ms ≡ true → (a : ℕ) → list_any (λ m. m == a) ms ≡ true → q a ≡ true
 among q [] h a k = absurd (cc)
 among q (m ∷ ms) h a k =
@@ -85,7 +85,7 @@ among_pairs q (m ∷ ms) h a b k =
     let parts = and_parts (q m.0 m.1) (list_all (λ n. q n.0 n.1) ms) h in
     pair_of_two q m.0 m.1 a b (m.0 == a) (m.1 == b) (list_any (λ n. (n.0 == a) && (n.1 == b)) ms) refl refl parts.0 (λ t. among_pairs q ms parts.1 a b t) k
 
--- The first byte of a mark is none of these.
+-- The first byte of a mark is no letter, digit, quote or blank.
 abbrev no_part : ℕ → Bool
 no_part a = not (is_letter a) && not (is_digit a)
 
@@ -102,7 +102,7 @@ begins_short : (a : ℕ) (left : List ℕ) → is_mark (a ∷ []) ≡ true → b
 begins_short a [] h = h
 begins_short a (c ∷ left) h = or_right (is_mark (a ∷ c ∷ [])) (is_mark (a ∷ [])) h
 
--- No mark of two bytes begins with this byte and what follows it.
+-- This byte and the next one are no mark of two bytes.
 abbrev pub IsAlone : ℕ → List ℕ → Type 0
 IsAlone a left = (d : ℕ) (after : List ℕ) → left ≡ d ∷ after → is_mark (a ∷ d ∷ []) ≡ false
 
@@ -135,7 +135,7 @@ long_unit a b left mark =
       longest = λ more after e h. three_bytes a b more h;
     }
 
--- Space and LF.
+-- The byte is a space or LF.
 abbrev pub IsGap : ℕ → Type 0
 IsGap c = (c ≡ 32) ⊎ (c ≡ 10)
 
@@ -191,18 +191,18 @@ written_by b bs c rest gap true d e f h = name_unit b bs (c ∷ rest) e h (no_pa
 written_by b bs c rest gap false true e f h = number_unit b bs (c ∷ rest) f h (no_part_gap c gap)
 written_by b bs c rest gap false false e f h = mark_before_gap (b ∷ bs) c rest h gap
 
--- A name, a number or a mark before a space or LF.
+-- A name, a number or a mark that a space or LF follows.
 pub written_before_gap : (w : List ℕ) (c : ℕ) (rest : List ℕ) → IsWritten w → IsGap c → IsUnit (TokenOf (kind_of w)) w (c ∷ rest)
 written_before_gap [] c rest h gap = absurd (cc)
 written_before_gap (b ∷ bs) c rest h gap = written_by b bs c rest gap (is_letter b) (is_digit b) refl refl h
 
--- A name or a number before what does not continue it.
+-- A name or a number, if what follows does not continue it.
 parts_by : (b : ℕ) (bs left : List ℕ) → begins_part left ≡ false → (l d : Bool) → is_letter b ≡ l → is_digit b ≡ d → (l || d) ≡ true → cond (l || d) (list_all is_part bs) (is_mark (b ∷ bs)) ≡ true → IsUnit (TokenOf (cond l Name (cond d Number Mark))) (b ∷ bs) left
 parts_by b bs left stop true d e f t h = name_unit b bs left e h stop
 parts_by b bs left stop false true e f t h = number_unit b bs left f h stop
 parts_by b bs left stop false false e f t h = absurd (cc)
 
--- A name or a number, decided by its first byte.
+-- The word is a name or a number, by its first byte.
 abbrev pub is_started : List ℕ → Bool
 is_started [] = false
 is_started (b ∷ bs) = is_letter b || is_digit b

@@ -1,4 +1,4 @@
--- What the test of numbers consists of, and conversely.
+-- The parts of the test for numbers: it holds if and only if each part does.
 use Rattle.std.proofs.Common.{◌≡◌, ℕ, ◌<◌, ◌≤◌, true, false, List, [], ◌∷◌, length, refl, arith}
 use Rattle.std.specs.Prelude.{not}
 use Rattle.std.specs.List.{list_all}
@@ -13,7 +13,7 @@ unfolding is_decimal
 decimal_from most [] some digits le = absurd (omega (arith, some))
 decimal_from most (b ∷ bs) some digits le = rw digits (grind (arith, nat_tests, le))
 
--- a number has no leading zero and digits alone, and is at most 2^63 - 1
+-- a number has digits alone and no leading zero, and is at most 2^63 - 1
 pub number_parts : (text : List ℕ) → is_number text ≡ true → (has_leading_zero text ≡ false) × (list_all is_digit text ≡ true) × (decimal text ≤ 9223372036854775807)
 unfolding is_number
 number_parts text e =

@@ -1,4 +1,4 @@
--- The tokens of fragments.
+-- The tokens that fragments are read as.
 use Rattle.std.proofs.Common.{◌≡◌, ℕ, Bool, true, false, List, [], ◌∷◌, ◌++◌, refl, ap, ◌∙◌}
 use Rattle.std.specs.Prelude.{if◌then◌else◌, ◌||◌}
 use Rattle.std.specs.List.{list_all}
@@ -29,11 +29,11 @@ IsWritten w = is_written w ≡ true
 abbrev pub terminal_at : List ℕ → Terminal
 terminal_at w = terminal_by (kind_of w) w
 
--- The token is this word.
+-- The token has this word and its terminal.
 abbrev pub IsLike : Token → List ℕ → Type 0
 IsLike x w = (x.terminal ≡ number_of (terminal_at w)) × (x.text ≡ w)
 
--- The tokens s up to the rest r are those of the fragments.
+-- The tokens of s before the rest r are those of the fragments.
 abbrev pub Reads : List Fragment → List Token → List Token → Type 0
 Reads [] s r = s ≡ r
 Reads (token w ∷ ps) s r = (x : Token) × (m : List Token) × (s ≡ x ∷ m) × IsLike x w × Reads ps m r
@@ -45,10 +45,10 @@ reads_both [] qs s r h = (s, refl, h)
 reads_both (token w ∷ ps) qs s r h = let k = reads_both ps qs h.1 r h.4 in (k.0, (h.0, h.1, h.2, h.3, k.1), k.2)
 reads_both (blank b ∷ ps) qs s r h = reads_both ps qs s r h
 
--- A word has the terminal of its spelling.
+-- A token that has a word has the terminal of its spelling.
 pub like_terminal : (x : Token) (w : List ℕ) → IsLike x w → terminal_of x ≡ terminal_at w
 like_terminal x w h = token_terminal x (terminal_at w) h.0
 
--- A word of one of these terminals.
+-- A token that has a word of one of these terminals.
 pub is_one : (q : Terminal → Bool) (w : List ℕ) → q (terminal_at w) ≡ true → (x : Token) (s m : List Token) → s ≡ x ∷ m → IsLike x w → IsOne q s x m
 is_one q w e x s m h like = (h, ap q (like_terminal x w like) ∙ e)

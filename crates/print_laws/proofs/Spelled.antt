@@ -1,4 +1,4 @@
--- The names of classes in the tree of a text are spelled as names, and the numbers in their definitions have 64 bits.
+-- In the tree of a text, the names of classes are spelled as names, and the numbers in definitions have 64 bits.
 use Rattle.std.proofs.Common.{◌≡◌, ℕ, ◌<◌, ◌≤◌, ℤ, pos, Bool, true, false, cond, ◌&&◌, List, [], ◌∷◌, Option, Some, None, refl, ap, sym, ◌∙◌, subst, arith}
 use Rattle.std.specs.Prelude.{◌||◌}
 use Rattle.std.specs.List.{AllByRecursion, list_all}
@@ -33,7 +33,7 @@ apart : (b : Bool) → b ≡ true → b ≡ false → ⊥
 apart true h k = cc
 apart false h k = cc
 
--- a word whose terminal is that of a name begins with a letter
+-- a word with the terminal of a name begins with a letter
 named : (b : ℕ) (bs : List ℕ) (l d : Bool) → cond (l || d) (list_all is_part bs) (is_mark (b ∷ bs)) ≡ true
     → is_name (terminal_by (cond l kinds.Name (cond d kinds.Number kinds.Mark)) (b ∷ bs)) ≡ true
     → (l && list_all is_part bs) ≡ true

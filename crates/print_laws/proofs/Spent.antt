@@ -20,7 +20,7 @@ words_of q [] = 0
 words_of q (token w ∷ ps) = cond (q (terminal_at w)) 1 0 + words_of q ps
 words_of q (blank b ∷ ps) = words_of q ps
 
--- The front of the tokens that are those of the fragments, and its sizes.
+-- The front of the tokens that the fragments are read as, and its sizes.
 pub record Cover (q : Terminal → Bool) (ps : List Fragment) (s r : List Token) : Type 0 where
   pub front : List Token
   pub whole : s ≡ front ++ r
@@ -58,7 +58,7 @@ weight (Unary o a spot) = 1 + weight a
 weight (Binary o a b) = 1 + (weight a + weight b)
 weight (Choose c a b) = 1 + (weight c + (weight a + weight b))
 
--- A spelling has at most four tokens for each of them.
+-- An expression's spelling has at most four tokens for each name, number and operator.
 pub tokens_at_most : (e : Expression) → token_count (print.expression e) ≤ 4 * weight e
 tokens_at_most (Num z spot) = omega arith
 tokens_at_most (Name w) = omega arith
@@ -76,7 +76,7 @@ at_most_one : (b : Bool) → cond b 1 0 ≤ 1
 at_most_one true = omega arith
 at_most_one false = omega arith
 
--- Parentheses and the colon of a choice do not count.
+-- Parentheses, and the colon of a choice, do not count.
 no_left : is_counted (terminal_at (codes "(")) ≡ false
 unfolding words marks is_counted
 no_left = refl
@@ -96,7 +96,7 @@ no_brackets : (is_counted (terminal_at (codes "[")) ≡ false) × (is_counted (t
 unfolding words marks is_counted
 no_brackets = (refl, refl)
 
--- At most as many of its tokens count as its weight.
+-- At most as many of its tokens count as the expression weighs.
 pub counted_at_most : (e : Expression) → words_of is_counted (print.expression e) ≤ weight e
 counted_at_most (Num z spot) = omega (arith, at_most_one (is_counted (terminal_at (signed_decimal z))))
 counted_at_most (Name w) = omega (arith, at_most_one (is_counted (terminal_at w.text)))
@@ -147,7 +147,7 @@ counted_at_most (Choose c a b) =
       counted_at_most b,
     )
 
--- So the spelling is within the limit.
+-- So the spelling of an expression that weighs at most 128 is within the limit.
 pub within_limit : (e : Expression) → weight e ≤ 128 → (s r : List Token) → Reads (print.expression e) s r → taken s r ≤ limit_at is_counted 512 128 s
 within_limit e small s r h =
     let k = cover is_counted (print.expression e) s r h in

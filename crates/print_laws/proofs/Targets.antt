@@ -182,7 +182,7 @@ IsChoice (None, t, Some u) = ⊥
 IsChoice (Some c, t, None) = IsOuter c × IsTarget t
 IsChoice (Some c, t, Some u) = IsOuter c × IsTarget t × IsTarget u
 
--- Choices from their parts.
+-- choices, made of their parts
 abbrev nothing : TargetTree → Choice
 nothing t = (None, t, None)
 
@@ -198,7 +198,7 @@ built direction c w = record { direction = direction; guard = c.0; yes = c.1; no
 abbrev choice_form : Grammar Choice
 choice_form = pick grammar.may_follow_target_name grammar.unguarded grammar.guarded
 
--- The tokens of the targets of a dependence, with its guard, derive them.
+-- The tokens of the guard and the targets of a dependence derive them.
 choice_reads_back : (c : Choice) → IsChoice c → (s r : List Token) → Reads (print.guard c.0 ++ (print.target c.1 ++ print.other c.2)) s r → ReadsBackAs choice_form choice (choice c) s r
 unfolding grammar.unguarded grammar.guarded
 choice_reads_back (None, t, None) formed s r h =

@@ -1,4 +1,4 @@
--- The terminal of a token by its number.
+-- The terminal of a token, found by its number.
 use Rattle.std.proofs.Common.{◌≡◌, ℕ, ◌<◌, ◌∙◌, ap, arith}
 use Rattle.std.specs.Prelude.{◌%◌}
 use Rattle.std.proofs.Math.Nat.{mod-eq_of_lt}
@@ -9,7 +9,7 @@ use Rattle.jdf_lex.specs.declared.terminal.Terminal.TheVariants.{Name, TypeWord,
 use Rattle.jdf_lex.specs.Terminals.{number_of, terminal_at, terminal_of}
 use Rattle.text_laws.proofs.Numbers.{terminal_of_number}
 
--- a number is below 64
+-- the number of each terminal is below 64
 below : (k : Terminal) → number_of k < 64
 below Name = omega arith
 below TypeWord = omega arith

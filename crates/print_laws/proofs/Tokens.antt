@@ -15,7 +15,7 @@ use Rattle.jdf_lex.specs.Tokens.IsLexedTo.{nothing_more, dropped_then, token_the
 use Rattle.print_laws.proofs.Forms.{Every}
 use Rattle.print_laws.proofs.Known.{IsKnownAs, IsKnown}
 
--- No comment, raw block or option line begins there.
+-- If the unit is a token of another kind, no comment, raw block or option line begins there.
 peel : (s t u v : Bool) (p : LexicalUnit) (k : TokenKind) → (Raw ≡ k → ⊥) → (OptionLine ≡ k → ⊥) → cond s LineComment (cond t BlockComment (cond u (TokenOf Raw) (cond v (TokenOf OptionLine) p))) ≡ TokenOf k → p ≡ TokenOf k
 peel true t u v p k raw option e = absurd (cc)
 peel false true u v p k raw option e = absurd (cc)

@@ -40,7 +40,7 @@ use Rattle.print_laws.proofs.WellFormedExpressions.{FactsOf, known_rest}
 use Rattle.print_laws.proofs.Holding as holding
 use Rattle.print_laws.proofs.Holding.{IfPresent, AtMostEvery}
 
--- The trees of this language are well-formed jobs.
+-- The trees that this language derives from known tokens without a fault are well-formed jobs.
 abbrev pub JobsOf : Language Jdf → Type 0
 JobsOf G = (s : List Token) (t : Jdf) (o : Fault) (r : List Token) → G s t o r → o ≡ None → Every IsKnown s → IsJob t
 
@@ -190,7 +190,7 @@ module _ (R : (n : Nonterminal) → Language (TreeOf n)) (B : (n : Nonterminal) 
   priority_well_formed =
       holding.mapped R B (λ x. x.tree) (prefixed_by terminal.Semicolon (outer Class)) (λ p. IsOuter p.tree) IsOuter (holding.after_word R B terminal.Semicolon (outer Class) (λ p. IsOuter p.tree) outer_well_formed) (λ a h. h)
 
-  -- Names with commas between them have at least as many tokens as this.
+  -- How many tokens names with commas between them have.
   name_long : (s : List Token) (w : Word) (o : Fault) (r : List Token) → Derives R (name Class) s w o r → length s ≡ 1 + length r
   name_long s w o r h = let e = ap (λ (l : List Token). length l) h.1.0.0 in omega (arith, e)
 
@@ -304,7 +304,7 @@ module _ (R : (n : Nonterminal) → Language (TreeOf n)) (B : (n : Nonterminal) 
       holding.mapped R B (λ x. x.0) (seq grammar.class (star any whole.skip)) (λ x. IsClass x.0 × Unit {0}) IsClass
       (holding.both R B grammar.class (star any whole.skip) IsClass (λ x. Unit {0}) class_well_formed (holding.free R B (star any whole.skip))) (λ x h. h.0)
 
-  -- From 1 to 64 classes.
+  -- There are 1 to 64 classes, each well formed.
   abbrev AreClasses : List ClassTree → Type 0
   AreClasses cs = (length cs ≤ 64) × (1 ≤ length cs) × Every IsClass cs
 
@@ -370,7 +370,7 @@ module _ (R : (n : Nonterminal) → Language (TreeOf n)) (B : (n : Nonterminal) 
 
 -- ---- names of any depth
 
--- The property of the names at a depth.
+-- What the derivations of nonterminals at a depth satisfy.
 record AreMade (R : (n : Nonterminal) → Language (TreeOf n)) : Type 0 where
   shortens : (n : Nonterminal) → Shortens (R n)
   exprs : FactsOf (R (an_expr Class))

@@ -29,7 +29,7 @@ use Rattle.jdf_tree.proofs.TreeLimits.{both_none, cut_none}
 use Rattle.print_laws.proofs.Ends.{IsNone, HasEnd, Shortens, derives_has_end}
 use Rattle.print_laws.proofs.Known.{IsKnown, name_known}
 
--- The tokens of the rest are known too.
+-- What holds for each token holds for each of the rest.
 every_rest : (P : Token → Type 0) (w r : List Token) → Every P (w ++ r) → Every P r
 every_rest P [] r h = h
 every_rest P (x ∷ w) r h = every_rest P w r h.1
@@ -51,7 +51,7 @@ at_least false n = omega arith
 passes : (q : Terminal → Bool) (s : List Token) (x : Token) (m : List Token) → IsOne q s x m → counted m ≤ counted s
 passes q s x m h = omega (arith, ap counted h.0, at_least (is_counted (terminal_of x)) (counted m))
 
--- An expression and its tokens: well formed, and its weight at most the tokens spent.
+-- An expression that is derived from tokens is well formed, and weighs at most the number of counted tokens spent.
 pub record Facts (s : List Token) (p : ExprWithSpot) (r : List Token) : Type 0 where
   pub formed : IsWellFormed p.tree
   pub spent : weight p.tree + counted r ≤ counted s

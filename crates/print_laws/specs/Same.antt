@@ -1,4 +1,5 @@
--- Trees that are the same but for positions: every spot, and the start and end of every token, is set to one value.
+-- Trees that are the same but for positions: each spot, and the start and end of each token, is replaced by one value.
+-- Carried by: law `reads_back`.
 use Rattle.std.specs.Prelude.{◌≡◌, map, option_map}
 use Rattle.grammar_core.specs.declared.token.Spot.{Spot}
 use Rattle.grammar_core.specs.declared.token.Token.{Token}
@@ -14,15 +15,15 @@ use Rattle.jdf_tree.specs.declared.tree.ClassTree.{ClassTree}
 use Rattle.jdf_tree.specs.declared.tree.Jdf.{Jdf}
 use Rattle.jdf_tree.specs.Expression.{Expression, Num, Name, Elem, Unary, Binary, Choose}
 
--- The one spot.
+-- The spot that replaces every spot.
 abbrev pub nowhere : Spot
 nowhere = record { line = 1; column = 1 }
 
--- a name at the one spot
+-- a name with its spot replaced
 abbrev pub word : Word → Word
 word w = record { text = w.text; spot = nowhere }
 
--- a token at the one spot, with its word and its terminal alone
+-- a token with its positions replaced; its text and its terminal stay
 abbrev pub token : Token → Token
 token x = record { terminal = x.terminal; text = x.text; start = 0; end = 0; spot = nowhere }
 

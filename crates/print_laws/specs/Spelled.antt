@@ -1,4 +1,5 @@
--- Names and numbers in the tree of a text.
+-- The names of classes, and the numbers in definitions, in the tree of a text.
+-- Carried by: law `trees_are_spelled`.
 use Rattle.std.specs.Prelude.{Bool, true, false, ◌&&◌, IsTrue}
 use Rattle.std.specs.List.{AllByRecursion, list_all}
 use Rattle.std.specs.Option.{option_map_or}
@@ -11,7 +12,7 @@ use Rattle.jdf_tree.specs.declared.tree.ClassTree.{ClassTree}
 use Rattle.jdf_tree.specs.declared.tree.DefTree.{DefTree}
 use Rattle.jdf_tree.specs.declared.tree.Jdf.{Jdf}
 
--- whether an expression outside of bodies has no element, and each number in it has 64 bits
+-- whether an expression has no element, and each number in it has 64 bits
 abbrev pub has_numbers : Expression → Bool
 has_numbers (Num z spot) = is_number z
 has_numbers (Name w) = true
@@ -20,13 +21,13 @@ has_numbers (Unary o a spot) = has_numbers a
 has_numbers (Binary o a b) = has_numbers a && has_numbers b
 has_numbers (Choose c a b) = has_numbers c && (has_numbers a && has_numbers b)
 
--- the same of a range, or of an expression in its place
+-- the same for a range, or for a single expression
 abbrev pub argument_has_numbers : ArgTree → Bool
 argument_has_numbers (One e) = has_numbers e
 argument_has_numbers (Span spot lo hi step) =
     has_numbers lo && (has_numbers hi && option_map_or has_numbers step true)
 
--- the same of the value of a definition
+-- the same for the value of a definition
 abbrev pub def_has_numbers : DefTree → Bool
 def_has_numbers d = argument_has_numbers d.value
 
@@ -35,6 +36,6 @@ pub record IsSpelledClass (c : ClassTree) : Type 0 where
   pub name : IsTrue (is_name c.name.text)
   pub numbers : IsTrue (list_all def_has_numbers c.defs)
 
--- the same of each class
+-- the same for each class
 abbrev pub IsSpelled : Jdf → Type 0
 IsSpelled jdf = AllByRecursion IsSpelledClass jdf.classes

@@ -1,4 +1,5 @@
-//! The canonical spelling of a JDF tree reads back as that tree, whose names are names and whose numbers have 64 bits.
+//! Laws of the canonical spelling that no program cites: it reads back as the tree that it spells. In the tree of a
+//! text, class names are spelled as names, and numbers in definitions have 64 bits.
 #![tactic(auto)]
 
 mod laws;

@@ -11,13 +11,13 @@ use Rattle.ptg_base.specs.declared.place.Place.{Place}
 use Rattle.ptg_base.specs.declared.edge.Edge.{Edge}
 use Rattle.ptg_base.specs.declared.edge.WriteBack.{WriteBack}
 
--- nothing follows the last answer
+-- a comparison followed by Equal is that comparison
 then_equal : (answer : Ordering) → answer ≡ ordering_then answer Equal
 then_equal Less = refl
 then_equal Equal = refl
 then_equal Greater = refl
 
--- two tests decide two facts
+-- if each test decides its fact, both tests together decide both facts
 both_decide : {P Q : Type 0} (s t : Bool) → IsTrue s ↔ P → IsTrue t ↔ Q → IsTrue (s && t) ↔ (P × Q)
 both_decide s t p q =
     (λ h. (p.0 (first_so s t h), q.0 (second_so s t h)), λ h. let left = p.1 h.0 in let right = q.1 h.1 in λ i. left i && right i)
@@ -25,7 +25,7 @@ both_decide s t p q =
 abbrev same_place : Place → Place → Bool
 same_place a b = nat_eq a.coll b.coll && (int_eq a.i b.i && int_eq a.j b.j)
 
--- the test of places holds of one place alone
+-- the test `same_place` holds if and only if the places are the same
 same_place-decides : (a b : Place) → IsTrue (same_place a b) ↔ (a ≡ b)
 same_place-decides a b = (λ h. one (fields.0 h), λ e. fields.1 (ap (λ (p : Place). p.coll) e, (ap (λ (p : Place). p.i) e, ap (λ (p : Place). p.j) e)))
   where
@@ -40,7 +40,7 @@ same_place-decides a b = (λ h. one (fields.0 h), λ e. fields.1 (ap (λ (p : Pl
 abbrev pub same_edge : Edge → Edge → Bool
 same_edge a b = same_task a.from b.from && (nat_eq a.out_flow b.out_flow && (same_task a.to b.to && nat_eq a.in_flow b.in_flow))
 
--- the test of edges holds of one edge alone
+-- the test `same_edge` holds if and only if the edges are the same
 pub same_edge-decides : (a b : Edge) → IsTrue (same_edge a b) ↔ (a ≡ b)
 same_edge-decides a b =
     (λ h. one (fields.0 h), λ e. fields.1 (ap (λ (x : Edge). x.from) e, (ap (λ (x : Edge). x.out_flow) e, (ap (λ (x : Edge). x.to) e, ap (λ (x : Edge). x.in_flow) e))))
@@ -63,7 +63,7 @@ edge_cmp-fields a b =
 abbrev pub same_write_back : WriteBack → WriteBack → Bool
 same_write_back a b = same_task a.from b.from && (nat_eq a.flow b.flow && same_place a.place b.place)
 
--- the test of write-backs holds of one write-back alone
+-- the test `same_write_back` holds if and only if the write-backs are the same
 pub same_write_back-decides : (a b : WriteBack) → IsTrue (same_write_back a b) ↔ (a ≡ b)
 same_write_back-decides a b =
     (λ h. one (fields.0 h), λ e. fields.1 (ap (λ (x : WriteBack). x.from) e, (ap (λ (x : WriteBack). x.flow) e, ap (λ (x : WriteBack). x.place) e)))

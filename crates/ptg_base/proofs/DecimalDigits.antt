@@ -1,4 +1,4 @@
--- The digits of a number, one after the other.
+-- The value of decimal digits that are read one after another.
 use Rattle.std.proofs.Common.{◌≡◌, ℕ, suc, ◌+◌, ◌-◌, ◌*◌, ◌/◌, ◌^◌, ◌<◌, ◌≤◌, Bool, true, false, List, [], ◌∷◌, length, drop, get_or, refl, sym, ap, ◌∙◌, ◌⊎◌, inl, inr, arith}
 use Rattle.std.specs.Prelude.{◌&&◌, nat_le}
 use Rattle.std.specs.List.{list_all}
@@ -8,12 +8,12 @@ use Rattle.std.proofs.lemmas.List.{drop_all}
 use Rattle.std.proofs.lemmas.Bool.Decides.{nat_tests}
 use Rattle.ptg_base.specs.Decimal.{is_digit, decimal, is_decimal}
 
--- the number that these digits continue
+-- the number that n becomes if these digits are appended to its own
 abbrev pub continued : ℕ → List ℕ → ℕ
 continued n [] = n
 continued n (b ∷ bs) = continued (10 * n + (b - 48)) bs
 
--- each digit before them counts ten times what the next one does
+-- appending digits shifts n by their number and adds theirs
 continued_is : (n : ℕ) (bs : List ℕ) → continued n bs ≡ n * 10 ^ length bs + decimal bs
 continued_is n [] = omega (arith, mul-one n)
 continued_is n (b ∷ bs) = continued_is (10 * n + (b - 48)) bs ∙ step n (b - 48) (length bs) (decimal bs)
@@ -44,11 +44,11 @@ left_false false b e = refl
 no_digit : (b : ℕ) → (b < 48) ⊎ (57 < b) → is_digit b ≡ false
 no_digit b h = elim h [ inl l ↦ grind (arith, nat_tests) | inr g ↦ grind (arith, nat_tests) ]
 
--- whether there are digits alone, and their number is at most the first one
+-- whether the text has digits alone, and they spell a number of at most `most`
 abbrev pub fits : ℕ → List ℕ → Bool
 fits most text = list_all is_digit text && nat_le (decimal text) most
 
--- a text that is not empty is a decimal number where it fits
+-- a text that is not empty is a decimal number if and only if it fits
 fits_is : (most : ℕ) (text : List ℕ) → 0 < length text → is_decimal most text ≡ fits most text
 unfolding is_decimal
 fits_is most [] h = absurd (omega (arith, h))

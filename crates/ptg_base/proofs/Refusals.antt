@@ -1,4 +1,4 @@
--- What a refusal makes of what follows it.
+-- If the first step refuses, the whole refuses in the same way.
 use Rattle.std.proofs.Common.{Result, refl}
 use Rattle.ptg_base.specs.declared.refusal.Refusal.{Refusal}
 use Rattle.ptg_base.specs.declared.refusal.Refusal.TheVariants.{Fault, OutOfMemory}

@@ -1,14 +1,17 @@
--- What a table of dependences has of a task. Source: DAGuE (Parallel Computing, 2012), where an entry counts the
--- dependences that have come, and a task keeps their data until it runs; one tile a flow, in flow order, is this
--- project's own choice.
+-- Entries of the dependency table, for shards and the table of a state alike: what it has of a task; tiles with the
+-- numbers of their flows. Source: DAGuE (Parallel Computing, 2012), where an entry counts the dependences that have
+-- come, and a task keeps their data until it runs. Here the tiles are in flow order, one a flow.
+-- Carried by: `dep_shard::Shard::entry`, `dep_shard::Entries::get`; laws `shard_laws::an_edge_finds_its_target`,
+-- `claim_laws::a_claim_takes_its_own_entry`.
+-- Tested by: `ptg_measure`.
 use Rattle.std.specs.Prelude.{ℕ, ℤ, List}
 
--- a tile, after the number of the flow that it comes to
+-- the number of a flow, with the tile that came to it
 abbrev pub FlowTile : Type 0
 FlowTile = ℕ × List ℤ
 
--- An entry, which an unclaimed task may have: how many edges the task waits for in all, how many have come, its
--- priority, and the tiles that have come, in order of flow number.
+-- An entry, which an unclaimed task may have: how many edges go into the task, how many of them have come, its
+-- priority, and the tiles that have come. The tiles are in order of flow number.
 pub record Entry : Type 0 where
   pub goal : ℕ
   pub arrived : ℕ

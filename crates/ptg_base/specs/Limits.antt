@@ -1,4 +1,6 @@
--- The limits that several crates speak of. Source: this project's own choice.
+-- The limits that several crates speak of.
+-- Carried by: the definitions and contracts that name them.
+-- Tested by: `check_limits.txt`, `data_limits.txt`, `body_limits.txt`, `too_many.txt`.
 use Rattle.std.specs.Prelude.{ℕ, ◌≤◌}
 
 -- how many bytes the text of a JDF, of data or of a trace may have: 16 MiB
@@ -33,7 +35,7 @@ most_dependences = 16
 abbrev pub most_variables : ℕ
 most_variables = 256
 
--- how many types of tiles there may be, DEFAULT among them
+-- how many types of tiles there may be, including DEFAULT
 abbrev pub most_types : ℕ
 most_types = 16
 
@@ -57,11 +59,11 @@ most_elements = 16777216
 abbrev pub most_tasks : ℕ
 most_tasks = 1000000
 
--- how many lists of the first locals of tasks the walk may meet
+-- how many lists of the first locals of tasks a walk over the tasks may meet
 abbrev pub most_prefixes : ℕ
 most_prefixes = 16000000
 
--- how many edges may go into tasks, and how many edges out of tasks and write-backs there may be
+-- how many in edges the tasks of a job may have in all, and how many out edges and write-backs together
 abbrev pub most_edges : ℕ
 most_edges = 4000000
 
@@ -97,11 +99,11 @@ most_ranks = 64
 abbrev pub IsRankCount : ℕ → Type 0
 IsRankCount n = (1 ≤ n) × (n ≤ most_ranks)
 
--- how many workers a run has where it is not asked for others
+-- how many workers a run has by default
 abbrev pub usual_workers : ℕ
 usual_workers = 4
 
--- how many shards the table of a run has where it is not asked for others
+-- how many shards the table of a run has by default
 abbrev pub usual_shards : ℕ
 usual_shards = 16
 

@@ -1,4 +1,4 @@
--- Membership, no repeats, and the like, on lists of tasks, edges, places and names. These are the usual words of lists.
+-- Membership and repeats in lists.
 use Rattle.std.specs.Prelude.{◌≡◌, ◌⊎◌, List, [], ◌∷◌, Bool, true, not, ◌&&◌}
 use Rattle.std.specs.List.{list_any}
 
@@ -12,7 +12,7 @@ abbrev pub HasNoRepeats : {A : Type 0} → List A → Type 0
 HasNoRepeats [] = Unit {0}
 HasNoRepeats (x ∷ xs) = (IsIn x xs → ⊥) × HasNoRepeats xs
 
--- whether no element of the list is the same as one after it, by this test
+-- whether no element of the list is the same as a later one, according to this test
 abbrev pub are_distinct : {A : Type 0} → (A → A → Bool) → List A → Bool
 are_distinct same [] = true
 are_distinct same (x ∷ xs) = not (list_any (same x) xs) && are_distinct same xs

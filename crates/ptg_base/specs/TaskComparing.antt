@@ -1,4 +1,6 @@
 -- How tasks are compared and hashed: by their class and their parameters, and by nothing else.
+-- Carried by: `TaskId::cmp`; laws `tasks_compare_in_task_order`, `items_compare_field_by_field`.
+-- Tested by: `ptg_base`.
 use Rattle.std.specs.Prelude.{◌≡◌, ℕ, Bool, nat_eq, IsTrue, ◌↔◌, List, ◌++◌}
 use Rattle.std.specs.Cmp.Lexicographic.{pointwise, slice_cmp}
 use Rattle.std.specs.Hash.{u32 as hash_of_u32, i64 as hash_of_i64, slice as hash_of_slice}
@@ -8,11 +10,11 @@ use Rattle.std.specs.Ordering.{nat_cmp, int_cmp, int_eq, on, then_cmp, eq_of_bot
 use Rattle.ptg_base.specs.Task.{Task}
 use Rattle.ptg_base.specs.TaskOrder.{task_before}
 
--- two tasks are the same: they have one class and equal parameters
+-- whether two tasks are the same: of one class, with equal parameters
 abbrev pub same_task : Task → Task → Bool
 same_task = eq_of_both (on (λ (t : Task). t.class) nat_eq) (on (λ (t : Task). t.params) (pointwise int_eq))
 
--- the class decides, and else the first parameter that differs, as signed numbers; a list comes after its beginnings
+-- tasks compare by class, then by the first parameter that differs, as signed numbers; a list comes after its fronts
 abbrev pub task_cmp : Task → Task → Ordering
 task_cmp = then_cmp (on (λ (t : Task). t.class) nat_cmp) (on (λ (t : Task). t.params) (slice_cmp int_cmp))
 
@@ -20,8 +22,8 @@ task_cmp = then_cmp (on (λ (t : Task). t.class) nat_cmp) (on (λ (t : Task). t.
 abbrev pub task_hash : Task → List (List ℕ)
 task_hash t = hash_of_u32 t.class ++ hash_of_slice hash_of_i64 t.params
 
--- Comparing two tasks answers Less exactly where the first is before the second in task order, Greater exactly
--- where the second is before the first, and Equal exactly where they are the same task.
+-- The comparison of two tasks is task order. It is Less exactly when the first is before the second, Greater exactly
+-- when the second is before the first, and Equal exactly when they are the same.
 pub record ComparesInTaskOrder (a b : Task) (answer : Ordering) : Type 0 where
   pub before : (answer ≡ Less) ↔ IsTrue (task_before a b)
   pub same : (answer ≡ Equal) ↔ (a ≡ b)

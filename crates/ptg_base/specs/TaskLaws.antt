@@ -17,14 +17,14 @@ task_cmp-total =
     then_total (on_total (λ (t : Task). t.class) nat_cmp_total)
     (on_total (λ (t : Task). t.params) (lists_total int_cmp_total))
 
--- tasks are the same where the comparison answers Equal
+-- tasks are the same if and only if they compare as Equal
 pub same_task-ties : (a b : Task) → same_task a b ≡ is_eq (task_cmp a b)
 same_task-ties a b =
     both_tied (nat_eq a.class b.class) (pointwise int_eq a.params b.params)
     (nat_cmp a.class b.class) (slice_cmp int_cmp a.params b.params)
     (unsigned_ties a.class b.class) (lists_ties int_cmp (λ x y. refl) a.params b.params)
 
--- the test of sameness holds of one task alone
+-- the test `same_task` holds if and only if the tasks are the same
 pub same_task-decides : (a b : Task) → IsTrue (same_task a b) ↔ (a ≡ b)
 same_task-decides a b = (one, itself)
   where
@@ -46,7 +46,7 @@ same_task-decides a b = (one, itself)
         (signed_items a.params b.params).1 (ap (λ (t : Task). t.params) e) in
         λ i. class_is i && params_are i
 
--- a comparison of first numbers decides, else what follows it does; signed numbers
+-- two signed numbers decide, and if they are equal, what follows does
 signed_then : (less more rest : Bool) (then : Ordering) → is_lt then ≡ rest
     → is_lt (ordering_then (cond less Less (cond more Greater Equal)) then)
     ≡ (less || (is_eq (cond less Less (cond more Greater Equal)) && rest))
@@ -54,8 +54,7 @@ signed_then true more rest then e = refl
 signed_then false true rest then e = refl
 signed_then false false rest then e = e
 
--- a comparison of first numbers decides, else what follows it does; unsigned numbers, whose comparison tests for
--- equality second
+-- the same for unsigned numbers, whose comparison tests for equality second
 unsigned_then : (less same rest : Bool) (then : Ordering) → is_lt then ≡ rest
     → is_lt (ordering_then (cond less Less (cond same Equal Greater)) then) ≡ (less || (same && rest))
 unsigned_then true same rest then e = refl
@@ -69,13 +68,13 @@ params_before-cmp (x ∷ xs) [] = refl
 params_before-cmp (x ∷ xs) (y ∷ ys) =
     signed_then (int_lt x y) (int_lt y x) (params_before xs ys) (slice_cmp int_cmp xs ys) (params_before-cmp xs ys)
 
--- a task is before another in task order where the comparison answers Less
+-- a task is before another in task order if and only if they compare as Less
 pub task_before-cmp : (a b : Task) → is_lt (task_cmp a b) ≡ task_before a b
 task_before-cmp a b =
     unsigned_then (nat_lt a.class b.class) (a.class == b.class) (params_before a.params b.params)
     (slice_cmp int_cmp a.params b.params) (params_before-cmp a.params b.params)
 
--- a comparison answers Less exactly where its test for Less holds
+-- a comparison is Less if and only if its test for Less holds
 less_is : (r : Ordering) (b : Bool) → is_lt r ≡ b → (r ≡ Less) ↔ IsTrue b
 less_is r b e = (λ h. sym e ∙ ap is_lt h, λ h. by r (e ∙ h))
   where
@@ -84,7 +83,7 @@ less_is r b e = (λ h. sym e ∙ ap is_lt h, λ h. by r (e ∙ h))
     by Equal h = absurd (true≢false (sym h))
     by Greater h = absurd (true≢false (sym h))
 
--- a comparison answers Greater exactly where the one with its sides exchanged answers Less
+-- a comparison is Greater if and only if the one with its sides exchanged is Less
 greater_is : (r s : Ordering) → r ≡ ordering_reverse s → (r ≡ Greater) ↔ (s ≡ Less)
 greater_is r s e = (λ h. by s (sym e ∙ h), λ h. e ∙ ap ordering_reverse h)
   where

@@ -3,10 +3,8 @@
 ghost use Rattle.std.specs.Prelude.{◌≡◌, true, false, MatchOption};
 ghost use Rattle.ptg_base.specs.Decimal.{decimal, is_decimal};
 
-/// The number of these decimal digits, at most `most`. None where there is no byte, a byte is no digit, or the number
-/// is larger.
-///
-/// Leading zeros change nothing.
+/// The number that these decimal digits spell. None if the text is empty, has a byte that is no digit, or spells a
+/// number greater than `most`. Leading zeros are allowed.
 pub fn decimal(text: &[u8], most: u64) -> Option<u64>
     ensures { MatchOption result (is_decimal most text.now ≡ false) (λ n.
         (is_decimal most text.now ≡ true) × (n ≡ decimal text.now)) }

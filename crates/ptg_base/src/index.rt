@@ -3,7 +3,7 @@
 ghost use Rattle.std.specs.Prelude.{◌≡◌};
 ghost use Rattle.ptg_base.specs.Index.{index_in};
 
-/// The number as an index, where it is one of this many elements.
+/// The number as an index into `len` elements, if it is one.
 pub fn index_in(len: u32, at: i64) -> Option<u32>
     ensures { result ≡ index_in len at }
 {

@@ -14,7 +14,8 @@ pub fn tasks_compare_in_task_order()
     ensures task_order { (a b : Task) → ComparesInTaskOrder a b (task_cmp a b) }
 {}
 
-/// A law: equal places, edges, write-backs and items are the same, and the first field that differs orders them.
+/// A law: places, edges, write-backs and items are equal if and only if they are the same, and the first field that
+/// differs orders them.
 pub fn items_compare_field_by_field()
     ensures places { IsCompared ⟦<Place as PartialEq>⟧.eq ⟦<Place as Ord>⟧.cmp place_cmp }
     ensures edges { IsCompared ⟦<Edge as PartialEq>⟧.eq ⟦<Edge as Ord>⟧.cmp edge_cmp }

@@ -1,4 +1,5 @@
-//! Texts, sequences, tasks, edges, places and tiles with their order; the one refusal; names, digits and limits.
+//! The values that crates share: texts, sequences, tasks, edges, places and tiles, with their order; refusals; decimal
+//! digits and indices; the spelling of names; limits. Contracts see the types as plain lists and numbers.
 #![tactic(auto)]
 
 mod digits;
@@ -39,7 +40,7 @@ mod tests {
     use std::hash::{DefaultHasher, Hash, Hasher};
     use std::test::Fail;
 
-    /// The hash of a value, by the hasher that maps begin with.
+    /// The hash of a value, by std's default hasher.
     fn hash_of<T: Hash>(value: &T) -> u64 {
         let mut hasher = DefaultHasher::new();
         value.hash(&mut hasher);
@@ -83,7 +84,8 @@ mod tests {
         Ok(())
     }
 
-    /// Whether two tasks compare like this, both ways, and are equal and of one hash only then.
+    /// Whether `a` compares to `b` like this, and `b` to `a` the other way; they are equal, and have one hash, exactly
+    /// when the comparison says so.
     fn compare_like(a: &TaskId, b: &TaskId, answer: Ordering) -> bool {
         a.cmp(b) == answer
             && b.cmp(a) == answer.reverse()

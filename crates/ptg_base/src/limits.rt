@@ -1,12 +1,12 @@
 //! The limits that several crates speak of.
 
-/// How many bytes a text may have: that of a JDF, of data or of a trace.
+/// How many bytes the text of a JDF, of data or of a trace may have.
 pub const MOST_BYTES: usize = 16_777_216;
 
 /// How many tasks a job may have.
 pub const MOST_TASKS: u64 = 1_000_000;
 
-/// How many edges may go into tasks, and how many edges out of tasks and write-backs there may be.
+/// How many in edges the tasks of a job may have in all, and how many out edges and write-backs together.
 pub const MOST_EDGES: u64 = 4_000_000;
 
 /// How many parameters a class may have.
@@ -30,10 +30,10 @@ pub const MOST_SHARDS: u32 = 256;
 /// How many ranks a world may have.
 pub const MOST_RANKS: u32 = 64;
 
-/// How many workers a run has where it is not asked for others.
+/// How many workers a run has by default.
 pub const USUAL_WORKERS: u32 = 4;
 
-/// How many shards the table of a run has where it is not asked for others.
+/// How many shards the table of a run has by default.
 pub const USUAL_SHARDS: u32 = 16;
 
 /// How many rows of tiles a made job may have.

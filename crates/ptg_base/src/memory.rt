@@ -1,8 +1,8 @@
-//! Want of memory.
+//! Out of memory.
 
 use std::alloc::{AllocError, AllocFailed};
 
-/// Want of memory: the one answer that every call which takes memory may give.
+/// Out of memory: any call that takes memory may return it.
 #[derive(Clone, Copy, Debug, PartialEq, Eq)]
 pub struct OutOfMemory;
 

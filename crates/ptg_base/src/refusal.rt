@@ -6,12 +6,12 @@ ghost use Rattle.ptg_base.specs.declared.refusal.Refusal.TheVariants.{OutOfMemor
 use crate::memory;
 use std::alloc::{AllocError, AllocFailed};
 
-/// Why a call was refused: a fault in what it was given, or want of memory.
+/// Why a call was refused: a fault of its input, or out of memory.
 #[derive(Clone, Copy, Debug, PartialEq, Eq)]
 pub enum Refusal<F> {
     /// The input has this fault.
     Fault(F),
-    /// There was no memory.
+    /// Memory ran out.
     OutOfMemory,
 }
 

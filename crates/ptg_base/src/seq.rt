@@ -65,7 +65,7 @@ impl<T> Seq<T> {
         self.items.len()
     }
 
-    /// Whether there is no value.
+    /// Whether the sequence has no values.
     pub fn is_empty(&self) -> bool
         ensures { IsTrue result ↔ (self.now ≡ []) }
     {
@@ -83,7 +83,7 @@ impl<T> Seq<T> {
 }
 
 impl<T: Drop> Seq<T> {
-    /// Adds a value at the end. An `Err` changes nothing.
+    /// Adds a value at the end. After an `Err` the sequence is as it was.
     pub fn push(&mut self, value: T) -> Result<(), OutOfMemory>
         ensures ok { OnOk result (self.new ≡ self.old ++ value ∷ []) }
         ensures err { OnErr result (self.new ≡ self.old) }
@@ -102,7 +102,7 @@ impl<T: Drop> Seq<T> {
 }
 
 impl<T: Copy> Seq<T> {
-    /// Adds these values at the end, in order. An `Err` changes nothing.
+    /// Adds these values at the end, in order. After an `Err` the sequence is as it was.
     pub fn append(&mut self, values: &[T]) -> Result<(), OutOfMemory>
         ensures ok { OnOk result (self.new ≡ self.old ++ values.now) }
         ensures err { OnErr result (self.new ≡ self.old) }

@@ -15,7 +15,7 @@ use std::cmp::Ordering;
 use std::hash::{Hash, Hasher};
 use std::marker::Model;
 
-/// A task: its class and the values of its parameters, at most eight. It takes no memory.
+/// A task: the number of its class and the values of its parameters, at most eight. It takes no memory.
 ///
 /// Tasks are in task order: by class, then by the parameters as signed numbers from the first on.
 #[derive(Debug, Drop)]

@@ -14,17 +14,17 @@ use std::cmp::Ordering;
 use std::hash::{Hash, Hasher};
 use std::marker::Model;
 
-// The most bytes of a text that is held in place. With its count and the tag it takes as much room as a vector does.
+// The most bytes of a text that is held in place. Together with the count and the tag they are as large as a vector.
 const MOST_SHORT: usize = 22;
 
-// The bytes of a text: in place where they are few, so that a short name takes no memory of its own.
+// The bytes of a text. A short one is held in place, so that a short name takes no memory of its own.
 #[derive(Debug, Drop)]
 enum Bytes {
     Short(u8, [u8; MOST_SHORT]),
     Long(Box<Vec<u8>>),
 }
 
-/// An owned text. Contracts see it as the list of its bytes; texts are ordered by their bytes.
+/// An owned text of any bytes. Contracts see it as the list of its bytes. Texts are ordered by their bytes.
 #[derive(Debug)]
 pub struct Text {
     bytes: Bytes,
@@ -48,7 +48,7 @@ impl Model for Text {
 }
 
 impl Text {
-    /// A copy of these bytes.
+    /// The text of these bytes, copied.
     pub fn of(alloc: Global, bytes: &[u8]) -> Result<Text, OutOfMemory>
         ensures { IfOk result (λ text. text ≡ bytes.now) }
     {

@@ -6,16 +6,17 @@ use crate::memory::OutOfMemory;
 use std::alloc::Global;
 use std::marker::Model;
 
-/// The most numbers that a tile holds in place: with more it takes memory.
+/// The most elements that a tile holds in place. A longer tile takes memory.
 pub const MOST_IN_PLACE: usize = 4;
 
-/// A tile: a list of fewer than 2 ^ 32 numbers whose length never changes. A short one takes no memory.
+/// A tile: fewer than 2^32 elements, which are signed 64-bit numbers. Its length never changes. With at most
+/// `MOST_IN_PLACE` elements it takes no memory.
 #[derive(Debug)]
 pub struct Tile {
     cells: Cells,
 }
 
-// Where the numbers of a tile are: in place as long as they fit there.
+// The elements of a tile: in place if they fit there, else in memory of their own.
 #[derive(Debug, Drop)]
 enum Cells {
     Small {
@@ -75,7 +76,7 @@ impl Tile {
         Ok(Tile { cells })
     }
 
-    /// Copies the numbers of a tile of the same length. It takes no memory.
+    /// Copies the elements of a tile of the same length. It takes no memory.
     pub fn copy_from(&mut self, from: &Tile)
         requires { length from.now ≡ length self.old }
         ensures { self.new ≡ from.now }

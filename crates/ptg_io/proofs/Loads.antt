@@ -48,7 +48,7 @@ module _ (name : List ℕ) (start : List Read) where
         nonempty = all_more (λ piece. 0 < length piece) given.pieces more given.nonempty some;
       }
 
-  -- the end of the file
+  -- a load that met the end of the file
   pub loaded_to_the_end : (bytes all last : List ℕ) (middle new : List Read) → HaveGiven name bytes start middle → length bytes ≤ 16777216 → AddsRead name (length bytes) last middle new → all ≡ bytes ++ last → all ≡ bytes
       → IsLoaded (record { name = name; text = all }) start new
   loaded_to_the_end bytes all last middle new given within adds is same =
@@ -59,24 +59,24 @@ module _ (name : List ℕ) (start : List Read) where
       nothing [] e = refl
       nothing (x ∷ xs) e = absurd (omega arith)
 
-  -- more than fits
+  -- a load that went past 16 MiB
   pub loaded_past : (bytes last : List ℕ) (middle new : List Read) → HaveGiven name bytes start middle → length bytes ≤ 16777216 → AddsRead name (length bytes) last middle new → 16777216 < length bytes + length last
       → (text : List ℕ) × (16777216 < length text) × IsLoaded (record { name = name; text = text }) start new
   loaded_past bytes last middle new given within adds past =
       let long : 16777216 < length (bytes ++ last) = omega (arith, length-append bytes last, past) in
       (bytes ++ last, long, record { earlier = bytes; last = last; before = middle; reads = given; within = within; ended = adds; text = refl; whole = inr long })
 
-  -- reads that gave no more than fits
+  -- a load that has begun, with its last read if there is one
   pub begun_or_more : (bytes : List ℕ) (middle new : List Read) → HaveGiven name bytes start middle → length bytes ≤ 16777216 → AddsAtMostOne name bytes middle new → HaveBegun name start new
   begun_or_more bytes middle new given within (inl is) = record { bytes = bytes; reads = subst (λ (rs : List Read). HaveGiven name bytes start rs) (sym is) given; within = within }
   begun_or_more bytes middle new given within (inr (more, some, adds, fits)) =
       record { bytes = bytes ++ more; reads = one_more_given bytes more (bytes ++ more) middle new given adds refl some; within = omega (arith, length-append bytes more, fits) }
 
--- what was added to a list that is longer now
+-- what was appended is not empty if the list is longer now
 pub added_some : (bytes all more : List ℕ) → all ≡ bytes ++ more → length bytes < length all → 0 < length more
 added_some bytes all more is longer = omega (arith, ap length is, length-append bytes more, longer)
 
--- what holds whatever the error is
+-- what holds anyway holds on each error
 pub holds_on_err : {T E : Type 0} (result : Result T E) (P : Type 0) → P → OnErr result P
 holds_on_err (Ok value) P h = tt
 holds_on_err (Err error) P h = h

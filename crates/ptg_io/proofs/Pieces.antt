@@ -1,4 +1,4 @@
--- Lists that grow piece by piece towards a whole one.
+-- Lists that grow piece by piece until they are whole.
 use Rattle.std.proofs.Common.{◌≡◌, ℕ, ◌+◌, ◌≤◌, List, ◌++◌, length, take, drop, sym, ap, subst, ◌∙◌, arith, append_assoc, length-append}
 use Rattle.std.proofs.lemmas.List.{take_all, take-take, length-take}
 use Rattle.std.proofs.Math.Seq.{take-add}

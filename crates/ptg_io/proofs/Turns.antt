@@ -4,11 +4,11 @@ use Rattle.std.proofs.Common.{Result, Ok, Err}
 use Rattle.ptg_io.specs.Load.{FailsWithin, HasRead, StopsPast}
 use Rattle.std.proofs.lemmas.List.Sums.{sum_by_from}
 
--- no read gave no bytes
+-- before any read, 0 bytes were read
 pub none_read : {Files : Type 0} (gives : Files → List ℕ → ℕ → ℕ → Files → Type 0) (name : List ℕ) (start : Files) (size : ℕ) → size ≡ 0 → HasRead gives name start size start
 none_read gives name start size none = record { counts = []; reads = refl; together = sym none }
 
--- a read from where the others ended
+-- one more read, from where the others ended
 pub one_more_read : {Files : Type 0} (gives : Files → List ℕ → ℕ → ℕ → Files → Type 0) (name : List ℕ) (start middle end : Files) (size n all : ℕ) → HasRead gives name start size middle → gives middle name size n end → all ≡ size + n → HasRead gives name start all end
 one_more_read gives name start middle end size n all before read is = record {
   counts = n ∷ before.counts;

@@ -1,7 +1,9 @@
--- Counts of failed reads and writes. Source: this project's own choice.
+-- Counts of failed reads and writes.
+-- Carried by: `load`, `write_all`.
+-- Tested by: `unread.txt`, `unwritten.txt`.
 use Rattle.std.specs.Prelude.{◌≡◌, ◌⊎◌, ℕ, ◌+◌, ◌<◌, min}
 
--- the last value of a count of faults, from which it does not rise: 2^64 - 1
+-- the last value of a count of faults, at which it stays: 2^64 - 1
 abbrev pub last_count : ℕ
 last_count = 18446744073709551615
 

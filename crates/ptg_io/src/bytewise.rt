@@ -1,4 +1,4 @@
-//! Files that give one byte a read, and a sink that takes one byte a write.
+//! Files in memory that are read byte by byte, and a sink in memory that is written byte by byte.
 
 ghost use Rattle.std.specs.Prelude.{Some};
 ghost use Rattle.ptg_io.specs.Memory.{failed_reads};
@@ -8,7 +8,7 @@ use crate::memory_files::MemFiles;
 use crate::memory_sink::MemSink;
 use crate::sink::Sink;
 
-/// Files in memory that give one byte a read.
+/// Files in memory. Each read gives at most one byte.
 #[derive(Drop)]
 pub struct ByteFiles {
     pub files: MemFiles,
@@ -26,7 +26,7 @@ impl Files for ByteFiles {
     }
 }
 
-/// A sink in memory that takes one byte a write.
+/// A sink in memory. Each write takes one byte.
 #[derive(Drop)]
 pub struct ByteSink {
     pub sink: MemSink,

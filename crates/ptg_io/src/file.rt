@@ -5,7 +5,7 @@ ghost use Rattle.std.specs.Prelude.{◌≡◌};
 use ptg_base::{Seq, Text};
 use std::marker::Model;
 
-/// A file in memory, seen as its name and its bytes.
+/// A file in memory. Contracts see it as its name and its bytes.
 #[derive(Drop)]
 pub struct File {
     label: Text,

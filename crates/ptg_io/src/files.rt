@@ -11,22 +11,23 @@ pub struct Failed;
 
 /// Files that can be read by name.
 pub trait Files {
-    /// The files as names and bytes, where that is known.
+    /// The files as names and bytes, if these are known.
     ghost contents: { Self → Option NamedFiles };
 
-    /// The reads so far that did not fail, in order: what each gave.
+    /// The reads so far that did not fail, in order, each with the bytes that it gave.
     ghost reads: { Self → List Read };
 
     /// How many reads of a name failed so far.
     ghost faults: { Self → List ℕ → ℕ };
 
-    /// How the files are after a read of a name from an offset gave this many bytes, as far as that is known.
+    /// What is known of the files after a read of a name, from an offset, that gave this many bytes.
     ghost read_gives: { Self → List ℕ → ℕ → ℕ → Self → Type 0 } = { λ _ _ _ _ _. ⊤ };
 
-    /// How the files are after a read of a name from an offset failed, as far as that is known.
+    /// What is known of the files after a read of a name, from an offset, that failed.
     ghost read_fails: { Self → List ℕ → ℕ → Self → Type 0 } = { λ _ _ _ _. ⊤ };
 
-    /// Copies the next bytes of a file from an offset on into a buffer, any number of them. No bytes means the end.
+    /// Copies bytes of a file, from an offset on, to the front of a buffer, and returns how many. These may be fewer
+    /// than fit; 0 means the end of the file.
     fn read(&mut self, name: &str, from: u64, into: &mut [u8]) -> Result<usize, Failed>
         requires { 0 < length into.old }
         ensures stays { contents self.new ≡ contents self.old }

@@ -1,4 +1,4 @@
-//! What reads gave and what writes took, as only proofs see it.
+//! What reads gave and what writes took, for proofs alone.
 
 ghost use Rattle.std.specs.Prelude.{◌≡◌, ℕ, List, [], ◌∷◌, ◌++◌};
 ghost use Rattle.std.specs.Borrow.{ftrue};
@@ -12,7 +12,7 @@ pub struct Offset {
     pub value: u64,
 }
 
-/// The reads that did not fail, in order. It takes no memory: only proofs see it.
+/// The reads that did not fail, in order. Only proofs see them, and they take no memory.
 #[derive(Drop)]
 pub struct ReadHistory {
     pub ghost reads: { List Read },
@@ -30,7 +30,7 @@ impl ReadHistory {
         ReadHistory {}
     }
 
-    /// Adds a read of the file of this name from an offset, which gave this piece.
+    /// Adds a read of the file with this name, from an offset, that gave this piece.
     pub fn note(&mut self, _name: &[u8], _from: &Offset, _piece: &[u8])
         ensures { self.new.reads
             ≡ self.old.reads
@@ -38,7 +38,7 @@ impl ReadHistory {
     {}
 }
 
-/// The bytes that writes took, in order. It takes no memory: only proofs see it.
+/// The bytes that writes took, in order. Only proofs see them, and they take no memory.
 #[derive(Drop)]
 pub struct WriteHistory {
     pub ghost bytes: { List ℕ },

@@ -1,4 +1,4 @@
-//! Whole files in, bytes out, with the faults of the outside counted.
+//! Reads whole files and writes bytes, and counts failed reads and writes; files and a sink in memory.
 #![tactic(auto)]
 
 mod bytewise;

@@ -12,7 +12,7 @@ use crate::files::{self, Files};
 use ptg_base::{MOST_BYTES, Seq};
 use std::alloc::{AllocError, AllocFailed, Global};
 
-// How many bytes are asked for at once.
+// How many bytes one read asks for.
 const READ_SIZE: usize = 65536;
 
 /// Why a file was not loaded.
@@ -49,8 +49,8 @@ impl<T: Drop> From<AllocFailed<T>> for LoadFault {
     }
 }
 
-/// The bytes of a file, read in pieces up to its end. A file of more than 16 MiB is too long, and its reading stops
-/// there.
+/// Reads a file to its end, piece by piece. A file of more than 16 MiB is too long; no read follows the one that went
+/// past this limit.
 pub fn load<F: Files>(alloc: Global, files: &mut F, name: &str) -> Result<Seq<u8>, LoadFault>
     ensures stays { F.contents files.new ≡ F.contents files.old }
     ensures grows { (other : List ℕ) → F.faults files.old other ≤ F.faults files.new other }
@@ -81,14 +81,14 @@ pub fn load<F: Files>(alloc: Global, files: &mut F, name: &str) -> Result<Seq<u8
     Ok(Seq::of(bytes))
 }
 
-// This many zeros.
+// A vector of this many zeros.
 fn zeros(alloc: Global, count: usize) -> Result<Vec<u8>, AllocError>
     ensures { IfOk result (λ zeros. length zeros.items ≡ count) }
 {
     vec![in alloc; 0u8; count]
 }
 
-// Reads a file to its end, piece by piece, through this buffer.
+// Reads a file to its end, as `load` does, piece by piece through this buffer.
 #[tactic(auto, using(crate::proofs::Turns::none_read, crate::proofs::Turns::stops, crate::proofs::Turns::fails_within))]
 fn read_all<F: Files>(
     alloc: Global,
@@ -129,7 +129,7 @@ fn read_all<F: Files>(
     }
 }
 
-// Reads the next piece of a file and adds it. Returns whether there may be more.
+// Reads the next piece of a file and appends it to the bytes read so far. Returns false at the end of the file.
 fn read_piece<F: Files>(
     files: &mut F,
     name: &str,

@@ -12,7 +12,8 @@ use ptg_base::{OutOfMemory, Seq};
 use std::alloc::Global;
 use std::marker::Model;
 
-/// Files in memory. They give as much as fits into the buffer; the reads with chosen numbers fail.
+/// Files in memory. A read gives as many bytes as fit into the buffer. Reads with chosen numbers fail, and so do all
+/// reads of missing names.
 #[derive(Drop)]
 pub struct MemFiles {
     all: Seq<File>,
@@ -88,13 +89,13 @@ impl Files for MemFiles {
         ensures grows { (other : List ℕ) → failed_reads self.old other ≤ failed_reads self.new other }
         ensures failed { OnErr result (Rose (failed_reads self.old name.now) (failed_reads self.new name.now)) }
 
-        // The chosen reads fail, and those of a name that is missing.
+        // The chosen reads fail, and those of a missing name.
         ensures refused { IsErr result ↔
             (Contains self.old.fails self.new.reads ⊎ (index_of self.old.files name.now ≡ None)) }
         ensures counted { self.new.reads ≡ one_more self.old.reads }
         ensures fails { self.new.fails ≡ self.old.fails }
 
-        // It takes as much as fits, and counts its failure alone.
+        // A read copies as much as fits. A failed read counts its own fault alone, and another read counts none.
         ensures whole { (bytes : List ℕ) → file_of self.old.files name.now ≡ Some bytes →
             IfOk result (λ n. n ≡ min (length into.new) (length bytes - from)) }
         ensures faults_counted { OnErr result (CountsFault self.old self.new name.now) }
@@ -125,7 +126,7 @@ fn index_of(files: &[File], name: &[u8]) -> Option<usize>
     files.iter().position(|file| file.name() == name)
 }
 
-// Counts a failed read of the file at an index, or of a name that is missing.
+// Counts a failed read of the file at an index, or of a missing name.
 fn count_fault(failed: &mut Seq<u64>, missing: &mut u64, index: Option<usize>)
     requires { IfSome index (λ at. at < length failed.old) }
     ensures length { length failed.new ≡ length failed.old }
@@ -147,7 +148,7 @@ fn count_fault(failed: &mut Seq<u64>, missing: &mut u64, index: Option<usize>)
     }
 }
 
-// Copies the bytes from an offset on into a buffer, as many as fit.
+// Copies the bytes from an offset on, as many as fit, to the front of a buffer, and returns how many.
 fn copy_piece(bytes: &[u8], from: u64, into: &mut [u8]) -> usize
     requires { 0 < length into.old }
     ensures within { result ≤ length into.new }

@@ -9,7 +9,7 @@ use ptg_base::Seq;
 use std::alloc::Global;
 use std::marker::Model;
 
-/// A sink in memory. It takes each piece whole; the writes with chosen numbers fail.
+/// A sink in memory. A write takes its whole piece. Writes with chosen numbers fail.
 #[derive(Drop)]
 pub struct MemSink {
     content: Seq<u8>,
@@ -27,7 +27,7 @@ impl Model for MemSink {
 }
 
 impl MemSink {
-    /// A sink with no bytes; the writes with these numbers, counted from 1, will fail.
+    /// An empty sink; the writes with these numbers, counted from 1, will fail.
     pub fn new(alloc: Global, fails: Seq<u64>) -> MemSink
         ensures { result ≡ record { bytes = []; failed = 0; writes = 0; fails = fails } }
     {
@@ -61,13 +61,13 @@ impl Sink for MemSink {
         ensures grows { self.old.failed ≤ self.new.failed }
         ensures failed { OnErr result (Rose self.old.failed self.new.failed) }
 
-        // It takes the piece whole. The chosen writes fail; any other fails only for want of memory.
+        // A write takes its whole piece. The chosen writes fail; any other fails only if memory runs out.
         ensures whole { IfOk result (λ n. n ≡ length piece.now) }
         ensures failing { Contains self.old.fails self.new.writes → IsErr result }
         ensures counted { self.new.writes ≡ one_more self.old.writes }
         ensures fails { self.new.fails ≡ self.old.fails }
 
-        // It counts its failure alone.
+        // A failed write counts one fault, and another write counts none.
         ensures fault_counted { OnErr result (self.new.failed ≡ one_more self.old.failed) }
         ensures no_fault { OnOk result (self.new.failed ≡ self.old.failed) }
     {

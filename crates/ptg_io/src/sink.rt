@@ -1,11 +1,11 @@
-//! Where bytes are written to.
+//! Sinks, which take bytes.
 
 ghost use Rattle.std.specs.Prelude.{◌≡◌, ◌<◌, ◌≤◌, ◌++◌, List, ℕ, length, take, IfOk, OnOk, OnErr};
 ghost use Rattle.ptg_io.specs.Faults.{Rose};
 
 use crate::files::Failed;
 
-/// Where bytes are written to.
+/// A sink: bytes are written to its end.
 pub trait Sink {
     /// The bytes that writes took so far, in order.
     ghost bytes: { Self → List ℕ };

@@ -1,11 +1,11 @@
-//! Whole files and all bytes, where each read gives one byte and each write takes one.
+//! Files are loaded and bytes are written one byte at a time.
 
 use crate::{ByteFiles, ByteSink, Failed, File, LoadFault, MemFiles, MemSink, load, write_all};
 use ptg_base::{OutOfMemory, Seq, Text};
 use std::alloc::Global;
 use std::test::Fail;
 
-// The numbers of the calls that fail: this one.
+// The list of failing calls: the one with this number alone.
 fn failing(alloc: Global, number: u64) -> Result<Seq<u64>, OutOfMemory> {
     let mut numbers = Seq::new(alloc);
     numbers.push(number)?;
@@ -28,7 +28,7 @@ fn loaded(
     Ok(load(alloc, &mut files, "f"))
 }
 
-// Five bytes come by five reads, and a sixth finds the end.
+// Five bytes take five reads, and a sixth finds the end.
 #[test]
 fn a_file_is_loaded_byte_by_byte(rt: HostRuntime) -> Result<(), Fail> {
     match loaded(rt.alloc(), b"abcde", 7)? {
@@ -38,7 +38,7 @@ fn a_file_is_loaded_byte_by_byte(rt: HostRuntime) -> Result<(), Fail> {
     Ok(())
 }
 
-// A read that fails after others is a fault, also the one that would find the end.
+// A failed read is a fault, even after good reads, and even if it would have found the end.
 #[test]
 fn a_read_fails_in_the_middle_of_a_file(rt: HostRuntime) -> Result<(), Fail> {
     for number in [1, 3, 6] {
@@ -50,7 +50,7 @@ fn a_read_fails_in_the_middle_of_a_file(rt: HostRuntime) -> Result<(), Fail> {
     Ok(())
 }
 
-// The write with this number fails, of five: before it one byte a write came.
+// Of five writes, the one with this number fails. Each write before it took one byte.
 #[test]
 fn bytes_are_written_one_by_one(rt: HostRuntime) -> Result<(), Fail> {
     for (number, result, written) in [

@@ -9,7 +9,7 @@ use crate::sink::Sink;
 // How many bytes are written at once, if the sink takes that many.
 const WRITE_SIZE: usize = 4096;
 
-/// Appends all of the bytes, piece by piece. On `Err` a proper prefix was written.
+/// Appends all of the bytes, piece by piece. On `Err` only some of the first bytes, or none, were written.
 pub fn write_all<O: Sink>(sink: &mut O, bytes: &[u8]) -> Result<(), Failed>
     ensures ok { OnOk result (O.bytes sink.new ≡ O.bytes sink.old ++ bytes.now) }
     ensures prefix { OnErr result ((n : ℕ) × (n < length bytes.now) ×

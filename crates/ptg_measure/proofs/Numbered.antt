@@ -1,4 +1,4 @@
--- Tasks of different numbers are different tasks, so what comes to one leaves the others.
+-- Tasks of different numbers are different tasks, so what arrives at one does not change the others.
 use Rattle.std.specs.Prelude.{◌≡◌, ℕ, ℤ, ◌+◌, ◌<◌, Bool, true, false, cond, nat_eq, List, Option, Some}
 use Rattle.std.proofs.Common.{refl, ap, ◌∙◌, arith, subst, true≢false, sym}
 use Rattle.std.specs.Cmp.{unsigned_Decides}
@@ -39,11 +39,11 @@ greater i k less = by (nat_eq i k) refl
         let same : i ≡ k = (unsigned_Decides i k).0 e in
         absurd (omega arith)
 
--- after something came to a task, the tasks after it still have no entry
+-- after something arrived at a task, the tasks after it still have no entry
 pub still_none : (old new : Content) (i : ℕ) (w : Option Entry) → Updates old.entries new.entries (task_of i) w → HasNoneFrom i old → HasNoneFrom (i + 1) new
 still_none old new i w up none k least = stays old.entries new.entries i k w up (greater i k (omega arith)) ∙ none k (omega arith)
 
--- after the first of some edges came to a task, it waits with those before it
+-- after the first of several edges arrived at a task, it waits, as do those before it
 pub first_comes : (old new : Content) (i goal : ℕ) (p : ℤ) (flow : ℕ) (tile : Option (List ℤ)) → 1 < goal
     → Updates old.entries new.entries (task_of i) (Some (with_arrival (entry_before old (task_of i) goal p) flow tile))
     → HasNoneFrom i old → WaitFrom 0 i old → WaitFrom 0 (i + 1) new

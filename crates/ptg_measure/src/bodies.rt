@@ -1,4 +1,4 @@
-//! Bodies of tasks, run.
+//! Runs of bodies of tasks.
 ghost use Rattle.std.specs.Prelude.{IfOk};
 ghost use Rattle.term_core.specs.WellBody.{IsWellBody};
 
@@ -14,7 +14,7 @@ const X: u16 = 0;
 // The slot of `i`.
 const I: u16 = 1;
 
-/// The body `int x = 0; for i = 1 .. size { x = x + i; } A[0] = x;`, where `A` is its one flow.
+// The body `int x = 0; for i = 1 .. size { x = x + i; } A[0] = x;`, with `A` as its one flow.
 fn turns(alloc: Global, size: u32) -> Result<Body, Failure>
     ensures { IfOk result (IsWellBody 0 1) }
 {
@@ -32,7 +32,7 @@ fn turns(alloc: Global, size: u32) -> Result<Body, Failure>
     })
 }
 
-/// A body of this many turns, run: the sum that it leaves in its tile.
+/// Runs a body with this many turns of a loop. Counts the sum that it leaves in its tile.
 pub fn body(alloc: Global, size: u32) -> Result<Counts, Failure> {
     let body = turns(alloc, size)?;
     let mut tiles = vec![in alloc; Some(Tile::zeros(alloc, 1)?)]?;

@@ -22,34 +22,34 @@ pub enum Case {
     Space,
     /// The count of this many tasks in one range, by `space_size` alone.
     Size,
-    /// The same in two nested ranges of this many values each.
+    /// The same for two nested ranges of this many values each.
     SizeOfSquare,
     /// The same with a third definition that is derived.
     SizeWithSum,
-    /// A body run that makes this many turns of a loop.
+    /// A run of a body with this many turns of a loop.
     Body,
     /// The tokens of a JDF text of this many tokens.
     Tokens,
-    /// A data file of this many tiles with 2,000 numbers each, read.
+    /// The parsing of a data file with this many records of tiles, of 2,000 numbers each.
     LongTiles,
-    /// A data file of this many tiles of one number, read.
+    /// The parsing of a data file with this many records of tiles, of one number each.
     ShortTiles,
-    /// A data file of this many integers, read.
+    /// The parsing of a data file of this many integers.
     Ints,
-    /// A body with this many names, read under as many globals.
+    /// The parsing of a body with this many names, under as many globals.
     Names,
-    /// The plan of a job of the shape of a tiled Cholesky factorization with this many rows of tiles, made from texts.
+    /// The plan, made from texts, of a job with the shape of a tiled Cholesky factorization with this many rows of
+    /// tiles.
     Job,
-    /// The edges of a job of the shape of a tiled Cholesky factorization, of this many rows of tiles, walked in both
-    /// directions.
+    /// A walk in both directions over the edges of such a job.
     Edges,
-    /// A broadcast to this many tasks and a gather from them, walked, and each edge asked for on its other side.
+    /// A broadcast to this many tasks and a gather from them: a walk over the edges that checks the other end of each.
     Star,
     /// The lists of a chain of this many tasks, each the source of the next.
     ChainLists,
-    /// These, and whether they show that no chain is heavier.
+    /// The same, with the check that no chain is heavier.
     CheckedChain,
-    /// This many tasks in a ring, and whether they are a cycle.
+    /// The check that this many tasks in a ring are a cycle.
     CheckedCycle,
     /// This many turns of a table, taken and given back by one pass alone.
     Turns,
@@ -61,15 +61,15 @@ pub enum Case {
     Unopened,
     /// The same with a table.
     Opened,
-    /// The run of one task after which this many others wait, up to the close of the table.
+    /// The run of one task after which this many others still wait, up to the close of the table.
     Close,
     /// The same, up to its answer.
     Outcome,
-    /// What is done with one shard.
+    /// A case of one shard.
     Shard(ShardCase),
     /// This many ids pushed to one deque and popped, in bursts.
     Deque,
-    /// This many ids pushed to one deque, and then popped.
+    /// This many ids pushed to one deque, and then all popped.
     DeepDeque,
     /// This many ids pushed and popped, in bursts, while three others steal.
     Thieves,

@@ -1,4 +1,4 @@
-//! Checks of certificates of given sizes. The lists are written down, not made by a run.
+//! Checks of certificates of a given size, whose lists are made here and not by a run.
 use crate::count::{Count, Counts, Failure};
 use crate::jobs::{line, ring};
 use cert_check::{check_chain, check_cycle};
@@ -8,7 +8,7 @@ use plan_core::Plan;
 use ptg_base::TaskId;
 use std::alloc::Global;
 
-// The plan, as one that is consistent.
+// The plan, checked to be consistent.
 fn matched(alloc: Global, plan: Plan) -> Result<Matched, Failure> {
     match match_edges(alloc, plan) {
         Ok(matched) => Ok(matched),
@@ -26,7 +26,7 @@ fn tasks_below(alloc: Global, count: u32) -> Result<Vec<TaskId>, Failure> {
     Ok(tasks)
 }
 
-// These tasks with the levels 1, 2 and so on.
+// The same tasks with the levels 1, 2 and so on.
 fn rising(alloc: Global, count: u32) -> Result<Vec<(TaskId, u64)>, Failure> {
     let mut rows = Vec::new(alloc);
     for k in 0..count {
@@ -35,12 +35,12 @@ fn rising(alloc: Global, count: u32) -> Result<Vec<(TaskId, u64)>, Failure> {
     Ok(rows)
 }
 
-// What is counted of a check: 1 where it accepts.
+// What a check counts: 1 if it accepts, else 0.
 fn accepted_count(accepted: bool) -> Counts {
     Counts::one(Count::of("accepted", u64::from(accepted)))
 }
 
-/// Tasks in a line, each the source of an edge into the next: whether they are shown to be a heaviest chain.
+/// Checks that this many tasks in a line, each the source of an edge into the next, are a heaviest chain.
 pub fn checked_chain(alloc: Global, size: u32) -> Result<Counts, Failure> {
     let m = matched(alloc, line(alloc, size)?)?;
     let chain = tasks_below(alloc, size)?;
@@ -49,7 +49,7 @@ pub fn checked_chain(alloc: Global, size: u32) -> Result<Counts, Failure> {
     Ok(accepted_count(is_heaviest))
 }
 
-/// The same lists, without the check.
+/// Makes the same lists, without the check. Counts their members.
 pub fn chain_lists(alloc: Global, size: u32) -> Result<Counts, Failure> {
     let m = matched(alloc, line(alloc, size)?)?;
     let chain = tasks_below(alloc, size)?;
@@ -61,7 +61,7 @@ pub fn chain_lists(alloc: Global, size: u32) -> Result<Counts, Failure> {
     ))
 }
 
-/// Tasks in a ring: whether they are a cycle.
+/// Checks that this many tasks in a ring are a cycle.
 pub fn checked_cycle(alloc: Global, size: u32) -> Result<Counts, Failure> {
     let m = matched(alloc, ring(alloc, size)?)?;
     let cycle = tasks_below(alloc, size)?;

@@ -1,4 +1,4 @@
-//! What a measured case counts, and why one ends early.
+//! What a measured case counts, and why one fails.
 use coll_data::DataRefusal;
 use jdf_lex::JdfRefusal;
 use ptg_base::OutOfMemory;
@@ -14,7 +14,7 @@ pub struct Count {
 }
 
 impl Count {
-    /// A number that is not below 0, or the largest where it does not fit.
+    /// A count of this number, or of the largest one if it does not fit.
     pub fn of(name: &'static str, number: u64) -> Count {
         Count {
             name,
@@ -54,19 +54,19 @@ impl Counts {
         Counts([Some(a), Some(b), Some(c), Some(d)])
     }
 
-    /// The numbers, each in its place or none.
+    /// The numbers in order, and then None for each missing one.
     pub fn each(&self) -> &[Option<Count>] {
         &self.0
     }
 }
 
-/// Why a case was not measured to its end.
+/// Why a case failed.
 #[derive(Debug, Drop)]
 pub enum Failure {
     OutOfMemory,
     /// The text or the space of this size is over a limit.
     TooLarge,
-    /// The space or the body that was made is not well made, which no size explains.
+    /// The space, the body or the job that was made is not as it should be, whatever the size.
     NotWellMade,
     /// The text that was made is refused.
     Refused(JdfRefusal),

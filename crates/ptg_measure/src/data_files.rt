@@ -1,10 +1,10 @@
-//! Data files of a given size, read.
+//! Parsing of data files of a given size.
 use crate::count::{Count, Counts, Failure};
 use data_read::read_data;
 use ptg_base::MOST_BYTES;
 use std::alloc::Global;
 
-// How many numbers a long record of a tile has, and how each is written.
+// The number of numbers in a long record of a tile.
 const LONG: u32 = 2000;
 
 // A field with a number.
@@ -20,7 +20,7 @@ fn values(alloc: Global, count: u32) -> Result<String, Failure> {
     Ok(text)
 }
 
-// A collection of 4,096 tiles of 4,096 numbers, and a record for each of this many tiles, from the first on.
+// The text of a collection of 4,096 tiles of 4,096 numbers, with a long record for each of its first tiles, this many.
 fn long_records(alloc: Global, size: u32) -> Result<String, Failure> {
     let mut text = String::from_str(alloc, "elems,4096\ncoll,D,4096\n")?;
     let values = values(alloc, LONG)?;
@@ -31,7 +31,7 @@ fn long_records(alloc: Global, size: u32) -> Result<String, Failure> {
     Ok(text)
 }
 
-// A collection of 65,536 tiles of one number, and a record for each of this many, from the first on.
+// The text of a collection of 65,536 tiles of one number, with a record for each of its first tiles, this many.
 fn short_records(alloc: Global, size: u32) -> Result<String, Failure> {
     let mut text = String::from_str(alloc, "elems,1\ncoll,D,65536\n")?;
     for number in 0..size {
@@ -40,7 +40,7 @@ fn short_records(alloc: Global, size: u32) -> Result<String, Failure> {
     Ok(text)
 }
 
-// This many integers.
+// The text of this many integers.
 fn integers(alloc: Global, size: u32) -> Result<String, Failure> {
     let mut text = String::from_str(alloc, "elems,1\n")?;
     for number in 0..size {
@@ -49,7 +49,7 @@ fn integers(alloc: Global, size: u32) -> Result<String, Failure> {
     Ok(text)
 }
 
-// Reads a data file: how many bytes and records it has, and how many integers and tiles there are.
+// Parses a data file. Counts its bytes and records, and the integers and tiles that they give.
 fn read(alloc: Global, text: &str) -> Result<Counts, Failure> {
     if text.len() > MOST_BYTES {
         return Err(Failure::TooLarge);
@@ -67,19 +67,19 @@ fn read(alloc: Global, text: &str) -> Result<Counts, Failure> {
     ))
 }
 
-/// A data file of this many tiles with 2,000 numbers each, read.
+/// Parses a data file with this many records of tiles, of 2,000 numbers each.
 pub fn long_tiles(alloc: Global, size: u32) -> Result<Counts, Failure> {
     let text = long_records(alloc, size)?;
     read(alloc, text.as_str())
 }
 
-/// A data file of this many tiles of one number, read.
+/// Parses a data file with this many records of tiles, of one number each.
 pub fn short_tiles(alloc: Global, size: u32) -> Result<Counts, Failure> {
     let text = short_records(alloc, size)?;
     read(alloc, text.as_str())
 }
 
-/// A data file of this many integers, read.
+/// Parses a data file of this many integers.
 pub fn ints(alloc: Global, size: u32) -> Result<Counts, Failure> {
     let text = integers(alloc, size)?;
     read(alloc, text.as_str())

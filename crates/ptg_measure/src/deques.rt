@@ -11,13 +11,13 @@ use std::sync::atomic::{AtomicU64, Ordering};
 use std::thread;
 use std::thread::Threads;
 
-// How many ids are pushed before they are popped.
+// The number of ids that are pushed before they are popped.
 const BURST: u32 = 1000;
 
-// How many workers there are where three of them steal.
+// The number of workers of the case in which three of them steal.
 const WORKERS: u32 = 4;
 
-/// This many ids are pushed to one deque and popped, in bursts.
+/// Pushes this many ids to one deque and pops them, in bursts.
 pub fn deque(alloc: Global, size: u32) -> Result<Counts, OutOfMemory> {
     let mut team = make(alloc, 1)?;
     let taken = match team.first_mut() {
@@ -27,7 +27,7 @@ pub fn deque(alloc: Global, size: u32) -> Result<Counts, OutOfMemory> {
     Ok(Counts::one(Count::of("taken", taken)))
 }
 
-/// This many ids are pushed to one deque, and then all are popped.
+/// Pushes this many ids to one deque, and then pops them all.
 pub fn deep_deque(alloc: Global, size: u32) -> Result<Counts, OutOfMemory> {
     let mut team = make(alloc, 1)?;
     let taken = match team.first_mut() {
@@ -37,8 +37,8 @@ pub fn deep_deque(alloc: Global, size: u32) -> Result<Counts, OutOfMemory> {
     Ok(Counts::one(Count::of("taken", taken)))
 }
 
-// Pushes the ids of numbers up to this one, in bursts that are popped until none is left. How many were popped, or came
-// back.
+// Pushes this many ids, in bursts, and pops each burst until no id is left. Returns how many ids were popped, or
+// returned by a push.
 fn push_and_pop(hands: &mut Hands, size: u32, burst: u32) -> u64 {
     let mut taken: u64 = 0;
     let mut pushed: u32 = 0;
@@ -55,7 +55,7 @@ fn push_and_pop(hands: &mut Hands, size: u32, burst: u32) -> u64 {
     taken.wrapping_add(pop_all(hands, pushed))
 }
 
-// Pops this many ids, or fewer where none is left.
+// Pops this many ids, or fewer if none is left. Returns how many it popped.
 fn pop_all(hands: &mut Hands, most: u32) -> u64 {
     let mut taken: u64 = 0;
     for _ in 0..most {
@@ -74,7 +74,7 @@ struct Seat {
     taken: u64,
 }
 
-/// This many ids are pushed by one worker and popped, in bursts, while three others steal from it.
+/// One worker pushes this many ids and pops them, in bursts, while three others steal from it.
 pub fn thieves<R: Threads + Wait + Sync>(
     rt: &R,
     alloc: Global,
@@ -98,7 +98,7 @@ pub fn thieves<R: Threads + Wait + Sync>(
     Ok(Counts::one(Count::of("taken", taken)))
 }
 
-// Worker 0 pushes and pops, and then says that it is done. The others steal from it until then.
+// Worker 0 pushes and pops, and then sets `done`. The others steal from it until then.
 fn take_part<R: Threads + Wait + Sync>(rt: &R, seat: &mut Seat, size: u32, done: &AtomicU64) {
     if seat.hands.number() == 0 {
         seat.taken = push_and_pop(&mut seat.hands, size, BURST);
@@ -108,7 +108,7 @@ fn take_part<R: Threads + Wait + Sync>(rt: &R, seat: &mut Seat, size: u32, done:
     }
 }
 
-// Steals from worker 0 until it is done and its deque was found empty.
+// Steals from worker 0 until it is done and its deque was found empty. Returns how many ids were stolen.
 fn steal_all<R: Threads + Wait + Sync>(rt: &R, hands: &mut Hands, done: &AtomicU64) -> u64
     requires { (0 < length hands.old.deques) × (0 ≢ hands.old.number) }
 {

@@ -1,4 +1,4 @@
-//! The edges of jobs, walked in both directions, and asked for on their other side.
+//! Walks over the edges of jobs in both directions, and checks that an edge has its other end.
 ghost use Rattle.std.specs.Prelude.{◌<◌, length};
 ghost use Rattle.dep_iter.specs.Tasks.{IsTask};
 
@@ -11,7 +11,7 @@ use range_space::Space;
 use std::alloc::Global;
 use term_core::Direction;
 
-// How many edges were walked.
+// The numbers of tasks and of edges that were walked.
 #[derive(Clone, Copy, Drop)]
 struct Walked {
     tasks: u64,
@@ -61,8 +61,8 @@ impl Walked {
     }
 }
 
-/// The edges of a job of the shape of a tiled Cholesky factorization with this many rows of tiles: those into each task
-/// and those out of each.
+/// Walks over the edges into and out of each task of a job with the shape of a tiled Cholesky factorization with this
+/// many rows of tiles. Counts the tasks and the edges.
 pub fn edges(alloc: Global, size: u32) -> Result<Counts, Failure> {
     let plan = cholesky(alloc, size)?;
     let mut walked = Walked::none();
@@ -76,7 +76,7 @@ pub fn edges(alloc: Global, size: u32) -> Result<Counts, Failure> {
     ))
 }
 
-// How many of the edges out of a task are edges into their targets.
+// How many of the edges out of a task are in edges of their targets.
 fn received(plan: &Plan, task: &TaskId) -> u64
     requires { IsTask plan.now task.now }
 {
@@ -89,7 +89,7 @@ fn received(plan: &Plan, task: &TaskId) -> u64
     count
 }
 
-// How many of the edges into a task are edges out of their sources.
+// How many of the edges into a task are out edges of their sources.
 fn sent(plan: &Plan, task: &TaskId) -> u64
     requires { IsTask plan.now task.now }
 {
@@ -102,13 +102,13 @@ fn sent(plan: &Plan, task: &TaskId) -> u64
     count
 }
 
-/// The plan of such a job alone, made from its texts: how many classes it has.
+/// Makes the plan of such a job from its texts. Counts its classes.
 pub fn job(alloc: Global, size: u32) -> Result<Counts, Failure> {
     let plan = cholesky(alloc, size)?;
     Ok(Counts::one(Count::of("classes", plan.classes.len() as u64)))
 }
 
-/// One task with an edge to and an edge from each of this many others: how many of them the others have too.
+/// One task with an edge to and an edge from each of this many others. Counts the edges that the others have too.
 pub fn star_edges(alloc: Global, size: u32) -> Result<Counts, Failure> {
     let plan = star(alloc, size)?;
     let task = TaskId::new(0, &[0]);

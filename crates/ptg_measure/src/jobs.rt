@@ -1,4 +1,4 @@
-//! Jobs of a given size, made from their texts, and their plans.
+//! Jobs of a given size and their plans, made from texts.
 ghost use Rattle.std.specs.Prelude.{IfOk};
 ghost use Rattle.plan_data.specs.Fit.{DataFit};
 
@@ -11,7 +11,7 @@ use plan_core::Plan;
 use ptg_base::MOST_ROWS;
 use std::alloc::Global;
 
-// One task with an edge to and an edge from each of the others, of which LAST is the last.
+// One task with an edge to and an edge from each of the others, which are numbered from 0 to LAST.
 const STAR: &[u8] = b"D
 LAST
 
@@ -32,7 +32,7 @@ BODY
 END
 ";
 
-// Tasks of which each but the last is the source of an edge into the next.
+// Tasks in a line: each but the last is the source of an edge into the next.
 const LINE: &[u8] = b"D
 LAST
 
@@ -45,7 +45,7 @@ BODY
 END
 ";
 
-// The same, and the last is the source of an edge into the first.
+// Tasks in a ring: the same, and the last is the source of an edge into the first.
 const RING: &[u8] = b"D
 LAST
 
@@ -58,7 +58,8 @@ BODY
 END
 ";
 
-// One task with an edge to each of the others, of which LAST is the last. Each of the others waits for itself too.
+// One task with an edge to each of the others, which are numbered from 0 to LAST. Each of the others also waits for
+// itself.
 const WAITING: &[u8] = b"D
 LAST
 
@@ -90,7 +91,7 @@ fn plan_of(alloc: Global, jdf: &[u8], table: &[u8]) -> Result<Plan, Failure> {
     Ok(check(alloc, &tree, &given, &globals)?)
 }
 
-/// The plan of a job of the shape of a tiled Cholesky factorization with this many rows of tiles.
+/// The plan of a job with the shape of a tiled Cholesky factorization with this many rows of tiles.
 pub fn cholesky(alloc: Global, size: u32) -> Result<Plan, Failure> {
     if size < 1 || size > MOST_ROWS {
         return Err(Failure::TooLarge);
@@ -99,19 +100,19 @@ pub fn cholesky(alloc: Global, size: u32) -> Result<Plan, Failure> {
     plan_of(alloc, jdf.bytes(), table.bytes())
 }
 
-// A data file whose number LAST is one less than this.
+// The text of a data file in which LAST is one less than this count.
 fn table_up_to(alloc: Global, count: u32) -> Result<String, Failure> {
     let last = i64::from(count) - 1;
     Ok(format!(in alloc; "elems,1\nint,LAST,{last}\ncoll,D,1\n")?)
 }
 
-// The plan of a JDF whose last number is one less than this.
+// The plan of a JDF in which LAST is one less than this count.
 fn plan_up_to(alloc: Global, jdf: &[u8], count: u32) -> Result<Plan, Failure> {
     let table = table_up_to(alloc, count)?;
     plan_of(alloc, jdf, table.as_bytes())
 }
 
-// The job of a JDF whose last number is one less than this.
+// The job of a JDF in which LAST is one less than this count.
 fn job_up_to(alloc: Global, jdf: &[u8], count: u32) -> Result<(Matched, Given), Failure>
     ensures { IfOk result (λ (matched, given). DataFit matched given) }
 {
@@ -119,7 +120,7 @@ fn job_up_to(alloc: Global, jdf: &[u8], count: u32) -> Result<(Matched, Given), 
     job_of_texts(alloc, jdf, table.as_bytes())?.ok_or(Failure::NotWellMade)
 }
 
-/// The plan of one task and this many others.
+/// The plan of one task with an edge to and an edge from each of this many others.
 pub fn star(alloc: Global, others: u32) -> Result<Plan, Failure> {
     plan_up_to(alloc, STAR, others)
 }
@@ -141,7 +142,7 @@ pub fn line_job(alloc: Global, tasks: u32) -> Result<(Matched, Given), Failure>
     job_up_to(alloc, LINE, tasks)
 }
 
-/// The job of one task that runs and this many others that wait for ever.
+/// The job of one task that runs and this many others that wait forever.
 pub fn waiting_job(alloc: Global, others: u32) -> Result<(Matched, Given), Failure>
     ensures { IfOk result (λ (matched, given). DataFit matched given) }
 {

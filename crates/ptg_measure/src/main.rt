@@ -1,4 +1,6 @@
-//! Measures parts of the runtime: the words name cases and their sizes, and what was counted is printed, a line each.
+//! Runs single parts of the program for a clock beside it: the arguments name cases and their sizes, and it prints what
+//! each case counts, a line for each count. The cases are, among others, a shard, deques, and turns of a table by one
+//! pass, by several and by four threads.
 #![tactic(auto)]
 
 mod bodies;
@@ -25,19 +27,19 @@ use std::sync::Wait;
 use std::thread::Threads;
 use std::{env, io};
 
-// What is printed where the words name no measures.
+// What is printed if the arguments name no cases.
 const USAGE: &str = "usage: ptg_measure (CASE SIZE)..
 CASE is space, size, size_of_square, size_with_sum, body, tokens, long_tiles, short_tiles, ints, names, job, edges,
 star, chain_lists, checked_chain, checked_cycle, turns, turns_of_three, turns_in_threads, unopened, opened, close,
 outcome, ready, best, by_task, first_edges, last_edges, reserved, fired, trapped, written, deque, deep_deque or
 thieves";
 
-// The case and the size that two words name.
+// The case and the size that two arguments name.
 fn wanted(case: &String, size: &String) -> Option<(Case, u32)> {
     Some((Case::of(case.as_str())?, size.as_str().parse().ok()?))
 }
 
-// What is counted by the case and the size that two words name, if they name any.
+// What the case and size that two arguments name count, if they name any.
 fn counts<R: Threads + Wait + Sync>(
     rt: &R,
     alloc: Global,
@@ -48,7 +50,7 @@ fn counts<R: Threads + Wait + Sync>(
     Some(measure(rt, alloc, case, size))
 }
 
-// Prints what is counted by the case and the size that two words name. Whether they name any, and it came to its end.
+// Prints what the case and size that two arguments name count. False if they name none, or if the case failed.
 fn print_counts<R: Print + Threads + Wait + Sync>(
     rt: &R,
     alloc: Global,
@@ -73,8 +75,7 @@ fn print_counts<R: Print + Threads + Wait + Sync>(
     }
 }
 
-// Measures the cases that these words name, two and two, up to the first that does not come to its end. Whether all
-// did.
+// Measures the cases that these arguments name in pairs, up to the first one that fails. Returns whether none failed.
 fn print_all<R: Print + Threads + Wait + Sync>(
     rt: &R,
     alloc: Global,

@@ -1,4 +1,4 @@
-//! Bodies read under many globals.
+//! Parsing of bodies with many names, under as many globals.
 use crate::count::{Count, Counts, Failure};
 use body_lang::read_body;
 use body_names::{FlowName, Scope};
@@ -8,10 +8,11 @@ use ptg_base::{MOST_BYTES, Seq, Text};
 use std::alloc::Global;
 use term_core::FlowKind;
 
-// How many variables the body declares: as many as a body may have.
+// The number of variables that the body declares: as many as a body may have.
 const VARIABLES: u32 = 256;
 
-// How many names an expression has: with the operators between them they are 127 of the 128 tokens that it may have.
+// The number of names in an expression. With the operators between them they are 127 of the 128 tokens that it may
+// have.
 const NAMES: u32 = 64;
 
 // A table of this many names.
@@ -42,7 +43,7 @@ fn scope<'a>(
     })
 }
 
-// One more name: a variable where a statement begins, and else a global.
+// Adds one more name: a variable at the beginning of a statement, otherwise a global.
 fn add_name(text: &mut String, number: u32) -> Result<(), Failure> {
     if number % NAMES > 0 {
         write!(text, " + g{number}")?;
@@ -71,7 +72,7 @@ fn body(alloc: Global, size: u32) -> Result<String, Failure> {
     Ok(text)
 }
 
-/// A body with this many names, read under as many globals: how many tokens and slots it has.
+/// Parses a body with this many names under as many globals. Counts its tokens and its slots.
 pub fn names(alloc: Global, size: u32) -> Result<Counts, Failure> {
     let ints = integers(alloc, size)?;
     let colls = NameTable::new(alloc);

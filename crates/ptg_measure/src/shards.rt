@@ -1,4 +1,4 @@
-//! One shard: ready tasks and edges come, tasks are taken and end or trap, and tiles are written back.
+//! One shard: ready tasks and edges are added, tasks are taken and end or trap, and tiles are written back.
 ghost use Rattle.std.specs.Prelude.{◌≡◌, ◌<◌, length, OnOk, IsTrue};
 ghost use Rattle.ptg_base.specs.Limits.{most_tasks};
 ghost use Rattle.dep_shard.specs.Content.{IsTileOf};
@@ -11,7 +11,7 @@ use ptg_base::{Edge, MOST_TASKS, OutOfMemory, Place, TaskId, Tile, WriteBack};
 use std::alloc::Global;
 use term_core::Trap;
 
-// How many numbers a tile has.
+// The number of numbers in a tile.
 const NUMBERS: u32 = 4;
 
 /// What is measured of a shard.
@@ -19,9 +19,9 @@ const NUMBERS: u32 = 4;
 pub enum ShardCase {
     /// This many ready tasks added.
     Ready,
-    /// The same, and all of them taken from the best to the last.
+    /// The same, and then all of them taken, always the best one first.
     Best,
-    /// The same, and all of them taken by their numbers.
+    /// The same, and then all of them taken in order of their numbers.
     ByTask,
     /// The first of two edges into each of this many tasks.
     FirstEdges,
@@ -29,7 +29,7 @@ pub enum ShardCase {
     LastEdges,
     /// The same in a shard with spares for all of it.
     Reserved,
-    /// Both edges into each of this many tasks, and all tasks taken from the best to the last.
+    /// Both edges into each of this many tasks, and then all tasks taken, always the best one first.
     Fired,
     /// This many ready tasks that are taken and trap.
     Trapped,
@@ -62,7 +62,7 @@ pub fn in_a_shard(alloc: Global, case: ShardCase, size: u32) -> Result<Counts, O
     counts(case, size, &mut shard, &tile)
 }
 
-// What a case counts in a shard that has nothing yet. The cases are handed it, so that one function alone lets it go.
+// What a case counts in a new shard. The cases borrow the shard, so that one function alone drops it.
 fn counts(case: ShardCase, size: u32, shard: &mut Shard, tile: &Tile) -> Result<Counts, OutOfMemory>
     requires new { HasNoneFrom 0 shard.old }
     requires tile { IsTileOf shard.old.elems 0 tile.now }
@@ -89,7 +89,7 @@ fn ready(size: u32, shard: &mut Shard) -> Result<Counts, OutOfMemory>
     Ok(Counts::one(entries(shard)))
 }
 
-// Adds ready tasks, and takes them from the best to the last.
+// Adds ready tasks, and then takes them all, always the best one first.
 fn best(size: u32, shard: &mut Shard) -> Result<Counts, OutOfMemory>
     requires { HasNoneFrom 0 shard.old }
 {
@@ -98,7 +98,7 @@ fn best(size: u32, shard: &mut Shard) -> Result<Counts, OutOfMemory>
     Ok(Counts::two(Count::of("taken", taken), entries(shard)))
 }
 
-// Adds ready tasks, and takes them by their numbers.
+// Adds ready tasks, and then takes them in order of their numbers.
 fn by_task(size: u32, shard: &mut Shard) -> Result<Counts, OutOfMemory>
     requires { HasNoneFrom 0 shard.old }
 {
@@ -136,7 +136,7 @@ fn reserved(size: u32, shard: &mut Shard, tile: &Tile) -> Result<Counts, OutOfMe
     Ok(Counts::two(Count::of("fired", fired), entries(shard)))
 }
 
-// Sends both edges into each task, and takes the tasks from the best to the last.
+// Sends both edges into each task, and then takes all tasks, always the best one first.
 fn fired(size: u32, shard: &mut Shard, tile: &Tile) -> Result<Counts, OutOfMemory>
     requires new { HasNoneFrom 0 shard.old }
     requires tile { IsTileOf shard.old.elems 0 tile.now }
@@ -174,7 +174,7 @@ fn written(size: u32, shard: &mut Shard, tile: &Tile) -> Result<Counts, OutOfMem
     Ok(Counts::one(Count::of("written", count_written(shard, size))))
 }
 
-// How many entries a shard has.
+// The number of entries of a shard.
 fn entries(shard: &Shard) -> Count {
     Count::of("entries", shard.len() as u64)
 }
@@ -215,7 +215,7 @@ fn send_first(shard: &mut Shard, size: u32, tile: &Tile) -> Result<(), OutOfMemo
     Ok(())
 }
 
-// Sends the second of two edges into each of this many tasks. How many fired.
+// Sends the second of two edges into each of this many tasks. Returns how many fired.
 fn send_last(shard: &mut Shard, size: u32, tile: &Tile) -> Result<u64, OutOfMemory>
     requires waits { WaitFrom 0 size shard.old }
     requires tile { IsTileOf shard.old.elems 0 tile.now }
@@ -230,7 +230,7 @@ fn send_last(shard: &mut Shard, size: u32, tile: &Tile) -> Result<u64, OutOfMemo
     Ok(fired)
 }
 
-// Both of two edges come to each of this many tasks. How many fired.
+// Sends both of two edges into each of this many tasks. Returns how many fired.
 fn send_both(shard: &mut Shard, size: u32, tile: &Tile) -> Result<u64, OutOfMemory>
     requires new { HasNoneFrom 0 shard.old }
     requires tile { IsTileOf shard.old.elems 0 tile.now }
@@ -239,7 +239,7 @@ fn send_both(shard: &mut Shard, size: u32, tile: &Tile) -> Result<u64, OutOfMemo
     send_last(shard, size, tile)
 }
 
-// A ready task is taken, unless as many run or have ended as may. Whether it was.
+// Takes a ready task, unless as many tasks run or have ended as a job may have. Returns whether it was taken.
 fn take(shard: &mut Shard, task: &TaskId) -> bool
     ensures running { IsTrue result → 0 < shard.new.running }
     ensures ended { IsTrue result → shard.new.ended < most_tasks }
@@ -250,7 +250,7 @@ fn take(shard: &mut Shard, task: &TaskId) -> bool
     shard.take_ready(task).is_some()
 }
 
-// A ready task is taken and ends. Whether it was ready.
+// Takes a ready task and ends it. Returns whether it was taken.
 fn run(shard: &mut Shard, task: &TaskId) -> bool {
     if !take(shard, task) {
         return false;
@@ -259,7 +259,7 @@ fn run(shard: &mut Shard, task: &TaskId) -> bool {
     true
 }
 
-// Takes this many tasks, each the best that is ready. How many were taken.
+// Takes this many tasks, always the best ready one. Returns how many were taken.
 fn take_best(shard: &mut Shard, size: u32) -> u64 {
     let mut taken: u64 = 0;
     for _ in 0..size {
@@ -273,7 +273,7 @@ fn take_best(shard: &mut Shard, size: u32) -> u64 {
     taken
 }
 
-// Takes this many tasks by their numbers. How many were taken.
+// Takes this many tasks in order of their numbers. Returns how many were taken.
 fn take_by_task(shard: &mut Shard, size: u32) -> u64 {
     let mut taken: u64 = 0;
     for number in 0..size {
@@ -284,7 +284,7 @@ fn take_by_task(shard: &mut Shard, size: u32) -> u64 {
     taken
 }
 
-// A ready task is taken and traps.
+// Takes a ready task and lets it trap.
 fn trap(shard: &mut Shard, task: &TaskId) -> Result<(), OutOfMemory> {
     if !take(shard, task) {
         return Ok(());
@@ -300,7 +300,7 @@ fn trap_by_task(shard: &mut Shard, size: u32) -> Result<(), OutOfMemory> {
     Ok(())
 }
 
-// How many of the first tasks that trapped are in the list.
+// How many of the first `size` rows of trapped tasks there are.
 fn count_trapped(shard: &Shard, size: u32) -> u64 {
     let mut count: u64 = 0;
     for number in 0..size {
@@ -330,7 +330,7 @@ fn write_back(shard: &mut Shard, size: u32, tile: &Tile) -> Result<(), OutOfMemo
     Ok(())
 }
 
-// How many of the first write-backs are in the list.
+// How many of the first `size` write-backs there are.
 fn count_written(shard: &Shard, size: u32) -> u64 {
     let mut count: u64 = 0;
     for number in 0..size {

@@ -8,7 +8,7 @@ use range_space::space_size;
 use std::alloc::Global;
 use term_core::{BinOp, ClassSpace, Def, Expr, Params, Range};
 
-// The values from 0 to below a count.
+// A range of this many values, from 0 on.
 fn below(count: u32) -> Def {
     Def::Span(Range {
         lo: Expr::num(0),
@@ -48,7 +48,7 @@ fn square_with_sum(alloc: Global, side: u32) -> Result<ClassSpace, Failure>
     })
 }
 
-// How many tasks a class has.
+// Counts the tasks of a class.
 fn counted(alloc: Global, class: ClassSpace) -> Result<Counts, Failure>
     requires { length class.defs ≤ most_locals }
 {
@@ -57,17 +57,17 @@ fn counted(alloc: Global, class: ClassSpace) -> Result<Counts, Failure>
     Ok(Counts::one(Count::of("counted", count)))
 }
 
-/// A class of this many tasks in one range.
+/// Counts the tasks of a class with one range of this many values.
 pub fn size_of_line(alloc: Global, count: u32) -> Result<Counts, Failure> {
     counted(alloc, line(alloc, count)?)
 }
 
-/// A class of two ranges of this many values each.
+/// Counts the tasks of a class with two nested ranges of this many values each.
 pub fn size_of_square(alloc: Global, side: u32) -> Result<Counts, Failure> {
     counted(alloc, square(alloc, side)?)
 }
 
-/// The same with a third definition, which is the sum of the two.
+/// The same for a class with a third definition, the sum of the two.
 pub fn size_with_sum(alloc: Global, side: u32) -> Result<Counts, Failure> {
     counted(alloc, square_with_sum(alloc, side)?)
 }

@@ -1,4 +1,4 @@
-//! Walks through spaces of tasks, and counts of them.
+//! Walks over iteration spaces, and counts of their tasks.
 ghost use Rattle.std.specs.Prelude.{◌≡◌, ◌≤◌, IfOk, IfSome, length};
 ghost use Rattle.ptg_base.specs.Limits.{most_locals};
 ghost use Rattle.range_space.specs.Tasks.{tasks};
@@ -9,7 +9,7 @@ use range_space::{Space, space_size};
 use std::alloc::Global;
 use term_core::{ClassSpace, Def, Expr, Params, Range};
 
-/// The class of one parameter with a value for each of this many tasks, `T(k)`: `k = 1 .. size`.
+// The space of a class with one parameter and this many tasks, `T(k)`: `k = 1 .. size`.
 fn line(alloc: Global, size: u32) -> Result<ClassSpace, Failure>
     ensures { IfOk result (λ space. length space.defs ≤ most_locals) }
 {
@@ -24,7 +24,7 @@ fn line(alloc: Global, size: u32) -> Result<ClassSpace, Failure>
     })
 }
 
-/// How many tasks a walk through a class comes to, or none past the largest count.
+// The number of tasks in a walk over a class; None if it is over the largest number.
 fn walked(space: &ClassSpace) -> Option<u64>
     requires { length space.now.defs ≤ most_locals }
     ensures { IfSome result (λ n. n ≡ length (tasks space.now)) }
@@ -36,7 +36,7 @@ fn walked(space: &ClassSpace) -> Option<u64>
     Some(count)
 }
 
-/// A class of this many tasks: how many a walk comes to, and how many `space_size` counts.
+/// Walks over a class of this many tasks. Counts the tasks of the walk, and those by `space_size`.
 pub fn space(alloc: Global, size: u32) -> Result<Counts, Failure> {
     let classes = vec![in alloc; line(alloc, size)?]?;
     let walked = walked(&classes[0]).ok_or(Failure::TooLarge)?;

@@ -1,4 +1,4 @@
-//! The table that workers share: turns of its shards, its opening, its close and its answer.
+//! The dependency table: turns of its shards, its opening, its close and its answer.
 ghost use Rattle.std.specs.Prelude.{◌≡◌, ◌<◌, All, IfOk};
 ghost use Rattle.plan_data.specs.Fit.{DataFit};
 ghost use Rattle.table_rule.specs.Changes.{first_pass};
@@ -20,10 +20,10 @@ use std::thread;
 use std::thread::Threads;
 use worker_core::Always;
 
-// How many shards there are.
+// The number of shards.
 const SHARDS: u32 = 16;
 
-// How many passes in threads there are.
+// The number of passes in threads of their own.
 const THREADS: u32 = 4;
 
 // A table of a job, with its first pass.
@@ -35,7 +35,7 @@ fn open(alloc: Global, job: (Matched, Given)) -> Result<(DepTable, Pass), Failur
     Ok(DepTable::new(alloc, matched, given, SHARDS)?)
 }
 
-// Takes the turn of a shard and gives it back: whether it did, or another pass had it.
+// Takes the turn of a shard and gives it back. False if another pass held it.
 fn take_and_leave(table: &DepTable, pass: &mut Pass, shard: u32) -> bool
     requires pass { IsPassOf (id_of table.now) pass.old }
     requires shard { shard < (job_of table.now).shards }
@@ -50,7 +50,7 @@ fn take_and_leave(table: &DepTable, pass: &mut Pass, shard: u32) -> bool
     }
 }
 
-// Goes for this many turns, of one shard after the other. How many it got.
+// Tries to take this many turns, of one shard after the other. Returns how many it took.
 fn take_turns(table: &DepTable, pass: &mut Pass, count: u32) -> u64
     requires { IsPassOf (id_of table.now) pass.old }
     ensures { IsPassOf (id_of table.now) pass.new }
@@ -68,14 +68,14 @@ fn take_turns(table: &DepTable, pass: &mut Pass, count: u32) -> u64
     taken
 }
 
-/// This many turns, taken and given back by one pass alone.
+/// One pass alone takes this many turns and gives them back.
 pub fn turns(alloc: Global, size: u32) -> Result<Counts, Failure> {
     let (table, mut pass) = open(alloc, line_job(alloc, 2)?)?;
     let taken = take_turns(&table, &mut pass, size);
     Ok(Counts::one(Count::of("taken", taken)))
 }
 
-/// This many turns by each of three passes, one after the other, on one thread.
+/// Each of three passes takes this many turns, one pass after the other, on one thread.
 pub fn turns_of_three(alloc: Global, size: u32) -> Result<Counts, Failure> {
     let (table, mut first) = open(alloc, line_job(alloc, 2)?)?;
     let mut second = table.split(&mut first);
@@ -89,7 +89,7 @@ pub fn turns_of_three(alloc: Global, size: u32) -> Result<Counts, Failure> {
     Ok(Counts::one(Count::of("taken", taken)))
 }
 
-// The first pass of a table, with others that are split off it.
+// The first pass of a table with others that are split off it, one for each thread.
 fn some_passes(alloc: Global, table: &DepTable, first: Pass) -> Result<Vec<Pass>, OutOfMemory>
     requires { IsPassOf (id_of table.now) first }
     ensures { IfOk result (λ passes. All (IsPassOf (id_of table.now)) passes.items) }
@@ -103,7 +103,7 @@ fn some_passes(alloc: Global, table: &DepTable, first: Pass) -> Result<Vec<Pass>
     Ok(passes)
 }
 
-// Goes for the turn of a shard until it has got it.
+// Tries to take the turn of a shard until it has taken it, and gives it back.
 fn take_at_last<R: Wait>(rt: &R, table: &DepTable, pass: &mut Pass, shard: u32)
     requires pass { IsPassOf (id_of table.now) pass.old }
     requires shard { shard < (job_of table.now).shards }
@@ -117,7 +117,7 @@ fn take_at_last<R: Wait>(rt: &R, table: &DepTable, pass: &mut Pass, shard: u32)
     unreachable!()
 }
 
-// Takes this many turns, of one shard after the other, however long each takes. How many it got.
+// Takes this many turns, of one shard after the other, however long each takes. Returns how many it took.
 fn take_all<R: Wait>(rt: &R, table: &DepTable, pass: Pass, count: u32) -> u64
     requires { IsPassOf (id_of table.now) pass }
 {
@@ -134,7 +134,7 @@ fn take_all<R: Wait>(rt: &R, table: &DepTable, pass: Pass, count: u32) -> u64
     taken
 }
 
-/// This many turns of the same shards by each of four passes, each in a thread of its own, however often they are found
+/// Each of four passes, in a thread of its own, takes this many turns of the same shards. It tries again if a turn is
 /// taken.
 pub fn turns_in_threads<R: Threads + Wait + Sync>(
     rt: &R,
@@ -157,7 +157,7 @@ pub fn turns_in_threads<R: Threads + Wait + Sync>(
     Ok(Counts::one(Count::of("taken", sum)))
 }
 
-/// The job of this many tasks in a line, without a table.
+/// Makes the job of this many tasks in a line, without a table.
 pub fn unopened(alloc: Global, size: u32) -> Result<Counts, Failure> {
     let (matched, _given) = line_job(alloc, size)?;
     Ok(Counts::one(Count::of("tasks", matched.tasks())))
@@ -187,7 +187,7 @@ fn closed<R: Threads + Wait + Sync>(
     Ok(run(rt, prepared, &Always)?)
 }
 
-/// The run of one task after which this many others wait, up to the close of the table.
+/// Runs one task, after which this many others still wait, up to the close of the table.
 pub fn close<R: Threads + Wait + Sync>(
     rt: &R,
     alloc: Global,
@@ -197,7 +197,7 @@ pub fn close<R: Threads + Wait + Sync>(
     Ok(Counts::one(Count::of("quiet", u64::from(closed.quiet()))))
 }
 
-/// The same, up to its answer: how many wait.
+/// The same, up to the answer. Counts the tasks that wait.
 pub fn outcome<R: Threads + Wait + Sync>(
     rt: &R,
     alloc: Global,

@@ -1,4 +1,4 @@
-//! JDF texts of a given number of tokens, lexed.
+//! Lexing of JDF texts with a given number of tokens.
 use crate::count::{Count, Counts, Failure};
 use jdf_lex::tokens;
 use ptg_base::MOST_BYTES;
@@ -7,10 +7,11 @@ use std::alloc::Global;
 // One class of tasks, with a flow.
 const CLASS: &str = "T(k)\nk = 0 .. 0\n: D(0)\nRW A <- D(0)\n  -> D(0)\nBODY\nA[0] = 1;\nEND\n";
 
-// How many tokens the class has.
+// The number of tokens of the class.
 const CLASS_TOKENS: u32 = 35;
 
-/// A JDF text of this many tokens, or of its class and one global where they are fewer: globals, and then the class.
+// A JDF text of this many tokens: globals, and then the class. If they are too few for that, it is one global and the
+// class.
 fn text(alloc: Global, size: u32) -> Result<String, Failure> {
     let mut text = String::from_str(alloc, "D\n")?;
     for number in 1..size.saturating_sub(CLASS_TOKENS) {
@@ -20,7 +21,7 @@ fn text(alloc: Global, size: u32) -> Result<String, Failure> {
     Ok(text)
 }
 
-/// A text of this many tokens: how many are found.
+/// Lexes a text of this many tokens. Counts the tokens that are found.
 pub fn tokens_of_text(alloc: Global, size: u32) -> Result<Counts, Failure> {
     let text = text(alloc, size)?;
     if text.len() > MOST_BYTES {

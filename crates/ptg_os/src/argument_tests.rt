@@ -1,4 +1,4 @@
-//! All arguments are read, or none.
+//! Either all arguments are read, or the call is refused.
 
 use crate::arguments::{LONGEST, words};
 use ptg_base::OutOfMemory;
@@ -33,7 +33,7 @@ impl Env for Process<'_> {
     }
 }
 
-// How many arguments are read, and how many bytes they have together; none where they are refused.
+// How many arguments are read, and how many bytes they have together. None if they are refused.
 fn counts(alloc: Global, arguments: &[&[u8]]) -> Option<(usize, usize)> {
     match words(&Process { arguments }, alloc) {
         Ok(list) => {

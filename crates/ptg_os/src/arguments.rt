@@ -4,12 +4,12 @@ use ptg_base::{OutOfMemory, Seq, Text};
 use std::alloc::Global;
 use std::env::{Env, FillError};
 
-// More than Linux takes as one argument, 131,072 bytes with the zero at its end.
+// The room for one argument. Linux takes at most 131,072 bytes for one, with the zero at its end.
 pub(crate) const LONGEST: usize = 262144;
 
-/// The arguments of the command line without the program's name, as the bytes that the system has, UTF-8 or not.
+/// The arguments of the command line without the program's name, byte for byte, UTF-8 or not.
 ///
-/// No argument is dropped: one of more than 262,144 bytes is refused as if there were no memory for it.
+/// No argument is dropped: one of more than 262,144 bytes is refused as out of memory.
 pub fn words(system: &impl Env, alloc: Global) -> Result<Seq<Text>, OutOfMemory> {
     let mut list = Seq::new(alloc);
     let mut buffer = vec![in alloc; 0u8; LONGEST]?;

@@ -13,13 +13,13 @@ use std::{fs, rt};
 
 /// The files of the system. Contracts know only what reads of them gave.
 ///
-/// The file read last stays open with a copy of its name. Where there is no memory for that copy, the next read opens
-/// it anew.
+/// The file read last stays open, with a copy of its name. If there is no memory for that copy, the next read opens the
+/// file anew.
 #[derive(Drop)]
 pub struct OsFiles<'a, R: rt::Files> {
     system: &'a R,
     alloc: Global,
-    // The file that was read last; the next read may continue it.
+    // The file that was read last, if that read did not fail; the next read may go on with it.
     last: Option<Opened<R::File>>,
     // How many reads failed, of any name.
     faults: u64,
@@ -30,14 +30,14 @@ pub struct OsFiles<'a, R: rt::Files> {
 // An open file, and the offset up to which it was read.
 #[derive(Drop)]
 struct Opened<F> {
-    // None where there was no memory for it.
+    // None if there was no memory for it.
     name: Option<Text>,
     offset: u64,
     file: F,
 }
 
 impl<'a, R: rt::Files> OsFiles<'a, R> {
-    /// The files of this system. No read was made yet.
+    /// The files of this system, before any read.
     pub fn new(system: &'a R, alloc: Global) -> Self
         ensures no_reads { ⟦<OsFiles<'a, R> as Files>⟧.reads result ≡ [] }
         ensures no_faults { (name : List ℕ) → ⟦<OsFiles<'a, R> as Files>⟧.faults result name ≡ 0 }
@@ -76,7 +76,8 @@ impl<'a, R: rt::Files> Files for OsFiles<'a, R> {
         ensures failed { OnErr result (Rose self.old.faults self.new.faults) }
         ensures no_fault { OnOk result ((other : List ℕ) → self.new.faults ≡ self.old.faults) }
 
-        // An open file gave the bytes, and stays open: the one kept before, where that is at this offset.
+        // An open file gave the bytes and stays open. It is the one kept open before, if that has this name and is at
+        // this offset.
         ensures gave { IfOk result (λ n.
             GaveFrom R.File.remaining (kept_open self.old) name.now from (kept_open self.new) n into.new) }
 
@@ -103,7 +104,7 @@ impl<'a, R: rt::Files> Files for OsFiles<'a, R> {
     }
 }
 
-// Reads the next bytes of an open file.
+// Reads the next bytes of an open file, and returns how many with the file. None if the read failed.
 fn read_next<R: rt::Files>(
     mut opened: Opened<R::File>,
     into: &mut [u8],
@@ -118,7 +119,8 @@ fn read_next<R: rt::Files>(
     Some((n, opened))
 }
 
-// The file of this name at an offset: the one read last if it is there, else opened anew.
+// An open file of this name at an offset: the one read last if it is at that offset, else one opened anew. None if that
+// failed.
 fn opened_at<R: rt::Files>(
     system: &R,
     alloc: Global,
@@ -135,7 +137,7 @@ fn opened_at<R: rt::Files>(
     }
 }
 
-// Whether this file is open at this offset.
+// Whether an open file is known to have this name, and is at this offset.
 fn is_at<F>(opened: &Opened<F>, name: &str, from: u64) -> bool
     ensures { IsTrue result ↔ IsAt opened.now name.now from }
 {
@@ -145,7 +147,7 @@ fn is_at<F>(opened: &Opened<F>, name: &str, from: u64) -> bool
     }
 }
 
-// Opens a file at this offset.
+// Opens a file at this offset. None if that failed.
 fn open_at<R: rt::Files>(
     system: &R,
     alloc: Global,

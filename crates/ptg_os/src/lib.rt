@@ -1,4 +1,4 @@
-//! What the operating system gives a program: its words, its files, and a writer for its output.
+//! The arguments, files and standard output of a process.
 #![tactic(auto)]
 
 #[cfg(test)]

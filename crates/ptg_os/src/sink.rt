@@ -19,7 +19,7 @@ pub struct OsSink<W: Write + Drop> {
 }
 
 impl<W: Write + Drop> OsSink<W> {
-    /// A sink over this writer. No write was made yet.
+    /// A sink over this writer, before any write.
     pub fn new(writer: W) -> Self
         ensures no_bytes { ⟦<OsSink<W> as Sink>⟧.bytes result ≡ [] }
         ensures no_faults { ⟦<OsSink<W> as Sink>⟧.faults result ≡ 0 }
@@ -47,11 +47,11 @@ impl<W: Write + Drop> Sink for OsSink<W> {
         ensures failed { OnErr result (Rose self.old.faults self.new.faults) }
         ensures no_fault { OnOk result (self.new.faults ≡ self.old.faults) }
 
-        // The writer took the bytes, or none where the write failed.
+        // The writer took the bytes, or none if the write failed.
         ensures took { WriteAppends (W.contents (writer_of self.old)) (W.contents (writer_of self.new)) result piece.now }
     {
         match self.writer.write(piece) {
-            // A writer that takes nothing would be tried for ever.
+            // A write that takes no bytes fails: else the caller would try forever.
             Ok(n) if n > 0 => {
                 self.history.note(&piece[..n]);
                 Ok(n)

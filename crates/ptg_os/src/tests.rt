@@ -47,7 +47,7 @@ fn the_sink_passes_bytes_on(rt: HostRuntime) -> Result<(), Fail> {
     Ok(())
 }
 
-// This many bytes, of which the last is another than the others.
+// This many bytes; the last one differs from the others.
 fn content(alloc: Global, count: usize) -> Result<Vec<u8>, AllocError> {
     let mut bytes = vec![in alloc; 7u8; count]?;
     if let Some(last) = bytes.last_mut() {
@@ -78,7 +78,7 @@ fn files_are_loaded_whole(rt: HostRuntime) -> Result<(), Fail> {
     Ok(())
 }
 
-// A file has at most 16 MiB.
+// A file of more than 16 MiB is too long.
 #[test]
 fn a_file_of_more_than_16_mib_is_too_long(rt: HostRuntime) -> Result<(), Fail> {
     let mut path = env::temp_dir(&rt)?;
@@ -101,7 +101,7 @@ fn a_file_of_more_than_16_mib_is_too_long(rt: HostRuntime) -> Result<(), Fail> {
     Ok(())
 }
 
-// A file that grows between two reads is what these give.
+// The file grows between two reads: each read gives what the file has by then.
 #[test]
 fn a_file_grows_between_two_reads(rt: HostRuntime) -> Result<(), Fail> {
     let mut path = env::temp_dir(&rt)?;

@@ -1,4 +1,5 @@
-//! The program of a process: its arguments, its files and its output, handed to `ptg_main`.
+//! The program over the arguments, files and output of a process (`process`), and the exit code that the process ends
+//! with.
 #![tactic(auto)]
 
 ghost use Rattle.std.specs.Prelude.{◌≡◌};
@@ -18,7 +19,7 @@ use std::sync::Wait;
 use std::thread::Threads;
 use worker_core::{Always, Gate};
 
-/// Carries out a command over the system's files, with this output and this gate.
+/// Carries out the command that these arguments form over the system's files, with this output and this gate.
 pub fn carry_out<R: Threads + Wait + Files + Sync, W: Write + Drop, G: Gate>(
     rt: &R,
     alloc: Global,
@@ -31,8 +32,8 @@ pub fn carry_out<R: Threads + Wait + Files + Sync, W: Write + Drop, G: Gate>(
     ptg_main(rt, alloc, words, &mut files, &mut sink, gate)
 }
 
-/// The program: carries out the command of the process's arguments, and gives the code that the process ends with, that
-/// of some status. Where the arguments can't be read, it is that of want of memory, and nothing is written.
+/// The program: carries out the command that the process's arguments form, and returns the exit code of its status. If
+/// the arguments can't be read, it returns the code of `OutOfMemory` and writes nothing.
 pub fn process<R: Threads + Wait + Env + Files + Sync, W: Write + Drop>(
     rt: &R,
     alloc: Global,

@@ -1,6 +1,8 @@
-//! Rows of the program: each is a call of `ptg_main` with what it must print, written down in a file. The words name
-//! the files. All rows are tried three times: with reads and writes as large as may be, with one byte a read and one a
-//! write, and with many workers and shards. Prints the rows that came out otherwise.
+//! Tries the rows of the program, and prints those that come out otherwise. A row is a call of `ptg_main` with what it
+//! must print, written down in a file that an argument names.
+//!
+//! All rows are tried three times: with reads and writes as large as possible, with one byte in each read and write,
+//! and with the most workers and shards.
 #![tactic(auto)]
 
 mod settings;
@@ -21,7 +23,7 @@ use worker_core::Always;
 // One worker and one shard.
 const ONE: [&str; 4] = ["--workers", "1", "--shards", "1"];
 
-// As many workers and shards as there may be.
+// The largest numbers of workers and shards.
 const MANY: [&str; 4] = ["--workers", "64", "--shards", "256"];
 
 fn main(rt: HostRuntime) -> ExitCode {
@@ -71,8 +73,8 @@ impl<'a> Call for Program<'a> {
     }
 }
 
-// The same, byte by byte. A row in which a call fails is tried as before, since it numbers the calls of the program at
-// large.
+// The same, byte by byte. A row with a failing read or write is tried with `Program`, since the row gives the number of
+// that call in a run with large reads and writes.
 #[derive(Drop)]
 struct ProgramByBytes<'a> {
     settings: &'a [&'static str],

@@ -1,10 +1,10 @@
-//! The settings of a run that a row leaves open.
+//! The settings of a `run` that a row leaves open.
 
 use ptg_base::Text;
 use row_files::Why;
 use std::alloc::Global;
 
-/// The words, with these settings added where they run a job and set neither workers nor shards.
+/// The arguments, with these settings added if they are a `run` that sets neither workers nor shards.
 pub fn with_settings(
     alloc: Global,
     mut words: Vec<Text>,
@@ -18,7 +18,7 @@ pub fn with_settings(
     Ok(words)
 }
 
-// Whether the words are a `run` without numbers of workers and shards.
+// Whether the arguments are a `run` that sets neither workers nor shards.
 fn leaves_settings_open(words: &[Text]) -> bool {
     match words.first() {
         Some(verb) => verb.bytes() == b"run".as_slice()
@@ -27,7 +27,7 @@ fn leaves_settings_open(words: &[Text]) -> bool {
     }
 }
 
-// Whether the word is an option with a number.
+// Whether the argument is an option with a number.
 fn is_setting(word: &Text) -> bool {
     word.bytes().starts_with(b"--workers") || word.bytes().starts_with(b"--shards")
 }

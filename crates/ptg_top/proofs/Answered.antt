@@ -1,5 +1,5 @@
--- A verb that goes on from a consistent job: it has one verdict at most, and one, and what `check` says of unread files
--- it says too.
+-- A verb that continues after `check` on a consistent job: it has exactly one verdict, and says what `check` says of
+-- unread files.
 use Rattle.std.proofs.Common.{◌≡◌, ℕ, List, [], ◌∷◌, Result, Ok, Err, refl, sym, ◌∙◌, subst, inl, inr}
 use Rattle.std.specs.Prelude.{IfOk, Bool, true, false, if◌then◌else◌}
 use Rattle.ptg_base.specs.declared.memory.OutOfMemory.{OutOfMemory}
@@ -44,7 +44,7 @@ module _ (Verb : Plan → Data → Denotation → Type 0) where
   abbrev pub IsVerbOfTexts : Type 0
   IsVerbOfTexts = (P : Plan) (given : Data) (v : Denotation) → Verb P given v → IsOfTexts v
 
-  -- where the verdict of `check` was on what was read, so is that of the verb
+  -- if the verdict of `check` is on what was read, so is that of the verb
   pub on_texts : IsVerbOfTexts → (checked v : Denotation) → IsOfTexts checked → OnConsistent Verb checked v → IsOfTexts v
   on_texts verb (verdicts.Job (jobs.Consistent P given)) v of h = verb P given v h
   on_texts verb checked v of h = subst IsOfTexts (sym h) of
@@ -57,7 +57,7 @@ answer_of_texts settings P given v h = subst IsOfTexts (sym h) (either (is_too_l
     either true = tt
     either false = tt
 
--- the command is of a verb that goes on from the check of two files
+-- the verb of the command continues after the check of two files
 pub record GoesOn (command : Order) (jdf data_name : List ℕ) (Verb : Plan → Data → Denotation → Type 0) : Type 0 where
   pub names : (loads : List Load) → AreOf loads (jdf ∷ data_name ∷ []) → AreOf loads (files_of command)
   pub denotes : (operands : Operands) (checked v : Denotation) → FilesDenote operands jdf data_name checked → OnConsistent Verb checked v → CommandDenotes operands command v

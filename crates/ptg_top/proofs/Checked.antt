@@ -39,7 +39,7 @@ module _ (old new : List Read) (failed failed_since : List ℕ → ℕ) (text da
       inr (jobs.Data fault, refl, long.0, inr (inl (J, fault, tree, inl (record { long = long.1; fault_is = e }), refl)), (long.2, none))
 
 module _ (old middle new : List Read) (failed failed_between failed_since : List ℕ → ℕ) (jdf data_name : List ℕ) where
-  -- the check of the data file is the check of the files, where the tree of the JDF file was read
+  -- the check of the data file is the check of the files, if the tree of the JDF file was read
   tree_ends : (J : Jdf) (v : Denotation) (read : IsTreeRead old middle failed failed_between jdf J)
       → CheckOfDataEndsWith middle new failed_between failed_since read.0 data_name v → IsVerdictOnCommand old new failed failed_since (Check jdf data_name) v
   tree_ends J v read (inl (e, begun, rose)) =
@@ -70,7 +70,7 @@ module _ (old new : List Read) (failed failed_since : List ℕ → ℕ) (jdf dat
   refusal_ends v (inr (of, text, h, loaded)) =
       record { loads = load_of jdf text ∷ []; operands = (refl, tt); denoted = inl h; reads = inr (of, (new, loaded.0, refl), loaded.1) }
 
--- ---- two files denote one verdict at most
+-- ---- two files denote at most one verdict
 pub refused_once : (text : List ℕ) (v w : Denotation) → RefusesText text v → RefusesText text w → v ≡ w
 refused_once text v w (job, h, e) (other, k, d) = e ∙ (ap verdicts.Job (jdf_text_once text job other h k) ∙ sym d)
 
@@ -88,7 +88,7 @@ contents_once jdf data_name (Some text) None v w (inr (J, tree, d)) (inl h) = ab
 contents_once jdf data_name (Some text) None v w (inr h) (inr k) = h.2 ∙ sym k.2
 contents_once jdf data_name (Some text) (Some data_text) v w h k = job_texts_once text data_text v w h k
 
--- ---- what is found consistent is
+-- ---- a job that is found consistent is consistent
 texts_consistent : (text data_text : List ℕ) (P : Plan) (given : Data) → TextsDenote text data_text (jobs.Consistent P given) → IsConsistent P
 texts_consistent text data_text P given (inl (fault, h, e)) = absurd cc
 texts_consistent text data_text P given (inr (inl (J, fault, tree, h, e))) = absurd cc

@@ -48,7 +48,7 @@ module _ (words : List (List ℕ)) (old new : List Read) (failed failed_since : 
   none_failed_after loads (inl (name, e, after)) exact = absurd (subst IsExact (ap status_of e) exact)
   none_failed_after loads (inr (of, gave, none)) exact = none
 
-  -- where the status is that of a verdict, no read failed
+  -- if the status is that of a verdict, no read failed
   pub none_failed : IsVerdictOnWords words old new failed failed_since v → IsExact (status_of v) → NoneFailed failed failed_since
   none_failed (inl (none, e, same, faults)) exact = faults
   none_failed (inr (command, formed, h)) exact = none_failed_after h.loads h.reads exact
@@ -155,7 +155,7 @@ module _ (words : List (List ℕ)) (old new : List Read) (failed failed_since : 
   )
   unread_after command loads formed names h (inr (of, gave, none)) e = absurd ((of_texts v of).1 e)
 
-  -- the status of usage comes with its line alone, and only to arguments that form no command
+  -- the status of usage comes with its line alone, and only if the arguments form no command
   pub usage_is_its_line : IsVerdictOnWords words old new failed failed_since v → status_of v ≡ status.Usage → text_of v ≡ usage_line
   usage_is_its_line (inl h) e = ap text_of h.1
   usage_is_its_line (inr (command, formed, h)) e = absurd (no_usage_after h.loads h.reads e)
@@ -169,7 +169,7 @@ module _ (words : List (List ℕ)) (old new : List Read) (failed failed_since : 
   no_command_is_usage (inl h) none = ap status_of h.1
   no_command_is_usage (inr (command, formed, h)) none = absurd (none command formed)
 
-  -- the status of a read fault comes with the name of a file of which a read failed
+  -- the status of a read fault comes with the name of a file that had a failed read
   pub read_fault_names : IsVerdictOnWords words old new failed failed_since v → status_of v ≡ status.ReadFault
       → (name : List ℕ) × IsUnread words old new failed failed_since name × (text_of v ≡ unread_line name)
   read_fault_names (inl h) e = absurd (not_read_fault (sym (ap status_of h.1) ∙ e))

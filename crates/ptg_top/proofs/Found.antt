@@ -1,4 +1,4 @@
--- What a command finds of the job that a table ran: it is found by the table's receipt.
+-- What a command finds from the job that a table ran: it is found by the table's receipt.
 use Rattle.std.proofs.Common.{◌≡◌, ℕ, List, [], ◌∷◌, Result, Ok, Err, refl, sym, subst, inl, inr}
 use Rattle.std.specs.Prelude.{IfOk, None, Bool, true, false, if◌then◌else◌}
 use Rattle.ptg_base.specs.declared.memory.OutOfMemory.{OutOfMemory}
@@ -35,7 +35,7 @@ use Rattle.ptg_top.specs.Tables.{IsReceiptOf}
 -- ---- a verdict without a receipt
 
 module _ (old new : List Read) (command : Order) where
-  -- where no table ran a job
+  -- a verdict whose job no table ran
   not_by_receipt : (v : Verdict) → receipt_of v ≡ None → IsByReceipt old new command v
   not_by_receipt verdict.Usage e = tt
   not_by_receipt (verdict.Unread name) e = tt
@@ -76,18 +76,18 @@ module _ (old new : List Read) (command : Order) where
   checked_by_receipt (Ok v) h = of_check v h
   checked_by_receipt (Err x) h = tt
 
--- ---- what is found of the answer of a job
+-- ---- the finding from the answer of a job
 
 same_finding : (P Q : Plan) (f g : Finding) → verdicts.Ran Q f ≡ verdicts.Ran P g → f ≡ g
 same_finding P Q f g e = cc
 
--- the answer, where the preload is not too large
+-- the answer, if the preload is not too large
 answer_found : (large : Bool) (P Q : Plan) (f g : Finding)
     → verdicts.Ran Q f ≡ (if large then verdicts.PreloadTooLarge else verdicts.Ran P g) → f ≡ g
 answer_found true P Q f g e = absurd cc
 answer_found false P Q f g e = same_finding P Q f g e
 
--- what a verb makes of a consistent job is what the command finds of its answer
+-- what a verb makes of a consistent job is what the command finds from its answer
 abbrev Finds : Order → (Plan → Data → Denotation → Type 0) → Type 0
 Finds command Verb =
     (P Q : Plan) (given : Data) (finding : Finding) → Verb P given (verdicts.Ran Q finding)
@@ -99,7 +99,7 @@ summary_found rows P Q given finding e = same_finding P Q finding _ e
 -- ---- by the receipt of its table
 
 module _ (operands : Operands) (command : Order) (P : Plan) (given : Data) (r : ReceiptView) (finding : Finding) where
-  -- an outcome of a job that the operands denote, and what is found of it
+  -- an outcome of a job that the operands denote, with the finding from it
   abbrev IsFoundFrom : Plan → Data → Outcome → Type 0
   IsFoundFrom Q D outcome =
       FindsJob operands command Q D × (outcome ≡ answer Q D) × IsFoundOf command Q D outcome finding

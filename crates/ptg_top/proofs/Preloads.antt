@@ -12,7 +12,7 @@ use Rattle.ptg_top.specs.Denotation as verdicts
 use Rattle.ptg_top.specs.Denotation.{Denotation}
 
 module _ (P : Plan) (s : Settings) (G : Data) where
-  -- the verdict where these are the bytes of a preload that is too large, or there is none
+  -- the verdict, given the bytes of a preload that is too large, or None
   abbrev verdict_at : Option ℕ → Denotation
   verdict_at large = if is_some large then verdicts.PreloadTooLarge else verdicts.Ran P (Answer (answer P G))
 
@@ -20,7 +20,7 @@ module _ (P : Plan) (s : Settings) (G : Data) where
   pub refused_is_answer : (bytes : ℕ) → too_large_preload s P ≡ Some bytes → IsAnswer s P G verdicts.PreloadTooLarge
   refused_is_answer bytes h = subst (λ large. verdicts.PreloadTooLarge ≡ verdict_at large) (sym h) refl
 
-  -- an answer, where none was refused
+  -- an answer, if no preload was refused
   pub fitting_is_answer : (v : Denotation) → ((bytes : ℕ) → too_large_preload s P ≡ Some bytes → ⊥) → v ≡ verdicts.Ran P (Answer (answer P G)) → IsAnswer s P G v
   fitting_is_answer v none e = fits (too_large_preload s P) none
     where

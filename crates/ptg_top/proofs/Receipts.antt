@@ -28,7 +28,7 @@ use Rattle.ptg_top.specs.Tables.{usual_settings}
 use Rattle.ptg_top.specs.Receipts.{HasConsistentJob, IsAnswerStatus, IsByReceiptForWords, IsReceiptFor, IsVerdictForCommand}
 use Rattle.ptg_top.specs.Receipts.{IsVerdictForWords, IsVerdictOfTable, PrintsReceipt, RunsOnTable, receipt_of}
 
--- ---- what is found of a job that was run has the receipt of the command
+-- ---- the finding of a job that was run has the receipt of the command
 
 an_answer_has_its_status : (outcome : Outcome) → IsAnswerStatus (status_of_outcome outcome)
 an_answer_has_its_status (outcomes.Complete count given) = tt

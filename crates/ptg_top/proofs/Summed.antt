@@ -31,7 +31,7 @@ module _ (n : ℕ) where
   pub refused_denoted : (checked refused : Verdict) → refused ≡ checked → MadeTextsDenote n (denoted checked) → IsRefusedByCheck (denoted refused) → DemoDenotes n (denoted refused)
   refused_denoted checked refused e h r = (denoted refused, subst (λ (v : Verdict). MadeTextsDenote n (denoted v)) (sym e) h, kept (IsSummary n) (denoted refused) r)
 
-  -- what is found of the job of the made texts
+  -- the finding from the job of the made texts
   pub summary_denoted : (checked : Denotation) (P : Plan) (given : Data) (r : Result Verdict OutOfMemory) → checked ≡ verdicts.Job (jobs.Consistent P given) → MadeTextsDenote n checked
       → IfOk r (λ v. IsSummary n P given (denoted v)) → IfOk r (λ v. DemoDenotes n (denoted v))
   summary_denoted checked P given (Ok v) e h s = (checked, h, subst (λ (c : Denotation). OnConsistent (IsSummary n) c (denoted v)) (sym e) s)
@@ -40,7 +40,7 @@ module _ (n : ℕ) where
   demo_of_texts : (v : Denotation) → DemoDenotes n v → IsOfTexts v
   demo_of_texts v (checked, (job, h, e), k) = on_texts (IsSummary n) (λ P given w s. subst IsOfTexts (sym s) tt) checked v (job_is_of_texts checked job e) k
 
-  -- what is denoted is a verdict on the command, where nothing was read
+  -- what is denoted is a verdict on the command, if nothing was read
   pub demo_ends : (reads : List Read) (failed : List ℕ → ℕ) (command : Order) (r : Result Verdict OutOfMemory) → command ≡ Demo n → IfOk r (λ v. DemoDenotes n (denoted v))
       → IfOk r (λ v. IsVerdictOnCommand reads reads failed failed command (denoted v))
   demo_ends reads failed command (Ok v) e h =

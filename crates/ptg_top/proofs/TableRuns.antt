@@ -1,4 +1,4 @@
--- The run of a job by a table: its answer, and what is found of it.
+-- The run of a job by a table: its answer, and the finding from it.
 use Rattle.std.proofs.Common.{◌≡◌, ◌∙◌, ap}
 use Rattle.coll_data.specs.Data.{Data}
 use Rattle.plan_core.specs.declared.plan.Plan.{Plan}
@@ -46,7 +46,7 @@ module _ (s : Settings) (P : Plan) (G : Data) where
   has_receipt (OneThread matched) finding h = absurd h
 
   module _ (by : RanBy) (outcome : Outcome) (h : IsTableAnswer s P G by outcome) where
-    -- what is found of its answer
+    -- the finding from its answer
     pub found_of_run : (find : Outcome → Finding) (finding : Finding) → finding ≡ find outcome → verdicts.Ran (plan_of by) finding ≡ verdicts.Ran P (find (answer P G))
     found_of_run find finding is =
         ap (λ (Q : Plan). verdicts.Ran Q finding) h.plan ∙ ap (λ (f : Finding). verdicts.Ran P f) (is ∙ ap find h.answered)

@@ -1,4 +1,6 @@
--- What `certify` denotes: the certificate of a job that was run. Source: this project's own choice.
+-- What `certify` denotes: the certificate of a job that was run.
+-- Carried by: `ptg_main` (`CommandDenotes`).
+-- Tested by: `certify.txt`.
 use Rattle.std.specs.Prelude.{◌≡◌, ℕ, List}
 use Rattle.coll_data.specs.Data.{Data}
 use Rattle.plan_core.specs.declared.plan.Plan.{Plan}
@@ -14,9 +16,9 @@ use Rattle.ptg_top.specs.declared.verdict.Finding.TheVariants as findings
 use Rattle.ptg_top.specs.Denotation as verdicts
 use Rattle.ptg_top.specs.Denotation.{Denotation}
 
--- What is found of an answer and of the certificate of its job, with these weights of classes: of a complete job the
--- chain with its weight, and the level of each task; of one that stalled the cycle; and where a task trapped the answer
--- itself.
+-- The finding from an answer and the certificate of its job, with these weights of classes. For a complete job it is
+-- the chain with its weight, and the level of each task; for one that stalled it is the cycle. If a task trapped it is
+-- the answer itself.
 abbrev pub certified : List ℕ → Outcome → Certificate → Finding
 certified ws (Complete count final) (certificate.Chain chain levels) =
     findings.Chain (record { tasks = count; weight = chain_weight ws chain; chain = chain; levels = levels })
@@ -24,7 +26,7 @@ certified ws (Stalled ran total rows) (certificate.Cycle cycle) =
     findings.Cycle (record { ran = ran; tasks = total; cycle = cycle })
 certified ws outcome c = findings.Answer outcome
 
--- the verdict of `certify` on a consistent job, by the weights that its data give
+-- the verdict of `certify` on a consistent job, with the weights from its data
 abbrev pub IsCertified : Plan → Data → Denotation → Type 0
 IsCertified P given v =
     (c : Certificate) × IsCertificate P given (class_weights P given) c

@@ -1,4 +1,6 @@
--- The exit status of the process for each way in which a run ends. Source: this project's own choice.
+-- The exit status of the process for each way in which a run ends.
+-- Carried by: `Status::code`.
+-- Tested by: all rows.
 use Rattle.std.specs.Prelude.{ℕ}
 use Rattle.ptg_top.specs.declared.status.Status.{Status}
 use Rattle.ptg_top.specs.declared.status.Status.TheVariants.{Complete, Usage, JdfRefused, DataRefused, Inconsistent, Trapped, Stalled, ReadFault, WriteFault, OutOfMemory, PreloadTooLarge, TraceRefused}

@@ -1,4 +1,6 @@
--- What `demo` denotes: the summary of the made job. Source: this project's own choice.
+-- What `demo` denotes: the summary of the made job.
+-- Carried by: `ptg_main` (`CommandDenotes`).
+-- Tested by: `demo.txt`, `demo_largest.txt`.
 use Rattle.std.specs.Prelude.{◌≡◌, ℕ}
 use Rattle.coll_data.specs.Data.{Data}
 use Rattle.coll_data.specs.Sums.{all_elements, sum_of}
@@ -14,8 +16,8 @@ use Rattle.ptg_top.specs.Denotation as verdicts
 use Rattle.ptg_top.specs.Denotation.{Denotation}
 use Rattle.ptg_top.specs.JobFiles.{JobTextsDenote}
 
--- what is found of the answer of the made job of n rows of tiles: where it is complete, the number of its tasks and the
--- sum of all elements of all collections; else the answer itself
+-- The finding from the answer of the made job of n rows of tiles. If the answer is complete, it is the number of its
+-- tasks and the sum of all elements of all collections; else it is the answer itself.
 abbrev pub summed : ℕ → Outcome → Finding
 summed n (Complete count final) = Summary (record { rows = n; tasks = count; sum = sum_of (all_elements final.colls) })
 summed n outcome = Answer outcome
@@ -28,6 +30,6 @@ IsSummary n P given v = v ≡ verdicts.Ran P (summed n (answer P given))
 abbrev pub MadeTextsDenote : ℕ → Denotation → Type 0
 MadeTextsDenote n v = JobTextsDenote jdf_text (data_text n) v
 
--- the verdict of `demo`: of the made job, if it is consistent, its summary or its answer; else what refuses it
+-- the verdict of `demo`: if the made job is consistent, its summary or its answer; else its refusal
 abbrev pub DemoDenotes : ℕ → Denotation → Type 0
 DemoDenotes n v = GoesOnFrom (MadeTextsDenote n) (IsSummary n) v

@@ -1,4 +1,6 @@
--- The verdict of a run of the program, without those who own its parts. Source: this project's own choice.
+-- The verdict of a run of the program as a value, whoever ran the job and owns its plan.
+-- Carried by: `ptg_main` (`Prints`, `IsCut`).
+-- Tested by: all rows.
 use Rattle.std.specs.Prelude.{ℕ, List}
 use Rattle.plan_core.specs.declared.plan.Plan.{Plan}
 use Rattle.job_stages.specs.declared.verdict.JobVerdict.{JobVerdict}
@@ -9,9 +11,9 @@ use Rattle.ptg_top.specs.declared.verdict.RanBy.TheVariants.{Table, OneThread}
 use Rattle.ptg_top.specs.declared.verdict.Verdict.{Verdict}
 use Rattle.ptg_top.specs.declared.verdict.Verdict.TheVariants as verdicts
 
--- The arguments form no command; the file of this name could not be read; a refusal, or a job that was found
--- consistent; what is found of the answer of a job with this plan; the canonical spelling of a JDF; the preload that
--- was asked for takes too much memory; the trace is refused, and this is its first fault.
+-- Usage: the arguments form no command. Unread: the file of this name could not be read. Job: a refusal, or a job that
+-- was found consistent. Ran: the finding from the answer of a job with this plan. Spelling: the canonical spelling of a
+-- JDF. PreloadTooLarge: the preload that was asked for is too large. TraceRefused: the first fault of the trace.
 pub data Denotation : Type 0 where
   Usage : Denotation
   Unread : List ℕ → Denotation
@@ -26,7 +28,7 @@ abbrev pub plan_of : RanBy → Plan
 plan_of (Table receipt) = receipt.plan
 plan_of (OneThread matched) = matched
 
--- what a verdict says, whoever ran the job
+-- the denotation of a verdict
 abbrev pub denoted : Verdict → Denotation
 denoted verdicts.Usage = Usage
 denoted (verdicts.Unread name) = Unread name

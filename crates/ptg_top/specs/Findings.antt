@@ -1,5 +1,6 @@
--- What a command finds of the answer of a job, what is printed of it, and the exit status. Source: this project's own
--- choice.
+-- What a command finds of a job that was run, the text that is printed of it, and the exit status.
+-- Carried by: `ptg_main`.
+-- Tested by: all rows of `run`, `demo`, `trace`, `replay`, `certify`, `ranks`.
 use Rattle.std.specs.Prelude.{ℕ, List}
 use Rattle.plan_core.specs.declared.plan.Plan.{Plan}
 use Rattle.flow_meaning.specs.declared.outcome.Outcome.{Outcome}
@@ -12,7 +13,7 @@ use Rattle.ptg_top.specs.declared.status.Status.TheVariants as status
 use Rattle.ptg_top.specs.declared.verdict.Finding.{Finding}
 use Rattle.ptg_top.specs.declared.verdict.Finding.TheVariants.{Answer, Summary, Chain, Cycle, Trace, Ranked}
 
--- what is printed of a finding
+-- what is printed of a finding of a job with this plan
 abbrev pub finding_text : Plan → Finding → List ℕ
 finding_text P (Answer outcome) = outcome_text P outcome
 finding_text P (Summary found) = summary_text found

@@ -1,5 +1,7 @@
--- What is printed for a verdict, and what a run of the program promises. Source: this project's own choice of lines and
--- statuses.
+-- What is printed for a verdict, and what a run of the program promises: exact output, a prefix after a write fault,
+-- silence, completeness, a cause of a read fault.
+-- Carried by: `ptg_main`.
+-- Tested by: all rows, `unread.txt`, `unwritten.txt`.
 use Rattle.std.specs.Prelude.{◌≡◌, ℕ, List, ◌++◌}
 use Rattle.report_text.specs.Puts.{HasPrefix}
 use Rattle.report_text.specs.Refusal.{preload_line, refusal_text, unread_line, usage_line}
@@ -34,7 +36,7 @@ status_of (verdicts.Spelling text) = Complete
 status_of verdicts.PreloadTooLarge = PreloadTooLarge
 status_of (verdicts.TraceRefused fault) = TraceRefused
 
--- the status is that of a verdict: neither a failed read or write nor want of memory took its place
+-- the status is that of a verdict: no failed read, no failed write and no lack of memory took its place
 abbrev pub IsExact : Status → Type 0
 IsExact Complete = Unit {0}
 IsExact Usage = Unit {0}
@@ -49,8 +51,8 @@ IsExact OutOfMemory = ⊥
 IsExact PreloadTooLarge = Unit {0}
 IsExact TraceRefused = Unit {0}
 
--- the sink grew by exactly the text of a verdict that the arguments and the operands denote (one at most, but for
--- traces), and this is its status
+-- The sink grew by exactly the text of a verdict that the arguments and the operands denote, and this is its status.
+-- They denote at most one verdict, except for traces.
 pub record Prints (words : List (List ℕ)) (operands : Operands) (before after : List ℕ) (status : Status)
     : Type 0 where
   pub verdict : Denotation
@@ -58,14 +60,14 @@ pub record Prints (words : List (List ℕ)) (operands : Operands) (before after 
   pub text : after ≡ before ++ text_of verdict
   pub ends : status ≡ status_of verdict
 
--- exactly some loads were made, of the first file operands of the command, and what was printed, with its status, is
--- what the arguments denote where these operands hold what was loaded, and the rest count as missing
+-- Exactly these loads were made, of the first file operands of the command, in order. What was printed, with its
+-- status, is what the arguments denote if these operands hold what was loaded and the others count as missing.
 abbrev pub PrintsLoaded : List (List ℕ) → List Read → List Read → List ℕ → List ℕ → Status → Type 0
 PrintsLoaded words old new before after status =
     (loads : List Load) × HasLoaded words old new loads × Prints words (in_loads loads) before after status
 
--- a failed write cut the text of a verdict short: either the verdict on what was loaded, or the name of a file that
--- could not be read
+-- a failed write cut the text of a verdict short: the verdict on what was loaded, or that on a file that could not be
+-- read
 pub record IsCut (words : List (List ℕ)) (old new : List Read) (failed failed_since : List ℕ → ℕ)
     (before after : List ℕ) : Type 0 where
   pub verdict : Denotation

@@ -1,5 +1,7 @@
--- What the two files of a job denote, whatever the machine. Source: this project's own choice: the data file is read
--- only once the JDF's text was found to be that of a tree.
+-- What the two files of a job denote, whatever the machine. The data file is read only once the JDF's text was found to
+-- be that of a tree.
+-- Carried by: `ptg_main`.
+-- Tested by: `check.txt`, `examples.txt`.
 use Rattle.std.specs.Prelude.{◌≡◌, ◌⊎◌, ℕ, List, Option, Some, None}
 use Rattle.jdf_tree.specs.declared.tree.Jdf.{Jdf}
 use Rattle.jdf_tree.specs.Jdf.{IsJdf}
@@ -18,9 +20,9 @@ RefusesText text v = (job : JobVerdict) × JdfTextDenotes text job × (v ≡ ver
 abbrev pub JobTextsDenote : List ℕ → List ℕ → Denotation → Type 0
 JobTextsDenote text data_text v = (job : JobVerdict) × TextsDenote text data_text job × (v ≡ verdicts.Job job)
 
--- The contents of a JDF file and of a data file with these names denote this verdict: that the JDF file is not there;
--- else, where the data file is not there, the first fault of the JDF's text, or that the data file is not there; else
--- what the two texts denote.
+-- The contents of a JDF file and of a data file with these names denote this verdict. If the JDF file is missing, the
+-- verdict is that it is unread. If only the data file is missing, it is the first fault of the JDF's text, or else that
+-- the data file is unread. Otherwise it is what the two texts denote.
 abbrev pub ContentsDenote : List ℕ → List ℕ → Option (List ℕ) → Option (List ℕ) → Denotation → Type 0
 ContentsDenote jdf data_name None other v = v ≡ verdicts.Unread jdf
 ContentsDenote jdf data_name (Some text) None v =
@@ -31,7 +33,7 @@ ContentsDenote jdf data_name (Some text) (Some data_text) v = JobTextsDenote tex
 abbrev pub FilesDenote : Operands → List ℕ → List ℕ → Denotation → Type 0
 FilesDenote operands jdf data_name v = ContentsDenote jdf data_name (operands 0 jdf) (operands 1 data_name) v
 
--- The verdict is one of `check`: a file could not be read, or it is what two texts come to, and the data of a
+-- The verdict is one of `check`: a file could not be read, or it is a verdict on texts, in which the data of a
 -- consistent job fit its plan.
 abbrev pub IsChecked : Denotation → Type 0
 IsChecked (verdicts.Unread name) = Unit {0}

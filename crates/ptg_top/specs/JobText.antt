@@ -1,5 +1,6 @@
--- What is printed for a job that is checked, and the exit status. Source: this project's own choice of lines and
--- statuses.
+-- What is printed for a checked job, and the exit status.
+-- Carried by: `ptg_main`.
+-- Tested by: `check.txt`, `examples.txt`.
 use Rattle.std.specs.Prelude.{ℕ, List, length}
 use Rattle.plan_core.specs.NamesByNumber.{class_name, flow_name}
 use Rattle.dep_iter.specs.Tasks.{all_tasks}
@@ -12,9 +13,8 @@ use Rattle.job_stages.specs.declared.verdict.JobVerdict.TheVariants as jobs
 use Rattle.ptg_top.specs.declared.status.Status.{Status}
 use Rattle.ptg_top.specs.declared.status.Status.TheVariants.{Complete, JdfRefused, DataRefused, Inconsistent}
 
--- what is printed of a job that is checked: its refusal, with the names of the class and the flow of an inconsistency
--- (where the fault is at no flow, there is no name); or its numbers of tasks, of edges (those of CTL flows among them)
--- and of write-backs
+-- What is printed for a checked job: its refusal, or its numbers of tasks, of edges (also those of CTL flows) and of
+-- write-backs. An inconsistency comes with the name of its class and of its flow, if it is at a flow.
 abbrev pub job_text : JobVerdict → List ℕ
 job_text (jobs.Jdf fault) = refusal_text (line_of.Jdf fault)
 job_text (jobs.Data fault) = refusal_text (line_of.Data fault)
@@ -22,7 +22,7 @@ job_text (jobs.Inconsistent P fault) =
     inconsistent_line fault (class_name P fault.class) (flow_name P fault.class fault.flow)
 job_text (jobs.Consistent P given) = consistent_text (length (all_tasks P)) (length (all_in P)) (length (all_writes P))
 
--- the status of a job that is checked
+-- the exit status of a checked job
 abbrev pub status_of_job : JobVerdict → Status
 status_of_job (jobs.Jdf fault) = JdfRefused
 status_of_job (jobs.Data fault) = DataRefused

@@ -1,5 +1,7 @@
--- The verdict that the arguments and what their file operands hold denote, whatever the machine. Source: this project's own choice, over
--- the definitions of the stages.
+-- The verdict that the arguments and what their file operands hold denote, whatever the machine, over the definitions
+-- of the stages.
+-- Carried by: `ptg_main`; laws `top_laws::one_meaning`, `top_laws::some_meaning`, `top_laws::over_known_files`.
+-- Tested by: all rows, `two_faults.txt`.
 use Rattle.std.specs.Prelude.{◌≡◌, ◌⊎◌, ℕ, List, [], Option, Some, None}
 use Rattle.jdf_tree.specs.declared.tree.Jdf.{Jdf}
 use Rattle.jdf_tree.specs.Jdf.{IsJdf}
@@ -27,16 +29,16 @@ IsNoCommand words = (command : Order) → Orders words command → ⊥
 abbrev pub Shows : List ℕ → Denotation → Type 0
 Shows text v = RefusesText text v ⊎ ((J : Jdf) × IsJdf text J × (v ≡ verdicts.Spelling (spelling J)))
 
--- the verdict of `show` on a file with this name and this content: that it is not there, or the one on its text
+-- the verdict of `show` on a file with this name and this content: that it is unread if it is missing, or the one on
+-- its text
 abbrev pub ContentShows : List ℕ → Option (List ℕ) → Denotation → Type 0
 ContentShows name None v = v ≡ verdicts.Unread name
 ContentShows name (Some text) v = Shows text v
 
--- What the operands denote for a command: `run` refuses what `check` refuses; of a job that `check` finds consistent it
--- refuses a preload that is too large, or answers the job. `trace`, `replay`, `certify` and `ranks` refuse what `check`
--- refuses; of a consistent job `trace` gives the text of some whole order, `replay` the verdict on the trace file,
--- `certify` finds the certificate, and `ranks` counts the messages and answers the job, whatever the seed. `demo` reads
--- no file.
+-- What the operands denote for a command. `run`, `trace`, `replay`, `certify` and `ranks` refuse what `check` refuses.
+-- For a consistent job, the verdict of `run` is that the preload is too large, or the answer. That of `trace` is the
+-- text of some whole order, that of `replay` the one on the trace file, and that of `certify` the certificate's
+-- finding. That of `ranks` is the number of messages with the answer, whatever the seed. `demo` reads no file.
 abbrev pub CommandDenotes : Operands → Order → Denotation → Type 0
 CommandDenotes operands (Run jdf data_name workers shards preload) v =
     GoesOnFrom (FilesDenote operands jdf data_name)
@@ -53,13 +55,14 @@ CommandDenotes operands (Ranks jdf data_name ranks seed) v =
     GoesOnFrom (FilesDenote operands jdf data_name) (IsRanked ranks) v
 
 -- The arguments and the operands denote this verdict: usage, if the arguments form no command; else what the operands
--- denote for the command. Of a trace they may denote several.
+-- denote for the command. For `trace` they may denote several verdicts.
 abbrev pub Denotes : List (List ℕ) → Operands → Denotation → Type 0
 Denotes words operands v =
     (IsNoCommand words × (v ≡ verdicts.Usage))
     ⊎ ((command : Order) × Orders words command × CommandDenotes operands command v)
 
--- the loads are of the first file operands of the command that the arguments form, in order; none, if they form none
+-- the loads are of the first file operands of the command that the arguments form, in order; there are none if the
+-- arguments form no command
 abbrev pub AreFirstOperands : List (List ℕ) → List Load → Type 0
 AreFirstOperands words loads =
     (IsNoCommand words × (loads ≡ []))

@@ -1,5 +1,7 @@
--- What `ranks` denotes: the answer of a job that is run by ranks, and how many messages they send one another, whatever
--- the seed. Source: this project's own choice.
+-- What `ranks` denotes: the answer of a job that ranks run, and how many messages they send one another, whatever the
+-- seed.
+-- Carried by: `ptg_main` (`CommandDenotes`).
+-- Tested by: `ranks.txt`.
 use Rattle.std.specs.Prelude.{◌≡◌, ℕ}
 use Rattle.coll_data.specs.Data.{Data}
 use Rattle.plan_core.specs.declared.plan.Plan.{Plan}
@@ -9,8 +11,8 @@ use Rattle.ptg_top.specs.declared.verdict.Finding.TheVariants.{Ranked}
 use Rattle.ptg_top.specs.Denotation as verdicts
 use Rattle.ptg_top.specs.Denotation.{Denotation}
 
--- the verdict of `ranks` on a consistent job: as many messages as there are edges between two ranks whose source has
--- outputs, and the answer of the job
+-- the verdict of `ranks` on a consistent job: the number of edges between two ranks whose source has outputs, as the
+-- number of messages, and the answer of the job
 abbrev pub IsRanked : ℕ → Plan → Data → Denotation → Type 0
 IsRanked r P given v =
     v ≡ verdicts.Ran P (Ranked (record { ranks = r; messages = message_count P given r; outcome = answer P given }))

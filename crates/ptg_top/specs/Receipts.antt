@@ -1,5 +1,6 @@
--- When the program ends with a receipt of the table that ran its job, and what the receipt shows. Source: this
--- project's own choice.
+-- The receipt of a run: when the program ends with one, a command's job, the settings of its table, and what it finds
+-- of the outcome in the receipt.
+-- Carried by: `ptg_main` (`receipt`, `no_receipt`, `of_job`, `answer`).
 use Rattle.std.specs.Prelude.{◌≡◌, ℕ, false, List, ◌++◌, Option, Some, None, IfSome, IsSome, IsSomeAnd, MatchOption}
 use Rattle.ptg_base.specs.Task.{Task}
 use Rattle.ptg_io.specs.Reads.{Gave}
@@ -35,8 +36,8 @@ use Rattle.ptg_top.specs.JobFiles.{FilesDenote}
 use Rattle.ptg_top.specs.Headline.{status_of, text_of}
 use Rattle.ptg_top.specs.Tables.{IsReceiptOf, RanWith, ShowsSettings, usual_settings}
 
--- the settings of the table on which a command runs its job: those that it says, or the usual ones where it has no
--- options for them; none where it runs no job on a table
+-- The settings of the table on which a command runs its job: those that it gives, or the usual ones if it has no
+-- options for them. None if it runs no job on a table.
 abbrev pub settings_of : Order → Option Settings
 settings_of (order.Run jdf data_name workers shards preload) =
     Some (record { workers = workers; shards = shards; preload = preload })
@@ -54,7 +55,7 @@ RunsOnTable command = IsSome (settings_of command)
 abbrev pub IsReceiptFor : Order → ReceiptView → Type 0
 IsReceiptFor command r = IsSomeAnd (settings_of command) (λ (settings : Settings). ShowsSettings settings r)
 
--- the status is one of a job's answer: all tasks ran, some task trapped, or some task could not run
+-- the status may be that of a job's answer: all tasks ran, some task trapped, or some task could not run
 abbrev pub IsAnswerStatus : Status → Type 0
 IsAnswerStatus status.Complete = Unit {0}
 IsAnswerStatus status.Trapped = Unit {0}
@@ -80,9 +81,9 @@ FindsJob operands o P given = ⊥
 abbrev pub HasConsistentJob : List (List ℕ) → Operands → Plan → Data → Type 0
 HasConsistentJob words operands P given = (o : Order) × Orders words o × FindsJob operands o P given
 
--- What a command finds of a job that a table ran with this outcome: `run` the outcome itself, `demo` its summary,
--- `certify` the certificate of the job with the numbers in the outcome, and `trace` the text of a whole order of the
--- tasks that run, which has no outcome in it.
+-- What a command finds from the outcome of a job that a table ran. `run` finds the outcome itself, `demo` its summary,
+-- and `certify` the certificate of the job with the numbers of the outcome. `trace` finds the text of a whole order of
+-- the tasks that run, which does not depend on the outcome.
 abbrev pub IsFoundOf : Order → Plan → Data → Outcome → Finding → Type 0
 IsFoundOf (order.Run jdf data_name workers shards preload) P given outcome finding = finding ≡ Answer outcome
 IsFoundOf (order.Demo rows) P given outcome finding = finding ≡ summed rows outcome
@@ -94,7 +95,7 @@ IsFoundOf (order.Certify jdf data_name) P given outcome finding =
 IsFoundOf o P given outcome finding = ⊥
 
 -- The outcome in the receipt is the answer of the receipt's job. The sink grew by exactly the text of what the command
--- finds of that outcome, and this is its status.
+-- finds from that outcome, and this is its status.
 pub record PrintsReceipt (words : List (List ℕ)) (r : ReceiptView) (before after : List ℕ) (status : Status)
     : Type 0 where
   pub answered : r.outcome ≡ answer r.plan r.given
@@ -107,24 +108,24 @@ pub record PrintsReceipt (words : List (List ℕ)) (r : ReceiptView) (before aft
 
 -- ---- of verdicts
 
--- the receipt of the table that ran the job of a verdict; none where no table ran it
+-- the receipt of the table that ran the job of a verdict; None if no table ran it
 abbrev pub receipt_of : Verdict → Option ReceiptView
 receipt_of (Ran (Table receipt) finding) = Some receipt
 receipt_of v = None
 
--- The verdict is of a table with these settings: it is what is found of a job that such a table ran, or its status is
--- not one of an answer.
+-- The verdict is of a table with these settings: it is a finding of a job that such a table ran, or its status is not
+-- one of an answer.
 abbrev pub IsVerdictOfTable : Settings → Verdict → Type 0
 IsVerdictOfTable settings (Ran by finding) = RanWith settings by
 IsVerdictOfTable settings v = IsAnswerStatus (status_of (denoted v)) → ⊥
 
--- Where the command runs a job on a table, the verdict is of a table with the settings of the command; else it has no
+-- If the command runs a job on a table, the verdict is of a table with the settings of the command; else it has no
 -- receipt.
 abbrev pub IsVerdictForCommand : Order → Verdict → Type 0
 IsVerdictForCommand command v =
     MatchOption (settings_of command) (receipt_of v ≡ None) (λ (settings : Settings). IsVerdictOfTable settings v)
 
--- the same holds of each command that the arguments form
+-- the same for each command that the arguments form
 abbrev pub IsVerdictForWords : List (List ℕ) → Verdict → Type 0
 IsVerdictForWords words v = (command : Order) → Orders words command → IsVerdictForCommand command v
 
@@ -132,21 +133,23 @@ IsVerdictForWords words v = (command : Order) → Orders words command → IsVer
 abbrev pub HasReceiptOf : Plan → Data → Verdict → Type 0
 HasReceiptOf P given v = IfSome (receipt_of v) (IsReceiptOf P given)
 
--- the receipt shows the job that the operands of the command denote and its answer, and this is found of it
+-- the receipt shows the job that the operands of the command denote, with its answer, and this finding is what the
+-- command finds from it
 pub record IsFoundBy (operands : Operands) (command : Order) (r : ReceiptView) (finding : Finding)
     : Type 0 where
   pub job : FindsJob operands command r.plan r.given
   pub answered : r.outcome ≡ answer r.plan r.given
   pub found : IsFoundOf command r.plan r.given r.outcome finding
 
--- A verdict with a receipt is what is found by it, and the operands of the command hold what was loaded.
+-- If the verdict has a receipt, its finding is what the command finds by that receipt from operands that hold what was
+-- loaded.
 abbrev pub IsByReceipt : List Read → List Read → Order → Verdict → Type 0
 IsByReceipt old new command (Ran (Table r) finding) =
     (loads : List Load) × AreOf loads (files_of command) × Gave old new loads
     × IsFoundBy (in_loads loads) command r finding
 IsByReceipt old new command v = Unit {0}
 
--- the same holds of a command that the arguments form
+-- the same for a command that the arguments form
 abbrev pub IsByReceiptForWords : List (List ℕ) → List Read → List Read → Verdict → Type 0
 IsByReceiptForWords words old new (Ran (Table r) finding) =
     (command : Order) × Orders words command × IsByReceipt old new command (Ran (Table r) finding)

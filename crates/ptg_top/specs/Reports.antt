@@ -1,6 +1,7 @@
--- The verdicts on a command, and on the arguments, from the files that were loaded, where a read may fail. `old` and `new`
--- are the reads before and after, and `failed` and `failed_since` count those of each name that failed. Source: this
--- project's own choice.
+-- The verdicts on a command, and on the arguments, from the files that were loaded, if reads may fail. `old` and `new`
+-- are the reads before and after; `failed` and `failed_since` count, before and after, the failed reads of each name.
+-- Carried by: `ptg_main` (`exact`, `complete`, `unread`, `cut`).
+-- Tested by: all rows, `unread.txt`, `unwritten.txt`.
 use Rattle.std.specs.Prelude.{◌≡◌, ◌⊎◌, ℕ, List}
 use Rattle.ptg_io.specs.Faults.{Rose}
 use Rattle.ptg_io.specs.Reads.{Gave, HaveBegun}
@@ -31,14 +32,14 @@ abbrev pub FailedAfter : List Read → List Read → List Load → List ℕ → 
 FailedAfter old new loads name failed failed_since =
     (middle : List Read) × Gave old middle loads × HaveBegun name middle new × Rose (failed name) (failed_since name)
 
--- The verdict is that a file could not be read, whose load was begun after these loads, and its count of failed reads
--- rose; or it is on what was read, these loads were made, and no read failed.
+-- Either the verdict is that a file could not be read: its load was begun after these loads, and its count of failed
+-- reads rose. Or the verdict is on what was read: these loads were made, and no read failed.
 abbrev pub EndsAfter : List Read → List Read → List Load → (List ℕ → ℕ) → (List ℕ → ℕ) → Denotation → Type 0
 EndsAfter old new loads failed failed_since v =
     ((name : List ℕ) × (v ≡ verdicts.Unread name) × FailedAfter old new loads name failed failed_since)
     ⊎ (IsOfTexts v × Gave old new loads × NoneFailed failed failed_since)
 
--- The verdict on a command: what its operands denote, where the first of them hold what was loaded and the rest count as
+-- The verdict on a command: what its operands denote if the first of them hold what was loaded and the others count as
 -- missing.
 pub record IsVerdictOnCommand (old new : List Read) (failed failed_since : List ℕ → ℕ) (command : Order)
     (v : Denotation) : Type 0 where
@@ -47,8 +48,8 @@ pub record IsVerdictOnCommand (old new : List Read) (failed failed_since : List 
   pub denoted : CommandDenotes (in_loads loads) command v
   pub reads : EndsAfter old new loads failed failed_since v
 
--- a verdict on the arguments: usage exactly where they form no command, and then nothing was read; else the verdict on
--- the command
+-- A verdict on the arguments. If they form no command it is usage, and nothing was read; otherwise it is the verdict on
+-- the command.
 abbrev pub IsVerdictOnWords : List (List ℕ) → List Read → List Read → (List ℕ → ℕ) → (List ℕ → ℕ) → Denotation
     → Type 0
 IsVerdictOnWords words old new failed failed_since v =
@@ -59,8 +60,8 @@ IsVerdictOnWords words old new failed failed_since v =
 abbrev pub HasLoaded : List (List ℕ) → List Read → List Read → List Load → Type 0
 HasLoaded words old new loads = AreFirstOperands words loads × Gave old new loads
 
--- The file with this name could not be read: its load was begun after loads with which the arguments denote that it is
--- unread.
+-- The file with this name could not be read: its load was begun after these loads, with which the arguments denote that
+-- it is unread.
 pub record IsUnread (words : List (List ℕ)) (old new : List Read) (failed failed_since : List ℕ → ℕ)
     (name : List ℕ) : Type 0 where
   pub loads : List Load

@@ -1,5 +1,5 @@
--- How the steps of `check` and of `replay` end, where a read may fail. `old` and `new` are the reads before and after,
--- and `failed` and `failed_since` count those of each name that failed. Source: this project's own choice.
+-- How the steps of `check` and of `replay` end, if reads may fail. `old` and `new` are the reads before and after;
+-- `failed` and `failed_since` count, before and after, the failed reads of each name.
 use Rattle.std.specs.Prelude.{◌≡◌, ◌⊎◌, ℕ, List}
 use Rattle.ptg_io.specs.Faults.{Rose}
 use Rattle.ptg_io.specs.Reads.{HaveBegun, IsLoaded}
@@ -37,8 +37,8 @@ TreeIsRefused old new failed failed_since name v =
     IsReadFault old new failed failed_since name v
     ⊎ (IsOfTexts v × (text : List ℕ) × RefusesText text v × LoadedAs old new failed failed_since name text)
 
--- The check of a JDF, read from this text, with the data file of this name ends so: a read of that file failed, or the
--- two texts denote the verdict.
+-- How the check of a JDF of this text with the data file of this name ends: a read of that file failed, or the two
+-- texts denote the verdict.
 abbrev pub CheckOfDataEndsWith : List Read → List Read → (List ℕ → ℕ) → (List ℕ → ℕ) → List ℕ → List ℕ → Denotation
     → Type 0
 CheckOfDataEndsWith old new failed failed_since text data_name v =
@@ -46,7 +46,7 @@ CheckOfDataEndsWith old new failed failed_since text data_name v =
     ⊎ ((job : JobVerdict) × (v ≡ verdicts.Job job) × (data_text : List ℕ) × TextsDenote text data_text job
     × LoadedAs old new failed failed_since data_name data_text)
 
--- The replay of a consistent job with the trace file of this name ends so: a read of that file failed, or the verdict
+-- How the replay of a consistent job with the trace file of this name ends: a read of that file failed, or the verdict
 -- is the one on its text.
 abbrev pub ReplayEndsWith : List Read → List Read → (List ℕ → ℕ) → (List ℕ → ℕ) → List ℕ → Plan → Data → Denotation
     → Type 0

@@ -1,4 +1,5 @@
--- The run of a job by a table. Source: this project's own choice.
+-- The usual settings, the run of a job by a table, and the receipt of a job.
+-- Carried by: `ptg_main` (`receipt`).
 use Rattle.std.specs.Prelude.{◌≡◌, false}
 use Rattle.ptg_base.specs.Limits.{usual_shards, usual_workers}
 use Rattle.coll_data.specs.Data.{Data}

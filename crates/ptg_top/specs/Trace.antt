@@ -1,5 +1,6 @@
--- What `trace` denotes: the text of the tasks that run, in an order in which they may run. Source: this project's own
--- choice.
+-- What `trace` denotes: the text of the tasks that run, in an order in which they may run.
+-- Carried by: `ptg_main` (`CommandDenotes`); law `top_laws::one_job`.
+-- Tested by: `trace.txt`.
 use Rattle.std.specs.Prelude.{◌≡◌, List}
 use Rattle.ptg_base.specs.Task.{Task}
 use Rattle.coll_data.specs.Data.{Data}

@@ -1,4 +1,4 @@
-//! The run of a job's two files, and its certificate.
+//! The verb `certify`: the run of a job's two files, and its certificate.
 
 ghost use Rattle.std.specs.Prelude.{◌≡◌, ◌≤◌, ℕ, List, IfOk};
 ghost use Rattle.std.specs.Str.{IsUtf8};
@@ -36,8 +36,8 @@ use std::sync::Wait;
 use std::thread::Threads;
 use worker_core::Gate;
 
-/// The verdict of `certify` on a JDF file and a data file: of a job that `check` finds consistent, its certificate, or
-/// its answer where a task trapped; else the verdict of `check`.
+/// The verdict of `certify` on a JDF file and a data file. For a job that `check` finds consistent it is the job's
+/// certificate, or its answer if a task trapped; otherwise it is the verdict of `check`.
 pub fn certify<R: Threads + Wait + Sync, F: Files, G: Gate>(
     host: &Host<R, G>,
     jdf: &Text,
@@ -99,7 +99,7 @@ fn certificate_by(
     }
 }
 
-// What is found of an answer and of the certificate of its job.
+// The finding of `certify`, from an answer and the certificate of its job.
 fn certified(outcome: Outcome, certificate: Certificate) -> Finding
     ensures { (P : Plan) (ws : List ℕ) → IsAccepted P ws certificate → result ≡ certified ws outcome certificate }
 {
@@ -110,7 +110,7 @@ fn certified(outcome: Outcome, certificate: Certificate) -> Finding
     }
 }
 
-// What is found of an answer and a heaviest chain, which weighs the greatest level.
+// The finding from an answer and a heaviest chain. The weight of the chain is the greatest level.
 fn with_chain(outcome: Outcome, chain: Seq<TaskId>, levels: Seq<(TaskId, u64)>) -> Finding
     ensures { (P : Plan) (ws : List ℕ) → ShowsHeaviest P ws chain levels
         → result ≡ certified ws outcome (certificates.Chain chain levels) }
@@ -129,7 +129,7 @@ fn with_chain(outcome: Outcome, chain: Seq<TaskId>, levels: Seq<(TaskId, u64)>) 
     }
 }
 
-// What is found of an answer and a cycle.
+// The finding from an answer and a cycle.
 fn with_cycle(outcome: Outcome, cycle: Seq<TaskId>) -> Finding
     ensures { (ws : List ℕ) → result ≡ certified ws outcome (certificates.Cycle cycle) }
 {

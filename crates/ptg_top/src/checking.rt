@@ -1,4 +1,4 @@
-//! The check of a job's two files.
+//! The verb `check`: the check of a job's two files.
 
 ghost use Rattle.std.specs.Prelude.{◌≡◌, ◌≤◌, ℕ, List, IfOk};
 ghost use Rattle.std.specs.Str.{IsUtf8};
@@ -20,8 +20,8 @@ use ptg_base::{OutOfMemory, Text};
 use ptg_io::{Files, LoadFault, load};
 use std::alloc::Global;
 
-/// The verdict of `check` on a JDF file and a data file. The data file is read only once the JDF's text was found to be
-/// that of a tree.
+/// The verdict of `check` on a JDF file and a data file. The data file is read only once the JDF's text has been
+/// parsed.
 pub fn check<F: Files>(
     alloc: Global,
     jdf: &Text,
@@ -45,7 +45,7 @@ pub fn check<F: Files>(
     }
 }
 
-// The verdict on a JDF and a data file.
+// The verdict on a parsed JDF and a data file.
 fn check_data<F: Files>(
     alloc: Global,
     tree: &Jdf,

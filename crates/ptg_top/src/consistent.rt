@@ -13,7 +13,7 @@ use coll_data::Given;
 use dep_iter::Matched;
 use job_stages::JobVerdict;
 
-/// The consistent job that `check` found, with its data; a refusal is handed back.
+/// The consistent job that `check` found, with its data; a refusal is returned as it is.
 pub fn consistent_job(checked: Verdict) -> Result<(Matched, Given), Verdict>
     requires { IsChecked (denoted checked) }
     ensures found { IfOk result (λ (matched, given). denoted checked ≡ verdicts.Job (jobs.Consistent matched given)) }

@@ -10,12 +10,12 @@ use dep_table::Receipt;
 pub struct Ended {
     /// Its status.
     pub status: Status,
-    /// The receipt of the table that ran its job, where a job was run and its answer printed.
+    /// The receipt of the table that ran its job, if a table ran one and its answer was printed.
     pub receipt: Option<Receipt>,
 }
 
 impl Ended {
-    // An end without the answer of a job.
+    // An end with this status and no receipt.
     pub(crate) fn without_receipt(status: Status) -> Ended
         ensures status { result.status ≡ status }
         ensures receipt { result.receipt ≡ None }

@@ -1,4 +1,4 @@
-//! Prints what is found of a job that was run; its status.
+//! Prints the finding of a job that was run; the status of a finding.
 
 ghost use Rattle.std.specs.Prelude.{◌≡◌};
 ghost use Rattle.report_text.specs.Puts.{PrintsText};
@@ -22,7 +22,7 @@ fn plan_of(by: &RanBy) -> &Plan
     }
 }
 
-/// Prints what is found of a job that was run. On `Err` a prefix of its text was written.
+/// Prints the finding of a job that was run. On `Err` a prefix of its text was written.
 pub fn print_finding<O: Sink>(by: &RanBy, finding: &Finding, out: &mut O) -> Result<(), Failed>
     ensures { PrintsText O.bytes O.faults result out.old out.new (finding_text (plan_of by.now) finding.now) }
 {
@@ -36,7 +36,7 @@ pub fn print_finding<O: Sink>(by: &RanBy, finding: &Finding, out: &mut O) -> Res
     }
 }
 
-/// The status of a job that was run.
+/// The exit status of a job that was run, by its finding.
 pub fn status_of_finding(finding: &Finding) -> Status
     ensures { result ≡ status_of_finding finding.now }
 {
@@ -50,7 +50,7 @@ pub fn status_of_finding(finding: &Finding) -> Status
     }
 }
 
-// The status of an answer.
+// The exit status of an answer.
 fn status_of_outcome(outcome: &Outcome) -> Status
     ensures { result ≡ status_of_outcome outcome.now }
 {

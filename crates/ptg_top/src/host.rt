@@ -1,4 +1,4 @@
-//! What a job is run with.
+//! What every run of a job needs from its caller.
 
 use std::alloc::Global;
 

@@ -19,7 +19,7 @@ use ptg_base::{OutOfMemory, Text};
 use ptg_io::{Files, LoadFault, load};
 use std::alloc::Global;
 
-/// The tree of a JDF file; else the verdict that takes its place: the file could not be read, or its text is refused.
+/// The tree of a JDF file, or the verdict that takes its place: the file could not be read, or its text is refused.
 pub fn tree_of_file<F: Files>(
     alloc: Global,
     jdf: &Text,

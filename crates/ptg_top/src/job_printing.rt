@@ -1,4 +1,4 @@
-//! Prints what the check of a job comes to; its status.
+//! Prints the verdict of `check` on a job; the status of such a verdict.
 
 ghost use Rattle.std.specs.Prelude.{◌≡◌};
 ghost use Rattle.report_text.specs.Puts.{PrintsText};
@@ -10,7 +10,7 @@ use plan_core::{class_name, flow_name};
 use ptg_io::{Failed, Sink};
 use report_text::{Line, consistent, refusal};
 
-/// Prints what the check of a job comes to. On `Err` a prefix of its text was written.
+/// Prints the verdict of `check` on a job. On `Err` a prefix of its text was written.
 pub fn print_job<O: Sink>(job: &JobVerdict, out: &mut O) -> Result<(), Failed>
     ensures { PrintsText O.bytes O.faults result out.old out.new (job_text job.now) }
 {
@@ -28,7 +28,7 @@ pub fn print_job<O: Sink>(job: &JobVerdict, out: &mut O) -> Result<(), Failed>
     }
 }
 
-/// The status of a job that was printed.
+/// The exit status of a checked job.
 pub fn status_of_job(job: &JobVerdict) -> Status
     ensures { result ≡ status_of_job job.now }
 {

@@ -1,4 +1,5 @@
-//! The whole program, over files and a sink that it is handed.
+//! The whole program (`ptg_main`): it carries out the command that the arguments form, over any files and any sink, and
+//! prints its verdict.
 #![tactic(auto)]
 
 mod certifying;

@@ -29,7 +29,7 @@ pub fn print_verdict<O: Sink>(verdict: &Verdict, out: &mut O) -> Result<(), Fail
     }
 }
 
-/// The status of a verdict that was printed.
+/// The exit status of a verdict that was printed.
 pub fn status(verdict: &Verdict) -> Status
     ensures { result ≡ status_of (denoted verdict.now) }
 {
@@ -44,7 +44,7 @@ pub fn status(verdict: &Verdict) -> Status
     }
 }
 
-/// The receipt of a verdict that was printed, if its job was run by a table.
+/// The receipt of a verdict that was printed, if a table ran its job.
 pub fn receipt(verdict: Verdict) -> Option<Receipt>
     ensures { result ≡ receipt_of verdict }
 {

@@ -1,4 +1,4 @@
-//! The run of a job's two files by ranks that send one another messages.
+//! The verb `ranks`: the run of a job's two files by ranks that send one another messages.
 
 ghost use Rattle.std.specs.Prelude.{◌≡◌, ◌≤◌, ℕ, List, IfOk, None};
 ghost use Rattle.std.specs.Str.{IsUtf8};
@@ -22,17 +22,17 @@ use rank_world::ranks_of;
 use report_text::RankedAnswer;
 use std::alloc::Global;
 
-/// With what ranks run a job.
+/// The settings of a run by ranks.
 #[derive(Clone, Copy, Debug, PartialEq, Eq)]
 pub struct RankSettings {
-    /// How many ranks there are.
+    /// The number of ranks.
     pub ranks: u32,
-    /// The seed that chooses the order in which tasks run and messages come.
+    /// The seed that chooses the order in which tasks run and messages are delivered.
     pub seed: u64,
 }
 
-/// The verdict of `ranks` on a JDF file and a data file: of a job that `check` finds consistent, how many messages the
-/// ranks send one another, and the job's answer; else the verdict of `check`.
+/// The verdict of `ranks` on a JDF file and a data file. For a job that `check` finds consistent it is the number of
+/// messages that the ranks send one another, with the job's answer; otherwise it is the verdict of `check`.
 pub fn ranks<F: Files>(
     alloc: Global,
     jdf: &Text,

@@ -1,4 +1,4 @@
-//! The names of files.
+//! The names of files, and the verdict on an unread file.
 
 ghost use Rattle.std.specs.Prelude.{◌≡◌, IfOk};
 ghost use Rattle.std.specs.Str.{IsUtf8};
@@ -20,7 +20,7 @@ pub fn name_of(word: &Text) -> &str
     }
 }
 
-/// The verdict where the file of this name could not be read.
+/// The verdict that the file of this name could not be read.
 pub fn unread(alloc: Global, name: &Text) -> Result<Verdict, OutOfMemory>
     ensures { IfOk result (λ v. denoted v ≡ verdicts.Unread name.now) }
 {

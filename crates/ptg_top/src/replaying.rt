@@ -1,4 +1,4 @@
-//! The run of a job's two files in the order of a trace file.
+//! The verb `replay`: the run of a job's two files in the order of a trace file.
 
 ghost use Rattle.std.specs.Prelude.{◌≡◌, ◌≤◌, ℕ, List, IfOk, None};
 ghost use Rattle.std.specs.Str.{IsUtf8};
@@ -23,9 +23,9 @@ use std::alloc::Global;
 use trace_core::trace_too_long;
 use trace_replay::judge_trace;
 
-/// The verdict of `replay` on a JDF file, a data file and a trace file: of a job that `check` finds consistent, the
-/// first fault of the trace, or the job's answer; else the verdict of `check`. The trace file is read only once the job
-/// was found to be consistent.
+/// The verdict of `replay` on a JDF file, a data file and a trace file. For a job that `check` finds consistent it is
+/// the first fault of the trace, or the job's answer; otherwise it is the verdict of `check`. The trace file is read
+/// only once the job was found to be consistent.
 pub fn replay<F: Files>(
     alloc: Global,
     jdf: &Text,

@@ -1,4 +1,4 @@
-//! The run of a job's two files.
+//! The verb `run`: the run of a job's two files.
 
 ghost use Rattle.std.specs.Prelude.{◌≡◌, ◌≤◌, ℕ, List, IfOk};
 ghost use Rattle.std.specs.Str.{IsUtf8};
@@ -25,8 +25,8 @@ use std::sync::Wait;
 use std::thread::Threads;
 use worker_core::Gate;
 
-/// The verdict of `run` on a JDF file and a data file: of a job that `check` finds consistent, that its preload is too
-/// large, or its answer; else the verdict of `check`.
+/// The verdict of `run` on a JDF file and a data file. For a job that `check` finds consistent it is the job's answer,
+/// or that its preload is too large; otherwise it is the verdict of `check`.
 pub fn run<R: Threads + Wait + Sync, F: Files, G: Gate>(
     host: &Host<R, G>,
     jdf: &Text,

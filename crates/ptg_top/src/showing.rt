@@ -1,4 +1,4 @@
-//! A JDF file and its canonical spelling.
+//! The verb `show`: a JDF file and its canonical spelling.
 
 ghost use Rattle.std.specs.Prelude.{◌≡◌, ◌≤◌, ℕ, List, IfOk, None};
 ghost use Rattle.std.specs.Str.{IsUtf8};
@@ -15,7 +15,7 @@ use ptg_base::{OutOfMemory, Text};
 use ptg_io::Files;
 use std::alloc::Global;
 
-/// The verdict of `show` on a JDF file.
+/// The verdict of `show` on a JDF file: its canonical spelling, or why there is none.
 pub fn show<F: Files>(alloc: Global, jdf: &Text, files: &mut F) -> Result<Verdict, OutOfMemory>
     requires { IsUtf8 jdf.now }
     ensures stays { F.contents files.new ≡ F.contents files.old }

@@ -9,8 +9,7 @@ use std::process::ExitCode;
 /// How a run of the program ended; the exit status of its process is `code`.
 #[derive(Clone, Copy, Debug, PartialEq, Eq)]
 pub enum Status {
-    /// What was asked for was printed: of `run`, `demo` and `ranks`, where all tasks ran, their answer; of the other
-    /// verbs what they give.
+    /// What was asked for was printed. For `run`, `replay`, `demo`, `certify` and `ranks` all tasks ran.
     Complete,
     /// The arguments form no command.
     Usage,
@@ -28,9 +27,9 @@ pub enum Status {
     ReadFault,
     /// The output could not be written.
     WriteFault,
-    /// There was no memory. Nothing was written.
+    /// Out of memory. Nothing was written.
     OutOfMemory,
-    /// A preload was asked for, and it takes too much memory.
+    /// A preload was asked for that is over 2^30 bytes.
     PreloadTooLarge,
     /// The trace was refused.
     TraceRefused,
@@ -57,7 +56,7 @@ impl Status {
         }
     }
 
-    /// What the process ends with: its number is `code`.
+    /// The exit code with which the process ends: the number `code`.
     pub fn exit_code(self) -> ExitCode
         ensures { exit_status result ≡ code_of self }
     {

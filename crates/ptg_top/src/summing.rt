@@ -1,4 +1,4 @@
-//! The run of the made job, and its summary.
+//! The verb `demo`: the run of the made job, and its summary.
 
 ghost use Rattle.std.specs.Prelude.{◌≡◌, ◌≤◌, List, IfOk};
 ghost use Rattle.ptg_base.specs.Limits.{most_rows};
@@ -27,8 +27,8 @@ use std::sync::Wait;
 use std::thread::Threads;
 use worker_core::Gate;
 
-/// The verdict of `demo` on a number of rows of tiles: of the made job that is complete, its summary; else the verdict
-/// of `run` on the made texts.
+/// The verdict of `demo` on a number of rows of tiles. If the run of the made job is complete it is the job's summary;
+/// otherwise it is the verdict of `run` on the made texts.
 pub fn demo<R: Threads + Wait + Sync, G: Gate>(
     host: &Host<R, G>,
     rows: u32,

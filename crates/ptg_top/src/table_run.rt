@@ -19,8 +19,8 @@ use std::sync::Wait;
 use std::thread::Threads;
 use worker_core::Gate;
 
-/// Runs a job that was made ready, and gives its answer with the receipt of its table. A preloaded run is never refused
-/// memory.
+/// Runs a job that was made ready, and returns its answer with the receipt of its table. A preloaded run is never
+/// refused memory.
 pub fn run_prepared<R: Threads + Wait + Sync, G: Gate>(
     host: &Host<R, G>,
     prepared: Prepared,
@@ -45,7 +45,7 @@ fn usual_settings() -> Settings
     }
 }
 
-/// Runs a job with the usual settings, and gives its answer with the receipt of its table.
+/// Runs a job with the usual settings, and returns its answer with the receipt of its table.
 pub fn run_as_usual<R: Threads + Wait + Sync, G: Gate>(
     host: &Host<R, G>,
     matched: Matched,

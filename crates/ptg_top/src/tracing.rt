@@ -1,4 +1,4 @@
-//! The run of a job's two files, and the trace of it.
+//! The verb `trace`: the run of a job's two files, and its trace.
 
 ghost use Rattle.std.specs.Prelude.{◌≡◌, ◌≤◌, ℕ, List, false, IfOk};
 ghost use Rattle.std.specs.Str.{IsUtf8};
@@ -29,8 +29,8 @@ use std::thread::Threads;
 use trace_core::trace_text;
 use worker_core::Gate;
 
-/// The verdict of `trace` on a JDF file and a data file: of a job that `check` finds consistent, the text of its tasks
-/// in the order in which workers claimed them; else the verdict of `check`.
+/// The verdict of `trace` on a JDF file and a data file. For a job that `check` finds consistent it is the text of its
+/// tasks in the order in which workers claimed them; otherwise it is the verdict of `check`.
 pub fn trace<R: Threads + Wait + Sync, F: Files, G: Gate>(
     host: &Host<R, G>,
     jdf: &Text,
@@ -78,7 +78,7 @@ fn traced<R: Threads + Wait + Sync, G: Gate>(
     trace_of(host, prepared)
 }
 
-// Runs a job that was made ready: its trace, with the receipt of its table.
+// Runs a job that was made ready, and returns its trace with the receipt of its table.
 fn trace_of<R: Threads + Wait + Sync, G: Gate>(
     host: &Host<R, G>,
     prepared: Prepared,

@@ -1,5 +1,5 @@
-//! The program again, run without arguments: it prints `usage` and ends with status 1, so the status of a refusal is
-//! that of the process.
+//! The program again. Run without arguments, it prints `usage` and ends with status 1, which shows that the status of a
+//! refusal is that of the process.
 #![tactic(auto)]
 
 use ptg_process::process;

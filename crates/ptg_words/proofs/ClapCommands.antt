@@ -1,4 +1,4 @@
--- What clap makes of the words of a verb with these operands and options.
+-- What clap finds in the words of a verb with these operands and options.
 use Rattle.std.proofs.Common.{◌≡◌, ◌≢◌, ℕ, ◌+◌, ◌≤◌, Bool, true, false, not, cond, ◌&&◌, ◌||◌, List, [], ◌∷◌, ◌++◌, map, length, Option, Some, None, is_some, refl, sym, ap, ◌∙◌, arith, codes}
 use Rattle.std.specs.Prelude.{slice_get, nat_le, ◌==◌, drop, find, option_map, option_and_then}
 use Rattle.std.specs.List.{list_any, list_all, AllByRecursion}
@@ -120,7 +120,7 @@ has_first id (u ∷ us) = go (bytes_eq u.0 id) (has_first id us)
     go true e = refl
     go false e = e
 
--- the text of a flag that is not there: clap adds one for a verb that has it
+-- the text of a flag that is not given: clap adds one if the verb has the flag
 abbrev pub off_text : Options → Option Text
 off_text NoOptions = None
 off_text Counts = None

@@ -1,4 +1,4 @@
--- What clap makes of all words of a command: which it refuses, and the values that it finds.
+-- What clap does with all words of a command: which it refuses, and the values that it finds.
 use Rattle.std.proofs.Common.{◌≡◌, ℕ, Bool, true, false, not, cond, ◌&&◌, List, [], ◌∷◌, ◌++◌, map, Option, Some, None, is_some, refl, sym, ap, ◌∙◌, codes, append_assoc}
 use Rattle.std.specs.Prelude.{find, fold, option_map, option_and_then, slice_get}
 use Rattle.std.specs.Option.{option_map_or}
@@ -80,7 +80,7 @@ preload_default rows = go (has_row (codes "preload") rows) refl
     go true e = rw e refl
     go false e = rw e refl
 
--- each default passes
+-- no rule's default has a fault
 abbrev pub Quiet : List Rule → Type 0
 Quiet [] = Unit {0}
 Quiet (a ∷ rest) = ((rows : List Row) → default_fault rows a ≡ []) × Quiet rest
@@ -113,7 +113,7 @@ module _ (name : Text) (c : List Rule) (ids : List Text) (opts : Options) (fits 
   all_views [] p = tt
   all_views (w ∷ ws) p = (fits.views w p.0, all_views ws p.1)
 
-  -- clap passes the words where their parts fit, no option occurs twice and each positional is there
+  -- whether clap passes the words: their parts fit, no option occurs twice, and each positional has a value
   abbrev pub passes : List Text → Bool
   passes ws = (good ids (parts opts ws) && fresh [] (uses ids (parts opts ws))) && list_all (λ i. is_some (value_in i (uses ids (parts opts ws)))) ids
 
@@ -166,7 +166,7 @@ module _ (name : Text) (c : List Rule) (ids : List Text) (opts : Options) (fits 
           ∙ ap (λ b. (good ids (parts opts ws) && fresh [] (uses ids (parts opts ws))) && b)
           (each_given ids (uses ids (parts opts ws)) (fits.tail (map use_row (uses ids (parts opts ws)))) (fits.absent (map use_row (uses ids (parts opts ws)))) fits.apart)
 
--- ---- the same in the words of the parts
+-- ---- the same in terms of the parts
 
 pub settle_terms : (ns nl le fr nt gv cnt : Bool) → ((ns && (nl && le)) ≡ true → fr ≡ nt) → (le && gv) ≡ cnt
     → (((ns && (nl && le)) && fr) && gv) ≡ (ns && (nl && (nt && cnt)))

@@ -1,4 +1,4 @@
--- The rules of a verb's command: one by one for its operands, then those of its options.
+-- The rules of a verb's command: those of its operands, then those of its options.
 use Rattle.std.proofs.Common.{◌≡◌, ℕ, ◌+◌, ◌≤◌, Bool, true, false, not, cond, ◌&&◌, ◌||◌, List, [], ◌∷◌, ◌++◌, map, length, Some, None, refl, sym, ap, ◌∙◌, arith, codes}
 use Rattle.std.specs.Prelude.{fold, min, ◌==◌}
 use Rattle.std.specs.List.{list_any, list_all}
@@ -29,7 +29,7 @@ abbrev pub operand_rules : ℕ → List Text → List Rule
 operand_rules n [] = []
 operand_rules n (i ∷ is) = value_rule i None (Some n) true ∷ operand_rules (n + 1) is
 
--- the rules of the options, as building leaves them
+-- the rules of the options, once the command is built
 abbrev pub built_options : Options → List Rule
 built_options NoOptions = []
 built_options Counts = number_option_rule workers ∷ number_option_rule shards ∷ []
@@ -81,7 +81,7 @@ none_early m n [] Counts = refl
 none_early m n [] CountsAndPreload = refl
 none_early m n (i ∷ is) o = none_early m (n + 1) is o
 
--- ---- a rule by what names it
+-- ---- rules by their names
 
 pub by_short : (n : ℕ) (ids : List Text) (o : Options) (x : ℕ) → arg_by_short (rules_from n ids o) x ≡ None
 by_short n [] NoOptions x = refl
@@ -106,7 +106,7 @@ option_by_id n (i ∷ is) o s a h = rw ((a.0 s).1) (option_by_id (n + 1) is o s 
 pub option_value : (ids : List Text) (o : Options) → Apart ids → has_counts o ≡ true → (s : NumberOption) → IsValue (rules_from 1 ids o) (name_of s)
 option_value ids o a h s = record { long = Some (name_of s); index = None; required = false; found = option_by_id 1 ids o s a h }
 
--- these ids name the same rules
+-- these ids name the same rules in both lists
 abbrev pub SameIds : List Rule → List Rule → List Text → Type 0
 SameIds c d [] = Unit {0}
 SameIds c d (i ∷ is) = (arg_by_id c i ≡ arg_by_id d i) × SameIds c d is
@@ -145,7 +145,7 @@ positions_from c n (i ∷ is) o h by found a = (
 pub positions : (ids : List Text) (o : Options) → 1 + length ids ≤ 100 → Apart ids → Positions (rules_from 1 ids o) 1 ids
 positions ids o h a = positions_from (rules_from 1 ids o) 1 ids o h (λ k le. refl) (all_same (rules_from 1 ids o) ids) a
 
--- ---- what is added and wanted at the end
+-- ---- what is added and required at the end
 
 pub quiet_rules : (n : ℕ) (ids : List Text) (o : Options) → Quiet (rules_from n ids o)
 quiet_rules n [] NoOptions = tt
@@ -154,7 +154,7 @@ quiet_rules n [] CountsAndPreload =
     ((λ rows. value_default rows (codes "workers") (Some (codes "workers")) None false), ((λ rows. value_default rows (codes "shards") (Some (codes "shards")) None false), (preload_default, tt)))
 quiet_rules n (i ∷ is) o = ((λ rows. value_default rows i None (Some n) true), quiet_rules (n + 1) is o)
 
--- what clap adds where `--preload` is not there
+-- the row that clap adds if `--preload` is not given
 abbrev pub off_row : Row
 off_row = record { id = codes "preload"; values = codes "false" ∷ []; count = None; source = Some DefaultValue; reading = AsWritten }
 

@@ -15,7 +15,7 @@ use Rattle.ptg_words.proofs.ClapUses.{none, none_else, value_rule, preload_rule,
 
 -- ---- the walk between two words
 
--- nothing is due, though a use may still be pending; or an option with a number that was named waits for its text
+-- between two words no option waits for its text, though a use may still be pending; or an option with a number does
 pub data Pend : Type 0 where
   quiet : Option Use → Pend
   due : NumberOption → Pend
@@ -44,7 +44,7 @@ held rows p = record { rows = rows; pending = pending_of p; skip = 0 }
 abbrev pub here : List Row → Pend → ℕ → Walk
 here rows p n = record { held = held rows p; waiting = waiting_of p; position = n; is_trailing = false; stopped = None }
 
--- the id is that of an argument of one value
+-- the id is that of an argument with one value
 pub record IsValue (c : List Rule) (id : Text) : Type 0 where
   pub long : Option Text
   pub index : Option ℕ
@@ -56,12 +56,12 @@ Known c (quiet None) = Unit {0}
 Known c (quiet (Some u)) = IsValue c u.0
 Known c (due s) = IsValue c (name_of s)
 
--- the positionals from a place on have these ids
+-- the positionals from this index on have these ids
 abbrev pub Positions : List Rule → ℕ → List Text → Type 0
 Positions c n [] = arg_by_index c n ≡ None
 Positions c n (i ∷ is) = (arg_by_index c n ≡ Some (value_rule i None (Some n) true)) × IsValue c i × (min (n + 1) usize_max ≡ n + 1) × Positions c (n + 1) is
 
--- what clap sees in a word, beside its form
+-- what clap sees in a word, for each form
 pub data View (c : List Rule) (opts : Options) (w : Text) : Type 0 where
   is_plain : form_of opts w ≡ plain → bytes_eq w (45 ∷ 45 ∷ []) ≡ false → long_of w ≡ None → short_of w ≡ None → View c opts w
   is_name : (s : NumberOption) → form_of opts w ≡ named s None → bytes_eq w (45 ∷ 45 ∷ []) ≡ false → long_of w ≡ Some (name_of s, None)
@@ -73,7 +73,7 @@ pub data View (c : List Rule) (opts : Options) (w : Text) : Type 0 where
   is_refused : form_of opts w ≡ unknown → bytes_eq w (45 ∷ 45 ∷ []) ≡ false
       → ((rows : List Row) (p : Pend) → none (flag_word_fault c false (long_of w) w (held rows p)) ≡ false) → View c opts w
 
--- the parts fit the positionals with these ids, and none is lacking or stray
+-- whether no part is lacking or stray, and there are no more operands than positionals
 abbrev pub good : List Text → List Part → Bool
 good ids [] = true
 good [] (operand w ∷ ps) = false
@@ -93,7 +93,7 @@ uses ids (lacking s ∷ ps) = uses ids ps
 uses ids (preload ∷ ps) = (codes "preload", codes "true") ∷ uses ids ps
 uses ids (stray ∷ ps) = uses ids ps
 
--- the walk ends with these rows where it is right
+-- the walk has no fault if and only if `ok`, and then ends with the expected rows
 pub record Ends (F : Kinds) (final expected : List Row) (ok : Bool) : Type 0 where
   pub sound : none F ≡ ok
   pub rows : ok ≡ true → final ≡ expected
@@ -139,7 +139,7 @@ module _ (name : Text) (c : List Rule) (opts : Options) where
       let y = settle_fault c false (fold (walked c []) (walked c [] W w) ws).held in
       none_else (or_else t x) y ∙ ap (λ b. b && none y) (none_else t x) ∙ and_assoc (none t) (none x) (none y) ∙ ap (λ b. none t && b) (sym (none_else x y))
 
-  -- a turn that fails ends it
+  -- if a turn fails, so does the walk
   pub stops : (W : Walk) (w : Text) (ws : List Text) (ok : Bool) (expected : List Row) → none (turn_fault shape [] W w) ≡ false → ok ≡ false
       → Ends (total W (w ∷ ws)) (final W (w ∷ ws)) expected ok
   stops W w ws ok expected turn is_wrong = record {
@@ -147,7 +147,7 @@ module _ (name : Text) (c : List Rule) (opts : Options) where
     rows = λ h. let bad : false ≡ true = sym is_wrong ∙ h in absurd cc;
   }
 
-  -- a turn that passes leads on
+  -- if a turn passes, the walk goes on from the next state
   pub advance : (W next : Walk) (w : Text) (ws : List Text) (b ok rest : Bool) (expected after : List Row)
       → none (turn_fault shape [] W w) ≡ b → (b ≡ true → walked c [] W w ≡ next) → Ends (total next ws) (final next ws) after rest
       → ok ≡ (b && rest) → expected ≡ after → Ends (total W (w ∷ ws)) (final W (w ∷ ws)) expected ok

@@ -1,4 +1,4 @@
--- What clap makes of one word.
+-- What one word does to clap's walk.
 use Rattle.std.proofs.Common.{◌≡◌, ℕ, ◌+◌, Bool, true, false, not, ◌&&◌, List, [], ◌∷◌, ◌++◌, Option, Some, None, refl, sym, ap, ◌∙◌, codes}
 use Rattle.std.specs.Prelude.{min}
 use Rattle.std.specs.Str.{bytes_eq}
@@ -15,7 +15,7 @@ use Rattle.list_lemmas.proofs.Truth.{and-false}
 use Rattle.std.proofs.lemmas.Bool.{and_left}
 
 module _ (name : Text) (c : List Rule) (opts : Options) where
-  -- ---- what each word comes to
+  -- ---- each word by its form
 
   pub turn_operand : (w i : Text) (rows : List Row) (q : Option Use) (n : ℕ) → arg_by_index c n ≡ Some (value_rule i None (Some n) true)
       → bytes_eq w (45 ∷ 45 ∷ []) ≡ false → long_of w ≡ None → short_of w ≡ None

@@ -27,7 +27,7 @@ none_else (k ∷ ks) b = refl
 
 -- ---- the rules of the commands
 
--- a positional or an option of one value, as building leaves it
+-- a positional or an option with one value, once the command is built
 abbrev pub value_rule : Text → Option Text → Option ℕ → Bool → Rule
 value_rule id long index required =
     record (filled (record (new_rule id) { action = Some Set })) { long = long; index = index; required = required }
@@ -38,7 +38,7 @@ preload_rule = filled (record (new_rule (codes "preload")) { long = Some (codes 
 abbrev pub number_option_rule : NumberOption → Rule
 number_option_rule s = value_rule (name_of s) (Some (name_of s)) None false
 
--- what clap keeps of a use
+-- what clap keeps of a use: the id and the value
 abbrev pub Use : Type 0
 Use = Text × Text
 
@@ -49,7 +49,7 @@ abbrev pub added : List Row → List Use → List Row
 added rows [] = rows
 added rows (u ∷ us) = added (rows ++ use_row u ∷ []) us
 
--- each use is the first of its id
+-- whether each use is the first one of its id
 abbrev pub fresh : List Row → List Use → Bool
 fresh rows [] = true
 fresh rows (u ∷ us) = not (has_row u.0 rows) && fresh (rows ++ use_row u ∷ []) us

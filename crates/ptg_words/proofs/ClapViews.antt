@@ -1,4 +1,4 @@
--- What clap sees in a word that is text and neither empty, `-` nor `--`.
+-- What clap sees in a proper word: UTF-8 that is not empty, `-` or `--`.
 use Rattle.std.proofs.Common.{◌≡◌, ℕ, suc, Bool, true, false, cond, List, [], ◌∷◌, ◌++◌, length, Option, Some, None, refl, sym, ap, ap₂, ◌∙◌, subst, arith, codes}
 use Rattle.std.specs.Prelude.{◌==◌, slice_get, drop, encode_utf8}
 use Rattle.std.specs.List.{before_first}
@@ -70,7 +70,7 @@ module _ (c : List Rule) (no_short : (x : ℕ) → arg_by_short c x ≡ None) wh
 abbrev pub name_part : ℕ → List ℕ → Text
 name_part y ys = before_first (λ b. b == 61) (y ∷ ys)
 
--- the rule of the option of this name
+-- the rule of the option of this name, if these options have one
 abbrev pub long_rule : Options → Text → Option Rule
 long_rule NoOptions name = None
 long_rule Counts name = cond (bytes_eq (codes "workers") name) (Some (number_option_rule workers)) (cond (bytes_eq (codes "shards") name) (Some (number_option_rule shards)) None)

@@ -1,4 +1,4 @@
--- What clap's walk makes of all words, against their parts.
+-- The result of clap's walk over all words, in terms of their parts.
 use Rattle.std.proofs.Common.{◌≡◌, ℕ, ◌+◌, true, false, ◌&&◌, List, [], ◌∷◌, ◌++◌, Option, Some, None, refl, sym, ap, ◌∙◌, subst, codes}
 use Rattle.clap.specs.Walk.{Row, Rule, Text, walked, used}
 use Rattle.clap.specs.Faults.{use_fault, turn_fault, walk_fault}

@@ -1,4 +1,4 @@
--- What the files and the numbers of a command are.
+-- The files of a command are text, and its numbers are in range.
 use Rattle.std.proofs.Common.{◌≡◌, ◌∙◌, ℕ, ◌≤◌, ◌<◌, ◌^◌, Bool, true, false, not, ◌&&◌, List, [], ◌∷◌, Option, Some, None, refl, sym, ap, subst, inl, inr, arith}
 use Rattle.ptg_base.specs.Limits.{AreRunCounts, most_rows}
 use Rattle.std.specs.Prelude.{◌⊎◌, nat_le, length, option_map}
@@ -41,7 +41,7 @@ operands_proper opts due (w ∷ ws) h = by_form due (form_of opts w) w (λ next.
 
 -- ---- files
 
--- what a command has, where there is one
+-- the command has this property, if there is a command
 OnOrder : (Order → Type 0) → Option Order → Type 0
 OnOrder P None = Unit {0}
 OnOrder P (Some o) = P o

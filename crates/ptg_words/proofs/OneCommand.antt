@@ -1,4 +1,4 @@
--- Words form one command at most; its files are text, and its numbers are in range.
+-- Words form at most one command; its files are text, and its numbers are in range.
 use Rattle.std.proofs.Common.{◌≡◌, ◌∙◌, ℕ, List, Option, Some, sym, subst}
 use Rattle.ptg_words.specs.declared.order.Order.{Order}
 use Rattle.ptg_words.specs.Parts.{Part, operands}

@@ -1,4 +1,4 @@
--- What clap keeps of the words says the same as their parts: each option occurs once, and the positionals are the
+-- What clap keeps of the words agrees with their parts: each option occurs at most once, and the positionals are the
 -- operands.
 use Rattle.std.proofs.Common.{◌≡◌, ℕ, zero, suc, Bool, true, false, not, cond, ◌&&◌, ◌||◌, List, [], ◌∷◌, ◌++◌, length, map, Option, Some, None, is_some, refl, sym, ap, ◌∙◌, subst, arith, codes}
 use Rattle.std.specs.Prelude.{find, option_map, slice_get, nat_le}
@@ -12,7 +12,7 @@ use Rattle.ptg_words.proofs.ClapStates.{good, uses}
 use Rattle.list_lemmas.proofs.Truth.{second_false, first_false, or-false}
 use Rattle.list_lemmas.proofs.Texts.{bytes_eq-self}
 
--- no id occurs twice
+-- whether no id occurs twice
 abbrev pub distinct : List Use → Bool
 distinct [] = true
 distinct (u ∷ us) = not (list_any (λ v. bytes_eq u.0 v.0) us) && distinct us
@@ -57,13 +57,13 @@ no_rows (u ∷ us) = no_rows us
 pub fresh_first : (us : List Use) → fresh [] us ≡ distinct us
 fresh_first us = fresh_is us [] ∙ ap (λ b. b && distinct us) (no_rows us)
 
--- the ids of positionals are no names of options, and differ
+-- the ids of positionals differ from each other and from the names of options
 abbrev pub Apart : List Text → Type 0
 Apart [] = Unit {0}
 Apart (i ∷ is) = ((s : NumberOption) → (bytes_eq (name_of s) i ≡ false) × (bytes_eq i (name_of s) ≡ false)) × (bytes_eq (codes "preload") i ≡ false)
     × (bytes_eq i (codes "preload") ≡ false) × (list_any (bytes_eq i) is ≡ false) × Apart is
 
--- the name of an option, which is no positional's id
+-- no positional has this name as its id
 abbrev pub IsOptionName : List Text → Text → Type 0
 IsOptionName [] name = Unit {0}
 IsOptionName (i ∷ is) name = (bytes_eq name i ≡ false) × IsOptionName is name
@@ -120,11 +120,11 @@ distinct_is ids (stray ∷ ps) a g = let bad : false ≡ true = g in absurd cc
 pub fresh_once : (ids : List Text) (ps : List Part) → Apart ids → good ids ps ≡ true → fresh [] (uses ids ps) ≡ not (has_twice ps)
 fresh_once ids ps a g = fresh_first (uses ids ps) ∙ distinct_is ids ps a g
 
--- the first value of an id
+-- the first value of an id in these uses, if there is one
 abbrev pub value_in : Text → List Use → Option Text
 value_in id us = option_map (λ u. u.1) (find (λ u. bytes_eq u.0 id) us)
 
--- the ids of positionals have no name of an option at any place
+-- no positional's id is the name of an option
 pub free_at : (ids : List Text) (k : ℕ) (id : Text) → Apart ids → slice_get ids k ≡ Some id → ((s : NumberOption) → bytes_eq (name_of s) id ≡ false) × (bytes_eq (codes "preload") id ≡ false)
 free_at [] k id a e = absurd cc
 free_at (i ∷ is) zero id a e = let here : i ≡ id = cc in subst (λ (x : Text). ((s : NumberOption) → bytes_eq (name_of s) x ≡ false) × (bytes_eq (codes "preload") x ≡ false)) here ((λ s. (a.0 s).0), a.1)
@@ -159,7 +159,7 @@ le_suc a b false e = grind (arith, nat_tests)
 both_more : (a b : ℕ) → nat_le (suc a) (suc b) ≡ nat_le a b
 both_more a b = le_suc a b (nat_le a b) refl
 
--- so they are there where there are at least as many operands
+-- so all ids have a value if and only if there are at least as many operands
 pub all_there : (ids ops : List Text) (g : Text → Option Text) → ((k : ℕ) (id : Text) → slice_get ids k ≡ Some id → g id ≡ slice_get ops k)
     → list_all (λ i. is_some (g i)) ids ≡ nat_le (length ids) (length ops)
 all_there [] ops g at = sym (zero_le (length ops))
@@ -167,7 +167,7 @@ all_there (i ∷ is) [] g at = rw (at 0 i refl, none_below (length is)) refl
 all_there (i ∷ is) (w ∷ ws) g at =
     ap (λ o. is_some o && list_all (λ j. is_some (g j)) is) (at 0 i refl) ∙ all_there is ws g (λ k id e. at (suc k) id e) ∙ sym (both_more (length is) (length ws))
 
--- and they are the operands, where there are as many
+-- and the values are the operands if there are as many
 pub all_values : (ids ops : List Text) (g : Text → Option Text) → length ops ≡ length ids → ((k : ℕ) (id : Text) → slice_get ids k ≡ Some id → g id ≡ slice_get ops k)
     → map g ids ≡ map Some ops
 all_values [] [] g n at = refl
@@ -177,7 +177,7 @@ all_values (i ∷ is) (w ∷ ws) g n at =
     let rest = all_values is ws g (omega (arith, n)) (λ k id e. at (suc k) id e) in
     let first : g i ≡ Some w = at 0 i refl in cc
 
--- none of these is the name
+-- no id in the list is the name
 abbrev pub NoneIs : Text → List Text → Type 0
 NoneIs name [] = Unit {0}
 NoneIs name (i ∷ is) = (bytes_eq i name ≡ false) × NoneIs name is
@@ -211,7 +211,7 @@ both_false true b = refl
 both_false false true = refl
 both_false false false = refl
 
--- the parts fit where none is stray or lacking, and there are no more operands than positionals
+-- `good`, stated by counts: no part is stray or lacking, and there are no more operands than positionals
 pub good_is : (ids : List Text) (ps : List Part)
     → good ids ps ≡ (not (list_any is_stray ps) && (not (list_any is_lacking ps) && nat_le (length (operands ps)) (length ids)))
 good_is ids [] = sym (zero_le (length ids))

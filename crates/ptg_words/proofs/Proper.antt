@@ -1,4 +1,4 @@
--- Words are all proper, or one is not.
+-- All words are proper, or one is not.
 use Rattle.std.proofs.Common.{◌≡◌, ◌≢◌, ℕ, suc, Bool, true, false, List, [], ◌∷◌, refl, inl, inr, arith, codes}
 use Rattle.std.specs.Prelude.{◌⊎◌}
 use Rattle.std.specs.List.{All, Any}

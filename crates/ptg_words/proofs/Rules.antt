@@ -1,4 +1,4 @@
--- The rules hold or fail by what the parts of the words are.
+-- Which rules the words break, from their parts.
 use Rattle.std.proofs.Common.{◌≡◌, ℕ, Bool, true, false, not, ◌&&◌, List, [], ◌∷◌, ◌++◌, ◌+◌, take, length, get_or, Some, Result, Ok, Err, IfOk, refl, sym, ap, ◌∙◌, subst, arith, ◌<◌, ◌≤◌}
 use Rattle.std.specs.Prelude.{◌==◌, drop, option_map, nat_le}
 use Rattle.std.specs.List.{All, list_any, list_all, slice_index_or, AllByRecursion}
@@ -24,7 +24,7 @@ pub rest_proper : (ws : List (List ℕ)) → All IsProper ws → AllByRecursion 
 rest_proper [] h = tt
 rest_proper (w ∷ ws) h = all_proper ws (All-drop IsProper 1 (w ∷ ws) h)
 
--- a rule that is broken is broken by the parts
+-- if words break a rule, their parts do
 by_parts : (rule : Verb → List Part → Bool) (ws : List (List ℕ)) (v : Verb) (ps : List Part) → read ws ≡ Some (v, ps) → Breaks rule ws → rule v ps ≡ true
 by_parts rule ws v ps e h = sym (ap (λ o. option_map_or (λ r. rule r.0 r.1) o false) e) ∙ h
 
@@ -46,7 +46,7 @@ kept : (v : Verb) (ps : List Part) → is_read (operand_count v) ps ≡ true
     → (not (list_any is_stray ps) ≡ true) × (not (list_any is_lacking ps) ≡ true) × (not (has_twice ps) ≡ true) × ((length (operands ps) == operand_count v) ≡ true)
 kept v ps good = four (list_any is_stray ps) (list_any is_lacking ps) (has_twice ps) (length (operands ps) == operand_count v) good
 
--- arguments whose parts keep the rules break none
+-- arguments whose parts break no rule break none
 pub breaks_none : (ws : List (List ℕ)) (v : Verb) (ps : List Part) → read ws ≡ Some (v, ps) → All IsProper ws → is_read (operand_count v) ps ≡ true → has_bad_number v ps ≡ false
     → IsUsage ws → ⊥
 breaks_none ws v ps e proper good number (no_verb h) = absurd cc
@@ -79,7 +79,7 @@ number_at_most least most text h = at_most most text (go (nat_le (length text) 2
     go true false c e = absurd cc
     go false b c e = absurd cc
 
--- what the parts of proper words mean is the command that the words form
+-- proper words form the command that their parts form
 module _ (v : Verb) (ws : List (List ℕ)) (of : IsOf v ws) where
   abbrev pub rest_of : List Part
   rest_of = parts (options_of v) (drop 1 ws)
@@ -94,7 +94,7 @@ module _ (v : Verb) (ws : List (List ℕ)) (of : IsOf v ws) where
     breaks_no_rule = breaks_none ws v rest_of of.reads of.proper good (rw (counts, numbers) refl);
   }
 
-  -- the same, where the operands are known
+  -- the same for operands that are known to be those of the parts
   pub order_from : (order : Order) (ops : List (List ℕ)) → is_read (operand_count v) rest_of ≡ true → has_bad_count rest_of ≡ false → ops ≡ operands rest_of
       → has_bad_operand (operands_of v) ops ≡ false → formed v ops rest_of ≡ Some order → Orders ws order
   order_from order ops good counts same numbers asks =
@@ -110,7 +110,7 @@ module _ (v : Verb) (ws : List (List ℕ)) (of : IsOf v ws) where
   orders r (Ok order) read forms = order_from order (texts r.operands.items) read.good read.counts read.operand_texts forms.good (forms.asks rest_of read.options)
   orders r (Err e) read forms = tt
 
-  -- as are those with an operand that is no number
+  -- words with an operand that is a bad number are a usage error
   pub refused_operand : (r : ReadVerb) → IsReadOf (operand_count v) rest_of r → HasBadOperand v r → IsUsage ws
   refused_operand r read bad = breaks_number ws v rest_of of.reads (rw read.counts (ap (has_bad_operand (operands_of v)) (sym read.operand_texts) ∙ bad))
 

@@ -1,4 +1,4 @@
--- From clap's clauses to what the parts of the words give.
+-- From clap's clauses to what was read of the parts of the words.
 use Rattle.std.proofs.Common.{◌≡◌, ◌≢◌, ℕ, Bool, true, false, not, ◌&&◌, List, [], ◌∷◌, length, Option, refl, sym, ap, ◌∙◌, arith}
 use Rattle.std.specs.Prelude.{option_map, option_to_list, slice_get, ◌==◌}
 use Rattle.std.specs.List.{list_any}
@@ -20,7 +20,7 @@ unfolding none
 some_is [] h = absurd (h refl)
 some_is (k ∷ ks) h = refl
 
--- ---- lists of as many texts as wanted
+-- ---- how many operands and texts there are
 
 four : (a b c d : Bool) → (a && (b && (c && d))) ≡ true → (a ≡ true) × (b ≡ true) × (c ≡ true) × (d ≡ true)
 four true true true true e = (refl, refl, refl, refl)
@@ -35,7 +35,7 @@ counted n ps e =
     let same : (length (operands ps) == n) ≡ true = f.3 in
     (grind (arith, nat_tests), not-true (has_twice ps) f.2)
 
--- an option that does not occur twice has one text at most
+-- an option that does not occur twice has at most one text
 no_texts : (s : NumberOption) (ps : List Part) → list_any (is_named (name_of s)) ps ≡ false → texts_of s ps ≡ []
 no_texts s [] e = refl
 no_texts s (operand w ∷ ps) e = no_texts s ps e

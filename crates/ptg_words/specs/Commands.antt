@@ -29,7 +29,7 @@ option_rules Counts = option_rule (codes "workers") ∷ option_rule (codes "shar
 option_rules CountsAndPreload =
     option_rule (codes "workers") ∷ option_rule (codes "shards") ∷ flag_rule (codes "preload") ∷ []
 
--- the command with more rules at its end
+-- the command with these rules added at the end
 abbrev pub with_rules : App → List Rule → App
 with_rules app rules = on_top (λ s. record s { rules = s.rules ++ rules }) app
 

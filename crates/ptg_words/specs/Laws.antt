@@ -1,4 +1,7 @@
--- What follows from the rules of the command line.
+-- What follows from the rules of the command line: the numbers of a command are in range, and the names of files are
+-- text.
+-- Carried by: laws `commands_have_numbers_in_range`, `files_are_text`.
+-- Tested by: `usage.txt`, `options.txt`.
 use Rattle.std.specs.Prelude.{ℕ, ◌<◌, ◌≤◌, ◌^◌, List, [], ◌∷◌}
 use Rattle.std.specs.Str.{IsUtf8}
 use Rattle.ptg_base.specs.Limits.{AreRunCounts, IsRankCount, most_rows}

@@ -1,4 +1,7 @@
--- Which arguments give which command, and the seven rules by which they give none. Source: this project's own choice.
+-- Which arguments form which command, and the seven rules of the command line. Arguments that break a rule form no
+-- command.
+-- Carried by: `words`; law `word_laws::words_form_one_command`.
+-- Tested by: `usage.txt`, `options.txt`, `commands.txt`.
 use Rattle.std.specs.Prelude.{◌≡◌, ◌≢◌, ◌==◌, ◌&&◌, ◌||◌, not, ℕ, Bool, true, false, nat_le, List, [], ◌∷◌, length, Option, Some, None, option_map, if◌then◌else◌, codes}
 use Rattle.std.specs.List.{Any, list_any}
 use Rattle.std.specs.Option.{option_map_or}
@@ -26,7 +29,7 @@ verb_of word =
     else if bytes_eq word (codes "ranks") then Some verbs.Ranks
     else None
 
--- `run` and `trace` have options
+-- the options of a verb: only `run` and `trace` have any
 abbrev pub options_of : Verb → Options
 options_of verbs.Run = CountsAndPreload
 options_of verbs.Trace = Counts
@@ -42,8 +45,9 @@ pub data Operand : Type 0 where
   file : Operand
   number : ℕ → ℕ → Operand
 
--- `run JDF DATA`, `show JDF`, `check JDF DATA`, `demo N`, `trace JDF DATA`, `replay JDF DATA TRACE`, `certify JDF
--- DATA`, `ranks JDF DATA R SEED`: a made job of 1 to 96 rows of tiles, 1 to 64 ranks, and a seed below 2^64
+-- The operands of a verb: `run JDF DATA`, `show JDF`, `check JDF DATA`, `demo N`, `trace JDF DATA`, `replay JDF DATA
+-- TRACE`, `certify JDF DATA`, `ranks JDF DATA R SEED`. N is 1 to 96 rows of tiles, R is 1 to 64 ranks, and SEED is
+-- below 2^64.
 abbrev pub operands_of : Verb → List Operand
 operands_of verbs.Run = file ∷ file ∷ []
 operands_of verbs.Show = file ∷ []
@@ -59,35 +63,35 @@ abbrev pub read : List (List ℕ) → Option (Verb × List Part)
 read [] = None
 read (word ∷ words) = option_map (λ verb. (verb, parts (options_of verb) words)) (verb_of word)
 
--- a word that is text and neither empty, `-` nor `--`
+-- the word is UTF-8, and is not empty, `-` or `--`
 abbrev pub IsProper : List ℕ → Type 0
 IsProper word = IsUtf8 word × (word ≢ []) × (word ≢ codes "-") × (word ≢ codes "--")
 
--- how many digits a number may have, leading zeros among them
+-- how many digits a number may have, including leading zeros
 abbrev pub most_digits : ℕ
 most_digits = 20
 
--- 1 to 20 decimal digits whose number is from `least` to `most`; leading zeros are allowed
+-- whether the text is 1 to 20 decimal digits that spell a number from `least` to `most`; leading zeros are allowed
 abbrev pub is_number : ℕ → ℕ → List ℕ → Bool
 is_number least most text = nat_le (length text) most_digits && (is_decimal most text && nat_le least (decimal text))
 
--- some text is no number from `least` to `most`
+-- whether some text is no number from `least` to `most`
 abbrev pub has_no_number : ℕ → ℕ → List (List ℕ) → Bool
 has_no_number least most texts = list_any (λ text. not (is_number least most text)) texts
 
--- a text that is to be a number and is none, or is out of its range
+-- whether an operand that must be a number is none, or is out of its range
 abbrev pub has_bad_operand : List Operand → List (List ℕ) → Bool
 has_bad_operand (file ∷ rest) (text ∷ texts) = has_bad_operand rest texts
 has_bad_operand (number least most ∷ rest) (text ∷ texts) =
     not (is_number least most text) || has_bad_operand rest texts
 has_bad_operand _ _ = false
 
--- an option has no number of its range: 1 to 64 workers and 1 to 256 shards
+-- whether the text of an option is no number in its range: 1 to 64 workers, 1 to 256 shards
 abbrev pub has_bad_count : List Part → Bool
 has_bad_count ps =
     has_no_number 1 most_workers (texts_of workers ps) || has_no_number 1 most_shards (texts_of shards ps)
 
--- an option or an operand has no number of its range
+-- whether the text of an option, or an operand that must be a number, is no number in its range
 abbrev pub has_bad_number : Verb → List Part → Bool
 has_bad_number verb ps = has_bad_count ps || has_bad_operand (operands_of verb) (operands ps)
 
@@ -95,7 +99,8 @@ has_bad_number verb ps = has_bad_count ps || has_bad_operand (operands_of verb) 
 abbrev pub operand_count : Verb → ℕ
 operand_count verb = length (operands_of verb)
 
--- Whether there are more or fewer operands than the verb takes. A stray word is no operand: it breaks a rule of its own.
+-- Whether there are more or fewer operands than the verb takes. A stray word is no operand: it breaks a rule of its
+-- own.
 abbrev pub has_wrong_count : Verb → List Part → Bool
 has_wrong_count verb ps = not (length (operands ps) == operand_count verb)
 
@@ -103,10 +108,10 @@ has_wrong_count verb ps = not (length (operands ps) == operand_count verb)
 abbrev pub Breaks : (Verb → List Part → Bool) → List (List ℕ) → Type 0
 Breaks rule words = option_map_or (λ (verb, parts). rule verb parts) (read words) false ≡ true
 
--- The seven rules: arguments form no command where one of these holds. There is no word, or the first is no verb. A
--- word is no text, is empty, or is `-` or `--`. A word begins with `-` and is no option of the verb. An option lacks
--- its number. An option occurs twice. There are more or fewer operands than the verb takes. A number is none, or is out
--- of its range.
+-- The seven usage errors, one for each rule. There is no word, or the first is no verb. A word is not UTF-8, is empty,
+-- or is `-` or `--`. A word begins with `-` and is no option of the verb. An option lacks its number. An option occurs
+-- twice. There are more or fewer operands than the verb takes. A text that must be a number is none, or is out of its
+-- range.
 pub data IsUsage (words : List (List ℕ)) : Type 0 where
   no_verb : read words ≡ None → IsUsage words
   improper_word : Any (λ word. IsProper word → ⊥) words → IsUsage words
@@ -116,20 +121,20 @@ pub data IsUsage (words : List (List ℕ)) : Type 0 where
   operands_differ : Breaks has_wrong_count words → IsUsage words
   bad_number : Breaks has_bad_number words → IsUsage words
 
--- the number of the first text, or the default where there is none
+-- the number that the first text spells, or the default if there is none
 abbrev pub number_or : ℕ → List (List ℕ) → ℕ
 number_or default [] = default
 number_or default (text ∷ texts) = decimal text
 
--- how many workers: 4 unless another number is given
+-- how many workers: 4 by default
 abbrev pub workers_of : List Part → ℕ
 workers_of ps = number_or usual_workers (texts_of workers ps)
 
--- how many shards: 16 unless another number is given
+-- how many shards: 16 by default
 abbrev pub shards_of : List Part → ℕ
 shards_of ps = number_or usual_shards (texts_of shards ps)
 
--- the command that a verb, its operands and its options form
+-- the command that a verb, its operands and its options form, if their number is right
 abbrev pub formed : Verb → List (List ℕ) → List Part → Option Order
 formed verbs.Run (jdf ∷ data_name ∷ []) ps =
     Some (Run jdf data_name (workers_of ps) (shards_of ps) (list_any is_preload ps))

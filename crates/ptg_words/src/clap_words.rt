@@ -1,4 +1,4 @@
-//! What `clap` reads of the words of a verb, as text.
+//! What `clap` finds in the words of a verb, as text.
 
 ghost use Rattle.std.specs.Prelude.{◌≡◌, ◌≢◌, ◌≤◌, ℕ, List, [], true, false, IfOk, Err, drop, length};
 ghost use Rattle.std.specs.List.{AllByRecursion};
@@ -14,7 +14,7 @@ use clap::error::ErrorKind;
 use clap::{Arg, ArgAction, ArgMatches, Command};
 use std::alloc::{AllocError, Global};
 
-// The words of a verb: its operands, and what its options have.
+// The words of a verb, as text: its operands, and the values of its options.
 #[derive(Drop)]
 pub(crate) struct VerbWords<'a> {
     pub(crate) operands: Vec<&'a str>,
@@ -23,7 +23,7 @@ pub(crate) struct VerbWords<'a> {
     pub(crate) preload: bool,
 }
 
-// An operand that must be there.
+// An operand, which must be given.
 fn operand<'a>(alloc: Global, id: &'a str) -> Arg<'a>
     ensures rule { rule_of result ≡ Commands.operand_rule id.entry.now }
     ensures local { result.global ≡ false }
@@ -31,7 +31,7 @@ fn operand<'a>(alloc: Global, id: &'a str) -> Arg<'a>
     Arg::new(alloc, id).required(true).action(ArgAction::Set)
 }
 
-// An option that has a number.
+// An option with a number.
 fn option<'a>(alloc: Global, name: &'a str) -> Arg<'a>
     ensures rule { rule_of result ≡ Commands.option_rule name.entry.now }
     ensures local { result.global ≡ false }
@@ -47,14 +47,14 @@ fn flag<'a>(alloc: Global, name: &'a str) -> Arg<'a>
     Arg::new(alloc, name).long(name).action(ArgAction::SetTrue)
 }
 
-// The command of a verb, with no help of clap's own.
+// The command of a verb without operands and options, and without clap's own help.
 fn plain<'a>(alloc: Global, name: &'a str) -> Command<'a>
     ensures { app_of result ≡ Commands.command name.entry.now [] }
 {
     Command::new(alloc, name).disable_help_flag(true)
 }
 
-// The command with the options that have a number.
+// Adds the options with a number to a command.
 fn with_counts<'a>(alloc: Global, command: Command<'a>) -> Result<Command<'a>, AllocError>
     ensures { IfOk result (λ c.
         app_of c ≡ Commands.with_rules (app_of command.entry) (Commands.option_rules Options.Counts)) }
@@ -63,7 +63,7 @@ fn with_counts<'a>(alloc: Global, command: Command<'a>) -> Result<Command<'a>, A
     command.arg(option(alloc, "shards"))
 }
 
-// The command with the options of the verb.
+// Adds these options to a command.
 fn with_options<'a>(
     alloc: Global,
     command: Command<'a>,
@@ -133,7 +133,7 @@ fn operands_in<'a>(
     Ok(words)
 }
 
-/// The words of a verb with these operands and options.
+/// Parses the words of a verb with these operands and options. The first word is the verb.
 pub(crate) fn verb_words<'a>(
     alloc: Global,
     name: &'a str,

@@ -1,4 +1,4 @@
-//! Parses the command line.
+//! Parses the command line into the command of one of the eight verbs, with its numbers in range.
 #![tactic(auto)]
 
 mod clap_words;

@@ -9,8 +9,8 @@ use std::alloc::{AllocError, AllocFailed};
 /// A command of the program.
 #[derive(Drop)]
 pub enum Order {
-    /// Run the job of this JDF file on this data file, with these numbers of workers and of shards, and with all memory
-    /// taken before the run or not.
+    /// Run the job of this JDF file on this data file, with these numbers of workers and of shards. The flag says
+    /// whether all memory is reserved before the run.
     Run(Text, Text, u32, u32, bool),
     /// Print the canonical spelling of this JDF file.
     Show(Text),
@@ -25,12 +25,12 @@ pub enum Order {
     Replay(Text, Text, Text),
     /// Run the job of this JDF file on this data file, and print a heaviest chain of its tasks or a cycle.
     Certify(Text, Text),
-    /// Run the job of this JDF file on this data file on this many ranks that send messages to each other, delivered as
-    /// this seed says.
+    /// Run the job of this JDF file on this data file on this many ranks, which send messages to each other. The seed
+    /// determines the order in which these are delivered.
     Ranks(Text, Text, u32, u64),
 }
 
-/// Why the arguments give no command.
+/// Why no command was returned.
 #[derive(Clone, Copy, Debug, PartialEq, Eq)]
 pub enum WordsRefusal {
     /// The arguments form no valid command.

@@ -1,4 +1,4 @@
-//! The command that proper words form: the verb, its operands and its numbers.
+//! The command that words form: the verb, its operands and its numbers.
 
 ghost use Rattle.std.specs.Prelude.{◌≡◌, ◌≤◌, ◌∷◌, IfOk, MatchResult, Err, Ok, drop, length};
 ghost use Rattle.std.specs.List.{All};
@@ -14,8 +14,8 @@ use std::alloc::Global;
 
 /// Parses the command line, without the program's name: `run JDF DATA [--workers N] [--shards K] [--preload]`, `show
 /// JDF`, `check JDF DATA`, `demo N`, `trace JDF DATA [--workers N] [--shards K]`, `replay JDF DATA TRACE`, `certify JDF
-/// DATA` or `ranks JDF DATA R SEED`, with options anywhere after the verb. Usage exactly where one of the rules is
-/// broken.
+/// DATA` or `ranks JDF DATA R SEED`, with options anywhere after the verb. Unless memory runs out, it returns `Usage`
+/// if and only if one of the seven rules is broken.
 pub fn words(alloc: Global, list: &[Text]) -> Result<Order, WordsRefusal>
     ensures found { IfOk result (λ order. Orders list.now order) }
     ensures usage { result ≡ Err WordsRefusal.Usage → IsUsage list.now }
@@ -24,7 +24,7 @@ pub fn words(alloc: Global, list: &[Text]) -> Result<Order, WordsRefusal>
     command(alloc, words.as_slice())
 }
 
-// The words as text, if each is proper.
+// The words as text. `Usage` if one is not proper.
 fn texts_of<'a>(alloc: Global, list: &'a [Text]) -> Result<Vec<&'a str>, WordsRefusal>
     ensures found { IfOk result (λ words. (texts words.items ≡ list.now) × All IsProper list.now) }
     ensures usage { result ≡ Err WordsRefusal.Usage → IsUsage list.now }
@@ -36,7 +36,7 @@ fn texts_of<'a>(alloc: Global, list: &'a [Text]) -> Result<Vec<&'a str>, WordsRe
     Ok(words)
 }
 
-// The word as text, unless it is empty, `-` or `--`.
+// The word as text. `Usage` if it is not UTF-8, or is empty, `-` or `--`.
 fn proper(word: &Text) -> Result<&str, WordsRefusal>
     ensures { MatchResult result (λ text. (text.now ≡ word.now) × IsProper word.now) (λ e.
         (e ≡ WordsRefusal.Usage) × (IsProper word.now → ⊥)) }
@@ -63,7 +63,7 @@ fn command(alloc: Global, words: &[&str]) -> Result<Order, WordsRefusal>
     formed(alloc, verb, &read)
 }
 
-// The command of a verb, from what was read after it.
+// The command of a verb, from the operands and options that were read after it.
 fn formed(alloc: Global, verb: Verb, read: &ReadVerb) -> Result<Order, WordsRefusal>
     requires { length read.now.operands.items ≡ Words.operand_count verb }
     ensures found { IfOk result (Forms verb read.now) }
@@ -155,7 +155,7 @@ fn certify(alloc: Global, read: &ReadVerb) -> Result<Order, WordsRefusal>
     Ok(Order::Certify(jdf, data_name))
 }
 
-// The command of `ranks`: 1 to 64 ranks, and a seed of 64 bits.
+// The command of `ranks JDF DATA R SEED`, with 1 to 64 ranks and a seed of 64 bits.
 fn ranks(alloc: Global, read: &ReadVerb) -> Result<Order, WordsRefusal>
     requires { length read.now.operands.items ≡ 4 }
     ensures found { IfOk result (Forms Verb.Ranks read.now) }
@@ -172,7 +172,7 @@ fn ranks(alloc: Global, read: &ReadVerb) -> Result<Order, WordsRefusal>
     Ok(Order::Ranks(jdf, data_name, ranks, seed))
 }
 
-// The names of a job's JDF file and of its data file, with which the operands begin.
+// The names of a job's JDF file and data file, which are the first two operands.
 fn job_files(alloc: Global, operands: &[&str]) -> Result<(Text, Text), OutOfMemory>
     requires { 2 ≤ length operands.now }
     ensures { IfOk result (λ (jdf, data_file). jdf ∷ data_file ∷ drop 2 (texts operands.now) ≡ texts operands.now) }

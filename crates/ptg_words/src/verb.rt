@@ -16,11 +16,11 @@ use ptg_base::{
 };
 use std::alloc::Global;
 
-// How many digits a number may have, leading zeros among them.
+// How many digits a number may have, including leading zeros.
 const MOST_DIGITS: usize = 20;
 
-// The words of a verb: its operands as text, its numbers of workers and of shards, and whether all memory is to be
-// taken before the run.
+// The words of a verb: its operands as text, its numbers of workers and of shards, and whether all memory is reserved
+// before the run.
 #[derive(Drop)]
 pub(crate) struct ReadVerb<'a> {
     pub(crate) operands: Vec<&'a str>,
@@ -61,7 +61,7 @@ pub(crate) fn read_verb<'a>(
     })
 }
 
-// The number of the text, or `default` where there is none. None where the text is no number from 1 to `most`.
+// The number that the text spells, or `default` if there is no text. None if the text is no number from 1 to `most`.
 fn count(text: Option<&str>, most: u32, default: u32) -> Option<u32>
     ensures { MatchOption result (has_no_number 1 most (texts_in text.entry) ≡ true)
         (λ n. (has_no_number 1 most (texts_in text.entry) ≡ false)
@@ -73,7 +73,7 @@ fn count(text: Option<&str>, most: u32, default: u32) -> Option<u32>
     }
 }
 
-/// The number of 1 to 20 decimal digits, if it is from 1 to `most`.
+/// The number that 1 to 20 decimal digits spell, if it is from 1 to `most`.
 pub(crate) fn small_number(text: &str, most: u32) -> Option<u32>
     ensures { MatchOption result (is_number 1 most text.now ≡ false) (λ n.
         (is_number 1 most text.now ≡ true) × (n ≡ decimal text.now)) }
@@ -84,7 +84,7 @@ pub(crate) fn small_number(text: &str, most: u32) -> Option<u32>
     }
 }
 
-/// The number of 1 to 20 decimal digits, if it is from `least` to `most`. Leading zeros change nothing.
+/// The number that 1 to 20 decimal digits spell, if it is from `least` to `most`. Leading zeros are allowed.
 pub(crate) fn number(text: &str, least: u64, most: u64) -> Option<u64>
     ensures { MatchOption result (is_number least most text.now ≡ false) (λ n.
         (is_number least most text.now ≡ true) × (n ≡ decimal text.now)) }
@@ -98,7 +98,7 @@ pub(crate) fn number(text: &str, least: u64, most: u64) -> Option<u64>
     }
 }
 
-/// The name of a file.
+/// The name of a file, copied.
 pub(crate) fn file(alloc: Global, word: &str) -> Result<Text, OutOfMemory>
     ensures { IfOk result (λ text. text ≡ word.now) }
 {

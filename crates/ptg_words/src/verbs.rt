@@ -6,7 +6,7 @@ ghost use Rattle.ptg_words.specs.Readings.{are_ids, texts};
 
 use crate::options::Options;
 
-/// The first word of a command.
+/// What the first word of a command names.
 #[derive(Clone, Copy)]
 pub enum Verb {
     /// Runs a job.
@@ -45,7 +45,7 @@ pub(crate) fn verb_of(word: &str) -> Option<Verb>
 }
 
 impl Verb {
-    /// The ids of its operands, in order.
+    /// The ids by which `clap` knows its operands, in order.
     pub(crate) fn operand_ids(self) -> &'static [&'static str]
         ensures ids { are_ids (texts result.now) ≡ true }
         ensures count { length result.now ≡ Words.operand_count self }
@@ -59,7 +59,7 @@ impl Verb {
         }
     }
 
-    /// The options that it has.
+    /// Its options.
     pub(crate) fn options(self) -> Options
         ensures { result ≡ Words.options_of self }
     {

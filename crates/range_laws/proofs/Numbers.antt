@@ -1,4 +1,4 @@
--- Where the definitions of a class write numbers of 64 bits, its parameters are numbers of 64 bits.
+-- If each number in the definitions of a class has 64 bits, so do its parameters.
 use Rattle.std.proofs.Common.{◌≡◌, ℕ, zero, suc, ◌<◌, ℤ, pos, negsuc, Bool, true, false, cond, ◌&&◌, List, [], ◌∷◌, ◌++◌, refl, ap, sym, ◌∙◌, subst, arith, get_or, unsigned_abs, inl, inr}
 use Rattle.std.proofs.lemmas.Int.{ints, rem_below}
 use Rattle.std.proofs.lemmas.Bool.{and_from, and_parts, lt-ltb, ltb-true}
@@ -35,7 +35,7 @@ use Rattle.range_laws.specs.Numbers.{def_has_numbers, has_numbers, range_has_num
 
 -- ---- values of expressions
 
--- a value, and a fault
+-- a value and a fault, as results
 abbrev good : {F : Type 0} → ℤ → Result ℤ F
 good z = Ok z
 
@@ -71,7 +71,7 @@ not_zero (pos zero) h = absurd cc
 not_zero (pos (suc n)) h = omega arith
 not_zero (negsuc n) h = omega arith
 
--- a quotient or a remainder is there only where the divisor is not 0 and the quotient has 64 bits
+-- a quotient or a remainder exists only if the divisor is not 0 and the quotient has 64 bits
 divided_parts : (a b w z : ℤ) → divided a b w ≡ Ok z → (0 < unsigned_abs b) × (is_number (int_div a b) ≡ true) × (w ≡ z)
 divided_parts a b w z e =
     elim (chosen (int_eq b (pos 0)) (Err Divide) (cond (is_number (int_div a b)) (Ok w) (Err Overflow)) (Ok z) e) [
@@ -205,7 +205,7 @@ number_of (negsuc n) h k = lt-ltb n 9223372036854775808 (grind (arith, ints))
 le_trans : (a b c : ℤ) → int_le a b ≡ true → int_le b c ≡ true → int_le a c ≡ true
 le_trans a b c h k = grind (arith, ints)
 
--- what is from one number of 64 bits on and within another one has 64 bits
+-- a number from one number of 64 bits on and within another one has 64 bits
 between_numbers : (lo hi step x : ℤ) → is_within hi step x ≡ true → is_within x step lo ≡ true → is_number lo ≡ true
     → is_number hi ≡ true → is_number x ≡ true
 between_numbers lo hi (pos zero) x h k l m = absurd cc
@@ -228,7 +228,7 @@ span_value : (e : Term) (env : List ℤ) (z : ℤ) → map_fault Expr (value e e
 span_value e env z h = mapped_parts Expr (value e env) z h
 
 module _ (env : List ℤ) (fit : list_all is_number env ≡ true) where
-  -- the values of a range that writes numbers of 64 bits
+  -- the values of a range whose numbers have 64 bits
   range_numbers : (r : Range) (vs : List ℤ) → range_has_numbers r ≡ true → range_values r env ≡ Ok vs → (v : ℤ) → IsIn v vs
       → is_number v ≡ true
   range_numbers r vs h e v i =

@@ -1,4 +1,5 @@
--- Whether the definitions of a class write numbers of 64 bits alone, as the text of a JDF and its data do.
+-- Whether each number in the definitions of a class has 64 bits, as those of the text of a JDF and of its data do.
+-- Carried by: law `parameters_have_64_bits`.
 use Rattle.std.specs.Prelude.{Bool, true, ◌&&◌}
 use Rattle.std.specs.Option.{option_map_or}
 use Rattle.term_core.specs.Arith.{is_number}
@@ -16,11 +17,11 @@ has_numbers (Unary o a) = has_numbers a
 has_numbers (Binary o a b) = has_numbers a && has_numbers b
 has_numbers (Choose c a b) = has_numbers c && (has_numbers a && has_numbers b)
 
--- the same of a range
+-- the same for a range
 abbrev pub range_has_numbers : Range → Bool
 range_has_numbers r = has_numbers r.lo && (has_numbers r.hi && option_map_or has_numbers r.step true)
 
--- the same of a definition
+-- the same for a definition
 abbrev pub def_has_numbers : Def → Bool
 def_has_numbers (Span r) = range_has_numbers r
 def_has_numbers (Value e) = has_numbers e

@@ -1,4 +1,5 @@
 -- The progression of a range.
+-- Carried by: law `values_are_a_progression`.
 use Rattle.std.specs.Prelude.{ℕ, zero, suc, ℤ, ◌+ℤ◌}
 
 -- the number that is this many steps from lo

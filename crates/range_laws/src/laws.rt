@@ -10,14 +10,14 @@ ghost use Rattle.range_space.specs.Values.{is_within, values};
 ghost use Rattle.range_laws.specs.Numbers.{def_has_numbers};
 ghost use Rattle.range_laws.specs.Steps.{steps_from};
 
-/// A law: the value of a range at an index is the number this many steps from its start, where that is within its end.
+/// A law: the value of a range at an index is the number that many steps from its start, if that is within its end.
 pub fn values_are_a_progression()
     ensures { (lo hi step : ℤ) (index : ℕ)
         → slice_get (values lo hi step) index
         ≡ (if is_within hi step (steps_from lo step index) then Some (steps_from lo step index) else None) }
 {}
 
-/// A law: the parameters of tasks have 64 bits, if each number in the definitions of their class has.
+/// A law: the parameters of tasks have 64 bits, if each number in the definitions of their class does.
 pub fn parameters_have_64_bits()
     ensures { (s : ClassSpace) (params : List ℤ) → IsTrue (list_all def_has_numbers s.defs) → IsIn params (tasks s)
         → IsTrue (list_all is_number params) }

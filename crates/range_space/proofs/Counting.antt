@@ -1,4 +1,4 @@
--- How counts go on from one part of a walk to the next.
+-- How counts continue from one part of a walk to the next.
 use Rattle.std.proofs.Common.{◌≡◌, ℕ, suc, ◌+◌, ◌<◌, ◌≤◌, ◌⊎◌, inl, inr, ℤ, List, [], ◌∷◌, ◌++◌, length, refl, ap, sym, ◌∙◌, append_assoc, add-zero, Result, Ok, Err, length-append, arith}
 use Rattle.std.proofs.lemmas.List.{length-map}
 use Rattle.std.proofs.lemmas.Bool.{cases_lt}
@@ -61,7 +61,7 @@ walked_more t p t' p' t'' p'' xs ys w u =
       all_prefixes = omega arith;
     }
 
--- a fault of the first part is one of both
+-- the first fault of the first part is that of both parts
 pub fault_before : (t p : ℕ) (xs ys : List Visit) (f : SpaceFault) → IsFirstFault t p xs f → IsFirstFault t p (xs ++ ys) f
 fault_before t p xs ys f w = record {
   before = w.before;
@@ -72,7 +72,7 @@ fault_before t p xs ys f w = record {
   stops = w.stops;
 }
 
--- a fault of the second part is one of both, where nothing stops the first
+-- the first fault of the second part is that of both parts, if nothing stops the first part
 pub fault_after : (t p t' p' : ℕ) (xs ys : List Visit) (f : SpaceFault) → IsWalked t p t' p' xs → IsFirstFault t' p' ys f → IsFirstFault t p (xs ++ ys) f
 fault_after t p t' p' xs ys f w u =
     let both = walked_more t p t' p' (t' + task_count u.before) (p' + prefix_count u.before) xs u.before w (record { unstopped = u.unstopped; all_tasks = refl; all_prefixes = refl }) in
@@ -85,7 +85,7 @@ fault_after t p t' p' xs ys f w u =
       stops = rw (sym both.all_tasks, sym both.all_prefixes) u.stops;
     }
 
--- the walk under a definition, by its bounds
+-- the walk under a definition, given its bounds
 pub walk-bounds : (class : ℕ) (d : Def) (ds : List Def) (outer : List ℤ) (b : Bounds) → def_bounds d outer ≡ Ok b → walk class (d ∷ ds) outer ≡ walk_among class ds outer (values b.lo b.hi b.step)
 walk-bounds class d ds outer b e = ap (visits (λ v. Prefix class ∷ walk class ds (outer ++ v ∷ [])) (NoValue class outer)) (def_values-bounds d outer b e)
 
@@ -126,7 +126,7 @@ pub record IsSoFar (t p t' p' class : ℕ) (ds : List Def) (outer all left : Lis
 
 module _ (t p t' p' class : ℕ) (ds : List Def) (outer all left : List ℤ) (v : ℤ) (more : List ℤ)
     (next : left ≡ v ∷ more) (w : IsSoFar t p t' p' class ds outer all left) where
-  -- what is left, with the prefix and what is nested in it apart
+  -- what is left: the prefix, what is nested in it, and the rest
   left-apart : walk_among class ds outer all ≡ (w.done ++ Prefix class ∷ []) ++ walk class ds (outer ++ v ∷ []) ++ walk_among class ds outer more
   left-apart = w.split ∙ ap (λ l. w.done ++ walk_among class ds outer l) next ∙ regroup w.done (Prefix class) (walk class ds (outer ++ v ∷ [])) (walk_among class ds outer more)
     where
@@ -186,7 +186,7 @@ one_prefix t p class h k = record {
   all_prefixes = omega arith;
 }
 
--- more values than there is room for: the first prefix or task without room stops the walk
+-- if there are more values than room, the first prefix or task without room stops the walk
 pub values_refused : (t p class : ℕ) (vs : List ℤ) → t ≤ 1000000 → p ≤ 16000000 → (1000000 < t + length vs) ⊎ (16000000 < p + length vs) → IsFirstFault t p (walk_among class [] [] vs) (TooManyTasks class)
 values_refused t p class [] h k more = absurd (elim more [ inl a ↦ omega arith | inr b ↦ omega arith ])
 values_refused t p class (v ∷ vs) h k more = elim (cases_lt p 16000000) [

@@ -22,7 +22,7 @@ use Rattle.std.specs.Result.{result_unwrap_or}
 use Rattle.list_lemmas.proofs.Members.{IsIn-map}
 use Rattle.list_lemmas.proofs.Distinct.{HasNoRepeats-flat_map, HasNoRepeats-map_members}
 
--- a step leads away from a value
+-- after a step, a value is not met again
 not_back : (step v : ℤ) → is_within v step (v +ℤ step) ≡ true → ⊥
 not_back (pos zero) v h = absurd cc
 not_back (pos (suc n)) v h = grind (arith, ints)
@@ -55,7 +55,7 @@ distinct_def : (d : Def) (env : List ℤ) → HasNoRepeats (result_unwrap_or (de
 distinct_def (Span r) env = distinct_range (bounds r env)
 distinct_def (Value e) env = distinct_number (number e env)
 
--- lists that extend one list by a value and more have the same value there
+-- lists that extend one list by a value and more agree in that value
 same_next : (outer : List ℤ) (v w : ℤ) (k l : List ℤ) → (outer ++ v ∷ []) ++ k ≡ (outer ++ w ∷ []) ++ l → v ≡ w
 same_next [] v w k l e = cc
 same_next (x ∷ outer) v w k l e = same_next outer v w k l cc
@@ -70,7 +70,7 @@ distinct_lists (d ∷ ds) outer =
     let q = locals_from_full ds (outer ++ w ∷ []) x k in
     same_next outer v w p.0 q.0 (sym p.1 ∙ q.1))
 
--- at most one value of a definition agrees with what is given, where a value is given for a range
+-- at most one value of a definition agrees with a value that is given
 same_given : (given : Option ℤ) (v w : ℤ) → IsSome given → AgreesWith given v → AgreesWith given w → v ≡ w
 same_given None v w some a b = absurd cc
 same_given (Some z) v w some a b = a ∙ sym b

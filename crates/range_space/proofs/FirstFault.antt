@@ -1,9 +1,9 @@
--- A walk has one first fault at most.
+-- A walk has at most one first fault.
 use Rattle.std.proofs.Common.{◌≡◌, ℕ, ◌+◌, List, [], ◌∷◌, ◌++◌, refl, sym, ◌∙◌, subst, arith}
 use Rattle.range_space.specs.declared.fault.SpaceFault.{SpaceFault}
 use Rattle.range_space.specs.Walk.{Visit, Prefix, Task, NoValue, task_count, prefix_count, IsUnstopped, StopsAt, IsFirstFault}
 
--- one visit has one fault at most
+-- one visit has at most one fault
 same_stop : (t p u q : ℕ) (v : Visit) (f g : SpaceFault) → StopsAt t p v f → StopsAt u q v g → f ≡ g
 same_stop t p u q (NoValue c vs) f g h k = h ∙ sym k
 same_stop t p u q (Task c) f g h k = h.1 ∙ sym k.1
@@ -29,7 +29,7 @@ count_rest (NoValue c ws) vs = (omega arith, omega arith)
 count_rest (Task c) vs = (omega arith, omega arith)
 count_rest (Prefix c) vs = (omega arith, omega arith)
 
--- the walk that is cut at two visits, each of which is the first that stops it
+-- if one walk is cut at two visits, each the first that stops it, the faults are the same
 same_first : (xs ys : List Visit) (v w : Visit) (vs ws : List Visit) (f g : SpaceFault) (t p t' p' u q : ℕ) → t' ≡ t + task_count xs → p' ≡ p + prefix_count xs → u ≡ t + task_count ys → q ≡ p + prefix_count ys → xs ++ v ∷ vs ≡ ys ++ w ∷ ws → IsUnstopped t p xs → IsUnstopped t p ys → StopsAt t' p' v f → StopsAt u q w g → f ≡ g
 same_first [] [] v w vs ws f g t p t' p' u q a b c d e h k s r =
     let same : v ≡ w = cc in

@@ -19,7 +19,7 @@ use Rattle.list_lemmas.proofs.Members.{IsIn-flat_map, from_flat_map, IsIn-map, f
 use Rattle.std.specs.Cmp.{first_so, second_so}
 use Rattle.std.specs.Result.{result_unwrap_or}
 
--- the full lists are those of the locals that are values of their definitions
+-- locals that are values of their definitions make a full list, and every full list is so made
 pub full_from_locals : (ds : List Def) (outer locals : List ℤ) → AreLocals ds outer locals → IsIn (outer ++ locals) (full_lists ds outer)
 full_from_locals [] outer [] w = inl (append-nil outer)
 full_from_locals [] outer (v ∷ locals) w = absurd w
@@ -41,7 +41,7 @@ length-locals [] outer (v ∷ locals) w = absurd w
 length-locals (d ∷ ds) outer [] w = absurd w
 length-locals (d ∷ ds) outer (v ∷ locals) w = ap suc (length-locals ds (outer ++ v ∷ []) locals w.1)
 
--- nothing is given of a definition that is no parameter
+-- no value is given to a definition that is no parameter
 pub no_param_value : (ps : List ℕ) (vs : List ℤ) (n : ℕ) → is_among n ps ≡ false → param_value ps vs n ≡ None
 no_param_value [] vs n h = refl
 no_param_value (p ∷ ps) [] n h = refl
@@ -50,7 +50,7 @@ no_param_value (p ∷ ps) (v ∷ vs) n h =
     (λ k. absurd (false≢true (sym h ∙ ap (λ b. b || is_among n ps) k)))
     (λ k. rw k (no_param_value ps vs n (ap (λ b. b || is_among n ps) (sym k) ∙ h)))
 
--- a value is given of each parameter
+-- a value is given to each parameter
 pub IsSome-param_value : (ps : List ℕ) (vs : List ℤ) (n : ℕ) → length ps ≡ length vs → is_among n ps ≡ true → IsSome (param_value ps vs n)
 IsSome-param_value [] vs n e h = absurd (false≢true h)
 IsSome-param_value (p ∷ ps) [] n e h = absurd (omega arith)
@@ -72,7 +72,7 @@ all_agree ps vs k (v ∷ l) f = (
   all_agree ps vs (suc k) l (λ i h. subst (λ n. AgreesWith (param_value ps vs n) (slice_index_or l i (pos 0))) (omega arith) (f (suc i) (omega arith))),
 )
 
--- locals that agree with the given values have them as parameters
+-- locals that agree with the given values have these as parameters
 pub params_from_agreement : (ps : List ℕ) (vs l : List ℤ) → length ps ≡ length vs → are_distinct (λ p q. q == p) ps ≡ true → list_all (λ p. nat_lt p (length l)) ps ≡ true → ((i : ℕ) → i < length l → AgreesWith (param_value ps vs i) (slice_index_or l i (pos 0))) → params_of ps l ≡ vs
 params_from_agreement [] [] l e d w f = refl
 params_from_agreement [] (v ∷ vs) l e d w f = absurd (omega arith)
@@ -88,7 +88,7 @@ params_from_agreement (p ∷ ps) (v ∷ vs) l e d w f =
     (λ k. rw k at (f i h))) in
     ap (λ z. z ∷ params_of ps l) first ∙ ap (λ zs. v ∷ zs) others
 
--- locals that have the given parameters agree with them
+-- locals that have the given parameters agree with the given values
 pub agreement_from_params : (ps : List ℕ) (vs l : List ℤ) → params_of ps l ≡ vs → (i : ℕ) → AgreesWith (param_value ps vs i) (slice_index_or l i (pos 0))
 agreement_from_params [] vs l e i = tt
 agreement_from_params (p ∷ ps) [] l e i = tt
@@ -97,12 +97,12 @@ agreement_from_params (p ∷ ps) (v ∷ vs) l e i =
     (λ k. rw k (ap (λ j. slice_index_or l j (pos 0)) (sym (eqb-true p i k)) ∙ cc))
     (λ k. rw k (agreement_from_params ps vs l (cc) i))
 
--- in a well made space a value is given of each range
+-- in a well made space a value is given to each range
 pub given_if_ranged : (d : Def) (ds : List Def) (ps : List ℕ) (vs : List ℤ) (n : ℕ) → length ps ≡ length vs → spans_are_params n (d ∷ ds) ps ≡ true → IsGivenIfRanged d (param_value ps vs n)
 given_if_ranged (Span r) ds ps vs n e h = IsSome-param_value ps vs n e (first_so (is_among n ps) (spans_are_params (suc n) ds ps) h)
 given_if_ranged (Value t) ds ps vs n e h = tt
 
--- what extends locals by more extends them by the next one alone, if that one is known
+-- a completion of `outer` is one of `outer` with the next value, if that value is known
 module _ (d : Def) (ds : List Def) (ps : List ℕ) (vs : List ℤ) (n : ℕ) (outer full : List ℤ) (v : ℤ) (only : (u : ℤ) → IsIn u (result_unwrap_or (def_values d outer) []) → AgreesWith (param_value ps vs n) u → v ≡ u) where
   next_of : (locals : List ℤ) → full ≡ outer ++ locals → AreLocals (d ∷ ds) outer locals → AllAgree ps vs n locals → IsCompletion ds ps vs (suc n) (outer ++ v ∷ []) full
   next_of [] e a g = absurd a
@@ -153,7 +153,7 @@ arity_of_task s vs t =
     let m = from_map (params_of s.params) (all_locals s) vs t in
     sym (ap length m.2 ∙ length-map s.params (λ p. slice_index_or m.0 p (pos 0)))
 
--- an answer that is true where the first holds, which gives the fact, and false where the second does, which excludes
+-- a result that is true if the first holds, from which the fact follows, and false if the second does, which excludes
 -- it
 pub decided_by : {P Q R : Type 0} (b : Bool) → OnTrue b P → OnFalse b Q → (P → R) → (Q → R → ⊥) → (IsTrue b → R) × (R → IsTrue b)
 decided_by true p q f g = (λ t. f p, λ r. refl)

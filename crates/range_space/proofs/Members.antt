@@ -9,7 +9,7 @@ use Rattle.range_space.proofs.Stepping.{gap, gap-step, size_pos, gap_last, while
 use Rattle.list_lemmas.proofs.Truth.{by_test}
 
 module _ (hi step : ℤ) where
-  -- a range with a value has one more for each whole step up to hi
+  -- a range that has a value has one more for each whole step up to hi
   length_while : (n : ℕ) (v : ℤ) → gap hi v < n → is_within hi step v ≡ true → length (while_within hi step n v) ≡ gap hi v / unsigned_abs step + 1
   length_while zero v p h = absurd (omega arith)
   length_while (suc n) v p h =
@@ -50,7 +50,7 @@ past_trans hi (negsuc n) x v h k = grind (arith, ints)
 same_from_gap : (x v : ℤ) → gap x v ≡ 0 → x ≡ v
 same_from_gap x v h = grind (arith, ints)
 
--- a number that is a step away or more is not passed by the next step
+-- a number that is at least a step away is not passed by the next step
 past_next : (x step v : ℤ) → is_within x step v ≡ true → unsigned_abs step ≤ gap x v → is_within x step (v +ℤ step) ≡ true
 past_next x (pos zero) v h k = absurd cc
 past_next x (pos (suc n)) v h k = grind (arith, ints)
@@ -89,7 +89,7 @@ on_way hi step (suc n) v x w =
     elim u [ inl e ↦ rw e (at_start hi step v h) | inr t ↦ a_step_more hi step v x (on_way hi step n (v +ℤ step) x t) ])
     (λ h. absurd (rw (while_past hi step (suc n) v h) at w))
 
--- a whole number of steps that is not none is at least one
+-- a distance that is a whole number of steps, but not zero, is at least one step
 a_step_or_more : (d s : ℕ) → 0 < d → d % s ≡ 0 → s ≤ d
 a_step_or_more d s p h = elim (cases_lt d s) [ inl k ↦ absurd (let e = mod-eq_of_lt k in omega arith) | inr k ↦ k ]
 
@@ -112,7 +112,7 @@ from_way hi step (suc n) v x p w =
           }))
     ])
 
--- the values of a range are the numbers that lie a whole number of steps from its start and within its end
+-- the values of a range are the numbers a whole number of steps from its start and within its end
 pub values_way : (lo hi step x : ℤ) → IsIn x (values lo hi step) → IsOnWay hi step lo x
 unfolding values
 values_way lo hi step x w = on_way hi step (suc (gap hi lo)) lo x w

@@ -1,4 +1,4 @@
--- How the full lists of an iteration space go on from one to the next.
+-- How the full lists of an iteration space continue from one to the next.
 use Rattle.std.proofs.Common.{◌≡◌, ℕ, suc, ◌+◌, ◌<◌, ℤ, pos, ◌+ℤ◌, List, [], ◌∷◌, ◌++◌, length, take, drop, get_or, refl, ap, sym, ◌∙◌, append_assoc, add-one, Option, Some, None, Result, Ok, Err, MatchOption, arith}
 use Rattle.std.proofs.lemmas.List.{append-nil, take_more, same_from_push}
 use Rattle.std.proofs.lemmas.Int.{ints}
@@ -52,7 +52,7 @@ not_empty : {A : Type 0} (xs : List A) (v : A) → xs ++ v ∷ [] ≡ [] → ⊥
 not_empty [] v e = absurd cc
 not_empty (x ∷ xs) v e = absurd cc
 
--- what taking the last element away leaves
+-- what is left once the last element is taken away
 pub popped : {A : Type 0} (r : Option A) (xs ys : List A) (v : A) → MatchOption r ((xs ++ v ∷ [] ≡ []) × (ys ≡ [])) (λ w. xs ++ v ∷ [] ≡ ys ++ w ∷ []) → ys ≡ xs
 popped None xs ys v h = absurd (not_empty xs v h.0)
 popped (Some w) xs ys v h = (same_from_push ys xs w v (sym h)).0
@@ -112,7 +112,7 @@ module _ (ds : List Def) (outer : List ℤ) (b : Bounds) (at v : ℤ) (vs more :
   pub none_here : full_lists ds (outer ++ v ∷ []) ≡ [] → lists_over ds outer (values b.lo b.hi b.step) ≡ lists_over ds outer more
   none_here h = among-here ∙ ap (λ l. l ++ lists_over ds outer more) h
 
--- where a list is cut: the values before a place, the one there, and those after it
+-- a list cut in three: the values before an index, the one at it, and those after it
 pub record IsCut (old : List ℤ) (depth : ℕ) (v : ℤ) : Type 0 where
   pub before : take (depth + 1) old ≡ take depth old ++ v ∷ []
   pub from : drop depth old ≡ v ∷ drop (depth + 1) old
@@ -120,7 +120,7 @@ pub record IsCut (old : List ℤ) (depth : ℕ) (v : ℤ) : Type 0 where
 pub cut : (old : List ℤ) (depth : ℕ) → depth < length old → IsCut old depth (get_or old depth (pos 0))
 cut old depth h = record { before = take_more old depth (pos 0) h; from = rw (add-one) (drop-cons old depth (pos 0) h) }
 
--- what is the first list with another value is the first list
+-- the first list with another value of the definition is the first list
 first_past : (d : Def) (ds : List Def) (outer now : List ℤ) (v : ℤ) → IsFirstPast d ds outer now (lists_past d ds outer v) → IsFirstOf (d ∷ ds) outer now (lists_past d ds outer v)
 first_past (Span r) ds outer now v s = record {
   locals = s.value ∷ s.locals;

@@ -1,4 +1,4 @@
--- What a walk that nothing stops says of the classes, and back.
+-- What an unstopped walk shows about the classes, and conversely.
 use Rattle.std.proofs.Common.{◌≡◌, ℕ, suc, ◌+◌, ◌≤◌, ℤ, List, [], ◌∷◌, ◌++◌, length, refl, Result, Ok, Err, IsOkAnd, length-append, flat_map, arith}
 use Rattle.std.specs.List.{AllByRecursion}
 use Rattle.std.specs.Result.{result_unwrap_or}

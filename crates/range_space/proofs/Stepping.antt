@@ -1,4 +1,4 @@
--- How a range goes on from one value to the next.
+-- How a range continues from one value to the next.
 use Rattle.std.proofs.Common.{◌≡◌, ℕ, zero, suc, ◌+◌, ◌<◌, ℤ, pos, negsuc, ◌+ℤ◌, ◌-ℤ◌, unsigned_abs, true, false, [], ◌∷◌, refl, ap, sym, ◌∙◌, Option, Some, None, SomeIff, FitsSigned, w64, arith}
 use Rattle.std.proofs.lemmas.Int.{ints}
 use Rattle.range_space.specs.Values.{is_within, while_within, values, values_from}
@@ -8,7 +8,7 @@ use Rattle.list_lemmas.proofs.Truth.{by_test}
 abbrev pub gap : ℤ → ℤ → ℕ
 gap hi v = unsigned_abs (hi -ℤ v)
 
--- a step that does not go past hi comes nearer to it by its size
+-- a step that does not pass hi comes nearer to it by the size of the step
 pub gap-step : (hi step v : ℤ) → is_within hi step v ≡ true → is_within hi step (v +ℤ step) ≡ true → gap hi v ≡ gap hi (v +ℤ step) + unsigned_abs step
 gap-step hi (pos zero) v h k = absurd cc
 gap-step hi (pos (suc n)) v h k = grind (arith, ints)
@@ -25,7 +25,7 @@ gap_last hi (pos zero) v h k = absurd cc
 gap_last hi (pos (suc n)) v h k = grind (arith, ints)
 gap_last hi (negsuc n) v h k = grind (arith, ints)
 
--- a sum that is not past hi fits where both ends do
+-- a sum that is not past hi fits 64 bits if v and hi do
 fits_between : (v hi step : ℤ) → FitsSigned w64 v → FitsSigned w64 hi → is_within hi step (v +ℤ step) ≡ true → FitsSigned w64 (v +ℤ step)
 fits_between v hi (pos zero) f g k = absurd cc
 fits_between v hi (pos (suc n)) f g k = omega (arith, ints)
@@ -41,7 +41,7 @@ module _ (hi step : ℤ) where
   unfolding while_within
   while_in n v h = rw h refl
 
-  -- more room than whole numbers up to hi changes nothing
+  -- a larger bound on the number of values changes nothing
   pub while_enough : (m n : ℕ) (v : ℤ) → gap hi v < m → gap hi v < n → while_within hi step m v ≡ while_within hi step n v
   while_enough zero n v p q = absurd (omega arith)
   while_enough (suc m) zero v p q = absurd (omega arith)
@@ -72,7 +72,7 @@ unfit_past v hi step f g not_fit =
 pub values_unfit : (v hi step : ℤ) → FitsSigned w64 v → FitsSigned w64 hi → (FitsSigned w64 (v +ℤ step) → ⊥) → values (v +ℤ step) hi step ≡ []
 values_unfit v hi step f g not_fit = values_past hi step (v +ℤ step) (unfit_past v hi step f g not_fit)
 
--- the next value, where it fits 64 bits
+-- the next value, if it fits 64 bits
 pub values_checked : (v hi step : ℤ) (next : Option ℤ) → FitsSigned w64 v → FitsSigned w64 hi → is_within hi step v ≡ true → SomeIff next (FitsSigned w64 (v +ℤ step)) (v +ℤ step) → values v hi step ≡ v ∷ values_from next hi step
 values_checked v hi step (Some z) f g h k = values_in hi step v h ∙ ap (λ w. v ∷ values w hi step) (sym k.1)
 values_checked v hi step None f g h k = values_in hi step v h ∙ ap (λ vs. v ∷ vs) (values_unfit v hi step f g k)

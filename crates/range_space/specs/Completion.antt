@@ -6,28 +6,28 @@ use Rattle.term_core.specs.declared.space.Def.{Def}
 use Rattle.term_core.specs.declared.space.Def.TheVariants.{Span, Value}
 use Rattle.range_space.specs.Tasks.{def_values}
 
--- the value given to the definition with this number, if it is that of a parameter
+-- the value that is given to the definition with this number, if it defines a parameter
 abbrev pub param_value : List ℕ → List ℤ → ℕ → Option ℤ
 param_value [] values n = None
 param_value (p ∷ ps) [] n = None
 param_value (p ∷ ps) (v ∷ values) n = if p == n then Some v else param_value ps values n
 
--- a value is the given one, if one is given
+-- a value is the given one, if any is given
 abbrev pub AgreesWith : Option ℤ → ℤ → Type 0
 AgreesWith given v = IfSome given (λ w. v ≡ w)
 
--- the only one of the values that agrees with what is given, or that none does
+-- the result is the only one of the values that agrees with what is given; None if none does
 abbrev pub IsOnlyAgreeing : List ℤ → Option ℤ → Option ℤ → Type 0
 IsOnlyAgreeing values given None = (v : ℤ) → IsIn v values → AgreesWith given v → ⊥
 IsOnlyAgreeing values given (Some v) =
     IsIn v values × AgreesWith given v × ((w : ℤ) → IsIn w values → AgreesWith given w → w ≡ v)
 
--- a value is given for each range
+-- if the definition is a range, a value is given for it
 abbrev pub IsGivenIfRanged : Def → Option ℤ → Type 0
 IsGivenIfRanged (Span r) given = IsSome given
 IsGivenIfRanged (Value e) given = Unit {0}
 
--- there is one local for each definition, a value of it under those before it
+-- there is one local for each definition: a value of the definition under the locals before it
 abbrev pub AreLocals : List Def → List ℤ → List ℤ → Type 0
 AreLocals [] outer [] = Unit {0}
 AreLocals [] outer (v ∷ locals) = ⊥
@@ -47,6 +47,6 @@ pub record IsCompletion (ds : List Def) (ps : List ℕ) (values : List ℤ) (n :
   pub are_locals : AreLocals ds outer locals
   pub all_agree : AllAgree ps values n locals
 
--- no locals that extend `outer` agree with the given values
+-- no locals that extend `outer` agree with all given values
 abbrev pub HasNoCompletion : List Def → List ℕ → List ℤ → ℕ → List ℤ → Type 0
 HasNoCompletion ds ps values n outer = (locals : List ℤ) → AreLocals ds outer locals → AllAgree ps values n locals → ⊥

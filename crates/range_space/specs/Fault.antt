@@ -1,5 +1,7 @@
 -- The bounds and the values of a range under the values of the definitions before it, or the first fault. Source: the
 -- JDF documentation; that a step of 0 is a fault is this project's own choice.
+-- Carried by: `steps_of`.
+-- Tested by: `edges.txt`, `check_codes.txt`.
 use Rattle.std.specs.Prelude.{ℤ, pos, List, Option, Some, None, Result, Ok, Err, if◌then◌else◌}
 use Rattle.std.specs.Ordering.{int_eq}
 use Rattle.term_core.specs.Term.{Term}
@@ -10,11 +12,11 @@ use Rattle.range_space.specs.declared.fault.SpanFault.{SpanFault}
 use Rattle.range_space.specs.declared.fault.SpanFault.TheVariants.{Expr, ZeroStep}
 use Rattle.range_space.specs.Values.{values}
 
--- the value of an expression, where each fault is one of a range
+-- the value of an expression, with a fault as one of a range
 abbrev pub number : Term → List ℤ → Result ℤ SpanFault
 number e env = map_fault Expr (value e env)
 
--- the step of a range is 1 where none is written; its value must not be 0
+-- the step of a range is 1 if none is written; otherwise its value must not be 0
 abbrev pub nonzero : ℤ → Result ℤ SpanFault
 nonzero z = if int_eq z (pos 0) then Err ZeroStep else Ok z
 

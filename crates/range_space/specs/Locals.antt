@@ -1,5 +1,7 @@
--- The locals of a task, under which all that a class says of the task is evaluated: its edges, its priority, its body.
--- Source: the JDF documentation.
+-- The locals of a task, on which all expressions of the class are evaluated for the task: those of its edges, its
+-- priority and its body. Source: the JDF documentation.
+-- Carried by: `locals_of`; law `a_task_has_one_list_of_locals`.
+-- Tested by: `edges.txt`.
 use Rattle.std.specs.Prelude.{◌≡◌, ℤ, List}
 use Rattle.ptg_base.specs.Lists.{IsIn}
 use Rattle.term_core.specs.declared.space.ClassSpace.{ClassSpace}

@@ -1,5 +1,7 @@
--- Prefixes, and the classes in which each definition has a value under each prefix. Source: the JDF documentation; that
--- a fault is judged in walk order is this project's own choice.
+-- Prefixes, and sound classes, in which each definition has a value under each prefix. Source: the JDF documentation;
+-- that a fault is judged in walk order is this project's own choice.
+-- Carried by: `space_size`.
+-- Tested by: `check_codes.txt`.
 use Rattle.std.specs.Prelude.{ℕ, ◌+◌, ℤ, List, [], ◌∷◌, ◌++◌, length, IsOkAnd}
 use Rattle.std.specs.List.{flat_map, AllByRecursion}
 use Rattle.std.specs.Result.{result_unwrap_or}
@@ -19,12 +21,12 @@ abbrev pub prefix_total : List ClassSpace → ℕ
 prefix_total [] = 0
 prefix_total (s ∷ ss) = length (prefixes_from s.defs []) + prefix_total ss
 
--- the next definition has values, and so have those after it under each of them
+-- the next definition has values, and so have those after it under each value
 abbrev pub IsSoundFrom : List Def → List ℤ → Type 0
 IsSoundFrom [] outer = Unit {0}
 IsSoundFrom (d ∷ ds) outer =
     IsOkAnd (def_values d outer) (λ vs. AllByRecursion (λ v. IsSoundFrom ds (outer ++ v ∷ [])) vs)
 
--- each definition of the class has a value under each prefix that leads to it
+-- each definition of the class has a value under each prefix of the definitions before it
 abbrev pub IsSound : ClassSpace → Type 0
 IsSound s = IsSoundFrom s.defs []

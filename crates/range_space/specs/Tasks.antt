@@ -1,5 +1,8 @@
--- The iteration space of a class, built by nesting one definition in the one before it. Source: DAGuE (Parallel
--- Computing, 2012) and the JDF documentation.
+-- The iteration space of a class and its tasks, built by nesting one definition in the one before it. Source: DAGuE
+-- (Parallel Computing, 2012) and the JDF documentation.
+-- Carried by: `Space::next`, `in_space`, `locals_of`, `space_size`; laws `tasks_are_distinct`,
+-- `a_task_has_one_list_of_locals`, `one_first_fault`.
+-- Tested by: `edges.txt`, `check_codes.txt`, `check_limits.txt`, `sizes.txt`.
 use Rattle.std.specs.Prelude.{ℕ, ℤ, pos, List, [], ◌∷◌, ◌++◌, map, Result, Ok, slice_index_or}
 use Rattle.std.specs.List.{flat_map}
 use Rattle.std.specs.Result.{result_unwrap_or}
@@ -10,13 +13,13 @@ use Rattle.term_core.specs.declared.space.ClassSpace.{ClassSpace}
 use Rattle.range_space.specs.declared.fault.SpanFault.{SpanFault}
 use Rattle.range_space.specs.Fault.{number, range_values}
 
--- the values of a definition under those of the definitions before it: all of its range, or the one of its expression
+-- the values of a definition under those of the definitions before it: all of a range, or the one of an expression
 abbrev pub def_values : Def → List ℤ → Result (List ℤ) SpanFault
 def_values (Span r) env = range_values r env
 def_values (Value e) env = and_then (number e env) (λ z. Ok (z ∷ []))
 
 -- the full lists of locals that extend these outer values: for each value of the next definition, all that is nested in
--- it. A definition with a fault has no values here, so that it gives no task
+-- it. A definition with a fault has no values here, so it leads to no task.
 abbrev pub full_lists : List Def → List ℤ → List (List ℤ)
 full_lists [] outer = outer ∷ []
 full_lists (d ∷ ds) outer = flat_map (λ v. full_lists ds (outer ++ v ∷ [])) (result_unwrap_or (def_values d outer) [])

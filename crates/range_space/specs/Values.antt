@@ -1,20 +1,22 @@
--- The values of a range. Source: the JDF documentation, in whole numbers without a bound, so that no sum overflows.
+-- The values of a range. Source: the JDF documentation, in unbounded whole numbers, so that no sum overflows.
+-- Carried by: `Steps::values`, `Steps::count`, `Steps::has`; law `range_laws::values_are_a_progression`.
+-- Tested by: `edges.txt`, `check_codes.txt`.
 use Rattle.std.specs.Prelude.{ℕ, zero, suc, ℤ, pos, negsuc, ◌+ℤ◌, ◌-ℤ◌, unsigned_abs, int_le, Bool, false, List, [], ◌∷◌, Option, Some, None, if◌then◌else◌}
 
--- whether v is still within hi in the direction of the step: at most hi where the step is positive, at least hi where
--- it is negative; never where it is 0
+-- whether v is still within hi in the direction of the step: at most hi if the step is positive, at least hi if it is
+-- negative, never if it is 0
 abbrev pub is_within : ℤ → ℤ → ℤ → Bool
 is_within hi (pos zero) v = false
 is_within hi (pos (suc n)) v = int_le v hi
 is_within hi (negsuc n) v = int_le hi v
 
--- v, v + step and so on while they are within hi, and at most this many of them
+-- v, v + step and so on while they are within hi, but at most this many
 unfoldable pub while_within : ℤ → ℤ → ℕ → ℤ → List ℤ
 while_within hi step zero v = []
 while_within hi step (suc most) v = if is_within hi step v then v ∷ while_within hi step most (v +ℤ step) else []
 
--- lo, lo + step and so on while they are within hi; as a step is at least 1 long, there are no more of them than whole
--- numbers from lo to hi
+-- lo, lo + step and so on while they are within hi. As a step changes a number by at least 1, there are at most as many
+-- as whole numbers from lo to hi.
 unfoldable pub values : ℤ → ℤ → ℤ → List ℤ
 values lo hi step = while_within hi step (suc (unsigned_abs (hi -ℤ lo))) lo
 

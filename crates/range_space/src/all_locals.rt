@@ -1,4 +1,4 @@
-//! The lists of locals of a class, one after another.
+//! Iterates over the lists of locals of a class.
 
 ghost use Rattle.std.specs.Prelude.{◌≡◌, ◌≤◌, length};
 ghost use Rattle.std.specs.Iterator.{YieldsFirst, item_count};
@@ -12,8 +12,7 @@ use std::marker::Model;
 use term_core::ClassSpace;
 
 /// An iterator over the lists of locals of the tasks of a class, in walk order. Contracts see it as the list of those
-/// not yet given.
-/// Where a definition has no value there is none.
+/// that are still to come. A prefix under which the next definition has no value has no list.
 #[derive(Drop)]
 pub struct AllLocals<'a> {
     space: &'a ClassSpace,
@@ -57,7 +56,7 @@ impl Iterator for AllLocals<'_> {
 
     ghost remaining = { item_count (λ rest. rest) };
 
-    /// The locals of the next task in walk order, and then None.
+    /// The locals of the next task in walk order, and None after the last one.
     fn next(&mut self) -> Option<Numbers<MOST_LOCALS>> {
         if !self.live {
             return None;

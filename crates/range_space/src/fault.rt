@@ -1,4 +1,4 @@
-//! The faults of ranges and spaces.
+//! Faults of ranges and spaces.
 
 use crate::numbers::Numbers;
 use ptg_base::MOST_LOCALS;
@@ -7,13 +7,13 @@ use term_core::ExprFault;
 /// Why a range has no values.
 #[derive(Clone, Copy, Debug, PartialEq, Eq)]
 pub enum SpanFault {
-    /// An expression of it has no value.
+    /// One of its expressions has no value.
     Expr(ExprFault),
     /// Its step is 0.
     ZeroStep,
 }
 
-/// Why the tasks of the classes could not be counted, with the number of the class.
+/// Why the tasks of the classes could not be counted. The number is that of the class.
 #[derive(Debug, Drop)]
 pub enum SpaceFault {
     /// A definition has no value under these values of the definitions before it.

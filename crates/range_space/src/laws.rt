@@ -1,4 +1,4 @@
-//! Laws about ranges, tasks, their locals and faults.
+//! Laws of ranges, tasks, their locals and faults.
 
 ghost use Rattle.std.specs.Prelude.{◌≡◌, ℤ, List};
 ghost use Rattle.ptg_base.specs.Lists.{IsIn, HasNoRepeats};
@@ -14,7 +14,7 @@ pub fn tasks_are_distinct()
     ensures { (s : ClassSpace) → IsWellSpace s → HasNoRepeats (tasks s) }
 {}
 
-/// A law: parameters are those of a task exactly where they have locals, and they have one list of locals at most.
+/// A law: parameters are those of a task if and only if they have locals, and they have at most one list of locals.
 pub fn a_task_has_one_list_of_locals()
     ensures some { (s : ClassSpace) (params : List ℤ) → IsIn params (tasks s)
         → (locals : List ℤ) × IsLocalsOf s params locals }
@@ -23,7 +23,7 @@ pub fn a_task_has_one_list_of_locals()
         → IsLocalsOf s params others → locals ≡ others }
 {}
 
-/// A law: the walk through the classes has one first fault at most.
+/// A law: the walk through the classes has at most one first fault.
 pub fn one_first_fault()
     ensures { (ss : List ClassSpace) (fault other : SpaceFault) → IsFirstFault 0 0 (walk_all 0 ss) fault
         → IsFirstFault 0 0 (walk_all 0 ss) other → fault ≡ other }

@@ -1,4 +1,5 @@
-//! The values of ranges, and the tasks of a class: which they are, their order, and how many there are.
+//! The values of ranges, and the tasks of a class with their locals: one after another in walk order, and how many
+//! there are.
 #![tactic(auto)]
 
 mod all_locals;

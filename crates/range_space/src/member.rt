@@ -1,4 +1,4 @@
-//! Whether a class has a task, and its locals.
+//! Finds whether a class has a task, and the task's locals.
 
 ghost use Rattle.std.specs.Prelude.{◌≡◌, ◌+◌, ◌≤◌, ◌↔◌, ℤ, List, [], ◌∷◌, Some, None, Ok, length, IsTrue, MatchOption};
 ghost use Rattle.std.specs.Bool.{OnTrue, OnFalse};
@@ -17,7 +17,7 @@ use crate::steps::{number, steps_of};
 use ptg_base::MOST_LOCALS;
 use term_core::{ClassSpace, Def, Expr, Range, eval};
 
-/// The value given to the definition with this number, if it is that of a parameter.
+/// The value that is given to the definition with this number, if it defines a parameter.
 pub fn param_value(params: &[u8], values: &[i64], definition: usize) -> Option<i64>
     ensures { result ≡ param_value params.now values.now definition }
 {
@@ -30,7 +30,7 @@ pub fn param_value(params: &[u8], values: &[i64], definition: usize) -> Option<i
     }
 }
 
-// The given value, where the range has it.
+// The given value, if the range has it.
 fn ranged(range: &Range, given: i64, env: &[i64]) -> Option<i64>
     ensures { IsOnlyAgreeing (result_unwrap_or (range_values range.now env.now) []) (Some given) result }
 {
@@ -40,7 +40,7 @@ fn ranged(range: &Range, given: i64, env: &[i64]) -> Option<i64>
     if steps.has(given) { Some(given) } else { None }
 }
 
-// The value of the expression, where it is the given one or none is given.
+// The value of the expression, if it is the given one or none is given.
 fn derived(e: &Expr, given: Option<i64>, env: &[i64]) -> Option<i64>
     ensures { IsOnlyAgreeing (result_unwrap_or (and_then (number e.now env.now) (λ z. Ok (z ∷ []))) []) given result }
 {
@@ -64,7 +64,7 @@ fn local_of(def: &Def, given: Option<i64>, env: &[i64]) -> Option<i64>
     }
 }
 
-// Extends these locals to a full list in which the parameters have these values, if there is one.
+// Extends these locals to a full list in which the parameters have these values; false if there is none.
 fn complete(defs: &[Def], params: &[u8], values: &[i64], locals: &mut Numbers<MOST_LOCALS>) -> bool
     requires defs_at_most { length locals.old + length defs.now ≤ most_locals }
     requires arity { length params.now ≡ length values.now }
@@ -87,7 +87,7 @@ fn complete(defs: &[Def], params: &[u8], values: &[i64], locals: &mut Numbers<MO
     }
 }
 
-// The value of a definition for which none is given: that of its expression.
+// The value of a definition that has no given value: that of its expression.
 fn derived_value(def: &Def, env: &[i64]) -> i64
     requires { IsGivenIfRanged def.now None }
     ensures { (v : ℤ) → IsIn v (result_unwrap_or (def_values def.now env.now) []) → result ≡ v }
@@ -98,7 +98,7 @@ fn derived_value(def: &Def, env: &[i64]) -> i64
     }
 }
 
-// The local of a definition of a task: the given value, which is not tested again, else that of its expression.
+// The local of a definition of a task: the given value, which is not tested again, or else the value of its expression.
 fn known_local(def: &Def, given: Option<i64>, env: &[i64]) -> i64
     requires { IsGivenIfRanged def.now given }
     ensures { (v : ℤ) → IsIn v (result_unwrap_or (def_values def.now env.now) []) → AgreesWith given v → result ≡ v }
@@ -142,7 +142,7 @@ pub fn in_space(space: &ClassSpace, params: &[i64]) -> bool
     )
 }
 
-/// The locals of the task with these parameters, or None where the class has no such task. Takes one pass over the
+/// The locals of the task with these parameters, or None if the class has no such task. Takes one pass over the
 /// definitions.
 pub fn find_locals(space: &ClassSpace, params: &[i64]) -> Option<Numbers<MOST_LOCALS>>
     requires well { IsWellSpace space.now }
@@ -159,8 +159,7 @@ pub fn find_locals(space: &ClassSpace, params: &[i64]) -> Option<Numbers<MOST_LO
     }
 }
 
-/// The locals of the task with these parameters. No range is evaluated, since the values of the parameters are known to
-/// be its own.
+/// The locals of the task with these parameters, which must exist. So no range is evaluated.
 pub fn locals_of(space: &ClassSpace, params: &[i64]) -> Numbers<MOST_LOCALS>
     requires well { IsWellSpace space.now }
     requires task { IsIn params.now (tasks space.now) }

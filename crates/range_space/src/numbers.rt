@@ -1,11 +1,11 @@
-//! Short lists of numbers.
+//! Short lists of numbers, kept in place.
 
 ghost use Rattle.std.specs.Prelude.{◌≡◌, ◌<◌, ◌≤◌, [], ◌∷◌, ◌++◌, length, MatchOption};
 
 use arrayvec::ArrayVec;
 use std::marker::Model;
 
-/// At most `N` numbers. Contracts see it as their list; it takes no memory.
+/// At most `N` numbers. Contracts see it as their list; it allocates nothing.
 #[derive(Debug, Drop)]
 pub struct Numbers<const N: usize> {
     values: ArrayVec<i64, N>,
@@ -45,7 +45,7 @@ impl<const N: usize> Numbers<N> {
         self.values.push(value);
     }
 
-    /// Takes the last number away.
+    /// Removes and returns the last number, if there is one.
     pub fn pop(&mut self) -> Option<i64>
         ensures { MatchOption result ((self.old ≡ []) × (self.new ≡ [])) (λ v. self.old ≡ self.new ++ v ∷ []) }
     {

@@ -1,4 +1,4 @@
-//! The number of tasks of all classes.
+//! Counts the tasks of all classes.
 
 ghost use Rattle.std.specs.Prelude.{◌≡◌, ◌+◌, ◌<◌, ◌≤◌, [], ◌∷◌, length, All, OnOk, IfOk, IfErr, IsOk};
 ghost use Rattle.std.specs.List.{AllByRecursion};
@@ -14,7 +14,7 @@ use crate::walk::def_steps;
 use ptg_base::{MOST_LOCALS, MOST_TASKS};
 use term_core::{ClassSpace, Def};
 
-// The most prefixes that all classes may have together.
+// The most prefixes that all classes together may have.
 const MOST_PREFIXES: u64 = 16_000_000;
 
 // How many tasks and prefixes a walk has visited.
@@ -26,7 +26,7 @@ struct Counts {
     ghost prefixes_at_most: { prefixes ≤ most_prefixes },
 }
 
-// Counts a task of this class, or refuses the first one too many.
+// Counts a task of this class, or refuses the first one that is too many.
 fn count_task(class: u32, counts: &mut Counts) -> Result<(), SpaceFault>
     ensures ok { OnOk result
         (IsWalked counts.old.tasks counts.old.prefixes counts.new.tasks counts.new.prefixes (Task class ∷ [])) }
@@ -39,7 +39,7 @@ fn count_task(class: u32, counts: &mut Counts) -> Result<(), SpaceFault>
     Ok(())
 }
 
-// Counts a prefix of this class, or refuses the first one too many.
+// Counts a prefix of this class, or refuses the first one that is too many.
 fn count_prefix(class: u32, counts: &mut Counts) -> Result<(), SpaceFault>
     ensures ok { OnOk result
         (IsWalked counts.old.tasks counts.old.prefixes counts.new.tasks counts.new.prefixes (Prefix class ∷ [])) }
@@ -52,7 +52,8 @@ fn count_prefix(class: u32, counts: &mut Counts) -> Result<(), SpaceFault>
     Ok(())
 }
 
-// Counts a prefix and a task of this class for each value of its last definition, or refuses the first one too many.
+// Counts a prefix and a task of this class for each value of its last definition, or refuses the first one that is too
+// many.
 fn count_last(class: u32, steps: &Steps, counts: &mut Counts) -> Result<(), SpaceFault>
     ensures ok { OnOk result
         (IsWalked counts.old.tasks counts.old.prefixes counts.new.tasks counts.new.prefixes
@@ -96,7 +97,7 @@ fn count_from(
     }
 }
 
-// Counts what the walk visits from these outer values on, by each value of the next definition.
+// Counts what the walk visits from these outer values on, value by value of the next definition.
 #[cycle(counting)]
 fn count_among(
     class: u32,
@@ -123,7 +124,7 @@ fn count_among(
     Ok(())
 }
 
-// Counts what the walk through these classes visits; they are numbered from `class` on.
+// Counts what the walk through these classes visits; the first one has the number `class`.
 fn count_all(class: u32, spaces: &[ClassSpace], counts: &mut Counts) -> Result<(), SpaceFault>
     requires classes { class + length spaces.now ≤ most_classes }
     requires defs_at_most { All (λ s. length s.defs ≤ most_locals) spaces.now }
@@ -140,8 +141,8 @@ fn count_all(class: u32, spaces: &[ClassSpace], counts: &mut Counts) -> Result<(
     count_all(class + 1, others, counts)
 }
 
-/// How many tasks the classes have, or the first fault in walk order. The values of a last definition are counted at
-/// once.
+/// How many tasks the classes have, or the first fault in walk order. Values of a last definition are counted by
+/// arithmetic, not visited.
 pub fn space_size(spaces: &[ClassSpace]) -> Result<u64, SpaceFault>
     requires classes { length spaces.now ≤ most_classes }
     requires defs_at_most { All (λ s. length s.defs ≤ most_locals) spaces.now }

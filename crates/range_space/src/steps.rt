@@ -1,4 +1,4 @@
-//! Ranges as progressions, and their members by arithmetic.
+//! Ranges as progressions, whose members are found by arithmetic.
 
 ghost use Rattle.std.specs.Prelude.{◌≡◌, ◌≢◌, ◌↔◌, ℤ, pos, ◌%◌, ◌+ℤ◌, length, not, true, false, IsTrue, IfOk, IfErr, MatchOption, Ok, Err, unsigned_abs};
 ghost use Rattle.ptg_base.specs.Lists.{IsIn};
@@ -40,7 +40,7 @@ pub(crate) fn is_within(hi: i64, step: i64, v: i64) -> bool
     }
 }
 
-// The value of an expression, or its fault as one of a range.
+// The value of an expression, or its fault as a fault of a range.
 pub(crate) fn number(e: &Expr, env: &[i64]) -> Result<i64, SpanFault>
     ensures { result ≡ number e.now env.now }
 {
@@ -50,7 +50,7 @@ pub(crate) fn number(e: &Expr, env: &[i64]) -> Result<i64, SpanFault>
     }
 }
 
-// The step of a range: 1 where none is written, and never 0.
+// The step of a range: 1 if none is written, and never 0.
 fn step_number(step: &Option<Expr>, env: &[i64]) -> Result<i64, SpanFault>
     ensures { result ≡ step_number step.now env.now }
 {
@@ -67,7 +67,7 @@ fn step_number(step: &Option<Expr>, env: &[i64]) -> Result<i64, SpanFault>
     }
 }
 
-/// The progression of a range, under the values of the definitions before it, or its first fault.
+/// The progression of a range under the values of the definitions before it, or the range's first fault.
 pub fn steps_of(range: &Range, env: &[i64]) -> Result<Steps, SpanFault>
     ensures steps { IfOk result (λ s. bounds range.now env.now ≡ Ok (record { lo = s.lo; hi = s.hi; step = s.step })) }
     ensures fault { IfErr result (λ e. bounds range.now env.now ≡ Err e) }
@@ -93,7 +93,7 @@ impl Steps {
         !is_within(self.hi, self.step, self.lo)
     }
 
-    /// The value after this one, if there is one.
+    /// The value one step after this one, if it is still within the end.
     pub fn next_value(&self, v: i64) -> Option<i64>
         ensures { MatchOption result (is_within self.now.hi self.now.step (v +ℤ self.now.step) ≡ false) (λ w.
             (w ≡ v +ℤ self.now.step) × (is_within self.now.hi self.now.step w ≡ true)) }

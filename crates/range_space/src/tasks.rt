@@ -1,4 +1,4 @@
-//! The tasks of a class, one after another.
+//! Iterates over the tasks of a class.
 
 ghost use Rattle.std.specs.Prelude.{◌≡◌, ◌≤◌, length};
 ghost use Rattle.std.specs.Iterator.{YieldsFirst, item_count};
@@ -12,8 +12,7 @@ use std::marker::Model;
 use term_core::{ClassSpace, local};
 
 /// An iterator over the tasks of a class, each by its parameters, in walk order. Contracts see it as the list of those
-/// not yet given.
-/// Where a definition has no value there is no task.
+/// that are still to come. A prefix under which the next definition has no value has no task.
 #[derive(Drop)]
 pub struct Space<'a> {
     space: &'a ClassSpace,
@@ -60,7 +59,7 @@ impl Iterator for Space<'_> {
 
     ghost remaining = { item_count (λ rest. rest) };
 
-    /// The parameters of the next task in walk order, and then None.
+    /// The parameters of the next task in walk order, and None after the last one.
     fn next(&mut self) -> Option<Numbers<MOST_PARAMS>> {
         let locals = self.lists.next()?;
         Some(params_at(self.space, locals.as_slice()))

@@ -1,4 +1,4 @@
-//! The values of a range, one after another.
+//! Iterates over the values of a range.
 
 ghost use Rattle.std.specs.Prelude.{◌≡◌};
 ghost use Rattle.std.specs.Iterator.{YieldsFirst, item_count};
@@ -7,7 +7,7 @@ ghost use Rattle.range_space.specs.Values.{values};
 use crate::steps::is_within;
 use std::marker::Model;
 
-/// An iterator over the values of a range. Contracts see it as the list of those not yet given.
+/// An iterator over the values of a range. Contracts see it as the list of those that are still to come.
 #[derive(Drop)]
 pub struct Values {
     at: Option<i64>,

@@ -1,4 +1,4 @@
-//! From one list of locals to the next in walk order.
+//! Steps from one list of locals to the next in walk order.
 
 ghost use Rattle.std.specs.Prelude.{◌≡◌, ◌+◌, ◌<◌, ◌≤◌, [], ◌∷◌, ◌++◌, length, take, drop, Ok, Err, IfOk, IfErr};
 ghost use Rattle.std.specs.Bool.{OnTrue, OnFalse};
@@ -14,7 +14,7 @@ use crate::steps::{Steps, number, steps_of};
 use ptg_base::MOST_LOCALS;
 use term_core::{Def, Range};
 
-// The progression of a definition under the values of those before it; an expression has one value.
+// The progression of a definition under the values of those before it. An expression is a progression of one value.
 pub(crate) fn def_steps(def: &Def, env: &[i64]) -> Result<Steps, SpanFault>
     ensures steps { IfOk result (λ s.
         def_bounds def.now env.now ≡ Ok (record { lo = s.lo; hi = s.hi; step = s.step })) }
@@ -33,7 +33,7 @@ pub(crate) fn def_steps(def: &Def, env: &[i64]) -> Result<Steps, SpanFault>
     }
 }
 
-// Extends these locals to the first full list, if there is one.
+// Extends these locals to the first full list; false if there is none.
 #[cycle(nesting)]
 pub(crate) fn first(defs: &[Def], locals: &mut Numbers<MOST_LOCALS>) -> bool
     requires { length locals.old + length defs.now ≤ most_locals }
@@ -60,7 +60,7 @@ pub(crate) fn first(defs: &[Def], locals: &mut Numbers<MOST_LOCALS>) -> bool
     }
 }
 
-// Extends these locals to the first full list whose next value is this one, if there is one.
+// Extends these locals to the first full list whose next value is this one; false if there is none.
 #[cycle(nesting)]
 fn first_with(v: i64, inner: &[Def], locals: &mut Numbers<MOST_LOCALS>) -> bool
     requires { length locals.old + length inner.now < most_locals }
@@ -77,7 +77,7 @@ fn first_with(v: i64, inner: &[Def], locals: &mut Numbers<MOST_LOCALS>) -> bool
     false
 }
 
-// Extends these locals to the first full list whose next value is one of these, if there is one.
+// Extends these locals to the first full list whose next value is one of these; false if there is none.
 #[cycle(nesting)]
 fn first_among(steps: &Steps, inner: &[Def], locals: &mut Numbers<MOST_LOCALS>) -> bool
     requires { length locals.old + length inner.now < most_locals }
@@ -96,7 +96,7 @@ fn first_among(steps: &Steps, inner: &[Def], locals: &mut Numbers<MOST_LOCALS>) 
     false
 }
 
-// Extends these locals to the first full list whose next value is one of this range after `v`, if there is one.
+// Extends these locals to the first full list whose next value is one of this range after `v`; false if there is none.
 fn first_in_range_past(
     range: &Range,
     v: i64,
@@ -126,8 +126,8 @@ fn first_in_range_past(
     }
 }
 
-// Extends these locals to the first full list whose next value is another one of this definition, after `v`, if there
-// is one. An expression has no other, and is not evaluated.
+// Extends these locals to the first full list whose next value is one of this definition after `v`; false if there is
+// none. An expression has one value alone, and is not evaluated again.
 fn first_past(def: &Def, v: i64, inner: &[Def], locals: &mut Numbers<MOST_LOCALS>) -> bool
     requires { length locals.old + length inner.now < most_locals }
     ensures found { OnTrue result
@@ -141,8 +141,8 @@ fn first_past(def: &Def, v: i64, inner: &[Def], locals: &mut Numbers<MOST_LOCALS
     }
 }
 
-// Changes a full list into the one after it among those with the same first `depth` locals, or into these locals where
-// there is none.
+// Changes a full list into the next one with the same first `depth` locals. If there is none, those locals alone stay
+// and it returns false.
 pub(crate) fn advance(defs: &[Def], depth: usize, locals: &mut Numbers<MOST_LOCALS>) -> bool
     requires full { length locals.old ≡ depth + length defs.now }
     requires locals_at_most { length locals.old ≤ most_locals }

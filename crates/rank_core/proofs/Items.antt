@@ -19,7 +19,7 @@ use Rattle.rank_core.specs.World.{edges_between, edges_within, is_between, items
 pub use Rattle.flow_meaning.proofs.Members.{out_edge_from as out_from}
 
 module _ (P : Plan) (t : Task) where
-  -- an edge out of a task is one of its items, and the other way round
+  -- an edge out of a task is one of its items, and conversely
   pub out_is_item : (e : Edge) → IsIn e (out_edges P t) → IsIn (item.Edge e) (items P t)
   out_is_item e h = edge_item (items P t) e h
 

@@ -1,4 +1,4 @@
--- A world is quiescent exactly where its state of the event machine is.
+-- A world is quiescent if and only if its state of the event machine is.
 use Rattle.std.proofs.Common.{◌≡◌, ◌↔◌, ℕ, true, sym, ◌∙◌, subst, inl, inr}
 use Rattle.std.proofs.lemmas.Bool.{false≢true}
 use Rattle.ptg_base.specs.Lists.{IsIn}

@@ -81,7 +81,7 @@ module _ (P : Plan) (G : Data) (con : IsConsistent P) where
       pub run_ends : ended P G t ≡ end_in P G w.machine t
       run_ends = ends_so P G con w.machine sound.state t fed
 
-      -- its claim, and then a send of each of some of its items, where it has outputs
+      -- its claim, and then a send of each of some of its items, if it has outputs
       pub part_happens : has_outputs (ended P G t) ≡ true → (is : List Item) → ((i : Item) → IsIn i is → IsIn i (items P t)) → HasNoRepeats is
           → Happen P G (Claim t ∷ map Send is) w.machine (record { claims = w.machine.claims ++ t ∷ []; sends = w.machine.sends ++ map (item_from (ended P G t)) is })
       unfolding sends_after

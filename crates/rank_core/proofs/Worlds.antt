@@ -26,7 +26,7 @@ use Rattle.rank_core.specs.World.{Deliver, IsPossibleIn, Run, WorldEvent, WorldS
 use Rattle.rank_core.specs.Sound.{IsSoundWorld}
 use Rattle.rank_core.proofs.Running.{delivered, items_with, run_ends, run_happens}
 
--- what was sent is sent later
+-- what was sent stays sent
 pub still_sent : (S : MachineState) (claims : List Task) (more : List SentItem) (i : Item) → is_sent S i ≡ true → is_sent (record { claims = claims; sends = S.sends ++ more }) i ≡ true
 still_sent S claims more i h =
     let some = ltb-true 0 (send_count S i) h in

@@ -1,7 +1,10 @@
--- A world of ranks: the tasks of a job are shared out to ranks by their affinity, and an edge between two ranks is a
--- message. Source: PaRSEC (2013), where a task runs on the rank that has the data of its affinity, and the runtime
--- sends a message for an edge between ranks; that a rank is a remainder, and that a message may come late, twice and in
--- any order, is this project's own choice.
+-- A world of ranks, with its messages, events and quiescence: the tasks of a job are shared out to ranks by their
+-- affinity. An edge between two ranks is a message, which may come late, twice and in any order. Source: PaRSEC (2013),
+-- where a task runs on the rank that has the data of its affinity, and the runtime sends a message for an edge between
+-- ranks.
+-- Carried by: `rank_world::World::rank_of`, `rank_world::World::run`, `rank_world::World::deliver`,
+-- `rank_world::World::quiescent`; laws of `rank_core`.
+-- Tested by: `run_orders`, `ranks.txt`.
 use Rattle.std.specs.Prelude.{◌≡◌, ℕ, ◌<◌, ◌==◌, List, [], ◌∷◌, ◌++◌, map, filter, length, slice_get, Bool, not, IsTrue, Option, if◌then◌else◌}
 use Rattle.std.specs.Option.{option_map_or}
 use Rattle.ptg_base.specs.Lists.{IsIn}
@@ -18,7 +21,7 @@ use Rattle.shard_meaning.specs.Placing.{home_of}
 use Rattle.shard_meaning.specs.Share.{Placement}
 use Rattle.rank_core.specs.declared.message.Message.{Message}
 
--- the rank of a task, where there are r ranks: that of the place of its affinity
+-- the rank of a task among r ranks: that of the place of its affinity
 abbrev pub rank_of : Plan → ℕ → Placement
 rank_of P r = home_of P r
 
@@ -38,15 +41,15 @@ edges_between P r t = filter (is_between P r) (out_edges P t)
 abbrev pub items_within : Plan → ℕ → Task → List Item
 items_within P r t = map item.Write (write_backs P t) ++ map item.Edge (edges_within P r t)
 
--- the message of an edge, with the tile that its task leaves in the flow where the task ends so
+-- the message of an edge, with the tile that its task leaves in the flow if the task ends so
 abbrev pub message_from : Option Ended → Edge → Message
 message_from end e = record { edge = e; tile = output_tile end e.out_flow }
 
--- the items of a task that are sent within its rank as soon as it has ended so: none where it traps
+-- the items of a task that are sent within its rank as soon as it has ended so: none if it traps
 abbrev pub items_by : Plan → ℕ → Task → Option Ended → List SentItem
 items_by P r t end = if has_outputs end then map (item_from end) (items_within P r t) else []
 
--- the messages that a task sends when it has ended so: none where it traps
+-- the messages that a task sends when it has ended so: none if it traps
 abbrev pub messages_by : Plan → ℕ → Task → Option Ended → List Message
 messages_by P r t end = if has_outputs end then map (message_from end) (edges_between P r t) else []
 
@@ -65,14 +68,14 @@ pub data WorldEvent : Type 0 where
   Run : Task → WorldEvent
   Deliver : ℕ → WorldEvent
 
--- a task may run that has not run, once all edges into it were sent within its rank or delivered; a message may be
--- delivered that was ever sent, as often as it may be
+-- a task that has not run may run once all edges into it were sent within its rank or delivered; a message that was
+-- sent may be delivered, any number of times
 abbrev pub IsPossibleIn : Plan → WorldState → WorldEvent → Type 0
 IsPossibleIn P w (Run t) = MayClaim P w.machine t
 IsPossibleIn P w (Deliver n) = n < length w.messages
 
--- after a task has run, its items within its rank were sent and its edges to other ranks are messages, if its body has
--- outputs on the tiles that were delivered to it
+-- after a task has run: if its body has outputs on the tiles that were delivered to it, its items within its rank were
+-- sent and its edges to other ranks are messages
 abbrev pub after_run : Plan → Data → ℕ → WorldState → Task → WorldState
 after_run P G r w t = record {
   machine = record {
@@ -86,7 +89,7 @@ after_run P G r w t = record {
 abbrev pub is_delivered : MachineState → Message → Bool
 is_delivered S m = is_sent S (item.Edge m.edge)
 
--- a state after a message is delivered: its edge was sent with its tile; where it was sent before, nothing changes
+-- a state after a message is delivered: its edge was sent with its tile; if it was sent before, nothing changes
 abbrev pub with_message : MachineState → Message → MachineState
 with_message S m =
     if is_delivered S m
@@ -106,7 +109,7 @@ abbrev pub world_after : Plan → Data → ℕ → WorldState → WorldEvent →
 world_after P G r w (Run t) = after_run P G r w t
 world_after P G r w (Deliver n) = after_delivery w n
 
--- these events happen in a world of r ranks one after another, each where it is possible, and lead from one state to
+-- these events happen in a world of r ranks one after another, each when it is possible, and lead from one state to
 -- another
 abbrev pub HappenIn : Plan → Data → ℕ → List WorldEvent → WorldState → WorldState → Type 0
 HappenIn P G r [] w v = w ≡ v

@@ -30,14 +30,15 @@ pub fn a_task_runs_on_its_inputs()
         → MayClaim P w.machine t → (ended P G t ≡ end_in P G w.machine t) × IsSome (ended P G t) }
 {}
 
-/// A law: a sound world is quiescent exactly where its state of the event machine is, so where no event is possible.
+/// A law: a sound world is quiescent if and only if its state of the event machine is, that is, if no event is
+/// possible.
 pub fn quiet_worlds_are_quiescent()
     ensures { (P : Plan) (G : Data) (r : ℕ) (w : WorldState) → IsConsistent P → IsSoundWorld P G r w
         → IsQuiet P w ↔ IsQuiescent P G w.machine }
 {}
 
-/// A law: in a quiescent world, for every number of ranks, the tasks that ran are those that run, each once; the
-/// answer is the job's; and as many messages were sent as there are edges between ranks whose source has outputs.
+/// A law: in a quiescent world of any number of ranks, the tasks that ran are those that run, each once, and the answer
+/// is the job's. As many messages were sent as there are edges between ranks whose source has outputs.
 pub fn a_quiet_world_has_the_meaning()
     ensures claims { (P : Plan) (G : Data) (r : ℕ) (w : WorldState) → IsConsistent P → IsSoundWorld P G r w
         → IsQuiet P w → HasSameMembers w.machine.claims (ran P G) }
@@ -47,8 +48,8 @@ pub fn a_quiet_world_has_the_meaning()
         → IsQuiet P w → length w.messages ≡ message_count P G r }
 {}
 
-/// A law: no two messages of a world are of one edge. The edge of a message that was not delivered may be sent, with
-/// its tile.
+/// A law: no two messages of a world are for the same edge. The edge of a message that was not delivered may be sent,
+/// with its tile.
 pub fn a_message_is_an_edge_of_its_own()
     ensures once { (P : Plan) (G : Data) (r : ℕ) (w : WorldState) → IsConsistent P → IsSoundWorld P G r w
         → HasNoRepeats (map (λ (m : Message). m.edge) w.messages) }

@@ -1,4 +1,4 @@
-//! A world of ranks, between which edges are messages: definitions and their laws.
+//! Worlds of ranks, in which an edge between two ranks is a message: definitions and laws.
 #![tactic(auto)]
 
 mod laws;

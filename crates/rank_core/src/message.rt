@@ -2,7 +2,7 @@
 
 use ptg_base::{Edge, Tile};
 
-/// A message from one rank to another: an edge, and the tile that goes with it; none goes with an edge of a CTL flow.
+/// A message from one rank to another: an edge and its tile. An edge to a CTL flow has no tile.
 #[derive(Drop)]
 pub struct Message {
     pub edge: Edge,

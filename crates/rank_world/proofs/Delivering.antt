@@ -121,7 +121,7 @@ module _ (P : Plan) (G : Data) (con : IsConsistent P) (r : ℕ) (w : WorldState)
     as_before : (i : Item) → same_item i (item.Edge m.edge) ≡ false → is_sent (after_delivery w n).machine i ≡ is_sent w.machine i
     as_before i k = ap (λ c. nat_lt 0 c) (counted i ∙ omega (arith, ap as_number k))
 
-    -- another message is delivered exactly where it was
+    -- another message is delivered if and only if it was before
     others : (q : ℕ) (o : Option Message) → slice_get w.messages q ≡ o → n ≢ q → unless_delivered w.machine o ≡ unless_delivered (after_delivery w n).machine o
     others q None e differ = refl
     others q (Some x) e differ =

@@ -1,4 +1,4 @@
--- What the ranks and the mail of a world say of it, between two events.
+-- What the ranks and the mail of a world show of it, between two events.
 use Rattle.std.proofs.Common.{◌≡◌, ◌<◌, nat_eq, ℕ, true, false, cond, List, [], ◌∷◌, length, refl, ap, sym, ◌∙◌, subst, Option, Some, None, slice_get}
 use Rattle.std.specs.Cmp.{unsigned_Decides}
 use Rattle.std.specs.Map.{lookup}
@@ -46,7 +46,7 @@ nothing_at n = refl
 pub opening_mail : IsUnderWay opening_world.machine opening_world.messages []
 opening_mail n = ap (unless_delivered opening_world.machine) (sym (nothing_at n))
 
--- nothing is under way where each message was delivered, and then only
+-- nothing is under way if and only if each message was delivered
 all_none : (S : MachineState) (ms : List Message) → ((m : Message) → IsIn m ms → is_delivered S m ≡ true) → (n : ℕ) (o : Option Message) → slice_get ms n ≡ o → unless_delivered S o ≡ None
 all_none S ms all n None e = refl
 all_none S ms all n (Some m) e = ap (λ b. cond b None (Some m)) (all m (IsIn-slice_get ms n m e))
@@ -66,7 +66,7 @@ empty_all_delivered S ms table under none m i =
     under_way_none S m (sym at ∙ under p.0 ∙ ap (unless_delivered S) p.1)
 
 module _ (P : Plan) (G : Data) (w : WorldState) (ys : List Content) (some : 0 < length ys) (shares : HoldShares P G w ys) where
-  -- a task that may run has a ready entry at its rank, and the other way round
+  -- a task that may run has a ready entry at its rank, and conversely
   pub ready_at : (t : Task) (k : ℕ) (y : Content) → slice_get ys k ≡ Some y → rank_of P (length ys) t ≡ k → MayClaim P w.machine t → (e : Entry) × (entry_of y t ≡ Some e) × IsReady e
   ready_at t k y e at may = let p = may_ready P G (rank_of P (length ys)) k (idle_moment w.machine) y (shares k y e) t at may in (_, p.0, p.1)
 

@@ -30,7 +30,7 @@ use Rattle.shard_meaning.proofs.Placing.{home_below}
 use Rattle.rank_world.proofs.Keeping.{opening_mail, opening_shares, ready_at}
 use Rattle.list_lemmas.proofs.Places.{slice_get_there}
 
--- what follows where an `IfNone` holds
+-- what follows from an `IfNone`
 pub if_none : {A Q R : Type 0} (o : Option A) → (Q → R) → IfNone o Q → IfNone o R
 if_none None f h = f h
 if_none (Some x) f h = h
@@ -76,7 +76,7 @@ module _ (P : Plan) (G : Data) (w : WorldState) (old : List Content) (laid : Lai
         | inr other ↦ k.shares j z (sym (s.others j other) ∙ at)
       ]
 
-  -- the best task of a rank may run, and none may where the rank has none
+  -- the best task of a rank may run, and none may if the rank has none
   pub best_may : (i : ℕ) (t : Task) → i < length old → ((y : Content) → slice_get old i ≡ Some y → IsBest y.entries t) → MayClaim P w.machine t × (rank_of P (length old) t ≡ i)
   best_may i t near best =
       let y = slice_get_there old i near in

@@ -72,7 +72,7 @@ fitting_tile None n elems some fits = absurd cc
 same_type : (d : ℕ) (f : FlowPlan) (o : Option FlowPlan) → o ≡ Some f → IsTrue (has_type d o) → f.datatype ≡ d
 same_type d f o is typed = eqb-true f.datatype d (ap (has_type d) (sym is) ∙ typed)
 
--- the room of a rank is spares for an edge and for a write-back
+-- the room of a rank includes the spares for an edge and for a write-back
 pub room_is_spare_edge : (P : Plan) (e : Edge) (tile : Option (List ℤ)) (y : Content) → MayTakeEdge P e tile y → HasRoomFor 1 0 y → HasSpareForEdge P e tile y
 room_is_spare_edge P e tile y may room = record {
   entry = λ none. omega (arith, room.entries);

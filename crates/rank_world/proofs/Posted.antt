@@ -1,4 +1,4 @@
--- The mail after a run: the messages of the task are under way, and those that were stay so.
+-- The mail after a run: the messages of the task are under way, and so are those that were before.
 use Rattle.std.proofs.Common.{◌≡◌, nat_eq, ℕ, zero, suc, true, false, not, cond, List, [], ◌∷◌, ◌++◌, length, map, refl, ap, sym, ◌∙◌, subst, inl, inr, Option, Some, None, slice_get, arith}
 use Rattle.std.proofs.lemmas.Bool.{false≢true, cases_eq}
 use Rattle.std.specs.Cmp.{unsigned_Decides}
@@ -79,7 +79,7 @@ module _ (v : RunningTask) (h : IsRunningTask v) where
       subst (λ j. IsIn j (items_within (plan_of v) v.ranks (task_of v))) (sym (ap (λ (y : SentItem). y.item) p.2)) p.1)
       (λ o. let never : IsIn x [] = subst (IsIn x) (items_without (plan_of v) v.ranks (task_of v) end o) i in absurd never)
 
-  -- of the messages that were sent before, those are delivered that were
+  -- of the messages that were sent before, the same are delivered
   earlier : (m : Message) → IsIn m (before v).messages → send_count (after v).machine (item.Edge m.edge) ≡ send_count (before v).machine (item.Edge m.edge)
   earlier m i = as_before (item.Edge m.edge) (λ x j same.
       let within = sent_within (end_in (plan_of v) (data_of v) (before v).machine (task_of v)) x j in

@@ -53,7 +53,7 @@ module _ (v : RunningTask) (h : IsRunningTask v) where
                 (subst (λ r. IsShardOf (plan_of v) (data_of v) (rank_of (plan_of v) r) j (idle_moment (before v).machine) z) (sym same) (k.shares j z (sym (others j other) ∙ at)))
           ]
 
-      -- without memory the world is as it was
+      -- if memory is refused, the world is as it was
       pub refused : ((z : Content) → slice_get new v.rank ≡ Some z → HoldsAt v (idle_moment (before v).machine) z) → IsMailOf (before v) letters → Keeps (plan_of v) (data_of v) (before v) new bench letters
       refused holds mail_is = record {
         consistent = k.consistent;

@@ -28,7 +28,7 @@ use Rattle.rank_world.specs.Driving.{IsLaterWorld, turns_left, turns_of}
 use Rattle.rank_world.specs.Views.{WorldView, with_delivery, with_run}
 use Rattle.shard_meaning.proofs.Placing.{home_below}
 
--- events lead on
+-- events that happen after others
 happen-append : (P : Plan) (G : Data) (r : ℕ) (es fs : List WorldEvent) (w v u : WorldState) → HappenIn P G r es w v → HappenIn P G r fs v u → HappenIn P G r (es ++ fs) w u
 happen-append P G r [] fs w v u h k = subst (λ x. HappenIn P G r fs x u) (sym h) k
 happen-append P G r (e ∷ es) fs w v u h k = (h.0, happen-append P G r es fs (world_after P G r w e) v u h.1 k)
@@ -66,11 +66,11 @@ weighs_less f (x ∷ xs) ys once among =
 claims_weigh : (P : Plan) (G : Data) (f : Task → ℕ) (S : MachineState) → IsSoundState P G S → weigh f S.claims ≤ weigh f (all_tasks P)
 claims_weigh P G f S sound = weighs_less f S.claims (all_tasks P) (distinct_once S.claims sound.claimed_once) (λ t i. (listed P t).0 (sound.claimed_have_all t i).task)
 
--- no message is late later that was not before
+-- no message becomes late that was not late before
 later_late : (S T : MachineState) (ms : List Message) → ((m : Message) → is_delivered S m ≡ true → is_delivered T m ≡ true) → count (λ m. not (is_delivered T m)) ms ≤ count (λ m. not (is_delivered S m)) ms
 later_late S T ms keeps = count-le (λ m. not (is_delivered T m)) (λ m. not (is_delivered S m)) ms (λ m i k. contrapositive (is_delivered S m) (is_delivered T m) (keeps m) k)
 
--- where one more message is delivered, fewer are late
+-- if one more message is delivered, fewer are late
 one_less : {A : Type 0} (p q : A → Bool) (xs : List A) (n : ℕ) (x : A) → slice_get xs n ≡ Some x → p x ≡ false → q x ≡ true → ((y : A) → p y ≡ true → q y ≡ true) → count p xs < count q xs
 one_less p q [] n x e none some keeps = absurd cc
 one_less {A} p q (y ∷ ys) zero x e none some keeps =
@@ -83,7 +83,7 @@ one_less p q (y ∷ ys) (suc n) x e none some keeps = by_test (p y)
     (λ k. omega (arith, ap as_number k, ap as_number (keeps y k), one_less p q ys n x e none some keeps))
     (λ k. omega (arith, ap as_number k, one_less p q ys n x e none some keeps))
 
--- a task sends a message for each of its edges to other ranks at most
+-- a task sends at most one message for each of its edges to other ranks
 few_messages : (P : Plan) (r : ℕ) (t : Task) (end : Option Ended) → length (messages_by P r t end) ≤ length (edges_between P r t)
 few_messages P r t end = by (has_outputs end)
   where
@@ -170,7 +170,7 @@ module _ {E : Type 0} (a b : WorldView) (t : Task) (may : MayClaim a.plan a.stat
       omega (arith, ap turns_left is, run_leaves_less a t (subst (λ (w : WorldView). IsSoundWorld w.plan w.given w.ranks w.state) is sound))
   ran_less sound (Err e) ok = ok
 
--- where neither the ranks from one on nor those before it have a task that may run, no rank has
+-- if neither the ranks from one on nor those before it have a task that may run, no rank has
 pub none_ready : {A : Type 0} (w v : WorldView) (first : ℕ) (a b : Option A) → v ≡ w → first < w.ranks → is_some a ≡ false
     → IfNone a ((t : Task) → first ≤ rank_of w.plan w.ranks t → rank_of w.plan w.ranks t < w.ranks → MayClaim w.plan w.state.machine t → ⊥)
     → IfNone b ((t : Task) → 0 ≤ rank_of v.plan v.ranks t → rank_of v.plan v.ranks t < first → MayClaim v.plan v.state.machine t → ⊥)

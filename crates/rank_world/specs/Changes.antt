@@ -1,4 +1,4 @@
--- What a call changes in the ranks of a world: one rank alone. Source: this project's own choice.
+-- What a call changes in the ranks of a world: one rank alone.
 use Rattle.std.specs.Prelude.{ℕ, List}
 use Rattle.plan_core.specs.declared.plan.Plan.{Plan}
 use Rattle.dep_shard.specs.Content.{Content, IsUnchanged}

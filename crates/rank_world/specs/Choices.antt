@@ -1,4 +1,5 @@
 -- The choices of the network, from a seed. Source: the linear congruential generator of Knuth's MMIX.
+-- Carried by: inside `drive`.
 use Rattle.std.specs.Prelude.{ℕ, ◌+◌, ◌*◌, ◌^◌, ◌%◌}
 
 -- the number that follows another one

@@ -1,5 +1,6 @@
--- A world that is driven until nothing more can happen: where its events lead, and how many turns are left. Source:
--- this project's own choice.
+-- A world that is driven until nothing more can happen: where its events lead, and how many turns are left.
+-- Carried by: `drive` (`events`).
+-- Tested by: `run_orders`.
 use Rattle.std.specs.Prelude.{◌≡◌, ℕ, ◌+◌, ◌-◌, List, length, not}
 use Rattle.ptg_base.specs.Task.{Task}
 use Rattle.plan_core.specs.declared.plan.Plan.{Plan}
@@ -17,12 +18,11 @@ pub record IsLaterWorld (old new : WorldView) : Type 0 where
   pub events : List WorldEvent
   pub happen : HappenIn old.plan old.given old.ranks events old.state new.state
 
--- the turns that a task takes at most: one to run, and one for each message that it may send
+-- the most turns that a task takes: one to run, and one for each message that it may send
 abbrev pub turns_of : Plan → ℕ → Task → ℕ
 turns_of P r t = 1 + length (edges_between P r t)
 
--- the turns that are left at most: those of the tasks that have not run, and one for each message that was not
--- delivered
+-- the most turns that are left: those of the tasks that have not run, and one for each message that was not delivered
 unfoldable pub turns_left : WorldView → ℕ
 turns_left w =
     (weigh (turns_of w.plan w.ranks) (all_tasks w.plan) - weigh (turns_of w.plan w.ranks) w.state.machine.claims)

@@ -1,5 +1,4 @@
--- What a world keeps besides what has happened: its ranks, and the messages that are under way. Source: this project's
--- own choice.
+-- What a world keeps besides what has happened: its ranks, and the messages that are under way.
 use Rattle.std.specs.Prelude.{◌≡◌, ◌<◌, ◌≤◌, nat_eq, ℕ, List, [], Option, Some, None, length, slice_get, if◌then◌else◌}
 use Rattle.std.specs.Map.{lookup}
 use Rattle.ptg_base.specs.Limits.{most_ranks}

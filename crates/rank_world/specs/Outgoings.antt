@@ -1,4 +1,4 @@
--- What is added to what a task will send. Source: this project's own choice.
+-- What is added to what a task will send.
 use Rattle.std.specs.Prelude.{◌≡◌, ◌+◌, ◌++◌, [], ◌∷◌}
 use Rattle.ptg_base.specs.declared.edge.Edge.{Edge}
 use Rattle.plan_core.specs.declared.plan.Plan.{Plan}

@@ -1,4 +1,4 @@
--- The room of a rank for what comes to it. Source: this project's own choice.
+-- The room of a rank for what comes to it.
 use Rattle.std.specs.Prelude.{ℕ, ◌<◌, ◌≤◌, ◌+◌, length, slice_index}
 use Rattle.dep_shard.specs.Content.{Content}
 

@@ -87,13 +87,13 @@ its_edges_between v = edges_between (plan_of v) v.ranks (task_of v)
 abbrev pub its_items_within : RunningTask → List Item
 its_items_within v = items_within (plan_of v) v.ranks (task_of v)
 
--- whether there is a tile, and how many numbers it has, is as the flow says that the edge goes to
+-- the flow that the edge goes to says whether there is a tile, and how many numbers it has
 abbrev pub IsShapeOf : Plan → Edge → Option (List ℤ) → Type 0
 IsShapeOf P e tile =
     (f : FlowPlan) → flow_of P.classes e.to.class e.in_flow ≡ Some f
     → option_map length tile ≡ (if is_data (Some f.kind) then Some (slice_index P.elems f.datatype) else None)
 
--- the tile of a message has the shape that the flow says which it comes to
+-- the tile of a message is as the flow that it comes to says
 abbrev pub HasShape : Plan → Message → Type 0
 HasShape P m = IsShapeOf P m.edge m.tile
 

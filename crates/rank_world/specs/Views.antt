@@ -1,4 +1,5 @@
--- A world as contracts see it. Source: this project's own choice.
+-- A world as contracts see it.
+-- Carried by: calls of `World`.
 use Rattle.std.specs.Prelude.{ℕ}
 use Rattle.ptg_base.specs.Task.{Task}
 use Rattle.plan_core.specs.declared.plan.Plan.{Plan}

@@ -14,8 +14,8 @@ use flow_meaning::Outcome;
 use ptg_base::OutOfMemory;
 use std::alloc::Global;
 
-/// How many messages a run of a job by this many ranks sends, and the job's answer, from a world that is driven in the
-/// order of a seed.
+/// Runs a job by this many ranks, in the order of a seed. Returns how many messages the ranks send, and the job's
+/// answer.
 pub fn ranks_of(
     alloc: Global,
     m: &Matched,

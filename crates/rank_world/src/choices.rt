@@ -16,13 +16,13 @@ pub(crate) fn next_choice(x: u64) -> u64
     x.wrapping_mul(MULTIPLIER).wrapping_add(INCREMENT)
 }
 
-// Whether an old message comes again in a turn with this number: in one of eight. The generator's low bits repeat soon,
-// so choices are made by its high ones.
+// Whether an old message is delivered again in a turn with this number: in one turn of eight. The generator's low bits
+// repeat soon, so choices are made by its high ones.
 pub(crate) fn repeats(x: u64) -> bool {
     x >> 61 == 0
 }
 
-// Whether a task is tried before a message in a turn with this number: in one of four.
+// Whether a task is tried before a message in a turn with this number: in one turn of four.
 pub(crate) fn prefers_task(x: u64) -> bool {
     (x >> 59) % 4 == 0
 }

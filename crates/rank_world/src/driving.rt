@@ -1,4 +1,4 @@
-//! A world that is driven until nothing more can happen.
+//! Drives a world until nothing more can happen.
 
 ghost use Rattle.std.specs.Prelude.{◌≡◌, ◌<◌, ◌≤◌, IfNone, IfOk, IfSome, IsFalse, IsTrue, OnOk};
 ghost use Rattle.ptg_base.specs.Lists.{IsIn};
@@ -12,7 +12,7 @@ use crate::choices::{next_choice, pick_of, prefers_task, repeats};
 use crate::world::World;
 use ptg_base::{OutOfMemory, TaskId};
 
-// A task that may run of the ranks from the first on, up to the end.
+// A task that may run, of the ranks from `first` up to, but not including, `end`.
 fn ready_among(world: &mut World<'_>, first: u32, end: u32) -> Option<TaskId>
     requires { end ≤ world.old.ranks }
     ensures same { world.new ≡ world.old }
@@ -30,7 +30,7 @@ fn ready_among(world: &mut World<'_>, first: u32, end: u32) -> Option<TaskId>
     None
 }
 
-// A task that may run. The ranks are looked through in a circle that begins at the first.
+// A task that may run. The ranks are searched in a circle that begins at `first`.
 fn ready_from(world: &mut World<'_>, first: u32) -> Option<TaskId>
     requires { first < world.old.ranks }
     ensures same { world.new ≡ world.old }
@@ -45,7 +45,7 @@ fn ready_from(world: &mut World<'_>, first: u32) -> Option<TaskId>
     ready_among(world, 0, first)
 }
 
-// Runs a task that may run, if there is one.
+// Runs a task that may run, if there is one, and returns whether there is.
 fn run_some(world: &mut World<'_>, pick: u64) -> Result<bool, OutOfMemory>
     ensures events { IsLaterWorld world.old world.new }
     ensures fewer { IfOk result (λ ran. IsTrue ran → turns_left world.new < turns_left world.old) }
@@ -60,7 +60,7 @@ fn run_some(world: &mut World<'_>, pick: u64) -> Result<bool, OutOfMemory>
     }
 }
 
-// Delivers a message that was not delivered before, if there is one.
+// Delivers a message that was not delivered before, if there is one, and returns whether there is.
 fn deliver_some(world: &mut World<'_>, pick: u64) -> Result<bool, OutOfMemory>
     ensures events { IsLaterWorld world.old world.new }
     ensures fewer { IfOk result (λ came. IsTrue came → turns_left world.new < turns_left world.old) }
@@ -75,7 +75,7 @@ fn deliver_some(world: &mut World<'_>, pick: u64) -> Result<bool, OutOfMemory>
     }
 }
 
-// Now and then delivers a message of all that were sent, mostly one that was delivered before.
+// Now and then delivers any of the messages that were sent, mostly one that was delivered before.
 fn deliver_again(world: &mut World<'_>, x: u64) -> Result<(), OutOfMemory>
     ensures events { IsLaterWorld world.old world.new }
     ensures no_more { turns_left world.new ≤ turns_left world.old }
@@ -88,7 +88,8 @@ fn deliver_again(world: &mut World<'_>, x: u64) -> Result<(), OutOfMemory>
     Ok(())
 }
 
-// Delivers a message that was not delivered before; if there is none, runs a task that may run.
+// Delivers a message that was not delivered before; if there is none, runs a task that may run. Returns false only if
+// nothing more can happen.
 fn message_first(world: &mut World<'_>, pick: u64) -> Result<bool, OutOfMemory>
     ensures events { IsLaterWorld world.old world.new }
     ensures fewer { IfOk result (λ more. IsTrue more → turns_left world.new < turns_left world.old) }
@@ -100,7 +101,8 @@ fn message_first(world: &mut World<'_>, pick: u64) -> Result<bool, OutOfMemory>
     run_some(world, pick)
 }
 
-// Runs a task that may run; if there is none, delivers a message that was not delivered before.
+// Runs a task that may run; if there is none, delivers a message that was not delivered before. Returns false only if
+// nothing more can happen.
 fn task_first(world: &mut World<'_>, pick: u64) -> Result<bool, OutOfMemory>
     ensures events { IsLaterWorld world.old world.new }
     ensures fewer { IfOk result (λ more. IsTrue more → turns_left world.new < turns_left world.old) }
@@ -112,8 +114,8 @@ fn task_first(world: &mut World<'_>, pick: u64) -> Result<bool, OutOfMemory>
     deliver_some(world, pick)
 }
 
-// One turn with a number of the generator: now and then an old message comes again, then a task runs or a message
-// is delivered for the first time. False only if nothing more can happen.
+// Takes one turn with a number of the generator: now and then delivers an old message again, then runs a task or
+// delivers a message for the first time. Returns false only if nothing more can happen.
 fn take_turn(world: &mut World<'_>, x: u64) -> Result<bool, OutOfMemory>
     ensures events { IsLaterWorld world.old world.new }
     ensures fewer { IfOk result (λ more. IsTrue more → turns_left world.new < turns_left world.old) }
@@ -127,7 +129,7 @@ fn take_turn(world: &mut World<'_>, x: u64) -> Result<bool, OutOfMemory>
 }
 
 /// Runs tasks and delivers messages until the world is quiescent, in an order that a seed chooses; now and then an old
-/// message comes again. Without memory the world is left after the events so far.
+/// message is delivered again. If memory is refused, the world is left as it is after the events so far.
 pub fn drive(world: &mut World<'_>, seed: u64) -> Result<(), OutOfMemory>
     ensures events { IsLaterWorld world.old world.new }
     ensures quiet { OnOk result (IsQuiet world.new.plan world.new.state) }

@@ -26,7 +26,7 @@ impl Model for History {
 }
 
 impl History {
-    // Nothing.
+    // Nothing has happened.
     pub(crate) fn new() -> History
         ensures { result.state ≡ opening_world }
     {

@@ -81,7 +81,7 @@ fn leave_edges(at: &RunningTask, shard: &mut Shard, bench: &Bench)
     }
 }
 
-// Leaves what stays within its rank of a running task: its write-backs, and then its edges.
+// Leaves the items of a running task that stay within its rank: its write-backs, and then its edges.
 pub(crate) fn leave_within(at: &RunningTask, shard: &mut Shard, bench: &Bench)
     requires runs { IsRunningTask at.now }
     requires tiles { HoldsOutputs (plan_of at.now) (data_of at.now) (task_of at.now) bench.now }

@@ -1,4 +1,5 @@
-//! Worlds of ranks that send one another messages, run in one thread.
+//! `World`: ranks that send one another messages, run in one thread; `drive` runs it in the order of a seed. `ranks_of`
+//! returns the number of a job's messages, and its answer.
 #![tactic(auto)]
 
 mod answering;

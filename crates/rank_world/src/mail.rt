@@ -3,7 +3,7 @@
 use indexmap::IndexMap;
 use rank_core::Message;
 
-// The messages that were not delivered, by number, and how many were sent. A message goes once it is delivered.
+// The messages that were not delivered, by number, and how many were sent. A message is removed once it is delivered.
 #[derive(Drop)]
 pub struct Mail {
     pub(crate) under_way: IndexMap<u64, Message>,

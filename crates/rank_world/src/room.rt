@@ -27,7 +27,7 @@ pub(crate) struct Outgoing {
     pub(crate) within: u64,
 }
 
-// One more. No memory holds as much as a count that does not fit.
+// The count plus 1. A count that does not fit is refused: no memory holds so much.
 fn one_more(count: u64) -> Result<u64, OutOfMemory>
     ensures { IfOk result (λ more. more ≡ count + 1) }
 {

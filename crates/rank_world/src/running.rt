@@ -59,7 +59,7 @@ fn begin(at: &RunningTask, shard: &mut Shard, bench: &mut Bench) -> Result<(), T
     bench.run(&start, arrivals)
 }
 
-// Ends a running task, which has outputs, after what it leaves.
+// Leaves and posts the items of a running task that has outputs, and ends it.
 fn end_with_outputs(
     at: &RunningTask,
     shard: &mut Shard,
@@ -94,7 +94,7 @@ fn end_by_trap(at: &RunningTask, shard: &mut Shard, cause: Trap)
     shard.trap(at.task.task, cause).unwrap();
 }
 
-// Ends a running task, whose body has ended so.
+// Ends a running task whose body has ended so.
 fn end_run(at: &RunningTask, shard: &mut Shard, mail: &mut Mail, bench: &Bench, ending: Ending)
     requires runs { IsRunningTask at.now }
     requires ok { OnOk ending.body
@@ -118,7 +118,7 @@ fn end_run(at: &RunningTask, shard: &mut Shard, mail: &mut Mail, bench: &Bench, 
     end_with_outputs(at, shard, mail, bench, messages);
 }
 
-// Runs a running task. All memory was taken before.
+// Runs the body of a running task and ends it. All memory was taken before.
 fn run_task(
     at: &RunningTask,
     shard: &mut Shard,
@@ -146,7 +146,7 @@ fn run_task(
     let _spent = bench.clear();
 }
 
-// Takes the memory for a running task, and runs it. Without memory nothing but spares changes.
+// Takes the memory for a running task, and runs it. If memory is refused, nothing but spares changes.
 fn run_in_shard(
     alloc: Global,
     at: &RunningTask,
@@ -202,7 +202,7 @@ fn run_at(
 }
 
 impl<'m> World<'m> {
-    // Runs a task that may run, of this rank. All memory is taken first.
+    // Runs a task of this rank that may run. All memory is taken first.
     fn run_ready(&mut self, task: &TaskAt, rank: usize) -> Result<(), OutOfMemory>
         requires plan { task.now.plan.now ≡ self.old.plan }
         requires may { MayClaim self.old.plan self.old.state.machine task.now.task.now }
@@ -240,7 +240,7 @@ impl<'m> World<'m> {
         Ok(())
     }
 
-    // Runs a task of the job if it may run.
+    // Runs a task of the job if it may run, and returns whether it did.
     fn run_found(&mut self, task: &TaskAt) -> Result<bool, OutOfMemory>
         requires { task.now.plan.now ≡ self.old.plan }
         ensures exact { IfOk result (λ ran. IsTrue ran ↔ MayClaim self.old.plan self.old.state.machine task.now.task.now) }
@@ -257,10 +257,10 @@ impl<'m> World<'m> {
         Ok(true)
     }
 
-    /// Runs a task: true exactly if it is a task of the job, has not run, and all edges into it were sent within its
-    /// rank or delivered. Then its body is run on the tiles that came to it; where it has outputs, its write-backs and
-    /// its edges to its own rank are sent at once, and its edges to other ranks become messages in the text's order.
-    /// Else nothing changes, nor does it without memory.
+    /// Runs a task if it may run, and returns whether it did. It may run if and only if it is a task of the job, has
+    /// not run, and all edges into it were sent within its rank or delivered. Its body is run on the tiles that came to
+    /// it. If it has outputs, its write-backs and its edges to its own rank are sent at once, and its edges to other
+    /// ranks become messages in the text's order. If it may not run, or memory is refused, nothing changes.
     pub fn run(&mut self, t: &TaskId) -> Result<bool, OutOfMemory>
         ensures exact { IfOk result (λ ran. IsTrue ran ↔ MayClaim self.old.plan self.old.state.machine t.now) }
         ensures state { IfOk result (λ ran. self.new ≡ (if ran then with_run t.now self.old else self.old)) }

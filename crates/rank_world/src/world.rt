@@ -32,9 +32,9 @@ use std::alloc::Global;
 use std::marker::Model;
 use task_run::Bench;
 
-/// A world of ranks that runs a job in one thread: each rank has the entries of its own tasks, and an edge between
-/// two ranks is a message, which may be delivered late, twice and in any order. Contracts see the job, the number of
-/// ranks and what has happened.
+/// A world of ranks that runs a job in one thread. Each rank has the entries of its own tasks. An edge between two
+/// ranks is a message, which may be delivered late, twice and in any order. Contracts see the job, the number of ranks
+/// and what has happened.
 pub struct World<'m> {
     pub(crate) alloc: Global,
     pub(crate) matched: &'m Matched,
@@ -77,7 +77,7 @@ impl<'m> Model for World<'m> {
     ghost invariant = { λ w. Keeps w.matched.now w.given w.history.state w.ranks.items w.bench w.mail };
 }
 
-// The rank k takes an edge in, with its tile.
+// Takes the edge of a message into the rank k, with its tile.
 fn take_edge_at(
     ranks: &mut Vec<Shard>,
     k: usize,
@@ -151,7 +151,7 @@ impl<'m> World<'m> {
         self.ranks.len() as u32
     }
 
-    /// How many messages were sent. In a quiescent world they are as many as the job has at this many ranks.
+    /// How many messages were sent. In a quiescent world this is the number of messages of the job at this many ranks.
     pub fn messages(&self) -> u64
         ensures sent { result ≡ length self.now.state.messages }
         ensures all { IsQuiet self.now.plan self.now.state
@@ -160,8 +160,8 @@ impl<'m> World<'m> {
         self.mail.sent
     }
 
-    /// The number of a message that was not delivered; if there are several, the pick says which. `None` exactly
-    /// where there is none.
+    /// The number of a message that was not delivered; if there are several, the pick says which. `None` if and only if
+    /// there is none.
     pub fn late_message(&self, pick: u64) -> Option<u64>
         ensures some { IfSome result (λ n.
             (m : MessageValue) × (slice_get self.now.state.messages n ≡ Some m)
@@ -179,8 +179,8 @@ impl<'m> World<'m> {
         Some(*number)
     }
 
-    /// A task of a rank that may run: the best by priority, and of equal ones the first in task order. `None` exactly
-    /// where there is none. Looking drops what is stale and changes nothing that contracts see.
+    /// A task of a rank that may run: the best by priority, and of equal ones the first in task order. `None` if and
+    /// only if there is none. The search drops stale candidates and changes nothing that contracts see.
     pub fn ready(&mut self, rank: u32) -> Option<TaskId>
         requires { rank < self.old.ranks }
         ensures same { self.new ≡ self.old }
@@ -200,8 +200,8 @@ impl<'m> World<'m> {
         self.mail.under_way.is_empty() && have_no_work(self.ranks.as_slice())
     }
 
-    /// Delivers the message of a number: true exactly where it was not delivered before, and then its edge is sent
-    /// with its tile. Else nothing changes, nor does it without memory.
+    /// Delivers the message with a number, and returns whether it was not delivered before. If so, its edge is sent
+    /// with its tile. If not, or if memory is refused, nothing changes.
     pub fn deliver(&mut self, n: u64) -> Result<bool, OutOfMemory>
         requires { n < length self.old.state.messages }
         ensures exact { IfOk result (λ is_first.

@@ -32,7 +32,7 @@ use Rattle.report_laws.specs.RowNames.{HasClass, HasRowsOf, HasWord, IsTrapOf}
 use Rattle.report_laws.proofs.TrapWords.{Allows, IsAllowed, allows-body}
 
 module _ {A : Type 0} (key : A → Task) where
-  -- rows in task order are rows
+  -- a row of the rows in task order is one of the rows
   in_ordered : (xs : List A) (x : A) → IsIn x (in_task_order key xs) → IsIn x xs
   in_ordered [] x i = i
   in_ordered (y ∷ ys) x i = elim (from_insert key x y (in_task_order key ys) i) [ inl e ↦ inl e | inr h ↦ inr (in_ordered ys x h) ]

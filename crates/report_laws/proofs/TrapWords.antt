@@ -30,7 +30,7 @@ IsAllowed n Absent = Unit {0}
 IsAllowed n Budget = Unit {0}
 IsAllowed n (Word w) = w < n
 
--- so it is of a result that traps
+-- the same for a result that traps
 abbrev pub Allows : {A : Type 0} → ℕ → Result A Trap → Type 0
 Allows n (Ok x) = Unit {0}
 Allows n (Err cause) = IsAllowed n cause

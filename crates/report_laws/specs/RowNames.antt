@@ -1,4 +1,5 @@
--- That the names in the rows of an answer are those of its plan. Source: this project's own choice.
+-- When the names in the rows of an answer are those of its plan.
+-- Carried by: laws `answers_have_rows_of_their_plan`, `tasks_have_classes_of_their_plan`.
 use Rattle.std.specs.Prelude.{ℕ, ◌<◌, List, length, All}
 use Rattle.ptg_base.specs.Task.{Task}
 use Rattle.term_core.specs.declared.trap.Trap.{Trap}

@@ -1,5 +1,5 @@
-//! Laws of what is printed of a job: the tile that is printed beside a place is the one that is read and written there,
-//! and the names in the rows of an answer are those of its plan.
+//! Laws of what is printed that no program cites: the tile beside a place is the one at its index, and the names in the
+//! rows of an answer are those of its plan.
 #![tactic(auto)]
 
 mod places;

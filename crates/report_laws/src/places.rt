@@ -20,9 +20,9 @@ pub fn a_place_has_one_index()
         → tile_index rows cols k l ≡ Some n → (i ≡ k) × (j ≡ l) }
 {}
 
-/// A law: as many places are listed as a collection has tiles, and a place is the n-th of them exactly where n is its
-/// index. So the tile that is printed beside a place is the tile at the place's index, and of a whole collection each
-/// tile is printed.
+/// A law: as many places are listed as a collection has tiles, and a place is the n-th of them if and only if n is its
+/// index. So the tile that is printed beside a place is the tile at the place's index, and every tile of a whole
+/// collection is printed.
 pub fn the_place_printed_is_the_place_read()
     ensures count { (rows : ℕ) (cols : Option ℕ) → length (places rows cols) ≡ tile_count rows cols }
     ensures nth { (rows : ℕ) (cols : Option ℕ) (n : ℕ) (place : List ℕ)

@@ -7,7 +7,7 @@ ghost use Rattle.dep_iter.specs.Tasks.{IsTask};
 ghost use Rattle.flow_meaning.specs.Answer.{answer};
 ghost use Rattle.report_laws.specs.RowNames.{HasClass, HasRowsOf};
 
-/// A law: all names in the answer of a job are those of its plan: the class of each task in its rows is one of the
+/// A law: all names in the answer of a job are those of its plan. The class of each task in its rows is one of the
 /// plan's, and the word of each trap is one of its class's. So each of them has a text that is printed.
 pub fn answers_have_rows_of_their_plan()
     ensures { (P : Plan) (G : Data) → HasRowsOf P (answer P G) }

@@ -114,7 +114,7 @@ cut_empty : (result : Result (Unit {0}) Failed) (k : List ℕ) → IsErr result 
 cut_empty (Ok x) k err = absurd (false≢true err)
 cut_empty (Err e) k err = tt
 
--- a call that began with nothing kept back, put a text and then let out all that it kept
+-- a call that began with nothing kept back, put a text and then wrote out all that it kept
 pub prints_all : {S : Type 0} {bytes : S → List ℕ} {faults : S → ℕ} {s s1 s2 : S} {k k1 k2 : List ℕ} (text : List ℕ) {result : Result (Unit {0}) Failed} → k ≡ [] → HasPut bytes faults s k s1 k1 text → Puts bytes faults result s1 k1 s2 k2 [] → OnOk result (k2 ≡ []) → PrintsText bytes faults result s s2 text
 prints_all text empty first then out = printed empty out (puts_then text first then (sym (append-nil text)))
 

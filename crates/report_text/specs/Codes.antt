@@ -1,4 +1,6 @@
--- The codes of refusals, as they are printed. Source: this project's own choice.
+-- The codes of refusals, as they are printed.
+-- Carried by: `refusal`.
+-- Tested by: `check.txt`, `type_faults.txt`.
 use Rattle.std.specs.Prelude.{ℕ, List, codes}
 use Rattle.jdf_lex.specs.declared.fault.JdfCode.{JdfCode}
 use Rattle.jdf_lex.specs.declared.fault.JdfCode.TheVariants as jdf

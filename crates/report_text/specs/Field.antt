@@ -1,4 +1,6 @@
--- Fields of lines. Source: this project's own choice.
+-- Fields of lines.
+-- Carried by: `report`, `consistent`, `refusal`.
+-- Tested by: `check.txt`, `type_faults.txt`.
 use Rattle.std.specs.Prelude.{ℕ, List, [], ◌∷◌, map, flat_map}
 use Rattle.std.specs.Fmt.{decimal, signed_decimal}
 pub use Rattle.ptg_base.specs.Line.{line}

@@ -1,4 +1,6 @@
--- What is printed of what a command finds of a job that was run, besides its answer. Source: this project's own choice.
+-- The text for a job that was run, besides its answer: the lines of a summary, of a chain and of a cycle.
+-- Carried by: `summary_line`, `heaviest_chain`, `found_cycle`.
+-- Tested by: `demo.txt`, `certify.txt`.
 use Rattle.std.specs.Prelude.{ℕ, List, [], ◌∷◌, ◌++◌, length, map, flat_map, codes}
 use Rattle.std.specs.Fmt.{decimal, signed_decimal}
 use Rattle.ptg_base.specs.Task.{Task}
@@ -10,7 +12,7 @@ use Rattle.report_text.specs.declared.demo_line.Summary.{Summary}
 use Rattle.report_text.specs.declared.certificate.HeaviestChain.{HeaviestChain}
 use Rattle.report_text.specs.declared.certificate.FoundCycle.{FoundCycle}
 
--- what is printed of a made job that is complete: how many rows of tiles and how many tasks it has, and the sum of all
+-- the text for a made job that is complete: how many rows of tiles and how many tasks it has, and the sum of all
 -- elements
 abbrev pub summary_text : Summary → List ℕ
 summary_text s = line (codes "demo" ∷ decimal s.rows ∷ decimal s.tasks ∷ signed_decimal s.sum ∷ [])
@@ -29,7 +31,7 @@ abbrev pub chain_head : HeaviestChain → List ℕ
 chain_head found =
     complete_line found.tasks ++ line (codes "chain" ∷ decimal (length found.chain) ∷ decimal found.weight ∷ [])
 
--- what is printed of a heaviest chain: its first two lines, its tasks, and the level of each task of the job
+-- the text of a heaviest chain: its first two lines, its tasks, and the level of each task of the job
 abbrev pub chain_text : Plan → HeaviestChain → List ℕ
 chain_text plan found =
     chain_head found ++ (flat_map (link_line plan) found.chain ++ flat_map (level_line plan) found.levels)
@@ -39,6 +41,6 @@ abbrev pub cycle_head : FoundCycle → List ℕ
 cycle_head found =
     stalled_line found.ran found.tasks ++ line (codes "cycle" ∷ decimal (length found.cycle) ∷ [])
 
--- what is printed of a cycle: its first two lines, and its tasks
+-- the text of a cycle: its first two lines, and its tasks
 abbrev pub cycle_text : Plan → FoundCycle → List ℕ
 cycle_text plan found = cycle_head found ++ flat_map (link_line plan) found.cycle

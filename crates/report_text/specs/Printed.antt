@@ -1,4 +1,6 @@
--- What is printed of an answer. Source: this project's own choice.
+-- The text of an answer.
+-- Carried by: `report`, `consistent`.
+-- Tested by: `check.txt`, `type_faults.txt`.
 use Rattle.std.specs.Prelude.{ℕ, ℤ, List, [], ◌∷◌, ◌++◌, length, map, flat_map, codes}
 use Rattle.std.specs.List.{zip}
 use Rattle.std.specs.Fmt.{decimal, signed_decimal}
@@ -55,10 +57,10 @@ row_lines plan (Complete count given) = flat_map coll_lines given.colls
 row_lines plan (Trapped rows) = flat_map (trap_line plan) rows
 row_lines plan (Stalled ran total rows) = flat_map (wait_line plan) rows
 
--- what is printed of an answer
+-- the text of an answer
 abbrev pub outcome_text : Plan → Outcome → List ℕ
 outcome_text plan outcome = first_line outcome ++ row_lines plan outcome
 
--- what is printed of a job that is consistent: how many tasks, edges and write-backs it has
+-- the text for a job that is consistent: how many tasks, edges and write-backs it has
 abbrev pub consistent_text : ℕ → ℕ → ℕ → List ℕ
 consistent_text tasks edges writes = line (codes "consistent" ∷ decimal tasks ∷ decimal edges ∷ decimal writes ∷ [])

@@ -1,17 +1,19 @@
--- What a call adds to a sink, some of it kept back until there is a whole piece. Source: this project's own choice.
+-- What a call adds to a sink, some of it kept back until there is a whole piece.
+-- Carried by: `report`, `consistent`, `refusal`.
+-- Tested by: `check.txt`, `type_faults.txt`.
 use Rattle.std.specs.Prelude.{◌≡◌, ℕ, ◌≤◌, List, ◌++◌, length, take, Result, OnOk, OnErr}
 use Rattle.ptg_io.specs.Faults.{Rose}
 
--- how many bytes go out at once
+-- the size of a full piece in bytes
 abbrev pub piece_size : ℕ
 piece_size = 4096
 
--- the first are the first bytes of the second
+-- the first list is a prefix of the second
 abbrev pub Precedes : List ℕ → List ℕ → Type 0
 Precedes front whole = (rest : List ℕ) × (front ++ rest ≡ whole)
 
--- a call put a text: the sink's bytes, with those after them that are kept back, grew by the text;
--- where the call failed, the sink has a prefix of all that, and no other bytes, and a write failed; else none did
+-- a call put a text: the sink's bytes, followed by those that are kept back, grew by the text. If the call failed, the
+-- sink has a prefix of all that and no other bytes, and a write failed; otherwise no write failed
 pub record Puts {S T E : Type 0} (bytes : S → List ℕ) (faults : S → ℕ) (result : Result T E)
     (sink : S) (kept : List ℕ) (sink_after : S) (kept_after : List ℕ) (text : List ℕ) : Type 0 where
   pub ok : OnOk result (bytes sink_after ++ kept_after ≡ bytes sink ++ kept ++ text)
@@ -25,8 +27,8 @@ pub record Puts {S T E : Type 0} (bytes : S → List ℕ) (faults : S → ℕ) (
 abbrev pub HasPrefix : List ℕ → List ℕ → List ℕ → Type 0
 HasPrefix before after text = (n : ℕ) × (n ≤ length text) × (after ≡ before ++ take n text)
 
--- a call printed a text: the sink's bytes grew by the whole of it, or by a prefix where the call failed, and that only
--- where a write failed; else no write failed
+-- a call printed a text: the sink's bytes grew by the whole text, or by a prefix if the call failed. The call failed
+-- only if a write failed; otherwise no write failed
 pub record PrintsText {S T E : Type 0} (bytes : S → List ℕ) (faults : S → ℕ) (result : Result T E)
     (sink sink_after : S) (text : List ℕ) : Type 0 where
   pub ok : OnOk result (bytes sink_after ≡ bytes sink ++ text)

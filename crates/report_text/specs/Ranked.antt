@@ -1,4 +1,6 @@
--- What is printed of a job that was run by ranks. Source: this project's own choice.
+-- The text for a job that was run by ranks.
+-- Carried by: `ranked_answer`, `ptg_top::ptg_main` (`CommandDenotes`).
+-- Tested by: `ranks.txt`.
 use Rattle.std.specs.Prelude.{ℕ, List, [], ◌∷◌, ◌++◌, codes}
 use Rattle.std.specs.Fmt.{decimal}
 use Rattle.plan_core.specs.declared.plan.Plan.{Plan}
@@ -10,6 +12,6 @@ use Rattle.report_text.specs.declared.ranks_line.RankedAnswer.{RankedAnswer}
 abbrev pub ranked_head : RankedAnswer → List ℕ
 ranked_head found = line (codes "ranks" ∷ decimal found.ranks ∷ decimal found.messages ∷ [])
 
--- what is printed of a job that was run by ranks: that line, and then its answer
+-- the text for a job that was run by ranks: that line, and then its answer
 abbrev pub ranked_text : Plan → RankedAnswer → List ℕ
 ranked_text plan found = ranked_head found ++ outcome_text plan found.outcome

@@ -1,4 +1,6 @@
--- What is printed of a refusal. Source: this project's own choice.
+-- The text of a refusal.
+-- Carried by: `refusal`.
+-- Tested by: `check.txt`, `type_faults.txt`.
 use Rattle.std.specs.Prelude.{ℕ, List, [], ◌∷◌, ◌++◌, map, codes, Option, Some, None}
 use Rattle.std.specs.Fmt.{decimal, signed_decimal}
 use Rattle.edge_match.specs.declared.fault.MatchFault.{MatchFault}
@@ -7,7 +9,7 @@ use Rattle.report_text.specs.declared.refusal_line.Line.TheVariants.{Usage, Jdf,
 use Rattle.report_text.specs.Field.{line}
 use Rattle.report_text.specs.Codes.{jdf_code, data_code, match_code, trace_code}
 
--- the flow of a fault: its name, or `-` where the fault is at no flow
+-- the flow of a fault: its name, or `-` if the fault is at no flow
 abbrev pub flow_text : Option ℕ → List ℕ → List ℕ
 flow_text None name = codes "-"
 flow_text (Some flow) name = name
@@ -31,7 +33,7 @@ unread_line name = line (codes "unread" ∷ name ∷ [])
 abbrev pub preload_line : List ℕ
 preload_line = line (codes "preload" ∷ [])
 
--- what is printed of a refusal
+-- the text of a refusal
 abbrev pub refusal_text : Line → List ℕ
 refusal_text Usage = usage_line
 refusal_text (Jdf fault) =

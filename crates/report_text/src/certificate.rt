@@ -11,7 +11,7 @@ use plan_core::Plan;
 use ptg_base::{Seq, TaskId};
 use ptg_io::{Failed, Sink};
 
-/// What is found of a complete job without a cycle.
+/// What is found about a complete job without a cycle.
 #[derive(Drop)]
 pub struct HeaviestChain {
     /// How many tasks the job has.
@@ -24,7 +24,7 @@ pub struct HeaviestChain {
     pub levels: Seq<(TaskId, u64)>,
 }
 
-/// What is found of a job that stalled.
+/// What is found about a job that stalled.
 #[derive(Drop)]
 pub struct FoundCycle {
     /// How many tasks ran.

@@ -7,7 +7,7 @@ use crate::fields::{Field, put_line};
 use crate::pieces::{Pieces, flush};
 use ptg_io::{Failed, Sink};
 
-/// What is found of a made job that is complete.
+/// What is found about a made job that is complete.
 #[derive(Clone, Copy, Debug, PartialEq, Eq)]
 pub struct Summary {
     /// How many rows of tiles it has.

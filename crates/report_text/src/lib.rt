@@ -1,5 +1,4 @@
-//! What the program prints: the text of an answer or of what else is found of a job, or of a refusal, in pieces of
-//! 4,096 bytes. It takes no memory.
+//! The text of every answer and refusal, in pieces of 4,096 bytes, without memory.
 #![tactic(auto)]
 
 mod answer;

@@ -1,4 +1,4 @@
-//! Bytes that are kept back until there are enough for a piece, and written then.
+//! Bytes that are kept back until there are enough for a piece, which is then written.
 
 ghost use Rattle.std.specs.Prelude.{◌≡◌, ◌∷◌, [], ◌++◌, ◌<◌, length, IsFalse, OnOk};
 ghost use Rattle.report_text.specs.Puts.{Puts, piece_size};
@@ -6,10 +6,10 @@ ghost use Rattle.report_text.specs.Puts.{Puts, piece_size};
 use ptg_io::{Failed, Sink, write_all};
 use std::marker::Model;
 
-// How many bytes go out at once.
+// The size of a full piece in bytes.
 const PIECE_SIZE: usize = 4096;
 
-/// The bytes that are kept back until there are enough for a piece, seen as the list of them.
+/// The bytes that are kept back until there are enough for a piece. Contracts see them as a list.
 #[derive(Drop)]
 pub struct Pieces {
     buffer: [u8; PIECE_SIZE],

@@ -10,7 +10,7 @@ use flow_meaning::Outcome;
 use plan_core::Plan;
 use ptg_io::{Failed, Sink};
 
-/// What is found of a job that was run by ranks.
+/// What is found about a job that was run by ranks.
 #[derive(Drop)]
 pub struct RankedAnswer {
     /// How many ranks there were.
@@ -44,7 +44,7 @@ fn put_ranked<O: Sink>(
     put_outcome(sink, out, plan, &found.outcome)
 }
 
-// Puts the line of the ranks, and lets it out.
+// Puts the line of the ranks, and writes it out.
 fn put_head<O: Sink>(sink: &mut O, out: &mut Pieces, found: &RankedAnswer) -> Result<(), Failed>
     ensures { Puts O.bytes O.faults result sink.old out.old sink.new out.new (ranked_head found.now) }
 {

@@ -93,7 +93,7 @@ fn put_inconsistent<'a, O: Sink>(
     put_line(sink, out, b"inconsistent", &fields)
 }
 
-// The flow of a fault: its name, or `-` where the fault is at no flow.
+// The flow of a fault: its name, or `-` if the fault is at no flow.
 fn flow_text(flow: Option<u8>, name: &[u8]) -> &[u8]
     ensures { result.now ≡ flow_text flow name.now }
 {

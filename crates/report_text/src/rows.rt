@@ -44,7 +44,7 @@ fn put_trap<'a, O: Sink>(
     put_line(sink, out, b"trap", &[name, params, cause])
 }
 
-// The trap words of the class with this number; none where there is no such class.
+// The trap words of the class with this number; none if there is no such class.
 fn trap_words(plan: &Plan, class: u32) -> &[Text]
     ensures { result.now ≡ trap_words plan.now class }
 {
@@ -54,7 +54,7 @@ fn trap_words(plan: &Plan, class: u32) -> &[Text]
     }
 }
 
-// The word with this number among these; the empty text where there is no such word.
+// The word with this number among these; the empty text if there is no such word.
 fn trap_word(words: &[Text], n: u32) -> &[u8]
     ensures { result.now ≡ slice_index_or words.now n [] }
 {

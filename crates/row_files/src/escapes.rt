@@ -5,7 +5,8 @@ ghost use Rattle.std.specs.Prelude.{◌<◌, ◌≤◌, length, IfOk};
 use crate::why::Why;
 use std::alloc::Global;
 
-/// Adds the bytes that a line spells. Answers whether a line feed follows: not where a lone backslash ends the line.
+/// Adds the bytes that a line spells. Returns whether a line feed follows, as it does unless a lone backslash ends the
+/// line.
 pub fn spell(alloc: Global, line: &[u8], bytes: &mut Vec<u8>) -> Result<bool, Why> {
     let mut rest = line;
     while !rest.is_empty() {
@@ -17,7 +18,7 @@ pub fn spell(alloc: Global, line: &[u8], bytes: &mut Vec<u8>) -> Result<bool, Wh
     Ok(true)
 }
 
-// Spells what a text begins with, and gives what is left of it.
+// Spells what a text begins with, and returns the rest of it.
 fn spell_next<'a>(alloc: Global, text: &'a [u8], bytes: &mut Vec<u8>) -> Result<&'a [u8], Why>
     requires { 0 < length text.now }
     ensures { IfOk result (λ rest. length rest.now < length text.now) }
@@ -76,7 +77,7 @@ fn hex(digit: u8) -> Result<u8, Why>
     }
 }
 
-// Spells `TEXT * NUMBER)` and gives what follows. The text has no ` * ` and no repetition in it.
+// Spells `TEXT * NUMBER)` and returns what follows. The text has no ` * ` and no repetition in it.
 fn spell_repeated<'a>(alloc: Global, inside: &'a [u8], bytes: &mut Vec<u8>) -> Result<&'a [u8], Why>
     ensures { IfOk result (λ rest. length rest.now ≤ length inside.now) }
 {

@@ -22,7 +22,7 @@ pub fn file_of(alloc: Global, name: &[u8], bytes: Vec<u8>) -> Result<File, Why> 
     Ok(File::new(Text::of(alloc, name)?, Seq::of(bytes)))
 }
 
-/// Adds a file to files, in place of the one of its name if there is one.
+/// Adds a file to files. It replaces the one of its name, if there is one.
 pub fn put(files: &mut Vec<File>, file: File) -> Result<(), Why> {
     for held in files.iter_mut() {
         if held.name() == file.name() {
@@ -44,7 +44,8 @@ pub fn copies(alloc: Global, files: &[File]) -> Result<Vec<File>, Why> {
     Ok(list)
 }
 
-/// Does `NAME OLD => NEW`: replaces the old text, which occurs once in the file of this name, by the new one.
+/// Carries out `NAME OLD => NEW`: replaces the old text, which must occur once in the file of this name, with the new
+/// one.
 pub fn change(alloc: Global, files: &mut Vec<File>, order: &str) -> Result<(), Why> {
     let (name, texts) = first_word(order);
     let Some((old, new)) = texts.split_once(" => ") else {

@@ -41,7 +41,7 @@ impl<'a> Reading<'a> {
         Ok(())
     }
 
-    // Opens a text, or gives the one that is open to the last item.
+    // Opens a text, or ends the one that is open, which belongs to the last item.
     fn open_or_close(&mut self, alloc: Global) -> Result<(), Why> {
         match self.open.take() {
             None => {
@@ -53,7 +53,7 @@ impl<'a> Reading<'a> {
     }
 }
 
-// Adds the lines of a text. How many there are, or the number of the first that does not belong.
+// Adds the lines of a text. Returns how many there are, or the number of the first that does not belong, and why.
 fn add_lines<'a>(
     alloc: Global,
     reading: &mut Reading<'a>,
@@ -134,7 +134,7 @@ impl Item<'_> {
         Ok(bytes)
     }
 
-    /// Refuses a text where none belongs.
+    /// Refuses an item that has a text, where none belongs.
     pub fn has_no_text(&self) -> Result<(), Why> {
         match self.block {
             None => Ok(()),

@@ -1,4 +1,4 @@
-//! Rows: each is a call with what it must give, written down in a file. What is called, a program of rows says.
+//! Rows, each a call with its wanted result, read from a file and tried. The program of rows says what is called.
 #![tactic(auto)]
 
 mod call;

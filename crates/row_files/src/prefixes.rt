@@ -1,4 +1,4 @@
-//! Beginnings of a file, with each of which a row is tried.
+//! Prefixes of a file. A row is tried with each of them.
 
 use crate::files::{file_of, spelled};
 use crate::items::first_word;
@@ -7,7 +7,7 @@ use crate::worked_row::{Printed, RowCall};
 use ptg_base::Text;
 use std::alloc::Global;
 
-/// The beginnings of a file that have from `from` to `to` - 1 bytes.
+/// The prefixes of a file that have from `from` to `to` - 1 bytes.
 #[derive(Drop)]
 pub struct Prefixes {
     name: Vec<u8>,
@@ -16,7 +16,7 @@ pub struct Prefixes {
 }
 
 impl Prefixes {
-    /// The beginnings that `NAME FROM TO` names.
+    /// The prefixes that `NAME FROM TO` names.
     pub fn of(alloc: Global, rest: &str) -> Result<Prefixes, Why> {
         let (name, lengths) = first_word(rest);
         let (from, to) = first_word(lengths);
@@ -27,7 +27,8 @@ impl Prefixes {
         })
     }
 
-    /// Refuses these beginnings where they are none, one is longer than its file, or a call of the row is to fail.
+    /// Refuses these prefixes if there are none, if one is longer than its file, or if a read or a write of the row is
+    /// to fail.
     pub fn belong_to(&self, row_call: &RowCall) -> Result<(), Why> {
         if self.from >= self.to {
             return Err(Why("prefixes of no length"));
@@ -44,7 +45,7 @@ impl Prefixes {
         Err(Why("prefixes of a file that is not there, or is shorter"))
     }
 
-    /// The same call with the beginning of this length in the place of the file.
+    /// The same call, with the prefix of this length in place of the file. No read or write of it fails.
     pub fn row_call(&self, alloc: Global, whole: &RowCall, length: usize) -> Result<RowCall, Why> {
         let mut files = Vec::new(alloc);
         for file in &whole.files {
@@ -74,7 +75,8 @@ fn length_of(digits: &str) -> Result<usize, Why> {
         .map_err(|_| Why("a length that is none"))
 }
 
-/// What was wanted where the status alone is compared, and this came: the same text, or of a refusal its first line.
+/// What was wanted, if only the status is compared and this came: the same text, or only its first line if the status
+/// is from 1 to 4.
 pub fn wanted_of(alloc: Global, status: u8, came: &Printed) -> Result<Printed, Why> {
     let mut text = came.text.as_slice().to_vec(alloc)?;
     if (1..=4).contains(&status) {

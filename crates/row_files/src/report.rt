@@ -6,7 +6,7 @@ use crate::why::Why;
 use std::alloc::Global;
 use std::io;
 
-/// Prints a line for each row that is not as wanted or can't be read, and counts.
+/// Prints a line for each row that is not as wanted or can't be read, and counts the rows.
 #[derive(Drop)]
 pub struct Report<'a, R: Print> {
     /// What rows are tried with.
@@ -37,7 +37,7 @@ impl<'a, R: Print> Report<'a, R> {
         println!(rt; "{file}:{line}: can't be read: {why}")
     }
 
-    /// Counts a row, and prints how it came out otherwise, if it did.
+    /// Counts a row, and prints the difference if it is not as wanted.
     pub fn tried(
         &mut self,
         file: &str,
@@ -58,7 +58,7 @@ impl<'a, R: Print> Report<'a, R> {
         }
     }
 
-    /// The last line.
+    /// Prints the last line: how many rows came out as wanted, and how many did not.
     pub fn end(&self) -> io::Result<()> {
         let rt = self.rt;
         let as_wanted = self.as_wanted;

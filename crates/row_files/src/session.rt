@@ -18,14 +18,14 @@ use std::{env, fs, io};
 struct Reading<'a> {
     // The items before the first row, which hold for all.
     all: WorkedRow<'a>,
-    // The row that is being read. After a line of it that can't be read there is none up to the next row.
+    // The row that is being read. After a line of it that can't be read there is none until the next row.
     row: Option<WorkedRow<'a>>,
     // Whether no row has begun yet.
     is_head: bool,
 }
 
-/// Tries the rows of the files that the program's arguments name. Prints a line for each that came out otherwise, and
-/// at the end how many came out as wanted. Answers whether all did.
+/// Tries the rows of the files that the program's arguments name. Prints a line for each that is not as wanted or can't
+/// be read, and at the end how many came out as wanted. Returns whether all did.
 pub fn all_as_wanted<R: Print + Files + Env + AllocGlobal + Threads + Wait + Sync, C: Call>(
     rt: &R,
     call: &C,
@@ -129,7 +129,7 @@ impl<'a> Reading<'a> {
         }
     }
 
-    // Tries the row that was read to its end, where there is one.
+    // Tries the row that was read to its end, if there is one.
     fn finish<R: Print + Threads + Wait + Sync, C: Call>(
         &mut self,
         report: &mut Report<'_, R>,
@@ -171,7 +171,7 @@ pub fn tried<'a, R: Threads + Wait + Sync, C: Call>(
     }
 }
 
-// How a row came out with the shortest beginning of a file with which it did not come out as wanted.
+// How a row came out with the shortest prefix of a file with which it did not come out as wanted.
 fn tried_with_each<R: Threads + Wait + Sync, C: Call>(
     rt: &R,
     alloc: Global,

@@ -7,12 +7,12 @@ use crate::worked_row::Printed;
 pub struct Tried {
     pub wanted: Printed,
     pub came: Printed,
-    /// How many bytes the file had, where the row is tried with beginnings of it.
+    /// How many bytes the file had, if the row is tried with prefixes of it.
     pub length: Option<usize>,
 }
 
 impl Tried {
-    /// The same, but for status and text that are as wanted.
+    /// Returns this, unless status and text are as wanted.
     pub fn if_other(self) -> Option<Tried> {
         if self.wanted.status == self.came.status
             && self.wanted.text.as_slice() == self.came.text.as_slice()

@@ -7,7 +7,7 @@ use std::alloc::{AllocError, AllocFailed};
 #[derive(Clone, Copy, Debug)]
 pub struct Why(pub &'static str);
 
-// Why nothing came of what needed memory.
+// Why something that needs memory was not done.
 const NO_MEMORY: &str = "there is no memory for it";
 
 impl From<AllocError> for Why {

@@ -21,14 +21,14 @@ pub struct WorkedRow<'a> {
     failing_reads: Vec<u64>,
     failing_writes: Vec<u64>,
     prints: Option<Vec<u8>>,
-    // How many bytes of the text are printed, where not all of them.
+    // How many bytes of the text are printed, if not all of them.
     cut: Option<usize>,
     status: Option<u8>,
-    // The beginnings of a file with which it is tried, where it is tried with any.
+    // The prefixes of a file with which it is tried, if it is tried with any.
     prefixes: Option<Prefixes>,
 }
 
-/// What a row calls: words, the files that there are, and which of the calls that read or write fail.
+/// What a row calls: words, the files that there are, and which reads and writes fail.
 #[derive(Drop)]
 pub struct RowCall {
     pub files: Vec<File>,
@@ -63,11 +63,11 @@ pub struct Printed {
 pub enum Wanted {
     /// This text and status.
     Text(Printed),
-    /// A status with each of some beginnings of a file.
+    /// A status with each of some prefixes of a file.
     Status(StatusOfEach),
 }
 
-/// The status that must come with each of these beginnings of a file, and of statuses 1 to 4 one line.
+/// The status that must come with each of these prefixes of a file. With a status from 1 to 4 one line must come.
 #[derive(Drop)]
 pub struct StatusOfEach {
     pub status: u8,
@@ -75,7 +75,7 @@ pub struct StatusOfEach {
 }
 
 impl<'a> WorkedRow<'a> {
-    /// A row that says nothing yet.
+    /// A row without any item yet.
     pub fn new(alloc: Global) -> WorkedRow<'a> {
         WorkedRow {
             line: 0,
@@ -140,7 +140,7 @@ impl<'a> WorkedRow<'a> {
         }
     }
 
-    /// What the row calls and what must come, where it is whole. Words and status may be those of all rows.
+    /// What the row calls and what must come, if the row is complete. Words and status may be those of all rows.
     pub fn row_call(self, alloc: Global, all: &WorkedRow<'a>) -> Result<(RowCall, Wanted), Why> {
         let (Some(list), Some(status)) = (self.words.or(all.words), self.status.or(all.status))
         else {
@@ -160,7 +160,7 @@ impl<'a> WorkedRow<'a> {
     }
 }
 
-// What must come of a call: a status with each of some beginnings of a file, or a text, which may be cut, and a status.
+// What must come of a call: a status with each of some prefixes of a file, or a text, which may be cut, and a status.
 fn what_is_wanted(
     row_call: &RowCall,
     status: u8,
@@ -184,7 +184,7 @@ fn what_is_wanted(
     }
 }
 
-// Sets what a row says once.
+// Sets what a row may say only once.
 fn set<T: Drop>(place: &mut Option<T>, value: T) -> Result<(), Why> {
     if place.is_some() {
         return Err(Why("a keyword that stands twice in the row"));

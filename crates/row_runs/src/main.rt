@@ -1,5 +1,5 @@
-//! Rows over a call that looks at the length of its file alone: prints how those are reported that come out otherwise
-//! or can't be read.
+//! Shows how rows are reported that come out otherwise or can't be read. Their call looks only at the length of its
+//! file.
 #![tactic(auto)]
 
 use row_files::{Call, Printed, RowCall, Why, all_as_wanted};

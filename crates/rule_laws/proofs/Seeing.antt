@@ -1,4 +1,4 @@
--- What a pass knows that has taken the turn of a shard, or has seen quiet.
+-- What a pass knows once it has taken the turn of a shard, or has seen quiet.
 use Rattle.std.proofs.Common.{◌≡◌, ℕ, ℤ, ◌+◌, ◌↔◌, true, List, arith, eq-eqb, eqb-true, Option, IsTrue}
 use mathlib.Core.Option.{some}
 use lib.ListN.{get_elem?}
@@ -22,7 +22,7 @@ use Rattle.table_rule.proofs.SameMembers.{joined_parts}
 use Rattle.table_rule.proofs.Seeing.{seen_next, seen_share}
 
 module _ (j : TableJob) (k : ℕ) (v : PassRecord) (y : Content) (w : WasSeen j k v y) where
-  -- an edge fires exactly where it is the last one into its target that is sent
+  -- an edge fires its target if and only if all other edges into it were sent
   pub seen_fires : (e : Edge) (tile : Option (List ℤ)) → IsNext j.matched j.given (item.Edge e) tile v → shard_of j.matched j.shards e.to ≡ k → IsTrue (fires j.matched y e) ↔ (arrived j.matched (joined w.table.views).state e.to + 1 ≡ goal j.matched e.to)
   seen_fires e tile next at =
       let r = joined_parts j w.table w.rule in
@@ -30,7 +30,7 @@ module _ (j : TableJob) (k : ℕ) (v : PassRecord) (y : Content) (w : WasSeen j 
       let before = entry_before y e.to (goal j.matched e.to) (priority j.matched e.to) in
       ((λ q. f.0 (eqb-true (before.arrived + 1) before.goal q)), λ q. eq-eqb (before.arrived + 1) before.goal (f.1 q))
 
--- where a pass has seen quiet, the moment of all passes is calm and no event is possible
+-- if a pass has seen quiet, the moment of all passes is calm and no event is possible
 pub quiet_calm : (j : TableJob) (s : Table) (id : ℕ) (v : PassRecord) → Rule j s → get_elem? s.views id ≡ some v → v.quiet ≡ true → IsCalm j.matched (joined s.views) × IsQuiescent j.matched j.given (joined s.views).state
 quiet_calm j s id v rule me quiet =
     let r = joined_parts j s rule in

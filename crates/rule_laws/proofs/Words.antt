@@ -1,4 +1,4 @@
--- How large the words of a table grow.
+-- How large the words of a table can get.
 use Rattle.std.proofs.Common.{◌≤◌, length, get_or}
 use Rattle.dep_iter.specs.Tasks.{all_tasks}
 use Rattle.shard_meaning.specs.Moment.{Moment}

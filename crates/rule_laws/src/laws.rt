@@ -1,4 +1,4 @@
-//! Laws of what a pass knows by the rule of the table, and of the words of a table.
+//! Laws of what a pass knows by the rule of the table, and of the size of a table's words.
 
 ghost use Rattle.std.specs.Prelude.{◌≡◌, ◌+◌, ◌<◌, ◌↔◌, ℕ, ℤ, List, [], ◌∷◌, Option, true, IsTrue, ◌≤◌, length, slice_index};
 ghost use Rattle.ptg_base.specs.Task.{Task};
@@ -21,9 +21,10 @@ ghost use Rattle.shard_meaning.specs.Calm.{IsCalm};
 ghost use Rattle.dep_iter.specs.Tasks.{all_tasks};
 ghost use Rattle.table_rule.specs.Words.{live_word, stamp_word};
 
-/// A law: a pass that has taken a turn knows that the shard had its part of the moment of all passes, and its spares;
-/// that a task that it runs is one that runs; that what is next to send by its own record may be sent; and that an edge
-/// fires exactly where it is the last one into its target that is sent.
+/// A law: a pass that has taken a turn knows the following. The shard had its part of the moment of all passes and, in
+/// a preloaded table, its spares. The task that the pass runs is among the running tasks of that moment. What is next
+/// to send by the pass's own record may be sent. An edge fires its target if and only if all other edges into it were
+/// sent.
 pub fn a_taken_turn_tells_what_its_shard_had()
     ensures shard { (j : TableJob) (k : ℕ) (v : PassRecord) (y : Content) (w : WasSeen j k v y) → k < j.shards }
     ensures share { (j : TableJob) (k : ℕ) (v : PassRecord) (y : Content) (w : WasSeen j k v y)
@@ -42,15 +43,14 @@ pub fn a_taken_turn_tells_what_its_shard_had()
         ↔ (arrived j.matched (joined w.table.views).state e.to + 1 ≡ goal j.matched e.to) }
 {}
 
-/// A law: where a pass has seen quiet, then and from then on, no task of all passes is ready or runs, and no event is
-/// possible.
+/// A law: once a pass has seen quiet, from then on no task is ready, no pass runs a task, and no event is possible.
 pub fn quiet_is_seen_for_good()
     ensures { (j : TableJob) (s : Table) (id : ℕ) (v : PassRecord) → Rule j s → get_elem? s.views id ≡ some v
         → v.quiet ≡ true → IsCalm j.matched (joined s.views) × IsQuiescent j.matched j.given (joined s.views).state }
 {}
 
-/// A law: the live word is at most the number of tasks and the number of shards together, and the stamp word at most
-/// the number of tasks.
+/// A law: the live word is at most the number of tasks plus the number of shards, and the stamp word at most the number
+/// of tasks.
 pub fn the_words_stay_small()
     ensures live { (j : TableJob) (s : Table) → Rule j s
         → slice_index s.words (live_word j.shards) ≤ length (all_tasks j.matched) + j.shards }

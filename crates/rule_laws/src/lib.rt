@@ -1,5 +1,5 @@
-//! Laws of the rule of the table that no program cites: what a taken turn tells, that quiet is seen for good, and that
-//! words stay small.
+//! Laws of the table's rule that no program cites: what a pass knows once it took a turn, that quiet stays, and how
+//! large a table's words can get.
 #![tactic(auto)]
 
 mod laws;

@@ -28,12 +28,12 @@ before_it : (b : Bool) (t tile other : List ℤ) (o p : Option (List ℤ)) → u
 before_it true t tile other o p e = refl
 before_it false t tile other o p e = e
 
--- the last write-back counts where no earlier one is to the place
+-- the last write-back counts if no earlier one is to the place
 last_counts : (here : Place → Bool) (ws : List (WriteBack × List ℤ)) (w : WriteBack × List ℤ) (tile : List ℤ) → unwrap_or (written_to (ws ++ w ∷ []) here) tile ≡ unwrap_or (written_to ws here) (cond (here w.0.place) w.1 tile)
 last_counts here [] w tile = first_of (here w.0.place) w.1 tile
 last_counts here (v ∷ vs) w tile = before_it (here v.0.place) v.1 tile (cond (here w.0.place) w.1 tile) (written_to (vs ++ w ∷ []) here) (written_to vs here) (last_counts here vs w tile)
 
--- the tiles, which are numbered from k on, with those replaced whose number passes a test
+-- the tiles, numbered from k on; those whose number passes a test are replaced
 abbrev marked : (ℕ → Bool) → List ℤ → ℕ → List (List ℤ) → List (List ℤ)
 marked test t k [] = []
 marked test t k (tile ∷ tiles) = cond (test k) t tile ∷ marked test t (suc k) tiles
@@ -90,7 +90,7 @@ module _ (ws : List (WriteBack × List ℤ)) (w : WriteBack × List ℤ) where
   same_marks p q t k [] e = refl
   same_marks p q t k (tile ∷ tiles) e = ap (λ b. cond b t tile ∷ marked p t (suc k) tiles) (e k) ∙ ap (λ l. cond (q k) t tile ∷ l) (same_marks p q t (suc k) tiles e)
 
-  -- in its collection the tile at the place is
+  -- in its collection the tile at the place is replaced
   here_in : (c : ℕ) (x : Coll) → eqb place.coll c ≡ true → replaced_tiles after c x 0 x.tiles ≡ replaced_tiles before c x 0 (coll_with x place.i place.j w.1).tiles
   here_in c x same =
       tiles_after c x 0 x.tiles
@@ -124,7 +124,7 @@ module _ (ws : List (WriteBack × List ℤ)) (w : WriteBack × List ℤ) where
       ∙ ap (λ l. record x { tiles = replaced_tiles before c x 0 x.tiles } ∷ l) (colls_at (suc c) j xs (omega arith))
       ∙ ap (replaced_colls before c) (sym (changed_next x xs j (slice_get xs j)))
 
-  -- one more write-back is made to the data first
+  -- replacing with one more write-back is to write it to the data first
   pub one_more : (d : Data) → replaced_data after d ≡ replaced_data before (with_tile_at d w.0.place w.1)
   one_more d = ap (λ xs. record d { colls = xs }) (colls_at 0 place.coll d.colls (omega arith))
 
@@ -137,11 +137,11 @@ none_in_colls c [] = refl
 none_in_colls c (x ∷ xs) =
     ap (λ (l : List (List ℤ)). record x { tiles = l } ∷ replaced_colls (written_to []) (suc c) xs) (none_in_tiles c x 0 x.tiles) ∙ ap (λ l. x ∷ l) (none_in_colls (suc c) xs)
 
--- without a write-back the data stay
+-- without write-backs the data stay the same
 pub no_more : (d : Data) → replaced_data (written_to []) d ≡ d
 no_more d = ap (λ xs. record d { colls = xs }) (none_in_colls 0 d.colls)
 
--- what holds at an index still does where an element is replaced by one of which it holds too
+-- what holds of the element at an index still does after an element is replaced, if it holds of the new one too
 kept_set : {A : Type 0} (P : Option A → Type 0) (xs : List A) (k q : ℕ) (x y : A) → slice_get xs k ≡ Some x → (P (Some x) → P (Some y)) → P (slice_get xs q) → P (slice_get (set xs k y) q)
 kept_set P [] k q x y there h p = p
 kept_set P (z ∷ zs) zero zero x y there h p = let same : z ≡ x = cc in h (subst (λ v. P (Some v)) same p)
@@ -164,14 +164,14 @@ module _ (d : Data) (p : Place) (t : List ℤ) where
     elements = kept_at (λ o. IfSome o (λ (c : Coll). length v.1 ≡ slice_index (elements_by_type d) c.datatype)) (λ x h. h) v.0.place.coll w.elements;
   }
 
--- the last of those that may be made, and the others once it is made
+-- the last of the write-backs may be made, and after it the others
 pub last_of : (d : Data) (ws rest : List (WriteBack × List ℤ)) (w : WriteBack × List ℤ) → ws ≡ rest ++ w ∷ [] → All (IsWritable d) ws → IsWritable d w
 last_of d ws rest w e all = (All-pop (IsWritable d) ws rest (Some w) e all).1
 
 pub still_all : (d : Data) (p : Place) (t : List ℤ) (ws rest : List (WriteBack × List ℤ)) (w : WriteBack × List ℤ) → ws ≡ rest ++ w ∷ [] → All (IsWritable d) ws → All (IsWritable (with_tile_at d p t)) rest
 still_all d p t ws rest w e all = All-weaker (IsWritable d) (IsWritable (with_tile_at d p t)) (still_writable d p t) rest ((All-pop (IsWritable d) ws rest (Some w) e all).0)
 
--- What an earlier list wrote counts before what a later one did.
+-- What the first list wrote counts before what the second one did.
 earlier_counts : (here : Place → Bool) (vs ws : List (WriteBack × List ℤ)) (tile : List ℤ) → unwrap_or (written_to (vs ++ ws) here) tile ≡ unwrap_or (written_to vs here) (unwrap_or (written_to ws here) tile)
 earlier_counts here [] ws tile = refl
 earlier_counts here (v ∷ vs) ws tile = before_it (here v.0.place) v.1 tile (unwrap_or (written_to ws here) tile) (written_to (vs ++ ws) here) (written_to vs here) (earlier_counts here vs ws tile)

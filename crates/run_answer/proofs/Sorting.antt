@@ -1,4 +1,4 @@
--- A sort by tasks gives rows of different tasks in task order.
+-- A sort by tasks puts rows of different tasks in task order.
 use Rattle.std.proofs.Common.{◌≡◌, ℕ, zero, suc, ◌+◌, ◌<◌, ◌≤◌, Bool, true, false, not, cond, List, [], ◌∷◌, length, get_or, refl, ap, sym, ◌∙◌, subst, inl, inr, arith}
 use Rattle.std.proofs.lemmas.Bool.{false≢true, and_parts, and_from, not-true}
 use Rattle.std.proofs.lemmas.List.Sorted.{answers_always, ranks_by, sorted_far, IsPermutation-sym, Contains-permutation, sum_by-IsPermutation}
@@ -51,7 +51,7 @@ module _ {A : Type 0} (key : A → Task) where
   IsUp [] = Unit {0}
   IsUp (x ∷ xs) = ((y : A) → IsIn y xs → lt y x ≡ false) × IsUp xs
 
-  -- an inserted row comes after none that ties with it
+  -- two rows may change places among those that tie with a row, if they don't both tie with it
   either_way : (x y : A) (l : List A) (a b : Bool) → (a ≡ true → b ≡ true → ⊥) → cond b (y ∷ cond a (x ∷ l) l) (cond a (x ∷ l) l) ≡ cond a (x ∷ cond b (y ∷ l) l) (cond b (y ∷ l) l)
   either_way x y l true true apart = absurd (apart refl refl)
   either_way x y l true false apart = refl
@@ -99,7 +99,7 @@ module _ {A : Type 0} (key : A → Task) where
   none_of : (x : A) (l : List A) → [] ≡ x ∷ l → ⊥
   none_of x l e = cc
 
-  -- what is left of equal lists without their first rows
+  -- equal lists that begin with the same row, if any, have equal rests
   rest_same : (b : Bool) (x : A) (ys zs : List A) → cond b (x ∷ ys) ys ≡ cond b (x ∷ zs) zs → ys ≡ zs
   rest_same true x ys zs e = cc
   rest_same false x ys zs e = e
@@ -115,7 +115,7 @@ module _ {A : Type 0} (key : A → Task) where
         | inr i ↦ up.0 y i
       ]
 
-  -- two sorted lists with the same ties are one
+  -- two sorted lists with the same ties are equal
   same_lists : (ys zs : List A) → IsUp ys → IsUp zs → ((w : A) → filter (ties lt w) ys ≡ filter (ties lt w) zs) → ys ≡ zs
   same_lists [] [] up also e = refl
   same_lists [] (z ∷ zs) up also e = absurd (none_of z (filter (ties lt z) zs) (e z ∙ kept_first (ties lt z) z zs (self_tie z)))
@@ -142,7 +142,7 @@ module _ {A : Type 0} (key : A → Task) where
       subst (λ v. lt v x ≡ false) (p.2 x) far in
       (first, up_from xs (sorted_rest x xs h))
 
-  -- rows that tie are of one task
+  -- rows that tie are of the same task
   tie_is_same : (x y : A) → ties lt x y ≡ true → same_task (key x) (key y) ≡ true
   tie_is_same x y h = by (task_cmp (key x) (key y)) refl
     where
@@ -153,7 +153,7 @@ module _ {A : Type 0} (key : A → Task) where
           let back : task_cmp (key y) (key x) ≡ Less = task_cmp-total.antisymm (key y) (key x) ∙ ap ordering_reverse e in
           absurd (false≢true (sym (tie_right x y h) ∙ sym (task_before-cmp (key y) (key x)) ∙ ap is_lt back))
 
-  -- of rows of different tasks, at most one ties with a row
+  -- at most as many rows tie with a row as are of its task
   few_ties : (w : A) (xs : List A) → length (filter (ties lt w) xs) ≤ count (λ r. same_task (key w) (key r)) xs
   few_ties w [] = omega arith
   few_ties w (x ∷ xs) =
@@ -178,7 +178,7 @@ module _ {A : Type 0} (key : A → Task) where
       let found = Contains-permutation xs ys y moves (p.0, p.1, p.2 y) in
       in_of y ys found.0 found.1 found.2
 
-  -- where at most one row passes a test, the same one passes in any order
+  -- if at most one row passes a test, the same one passes in any order
   same_one : (p : A → Bool) (xs ys cs bs : List A) → ((y : A) → IsIn y xs → IsIn y ys) → ((y : A) → IsIn y ys → IsIn y xs) → filter p xs ≡ cs → filter p ys ≡ bs → length cs ≤ 1 → length bs ≤ 1 → cs ≡ bs
   same_one p xs ys [] [] to from e f one other = refl
   same_one p xs ys [] (b ∷ bs) to from e f one other =
@@ -200,7 +200,7 @@ module _ {A : Type 0} (key : A → Task) where
       ∙ same_one (ties lt w) xs ys (filter (ties lt w) xs) (filter (ties lt w) ys) to from refl refl (omega (arith, few_ties w xs, once (key w))) (omega (arith, few_ties w ys, other (key w)))
       ∙ sym (order_kept w ys))
 
-  -- what a sort by the tasks of its rows makes of rows of different tasks
+  -- a sort of rows of different tasks by their tasks puts them in task order
   pub sorted_is : (xs ys : List A) → IsSortedBy lt ys → IsPermutation xs ys → AreOfDifferentTasks key xs → ys ≡ in_task_order key xs
   sorted_is xs ys up moves once =
       same_lists ys (in_task_order key xs) (up_from ys up) (up_order xs)
@@ -208,7 +208,7 @@ module _ {A : Type 0} (key : A → Task) where
       sym (same_one (ties lt w) xs ys (filter (ties lt w) xs) (filter (ties lt w) ys) (λ y. in_moved y xs ys moves) (λ y. in_moved y ys xs (IsPermutation-sym xs ys moves)) refl refl (omega (arith, few_ties w xs, once (key w))) (omega (arith, few_ties w ys, differ_moved xs ys moves once (key w))))
       ∙ sym (order_kept w xs))
 
-  -- the same of `sort_unstable_by`, where each call of its closure compares the tasks of the two rows
+  -- the same for `sort_unstable_by`, if each call of its closure compares the tasks of the two rows
   pub sorted_from_sort_by : {F : Type 0} {g : Mut F (Bor A × (Bor A × Unit {0})) Ordering} {f : F} (xs ys : List A) → IsSortedByClosure g f ys → IsPermutation xs ys → AreOfDifferentTasks key xs →
       ((f : F) (a : Bor A × (Bor A × Unit {0})) (r : Ordering) (f' : F) → Called g f a r f' → r ≡ task_cmp (key a.0.now) (key a.1.0.now)) → ys ≡ in_task_order key xs
   sorted_from_sort_by {g = g} {f = f} xs ys up moves once compares =

@@ -27,7 +27,7 @@ use Rattle.run_answer.specs.Written.{IsWritable}
 use Rattle.dep_iter.proofs.Items.{item_write}
 use Rattle.flow_meaning.specs.Sound.{IsSoundState}
 
--- a tile of a datatype is one of a collection of that datatype
+-- a tile of a collection's datatype may be a tile of that collection
 tile_of_coll : (P : Plan) (G : Data) → DataFit P G → (coll datatype : ℕ) (tile : List ℤ) → option_map_or (λ (s : Shape). eqb s.datatype datatype) (slice_get P.colls coll) false ≡ true
     → length tile ≡ slice_index P.elems datatype → IsTileOf G coll tile
 tile_of_coll P G fit coll datatype tile type long =
@@ -39,7 +39,7 @@ tile_of_coll P G fit coll datatype tile type long =
     by (Some c) h = long ∙ ap (λ es. slice_index es datatype) (sym fit.elements) ∙ ap (slice_index (elements_by_type G)) (sym (eqb-true c.datatype datatype h))
 
 module _ (P : Plan) (G : Data) (con : IsConsistent P) (S : MachineState) (sound : IsSoundState P G S) (known : DataFit P G) (well : IsWellMade G) where
-  -- a write-back that was sent has a tile, and may be written
+  -- a write-back that was sent has a tile, and may be made
   pub write_sent : (x : SentItem) → IsIn x S.sends → (w : WriteBack) → x.item ≡ item.Write w → (tile : List ℤ) × (x.tile ≡ Some tile) × IsWritable G (w, tile)
   write_sent x i w q =
       let out = sound.sent_are_outputs x i in

@@ -1,4 +1,6 @@
--- What a run has written back: write-backs, each with its tile. Source: this project's own choice.
+-- What a run has written back, to replace tiles of its data: write-backs, each with its tile.
+-- Carried by: `with_written`.
+-- Tested by: `traps.txt`, `stalls.txt`.
 use Rattle.std.specs.Prelude.{ℤ, List, map, Option, Some}
 use Rattle.ptg_base.specs.declared.edge.WriteBack.{WriteBack}
 use Rattle.coll_data.specs.Data.{Data}

@@ -1,4 +1,4 @@
-//! The parts of the answer of a run: the data after its write-backs, and its rows in task order.
+//! The data after their write-backs, and the rows of an answer in task order, without memory.
 #![tactic(auto)]
 
 mod rows;

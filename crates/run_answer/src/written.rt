@@ -9,8 +9,8 @@ ghost use Rattle.run_answer.specs.Written.{IsWritable, with_tiles};
 use coll_data::Given;
 use ptg_base::{Tile, WriteBack};
 
-/// The data with each place replaced to which a tile was written back; of several for a place the first counts. No tile
-/// is copied.
+/// The data with the tile of each place replaced by the one that was written back to it, if any. If there are several
+/// for a place, the first counts. No tile is copied.
 pub fn with_written(given: Given, written: Vec<(WriteBack, Tile)>) -> Given
     requires { All (IsWritable given) written.items }
     ensures { result ≡ replaced_data (λ here. first_written here (with_tiles written.items)) given }

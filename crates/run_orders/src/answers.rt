@@ -12,7 +12,7 @@ use ptg_io::{Failed, MemSink};
 use report_text::report;
 use std::alloc::Global;
 
-/// The text of the answer that one thread finds; nothing if the job is not consistent.
+/// The text of the answer that one thread finds; `None` if the job is not consistent.
 pub fn of_one_thread(alloc: Global, texts: &Job) -> Result<Option<String>, OutOfMemory> {
     match job_of_texts(alloc, texts.jdf, texts.data)? {
         Some((job, given)) => {
@@ -23,7 +23,7 @@ pub fn of_one_thread(alloc: Global, texts: &Job) -> Result<Option<String>, OutOf
     }
 }
 
-/// The text of the answer of a run in which the last task that may be claimed always comes first; nothing if the job is
+/// The text of the answer of a run in which the last task that may be claimed always comes first; `None` if the job is
 /// not consistent, or if more can happen in the end.
 pub fn of_a_run_backwards(alloc: Global, texts: &Job) -> Result<Option<String>, OutOfMemory> {
     let Some(mut run) = Stepwise::start(alloc, texts)? else {

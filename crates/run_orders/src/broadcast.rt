@@ -1,5 +1,5 @@
-//! A broadcast between ranks, whose messages come in several orders. In three ranks Src(0) and Sink(0) are of rank 0,
-//! Sink(1) of rank 1 and Sink(2) of rank 2; message 0 goes to Sink(1) and message 1 to Sink(2).
+//! A broadcast between ranks, whose messages come in several orders. In three ranks, Src(0) and Sink(0) belong to rank
+//! 0, Sink(1) to rank 1 and Sink(2) to rank 2; message 0 goes to Sink(1) and message 1 to Sink(2).
 
 ghost use Rattle.ptg_base.specs.Limits.{IsRankCount};
 
@@ -58,7 +58,7 @@ pub const LATE: &[(Step, bool)] = &[
     (Step::IsQuiescent, true),
 ];
 
-/// The same with both messages before all readers.
+/// The same with both messages delivered before any reader runs.
 pub const EARLY: &[(Step, bool)] = &[
     (Step::Run(0, 0), true),
     (Step::Deliver(1), true),
@@ -133,7 +133,7 @@ pub const LEFT: &[(Step, bool)] = &[
 pub enum End {
     /// All tasks ran: how many messages were sent, and the numbers of the three places.
     Numbers(u64, [i64; 3]),
-    /// The step with this number, counted from 0, was not answered as it should be.
+    /// The step with this number, counted from 0, did not return what it should.
     Otherwise(usize),
     /// Something more can happen.
     NotQuiescent,

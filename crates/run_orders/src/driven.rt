@@ -63,7 +63,8 @@ fn ending(outcome: &Outcome) -> End {
     }
 }
 
-// How many messages a job sends in this many ranks, and its answer, in the order of a seed.
+// How many messages a job sends in this many ranks, and its answer, in the order of a seed; `None` if the job is not
+// consistent.
 fn driven(
     alloc: Global,
     job: &Job,

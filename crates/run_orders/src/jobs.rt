@@ -43,7 +43,7 @@ coll,D,4,4
 ",
 };
 
-// T(0) waits for itself. The edge of S(0) is a message; the one that never comes is none.
+// T(0) waits for itself. The edge of S(0) is a message; the edge that never comes is none.
 const STALL: Job = Job {
     name: "stall",
     jdf: b"D
@@ -69,7 +69,7 @@ coll,D,2
 ",
 };
 
-// Of four tasks T(k), each with an edge to the next place, two trap: their edges are no messages.
+// Four tasks T(k), each with an edge to a task at the next place. Two of them trap: their edges are no messages.
 const TRAPS: Job = Job {
     name: "traps",
     jdf: b"D
@@ -98,8 +98,8 @@ coll,D,5
 /// The jobs that are driven.
 pub const JOBS: &[Job] = &[CHAIN, CHOLESKY, STALL, TRAPS];
 
-/// The job of the row 'a broadcast' of jobs.txt: Src(0) sends one tile, whose number is 10, to three tasks Sink(i), and
-/// each adds i to its number and writes it back to its own place.
+/// The job of the row 'a broadcast' of jobs.txt. Src(0) sends one tile, whose number is 10, to three tasks Sink(i).
+/// Each adds i to its number and writes it back to its own place.
 pub const BROADCAST: Job = Job {
     name: "broadcast",
     jdf: b"D

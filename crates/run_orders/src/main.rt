@@ -1,7 +1,8 @@
-//! Runs jobs in orders other than the program's and prints how they end: a broadcast by the calls of one run, compared
-//! with the answer of one thread; the same in worlds of ranks, whose messages come late, in other orders and again; and
-//! jobs in worlds that are driven in the orders of several seeds. Of small jobs it prints the whole answers, by one
-//! thread and by the calls of one run.
+//! Runs jobs in orders other than the program's, on one thread and in worlds of ranks, and prints how they end.
+//!
+//! A broadcast is run by the calls of one run, and compared with the answer of one thread. It is also run in worlds of
+//! ranks, whose messages come late, in other orders and again. Other jobs are run in worlds that are driven in the
+//! orders of several seeds. For small jobs the whole answers are printed, by one thread and by the calls of one run.
 #![tactic(auto)]
 
 mod answers;
@@ -42,7 +43,7 @@ fn print_order<R: Print>(
     }
 }
 
-// Prints how it ends in this many ranks, in one order of steps.
+// Prints how the broadcast ends in this many ranks, in one order of steps.
 fn print_order_of_ranks<R: Print>(
     rt: &R,
     alloc: Global,

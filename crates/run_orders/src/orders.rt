@@ -68,8 +68,8 @@ pub const REFUSED: &[(Step, bool)] = &[
     (Step::Finish(0, 0), true),
     (Step::Runs(0, 0), false),
     (Step::Claim(0, 0), false),
-    // An edge that the job does not have, one that was sent, and claims where the edge was not sent or the task is
-    // claimed.
+    // An edge that the job does not have, one that was sent, a claim of a task whose edge was not sent, and one of a
+    // claimed task.
     (Step::Edge(3), false),
     (Step::Edge(1), true),
     (Step::Edge(1), false),
@@ -78,7 +78,7 @@ pub const REFUSED: &[(Step, bool)] = &[
     (Step::Claim(1, 1), true),
     (Step::Claim(1, 1), false),
     (Step::Edge(1), false),
-    // The same of write-backs.
+    // The same for write-backs.
     (Step::Write(0, 0), false),
     (Step::Write(1, 1), false),
     (Step::Runs(1, 1), true),
@@ -109,11 +109,11 @@ pub const REFUSED: &[(Step, bool)] = &[
 pub enum End {
     /// All tasks ran, and these are the numbers of the three places.
     Numbers([i64; 3]),
-    /// The step with this number, counted from 0, was not answered as it should be.
+    /// The step with this number, counted from 0, did not return what it should.
     Otherwise(usize),
     /// Not all tasks ran.
     NotComplete,
-    /// The answer of one thread is another one.
+    /// One thread has another answer.
     Differs,
     /// The job is not consistent.
     NoJob,

@@ -44,7 +44,7 @@ fn deliver(world: &mut World<'_>, number: u64) -> Result<bool, OutOfMemory> {
     world.deliver(number)
 }
 
-// Whether the world allows the step, or what is asked is so.
+// Whether the world allows the step, or whether what is asked is so.
 fn take(world: &mut World<'_>, step: Step) -> Result<bool, OutOfMemory> {
     match step {
         Step::Run(class, i) => world.run(&TaskId::new(class, &[i])),
@@ -56,7 +56,7 @@ fn take(world: &mut World<'_>, step: Step) -> Result<bool, OutOfMemory> {
     }
 }
 
-/// The first of these steps that is not answered as here.
+/// The number of the first of these steps that does not return what stands beside it, if there is one.
 pub fn first_other(
     world: &mut World<'_>,
     steps: &[(Step, bool)],

@@ -33,7 +33,7 @@ pub enum Step {
     IsOver,
 }
 
-/// A run of a job on its data, seen as the run. Each running task is among those that were tried to claim.
+/// A run of a job on its data. Contracts see the run alone. Each running task is among those whose claim was tried.
 #[derive(Drop)]
 pub struct Stepwise {
     job: Matched,
@@ -95,7 +95,7 @@ fn none_runs(run: &State, tasks: &[TaskId]) -> bool
 }
 
 impl Stepwise {
-    /// The run of a job, before anything has happened in it; nothing if the job is not consistent.
+    /// The run of a job, before anything has happened in it; `None` if the job is not consistent.
     pub fn start(alloc: Global, texts: &Job) -> Result<Option<Stepwise>, OutOfMemory> {
         match job_of_texts(alloc, texts.jdf, texts.data)? {
             Some((job, given)) => Ok(Some(Stepwise {
@@ -108,7 +108,7 @@ impl Stepwise {
         }
     }
 
-    // Whether the run allows the step, or what is asked is so.
+    // Whether the run allows the step, or whether what is asked is so.
     fn take(&mut self, step: Step) -> Result<bool, OutOfMemory> {
         match step {
             Step::Claim(class, i) => self.claim(&TaskId::new(class, &[i])),
@@ -120,7 +120,7 @@ impl Stepwise {
         }
     }
 
-    /// The first of these steps that is not answered as here.
+    /// The number of the first of these steps that does not return what stands beside it, if there is one.
     pub fn first_other(&mut self, steps: &[(Step, bool)]) -> Result<Option<usize>, OutOfMemory> {
         for (n, (step, answer)) in steps.iter().enumerate() {
             if self.take(*step)? != *answer {
@@ -150,7 +150,8 @@ impl Stepwise {
         none_runs(&self.run, self.tried.as_slice()) && self.run.quiescent(&self.job)
     }
 
-    /// Claims tasks, ends them and sends their items, each time the last one that may be claimed, until none may be.
+    /// Claims the last task that may be claimed, ends it and sends its items, again and again until none may be
+    /// claimed.
     pub fn run_backwards(&mut self, alloc: Global) -> Result<(), OutOfMemory> {
         let tasks = tasks_backwards(alloc, self.job.plan())?;
         for _ in 0..tasks.len() {
@@ -161,7 +162,8 @@ impl Stepwise {
         Ok(())
     }
 
-    // Claims the first of these tasks that may be claimed, ends it and sends its items. False where none may be.
+    // Claims the first of these tasks that may be claimed, ends it and sends its items. Returns false if none may be
+    // claimed.
     fn run_first(&mut self, alloc: Global, tasks: &[TaskId]) -> Result<bool, OutOfMemory> {
         for t in tasks {
             if self.claim(t)? {
@@ -182,12 +184,12 @@ impl Stepwise {
         Ok(())
     }
 
-    /// The answer, once nothing more can happen.
+    /// The answer; `None` if more can happen.
     pub fn answer(self) -> Result<Option<Outcome>, OutOfMemory> {
         Ok(self.job_and_answer()?.map(|(_job, outcome)| outcome))
     }
 
-    /// The job and its answer, once nothing more can happen.
+    /// The job and its answer; `None` if more can happen.
     pub fn job_and_answer(self) -> Result<Option<(Matched, Outcome)>, OutOfMemory> {
         let Stepwise {
             job,
@@ -216,7 +218,7 @@ fn tasks_backwards(alloc: Global, plan: &Plan) -> Result<Vec<TaskId>, OutOfMemor
     Ok(tasks)
 }
 
-// The items of a task, its write-backs first; none of what is no task.
+// The items of a task, its write-backs first; no items if it is no task of the plan.
 fn items_of(alloc: Global, plan: &Plan, t: &TaskId) -> Result<Vec<Item>, OutOfMemory> {
     let mut items = Vec::new(alloc);
     if !is_task(plan, t) {
@@ -231,7 +233,7 @@ fn items_of(alloc: Global, plan: &Plan, t: &TaskId) -> Result<Vec<Item>, OutOfMe
     Ok(items)
 }
 
-/// The answer of a job as one thread finds it; nothing if the job is not consistent.
+/// The answer of a job as one thread finds it; `None` if the job is not consistent.
 pub fn answer_of_run_one(alloc: Global, texts: &Job) -> Result<Option<Outcome>, OutOfMemory> {
     match job_of_texts(alloc, texts.jdf, texts.data)? {
         Some((job, given)) => Ok(Some(run_one(alloc, &job, given)?)),

@@ -67,7 +67,7 @@ once_by (x ∷ xs) distinct t =
     omega (arith, none, ap as_number k))
     (λ k. omega (arith, once_by xs distinct.1 t, ap as_number k))
 
--- rows of different tasks of a job are no more than the job has tasks
+-- rows of different tasks of a job are at most as many as its tasks
 few_rows : {A : Type 0} (key : A → Task) (P : Plan) (rows : List A) → AreOfDifferentTasks key rows → ((r : A) → IsIn r rows → IsTask P (key r)) → length rows ≤ length (all_tasks P)
 few_rows key P rows once tasks =
     let fits = no_longer (map key rows) (all_tasks P) (distinct_once (map key rows) (λ t. omega (arith, once t, count-map (same_task t) key rows)))
@@ -113,7 +113,7 @@ module _ (P : Plan) (G : Data) (con : IsConsistent P) (known : DataFit P G) (wel
     pub few_waits : length (all_waits ys) ≤ length (all_tasks P)
     few_waits = few_rows (λ (r : WaitRow). r.task) P (all_waits ys) waits_apart (waits_are_tasks P G ys h found)
 
-  -- the answer where some task has trapped
+  -- the answer if some task has trapped
   pub trapped_answer : (rows : List TrapRow) → rows ≡ in_task_order (λ (r : TrapRow). r.task) (all_traps ys) → (rows ≡ [] → ⊥) → Trapped rows ≡ answer P G
   unfolding state_answer
   trapped_answer rows are some =

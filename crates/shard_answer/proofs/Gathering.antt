@@ -66,7 +66,7 @@ module _ {A : Type 0} (g v : A → ℕ) where
       gathered_from w ys xs 0 (λ i k y e is. subst (λ n. w y ≡ weigh (part n) xs) (omega (arith, e)) (h i y is))
       ∙ weigh-same v (spread 0 (length ys)) xs (λ x i. spread_among 0 (length ys) x (omega arith) (omega (arith, placed x i)))
 
--- the shard that a row is of
+-- the shard that a row comes from
 pub row_of : {A B : Type 0} (rows : B → List A) (ys : List B) (r : A) → IsIn r (flat_map rows ys) → (k : ℕ) × (y : B) × (slice_get ys k ≡ Some y) × IsIn r (rows y)
 row_of rows ys r i =
     let p = from_flat_map rows ys r i in
@@ -104,6 +104,7 @@ module _ {A B : Type 0} (key : A → Task) (rows : B → List A) (of : Task → 
       let both = one_of_both (count test (rows y)) (count test (flat_map rows ys)) (once 0 j y (omega arith) refl t) rest apart in
       omega (arith, both, weigh-append (λ r. as_number (test r)) (rows y) (flat_map rows ys))
 
-  -- If the rows of each shard are of different tasks, and of tasks that belong to it, those of all shards are.
+  -- If the rows of each shard are those of different tasks that belong to it, the rows of all shards are those of
+  -- different tasks.
   pub differ : (ys : List B) → ((k : ℕ) (y : B) → slice_get ys k ≡ Some y → AreOfDifferentTasks key (rows y)) → ((k : ℕ) (y : B) → slice_get ys k ≡ Some y → (r : A) → IsIn r (rows y) → of (key r) ≡ k) → AreOfDifferentTasks key (flat_map rows ys)
   differ ys once own = differ_from ys 0 (λ i k y e is. once i y is) (λ i k y e is r among. own i y is r among ∙ omega (arith, e))

@@ -102,7 +102,7 @@ module _ (P : Plan) (G : Data) (con : IsConsistent P) (ys : List Content) (h : H
   abbrev state : MachineState
   state = h.moment.state
 
-  -- the trapped rows of a shard weigh as its claimed tasks that trap
+  -- the trapped rows of a shard weigh as much as its claimed tasks that trap
   weights : (k : ℕ) (y : Content) → slice_get ys k ≡ Some y → (f : Task × Trap → ℕ) → weigh f y.trapped ≡ weigh (trap_weight P G h.of k f) state.claims
   weights k y at f =
       let none = ap (λ (us : List Task). weigh (trap_weight P G h.of k f) us) h.calm.none_runs in

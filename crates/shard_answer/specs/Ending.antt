@@ -1,4 +1,5 @@
--- What the shards of a run hold together once nothing more can happen. Source: this project's own choice.
+-- What the shards of a run hold together once nothing more can happen.
+-- Carried by: `outcome_of`.
 use Rattle.std.specs.Prelude.{◌≡◌, ◌<◌, ℕ, List, Some, length, slice_get}
 use Rattle.ptg_base.specs.Task.{Task}
 use Rattle.plan_core.specs.declared.plan.Plan.{Plan}

@@ -1,5 +1,6 @@
 -- The parts of the answer as the shards have them: rows of trapped and of waiting tasks, write-backs, and how many
--- tasks have ended. Source: this project's own choice.
+-- tasks have ended.
+-- Carried by: inside `outcome_of`.
 use Rattle.std.specs.Prelude.{◌≡◌, ℕ, ℤ, List, Some, map, flat_map, slice_get}
 use Rattle.std.specs.List.{IsDistinct}
 use Rattle.std.specs.Map.{keys_of}
@@ -45,6 +46,6 @@ all_written ys = flat_map (λ (y : Content). y.written) ys
 abbrev pub all_ended : List Content → ℕ
 all_ended ys = weigh (λ (y : Content). y.ended) ys
 
--- in no shard two entries are of one task
+-- no shard has two entries for one task
 abbrev pub HaveDistinctEntries : List Content → Type 0
 HaveDistinctEntries ys = (k : ℕ) (y : Content) → slice_get ys k ≡ Some y → IsDistinct same_task (keys_of y.entries)

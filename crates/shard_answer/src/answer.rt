@@ -25,7 +25,7 @@ use ptg_base::{OutOfMemory, Seq};
 use run_answer::{traps_in_task_order, waits_in_task_order, with_written};
 
 /// The answer of a job from the shards of a run in which nothing more can happen. No tile is copied. With room for a
-/// row of each task it takes no memory.
+/// row for each task it takes no memory.
 pub fn outcome_of(
     m: &Matched,
     given: Given,
@@ -45,7 +45,7 @@ pub fn outcome_of(
     }
 }
 
-// The answer of a run that is not complete: its traps, or its stall. `None` where all tasks ran without a trap.
+// The answer of a run that is not complete: its traps, or its stall. `None` if all tasks ran without a trap.
 fn incomplete(
     m: &Matched,
     given: &Given,
@@ -89,7 +89,7 @@ fn trap_rows(
     Ok(traps_in_task_order(rows))
 }
 
-// The answer of a run without traps that has stalled. `None` where all tasks ran.
+// The answer of a run without traps that has stalled. `None` if all tasks ran.
 fn stall(
     m: &Matched,
     given: &Given,

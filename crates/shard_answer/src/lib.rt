@@ -1,4 +1,4 @@
-//! The answer of a run from what its shards hold at the end.
+//! Makes the answer of a run from its shards, copying no tile. With room for the rows it takes no memory.
 #![tactic(auto)]
 
 mod answer;

@@ -67,7 +67,7 @@ pub(crate) fn push_waits(shards: &[Shard], rows: &mut Vec<WaitRow>) -> Result<()
     push_waits(others, rows)
 }
 
-// In no shard two entries are of one task.
+// A law: no shard has two entries for one task.
 pub(crate) fn entries_are_distinct(shards: &[Shard])
     ensures { HaveDistinctEntries shards.now }
 {

@@ -48,14 +48,14 @@ opening_shard P of k y w = record {
   elems = w.elems;
 }
 
--- how many of some tasks no edge goes into, by whether one goes into the first
+-- how many of these tasks no edge goes into, by whether one goes into the first
 pub one_root : (P : Plan) (t : Task) (ts : List Task) → (goal P t == 0) ≡ true → length (roots_among P (t ∷ ts)) ≡ length (roots_among P ts) + 1
 one_root P t ts k = omega (arith, ap (λ (b : Bool). length (cond b (t ∷ roots_among P ts) (roots_among P ts))) k)
 
 pub no_root : (P : Plan) (t : Task) (ts : List Task) → (goal P t == 0) ≡ false → length (roots_among P (t ∷ ts)) ≡ length (roots_among P ts)
 no_root P t ts k = ap (λ b. length (cond b (t ∷ roots_among P ts) (roots_among P ts))) k
 
--- where none of these tasks is without an edge into it, each has one
+-- if none of these tasks is without an edge into it, each has one
 none_is_root : (P : Plan) (ts : List Task) → length (roots_among P ts) ≡ 0 → (t : Task) → IsIn t ts → (goal P t == 0) ≡ false
 none_is_root P ts none t i = by_test (goal P t == 0) (λ root. absurd (has_none (roots_among P ts) none ((IsIn-filter (λ u. goal P u == 0) ts t).1 (i, root)))) (λ not. not)
   where
@@ -63,7 +63,7 @@ none_is_root P ts none t i = by_test (goal P t == 0) (λ root. absurd (has_none 
     has_none [] z j = absurd j
     has_none (u ∷ us) z j = absurd (omega (arith, z))
 
--- the shards once no task without an edge into it is to come
+-- the shards once no task without in edges is left to open
 pub opening_shards : (to : SharedTo) (P : Plan) (n : ℕ) (rest : List Task) (ys : List Content) → length ys ≡ n
     → length (roots_among P rest) ≡ 0 → IsSoFar P (λ ts. AreOpened P (placement_by to P n) ts ys) rest
     → AreOpening P (placement_by to P n) n ys

@@ -33,7 +33,7 @@ module _ (P : Plan) (of : Placement) where
         by None e = e ∙ sym (enters_none t not)
         by (Some v) e = w.there t (w.only t v e).0 own
 
-    -- more tasks are opened where their entries are there
+    -- more tasks are opened if their entries are there
     pub more_kept : (more : List Task) → ((t : Task) → IsIn t more → of t ≡ k → entry_of y t ≡ opening_entry P t) → IsOpenedFor P of k (λ u. IsIn u (done ++ more)) y
     more_kept more here = record {
       there = λ u i own. elim (from_append u done more i) [ inl before ↦ w.there u before own | inr later ↦ here u later own ];

@@ -8,7 +8,7 @@ use Rattle.plan_core.specs.declared.plan.Plan.{Plan}
 use Rattle.dep_iter.specs.Tasks.{IsTask, all_tasks}
 use Rattle.dep_iter.proofs.Listing.{listed}
 
--- How far a walk over all tasks has come: what is so of the tasks that it has passed.
+-- How far a walk over all tasks has come: what holds of the tasks that it has passed.
 pub record IsSoFar (P : Plan) (Q : List Task → Type 0) (rest : List Task) : Type 0 where
   pub passed : List Task
   pub split : all_tasks P ≡ passed ++ rest

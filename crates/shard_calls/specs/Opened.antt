@@ -1,5 +1,6 @@
 -- How shards are opened: they get a ready entry of each task that no edge goes into. Source: DAGuE (Parallel Computing,
 -- 2012): a task without dependences may run at once.
+-- Carried by: `opened_shards`, `opened_ranks`.
 use Rattle.std.specs.Prelude.{◌≡◌, ℕ, ℤ, List, [], ◌∷◌, ◌++◌, length, slice_get, Some, None}
 use Rattle.ptg_base.specs.Entry.{Entry}
 use Rattle.ptg_base.specs.Lists.{IsIn}
@@ -17,8 +18,8 @@ use Rattle.shard_calls.specs.declared.placing.SharedTo.TheVariants as to
 abbrev pub AreOpened : Plan → Placement → List Task → List Content → Type 0
 AreOpened P of ts ys = (k : ℕ) (y : Content) → slice_get ys k ≡ Some y → IsOpenedFor P of k (λ t. IsIn t ts) y
 
--- From old to new the shard of a task got its entry, if no edge goes into it, where the shards had the entries of the
--- tasks before it.
+-- From old to new the shard of a task got its entry, if no edge goes into it, given that the shards had the entries of
+-- the tasks before it.
 pub record Opens (P : Plan) (of : Placement) (t : Task) (old new : List Content) : Type 0 where
   pub count : length new ≡ length old
   pub opened : (done : List Task) → AreOpened P of done old → AreOpened P of (done ++ t ∷ []) new

@@ -1,6 +1,6 @@
 -- What an item needs of the shard that takes it, and what it changes there. Source: DAGuE (Parallel Computing, 2012),
--- where a task that ends satisfies the dependences of its successors; that a write-back is kept in the shard of its
--- task is this project's own choice.
+-- where a task that ends satisfies the dependences of its successors.
+-- Carried by: `take_edge`, `take_write`.
 use Rattle.std.specs.Prelude.{◌≡◌, ◌<◌, ℕ, ℤ, List, [], ◌∷◌, ◌++◌, Option, Some, None, IsSome, IsTrue, IfSome, is_some, if◌then◌else◌, slice_index}
 use Rattle.ptg_base.specs.Limits.{most_flows}
 use Rattle.ptg_base.specs.declared.edge.Edge.{Edge}
@@ -14,8 +14,7 @@ use Rattle.dep_shard.specs.Content.{Content, IsTileOf, IsWaiting, KeepsAllButEnt
 use Rattle.shard_meaning.specs.Reserve.{has_type}
 use Rattle.shard_meaning.specs.Share.{entry_after, entry_found}
 
--- the edge goes to a flow of a task that waits for it, by the entry that the shard has of the task, and its tile is of
--- the flow's type
+-- the edge goes to a flow of a task, the entry that it finds in the shard waits, and its tile is of the flow's type
 pub record MayTakeEdge (P : Plan) (e : Edge) (tile : Option (List ℤ)) (y : Content) : Type 0 where
   pub task : IsTask P e.to
   pub flow : FlowPlan

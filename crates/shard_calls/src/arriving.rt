@@ -26,7 +26,7 @@ pub(crate) fn type_of_flow(m: &Matched, t: &TaskId, flow: u8) -> u32
     flows[flow as usize].datatype
 }
 
-// The first edge comes to a task. Only here are its goal and its priority computed.
+// Notes the first edge to a task. Only here are the goal and the priority of the task computed.
 fn arrive_first(
     shard: &mut Shard,
     m: &Matched,
@@ -58,7 +58,8 @@ fn arrive_first(
     shard.arrive_first(edge, goal, priority, datatype, tile)
 }
 
-// An edge comes to its target, with its tile. Without memory the shard stays as it was, but for spares that grow.
+// Notes an edge to its target, with its tile. If memory is refused, the shard stays as it was, but for spares that may
+// grow.
 pub(crate) fn arrive(
     shard: &mut Shard,
     m: &Matched,

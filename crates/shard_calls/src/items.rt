@@ -12,7 +12,8 @@ use dep_iter::Matched;
 use dep_shard::{Arrived, Shard};
 use ptg_base::{Edge, OutOfMemory, Tile, WriteBack};
 
-/// A shard takes an edge in, with its tile. Without memory it stays as it was, but for spares that grow.
+/// Takes an edge into a shard, with its tile. If memory is refused, the shard stays as it was, but for spares that may
+/// grow.
 pub fn take_edge(
     shard: &mut Shard,
     m: &Matched,
@@ -31,7 +32,8 @@ pub fn take_edge(
     arrive(shard, m, edge, datatype, tile)
 }
 
-/// A shard takes a write-back in, with its tile. Without memory it stays as it was, but for spares that grow.
+/// Takes a write-back into a shard, with its tile. If memory is refused, the shard stays as it was, but for spares that
+/// may grow.
 pub fn take_write(
     shard: &mut Shard,
     m: &Matched,

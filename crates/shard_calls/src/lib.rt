@@ -1,5 +1,5 @@
-//! What a table on threads and a world of ranks both do with their shards: where a task belongs, the opening, the items
-//! that a shard takes in, the flow of a task with a number, and whether work is left.
+//! What a table and a world of ranks both do with their shards. They find the shard of a task, open the shards, take in
+//! edges and write-backs, find a flow by its number, and see whether work is left.
 #![tactic(auto)]
 
 mod arriving;

@@ -31,7 +31,7 @@ fn enter(shards: &mut Vec<Shard>, k: usize, t: &TaskId, priority: i64) -> Result
     enter_in(&mut shards[k], t, priority)
 }
 
-// Enters a task if no edge goes into it, and answers whether that is so.
+// Enters a task if no edge goes into it, and returns whether that is so.
 fn open_task(
     shards: &mut Vec<Shard>,
     m: &Matched,
@@ -66,7 +66,7 @@ fn new_shards(alloc: Global, m: &Matched, count: u32) -> Result<Vec<Shard>, OutO
     Ok(shards)
 }
 
-// This many new shards, opened. The walk stops once all tasks are found that no edge goes into.
+// This many new shards, opened. The walk stops once all tasks without in edges are found.
 fn opened(alloc: Global, m: &Matched, count: u32, to: SharedTo) -> Result<Vec<Shard>, OutOfMemory>
     requires { IsShardCount count }
     ensures { IfOk result (λ v. AreOpening m.now (placement_by to m.now count) count v.items) }

@@ -25,10 +25,10 @@ pub(crate) enum SharedTo {
 // 2^64 over the golden ratio, which is odd: the high bits of its multiples are far apart.
 const MULTIPLIER: u64 = 11400714819323198485;
 
-// The bits of a hash that number a shard are those from this one on.
+// The bits of a hash from this one on number a shard.
 const LOW_BITS: u32 = 48;
 
-// One more parameter in a hash.
+// A hash with one more parameter.
 fn hash_with(hash: u64, param: i64) -> u64
     ensures { result ≡ placing.hash_with hash param }
 {
@@ -36,7 +36,7 @@ fn hash_with(hash: u64, param: i64) -> u64
         .wrapping_mul(MULTIPLIER)
 }
 
-// These parameters in a hash, one after another.
+// A hash with these parameters, one after another.
 fn hash_from(hash: u64, params: &[i64]) -> u64
     ensures { result ≡ placing.hash_from hash params.now }
 {

@@ -1,4 +1,4 @@
--- To the flow of an edge that may be sent no tile has come.
+-- No tile has come to the flow of an edge that may be sent.
 use Rattle.std.proofs.Common.{◌≡◌, ◌≢◌, ℕ, suc, ◌+◌, ℤ, cond, List, [], ◌∷◌, ◌++◌, map, refl, ap, sym, ◌∙◌, subst, arith, Option, Some, None, slice_get, nat_eq, add-zero}
 use Rattle.std.specs.Map.{lookup}
 use Rattle.std.specs.Prelude.{option_to_list}
@@ -43,7 +43,7 @@ lookup_past flow (x ∷ xs) ys none =
     (λ k. let some : Some x.1 ≡ None = sym (ap (λ b. cond b (Some x.1) (lookup (nat_eq flow) xs)) k) ∙ none in absurd cc)
     (λ k. ap (λ b. cond b (Some x.1) (lookup (nat_eq flow) (xs ++ ys))) k ∙ lookup_past flow xs ys (sym (ap (λ b. cond b (Some x.1) (lookup (nat_eq flow) xs)) k) ∙ none))
 
--- where an edge delivers nothing, no tile comes to its flow
+-- if an edge delivers nothing, no tile comes to its flow
 module _ (P : Plan) (t : Task) (task : IsTask P t) (well : IsWellTask P t) (e : Edge) (among : IsIn e (in_edges P t)) (d : Delivery) (none : d e ≡ None) where
   elsewhere : (n : ℕ) (s : Source) → n ≢ e.in_flow → lookup (nat_eq e.in_flow) (delivered_from d n s) ≡ None
   elsewhere n (source.Task x) ne = by (d x)

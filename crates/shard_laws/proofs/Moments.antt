@@ -18,7 +18,7 @@ use Rattle.shard_meaning.proofs.Due.{runs_as_before, runs_once_less}
 pub opening_moment_sound : (P : Plan) (G : Data) → IsSoundMoment P G opening_moment
 opening_moment_sound P G = record { state = opening_sound P G; claimed = λ t. omega arith }
 
--- the end of a task is no event, and leaves it among those that run once less
+-- the end of a task is no event of the machine; the task then runs once less
 pub end_moment : (P : Plan) (G : Data) (R : Moment) → IsSoundMoment P G R → (t : Task) → 0 < run_count R t → IsSoundMoment P G (with_end R t)
 end_moment P G R sound t runs = record {
   state = sound.state;

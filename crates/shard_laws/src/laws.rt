@@ -43,9 +43,9 @@ pub fn events_keep_moments_sound()
         → IsSoundMoment P G (with_end R t) }
 {}
 
-/// A law: a claim makes the ready tasks one fewer; a send makes them one more exactly where it sends the last edge into
-/// a task. They and the claimed tasks are no more than the job has, and where none is ready and none runs the moment is
-/// calm.
+/// A law: a claim leaves one ready task fewer. A send makes one more if and only if it sends the last edge into a task.
+/// The ready and the claimed tasks are together at most as many as the job has. If no task is ready and none runs, the
+/// moment is calm.
 pub fn the_ready_tasks_are_counted()
     ensures claim { (P : Plan) (R : Moment) (t : Task) → MayClaim P R.state t
         → length (ready_tasks P (with_claim R t).state) + 1 ≡ length (ready_tasks P R.state) }
@@ -64,7 +64,7 @@ pub fn the_ready_tasks_are_counted()
 {}
 
 /// A law: the target of an edge that may be sent is a task that waits for it. Its entry, if it has one, has the goal
-/// and the priority of the plan and no tile of the edge's flow yet; the edge makes it ready exactly where it is the
+/// and the priority of the plan and no tile of the edge's flow yet. The edge makes it ready if and only if it is the
 /// last.
 pub fn an_edge_finds_its_target()
     ensures target { (P : Plan) (G : Data) (R : Moment) (e : Edge) → IsConsistent P → IsSoundState P G R.state

@@ -1,4 +1,4 @@
--- What an item carries: a tile, where its flow is a data flow, and else none.
+-- What an item carries: a tile if its flow is a data flow, and otherwise none.
 use Rattle.std.proofs.Common.{◌≡◌, ◌⊎◌, ℕ, zero, suc, ℤ, true, false, cond, List, [], ◌∷◌, length, get_or, refl, ap, ◌∙◌, Option, Some, None, slice_get, Ok, Err, inl, inr}
 use Rattle.std.proofs.lemmas.Bool.{false≢true}
 use Rattle.std.specs.Prelude.{option_map}

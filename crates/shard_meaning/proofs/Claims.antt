@@ -1,4 +1,4 @@
--- A claim changes the shard of its task as the call does that takes the entry, and no other shard.
+-- A claim changes the shard of its task as the call that takes the entry does, and no other shard.
 use Rattle.std.proofs.Common.{◌≡◌, ◌≢◌, ℕ, List, ap, ◌∙◌, arith, eq-eqb, ne_eqb}
 use Rattle.ptg_base.specs.Entry.{FlowTile}
 use Rattle.ptg_base.specs.Task.{Task}

@@ -1,4 +1,4 @@
--- One more tile that is delivered to a task stands among the others in flow order.
+-- One more tile that is delivered to a task takes its place among the others in flow order.
 use Rattle.std.proofs.Common.{◌≡◌, ◌≢◌, ℕ, zero, suc, ◌+◌, ◌<◌, ◌≤◌, ℤ, Bool, true, false, cond, List, [], ◌∷◌, ◌++◌, map, sym, refl, ap, ◌∙◌, subst, arith, Option, Some, None, slice_get, nat_eq, add-zero}
 use Rattle.std.specs.Prelude.{option_map, option_to_list}
 use Rattle.std.proofs.lemmas.Bool.{lt-ltb, le-ltb, ne_eqb}
@@ -28,7 +28,7 @@ lower : (m n : ℕ) (xs : List FlowTile) → m ≤ n → AllFrom n xs → AllFro
 lower m n [] l h = tt
 lower m n (x ∷ xs) l h = (omega (arith, h.0), lower m n xs l h.1)
 
--- before greater flows a tile comes first
+-- a tile comes first before those of greater flows
 first_of_all : (k : ℕ) (tile : List ℤ) (xs : List FlowTile) → AllFrom (suc k) xs → with_tile k tile xs ≡ (k, tile) ∷ xs
 first_of_all k tile [] h = refl
 first_of_all k tile (x ∷ xs) h = ap (λ b. cond b ((k, tile) ∷ x ∷ xs) (cond (nat_eq k x.0) ((k, tile) ∷ xs) (x ∷ with_tile k tile xs))) (lt-ltb k x.0 (omega (arith, h.0)))
@@ -71,7 +71,7 @@ module _ (P : Plan) (t : Task) (task : IsTask P t) (well : IsWellTask P t) (e : 
   same_from n source.Null h = refl
   same_from n source.Nothing h = refl
 
-  -- a flow other than the edge's gets what it got
+  -- a flow other than the edge's gets what it got before
   other_flow : (n : ℕ) (f : FlowPlan) → slice_get (flows_of P t) n ≡ Some f → n ≢ e.in_flow → delivered_tile P c t n f ≡ delivered_tile P d t n f
   other_flow n f here ne = cond-same (is_data (Some f.kind)) _ _ [] (λ carries. same_from n (data_source P t n) (λ x s same. ne (sym (source_at_flow P t task well n f here carries x s) ∙ ap (λ (y : Edge). y.in_flow) same)))
 

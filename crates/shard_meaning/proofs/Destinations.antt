@@ -1,4 +1,4 @@
--- The flow that an item is sent by, and that a tile comes to a data flow alone.
+-- The flow from which an item is sent; a tile comes only to a data flow.
 use Rattle.std.proofs.Common.{◌≡◌, ℕ, true, false, List, refl, ap, sym, ◌∙◌, subst, Option, Some, None, slice_get, IsSomeAnd, ℤ}
 use Rattle.std.proofs.lemmas.Bool.{false≢true, and_parts}
 use Rattle.std.specs.Prelude.{flat_map}
@@ -34,7 +34,7 @@ module _ (P : Plan) (t : Task) (job : IsTask P t) (n : ℕ) (g : FlowPlan) (here
   same_type : (x : Target) → IsIn x (flow_outs (locals_of P t) g) → has_datatype P.classes P.colls g.datatype x ≡ true
   same_type x i = (and_parts _ _ (and_parts _ _ (destination P t job n g here x i)).0).1
 
--- a link out of a flow with a tile leads to one, and else to one without
+-- a link out of a flow with a tile leads to a flow with a tile, and any other link to a flow without
 data_target : (P : Plan) (k : FlowKind) (x : Target) → is_out_target P.classes k x ≡ true → (l : Link) (env : List ℤ) (n : ℕ) → IsIn l (links_to env n x) → is_data (kind_of P.classes l.far.class l.far_flow) ≡ is_data (Some k)
 data_target P k (target.Task c m args) h l env n i =
     let p = from_links n c m (combinations args env) l i in
@@ -65,7 +65,8 @@ typed_target P d (target.Element coll indices) h l env n i = absurd i
 typed_target P d target.New h l env n i = absurd i
 typed_target P d target.Null h l env n i = absurd i
 
--- the flow that an edge comes from: it has a tile exactly where the one has that the edge goes to, and its type
+-- the flow that an edge comes from: it has a tile if and only if the flow that the edge goes to has one, and it has
+-- that flow's type
 pub record SendsTo (P : Plan) (e : Edge) : Type 0 where
   pub flow : FlowPlan
   pub here : slice_get (flows_of P e.from) e.out_flow ≡ Some flow

@@ -1,4 +1,4 @@
--- What is still due at a moment: an event makes nothing due, and one thing that was due is no more.
+-- What is still due at a moment: an event makes nothing due, and one thing that was due no longer is.
 use Rattle.std.proofs.Common.{◌≡◌, ℕ, ◌+◌, ◌<◌, ◌≤◌, Bool, true, false, not, ◌&&◌, ◌||◌, refl, ap, ◌∙◌, arith, is_none, nat_lt, eq-eqb}
 use Rattle.std.proofs.lemmas.Bool.{and_from, and_parts, eqb-true, false_from_ne_true, le-ltb, lt-ltb, ltb-true, or_left, or_right}
 use Rattle.ptg_base.specs.Task.{Task}
@@ -33,7 +33,7 @@ pub record IsDueBefore (R T : Moment) : Type 0 where
   pub sent : (i : Item) → is_sent R.state i ≡ true → is_sent T.state i ≡ true
   pub to_end : (t : Task) → is_to_end T t ≡ true → is_to_end R t ≡ true
 
--- a test with a part that holds before where it holds later
+-- if b implies c, a test of a and b implies a test of a and c
 guarded : (a b c : Bool) → (b ≡ true → c ≡ true) → (a && b) ≡ true → (a && c) ≡ true
 guarded a b c h e = let p = and_parts a b e in and_from a c p.0 (h p.1)
 
@@ -53,7 +53,7 @@ module _ (P : Plan) (of : Placement) (k : ℕ) (R T : Moment) (before : IsDueBef
   pub ends_due : count (is_due_end of k T) (all_tasks P) ≤ count (is_due_end of k R) (all_tasks P)
   ends_due = count-le (is_due_end of k T) (is_due_end of k R) (all_tasks P) (λ t i h. guarded (is_of of k t) (is_to_end T t) (is_to_end R t) (before.to_end t) h)
 
-  -- where a task that is not claimed later has no entry later, it had none before
+  -- if each unclaimed task without an entry later had none before, no more entries are due
   pub entries_due : (y z : Content) → ((t : Task) → is_unclaimed T.state t ≡ true → is_none (entry_of z t) ≡ true → is_none (entry_of y t) ≡ true)
       → count (is_due_entry of k T.state z) (all_tasks P) ≤ count (is_due_entry of k R.state y) (all_tasks P)
   entries_due y z none = count-le (is_due_entry of k T.state z) (is_due_entry of k R.state y) (all_tasks P) (λ t i h. guarded (is_of of k t) _ _ (λ e.

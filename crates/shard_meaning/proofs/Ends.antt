@@ -1,4 +1,4 @@
--- The end of a task changes its shard as the calls do that end it, and no other shard.
+-- The end of a task changes its shard as the calls that end it do, and no other shard.
 use Rattle.std.proofs.Common.{◌≡◌, ◌≢◌, ℕ, ◌+◌, ◌<◌, true, [], ◌∷◌, ◌++◌, cond, refl, ap, sym, ◌∙◌, arith, Option, Some, None, Ok, Err, eq-eqb, ne_eqb, IsTrue}
 use Rattle.std.proofs.lemmas.Bool.{false≢true}
 use Rattle.ptg_base.specs.Task.{Task}
@@ -34,7 +34,7 @@ no_trap f t (Some (Ok tiles)) h = refl
 no_trap f t (Some (Err cause)) h = absurd (false≢true h)
 
 module _ (P : Plan) (G : Data) (of : Placement) (k : ℕ) (R : Moment) (t : Task) (runs : 0 < run_count R t) where
-  -- the parts of a shard that an end changes, where a task ends with or without a trap
+  -- the parts of a shard that an end changes, whether the task ends with or without a trap
   ends_here : (y z : Content) → of t ≡ k → Ends y z → KeepsEntriesAndWritten y z → ((f : Task × Trap → ℕ) → weigh f z.trapped ≡ weigh f y.trapped + trap_weight P G of k f t) → IsShardOf P G of k R y → IsShardOf P G of k (with_end R t) z
   ends_here y z at ends kept trapped h =
       let less = weigh-without (λ u. as_number (is_of of k u)) t R.running runs in

@@ -1,4 +1,4 @@
--- What an event changes of the entries that a shard should hold.
+-- What an event changes in the entries that a shard should hold.
 use Rattle.std.proofs.Common.{◌≡◌, ◌≢◌, ℕ, suc, ◌+◌, ◌<◌, ◌≤◌, ℤ, true, false, cond, List, [], ◌∷◌, ◌++◌, sym, refl, ap, ◌∙◌, subst, inl, inr, arith, Option, Some, None, Bool}
 use Rattle.std.specs.Prelude.{unwrap_or}
 use Rattle.std.proofs.lemmas.Bool.{false_from_ne_true, false≢true}
@@ -49,7 +49,7 @@ pub record HoldsEntries (P : Plan) (of : Placement) (k : ℕ) (S : MachineState)
   pub there : (t : Task) → IsTask P t → of t ≡ k → entry_of y t ≡ table_entry P S t
   pub only : (t : Task) (e : Entry) → entry_of y t ≡ Some e → IsTask P t × (of t ≡ k)
 
--- where nothing is delivered there is no tile
+-- if nothing is delivered, there is no tile
 nothing_from : (P : Plan) (t : Task) (n : ℕ) (fs : List FlowPlan) → delivered_to P (λ _. None) t n fs ≡ []
 nothing_from P t n [] = refl
 nothing_from P t n (f ∷ fs) = ap (λ x. x ++ delivered_to P (λ _. None) t (suc n) fs) (one (is_data (Some f.kind)) (data_source P t n)) ∙ nothing_from P t (suc n) fs
@@ -66,7 +66,7 @@ pub nothing_comes : (P : Plan) (t : Task) → delivered_tiles P (λ _. None) t �
 unfolding delivered_tiles
 nothing_comes P t = nothing_from P t 0 (flows_of P t)
 
--- an entry that is there still
+-- the entry of another task stays
 pub still_there : (y y' : Content) (t u : Task) (w : Option Entry) → Updates y.entries y'.entries t w → same_task t u ≡ false → entry_of y' u ≡ entry_of y u
 still_there y y' t u w updates ne = updates u ∙ ap (λ b. cond b w (entry_in y.entries u)) ne
 

@@ -1,5 +1,5 @@
--- What the holder of a shard knows: which tasks may be claimed, what a claim hands out, and what its two numbers are at
--- most.
+-- What the holder of a shard knows: which tasks may be claimed, what a claim hands out, and the bounds of its two
+-- numbers.
 use Rattle.std.proofs.Common.{◌≡◌, ℕ, ◌+◌, ◌<◌, ◌≤◌, Bool, true, false, cond, ◌==◌, ◌&&◌, ◌||◌, List, refl, ap, sym, ◌∙◌, subst, arith, Some, None, nat_lt, IsSome}
 use Rattle.std.proofs.lemmas.Bool.{eqb-true}
 use Rattle.ptg_base.specs.Entry.{Entry, FlowTile}
@@ -75,14 +75,14 @@ module _ (P : Plan) (G : Data) (of : Placement) (k : ℕ) (R : Moment) (y : Cont
   pub numbers_at_most : IsConsistent P → IsSoundState P G R.state → y.running + y.ended ≤ 1000000
   numbers_at_most con sound = omega (arith, h.ended, count-at_most (is_of of k) R.state.claims, claims_at_most P G R.state sound, con.tasks_at_most)
 
-  -- and fewer, where a task is not claimed
+  -- and fewer, if a task is not claimed
   pub numbers_below : IsConsistent P → IsSoundState P G R.state → (t : Task) → IsTask P t → claim_count R.state t ≡ 0 → y.running + y.ended < 1000000
   numbers_below con sound t job free = omega (arith, h.ended, count-at_most (is_of of k) R.state.claims, claims_below P G R.state sound t job free, con.tasks_at_most)
 
-  -- so where it has an entry
+  -- and fewer, if a task has an entry
   pub numbers_with_entry : IsConsistent P → IsSoundState P G R.state → (t : Task) (e : Entry) → entry_of y t ≡ Some e → y.running + y.ended < 1000000
   numbers_with_entry con sound t e is = numbers_below con sound t (h.only t e is).0 (entry_in_table t e is).unclaimed
 
-  -- some task of the shard runs, where one of its tasks does
+  -- if a task of the shard runs, the shard's number of running tasks is not 0
   pub some_runs : (t : Task) → of t ≡ k → 0 < run_count R t → 0 < y.running
   some_runs t at runs = omega (arith, h.running, weigh-member (λ u. as_number (is_of of k u)) R.running t (counted_member t R.running runs), one_here of k t at)

@@ -1,4 +1,4 @@
--- What shards hold, and what they need to spare, before the first event.
+-- What shards hold, and which spares they need, before the first event.
 use Rattle.std.proofs.Common.{◌≡◌, ℕ, Bool, true, false, cond, ◌&&◌, ◌==◌, [], refl, ap, sym, ◌∙◌, arith, Some, None, is_none, eq-eqb, ne_eqb}
 use Rattle.std.proofs.lemmas.Bool.{and_from, and_parts, eqb-true}
 use mathlib.Core.Logic.{dite}
@@ -79,6 +79,6 @@ module _ (P : Plan) (of : Placement) (k : ℕ) (y : Content) (opening : IsOpenin
     traps = omega (arith, h.traps, count-le (is_due_end of k opening_moment) (is_of of k) (all_tasks P) (λ t i b. first (is_of of k t) _ b));
   }
 
--- no task is claimed, so each that is has finished
+-- no task is claimed, so all claimed tasks are finished
 pub opening_finished : (P : Plan) (G : Data) → AreFinished P G opening_moment
 opening_finished P G t claimed still = absurd claimed

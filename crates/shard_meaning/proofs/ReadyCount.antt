@@ -66,7 +66,7 @@ not_ready-claimed P S t some = ap (λ b. b && (arrived P S t == goal P t)) (ne_e
 not_ready-waits : (P : Plan) (S : MachineState) (t : Task) → arrived P S t ≢ goal P t → is_ready P S t ≡ false
 not_ready-waits P S t ne = ap (λ b. is_unclaimed S t && b) (ne_eqb (arrived P S t) (goal P t) ne) ∙ and-false (is_unclaimed S t)
 
--- a task is as ready where it is claimed as often and as many edges came
+-- a task is as ready as before if it was claimed as often and as many edges came
 same_ready : (P : Plan) (S T : MachineState) (t : Task) → claim_count T t ≡ claim_count S t → arrived P T t ≡ arrived P S t → is_ready P T t ≡ is_ready P S t
 same_ready P S T t c a = λ i. (c i == 0) && (a i == goal P t)
 

@@ -1,4 +1,4 @@
--- The reserve of a shard is kept by each event: by its own shard with what the call uses, and by every other one.
+-- Each event keeps the reserve of every shard; in its own shard, also after the call has used what it needs.
 use Rattle.std.proofs.Common.{◌≡◌, ℕ, ◌<◌, Bool, true, false, ◌&&◌, ◌||◌, List, refl, ap, sym, ◌∙◌, arith, None, is_none, nat_lt, eq-eqb, ne_eqb}
 use Rattle.std.proofs.lemmas.Bool.{and_from, eqb-true, le-ltb, lt-ltb}
 use Rattle.ptg_base.specs.Entry.{FlowTile}
@@ -25,8 +25,7 @@ use Rattle.shard_meaning.proofs.Due.{IsDueBefore, due-claim, due-end, due-send, 
 use Rattle.shard_meaning.proofs.Entries.{still_there}
 
 module _ (P : Plan) (of : Placement) (k : ℕ) where
-  -- a shard of which nothing but the entries and the spares has changed, where no event or one has happened that uses
-  -- no spare
+  -- a shard of which nothing but the entries and the spares has changed, after no event or one that uses no spare
   kept_by : (R T : Moment) → IsDueBefore R T → (y z : Content) → ((t : Task) → is_unclaimed T.state t ≡ true → is_none (entry_of z t) ≡ true → is_none (entry_of y t) ≡ true)
       → Uses y.spare z.spare 0 None 0 0 → HasReserve P of k R y → HasReserve P of k T z
   kept_by R T before y z none uses h = record {

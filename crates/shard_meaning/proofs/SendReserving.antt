@@ -1,5 +1,5 @@
--- The reserve of a shard is kept where an edge to one of its tasks is sent or a write-back of one, and it is enough for
--- that.
+-- The reserve of a shard is enough for a send of an edge to one of its tasks or of a write-back of one, and the send
+-- keeps it.
 use Rattle.std.proofs.Common.{◌≡◌, ℕ, ◌+◌, ◌<◌, ◌≤◌, true, false, cond, not, ◌&&◌, List, refl, ap, sym, ◌∙◌, subst, inl, inr, arith, Option, Some, None, is_none, is_some, nat_eq, eq-eqb, ℤ, slice_index, if◌then◌else◌, IsTrue}
 use Rattle.std.proofs.lemmas.Bool.{and_from, false_from_ne_true, false≢true}
 use Rattle.std.specs.Cmp.{unsigned_Decides}
@@ -139,7 +139,7 @@ module _ (P : Plan) (G : Data) (con : IsConsistent P) (of : Placement) (k : ℕ)
       traps = omega (arith, h.traps, uses.traps, ends_due P of k R later before);
     }
 
-    -- there is an entry to spare, and a tile, where they are needed
+    -- there is a spare entry, and a spare tile, if they are needed
     pub spare-entry : (y : Content) → HasReserve P of k R y → entry_of y e.to ≡ None → 0 < y.spare.entries
     spare-entry y h none = omega (arith, h.entries, count-some (is_due_entry of k R.state y) (all_tasks P) e.to among_tasks (entry_due y none))
 
@@ -199,7 +199,7 @@ module _ (P : Plan) (G : Data) (con : IsConsistent P) (of : Placement) (k : ℕ)
       traps = omega (arith, h.traps, uses.traps, ends_due P of k R after due);
     }
 
-    -- there is a place to spare for the write-back, and a tile
+    -- there is a spare place for the write-back, and a spare tile
     pub spare-write : (y : Content) → HasReserve P of k R y → 0 < y.spare.writes
     spare-write y h = omega (arith, h.writes, count-some (is_due_write of k R.state) (all_writes P) w among_writes write_due)
 

@@ -25,7 +25,7 @@ use Rattle.dep_iter.specs.contracts.matched.Matched.{the_row as matched_row}
 use Rattle.dep_shard.specs.contracts.shard.Shard.{the_row as shard_row}
 use Rattle.dep_shard.proofs.tile_list.TileList.TheLaws.TheKnot.{crosses as list_crosses}
 
--- a struct may be shared where its fields may be
+-- a struct may be shared if its fields may be
 pub declared_sync : (T : Declared) → AllSync (fields T) → IsSync (row T)
 declared_sync T s = recorded_sync (Struct (shape T)) T.D T.to T.to_one (struct_sync (shape T) s)
 

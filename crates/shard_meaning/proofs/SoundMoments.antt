@@ -1,4 +1,4 @@
--- Sound moments, and what follows of the bounds of a job.
+-- Sound moments, and what follows from the bounds of a job.
 use Rattle.std.proofs.Common.{◌≡◌, ◌<◌, ◌∷◌, length, ap, sym, ◌∙◌, subst, inl, inr, arith}
 use Rattle.ptg_base.specs.Lists.{IsIn}
 use Rattle.ptg_base.specs.Task.{Task}
@@ -23,7 +23,7 @@ module _ (P : Plan) (G : Data) (con : IsConsistent P) (R : Moment) (sound : IsSo
   pub running_claimed : (t : Task) → 0 < run_count R t → IsIn t R.state.claims
   running_claimed t runs = claim_member R.state t (omega (arith, runs, sound.claimed t))
 
-  -- what a running task may send next, the event machine may send
+  -- the event machine may send whatever a running task may send next
   pub next_may : (i : Item) → MaySendNext P G R i → MaySend P G R.state i
   next_may i next =
       let claimed = running_claimed (sender i) next.runs in
@@ -38,7 +38,7 @@ module _ (P : Plan) (G : Data) (con : IsConsistent P) (R : Moment) (sound : IsSo
 pub sent_is : (P : Plan) (G : Data) → IsConsistent P → (S : MachineState) → IsSoundState P G S → (i : Item) → MaySend P G S i → sent_with P G S i ≡ with_its_tile P G i
 sent_is P G con S sound i may = λ j. item_from (sym (ends_so P G con S sound (sender i) (sound.claimed_have_all (sender i) may.claimed)) j) i
 
--- fewer tasks are claimed than there are, where one is not
+-- if a task is not claimed, fewer tasks are claimed than there are
 pub claims_below : (P : Plan) (G : Data) (S : MachineState) → IsSoundState P G S → (t : Task) → IsTask P t → claim_count S t ≡ 0 → length S.claims < length (all_tasks P)
 claims_below P G S sound t job free =
     let more = no_longer (t ∷ S.claims) (all_tasks P) ((λ i. absurd (omega (arith, free, member_claim S t i))), distinct_once S.claims sound.claimed_once)

@@ -38,6 +38,6 @@ module _ (P : Plan) (t : Task) where
       ∙ (ap (λ b. cond (b && nat_lt came (goal P t)) (Some (record { goal = goal P t; arrived = came; priority = priority P t; tiles = tiles })) None) (lt-ltb 0 came some)
       ∙ ap (λ b. cond b (Some (record { goal = goal P t; arrived = came; priority = priority P t; tiles = tiles })) None) (lt-ltb came (goal P t) (omega arith))))
 
-  -- one to which none came, of those that it waits for, has none
+  -- one that waits for edges has none until one came
   pub none_came : (tiles : List FlowTile) → 0 < goal P t → entry_by 0 0 tiles ≡ None
   none_came tiles some = ap (λ b. cond (b || false) (Some (record { goal = goal P t; arrived = 0; priority = priority P t; tiles = tiles })) None) (ne_eqb 0 (goal P t) (λ e. absurd (omega arith)))

@@ -56,7 +56,7 @@ module _ (P : Plan) (G : Data) (con : IsConsistent P) (of : Placement) (k : ℕ)
     pub target_waits : IsWaiting (entry_before y e.to (goal P e.to) (priority P e.to))
     target_waits = subst (λ (x : Entry). IsWaiting x) (sym found) (omega (arith, missing P G con R.state sound of k e may))
 
-    -- the edge makes it ready exactly where it is the last
+    -- the edge makes it ready if and only if it is the last
     pub target_fires : (x : Option (List ℤ)) → IsReady (with_arrival (entry_before y e.to (goal P e.to) (priority P e.to)) e.in_flow x) ↔ (arrived P R.state e.to + 1 ≡ goal P e.to)
     target_fires x = (
       λ r. subst (λ (v : Entry). IsReady (with_arrival v e.in_flow x)) found r,

@@ -1,4 +1,5 @@
--- Moments at which nothing is under way, and shards that have no work. Source: this project's own choice.
+-- Calm moments, at which nothing is under way; finished tasks; a shard, and all shards, without work.
+-- Carried by: laws `shards_without_work_are_calm`, `a_calm_moment_is_at_rest`, `finished_tasks_stay_finished`.
 use Rattle.std.specs.Prelude.{◌≡◌, ℕ, List, [], Some, slice_get}
 use Rattle.ptg_base.specs.Lists.{IsIn}
 use Rattle.ptg_base.specs.Task.{Task}
@@ -14,7 +15,7 @@ pub record IsCalm (P : Plan) (R : Moment) : Type 0 where
   pub none_ready : (t : Task) → MayClaim P R.state t → ⊥
   pub none_runs : R.running ≡ []
 
--- each claimed task that runs no more has trapped, or all its items were sent
+-- each claimed task that no longer runs has trapped, or all its items were sent
 abbrev pub AreFinished : Plan → Data → Moment → Type 0
 AreFinished P G R = (t : Task) → IsIn t R.state.claims → run_count R t ≡ 0 → IsFinished P G R.state t
 

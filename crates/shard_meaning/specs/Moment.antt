@@ -1,5 +1,7 @@
--- A moment of a run by several workers: what has happened, and which of the claimed tasks still run. Source: this
--- project's own choice; the events are those of DAGuE (Parallel Computing, 2012), as the event machine has them.
+-- Moments of a run by several workers, sound or reordered: what has happened, which of the claimed tasks still run, and
+-- what these may send; claims, sends and ends. Source: the events are those of DAGuE (Parallel Computing, 2012), as the
+-- event machine has them.
+-- Carried by: laws `running_tasks_may_send`, `order_changes_no_shard`, `shard_laws::events_keep_moments_sound`.
 use Rattle.std.specs.Prelude.{◌≡◌, ◌<◌, ◌≤◌, ℕ, List, [], ◌∷◌, ◌++◌, IsTrue, if◌then◌else◌}
 use Rattle.ptg_base.specs.Lists.{IsIn}
 use Rattle.ptg_base.specs.Task.{Task}
@@ -23,7 +25,7 @@ pub record Moment : Type 0 where
 abbrev pub opening_moment : Moment
 opening_moment = record { state = opening_state; running = [] }
 
--- a list of tasks without the first that is this one
+-- a list of tasks without the first occurrence of this one
 abbrev pub without_task : Task → List Task → List Task
 without_task t [] = []
 without_task t (u ∷ us) = if same_task t u then us else u ∷ without_task t us
@@ -44,7 +46,7 @@ with_claim R t =
 abbrev pub with_send : Plan → Data → Moment → Item → Moment
 with_send P G R i = record { state = state_after P G R.state (Send i); running = R.running }
 
--- the end of a task is no event of the machine: the task runs no more
+-- the end of a task is no event of the machine: the task no longer runs
 abbrev pub with_end : Moment → Task → Moment
 with_end R t = record { state = R.state; running = without_task t R.running }
 

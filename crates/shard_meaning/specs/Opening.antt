@@ -1,5 +1,6 @@
 -- What a shard holds before the first event: of its tasks, those that no edge goes into are ready. Source: DAGuE
 -- (Parallel Computing, 2012): a task without dependences may run at once.
+-- Carried by: law `the_opening_shards_hold_the_opening`.
 use Rattle.std.specs.Prelude.{◌≡◌, ◌≤◌, ℕ, ◌+◌, Bool, true, false, ◌&&◌, ◌==◌, [], Option, Some, None, slice_index, if◌then◌else◌}
 use Rattle.ptg_base.specs.Entry.{Entry}
 use Rattle.ptg_base.specs.Task.{Task}
@@ -18,7 +19,7 @@ pub use Rattle.shard_meaning.specs.Reserve.{is_edge_to, is_write_from}
 abbrev pub opening_entry : Plan → Task → Option Entry
 opening_entry P t = if goal P t == 0 then Some (fresh 0 (priority P t)) else None
 
--- the shard k has, of the tasks of this kind, the entries of its own that no edge goes into, and nothing else
+-- of the tasks of this kind, the shard k has the entries of its own that no edge goes into, and nothing else
 pub record IsOpenedFor (P : Plan) (of : Placement) (k : ℕ) (Kind : Task → Type 0) (y : Content) : Type 0 where
   pub there : (t : Task) → Kind t → of t ≡ k → entry_of y t ≡ opening_entry P t
   pub only : (t : Task) (e : Entry) → entry_of y t ≡ Some e → Kind t × (of t ≡ k)

@@ -1,5 +1,6 @@
--- When the spares of a shard are enough for all that can still come to it, so that it needs no more memory. Source:
--- this project's own choice.
+-- The reserve of a shard: when its spares are enough for all that can still come to it, so that it needs no more
+-- memory.
+-- Carried by: laws `a_claim_keeps_the_reserve`, .., `the_reserve_is_enough`.
 use Rattle.std.specs.Prelude.{◌≤◌, ℕ, ◌+◌, Bool, false, not, nat_lt, ◌==◌, ◌&&◌, ◌||◌, Option, slice_index, is_none}
 use Rattle.std.specs.Option.{option_map_or}
 use Rattle.ptg_base.specs.Task.{Task}

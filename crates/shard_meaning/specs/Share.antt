@@ -1,6 +1,7 @@
--- What a shard of the dependency table holds of a moment of a run. Source: DAGuE (Parallel Computing, 2012), where the
--- tasks that are discovered are kept in a table by task; that the table is cut into shards, each with the tasks of its
--- number, is this project's own choice.
+-- What a shard of the dependency table holds at a moment of a run. Source: DAGuE (Parallel Computing, 2012), where the
+-- tasks that are discovered are kept in a table by task.
+-- Carried by: laws `a_claim_changes_its_own_shard`, `a_send_of_an_edge_changes_its_own_shard`,
+-- `a_send_of_a_write_back_changes_its_own_shard`, `an_end_changes_its_own_shard`, `nothing_changes_without_an_event`.
 use Rattle.std.specs.Prelude.{◌≡◌, ℕ, ◌+◌, ℤ, Bool, ◌==◌, List, Option, Some, None, Ok, Err, if◌then◌else◌}
 use Rattle.ptg_base.specs.Entry.{Entry}
 use Rattle.ptg_base.specs.Task.{Task}
@@ -52,17 +53,17 @@ ended_weight f t (Some (Err cause)) = f (t, cause)
 abbrev pub trap_weight : Plan → Data → Placement → ℕ → (Task × Trap → ℕ) → Task → ℕ
 trap_weight P G of k f t = if is_of of k t then ended_weight f t (ended P G t) else 0
 
--- the shard k holds its part of this moment, and nothing else: so it does while it is in its slot
+-- the shard k holds its part of this moment and nothing else, as it does whenever it is in its slot
 pub record IsShardOf (P : Plan) (G : Data) (of : Placement) (k : ℕ) (R : Moment) (y : Content) : Type 0 where
-  -- of each of its tasks it has the entry of the table, where the task is ready or waits; it has no other entries
+  -- for each of its tasks it has the entry of the table, if the task is ready or waits; it has no other entries
   pub there : (t : Task) → IsTask P t → of t ≡ k → entry_of y t ≡ table_entry P R.state t
   pub only : (t : Task) (e : Entry) → entry_of y t ≡ Some e → IsTask P t × (of t ≡ k)
   -- the write-backs of its tasks that were sent, with their tiles, in whatever order
   pub written : (f : WriteBack × List ℤ → ℕ) → weigh f y.written ≡ weigh (write_weight of k f) R.state.sends
-  -- its claimed tasks that run no more and trap, with their causes, in whatever order
+  -- its claimed tasks that no longer run and trap, with their causes, in whatever order
   pub trapped : (f : Task × Trap → ℕ)
       → weigh f y.trapped + weigh (trap_weight P G of k f) R.running ≡ weigh (trap_weight P G of k f) R.state.claims
-  -- how many of its tasks run, and how many of its claimed tasks run no more
+  -- how many of its tasks run, and how many of its claimed tasks no longer run
   pub running : y.running ≡ count (is_of of k) R.running
   pub ended : y.running + y.ended ≡ count (is_of of k) R.state.claims
   -- how many numbers a tile of each type has

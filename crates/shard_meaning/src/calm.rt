@@ -12,7 +12,7 @@ ghost use Rattle.shard_meaning.specs.Calm.{AreFinished, HasNoWork, IsCalm};
 ghost use Rattle.shard_meaning.specs.Moment.{Moment};
 ghost use Rattle.shard_meaning.specs.Share.{IsShardOf, Placement};
 
-/// A law: a moment is calm where no shard has work, and then only.
+/// A law: a moment is calm if and only if no shard has work.
 pub fn shards_without_work_are_calm()
     ensures calm { (P : Plan) (G : Data) (of : Placement) (R : Moment) (n : ℕ) (shards : ℕ → Content)
         → ((t : Task) → of t < n) → ((k : ℕ) → k < n → IsShardOf P G of k R (shards k))

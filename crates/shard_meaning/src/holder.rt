@@ -17,8 +17,8 @@ ghost use Rattle.flow_meaning.specs.Sound.{IsSoundState};
 ghost use Rattle.shard_meaning.specs.Moment.{Moment, run_count};
 ghost use Rattle.shard_meaning.specs.Share.{IsShardOf, Placement};
 
-/// A law: a task of a shard may be claimed exactly where it has a ready entry there; a claim hands out the inputs of
-/// its task, on which it ends, and no item of it was sent.
+/// A law: a task of a shard may be claimed if and only if it has a ready entry there. A claim hands out the inputs of
+/// its task, on which the task ends. Before the claim no item of the task was sent.
 pub fn a_claim_hands_out_the_inputs()
     ensures may { (P : Plan) (G : Data) (of : Placement) (k : ℕ) (R : Moment) (y : Content) (t : Task) (e : Entry)
         → IsShardOf P G of k R y → entry_of y t ≡ Some e → IsReady e → MayClaim P R.state t × (of t ≡ k) }
@@ -34,8 +34,9 @@ pub fn a_claim_hands_out_the_inputs()
         → MayClaim P R.state (sender i) → send_count R.state i ≡ 0 }
 {}
 
-/// A law: the tasks of a shard that run and those that have ended are no more than a job may have, and fewer where a
-/// task has an entry; where a task runs, the number of those that run is not 0 and fewer have ended.
+/// A law: the tasks of a shard that run and those that have ended are together at most as many as a job may have. They
+/// are fewer if a task has an entry there, or if any task is unclaimed. If a task of the shard runs, the number of
+/// running tasks is not 0, and fewer have ended than a job may have.
 pub fn the_numbers_of_a_shard_are_bounded()
     ensures at_most { (P : Plan) (G : Data) (of : Placement) (k : ℕ) (R : Moment) (y : Content) → IsConsistent P
         → IsSoundState P G R.state → IsShardOf P G of k R y → y.running + y.ended ≤ most_tasks }

@@ -1,5 +1,5 @@
-//! What a shard of the dependency table holds of a moment of a run, and what each event changes of it: definitions and
-//! their laws.
+//! What a shard holds at a moment of a run, and how each event changes it: definitions and laws. Also that a job and a
+//! shard may cross threads.
 #![tactic(auto)]
 
 mod calm;

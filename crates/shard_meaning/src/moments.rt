@@ -14,8 +14,8 @@ ghost use Rattle.shard_meaning.specs.Moment.{IsReorderedMoment, IsSoundMoment, M
 ghost use Rattle.shard_meaning.specs.Reserve.{HasReserve};
 ghost use Rattle.shard_meaning.specs.Share.{IsShardOf, Placement};
 
-/// A law: what a running task may send next, the event machine may send, and what is sent is the tile that the task
-/// leaves.
+/// A law: the event machine may send whatever a running task may send next. Each item is sent with the tile that its
+/// task leaves.
 pub fn running_tasks_may_send()
     ensures may { (P : Plan) (G : Data) (R : Moment) (i : Item) → IsConsistent P → IsSoundMoment P G R
         → MaySendNext P G R i → MaySend P G R.state i }
@@ -24,8 +24,8 @@ pub fn running_tasks_may_send()
         → sent_with P G R.state i ≡ with_its_tile P G i }
 {}
 
-/// A law: claimed tasks that run no more stay finished, also after the end of a task that has trapped or all of whose
-/// items were sent.
+/// A law: claimed tasks that no longer run are finished. This holds at the opening; claims and sends keep it, and so
+/// does the end of a task that has trapped or all of whose items were sent.
 pub fn finished_tasks_stay_finished()
     ensures opening { (P : Plan) (G : Data) → AreFinished P G opening_moment }
     ensures claim { (P : Plan) (G : Data) (R : Moment) (t : Task) → AreFinished P G R

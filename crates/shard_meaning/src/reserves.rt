@@ -20,7 +20,7 @@ ghost use Rattle.shard_meaning.specs.Moment.{IsSoundMoment, Moment, run_count, w
 ghost use Rattle.shard_meaning.specs.Reserve.{HasReserve, has_type};
 ghost use Rattle.shard_meaning.specs.Share.{Placement};
 
-/// A law: a claim keeps the reserve of the shard that its entry is taken from, which uses no spare, and of every other
+/// A law: a claim keeps the reserve of the shard from which its entry is taken, which uses no spare, and of every other
 /// shard.
 pub fn a_claim_keeps_the_reserve()
     ensures here { (P : Plan) (of : Placement) (k : ℕ) (R : Moment) (t : Task) (y z : Content) (tiles : List FlowTile)
@@ -30,8 +30,8 @@ pub fn a_claim_keeps_the_reserve()
         → HasReserve P of k R y → HasReserve P of k (with_claim R t) y }
 {}
 
-/// A law: a send of an edge keeps the reserve of its target's shard, which uses an entry where the target has none and
-/// a tile of the flow's type where the edge carries one, and of every other shard.
+/// A law: a send of an edge keeps the reserve of its target's shard and of every other shard. The target's shard uses
+/// an entry if the target has none, and a tile of the flow's type if the edge carries one.
 pub fn a_send_of_an_edge_keeps_the_reserve()
     ensures here { (P : Plan) (G : Data) (of : Placement) (k : ℕ) (R : Moment) (e : Edge) (y z : Content) (w : Entry)
         (datatype : ℕ)
@@ -45,8 +45,8 @@ pub fn a_send_of_an_edge_keeps_the_reserve()
         → MaySend P G R.state i → HasReserve P of k R y → HasReserve P of k (with_send P G R i) y }
 {}
 
-/// A law: a send of a write-back keeps the reserve of its task's shard, which uses a place for a write-back and a tile
-/// of the flow's type, and of every other shard.
+/// A law: a send of a write-back keeps the reserve of its task's shard and of every other shard. The task's shard uses
+/// a place for a write-back and a tile of the flow's type.
 pub fn a_send_of_a_write_back_keeps_the_reserve()
     ensures here { (P : Plan) (G : Data) (of : Placement) (k : ℕ) (R : Moment) (w : WriteBack) (y z : Content)
         (datatype : ℕ)
@@ -58,8 +58,8 @@ pub fn a_send_of_a_write_back_keeps_the_reserve()
         → MaySend P G R.state i → HasReserve P of k R y → HasReserve P of k (with_send P G R i) y }
 {}
 
-/// A law: the end of a task keeps the reserve of its shard, which uses a row where the task traps and else no spare,
-/// and of every other shard.
+/// A law: the end of a task keeps the reserve of its shard and of every other shard. Its shard uses a row if the task
+/// traps, and otherwise no spare.
 pub fn an_end_keeps_the_reserve()
     ensures end { (P : Plan) (of : Placement) (k : ℕ) (R : Moment) (t : Task) (y z : Content) → 0 < run_count R t
         → KeepsEntriesAndWritten y z → KeepsSpares y.spare z.spare → HasReserve P of k R y
@@ -71,8 +71,8 @@ pub fn an_end_keeps_the_reserve()
         → HasReserve P of k R y → HasReserve P of k (with_end R t) y }
 {}
 
-/// A law: a shard with its reserve has what a call needs: an entry for the target of an edge that has none, a tile of
-/// the type for an edge that carries one, a place and a tile for a write-back, and a row for a task that runs.
+/// A law: a shard with its reserve has what each call needs. An edge needs an entry if its target has none, and a tile
+/// of its type if it carries one. A write-back needs a place and a tile, and a task that runs needs a row.
 pub fn the_reserve_is_enough()
     ensures entry { (P : Plan) (G : Data) (of : Placement) (k : ℕ) (R : Moment) (e : Edge) (y : Content)
         → IsConsistent P → IsSoundState P G R.state → MaySend P G R.state (item.Edge e) → of e.to ≡ k

@@ -19,7 +19,7 @@ ghost use Rattle.shard_meaning.specs.Moment.{Moment, run_count, with_claim, with
 ghost use Rattle.shard_meaning.specs.Reserve.{HasReserve};
 ghost use Rattle.shard_meaning.specs.Share.{IsShardOf, Placement, entry_after};
 
-/// A law: a claim changes the shard of its task as the call does that takes the ready entry out, and no other shard.
+/// A law: a claim changes the shard of its task as the call that takes the ready entry out does, and no other shard.
 pub fn a_claim_changes_its_own_shard()
     ensures here { (P : Plan) (G : Data) (of : Placement) (k : ℕ) (R : Moment) (t : Task) (y z : Content)
         (tiles : List FlowTile)
@@ -29,8 +29,8 @@ pub fn a_claim_changes_its_own_shard()
         → IsSoundState P G R.state → of t ≢ k → IsShardOf P G of k R y → IsShardOf P G of k (with_claim R t) y }
 {}
 
-/// A law: a send of an edge changes the shard of its target as the call does that notes the arrival, with the tile that
-/// the edge's task leaves, and no other shard.
+/// A law: a send of an edge changes the shard of its target as the call that notes the arrival does, with the tile that
+/// the edge's task leaves. It changes no other shard.
 pub fn a_send_of_an_edge_changes_its_own_shard()
     ensures here { (P : Plan) (G : Data) (of : Placement) (k : ℕ) (R : Moment) (e : Edge) (y z : Content)
         → IsConsistent P → IsSoundState P G R.state → MaySend P G R.state (item.Edge e) → of e.to ≡ k
@@ -41,7 +41,7 @@ pub fn a_send_of_an_edge_changes_its_own_shard()
         → IsShardOf P G of k (with_send P G R (item.Edge e)) y }
 {}
 
-/// A law: a send of a write-back changes the shard of its task as the call does that keeps the tile, and no other
+/// A law: a send of a write-back changes the shard of its task as the call that keeps the tile does, and no other
 /// shard.
 pub fn a_send_of_a_write_back_changes_its_own_shard()
     ensures here { (P : Plan) (G : Data) (of : Placement) (k : ℕ) (R : Moment) (w : WriteBack) (tile : List ℤ)
@@ -54,8 +54,8 @@ pub fn a_send_of_a_write_back_changes_its_own_shard()
         → IsShardOf P G of k R y → IsShardOf P G of k (with_send P G R (item.Write w)) y }
 {}
 
-/// A law: the end of a task changes its shard as the call does that ends it, with a row where the task traps, and no
-/// other shard.
+/// A law: the end of a task changes its shard as the call that ends it does, with a row if the task traps, and no other
+/// shard.
 pub fn an_end_changes_its_own_shard()
     ensures end { (P : Plan) (G : Data) (of : Placement) (k : ℕ) (R : Moment) (t : Task) (y z : Content)
         → 0 < run_count R t → of t ≡ k → IsTrue (has_outputs (ended P G t)) → Ends y z → KeepsEntriesAndWritten y z

@@ -60,7 +60,7 @@ claim_lives v t tiles k y₀ none_left turn o l = record {
   stamped = λ u. omega (arith, l.stamped u, weigh-push (λ z. as_number (same_task u z)) v.claims t, weigh-push (λ z. as_number (same_task u z)) v.running t);
 }
 
--- of a task that is not claimed no pass has sent an item
+-- no pass has sent an item of a task that is not claimed
 nothing_sent : (j : TableJob) (s : Table) (R : Moment) (id : ℕ) (v : PassRecord) (t : Task) (tiles : List FlowTile) (k : ℕ) (y₀ y : Content) → Parts j s R → get_elem? s.views id ≡ some v → Takes y₀ y t tiles
     → IsShardOf j.matched j.given (shard_of j.matched j.shards) k R y₀ → MayStart j.matched j.given t tiles v
 nothing_sent j s R id v t tiles k y₀ y r me takes share = let P : Plan = j.matched in let G : Data = j.given in let of : Placement = shard_of j.matched j.shards in
@@ -75,7 +75,7 @@ nothing_sent j s R id v t tiles k y₀ y r me takes share = let P : Plan = j.mat
           omega (arith, none_sent, r.records.sends (λ (x : SentItem). as_number (same_item i x.item)), term_le (λ (u : PassRecord). weigh (λ (x : SentItem). as_number (same_item i x.item)) u.sends) s.views id v me);
     }
 
--- the turn is given back with a claim, where the shard had a ready entry of the task
+-- the turn is given back with a claim, if the shard had a ready entry of the task
 pub claims : (j : TableJob) (n id : ℕ) (m : Seated) (k : ℕ) (t : Task) (y₀ y : Content) (tiles : List FlowTile) → HasTurn m k y₀ y 0 → Takes y₀ y t tiles → Uses y₀.spare y.spare 0 None 0 0
     → Allows (Rule j) n id m (turn_word k) (λ _. 0) (λ _. GivesClaim (Some j) t tiles (step n (turn_word k) 0 0 none) m 0)
 claims j n id m k t y₀ y tiles h takes uses s rule wide me _ = let P : Plan = j.matched in let G : Data = j.given in let of : Placement = shard_of j.matched j.shards in

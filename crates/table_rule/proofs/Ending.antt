@@ -56,7 +56,7 @@ sound_moment j s R r = record {
   );
 }
 
--- a task that a pass runs is one that runs
+-- a task that some pass runs is among the running tasks of the moment
 module _ (vs : List PassRecord) (R : Moment) (records : AreRecordsOf R vs) (id : ℕ) (v : PassRecord) (me : get_elem? vs id ≡ some v) (t : Task) (runs : v.running ≡ t ∷ []) where
   pub own_run : own_runs v t ≡ 1
   own_run = omega (arith, ap (weigh (λ u. as_number (same_task t u))) runs, ap as_number ((same_task-decides t t).1 refl))
@@ -84,7 +84,7 @@ end_lives v t k y₀ none_left turn runs stamped once o l = record {
       (λ q. omega (arith, l.stamped u, ap (weigh (λ z. as_number (same_task u z))) runs, ap as_number q));
 }
 
--- what an end makes of the shard of the task, and that the task does no more
+-- what an end changes in the shard of the task, and that the task is finished
 record Ending (j : TableJob) (R : Moment) (v : PassRecord) (k : ℕ) (t : Task) (y₀ y : Content) : Type 0 where
   finished : IsFinished j.matched j.given R.state t
   here : Share j R k y₀ → Share j (with_end R t) k y

@@ -1,4 +1,4 @@
--- A turn is given back with nothing else, with a claim, with the end of the running task.
+-- A turn is given back without an event.
 use Rattle.std.proofs.Common.{ℕ, List, [], sym, refl, ap, subst, inl, arith, None}
 use mathlib.Core.Option.{none}
 use Rattle.atomic_table.specs.Table.{Allows, gives, rest, step, stepped}

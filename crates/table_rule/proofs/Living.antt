@@ -1,4 +1,4 @@
--- The live word and the stamps where no stamp is drawn, and how large the two words get.
+-- The live word and the stamps in a step that draws no stamp, and how large the two words get.
 use Rattle.std.proofs.Common.{◌↔◌, IsTrue, ◌≡◌, ℕ, ◌+◌, ◌<◌, ◌≤◌, ◌⊎◌, Bool, true, ◌&&◌, List, [], ◌∷◌, map, set, length, sym, refl, ap, ◌∙◌, subst, ⊎_elim, arith, eqb, eq-eqb, eqb-true}
 use Rattle.std.specs.Cmp.{first_so, second_so}
 use Rattle.std.specs.List.{flat_map}
@@ -94,7 +94,7 @@ module _ (P : Plan) (R R' : Moment) (live stamp : ℕ) (vs : List PassRecord) (i
     drawn = r.drawn;
   }
 
--- a task is claimed at most once, so the claimed tasks are at most all tasks
+-- a task is claimed at most once, so there are at most as many claims as tasks
 module _ (P : Plan) (G : Data) (S : MachineState) (sound : IsSoundState P G S) where
   one_task : (a b : Task) → same_task a b ≡ true → a ≡ b
   one_task a b h = (same_task-decides a b).0 h
@@ -107,7 +107,7 @@ module _ (P : Plan) (G : Data) (S : MachineState) (sound : IsSoundState P G S) w
       (λ z. omega arith)
       (λ nz. let i = claim_member S t (omega arith) in omega (arith, sound.claimed_once t, count-some (same_task t) (all_tasks P) t ((listed P t).0 (sound.claimed_have_all t i).task) (itself t)))) f
 
--- the turns that are held are at most as many as there are shards
+-- at most as many turns are held as there are shards
 module _ (words : List ℕ) (slots : List (mathlib.Core.Option.Option Content)) (vs : List PassRecord) (r : AreTurns words slots vs) where
   numbers : List ℕ
   numbers = flat_map (λ (v : PassRecord). map (λ (x : ℕ × Content). x.0) v.turns) vs

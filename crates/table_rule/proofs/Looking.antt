@@ -1,4 +1,4 @@
--- Looks and turns: a turn is taken, or was found taken; the halt word and the live word are read.
+-- Looks and turns: a turn is taken, or is found taken; the halt word is read.
 use Rattle.std.proofs.Common.{◌≡◌, ℕ, ◌<◌, true, List, ◌∷◌, set, length, get_or, sym, refl, ap, ◌∙◌, subst, inl, ⊎_elim, arith, Some}
 use mathlib.Core.Logic.{dite}
 use mathlib.Core.Option.{none, some, some-injective}
@@ -32,7 +32,7 @@ module _ (j : TableJob) (s : Table) (id : ℕ) (v : PassRecord) (R : Moment) (r 
   owns : OwnsWork v
   owns = r.owned.each id v me
 
-  -- what of the record concerns halts and quiet
+  -- the part of the rule about halt and quiet
   pub quiet_kept : (w : PassRecord) → w.halts ≡ v.halts → (w.quiet ≡ true → IsCalm j.matched R) → IsQuieted j.matched R (get_or s.words (halt_word j.shards) 0) (set s.views id w)
   quiet_kept w halts sees =
       let raises : weigh raised (set s.views id w) ≡ weigh raised s.views = same_weight s.views id v w me raised (ap as_number halts) in
@@ -79,7 +79,7 @@ module _ (j : TableJob) (s : Table) (id : ℕ) (v : PassRecord) (R : Moment) (r 
     halt = λ pre. (r.reserved pre).halt;
   })
 
-  -- the turn of a shard is taken that was free
+  -- the free turn of a shard is taken
   pub taken : (k : ℕ) (y : Content) → k < j.shards → HasName v → get_or s.words (turn_word k) 0 ≡ 0 → Share j R k y → (j.preloaded ≡ true → Reserve j R k y)
       → Parts j (board (set s.words (turn_word k) 1) (set s.homes k none) (set s.views id (with_turn v k y))) R
   taken k y near named free share spare = let o = owns in let l = r.live.each id v me in
@@ -105,7 +105,7 @@ module _ (j : TableJob) (s : Table) (id : ℕ) (v : PassRecord) (R : Moment) (r 
       here_or_held : (Q : ℕ → Content → Type 0) (x : ℕ) (z : Content) → Q k y → ((x : ℕ) (z : Content) → IsIn (x, z) v.turns → Q x z) → IsIn (x, z) ((k, y) ∷ v.turns) → Q x z
       here_or_held Q x z q held h = ⊎_elim (λ (e : (x, z) ≡ (k, y)). subst (λ (p : ℕ × Content). Q p.0 p.1) (sym e) q) (λ t. held x z t) h
 
--- the turn of a shard is taken, or was found taken
+-- the turn of a shard is taken, or is found taken
 pub takes_turn : (j : TableJob) (n id : ℕ) (m : Seated) (k : ℕ) → k < j.shards → HasName m.0 → Allows (Rule j) n id m (turn_word k) (λ _. 1) (TriesTurn (Some j) k (step n (turn_word k) 1 0 none) m)
 takes_turn j n id m k near named s rule wide me _ = let R : Moment = rule.0 in let r = rule.1 in let v : PassRecord = m.0 in
     dite (ℕ_discrete (get_or s.words (turn_word k) 0) 0)

@@ -111,7 +111,7 @@ exact_mine vs id v x e names =
     let c : weigh (exact x) v.names ≡ exact x x + 0 = ap (weigh (exact x)) names in
     omega (arith, term_le (λ (u : PassRecord). weigh (exact x) u.names) vs id v e, exact-here x)
 
--- names that weigh the same are in the same order
+-- if the names of two lists of passes weigh the same and those of one are in order, so are those of the other
 pub same_names : (vs vs' : List PassRecord) → ((f : Name → ℕ) → names_of vs' f ≡ names_of vs f) → AreNames vs → AreNames vs'
 same_names vs vs' same r = record {
   once = λ p. omega (arith, same (named p), r.once p);
@@ -125,7 +125,7 @@ snoc_view (x ∷ xs) = inr (⊎_elim (λ (e : xs ≡ []). ([], x, (λ i. x ∷ e
 two_names : (vs : List PassRecord) (p : List ℕ) (i j : ℕ) (u v : PassRecord) → AreNames vs → get_elem? vs i ≡ some u → get_elem? vs j ≡ some v → 0 < weigh (named p) u.names → 0 < weigh (named p) v.names → i ≡ j
 two_names vs p i j u v r e d a b = dite (ℕ_discrete i j) (λ h. h) (λ ne. absurd (omega (arith, r.once p, terms_le (λ (w : PassRecord). weigh (named p) w.names) vs j i v u ne d e)))
 
--- each name of a pass is one of v's, where v has all names
+-- if v has all names, each name of a pass is one of v's
 module _ (vs : List PassRecord) (id : ℕ) (v : PassRecord) (r : AreNames vs) (me : get_elem? vs id ≡ some v) (all : AreAll (v ∷ [])) where
   known : (fuel : ℕ) (p : List ℕ) → length p < fuel → 0 < names_of vs (named p) → 0 < weigh (named p) v.names
   known zero p l h = absurd (omega arith)
@@ -180,7 +180,7 @@ all_split vs vs' p n all moved = record {
         (λ l. absurd (omega (arith, above-past q k (p, n + 1) l)))
         (λ l. dite (dec_le n k) (λ m. omega arith) (λ m. absurd (omega (arith, above-here q k (p, n) is_q (omega arith)))))
 
--- names that weigh the same are all, or not, together
+-- if the names of two lists of passes weigh the same and one list is all passes, so is the other
 pub same_all : (vs vs' : List PassRecord) → ((f : Name → ℕ) → names_of vs' f ≡ names_of vs f) → AreAll vs → AreAll vs'
 same_all vs vs' same all = record {
   first = omega (arith, same (named []), all.first);

@@ -29,7 +29,7 @@ single : (P : PassRecord → Type 0) (v : PassRecord) → P v → Each P (v ∷ 
 single P v p zero u e = subst P (some-injective v u e) p
 single P v p (suc i) u e = absurd (some-ne-none u (sym e))
 
--- a shard that is there
+-- an index below the number of shards has a shard, also in its slot
 some_shard : (ys : List Content) (k : ℕ) → k < length ys → (y : Content) × (get_elem? ys k ≡ some y) × (get_elem? (map some ys) k ≡ some (some y))
 some_shard [] k l = absurd (omega arith)
 some_shard (y ∷ ys) zero l = (y, refl, refl)

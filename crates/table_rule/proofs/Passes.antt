@@ -1,4 +1,4 @@
--- What changes of all passes where the record of one does.
+-- What changes in the list of all passes when the record of one changes.
 use Rattle.std.proofs.Common.{◌≡◌, ℕ, ◌≢◌, List, [], ◌∷◌, ◌++◌, set, sym, ap, ◌∙◌, subst, ⊎_elim, arith}
 use mathlib.Core.Option.{some}
 use lib.ListN.{get_elem?}
@@ -18,7 +18,7 @@ use Rattle.table_rule.proofs.Weighing.{weigh-set}
 pub each_set : (P Q : PassRecord → Type 0) (vs : List PassRecord) (id : ℕ) (w : PassRecord) → ((i : ℕ) (v : PassRecord) → i ≢ id → get_elem? vs i ≡ some v → P v → Q v) → Q w → Each P vs → Each Q (set vs id w)
 each_set P Q vs id w other here all i u e = ⊎_elim (λ (t : (i ≡ id) × (w ≡ u)). subst Q t.1 here) (λ (t : (i ≢ id) × (get_elem? vs i ≡ some u)). other i u t.0 t.1 (all i u t.1)) (at_set vs id i w u e)
 
--- the property of the others stays
+-- if the new record has the property, each pass still has it
 pub each_kept : (Q : PassRecord → Type 0) (vs : List PassRecord) (id : ℕ) (w : PassRecord) → Q w → Each Q vs → Each Q (set vs id w)
 each_kept Q vs id w here all = each_set Q Q vs id w (λ i v ne e q. q) here all
 

@@ -1,4 +1,4 @@
--- The rule speaks of no order: it holds at each moment with the same members, and so at that of all passes, joined.
+-- The rule depends on no order: it holds at each moment with the same members, and so at that of all passes, joined.
 use Rattle.std.proofs.Common.{◌≡◌, ℕ, ◌==◌, ◌&&◌, nat_lt, List, length, sym, ap, ◌∙◌, arith}
 use Rattle.ptg_base.specs.Task.{Task}
 use Rattle.ptg_base.specs.TaskComparing.{same_task}

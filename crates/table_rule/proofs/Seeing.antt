@@ -1,4 +1,4 @@
--- What a pass knows that has taken the turn of a shard.
+-- What a pass that has taken the turn of a shard knows.
 use Rattle.std.proofs.Common.{◌≡◌, ℕ, ℤ, zero, suc, ◌<◌, true, List, [], ◌∷◌, length, get_or, sym, ◌∙◌, subst, arith, Option}
 use mathlib.Core.Logic.{dite}
 use mathlib.Core.Option.{none, some, some-injective, some-ne-none}
@@ -45,7 +45,7 @@ module _ (j : TableJob) (k : ℕ) (v : PassRecord) (y : Content) (w : WasSeen j 
   pub seen_reserve : j.preloaded ≡ true → Reserve j (joined w.table.views) k y
   seen_reserve pre = let r = seen_parts in same_shard (Reserve j (joined w.table.views) k) ((r.reserved pre).in_slots k (near_home w.table.homes k (some y) w.home) free)
 
-  -- the task that the pass runs is one that runs
+  -- the task that the pass runs is among the running tasks of the moment
   pub seen_runs : (t : Task) → v.running ≡ t ∷ [] → 0 < run_count (joined w.table.views) t
   seen_runs t runs = it_runs w.table.views (joined w.table.views) (seen_parts).records w.id v w.mine t runs
 

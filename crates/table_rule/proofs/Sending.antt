@@ -63,7 +63,7 @@ use Rattle.table_rule.proofs.Passes.{send_records}
 use Rattle.table_rule.proofs.Weighing.{terms_le, weightless}
 use Rattle.work_board.specs.Stamps.{StampedTask}
 
--- what a pass sent of an item
+-- how often a pass sent an item
 abbrev own_sends : Item → PassRecord → ℕ
 own_sends i v = weigh (λ (x : SentItem). as_number (same_item i x.item)) v.sends
 
@@ -72,7 +72,7 @@ module _ (j : TableJob) (s : Table) (R : Moment) (r : Parts j s R) (id : ℕ) (v
   own_claimed : 0 < own_claims v (sender i)
   own_claimed = omega (arith, own_run s.views R r.records id v me (sender i) next.runs, (r.owned.each id v me).running (λ u. as_number (same_task (sender i) u)))
 
-  -- what a pass sent is of a task that it claimed
+  -- what a pass sent belongs to a task that it claimed
   sent_claimed : (u : PassRecord) → OwnsWork u → 0 < own_sends i u → 0 < own_claims u (sender i)
   sent_claimed u o h =
       let p = some_passes (λ (x : SentItem). same_item i x.item) u.sends h in
@@ -116,7 +116,7 @@ stamp_in v t h =
     let x : StampedTask = p.0 in
     (x.1, subst (λ (u : Task). IsIn (u, x.1) v.stamps) (sym ((same_task-decides t x.0).0 p.2)) p.1)
 
--- what a send makes of the shards, and of the number of ready tasks
+-- what a send changes in the shards and in the number of ready tasks
 record Sending (j : TableJob) (R : Moment) (i : Item) (k credits : ℕ) (y₀ y : Content) : Type 0 where
   here : Share j R k y₀ → Share j (with_send j.matched j.given R i) k y
   others : (x : ℕ) (z : Content) → x ≢ k → Share j R x z → Share j (with_send j.matched j.given R i) x z
@@ -163,7 +163,7 @@ sends j n id m k i tile y₀ y credits h next stamped does s rule wide me _ = le
       refl,
     )
 
--- an edge: a credit is spent exactly where its target fires
+-- an edge: a credit is spent if and only if its target fires
 pub sends_edge : (j : TableJob) (n id : ℕ) (m : Seated) (k : ℕ) (e : Edge) (tile : Option (List ℤ)) (y₀ y : Content) (datatype : ℕ) → HasTurn m k y₀ y (as_number (fires j.matched y₀ e)) → IsNext j.matched j.given (item.Edge e) tile m.0
     → shard_of j.matched j.shards e.to ≡ k → 0 < own_stamps m.0 e.from
     → Updates y₀.entries y.entries e.to (Some (with_arrival (entry_before y₀ e.to (goal j.matched e.to) (priority j.matched e.to)) e.in_flow tile)) → KeepsAllButEntries y₀ y

@@ -42,7 +42,7 @@ new_owns names = record { running = λ f. omega arith; sends = λ x i. absurd i;
 pub new_lives : (names : List Name) → OwnsLives (new_pass names)
 new_lives names = record { credit = omega arith; stamps = λ t. omega arith; stamped = λ t. omega arith }
 
--- the passes change, and no weight does
+-- the list of passes changes, and no weight does
 module _ (R : Moment) (old new : List PassRecord) where
   pub records_weigh : ((f : Task → ℕ) → weigh (λ (v : PassRecord). weigh f v.claims) new ≡ weigh (λ (v : PassRecord). weigh f v.claims) old) → ((f : SentItem → ℕ) → weigh (λ (v : PassRecord). weigh f v.sends) new ≡ weigh (λ (v : PassRecord). weigh f v.sends) old)
       → ((f : Task → ℕ) → weigh (λ (v : PassRecord). weigh f v.running) new ≡ weigh (λ (v : PassRecord). weigh f v.running) old) → AreRecordsOf R old → AreRecordsOf R new

@@ -26,12 +26,12 @@ module _ {A : Type 0} (g : A → ℕ) where
   terms_le (x ∷ xs) (suc j) zero v u n e d = omega (arith, ap g (some-injective x u d), term_le xs j v e)
   terms_le (x ∷ xs) (suc j) (suc k) v u n e d = omega (arith, terms_le xs j k v u (λ h. n (ap suc h)) e d)
 
-  -- where each has no weight, neither has the list
+  -- if no member has weight, the list has none
   pub weightless : (l : List A) → ((i : ℕ) (v : A) → get_elem? l i ≡ some v → g v ≡ 0) → weigh g l ≡ 0
   weightless [] h = refl
   weightless (x ∷ xs) h = omega (arith, h zero x refl, weightless xs (λ i v e. h (suc i) v e))
 
-  -- where a list has weight, one of its members has
+  -- if a list has weight, one of its members has
   pub some_place : (l : List A) → 0 < weigh g l → (i : ℕ) × (v : A) × (get_elem? l i ≡ some v) × (0 < g v)
   some_place [] h = absurd (omega arith)
   some_place (x ∷ xs) h = dite (ℕ_discrete (g x) 0)
@@ -44,7 +44,7 @@ module _ {A : Type 0} (g : A → ℕ) where
   weigh_alone (x ∷ xs) zero v e h = omega (arith, ap g (some-injective x v e), weightless xs (λ i u d. h (suc i) u (λ z. omega arith) d))
   weigh_alone (x ∷ xs) (suc id) v e h = omega (arith, h zero x (λ z. omega arith) refl, weigh_alone xs id v e (λ i u n d. h (suc i) u (λ z. n (omega arith)) d))
 
--- where no term is greater, no sum is
+-- if no term is greater, the sum is not greater
 pub weigh_terms : {A : Type 0} (f g : A → ℕ) (l : List A) → ((i : ℕ) (v : A) → get_elem? l i ≡ some v → f v ≤ g v) → weigh f l ≤ weigh g l
 weigh_terms f g [] h = omega arith
 weigh_terms f g (x ∷ xs) h = omega (arith, h zero x refl, weigh_terms f g xs (λ i v e. h (suc i) v e))
@@ -53,7 +53,7 @@ pub weigh-same : {A : Type 0} (f g : A → ℕ) (l : List A) → ((x : A) → f 
 weigh-same f g [] h = refl
 weigh-same f g (x ∷ xs) h = omega (arith, h x, weigh-same f g xs h)
 
--- a list in which nothing is more often than in another weighs no more
+-- a list in which each element occurs at most as often as in another weighs at most as much
 pub dominated : {A : Type 0} (same : A → A → Bool) → ((a b : A) → same a b ≡ true → a ≡ b) → ((a : A) → same a a ≡ true)
     → (xs ys : List A) → ((x : A) → count (same x) xs ≤ count (same x) ys) → (f : A → ℕ) → weigh f xs ≤ weigh f ys
 dominated same one itself [] ys h f = omega arith
@@ -65,7 +65,7 @@ dominated {A} same one itself (x ∷ xs) ys h f =
     let fewer : (z : A) → count (same z) xs ≤ count (same z) (without x ys i) = λ z. omega (arith, h z, without-weigh (λ y. as_number (same z y)) x ys i) in
     omega (arith, dominated same one itself xs (without x ys i) fewer f, without-weigh f x ys i)
 
--- numbers below n
+-- the sum of f over the numbers below n
 below : (ℕ → ℕ) → ℕ → ℕ
 below f zero = 0
 below f (suc n) = below f n + f n
@@ -101,6 +101,6 @@ by_number : (n : ℕ) (l : List ℕ) → ((x : ℕ) → IsIn x l → x < n) → 
 by_number n [] h = sym (below-zero n)
 by_number n (x ∷ xs) h = omega (arith, by_number n xs (λ y i. h y (inr i)), below-is n x (h x (inl refl)), below-plus (λ k. as_number (eqb x k)) (λ k. count (λ y. eqb y k) xs) (λ k. as_number (eqb x k) + count (λ y. eqb y k) xs) n (λ k. refl))
 
--- numbers below n of which none occurs twice are at most n
+-- a list of numbers below n without repeats has at most n members
 pub few_numbers : (n : ℕ) (l : List ℕ) → ((x : ℕ) → IsIn x l → x < n) → ((k : ℕ) → k < n → count (λ x. eqb x k) l ≤ 1) → length l ≤ n
 few_numbers n l h once = omega (arith, by_number n l h, below-le (λ k. count (λ x. eqb x k) l) n once)

@@ -145,7 +145,7 @@ lowers_live j n id m some_credit named s rule wide me _ = let R : Moment = rule.
       refl,
     )
 
--- where the live word is 0, no task is ready or runs
+-- if the live word is 0, no task is ready or runs
 calm_at_zero : (P : Plan) (R : Moment) (live stamp : ℕ) (vs : List PassRecord) → AreLive P R live stamp vs → live ≡ 0 → IsCalm P R
 unfolding ready_tasks
 calm_at_zero P R live stamp vs r zero_word = record {

@@ -1,4 +1,5 @@
--- How each kind of step changes the record of the pass that makes it. Source: this project's own choice.
+-- How each kind of step changes the record of the pass that makes it.
+-- Carried by: laws of `table_rule`.
 use Rattle.std.specs.Prelude.{ℕ, ◌+◌, ◌-◌, true, false, ◌||◌, List, [], ◌∷◌, ◌++◌}
 use Rattle.atomic_table.specs.Table.{rest}
 use Rattle.ptg_base.specs.Entry.{FlowTile}
@@ -53,11 +54,12 @@ with_own_claim v t tiles =
       handed = v.handed ++ (t, tiles) ∷ [];
     }
 
--- a pass that sent an item; a task that fired thereby is ready in place of its credit
+-- a pass that sent an item and has no credit left: if the send fired its target, that ready task has taken the credit's
+-- place in the live word
 abbrev pub with_own_send : PassRecord → SentItem → PassRecord
 with_own_send v x = record v { sends = v.sends ++ x ∷ []; credit = 0 }
 
--- a pass that runs nothing more, and has a credit in place of the task
+-- a pass that ended its task: it runs nothing, and has one more credit in place of the task
 abbrev pub with_own_end : PassRecord → PassRecord
 with_own_end v = record v { running = []; credit = v.credit + 1 }
 
@@ -69,11 +71,11 @@ with_quiet v = record v { quiet = true }
 abbrev pub with_halt : PassRecord → PassRecord
 with_halt v = record v { halts = true }
 
--- a pass with one credit more
+-- a pass that raised the live word: it has one credit more
 abbrev pub with_credit : PassRecord → PassRecord
 with_credit v = record v { credit = v.credit + 1 }
 
--- a pass with one credit fewer
+-- a pass that lowered the live word: it has one credit less
 abbrev pub without_credit : PassRecord → PassRecord
 without_credit v = record v { credit = v.credit - 1 }
 
@@ -105,6 +107,6 @@ both v w =
       handed = v.handed ++ w.handed;
     }
 
--- the pass whose part another one has taken over
+-- a pass that was joined to another: it has no name and nothing else
 abbrev pub joined_away : PassRecord
 joined_away = new_pass []

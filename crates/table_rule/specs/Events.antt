@@ -1,4 +1,4 @@
--- What stands for the task and the item of a step that is about none. Source: this project's own choice.
+-- The task and the item of a step that is about none.
 use Rattle.std.specs.Prelude.{pos, [], None}
 use Rattle.ptg_base.specs.Task.{Task}
 use Rattle.ptg_base.specs.declared.edge.Item.TheVariants as item

@@ -1,4 +1,4 @@
--- What a pass may give a turn back with. Source: this project's own choice.
+-- What a pass may give a turn back with.
 use Rattle.std.specs.Prelude.{◌++◌, ◌⊎◌, ◌≡◌, ℕ, ℤ, ◌<◌, List, [], ◌∷◌, Option, None}
 use Rattle.ptg_base.specs.Entry.{FlowTile}
 use Rattle.ptg_base.specs.Task.{Task}
@@ -16,7 +16,7 @@ use Rattle.table_rule.specs.Live.{own_stamps}
 use Rattle.table_rule.specs.Plays.{HasTurn, Seated, fires}
 use Rattle.table_rule.specs.Rule.{placement_of}
 
--- a pass may give the turn of the shard k back: nothing changed there but spares that grew
+-- a pass may give the turn of the shard k back without an event: nothing changed there but spares that grew
 pub record MayGiveBack (k : ℕ) (m : Seated) : Type 0 where
   pub before : Content
   pub after : Content
@@ -32,18 +32,18 @@ pub record MayGiveClaim (k : ℕ) (t : Task) (tiles : List FlowTile) (m : Seated
   pub takes : Takes before after t tiles
   pub spares : KeepsSpares before.spare after.spare
 
--- what an item changes in its shard
+-- how an item changes its shard
 abbrev pub TakesItem : Plan → Item → Option (List ℤ) → Content → Content → Type 0
 TakesItem P (item.Edge e) tile old new = TakesEdge P e tile old new
 TakesItem P (item.Write w) tile old new = TakesWrite P w tile old new
 
--- the credit that a send spends: one where its target fires
+-- the credit that a send spends: one if its target fires, else none
 abbrev pub spends : Plan → Content → Item → ℕ
 spends P y (item.Edge e) = as_number (fires P y e)
 spends P y (item.Write w) = 0
 
--- what a pass may give a turn back with: the shard took the pass's next item, whose sender has its stamp, and the pass
--- has the credit that the send spends
+-- A pass may give the turn of the shard k back with a send. The shard took the pass's next item, whose sender has its
+-- stamp, and the pass has the credit that the send spends.
 pub record MayGiveSend (j : TableJob) (k : ℕ) (i : Item) (tile : Option (List ℤ)) (m : Seated) : Type 0 where
   pub before : Content
   pub after : Content

@@ -1,6 +1,6 @@
--- The names of passes. The first pass has the empty name, and a pass that is split off has the name it was split off
--- under, followed by one number more. They tell whether a list of passes is all passes of a table. Source: this
--- project's own choice.
+-- The names of passes, which prove whether a list of passes is complete. The first pass has the empty name. A pass that
+-- is split off gets the name that it was split off under, followed by one more number.
+-- Carried by: laws of `table_rule`.
 use Rattle.std.specs.Prelude.{ℕ, ◌+◌, ◌<◌, ◌≤◌, List, [], ◌∷◌, ◌++◌, nat_eq, nat_lt, ◌&&◌, Bool}
 use Rattle.std.specs.Cmp.Lexicographic.{pointwise}
 use Rattle.list_lemmas.specs.Counting.{count, weigh}
@@ -10,7 +10,7 @@ use Rattle.work_board.specs.declared.record.PassRecord.{PassRecord}
 abbrev pub Name : Type 0
 Name = List ℕ × ℕ
 
--- how many names of all passes pass a test
+-- how many names of these passes meet a test
 abbrev pub name_count : (Name → Bool) → List PassRecord → ℕ
 name_count test vs = weigh (λ (v : PassRecord). count test v.names) vs
 
@@ -22,17 +22,17 @@ is_named p x = pointwise nat_eq x.0 p
 abbrev pub has_split : List ℕ → ℕ → Name → Bool
 has_split p k x = is_named p x && nat_lt k x.1
 
--- each name belongs to one pass, and each but the empty one was split off under another
+-- each name belongs to at most one pass, and each name but the empty one was split off under another
 pub record AreNames (vs : List PassRecord) : Type 0 where
   pub once : (p : List ℕ) → name_count (is_named p) vs ≤ 1
   pub parent : (p : List ℕ) (k : ℕ) → 0 < name_count (is_named (p ++ k ∷ [])) vs → 0 < name_count (has_split p k) vs
 
--- these passes are all: they have the empty name and, with each name, every name that was split off under it
+-- these are all passes: they have the empty name and, with each name, every name that was split off under it
 pub record AreAll (vs : List PassRecord) : Type 0 where
   pub first : 0 < name_count (is_named []) vs
   pub split : (p : List ℕ) (k : ℕ) → 0 < name_count (has_split p k) vs → 0 < name_count (is_named (p ++ k ∷ [])) vs
 
--- the names after a pass was split off under the first of them
+-- the names of a pass after another was split off under the first of them
 abbrev pub names_after_split : List Name → List Name
 names_after_split [] = []
 names_after_split (x ∷ xs) = (x.0, x.1 + 1) ∷ xs

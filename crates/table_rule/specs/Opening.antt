@@ -1,4 +1,5 @@
--- A table before its first step. Source: this project's own choice.
+-- A table before its first step.
+-- Carried by: law `the_rule_holds_before_the_first_step`.
 use Rattle.std.specs.Prelude.{◌≡◌, ◌≢◌, ℕ, ◌<◌, ◌≤◌, true, List, length, slice_index}
 use Rattle.ptg_base.specs.Limits.{most_shards}
 use mathlib.Core.Option.{some}
@@ -18,8 +19,8 @@ pub record AreOpeningWords (n ready : ℕ) (words : List ℕ) : Type 0 where
   pub live : slice_index words (live_word n) ≡ ready
   pub zero : (i : ℕ) → i ≢ live_word n → slice_index words i ≡ 0
 
--- the words and the shards of a new table: the tasks that no edge goes into are entries of their shards, the live word
--- counts them, and each other word is 0
+-- the words and the shards of a new table, for a consistent job. The tasks that no edge goes into are entries of their
+-- shards, the live word counts them, and each other word is 0. If it is preloaded, each shard has its spares
 pub record IsOpening (j : TableJob) (words : List ℕ) (shards : List Content) : Type 0 where
   pub consistent : IsConsistent j.matched
   pub some_shards : 0 < j.shards

@@ -1,4 +1,5 @@
--- What belongs to a pass: a pass works for its own claims. Source: this project's own choice.
+-- Owners: a pass works only for its own claims.
+-- Carried by: laws of `table_rule`.
 use Rattle.std.specs.Prelude.{◌≡◌, ◌≤◌, ℕ, List, []}
 use Rattle.ptg_base.specs.Lists.{IsIn}
 use Rattle.ptg_base.specs.Task.{Task}
@@ -17,16 +18,16 @@ pub record IsEmpty (v : PassRecord) : Type 0 where
   pub credit : v.credit ≡ 0
   pub stamps : v.stamps ≡ []
 
--- what a pass runs and sent is of tasks that it claimed
+-- what a pass runs and sent belongs to tasks that it claimed
 pub record OwnsWork (v : PassRecord) : Type 0 where
-  -- the tasks that it runs are among its claims, each at most as often
+  -- the tasks that it runs are among its claims, each at most as often as it was claimed
   pub running : (f : Task → ℕ) → weigh f v.running ≤ weigh f v.claims
-  -- each item that it sent is one of a task that it claimed
+  -- each item that it sent belongs to a task that it claimed
   pub sends : (x : SentItem) → IsIn x v.sends → IsIn (sender x.item) v.claims
-  -- a pass without a name was joined to another, which has what it had
+  -- a pass without a name was joined to another, which took over what it had
   pub nameless : v.names ≡ [] → IsEmpty v
 
--- the passes of a table: each owns its work, and each name belongs to one of them
+-- the passes of a table: each owns its work, and their names are in order
 pub record AreOwned (vs : List PassRecord) : Type 0 where
   pub each : Each OwnsWork vs
   pub names : AreNames vs

@@ -1,4 +1,5 @@
--- What each kind of step tells the pass that makes it. Source: this project's own choice.
+-- What each kind of step does to the pass that makes it, and what the pass learns from it.
+-- Carried by: laws of `table_rule`.
 use Rattle.std.specs.Prelude.{◌≡◌, ◌≢◌, ℕ, ◌+◌, ◌<◌, ◌==◌, Bool, true, List, [], ◌∷◌, length, Option, IfSome}
 use mathlib.Core.Option.{some}
 use lib.ListN.{get_elem?}
@@ -23,25 +24,26 @@ use Rattle.shard_meaning.specs.Share.{entry_found}
 abbrev pub Seated : Type 0
 Seated = Me Content PassRecord
 
--- the pass has a name, so it was not joined away
+-- the pass has a name, so it was not joined to another
 abbrev pub HasName : PassRecord → Type 0
 HasName v = 0 < length v.names
 
--- the pass holds one turn, that of the shard k, which had y₀ when it was taken and has y now, and it has this credit
+-- the pass has a name, this credit and one turn, that of the shard k, which had y₀ when it was taken and has y now
 pub record HasTurn (m : Seated) (k : ℕ) (y₀ y : Content) (credits : ℕ) : Type 0 where
   pub slot : m.1 ≡ (k, y) ∷ []
   pub turn : m.0.turns ≡ (k, y₀) ∷ []
   pub named : HasName m.0
   pub credit : m.0.credit ≡ credits
 
--- A table that meets the rule has this record of a pass. No clause can name the table at the step itself.
+-- Some table meets the rule and has this record of a pass. The table is not named, since no clause can name the table
+-- at the step itself.
 pub record WasPass (j : TableJob) (v : PassRecord) : Type 0 where
   pub table : Table
   pub rule : Rule j table
   pub id : ℕ
   pub mine : get_elem? table.views id ≡ some v
 
--- a table that meets the rule has this record of a pass, and this content of the shard k, which is in its slot
+-- some table meets the rule, has this record of a pass, and has the shard k with this content in its slot
 pub record WasSeen (j : TableJob) (k : ℕ) (v : PassRecord) (y : Content) : Type 0 where
   pub table : Table
   pub rule : Rule j table
@@ -49,8 +51,8 @@ pub record WasSeen (j : TableJob) (k : ℕ) (v : PassRecord) (y : Content) : Typ
   pub mine : get_elem? table.views id ≡ some v
   pub home : get_elem? table.homes k ≡ some (some y)
 
--- These shards are left of a table that met the rule and had this record of a pass: a shard that was in its slot is
--- among them under its number.
+-- These shards are left from some table that met the rule and had this record of a pass. A shard that was in its slot
+-- is among them at its number.
 pub record WereLeft (j : TableJob) (v : PassRecord) (ys : List Content) : Type 0 where
   pub table : Table
   pub rule : Rule j table
@@ -59,11 +61,11 @@ pub record WereLeft (j : TableJob) (v : PassRecord) (ys : List Content) : Type 0
   pub count : length table.homes ≡ length ys
   pub shards : (k : ℕ) (y : Content) → get_elem? table.homes k ≡ some (some y) → get_elem? ys k ≡ some y
 
--- whether an edge is the last one that its target waits for, by the entry that the shard has of it
+-- whether an edge is the last one that its target waits for, according to the entry in the shard
 abbrev pub fires : Plan → Content → Edge → Bool
 fires P y e = ((entry_found P e y).arrived + 1) == (entry_found P e y).goal
 
--- a turn is taken, or was found taken: the step is on the turn word of that shard, and what it found there is the
+-- a turn is taken, or is found taken: the step is on the turn word of that shard, and what it finds there becomes the
 -- pass's look
 abbrev pub TriesTurn : Option TableJob → ℕ → Step Content → Seated → ℕ → Seated → Type 0
 TriesTurn j k st m r n =
@@ -71,7 +73,7 @@ TriesTurn j k st m r n =
     × (r ≡ 0 → (y : Content) × (n ≡ (with_turn m.0 k y, (k, y) ∷ m.1)) × IfSome j (λ (i : TableJob). WasSeen i k m.0 y))
     × (r ≢ 0 → n ≡ (with_look m.0 (Turn k) r, m.1))
 
--- a turn is given back with nothing else
+-- a turn is given back without an event
 abbrev pub GivesBack : Step Content → Seated → ℕ → Seated → Type 0
 GivesBack st m r n = n ≡ (turn_left m.0, rest m.1)
 
@@ -93,7 +95,7 @@ GivesSend x st m r n = n ≡ after_send x m
 abbrev pub GivesEnd : Step Content → Seated → ℕ → Seated → Type 0
 GivesEnd st m r n = n ≡ (turn_left (with_own_end m.0), rest m.1)
 
--- The halt word is raised. The step is on the halt word, which stands after the turn words of the slots.
+-- The halt word is raised. The step is on the halt word, which comes after the turn words of the slots.
 abbrev pub RaisesHalt : Step Content → Seated → ℕ → Seated → Type 0
 RaisesHalt st m r n = (st.word ≡ halt_word st.slots) × (n ≡ (with_halt m.0, m.1))
 

@@ -1,4 +1,6 @@
--- What all passes of a table did together. Source: this project's own choice.
+-- What all passes of a table did together: their joined records.
+-- Carried by: laws of `table_rule`; `dep_table::Turn::claim`, `dep_table::DepTable::close`, `run_pool::run`,
+-- `run_pool::run_traced`.
 use Rattle.std.specs.Prelude.{◌≡◌, ℕ, List}
 use Rattle.std.specs.List.{flat_map}
 use mathlib.Core.Option.{some}
@@ -15,13 +17,13 @@ use Rattle.work_board.specs.declared.record.PassRecord.{PassRecord}
 abbrev pub Each : (PassRecord → Type 0) → List PassRecord → Type 0
 Each Q vs = (i : ℕ) (v : PassRecord) → get_elem? vs i ≡ some v → Q v
 
--- the claims, the sends and the running tasks of a moment are those of all passes together, in whatever order
+-- the claims, the sends and the running tasks of a moment are those of all passes together, in any order
 pub record AreRecordsOf (R : Moment) (vs : List PassRecord) : Type 0 where
   pub claims : (f : Task → ℕ) → weigh f R.state.claims ≡ weigh (λ (v : PassRecord). weigh f v.claims) vs
   pub sends : (f : SentItem → ℕ) → weigh f R.state.sends ≡ weigh (λ (v : PassRecord). weigh f v.sends) vs
   pub running : (f : Task → ℕ) → weigh f R.running ≡ weigh (λ (v : PassRecord). weigh f v.running) vs
 
--- the lists of all passes, one pass after the other
+-- the moment whose lists are those of all passes, one pass after the other
 abbrev pub joined : List PassRecord → Moment
 joined vs = record {
   state =

@@ -1,4 +1,6 @@
--- The rule of the table: it holds between any two steps of its passes. Source: this project's own choice.
+-- The rule of the table, part by part, with the spares of a preloaded table: it holds between any two steps of its
+-- passes.
+-- Carried by: laws of `table_rule`.
 use Rattle.std.specs.Prelude.{◌≡◌, ℕ, ◌<◌, ◌≤◌, true, List, length, slice_index}
 use Rattle.ptg_base.specs.Limits.{most_shards}
 use mathlib.Core.Option.{Option}
@@ -29,11 +31,11 @@ Table = State Content PassRecord
 abbrev pub placement_of : TableJob → Placement
 placement_of j = shard_of j.matched j.shards
 
--- the shard k has its part of a moment
+-- the shard k has the content y, and that is its part of the moment
 abbrev pub Share : TableJob → Moment → ℕ → Content → Type 0
 Share j R k y = IsShardOf j.matched j.given (placement_of j) k R y
 
--- the shard k has spares for all that is due there
+-- the shard k, with the content y, has spares for all that is due there
 abbrev pub Reserve : TableJob → Moment → ℕ → Content → Type 0
 Reserve j R k y = HasReserve j.matched (placement_of j) k R y
 
@@ -41,7 +43,7 @@ Reserve j R k y = HasReserve j.matched (placement_of j) k R y
 abbrev pub WasHandedInputs : TableJob → PassRecord → Type 0
 WasHandedInputs j v = WereHandedInputs j.matched j.given v.claims v.handed
 
--- a preloaded table: no pass has given up, and each shard has its spares, in its slot and when a turn was taken
+-- a preloaded table: the halt word is 0, and each shard has its spares, in its slot or when its turn was taken
 pub record IsReserved (j : TableJob) (R : Moment) (halted : ℕ)
     (words : List ℕ) (slots : List (Option Content)) (vs : List PassRecord) : Type 0 where
   pub halt : halted ≡ 0
@@ -50,7 +52,7 @@ pub record IsReserved (j : TableJob) (R : Moment) (halted : ℕ)
 
 -- the rule at this moment of the run, part by part
 pub record Parts (j : TableJob) (s : Table) (R : Moment) : Type 0 where
-  -- a consistent job, from 1 to 256 shards, and the words for them
+  -- the job is consistent, there are 1 to 256 shards, and the words for them
   pub consistent : IsConsistent j.matched
   pub some_shards : 0 < j.shards
   pub shards_at_most : j.shards ≤ most_shards
@@ -67,7 +69,7 @@ pub record Parts (j : TableJob) (s : Table) (R : Moment) : Type 0 where
   pub finished : AreFinished j.matched j.given R
   -- a shard in its slot holds its part of the moment
   pub in_slots : AreInSlots (Share j R) s.words s.homes
-  -- a turn word is not 0 exactly where one pass holds that turn, which then had the part of its shard
+  -- a turn word is not 0 if and only if one pass holds that turn; the shard had its part when the turn was taken
   pub turns : AreTurns s.words s.homes s.views
   pub held : AreHeld (Share j R) s.views
   -- quiet, and the halt word
@@ -78,6 +80,6 @@ pub record Parts (j : TableJob) (s : Table) (R : Moment) : Type 0 where
   -- the spares of a preloaded table
   pub reserved : j.preloaded ≡ true → IsReserved j R (slice_index s.words (halt_word j.shards)) s.words s.homes s.views
 
--- there is a moment of the run at which all parts hold. Which one it is, is no more than the order of its lists
+-- there is a moment of the run at which all parts hold. Two such moments differ only in the order of their lists
 abbrev pub Rule : TableJob → Table → Type 0
 Rule j s = (R : Moment) × Parts j s R

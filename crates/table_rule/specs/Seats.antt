@@ -1,4 +1,4 @@
--- The words of a table and the seat of a pass, as contracts see them. Source: this project's own choice.
+-- The words of a table and the seat of a pass, as contracts see them.
 use Rattle.std.specs.Prelude.{ℕ, List}
 use Rattle.atomic_table.specs.Seated.{TableId as KitTableId}
 use Rattle.atomic_table.specs.Table.{rest as kit_rest}
@@ -8,11 +8,11 @@ use Rattle.table_rule.specs.declared.table_job.TableJob.{TableJob}
 use Rattle.table_rule.specs.declared.table_words.TableWords.{TableWords}
 use Rattle.table_rule.specs.Plays.{Seated}
 
--- what tells one table from another
+-- the identity of a table
 abbrev pub TableId : Type 0
 TableId = KitTableId
 
--- the shards that a pass holds, but for the one that it took last
+-- the shards that a pass holds, without the one that it took last
 abbrev pub rest : List (ℕ × Content) → List (ℕ × Content)
 rest shards = kit_rest shards
 

@@ -1,4 +1,5 @@
--- Turns: who may read and write a shard. Source: this project's own choice.
+-- Turns: who may read and write a shard.
+-- Carried by: laws of `table_rule`.
 use Rattle.std.specs.Prelude.{◌≡◌, ℕ, ◌<◌, ◌≤◌, ◌==◌, List, length, slice_index}
 use mathlib.Core.Option.{Option, none, some}
 use lib.ListN.{get_elem?}
@@ -9,13 +10,13 @@ use Rattle.work_board.specs.declared.record.PassRecord.{PassRecord}
 use Rattle.table_rule.specs.Records.{Each}
 use Rattle.table_rule.specs.Words.{turn_word}
 
--- a shard whose turn is free is in its slot, and this is true of its number and its content
+-- a shard whose turn is free is in its slot, and Q holds for its number and its content
 abbrev pub AreInSlots : (ℕ → Content → Type 0) → List ℕ → List (Option Content) → Type 0
 AreInSlots Q words slots =
     (k : ℕ) → k < length slots → slice_index words (turn_word k) ≡ 0
     → (y : Content) × (get_elem? slots k ≡ some (some y)) × Q k y
 
--- this is true of each turn that a pass holds: of the number of its shard and of what that had when the turn was taken
+-- Q holds for each turn that a pass holds: for the number of its shard, and what the shard had when the turn was taken
 abbrev pub AreHeld : (ℕ → Content → Type 0) → List PassRecord → Type 0
 AreHeld Q vs = Each (λ v. (k : ℕ) (y : Content) → IsIn (k, y) v.turns → Q k y) vs
 
@@ -23,12 +24,12 @@ AreHeld Q vs = Each (λ v. (k : ℕ) (y : Content) → IsIn (k, y) v.turns → Q
 abbrev pub holds : ℕ → PassRecord → ℕ
 holds k v = count (λ ((shard, y) : ℕ × Content). shard == k) v.turns
 
--- the turn words and the slots of a table fit the turns that its passes hold
+-- the turn words and the slots of a table agree with the turns that its passes hold
 pub record AreTurns (words : List ℕ) (slots : List (Option Content)) (vs : List PassRecord) : Type 0 where
-  -- a turn word is 1 where one pass holds the turn, and 0 where none does
+  -- a turn word is 1 if one pass holds the turn, and 0 if none does
   pub counted : (k : ℕ) → k < length slots → weigh (holds k) vs ≡ slice_index words (turn_word k)
   pub single : (k : ℕ) → k < length slots → slice_index words (turn_word k) ≤ 1
   -- a shard whose turn is held is not in its slot: it is with that pass alone
   pub out : (k : ℕ) → k < length slots → slice_index words (turn_word k) ≡ 1 → get_elem? slots k ≡ some none
-  -- each turn is that of a shard
+  -- each turn that is held is the turn of a shard of the table
   pub of_shards : AreHeld (λ k y. k < length slots) vs

@@ -1,8 +1,9 @@
 -- Where the words of a table are: a turn word for each of the n shards, then the halt word, the live word and the stamp
--- word. Source: this project's own choice.
+-- word.
+-- Carried by: laws of `table_rule`.
 use Rattle.std.specs.Prelude.{ℕ, ◌+◌, ◌*◌}
 
--- how far apart the words are: no two that are used are on one line of a cache
+-- the distance between two words that are used: no two of them are on one cache line
 abbrev pub stride : ℕ
 stride = 16
 
@@ -14,7 +15,7 @@ turn_word k = stride * k
 abbrev pub halt_word : ℕ → ℕ
 halt_word n = stride * n
 
--- the live word: 0 only where no task is ready or runs
+-- the live word: 0 only if no task is ready or runs
 abbrev pub live_word : ℕ → ℕ
 live_word n = stride * (n + 1)
 

@@ -1,5 +1,4 @@
-//! Laws of the steps that are an event of the run, or end a task: each is made as a turn is given back, and keeps the
-//! rule.
+//! Laws of the steps that are an event of the run or end a task: each gives a turn back and keeps the rule.
 
 ghost use Rattle.std.specs.Prelude.{◌≡◌, ◌<◌, ◌++◌, ℕ, ℤ, List, [], ◌∷◌, Option, None, Some, IsTrue, is_some, if◌then◌else◌};
 ghost use mathlib.Core.Option.{none};
@@ -22,9 +21,9 @@ ghost use Rattle.table_rule.specs.Plays.{GivesClaim, GivesEnd, GivesSend, HasTur
 ghost use Rattle.table_rule.specs.Rule.{Rule, placement_of};
 ghost use Rattle.table_rule.specs.Words.{turn_word};
 
-/// A law: a pass that took the ready entry of a task out of the shard whose turn it holds may give the turn back with a
-/// claim of that task. It is told that the task ends, that the tiles of the entry are its inputs, and that it has sent
-/// no item of it.
+/// A law: a pass that holds a turn may take the ready entry of a task out of that shard, and give the turn back with a
+/// claim of the task. It learns that the task may run, that the tiles of the entry are its inputs, and that the pass
+/// has sent no item of it.
 pub fn a_turn_is_given_back_with_a_claim()
     ensures { (j : TableJob) (n id : ℕ) (m : Seated) (k : ℕ) (t : Task) (y z : Content) (tiles : List FlowTile)
         → HasTurn m k y z 0 → Takes y z t tiles → KeepsSpares y.spare z.spare
@@ -32,9 +31,9 @@ pub fn a_turn_is_given_back_with_a_claim()
         GivesClaim (Some j) t tiles (step n (turn_word k) 0 0 none) m 0) }
 {}
 
-/// A law: a pass may give a turn back with a send of an item of the task that it runs, which has its stamp, where the
-/// shard has the arrival or the written tile. For an edge it has a credit exactly where the target fires, and spends
-/// it.
+/// A law: a pass may give a turn back with a send of an item of the task that it runs. The task has its stamp, and the
+/// shard has the arrival or the written tile. For an edge, the pass has a credit if and only if the target fires, and
+/// the send spends it.
 pub fn a_turn_is_given_back_with_a_send()
     ensures edge { (j : TableJob) (n id : ℕ) (m : Seated) (k : ℕ) (e : Edge) (tile : Option (List ℤ)) (y z : Content)
         (datatype : ℕ)
@@ -56,8 +55,8 @@ pub fn a_turn_is_given_back_with_a_send()
         GivesSend record { item = item.Write w; tile = Some tile } (step n (turn_word k) 0 0 none) m 0) }
 {}
 
-/// A law: a pass may give the turn of its running task's shard back with the end of that task, which has its stamp:
-/// where the task has outputs and the pass has sent all its items, or where it traps and the shard has the row.
+/// A law: a pass may give the turn of its running task's shard back with the end of that task, which has its stamp.
+/// Either the task has outputs and the pass has sent all its items, or the task traps and the shard has the row.
 pub fn a_turn_is_given_back_with_an_end()
     ensures end { (j : TableJob) (n id : ℕ) (m : Seated) (k : ℕ) (t : Task) (y z : Content) → HasTurn m k y z 0
         → MayEnd j.matched j.given t m.0 → placement_of j t ≡ k → 0 < own_stamps m.0 t → Ends y z

@@ -1,4 +1,4 @@
-//! The rule of the table as its words and slots know it, and the kinds of step.
+//! The rule of the table, in the form in which the kit's table takes it, and the kinds of step.
 
 ghost use Rattle.table_rule.specs.Rule.{Rule};
 ghost use Rattle.table_rule.specs.Changes.{after_split, both, first_pass, joined_away, split_off};
@@ -19,8 +19,8 @@ impl TableRule<Shard, PassRecord, TableJob> for Law {
     ghost first = { λ _. first_pass };
 }
 
-/// What a step is about. A call at `Brand` picks it, since a step is given neither the job nor the arguments of its
-/// caller.
+/// What a step is about. A step is given neither the job nor the arguments of its caller, so the caller picks the
+/// event: it calls the step at the type `Brand`.
 pub trait Event {
     ghost use Rattle.std.specs.Prelude.{List, Option, ℕ};
     ghost use Rattle.ptg_base.specs.Entry.{FlowTile};
@@ -28,7 +28,7 @@ pub trait Event {
     ghost use Rattle.flow_meaning.specs.Machine.{SentItem};
     ghost use Rattle.table_rule.specs.declared.table_job.TableJob.{TableJob};
 
-    // The job, if there is one: there is no plan that could stand where none is meant.
+    // The job. It is None for an event that is about no job, since no plan could stand for that.
     ghost job: { Option TableJob };
 
     // The shard whose turn is taken.
@@ -59,7 +59,7 @@ impl Event for Brand {
     ghost sent = { no_sent };
 }
 
-/// A turn is taken, or was found taken.
+/// A turn is taken, or is found taken.
 pub struct Take<E> {
     event: PhantomData<E>,
 }
@@ -68,7 +68,7 @@ impl<E: Event> Play<Shard, PassRecord> for Take<E> {
     ghost then = { TriesTurn E.job E.shard };
 }
 
-/// A turn is given back, and nothing else happens.
+/// A turn is given back without an event.
 pub struct Leave;
 
 impl Play<Shard, PassRecord> for Leave {

@@ -1,5 +1,5 @@
-//! The rule of the shared dependency table, that each kind of step keeps it, and the table's words and shards, on which
-//! there is no other step.
+//! The rule that relates the words, the shards and the passes of a table, and one method for each kind of step. It is
+//! proved that each step keeps the rule, and the methods are the only steps on a table's words and shards.
 #![tactic(auto)]
 
 mod events;

@@ -1,4 +1,4 @@
-//! Passes that are split and joined.
+//! Splits and joins of passes.
 
 ghost use Rattle.std.specs.Prelude.{◌≡◌, [], length};
 ghost use Rattle.table_rule.specs.Changes.{after_split, both, split_off};
@@ -10,7 +10,7 @@ use crate::pass_seat::PassSeat;
 use crate::table_words::TableWords;
 
 impl TableWords {
-    /// Splits a pass that has one name: the other pass has a new name, and has done nothing.
+    /// Splits a new pass off one that has one name. The new pass has a new name and has done nothing.
     pub fn split(&self, seat: &mut PassSeat) -> PassSeat
         requires of { seat_table seat.old ≡ words_table self.now }
         requires one_name { length (seated seat.old).0.names ≡ 1 }
@@ -22,7 +22,7 @@ impl TableWords {
         PassSeat { seat: split }
     }
 
-    /// A pass that has a name takes over another one, which holds no shard.
+    /// Joins another pass, which holds no shard, to a pass that has a name: the first takes over its record.
     pub fn join(&self, seat: &mut PassSeat, other: PassSeat)
         requires of { (seat_table seat.old ≡ words_table self.now) × (seat_table other ≡ words_table self.now) }
         requires named { HasName (seated seat.old).0 }

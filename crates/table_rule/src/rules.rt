@@ -1,4 +1,5 @@
-//! Laws of the rule itself: what it says of the passes together, of one that has all names, and before the first step.
+//! Laws of the rule itself: what it says about all passes together, about one that has all names, and before the first
+//! step.
 
 ghost use Rattle.std.specs.Prelude.{◌≡◌, ◌<◌, ℕ, List, [], ◌∷◌, length, map, slice_index};
 ghost use mathlib.Core.Option.{some};
@@ -19,7 +20,7 @@ ghost use Rattle.table_rule.specs.Records.{joined, moment_of};
 ghost use Rattle.table_rule.specs.Rule.{Parts, Rule, Table};
 ghost use Rattle.table_rule.specs.Words.{stamp_word, turn_word};
 
-/// A law: where the rule holds at some moment, it holds at the one of all passes, their lists joined.
+/// A law: if the rule holds, its parts hold at the moment whose lists are those of all passes, joined.
 pub fn the_rule_holds_of_the_joined_records()
     ensures { (j : TableJob) (s : Table) → Rule j s → Parts j s (joined s.views) }
 {}
@@ -30,7 +31,7 @@ pub fn the_rule_holds_before_the_first_step()
         → Rule j (opening words shards first_pass) }
 {}
 
-/// A law: where one pass has all names, the rule holds at what that pass did, all stamps are its own and, if it holds
+/// A law: if one pass has all names, the rule holds at what that pass did, and all stamps are its own. If it also holds
 /// no turn, each turn is free.
 pub fn a_pass_with_all_names_is_alone()
     ensures moment { (j : TableJob) (s : Table) (id : ℕ) (v : PassRecord) → Rule j s → get_elem? s.views id ≡ some v
@@ -41,8 +42,8 @@ pub fn a_pass_with_all_names_is_alone()
         → AreAll (v ∷ []) → v.turns ≡ [] → (k : ℕ) → k < j.shards → slice_index s.words (turn_word k) ≡ 0 }
 {}
 
-/// A law: the first pass is all passes. A list of all passes stays so where one is split and the new one added, where
-/// two are joined, in another order, and as long as the names stay.
+/// A law: the first pass is all passes. A list of all passes stays one in another order, and as long as the names stay.
+/// It is one after a pass is split and the new one added, and after two passes are joined.
 pub fn all_passes_stay_all()
     ensures first { AreAll (first_pass ∷ []) }
     ensures split { (v : PassRecord) (vs : List PassRecord) → length v.names ≡ 1 → AreAll (v ∷ vs)

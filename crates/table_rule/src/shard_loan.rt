@@ -11,7 +11,7 @@ use crate::table_words::TableWords;
 use dep_shard::Shard;
 
 impl PassSeat {
-    /// The shard whose turn the pass took last. When the loan ends, the pass holds it as it was left.
+    /// Lends the shard whose turn the pass took last. When the loan ends, the pass holds the shard as it was left.
     pub fn shard_mut<'a>(&'a mut self, words: &'a TableWords, shard: u32) -> &'a mut Shard
         requires of { seat_table self.old ≡ words_table words.now }
         requires holds { (y : Content) × ((seated self.old).1 ≡ (shard, y) ∷ rest (seated self.old).1) }

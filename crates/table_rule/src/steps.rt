@@ -1,4 +1,4 @@
-//! Laws of the steps that are no event of the run: each keeps the rule, whatever the other passes do.
+//! Laws of the steps that are not events of the run: each keeps the rule, whatever the other passes do.
 
 ghost use Rattle.std.specs.Prelude.{◌≡◌, ◌+◌, ◌-◌, ◌%◌, ◌^◌, ◌<◌, ℕ, [], ◌∷◌, false, length, Some};
 ghost use mathlib.Core.Option.{none};
@@ -13,21 +13,21 @@ ghost use Rattle.table_rule.specs.Plays.{DrawsStamp, GivesBack, HasName, HasTurn
 ghost use Rattle.table_rule.specs.Rule.{Rule};
 ghost use Rattle.table_rule.specs.Words.{halt_word, live_word, stamp_word, turn_word};
 
-/// A law: a pass that has a name may try to take the turn of a shard. Where it finds 0 it has the turn, and it is told
-/// the rule as it was at this step; else it has looked.
+/// A law: a pass that has a name may try to take the turn of a shard. If it finds 0 it has the turn, and it learns the
+/// rule as it held at this step. Otherwise it has only looked.
 pub fn a_turn_is_taken_or_found_taken()
     ensures { (j : TableJob) (n id : ℕ) (m : Seated) (k : ℕ) → k < j.shards → HasName m.0
         → Allows (Rule j) n id m (turn_word k) (λ _. 1) (TriesTurn (Some j) k (step n (turn_word k) 1 0 none) m) }
 {}
 
-/// A law: a pass without a credit may give back its turn, with nothing changed of the shard but spares that grew.
+/// A law: a pass without a credit may give back its turn if nothing of the shard changed but spares that grew.
 pub fn a_turn_is_given_back()
     ensures { (j : TableJob) (n id : ℕ) (m : Seated) (k : ℕ) (y z : Content) → HasTurn m k y z 0 → IsUnchanged y z
         → KeepsSpares y.spare z.spare
         → Allows (Rule j) n id m (turn_word k) (λ _. 0) (λ _. GivesBack (step n (turn_word k) 0 0 none) m 0) }
 {}
 
-/// A law: from a pass with one name another one may be split off.
+/// A law: another pass may be split off a pass with one name.
 pub fn a_pass_is_split()
     ensures { (j : TableJob) (id : ℕ) (v : PassRecord) → length v.names ≡ 1
         → Splits (Rule j) id v (after_split v) (split_off v) }
@@ -67,7 +67,7 @@ pub fn the_live_word_is_lowered()
         (LowersLive (step n (live_word j.shards) 1 0 none) m) }
 {}
 
-/// A law: a pass may read the live word. Where it finds 0 it has seen quiet, and it is told the rule with this mark.
+/// A law: a pass may read the live word. If it finds 0 it has seen quiet, and it learns the rule with this mark.
 pub fn the_live_word_is_read()
     ensures { (j : TableJob) (n id : ℕ) (m : Seated)
         → Allows (Rule j) n id m (live_word j.shards) (λ x. x)

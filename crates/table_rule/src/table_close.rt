@@ -9,7 +9,8 @@ use crate::table_words::TableWords;
 use dep_shard::Shard;
 
 impl TableWords {
-    /// Ends the table at the seat of one of its passes. Its shards come back in order, in a list with room for them.
+    /// Ends the table at the seat of one of its passes, and returns its shards in order. The list `into` is empty and
+    /// has room for them.
     pub fn close(self, seat: PassSeat, into: Vec<Shard>) -> Vec<Shard>
         requires of { seat_table seat ≡ words_table self }
         requires none_yet { length into.items ≡ 0 }

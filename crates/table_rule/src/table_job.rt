@@ -3,7 +3,7 @@
 use coll_data::Given;
 use dep_iter::Matched;
 
-/// The job that a table runs, and how it was asked to run it. None of it ever changes.
+/// The job that a table runs, and how the table runs it. None of it ever changes.
 #[derive(Drop)]
 pub struct TableJob {
     /// The plan, which is consistent.
@@ -12,6 +12,6 @@ pub struct TableJob {
     pub given: Given,
     /// The number of shards.
     pub shards: u32,
-    /// Whether all memory was taken before the first step.
+    /// Whether all memory is reserved before the first step.
     pub preloaded: bool,
 }

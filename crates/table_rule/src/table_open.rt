@@ -18,7 +18,7 @@ use ptg_base::OutOfMemory;
 use std::alloc::Global;
 use work_board::PassRecord;
 
-/// The words of a table with this many shards and ready tasks.
+/// The words of a new table with this many shards, whose live word is `live`.
 pub fn opening_words(alloc: Global, shards: u32, live: u64) -> Result<Vec<u64>, OutOfMemory>
     requires { shards ≤ most_shards }
     ensures { IfOk result (λ v. AreOpeningWords shards live v.items) }

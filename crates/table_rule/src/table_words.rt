@@ -11,8 +11,8 @@ use dep_shard::Shard;
 use std::alloc::Global;
 use work_board::PassRecord;
 
-/// The words and the shards of a table, under its rule. Its methods are the only steps on them: each is of one kind,
-/// and keeps the rule. Contracts see which table it is, and its job.
+/// The words and the shards of a table, under its rule. Its methods are the only steps on them: each is one kind of
+/// step and keeps the rule. Contracts see which table it is, and its job.
 #[derive(Drop)]
 pub struct TableWords {
     pub(crate) table: Table<Shard, PassRecord, TableJob, Law, Global>,

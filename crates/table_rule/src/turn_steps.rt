@@ -1,4 +1,4 @@
-//! The steps of a pass on a turn word, one method a step.
+//! The steps of a pass on a turn word, one method for each.
 
 ghost use Rattle.std.specs.Prelude.{◌≡◌, ◌≢◌, ◌<◌, ◌∷◌, Some};
 ghost use Rattle.std.specs.Option.{option_copied};
@@ -20,7 +20,7 @@ use ptg_base::{Item, TaskId, Tile};
 use std::marker::Brand;
 
 impl TableWords {
-    // The step itself, about this event.
+    // The step itself, about the event E.
     fn take_of<E: Event>(&self, seat: &mut PassSeat, shard: u32) -> u64
         requires event { (E.job ≡ Some (words_job self.now)) × (E.shard ≡ shard) }
         requires of { seat_table seat.old ≡ words_table self.now }
@@ -38,8 +38,8 @@ impl TableWords {
         self.table.shared.swap::<Take<E>>(&mut seat.seat, word, 1)
     }
 
-    /// Tries to take the turn of a shard, which is none of the pass's own: 0 where it did. What it found is the pass's
-    /// look.
+    /// Tries to take the turn of a shard that the pass does not hold, and returns what it found in the turn word: 0 if
+    /// it took the turn. What it found becomes the pass's look.
     pub fn take(&self, seat: &mut PassSeat, shard: u32) -> u64
         requires of { seat_table seat.old ≡ words_table self.now }
         requires within { shard < (words_job self.now).shards }
@@ -56,7 +56,7 @@ impl TableWords {
         self.take_of::<Brand>(seat, shard)
     }
 
-    /// Gives a turn back, and nothing else.
+    /// Gives a turn back without an event.
     pub fn give(&self, seat: &mut PassSeat, shard: u32)
         requires of { seat_table seat.old ≡ words_table self.now }
         requires within { shard < (words_job self.now).shards }
@@ -68,7 +68,7 @@ impl TableWords {
         self.table.shared.store::<Leave>(&mut seat.seat, word, 0);
     }
 
-    // The step itself, about this event.
+    // The step itself, about the event E.
     fn give_claim_of<E: Event>(&self, seat: &mut PassSeat, shard: u32, t: &TaskId, tiles: &Arrivals)
         requires event { (E.job ≡ Some (words_job self.now)) × (E.task ≡ t.now) × (E.tiles ≡ tiles.now) }
         requires of { seat_table seat.old ≡ words_table self.now }
@@ -100,7 +100,7 @@ impl TableWords {
         self.give_claim_of::<Brand>(seat, shard, t, tiles);
     }
 
-    // The step itself, about this event.
+    // The step itself, about the event E.
     fn give_send_of<E: Event>(
         &self,
         seat: &mut PassSeat,
@@ -122,7 +122,7 @@ impl TableWords {
         self.table.shared.store::<Send<E>>(&mut seat.seat, word, 0);
     }
 
-    /// Gives a turn back with a send, which spends a credit where the target fires.
+    /// Gives a turn back with a send, which spends a credit if the target fires.
     pub fn give_send(&self, seat: &mut PassSeat, shard: u32, item: &Item, tile: Option<&Tile>)
         requires of { seat_table seat.old ≡ words_table self.now }
         requires within { shard < (words_job self.now).shards }
@@ -134,7 +134,7 @@ impl TableWords {
         self.give_send_of::<Brand>(seat, shard, item, tile);
     }
 
-    /// Gives a turn back with the end of the running task, which makes a credit.
+    /// Gives a turn back with the end of the running task, which gives the pass a credit.
     pub fn give_end(&self, seat: &mut PassSeat, shard: u32)
         requires of { seat_table seat.old ≡ words_table self.now }
         requires within { shard < (words_job self.now).shards }

@@ -1,4 +1,4 @@
-//! The steps of a pass on the words that are of no shard, one method a step.
+//! The steps of a pass on the words of the whole table (halt, live and stamp), one method for each.
 
 ghost use Rattle.std.specs.Prelude.{◌≡◌, ◌≢◌, ◌<◌, [], ◌∷◌, length, Some, true, false};
 ghost use Rattle.work_board.specs.Word.{Halt, Live};
@@ -28,7 +28,7 @@ impl TableWords {
             .store::<RaiseHalt>(&mut seat.seat, word, 1);
     }
 
-    // The step itself, about this event.
+    // The step itself, about the event E.
     fn read_halt_of<E: Event>(&self, seat: &mut PassSeat) -> u64
         requires event { E.job ≡ Some (words_job self.now) }
         requires of { seat_table seat.old ≡ words_table self.now }
@@ -40,7 +40,7 @@ impl TableWords {
         self.table.shared.load::<ReadHalt<E>>(&mut seat.seat, word)
     }
 
-    /// Reads the halt word, which is the pass's look. It is 0 in a preloaded table.
+    /// Reads the halt word, which becomes the pass's look. It is 0 in a preloaded table.
     pub fn read_halt(&self, seat: &mut PassSeat) -> u64
         requires of { seat_table seat.old ≡ words_table self.now }
         ensures of { seat_table seat.new ≡ seat_table seat.old }
@@ -50,7 +50,7 @@ impl TableWords {
         self.read_halt_of::<Brand>(seat)
     }
 
-    // The step itself, about this event.
+    // The step itself, about the event E.
     fn read_live_of<E: Event>(&self, seat: &mut PassSeat) -> u64
         requires event { E.job ≡ Some (words_job self.now) }
         requires of { seat_table seat.old ≡ words_table self.now }
@@ -65,7 +65,7 @@ impl TableWords {
         self.table.shared.load::<ReadLive<E>>(&mut seat.seat, word)
     }
 
-    /// Reads the live word, which is the look of a pass that has no credit: 0 is quiet.
+    /// Reads the live word, which becomes the pass's look: 0 is quiet. Only a pass without a credit may read it.
     pub fn read_live(&self, seat: &mut PassSeat) -> u64
         requires of { seat_table seat.old ≡ words_table self.now }
         requires no_credit { (seated seat.old).0.credit ≡ 0 }
@@ -79,7 +79,7 @@ impl TableWords {
         self.read_live_of::<Brand>(seat)
     }
 
-    /// Raises the live word, which gives a credit to a pass that holds more turns than it has credits.
+    /// Raises the live word by 1, which gives the pass a credit. Only a pass that holds more turns than credits may.
     pub fn raise_live(&self, seat: &mut PassSeat)
         requires of { seat_table seat.old ≡ words_table self.now }
         requires room { (seated seat.old).0.credit < length (seated seat.old).0.turns }
@@ -94,7 +94,7 @@ impl TableWords {
             .fetch_add::<RaiseLive>(&mut seat.seat, word, 1);
     }
 
-    /// Lowers the live word by a credit of the pass.
+    /// Lowers the live word by 1, which takes a credit from the pass.
     pub fn lower_live(&self, seat: &mut PassSeat)
         requires of { seat_table seat.old ≡ words_table self.now }
         requires credit { 0 < (seated seat.old).0.credit }
@@ -109,7 +109,7 @@ impl TableWords {
             .fetch_sub::<LowerLive>(&mut seat.seat, word, 1);
     }
 
-    // The step itself, about this event.
+    // The step itself, about the event E.
     fn draw_stamp_of<E: Event>(&self, seat: &mut PassSeat, t: &TaskId) -> u64
         requires event { E.task ≡ t.now }
         requires of { seat_table seat.old ≡ words_table self.now }
@@ -126,7 +126,7 @@ impl TableWords {
             .fetch_add::<DrawStamp<E>>(&mut seat.seat, word, 1)
     }
 
-    /// Draws a stamp for the running task.
+    /// Draws a stamp for the running task, which has none yet, and returns it.
     pub fn draw_stamp(&self, seat: &mut PassSeat, t: &TaskId) -> u64
         requires of { seat_table seat.old ≡ words_table self.now }
         requires runs { (seated seat.old).0.running ≡ t.now ∷ [] }

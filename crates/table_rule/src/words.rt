@@ -5,10 +5,10 @@ ghost use Rattle.ptg_base.specs.Limits.{most_shards};
 ghost use Rattle.table_rule.specs.Words.{halt_word, live_word, turn_word};
 ghost use Rattle.table_rule.specs.Words as words;
 
-// How far apart the words are: no two that are used are on one line of a cache.
+// The distance between two words that are used: no two of them are on one cache line.
 pub(crate) const STRIDE: usize = 16;
 
-// The turn word of a shard.
+// The index of the turn word of a shard.
 pub(crate) fn turn_index(shard: u32) -> usize
     requires { shard < most_shards }
     ensures { result ≡ turn_word shard }
@@ -16,7 +16,7 @@ pub(crate) fn turn_index(shard: u32) -> usize
     STRIDE * shard as usize
 }
 
-// The halt word, among `shards` shards.
+// The index of the halt word of a table with this many shards.
 pub(crate) fn halt_index(shards: u32) -> usize
     requires { shards ≤ most_shards }
     ensures { result ≡ halt_word shards }
@@ -24,7 +24,7 @@ pub(crate) fn halt_index(shards: u32) -> usize
     STRIDE * shards as usize
 }
 
-// The live word.
+// The index of the live word of such a table.
 pub(crate) fn live_index(shards: u32) -> usize
     requires { shards ≤ most_shards }
     ensures { result ≡ live_word shards }
@@ -32,7 +32,7 @@ pub(crate) fn live_index(shards: u32) -> usize
     STRIDE * (shards as usize + 1)
 }
 
-// The stamp word.
+// The index of the stamp word of such a table.
 pub(crate) fn stamp_index(shards: u32) -> usize
     requires { shards ≤ most_shards }
     ensures { result ≡ words.stamp_word shards }

@@ -22,7 +22,7 @@ use Rattle.flow_meaning.proofs.Members.{in_edge_to, out_edge_from}
 use Rattle.task_order.specs.Growing.{HaveCome, MayCome, edge_count_to}
 use Rattle.task_order.proofs.Orders.{legal_tasks}
 
--- edges that have come, and the first of them
+-- if edges have come, so have the first of them
 pub come_first : (P : Plan) (order : List Task) (es fs : List Edge) → HaveCome P order (es ++ fs) → HaveCome P order es
 come_first P order es fs h = record {
   once = HasNoRepeats-left es fs h.once;
@@ -34,7 +34,7 @@ come_first P order es fs h = record {
 pub come_longer : (P : Plan) (order more : List Task) (es : List Edge) → HaveCome P order es → HaveCome P (order ++ more) es
 come_longer P order more es h = record { once = h.once; from = λ e i. IsIn-append_left e.from order more (h.from e i); out = h.out }
 
--- the edge behind those that have come may come
+-- the edge after those that have come may come
 pub may_come : (P : Plan) (order : List Task) (es : List Edge) (e : Edge) (rest : List Edge) → HaveCome P order (es ++ e ∷ rest) → MayCome P es order e
 may_come P order es e rest h =
     let here : IsIn e (es ++ e ∷ rest) = IsIn-append_right e es (e ∷ rest) (inl refl) in
@@ -75,7 +75,7 @@ module _ (P : Plan) (con : IsConsistent P) where
         let few = no_longer (filter (λ (d : Edge). same_task t d.to) came) (in_edges P t) (HasNoRepeats-filter (λ (d : Edge). same_task t d.to) came h.once) these_in in
         omega (arith, few, length-filter (λ (d : Edge). same_task t d.to) came)
 
-    -- where as many have come, all have
+    -- if as many have come as go into it, all have
     pub all_came : goal P t ≤ edge_count_to t came → (e : Edge) → IsIn e (in_edges P t) → IsIn e came
     all_came enough e i =
         let j = onto (filter (λ (d : Edge). same_task t d.to) came) (in_edges P t) (HasNoRepeats-filter (λ (d : Edge). same_task t d.to) came h.once) these_in (omega (arith, enough, length-filter (λ (d : Edge). same_task t d.to) came)) e i in

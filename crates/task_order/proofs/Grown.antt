@@ -27,12 +27,12 @@ use Rattle.task_order.specs.Growing.{GrowsBy, HasGrown, HaveCome, IsNext, MayCom
 use Rattle.task_order.proofs.Orders.{legal_once, legal_tasks}
 use Rattle.task_order.proofs.Coming.{all_came, as_many, come_first, come_longer, come_next, comes_from, may_come, to_at_most, to_push}
 
--- an edge into a task was noted: how many it lacks then
+-- an edge into a task was noted, and `left` is how many the task still lacks
 pub record IsNoted (P : Plan) (e : Edge) (table new : List (Task × ℕ)) (left : ℕ) : Type 0 where
   pub left_is : left + 1 ≡ lacking P table e.to
   pub others : (u : Task) → lacking P new u + as_number (same_task u e.to) ≡ lacking P table u
 
--- nothing comes
+-- no edge comes
 pub grows_not : (P : Plan) (order : List Task) (table : List (Task × ℕ)) → GrowsBy P [] order table order table
 grows_not P order table = record {
   more = [];
@@ -52,7 +52,7 @@ grows_then P es fs a b c x y z g h = record {
 }
 
 module _ (P : Plan) (con : IsConsistent P) where
-  -- a task to which an edge may come lacks one at least
+  -- a task to which an edge may come lacks at least one
   pub lacks : (came : List Edge) (order : List Task) (table : List (Task × ℕ)) (e : Edge) → HasGrown P came order table → MayCome P came order e → IsTask P e.to × (0 < lacking P table e.to)
   lacks came order table e g may =
       let job = legal_tasks P [] order g.legal e.from may.from in
@@ -170,7 +170,7 @@ module _ (P : Plan) (con : IsConsistent P) where
     ready = λ t job. (λ i. ((root_is t).0 i).1, λ z. (root_is t).1 ((listed P t).0 job, z));
   })
 
-  -- a task that comes later in the order is not among the first
+  -- a list, split before and after the element at an index
   take_split : {A : Type 0} (n : ℕ) (xs : List A) (x : A) → slice_get xs n ≡ Some x → (rest : List A) × (xs ≡ take n xs ++ x ∷ rest) × (take (n + 1) xs ≡ take n xs ++ x ∷ [])
   take_split n [] x h = absurd cc
   take_split zero (y ∷ ys) x h = let e : y ≡ x = cc in (ys, ap (λ z. z ∷ ys) e, ap (λ z. z ∷ []) e)
@@ -216,7 +216,7 @@ module _ (P : Plan) (con : IsConsistent P) where
   pub no_longer : (came : List Edge) (order : List Task) (table : List (Task × ℕ)) → HasGrown P came order table → length order ≤ length (all_tasks P)
   no_longer came order table g = at_most order (all_tasks P) (legal_once P [] order g.legal) (λ t i. (listed P t).0 (legal_tasks P [] order g.legal t i))
 
-  -- where the edges out of all its tasks have come, an order is a greatest one
+  -- an order is a greatest one if the edges out of all its tasks have come
   pub greatest : (order : List Task) (table : List (Task × ℕ)) → HasGrown P (edges_of P order) order table → IsGreatestOrder P order
   greatest order table g = record {
     legal = g.legal;

@@ -1,4 +1,4 @@
--- What legal orders are like, and greatest ones.
+-- Properties of legal orders, and of greatest ones.
 use Rattle.std.proofs.Common.{List, [], ◌∷◌, ◌++◌, refl, sym, subst, ◌⊎◌, inl, inr}
 use Rattle.ptg_base.specs.Lists.{HasNoRepeats, IsIn}
 use Rattle.ptg_base.specs.Task.{Task}
@@ -33,14 +33,14 @@ legal_once P before (u ∷ us) l = (
 )
 
 module _ (P : Plan) (ts : List Task) (g : IsGreatestOrder P ts) where
-  -- a task is a member where the sources of all edges into it are
+  -- a task is a member if the sources of all edges into it are
   pub joins : (t : Task) → IsTask P t → ((e : Edge) → IsIn e (in_edges P t) → IsIn e.from ts) → IsIn t ts
   joins t job sources = elim (member_or_not t ts) [
     | inl i ↦ i
     | inr absent ↦ absurd (g.greatest t (record { task = job; first_time = absent; after_sources = sources }))
   ]
 
-  -- of edges some comes from outside, or all come from members
+  -- one of some edges comes from outside, or all come from members
   outside : (es : List Edge) → ((e : Edge) × IsIn e es × (IsIn e.from ts → ⊥)) ⊎ ((e : Edge) → IsIn e es → IsIn e.from ts)
   outside [] = inr (λ e i. absurd i)
   outside (d ∷ ds) = elim (member_or_not d.from ts) [
@@ -51,6 +51,6 @@ module _ (P : Plan) (ts : List Task) (g : IsGreatestOrder P ts) where
     ]
   ]
 
-  -- an edge into a task outside comes from outside
+  -- some edge into a task outside comes from outside
   pub from_outside : (t : Task) → IsTask P t → (IsIn t ts → ⊥) → (e : Edge) × IsIn e (in_edges P t) × (IsIn e.from ts → ⊥)
   from_outside t job absent = elim (outside (in_edges P t)) [ inl p ↦ p | inr all ↦ absurd (absent (joins t job all)) ]

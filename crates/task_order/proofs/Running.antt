@@ -1,4 +1,4 @@
--- Where no task traps, a greatest legal order has the tasks that run.
+-- If no task traps, a greatest legal order has the tasks that run.
 use Rattle.std.proofs.Common.{◌≡◌, ℕ, zero, suc, ◌↔◌, Bool, true, false, cond, List, [], ◌∷◌, ◌++◌, length, refl, sym, subst, inl, inr, Option, Some, None, Ok, Err, is_some}
 use Rattle.std.proofs.lemmas.Bool.{false≢true}
 use Rattle.std.specs.List.{flat_map}
@@ -25,7 +25,7 @@ use Rattle.flow_meaning.proofs.Rounds.{has_sources}
 use Rattle.task_order.specs.Greatest.{IsGreatestOrder}
 use Rattle.task_order.proofs.Orders.{joins, legal_tasks}
 
--- a list that is put in order is not empty where the list is not
+-- a list with a member is not empty once it is put in order
 not_empty : (rows : List TrapRow) (r : TrapRow) → IsIn r rows → in_task_order (λ (x : TrapRow). x.task) rows ≡ [] → ⊥
 not_empty [] r i e = i
 not_empty (x ∷ rows) r i e = inserted (in_task_order (λ (y : TrapRow). y.task) rows) e

@@ -46,6 +46,6 @@ module _ (P : Plan) where
       let after : lacking P new u ≡ lacking P old u = ap (λ o. unwrap_or o (goal P u)) (up ∙ ap (λ b. cond b (Some left) (lookup (same_task u) old)) miss) in
       omega (arith, after, ap as_number k))
 
-  -- an edge goes into a task that lacks some
+  -- if a task without an entry lacks edges, edges go into it
   pub some_go : (old : List (Task × ℕ)) (t : Task) → lookup (same_task t) old ≡ None → 0 < lacking P old t → 0 < goal P t
   some_go old t none h = omega (arith, number_is old t None none)

@@ -1,5 +1,7 @@
--- Greatest legal orders. Source: the usual topological order, gone on with for as long as a task has all its sources in
--- it.
+-- Greatest legal orders. Source: the usual topological order, extended for as long as some task outside has all its
+-- sources in it.
+-- Carried by: `order_of`; laws `a_task_outside_has_a_source_outside`, `order_laws::no_legal_order_has_more`,
+-- `order_laws::a_greatest_order_has_the_tasks_that_run`.
 use Rattle.std.specs.Prelude.{List}
 use Rattle.ptg_base.specs.Task.{Task}
 use Rattle.plan_core.specs.declared.plan.Plan.{Plan}

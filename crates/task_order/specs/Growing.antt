@@ -26,7 +26,7 @@ edge_count_to t es = count (λ (e : Edge). same_task t e.to) es
 abbrev pub lacking : Plan → List (Task × ℕ) → Task → ℕ
 lacking P table t = unwrap_or (lookup (same_task t) table) (goal P t)
 
--- edges out of tasks of an order, each once
+-- these edges have come: they go out of tasks of the order, and none occurs twice
 pub record HaveCome (P : Plan) (order : List Task) (came : List Edge) : Type 0 where
   pub once : HasNoRepeats came
   pub from : (e : Edge) → IsIn e came → IsIn e.from order
@@ -40,13 +40,13 @@ pub record HasGrown (P : Plan) (came : List Edge) (order : List Task) (table : L
   pub counts : (t : Task) → IsTask P t → lacking P table t + edge_count_to t came ≡ goal P t
   pub ready : (t : Task) → IsTask P t → IsIn t order ↔ (lacking P table t ≡ 0)
 
--- an edge out of a task of the order that has not come
+-- an edge may come: it goes out of a task of the order, and has not come
 pub record MayCome (P : Plan) (came : List Edge) (order : List Task) (e : Edge) : Type 0 where
   pub new : IsIn e came → ⊥
   pub from : IsIn e.from order
   pub out : IsIn e (out_edges P e.from)
 
--- a task of the order of which no edge has come
+-- a task of the order is next: no edge out of it has come
 pub record IsNext (P : Plan) (came : List Edge) (order : List Task) (t : Task) : Type 0 where
   pub member : IsIn t order
   pub new : (e : Edge) → IsIn e came → e.from ≡ t → ⊥

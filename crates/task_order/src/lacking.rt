@@ -13,7 +13,7 @@ use goal_count::goal;
 use indexmap::IndexMap;
 use ptg_base::{OutOfMemory, TaskId};
 
-// Lowers the number that a table has for a task, if it has one: to what.
+// Lowers the number that a table has for a task by 1, and returns it; None if the table has none.
 fn lower(table: &mut IndexMap<TaskId, u32>, t: &TaskId) -> Option<u32>
     requires { lookup (same_task t.now) table.old.entries ≡ Some 0 → ⊥ }
     ensures { MatchOption result
@@ -28,7 +28,7 @@ fn lower(table: &mut IndexMap<TaskId, u32>, t: &TaskId) -> Option<u32>
     Some(*number)
 }
 
-// Notes that an edge into a task has come: how many it lacks now.
+// Notes that an edge into a task has come, and returns how many edges the task still lacks.
 pub(crate) fn note_edge(
     table: &mut IndexMap<TaskId, u32>,
     m: &Matched,

@@ -9,7 +9,7 @@ ghost use Rattle.dep_iter.specs.Tasks.{IsTask};
 ghost use Rattle.dep_iter.specs.Edges.{in_edges};
 ghost use Rattle.task_order.specs.Greatest.{IsGreatestOrder};
 
-/// A law: an edge into each task outside a greatest legal order comes from a task outside.
+/// A law: each task outside a greatest legal order has an edge into it whose source is outside too.
 pub fn a_task_outside_has_a_source_outside()
     ensures { (P : Plan) (ts : List Task) (t : Task) → IsGreatestOrder P ts → IsTask P t → (IsIn t ts → ⊥)
         → (e : Edge) × IsIn e (in_edges P t) × (IsIn e.from ts → ⊥) }

@@ -31,7 +31,7 @@ pub(crate) fn start(alloc: Global, m: &Matched) -> Result<OrderBuilder, OutOfMem
     })
 }
 
-// Lets an edge come to the task that it goes to, which joins the order if it lacks no other.
+// Lets an edge come to its target, which joins the order if it lacks no other edge.
 fn let_come(builder: &mut OrderBuilder, m: &Matched, edge: &Edge) -> Result<(), OutOfMemory>
     requires { (came : List EdgeValue) × HasGrown m.now came builder.old.order.items builder.old.lacking.entries
         × MayCome m.now came builder.old.order.items edge.now }

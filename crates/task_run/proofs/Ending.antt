@@ -1,4 +1,4 @@
--- How a task ends whose body was run.
+-- How a task whose body was run ends.
 use Rattle.std.proofs.Common.{◌≡◌, ℕ, zero, suc, ◌+◌, ◌≤◌, ℤ, Bool, true, false, List, [], ◌∷◌, ◌++◌, add-one, length, take, refl, ap, sym, ◌∙◌, subst, Option, Some, None, slice_get, arith}
 use Rattle.std.specs.Option.{option_map_or}
 use Rattle.std.proofs.Math.Seq.{take-suc}

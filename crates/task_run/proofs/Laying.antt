@@ -38,7 +38,7 @@ cleared elems (l ∷ init) type (t ∷ ts) zero y fit at i k is = absurd (omega 
 cleared elems (l ∷ init) type (t ∷ ts) (suc n) y fit at zero k is = fit zero k is
 cleared elems (l ∷ init) type (t ∷ ts) (suc n) y fit at (suc i) k is = cleared elems init type ts n y (λ j m e. fit (suc j) m e) (omega (arith, at)) i k is
 
--- some have a last one
+-- a list has a last member
 pub record HasLast {A : Type 0} (xs : List A) : Type 0 where
   pub last : A
   pub split : xs ≡ take (length xs - 1) xs ++ last ∷ []

@@ -121,7 +121,7 @@ pub below_last : (types : ℕ) (lent : List (Option ℕ)) (k : ℕ) → AreBelow
 below_last types [] k below = below zero k refl
 below_last types (x ∷ xs) k below = below_last types xs k (λ m j e. below (suc m) j e)
 
--- the same of a list that is equal
+-- the same for an equal list
 pub pools_along : (pools : List TypePool) {l m : List (Option ℕ)} → m ≡ l → ArePools pools l → ArePools pools m
 pools_along pools e are = subst (ArePools pools) (sym e) are
 

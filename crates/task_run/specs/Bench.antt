@@ -1,4 +1,4 @@
--- What contracts see of a bench. Source: this project's own choice.
+-- What contracts see of a bench.
 use Rattle.std.specs.Prelude.{◌≡◌, ℕ, ℤ, List, [], slice_get, slice_index, Option, Some, Ok}
 use Rattle.ptg_base.specs.Task.{Task}
 use Rattle.body_eval.specs.Sizes.{size_of}
@@ -7,7 +7,7 @@ use Rattle.coll_data.specs.Data.{Data}
 use Rattle.flow_meaning.specs.Backward.{ended}
 
 -- how many numbers a tile of each type has, and the tiles of the flows of the task on the bench, one place for each; no
--- place where no task is on it
+-- places if no task is on it
 pub record Laid : Type 0 where
   pub elems : List ℕ
   pub tiles : List (Option (List ℤ))

@@ -1,4 +1,4 @@
--- The pools of a bench, by type. Source: this project's own choice.
+-- The pools of a bench, by type.
 use Rattle.std.specs.Prelude.{◌≡◌, ℕ, ◌<◌, ℤ, List, length, option_map, slice_get, slice_set, Option, Some, IfSome, MatchOption}
 use Rattle.tile_pool.specs.Pool.{IsTakenFrom}
 use Rattle.task_run.specs.declared.pools.TypePool.{TypePool}

@@ -1,5 +1,4 @@
--- The tiles of a bench, in a pool for each type, of which some are lent to the flows of a task. Source: this project's
--- own choice.
+-- The tiles of a bench, in a pool for each type. Some of them are lent to the flows of a task.
 use Rattle.std.specs.Prelude.{◌≡◌, ℕ, ◌+◌, ◌-◌, ◌<◌, ◌≤◌, ℤ, pos, nat_eq, List, [], ◌∷◌, ◌++◌, count_by, length, replicate, slice_get, slice_index, take, option_map, Option, Some}
 use Rattle.std.specs.Option.{option_eq}
 use Rattle.ptg_base.specs.Limits.{most_flows}
@@ -11,7 +10,7 @@ pub record Lent : Type 0 where
   pub elems : List ℕ
   pub lent : List (Option ℕ)
 
--- a pool of tiles of type k, as many as a class may have flows, of which some are lent, and a tile of zeros
+-- a pool of tiles of type k, as many as a class may have flows, some of them lent, and a tile of zeros
 pub record IsPoolOf (types : List (Option ℕ)) (k : ℕ) (pool : Pool) (zero : List ℤ) : Type 0 where
   pub zeros : zero ≡ replicate pool.elems (pos 0)
   pub lent : pool.room ≡ count_by (option_eq nat_eq (Some k)) types

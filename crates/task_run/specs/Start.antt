@@ -1,4 +1,5 @@
 -- What a task starts on. Source: DAGuE (Parallel Computing, 2012): a task runs on what its sources gave.
+-- Carried by: `Bench::run` (`IsStart`).
 use Rattle.std.specs.Prelude.{◌≡◌, ℕ, ◌≤◌, ℤ, List}
 use Rattle.ptg_base.specs.Entry.{FlowTile}
 use Rattle.ptg_base.specs.Task.{Task}

@@ -21,8 +21,8 @@ use std::alloc::Global;
 use std::marker::Model;
 use term_core::Trap;
 
-/// Where one worker runs tasks, one after another: a place for the tile of each flow, eight tiles of each type for the
-/// flows whose tile comes by no edge, and room for the variables of a body. Only `new` takes memory.
+/// Where one worker runs tasks, one after another. It has a place for the tile of each flow, eight tiles of each type
+/// for the flows whose tile comes by no edge, and room for the variables of a body. Only `new` takes memory.
 #[derive(Drop)]
 pub struct Bench {
     scratch: Scratch,
@@ -61,8 +61,7 @@ impl Bench {
         self.pools.flows()
     }
 
-    // Lays the tile of the next flow of a task on the bench: the one that arrived, or else the one that its source
-    // gives.
+    // Lays the tile of the next flow of a task on the bench: the one that arrived, or else one from its source.
     fn lay(&mut self, start: &Start, flow: &FlowPlan, arrivals: &mut Arrivals)
         requires start { IsStart start.now.plan.now start.now.given.now start.now.task.now start.now.locals.now }
         requires elems { self.old.elems ≡ start.now.plan.now.elems }
@@ -124,8 +123,9 @@ impl Bench {
         )
     }
 
-    /// Runs a task on the tiles that came to it by edges and on those that its other sources give: exactly as the task
-    /// ends. A tile that came is moved; only for the other flows is the source evaluated. It takes no memory.
+    /// Runs a task on the tiles that came to it by edges and on those from its other sources. It ends as the meaning of
+    /// the job says. A tile that came is moved, not copied; only for the other flows is the source evaluated. It takes
+    /// no memory.
     pub fn run(&mut self, start: &Start, arrivals: Arrivals) -> Result<(), Trap>
         requires bench { IsBenchOf start.now.plan.now self.old }
         requires start { IsStart start.now.plan.now start.now.given.now start.now.task.now start.now.locals.now }
@@ -151,8 +151,7 @@ impl Bench {
         self.tiles[flow as usize].as_ref()
     }
 
-    // Clears the place of the last flow of the task on the bench. The tile that came to it by an edge goes to those
-    // that are spent.
+    // Clears the place of the last flow of the task on the bench. A tile that came to it by an edge goes to `spent`.
     fn clear_last(&mut self, spent: &mut Arrivals)
         requires { 0 < length self.old.tiles }
         ensures elems { self.new.elems ≡ self.old.elems }
@@ -165,8 +164,8 @@ impl Bench {
         }
     }
 
-    /// Takes the task off the bench: tiles of the bench come back, and those that came with the task are the answer, so
-    /// that their memory can be used again.
+    /// Takes the task off the bench. The tiles of the bench come back to it. Those that came with the task are
+    /// returned, so that their memory can be used again.
     pub fn clear(&mut self) -> Arrivals
         ensures elems { self.new.elems ≡ self.old.elems }
         ensures idle { self.new.tiles ≡ [] }

@@ -1,4 +1,4 @@
-//! One task, run without memory: the tiles that it starts on, its body, and the tiles that it leaves.
+//! Runs one task on a `Bench`, without memory: the tiles that it starts on, its body, and the tiles that it leaves.
 #![tactic(auto)]
 
 mod bench;

@@ -21,7 +21,7 @@ pub(crate) struct TypePool {
     pub(crate) zeros: Tile,
 }
 
-// As many tiles of this length as a class may have flows, so as a task may start on, and one of zeros.
+// As many tiles of this length as a class may have flows, which is the most that a task may start on, and one of zeros.
 fn new_pool(alloc: Global, elems: u32) -> Result<TypePool, OutOfMemory>
     ensures elems { IfOk result (λ p. p.pool.elems ≡ elems) }
     ensures spare { IfOk result (λ p. most_flows ≤ p.pool.spare) }
@@ -34,7 +34,7 @@ fn new_pool(alloc: Global, elems: u32) -> Result<TypePool, OutOfMemory>
     Ok(TypePool { pool, zeros })
 }
 
-// A copy of a tile in a tile of the pool; of the zeros if there is none.
+// A copy of this tile in a tile of the pool, or of the zeros if there is none.
 fn copy_in(p: &mut TypePool, from: Option<&Tile>) -> Tile
     requires spare { 0 < p.old.pool.spare }
     requires length { IfSome (option_copied from) (λ tile. length tile ≡ p.old.pool.elems) }
@@ -92,7 +92,7 @@ impl Pools {
         self.lent.len()
     }
 
-    // One flow more, which needs no tile of the pools.
+    // Adds a flow that needs no tile of the pools.
     pub(crate) fn lend_none(&mut self)
         requires { length self.old.lent < most_flows }
         ensures { self.new ≡ with_lent self.old None }
@@ -100,7 +100,7 @@ impl Pools {
         self.lent.push(None);
     }
 
-    // One flow more, which starts on a copy of this tile, or on zeros if there is none.
+    // Adds a flow that starts on a copy of this tile, or on zeros if there is none.
     pub(crate) fn lend(&mut self, datatype: u32, from: Option<&Tile>) -> Tile
         requires flows { length self.old.lent < most_flows }
         requires known { datatype < length self.old.elems }
@@ -113,8 +113,8 @@ impl Pools {
         copy_in(&mut self.pools[datatype as usize], from)
     }
 
-    // The last flow has ended with this tile: it comes back if it was lent. The tile that came by an edge is the
-    // answer.
+    // Takes back the last flow, which has ended with this tile. A tile that was lent goes back to its pool; a tile that
+    // came by an edge is returned.
     pub(crate) fn take_back(&mut self, tile: Option<Tile>) -> Option<Tile>
         requires some { 0 < length self.old.lent }
         requires fits { LendsTo (without_last self.old) self.old tile }
@@ -125,7 +125,7 @@ impl Pools {
     }
 }
 
-// Gives a tile back to the pool of its type, if it was lent. One that was not lent is the answer.
+// Gives a tile back to the pool of its type, if it was lent. Otherwise returns it.
 fn give_back(pools: &mut Vec<TypePool>, lent: Option<u32>, tile: Option<Tile>) -> Option<Tile>
     requires { CanGive pools.old.items lent tile }
     ensures { IsGivenBack pools.old.items lent pools.new.items }

@@ -1,4 +1,4 @@
-//! A task with what its tiles come from, besides the edges into it.
+//! A task with its job, and the tiles that it starts on.
 
 ghost use Rattle.std.specs.Prelude.{◌≡◌, ◌+◌, ◌<◌, true, Some, length, pos, replicate, slice_get, slice_index};
 ghost use Rattle.ptg_base.specs.Limits.{most_flows};
@@ -113,7 +113,7 @@ fn lend_source(pools: &mut Pools, start: &Start, flow: &FlowPlan) -> Option<Tile
     lend_from(pools, start, flow, &source)
 }
 
-// The tile that the next flow of the task starts on: the one that arrived, or else the one that its source gives.
+// The tile that the next flow of the task starts on: the one that arrived, or else one from its source.
 pub(crate) fn next_tile(
     pools: &mut Pools,
     start: &Start,

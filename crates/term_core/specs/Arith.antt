@@ -1,5 +1,6 @@
--- Arithmetic on numbers of 64 bits, with a fault where there is no such number. Source: this project's own choice, with
--- the operators of C.
+-- Arithmetic on numbers of 64 bits, with a fault if there is no such number. Source of the operators: C.
+-- Carried by: `arith`, `unary`.
+-- Tested by: `numbers.txt`, `body_traps.txt`.
 use Rattle.std.specs.Prelude.{ℤ, pos, negsuc, ◌+ℤ◌, ◌-ℤ◌, ◌*ℤ◌, neg_ℤ, int_div, int_rem, int_lt, int_le, nat_lt, Bool, true, false, not, ◌&&◌, ◌||◌, Result, Ok, Err, if◌then◌else◌, Option, Some, None}
 use Rattle.std.specs.Ordering.{int_eq}
 use Rattle.term_core.specs.declared.fault.ExprFault.{ExprFault}
@@ -14,25 +15,26 @@ abbrev pub is_number : ℤ → Bool
 is_number (pos n) = nat_lt n 9223372036854775808
 is_number (negsuc n) = nat_lt n 9223372036854775808
 
--- a condition as a number
+-- a condition as a number: 1 if it holds, else 0
 abbrev pub truth : Bool → ℤ
 truth true = pos 1
 truth false = pos 0
 
--- any number but 0 holds
+-- whether a number holds as a condition: any number but 0 does
 abbrev pub holds : ℤ → Bool
 holds z = not (int_eq z (pos 0))
 
--- the whole number, or Overflow where it is no number of 64 bits
+-- the whole number, or Overflow if it is no number of 64 bits
 abbrev pub fitted : ℤ → Result ℤ ExprFault
 fitted z = if is_number z then Ok z else Err Overflow
 
--- z, the quotient or the remainder of a by b: Divide where b is 0, Overflow where the quotient is no number of 64 bits
+-- z, the quotient or the remainder of a by b; Divide if b is 0, Overflow if the quotient is no number of 64 bits
 abbrev pub divided : ℤ → ℤ → ℤ → Result ℤ ExprFault
 divided a b z = if int_eq b (pos 0) then Err Divide else (if is_number (int_div a b) then Ok z else Err Overflow)
 
--- the value of an infix operator on two numbers: a quotient is cut toward 0, and a remainder has the sign of the
--- dividend; the operands of `&&` and `||` are both evaluated here, and `decided` is where they are not
+-- The value of an infix operator on two numbers. A quotient is rounded toward 0, and a remainder has the sign of the
+-- dividend. `&&` and `||` have the values of both operands here; `decided` is for the cases in which the left one is
+-- enough.
 abbrev pub arithmetic : BinOp → ℤ → ℤ → Result ℤ ExprFault
 arithmetic Add a b = fitted (a +ℤ b)
 arithmetic Sub a b = fitted (a -ℤ b)
@@ -53,7 +55,7 @@ abbrev pub unary_value : UnOp → ℤ → Result ℤ ExprFault
 unary_value Neg a = fitted (neg_ℤ a)
 unary_value Not a = Ok (truth (not (holds a)))
 
--- the value of an operation whose left operand decides it: of `&&` where it does not hold, of `||` where it does
+-- the value of an operation whose left operand decides it: of `&&` if the operand does not hold, of `||` if it does
 abbrev pub decided : BinOp → ℤ → Option ℤ
 decided Add a = None
 decided Sub a = None

@@ -1,4 +1,4 @@
--- Each block inside of a block has fewer statements.
+-- The depth of a block is at most the number of its statements.
 use Rattle.std.specs.Prelude.{◌≤◌, List, [], ◌∷◌, max}
 use Rattle.std.proofs.Common.{arith}
 use denote.Param.Weighed.{most}

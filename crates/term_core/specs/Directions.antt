@@ -1,5 +1,7 @@
 -- The two directions of edges and of dependences: those into a task or a flow, and those out of it.
 -- Source: PaRSEC 2013.
+-- Carried by: the methods of `Direction`.
+-- Tested by: `type_faults.txt`, `edges.txt`.
 use Rattle.std.specs.Prelude.{Bool, true, false}
 use Rattle.term_core.specs.declared.direction.Direction.{Direction}
 use Rattle.term_core.specs.declared.direction.Direction.TheVariants.{In, Out}

@@ -1,12 +1,14 @@
--- What a flow of each kind does. Source: PaRSEC 2013: a CTL flow carries order alone, every other flow a tile; the JDF
--- documentation: READ takes a tile, WRITE changes one, RW does both.
+-- The kinds of flows, and what each does with its tile. Source: PaRSEC 2013: a CTL flow carries order alone, every
+-- other flow a tile; the JDF documentation: READ takes a tile, WRITE changes one, RW does both.
+-- Carried by: the methods of `FlowKind`.
+-- Tested by: `type_faults.txt`, `edges.txt`.
 use Rattle.std.specs.Prelude.{Bool, true, false}
 use Rattle.term_core.specs.declared.direction.Direction.{Direction}
 use Rattle.term_core.specs.declared.direction.Direction.TheVariants.{In, Out}
 use Rattle.term_core.specs.declared.flow.FlowKind.{FlowKind}
 use Rattle.term_core.specs.declared.flow.FlowKind.TheVariants.{Read, Write, Rw, Ctl}
 
--- whether it carries order alone
+-- whether it carries order alone, and no tile
 abbrev pub is_control : FlowKind → Bool
 is_control Read = false
 is_control Write = false
@@ -41,8 +43,8 @@ takes_tile Write = false
 takes_tile Rw = true
 takes_tile Ctl = false
 
--- whether, of the dependences of a flow in this direction, only the first one that holds is active: so it is with the
--- in dependences of a flow that carries a tile
+-- Whether, of the dependences of a flow in this direction, only the first one that holds is active. This is so for the
+-- in dependences of a flow that carries a tile.
 abbrev pub first_only : Direction → FlowKind → Bool
 first_only In kind = is_data kind
 first_only Out kind = false

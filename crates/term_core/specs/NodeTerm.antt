@@ -1,4 +1,6 @@
--- The tree of an expression, without its boxes.
+-- The tree of an expression, without its boxes; flat nodes are among its cases.
+-- Carried by: `Expr::binary`, `eval`.
+-- Tested by: `expressions.txt`.
 use Rattle.term_core.specs.declared.expr.Leaf.{Leaf}
 use Rattle.term_core.specs.declared.expr.Leaf.TheVariants as leaf
 use Rattle.term_core.specs.declared.expr.Node.{Node}

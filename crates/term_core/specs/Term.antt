@@ -13,5 +13,5 @@ pub data Term : Type 0 where
   Elem : ℕ → Term → Term
   Unary : UnOp → Term → Term
   Binary : BinOp → Term → Term → Term
-  -- the second where the first is not 0, else the third
+  -- the second term if the first is not 0, else the third
   Choose : Term → Term → Term → Term

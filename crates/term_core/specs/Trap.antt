@@ -1,4 +1,4 @@
--- A fault of arithmetic as a trap. Source: this project's own choice.
+-- A fault of arithmetic as a trap.
 use Rattle.term_core.specs.declared.fault.ExprFault.{ExprFault}
 use Rattle.term_core.specs.declared.fault.ExprFault.TheVariants as fault
 use Rattle.term_core.specs.declared.trap.Trap.{Trap}

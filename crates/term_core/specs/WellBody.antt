@@ -1,12 +1,12 @@
--- Well made bodies: they name only slots and flows that there are, and set no local of the task. Source: this project's
--- own choice; so are the limits.
+-- Well made bodies: they name only slots and flows that exist, and set no local of the task.
+-- Carried by: the condition of `body_eval::run_body`.
 use Rattle.std.specs.Prelude.{ℕ, Bool, true, ◌&&◌, ◌+◌, ◌≤◌, nat_lt, nat_le, IsTrue}
 use Rattle.ptg_base.specs.Limits.{most_flows, most_locals, most_variables}
 use Rattle.term_core.specs.StatementList.{StatementList, Done, SetThen, PutThen, IfThen, ForThen, TrapThen}
 use Rattle.term_core.specs.Value.{is_closed_with}
 use Rattle.term_core.specs.declared.body.Body.{Body}
 
--- whether a slot is that of a variable: one of this many slots, and none of this many locals, whose slots come first
+-- whether a slot is that of a variable: one of this many slots, but not one of the locals' slots, which come first
 abbrev pub is_variable : ℕ → ℕ → ℕ → Bool
 is_variable locals slots n = nat_le locals n && nat_lt n slots
 

@@ -62,7 +62,7 @@ fn remainder(a: i64, b: i64) -> Result<i64, ExprFault>
     }
 }
 
-// A condition as a number: 1 where it holds, else 0.
+// A condition as a number: 1 if it holds, else 0.
 fn number(condition: bool) -> i64
     ensures { result ≡ truth condition }
 {
@@ -104,7 +104,8 @@ pub fn unary(op: UnOp, a: i64) -> Result<i64, ExprFault>
     }
 }
 
-/// The value of a binary operation, where its left operand decides it: `&&` of 0, `||` of a number that holds.
+/// The value of a binary operation that its left operand decides: 0 for `&&` after 0, 1 for `||` after any other
+/// number. None if both operands are needed.
 #[inline(always)]
 pub fn decide(op: BinOp, a: i64) -> Option<i64>
     ensures { result ≡ decided op a }

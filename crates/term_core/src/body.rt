@@ -11,13 +11,13 @@ use std::marker::Model;
 #[cycle(block)]
 #[derive(Drop)]
 pub enum Stmt {
-    /// `x = e;`: the number of the variable's slot, and its value.
+    /// `x = e;`: the number of the variable's slot, and the value.
     Set(u16, Expr),
     /// `A[e1] = e2;`: the flow's number, the index and the value.
     Put(u8, Expr, Expr),
     /// `if (e) { .. } else { .. }`
     If(Expr, Block, Block),
-    /// `for i = a .. b { .. }`: the number of the slot of `i`, its first value, its last, and the block of a turn.
+    /// `for i = a .. b { .. }`: the number of the slot of `i`, its first and its last value, and the block of a turn.
     For(u16, Expr, Expr, Block),
     /// `trap word;`: the number of the word.
     Trap(u32),

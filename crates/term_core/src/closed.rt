@@ -1,4 +1,4 @@
-//! Which locals an expression names.
+//! Whether an expression names only the first locals.
 
 ghost use Rattle.std.specs.Prelude.{◌≡◌};
 ghost use Rattle.term_core.specs.NodeTerm.{term_of, leaf_term};
@@ -6,7 +6,7 @@ ghost use Rattle.term_core.specs.Value.{is_closed};
 
 use crate::expr::{Expr, Leaf, Node};
 
-// Whether a leaf names no local from this number on.
+// Whether a leaf names no local with this number or a greater one.
 fn leaf_is_closed(leaf: Leaf, locals: u16) -> bool
     ensures { result ≡ is_closed locals (leaf_term leaf) }
 {
@@ -16,7 +16,7 @@ fn leaf_is_closed(leaf: Leaf, locals: u16) -> bool
     }
 }
 
-// Whether a tree of boxed nodes has no element and names no local from this number on.
+// Whether a tree of boxed nodes has no element and names no local with this number or a greater one.
 fn node_is_closed(node: &Node, locals: u16) -> bool
     ensures { result ≡ is_closed locals (term_of node.now) }
 {
@@ -35,7 +35,7 @@ fn node_is_closed(node: &Node, locals: u16) -> bool
     }
 }
 
-/// Whether an expression has no element and each local that it names is below this number. With 0 it names none.
+/// Whether an expression has no element and names only locals with numbers below this one; with 0, no local at all.
 pub fn is_closed(e: &Expr, locals: u16) -> bool
     ensures { result ≡ is_closed locals e.now }
 {

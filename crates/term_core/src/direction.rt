@@ -1,14 +1,14 @@
-//! The two directions of edges.
+//! The two directions of edges and of dependences.
 
 ghost use Rattle.std.specs.Prelude.{◌≡◌};
 ghost use Rattle.term_core.specs.Directions as directions;
 
-/// Which edges of a task or of a flow, or which dependences of a flow.
+/// A direction of the edges of a task or of a flow, or of the dependences of a flow.
 #[derive(Clone, Copy, Debug, PartialEq, Eq)]
 pub enum Direction {
-    /// Those into it.
+    /// Into the task or flow.
     In,
-    /// Those out of it.
+    /// Out of the task or flow.
     Out,
 }
 

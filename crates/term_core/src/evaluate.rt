@@ -1,4 +1,4 @@
-//! The value of an expression: one evaluator, over a way to read elements.
+//! The one evaluator of expressions, for any way to read elements.
 
 ghost use Rattle.std.specs.Prelude.{◌≡◌, ℕ, ℤ, pos, slice_index_or, IfSome, Result, Ok};
 ghost use Rattle.term_core.specs.NodeTerm.{term_of, leaf_term};
@@ -11,7 +11,7 @@ use crate::expr::{Expr, Leaf, Node};
 use crate::fault::ExprFault;
 use crate::operator::BinOp;
 
-/// The local of this number, or 0 where there is none.
+/// The value of the local with this number, or 0 if there is none.
 #[inline(always)]
 pub fn local(env: &[i64], number: u16) -> i64
     ensures { result ≡ slice_index_or env.now number (pos 0) }
@@ -25,13 +25,13 @@ pub trait ReadElement {
     /// Why an expression has no value: a fault of arithmetic, or one of reading.
     type Fault: Drop;
 
-    // What a fault of arithmetic is among these.
+    // A fault of arithmetic as one of these faults.
     ghost fault_of: { ExprFault → Self.Fault };
 
     // The element of a flow at an index.
     ghost element_of: { Self → ℕ → ℤ → Result ℤ Self.Fault };
 
-    /// A fault of arithmetic.
+    /// A fault of arithmetic as one of these faults.
     fn fault(fault: ExprFault) -> Self::Fault
         ensures { result ≡ fault_of fault };
 
@@ -40,7 +40,8 @@ pub trait ReadElement {
         ensures { result ≡ element_of self.now flow index };
 }
 
-/// The value of an expression whose elements are read so, or its first fault in the order of evaluation.
+/// The value of an expression on these locals, with its elements read by `elements`, or its first fault in the order of
+/// evaluation.
 #[inline(always)]
 pub fn eval_with<R: ReadElement>(e: &Expr, env: &[i64], elements: &R) -> Result<i64, R::Fault>
     ensures { result ≡ value_with R.fault_of (R.element_of elements.now) env.now e.now }
@@ -76,7 +77,7 @@ fn flat_value<R: ReadElement>(op: BinOp, a: Leaf, b: Leaf, env: &[i64]) -> Resul
     with_fault::<R>(arith(op, x, leaf_value::<R>(b, env)))
 }
 
-// The value of a node without boxes, so that most values need no call. None for the others.
+// The value of a node without boxes, so that most values need no recursive call. None for other nodes.
 #[inline(always)]
 fn short_value<R: ReadElement>(
     node: &Node,
@@ -161,7 +162,7 @@ fn node_value<R: ReadElement>(node: &Node, env: &[i64], elements: &R) -> Result<
     }
 }
 
-// A result of arithmetic among the faults of reading.
+// A result of arithmetic, with its fault as one of the reader's faults.
 fn with_fault<R: ReadElement>(value: Result<i64, ExprFault>) -> Result<i64, R::Fault>
     ensures { result ≡ map_fault R.fault_of value }
 {
@@ -171,7 +172,7 @@ fn with_fault<R: ReadElement>(value: Result<i64, ExprFault>) -> Result<i64, R::F
     }
 }
 
-// Each element counts as 0: for expressions that have none.
+// Reads each element as 0: for expressions that have none.
 struct NoElements;
 
 impl ReadElement for NoElements {
@@ -190,7 +191,7 @@ impl ReadElement for NoElements {
     }
 }
 
-/// The value of an expression that has no element, or its first fault.
+/// The value of an expression without elements on these locals, or its first fault.
 #[inline(always)]
 pub fn eval(e: &Expr, env: &[i64]) -> Result<i64, ExprFault>
     ensures { result ≡ value e.now env.now }

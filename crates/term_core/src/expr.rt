@@ -27,14 +27,14 @@ pub enum Leaf {
     Local(u16),
 }
 
-/// A node of an expression: an operation and its operands.
+/// A node of an expression: a number, a local, or an operation with its operands.
 #[derive(Drop)]
 pub enum Node {
     /// A number.
     Num(i64),
-    /// The local of this number.
+    /// The local with this number.
     Local(u16),
-    /// An element of the tile of the flow of this number.
+    /// An element of the tile of the flow with this number.
     Elem(u8, Box<Node>),
     /// An element whose index is a leaf.
     ElemAt(u8, Leaf),
@@ -63,7 +63,7 @@ impl Model for Expr {
     ghost view = { λ e. term_of e.node };
 }
 
-// The leaf that a node is.
+// The leaf that a node is, if it is one.
 fn leaf_of(node: &Node) -> Option<Leaf>
     ensures { IfSome result (λ l. term_of node.now ≡ leaf_term l) }
 {
@@ -74,7 +74,7 @@ fn leaf_of(node: &Node) -> Option<Leaf>
     }
 }
 
-// An element, without a box where its index is a leaf.
+// An element, without a box if its index is a leaf.
 fn elem_node(alloc: Global, flow: u8, at: Node) -> Result<Node, OutOfMemory>
     ensures { IfOk result (λ n. term_of n ≡ Elem flow (term_of at)) }
 {
@@ -84,7 +84,7 @@ fn elem_node(alloc: Global, flow: u8, at: Node) -> Result<Node, OutOfMemory>
     }
 }
 
-// A binary operation, without a box for an operand that is a leaf.
+// A binary operation, with no box for an operand that is a leaf.
 fn binary_node(alloc: Global, op: BinOp, a: Node, b: Node) -> Result<Node, OutOfMemory>
     ensures { IfOk result (λ n. term_of n ≡ Binary op (term_of a) (term_of b)) }
 {
@@ -104,7 +104,7 @@ impl Expr {
         Expr { node: Node::Num(z) }
     }
 
-    /// The local of this number.
+    /// The local with this number.
     pub fn local(number: u16) -> Expr
         ensures { result ≡ Local number }
     {
@@ -153,7 +153,7 @@ impl Expr {
         })
     }
 
-    // The root of the tree, taken out.
+    // The root of the tree.
     fn into_node(self) -> Node
         ensures { term_of result ≡ self }
     {

@@ -10,7 +10,7 @@ use crate::direction::Direction;
 pub enum FlowKind {
     /// Takes a tile and passes it on unchanged.
     Read,
-    /// Starts on a new tile or an element's, and changes it.
+    /// Starts with zeros or with a tile of a collection, and changes it.
     Write,
     /// Takes a tile and changes it.
     Rw,
@@ -19,7 +19,7 @@ pub enum FlowKind {
 }
 
 impl FlowKind {
-    /// Whether it carries order alone.
+    /// Whether it carries order alone, and no tile.
     pub fn is_control(self) -> bool
         ensures { result ≡ kinds.is_control self }
     {
@@ -43,7 +43,7 @@ impl FlowKind {
         }
     }
 
-    /// Whether its tile is only written: no task hands it one.
+    /// Whether its tile is only written, so that no task may send it one.
     pub fn is_write(self) -> bool
         ensures { result ≡ kinds.is_write self }
     {
@@ -67,7 +67,7 @@ impl FlowKind {
         }
     }
 
-    /// Whether of its dependences in this direction the first that holds counts alone.
+    /// Whether, of its dependences in this direction, only the first one that holds is active.
     pub fn first_only(self, direction: Direction) -> bool
         ensures { result ≡ kinds.first_only direction self }
     {

@@ -1,4 +1,5 @@
-//! Expressions and their values; the types of ranges, spaces, statements and bodies.
+//! Expressions, integer arithmetic and the one evaluator; the types of ranges, spaces, flows, directions, statements
+//! and traps.
 #![tactic(auto)]
 
 mod arithmetic;

@@ -8,7 +8,7 @@ use arrayvec::ArrayVec;
 use ptg_base::{MOST_PARAMS, Seq};
 use std::marker::Model;
 
-/// The numbers from `lo` to `hi` by `step`, or by 1 where no step is written.
+/// The numbers from `lo` to `hi` by `step`, or by 1 if no step is written.
 pub struct Range {
     pub lo: Expr,
     pub hi: Expr,

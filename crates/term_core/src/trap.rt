@@ -16,7 +16,7 @@ pub enum Trap {
     Index,
     /// An element of a flow that has no tile.
     Absent,
-    /// More statements and turns than a task may run.
+    /// More statements and turns of loops than a task may run.
     Budget,
     /// A `trap` statement, with the number of its word.
     Word(u32),

@@ -1,5 +1,5 @@
--- The first byte that ends a comment or a raw block is the end of the first closing mark, and the byte that ends a
--- quoted text is the quote after its items.
+-- The byte that ends a comment or a raw block ends its first closing mark. The byte that ends a quoted text is the
+-- quote after its items.
 use Rattle.std.proofs.Common.{◌≡◌, ℕ, Bool, true, false, eqb, List, [], ◌∷◌, ◌++◌, refl, sym, ◌∙◌, ap, subst, inl, inr}
 use Rattle.std.specs.Prelude.{◌&&◌}
 use Rattle.std.proofs.lemmas.Bool.{cases_Bool, both_ways, false≢true, and_parts, and_from, eqb-true, eq-eqb, cond-true, cond-false}
@@ -56,7 +56,7 @@ ends_later : (a b x y : ℕ) (ys : List ℕ) → (eqb x a && eqb y b) ≡ false 
 ends_later a b x y ys apart later =
     record { word = x ∷ later.word; whole = ap (λ z. x ∷ z) later.whole; free = free_cons a b x y ys later.word apart later.whole later.free }
 
--- x is the byte before
+-- what is closed after a byte x: with x it is a word without the mark, and then the mark
 closed_after : (p : LexicalUnit) (a b : ℕ) → IsClosedBy p a b → (x : ℕ) (v : List ℕ) → is_closed p (eqb x a) v ≡ true → IsFreeThenMark a b (x ∷ v)
 closed_after p a b m x [] e = absurd (false≢true e)
 closed_after p a b m x (y ∷ ys) e =
@@ -80,7 +80,7 @@ without_first a b v (d ∷ w) apart whole free =
     let tails : v ≡ w ++ a ∷ b ∷ [] = cc in
     record { word = w; whole = tails; free = free_tail a b d w free }
 
--- What is closed is a word without the closing mark, and then the mark.
+-- A closed list is a word without the closing mark, and then the mark.
 pub closed_is_free : (p : LexicalUnit) (a b : ℕ) → IsClosedBy p a b → (v : List ℕ) → is_closed p false v ≡ true → IsFreeThenMark a b v
 closed_is_free p a b m v e =
     let found = closed_after p a b m b v (subst (λ h. is_closed p h v ≡ true) (sym m.apart) e) in
@@ -90,7 +90,7 @@ not_nil : (a b : ℕ) (w : List ℕ) → [] ≡ w ++ a ∷ b ∷ [] → ⊥
 not_nil a b [] e = cc
 not_nil a b (d ∷ w) e = cc
 
--- the mark does not end before
+-- the mark does not end one byte earlier
 not_earlier : (a b x y : ℕ) (ys w : List ℕ) → eqb b a ≡ false → x ≡ a → y ≡ b → y ∷ ys ≡ w ++ a ∷ b ∷ [] → IsFreeOf (a ∷ b ∷ []) (x ∷ w) → ⊥
 not_earlier a b x y ys [] apart first second whole free =
     let same : b ≡ a = cc in
@@ -155,7 +155,7 @@ after_plain : (b : ℕ) (cs : List ℕ) → eqb b 34 ≡ false → eqb b 92 ≡ 
 after_plain b cs no_quote no_escape later =
     record { items = b ∷ later.items; whole = ap (λ z. b ∷ z) later.whole; each = plain b later.items no_quote no_escape later.each }
 
--- What is closed is items, and then a quote.
+-- A closed quoted text is items, and then a quote.
 pub closed_is_items : (v : List ℕ) → quoted_closed false v ≡ true → IsItemsThenQuote v
 closed_is_items [] e = absurd (false≢true e)
 closed_is_items (b ∷ []) e =

@@ -77,7 +77,7 @@ all_get p [] d i e h = e
 all_get p (k ∷ ks) d zero e h = (and_parts (p k) (all_are p ks) h).0
 all_get p (k ∷ ks) d (suc i) e h = all_get p ks d i e (and_parts (p k) (all_are p ks) h).1
 
--- the last element of a list that begins with k
+-- the last terminal of a list that begins with k
 abbrev last : Terminal → List Terminal → Terminal
 last k [] = k
 last k (x ∷ xs) = last x xs

@@ -1,4 +1,4 @@
--- The same unit begins with each longer word at a position, so the longest word is taken.
+-- Each longer word at a position begins the same unit, so the longest word is taken.
 use Rattle.std.proofs.Common.{◌≡◌, ℕ, ◌≤◌, ◌⊎◌, Bool, true, false, cond, not, eqb, List, [], ◌∷◌, ◌++◌, length, drop, Some, refl, sym, ◌∙◌, ap, subst, inl, inr, arith}
 use Rattle.std.specs.Prelude.{codes}
 use Rattle.std.specs.List.{starts_with}
@@ -66,7 +66,7 @@ unit_of a b x option =
     (cond (starts_with eqb (a ∷ b ∷ x) (codes "%{")) (TokenOf Raw)
     (cond option (TokenOf OptionLine) (plain_unit a (b ∷ x)))))
 
--- Either that makes no difference, or no comment or raw block begins there.
+-- Either the test of an option line makes no difference, or no comment or raw block begins there.
 option_decides : (a b : ℕ) (x : List ℕ) (s t : Bool) → (unit_of a b x s ≡ unit_of a b x t) ⊎ ((unit_of a b x true ≡ TokenOf OptionLine) × (unit_of a b x false ≡ plain_unit a (b ∷ x)))
 option_decides a b x s t =
     decided (starts_with eqb (a ∷ b ∷ x) (codes "//")) (starts_with eqb (a ∷ b ∷ x) (codes "/*")) (starts_with eqb (a ∷ b ∷ x) (codes "%{")) (plain_unit a (b ∷ x))
@@ -105,7 +105,7 @@ same_begin a b x after other is spelled follows =
           ]
     ]
 
--- No word of the same unit is longer.
+-- Each word of the same unit there is at most as long.
 no_longer : (p : LexicalUnit) (word left longer after : List ℕ) → IsUnit p word left → word ++ left ≡ longer ++ after → is_spelling p longer ≡ true → length longer ≤ length word
 no_longer p word left longer after unit same spelled =
     elim (cases_lt (length word) (length longer)) [

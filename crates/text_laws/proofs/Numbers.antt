@@ -1,4 +1,4 @@
--- The numbers of terminals and codes tell them apart.
+-- Terminals and codes are told apart by their numbers.
 use Rattle.std.proofs.Common.{◌≡◌, refl}
 use Rattle.jdf_lex.specs.declared.code.GrammarCode.{GrammarCode}
 use Rattle.jdf_lex.specs.declared.code.GrammarCode.TheVariants as grammar

@@ -1,4 +1,4 @@
--- Each text has tokens or a first token fault: each position has a next unit, or is the end or a fault.
+-- Each text has tokens or a first token fault: at each position a unit follows, or the text ends, or a fault is there.
 use Rattle.std.proofs.Common.{◌≡◌, ℕ, zero, suc, ◌+◌, ◌<◌, ◌≤◌, ◌⊎◌, true, List, [], ◌++◌, ◌∷◌, length, take, drop, Some, None, refl, inl, inr, arith}
 use Rattle.std.proofs.lemmas.Bool.{cases_lt}
 use Rattle.jdf_lex.specs.declared.cursor.Cursor.{Cursor}
@@ -16,7 +16,7 @@ use Rattle.jdf_lex.proofs.Uniqueness.{one_fault, no_fault}
 cursor_at : (text : List ℕ) (j : ℕ) → j ≤ length text → IsCursorIn text (record { index = j; spot = spot_after (take j text) })
 cursor_at text j within = record { within = within; spot = refl }
 
--- The result is known from every later position.
+-- Whether the text has tokens or a fault is known from every later position.
 abbrev Later : List ℕ → ℕ → Type 0
 Later text index = (tokens : List Token) (next : Cursor) → IsScanned text tokens next → index < next.index → HasTokens text ⊎ HasFault text
 

@@ -35,7 +35,7 @@ form_is_spelling _ _ (other b w is continued) = continued
 
 -- ---- what the first bytes say
 
--- the unit that is decided by tests, in their order
+-- the unit that the tests choose: that of the first test that holds
 abbrev decided_unit : (line block raw_block option quote blank_byte letter digit mark_byte : Bool) → LexicalUnit
 decided_unit line block raw_block option quote blank_byte letter digit mark_byte =
     cond line LineComment
@@ -87,7 +87,7 @@ starts_split (x ∷ xs) (f ∷ fs) e =
     let same : f ≡ x = eqb-true f x parts.0 in
     (later.0, (λ i. sym same i ∷ later.1 i))
 
--- The longest word of a unit has the unit's opening.
+-- The longest word of a unit begins with the unit's opening.
 opening_in_word : (u : LexicalUnit) (front word left rest : List ℕ) → IsUnit u word left → is_spelling u front ≡ true → word ++ left ≡ front ++ rest → (more : List ℕ) × (word ≡ front ++ more) × (rest ≡ more ++ left)
 opening_in_word u front word left rest unit spelled same =
     elim (cases_lt (length word) (length front)) [
@@ -187,7 +187,7 @@ unit_is_written u word left unit =
       longest = λ more after e form. unit.longest more after e (form_is_spelling u (word ++ more) form);
     }
 
--- Of a written unit and the unit at the same position, the words are the same.
+-- A written unit and the unit at the same position have the same word.
 same_word : (u : LexicalUnit) (word left v y : List ℕ) → IsWrittenUnit u word left → IsUnit u v y → word ++ left ≡ v ++ y → word ≡ v
 same_word u word left v y written unit same =
     let spelled : is_spelling u word ≡ true = form_is_spelling u word written.form in

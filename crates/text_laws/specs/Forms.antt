@@ -1,5 +1,6 @@
 -- The written form of each lexical unit, and the law that the lexical units of a text are those of these forms.
 -- Source: the JDF documentation; where it is silent, this project's own choice.
+-- Carried by: law `units_as_written`.
 use Rattle.std.specs.Prelude.{◌≡◌, ℕ, ◌||◌, ◌==◌, Bool, List, [], ◌∷◌, ◌++◌, codes, Some, IsTrue, IsFalse}
 use Rattle.std.specs.List.{list_all}
 use Rattle.jdf_lex.specs.declared.lexical_unit.LexicalUnit.{LexicalUnit}
@@ -49,7 +50,7 @@ pub data HasForm : LexicalUnit → List ℕ → Type 0 where
   other : (b : ℕ) (w : List ℕ) → IsFalse (begins_other_unit b) → IsTrue (list_all continues_character w)
       → HasForm (TokenOf Other) (b ∷ w)
 
--- The word, followed by `left`, is the longest word there with the form of the unit that begins there.
+-- The word, followed by `left`, has the form of the unit that begins there, and no longer word has it.
 pub record IsWrittenUnit (unit : LexicalUnit) (word left : List ℕ) : Type 0 where
   pub begins : unit_at (word ++ left) ≡ Some unit
   pub form : HasForm unit word

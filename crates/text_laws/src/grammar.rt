@@ -1,4 +1,4 @@
-//! The theorem on predictive grammars, and that of JDF as one.
+//! The theorem on predictive grammars, and the grammar of JDF as one of them.
 
 ghost use Rattle.grammar_core.specs.ExactReading.{IsPredictive};
 ghost use Rattle.grammar_core.specs.Predictive.{Claims};
@@ -9,9 +9,9 @@ ghost use Rattle.jdf_tree.specs.declared.tree.Jdf.{Jdf};
 ghost use Rattle.jdf_tree.proofs.Predictive.{file_predictive};
 ghost use Rattle.text_laws.specs.ExactReading.{ReadsExactly};
 
-/// A grammar that one token of lookahead reads: its nonterminals with their trees and productions, the production that
-/// it starts from, what is claimed of each nonterminal, and the proof that the test for predictive grammars accepts all
-/// this.
+/// A grammar that one token of lookahead reads: its nonterminals with their trees and productions, its start
+/// production, and what is claimed of each nonterminal. `predictive` proves that all this passes the test for
+/// predictive grammars.
 pub trait PredictiveGrammar {
     ghost Nonterminal: { Type 0 };
 
@@ -28,13 +28,13 @@ pub trait PredictiveGrammar {
     ghost predictive: { IsPredictive productions claims start };
 }
 
-/// A law: a predictive grammar is read exactly with one token of lookahead. Whatever the tokens are, what is read is
-/// the one tree that the grammar derives for all of them, or else their one first fault, and one of both there is.
+/// A law: one token of lookahead reads a predictive grammar exactly. Whatever the tokens are, reading returns the one
+/// tree that the grammar derives from all of them, or else their first fault. One of the two always exists, never both.
 pub fn is_read_exactly<G: PredictiveGrammar>()
     ensures { ReadsExactly G.productions G.start }
 {}
 
-/// The grammar of a JDF text, which is predictive: so the law `is_read_exactly` holds of it.
+/// The grammar of a JDF text. It is predictive, so the law `is_read_exactly` holds for it.
 pub struct JdfGrammar;
 
 impl PredictiveGrammar for JdfGrammar {

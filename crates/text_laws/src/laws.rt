@@ -1,4 +1,4 @@
-//! What follows from the definitions of terminals, of lexical units and of the trees of texts.
+//! Laws of terminals, lexical units, tokens and the trees of texts.
 
 ghost use Rattle.std.specs.Prelude.{◌≡◌};
 ghost use Rattle.jdf_lex.specs.declared.code.GrammarCode.{GrammarCode};
@@ -10,8 +10,7 @@ ghost use Rattle.jdf_read.specs.Laws as tree;
 ghost use Rattle.jdf_read.specs.Laws.{TreeOrFault};
 ghost use Rattle.text_laws.specs.Forms.{UnitsAsWritten};
 
-/// A law: the terminal with the number of a terminal is that terminal, and the code with the number of a code is that
-/// code.
+/// A law: each terminal, and each code of the grammar, is found by its number.
 pub fn numbers_are_exact()
     ensures terminals { (k : Terminal) → terminal_at (number_of k) ≡ k }
     ensures codes { (c : GrammarCode) → code_at (code_number c) ≡ c }

@@ -1,5 +1,5 @@
-//! Laws of texts that no program cites: of predictive grammars, of the numbers of terminals, of lexical units and
-//! tokens, and of trees.
+//! Laws of texts that no program cites. A predictive grammar is read exactly; lexical units are the longest in their
+//! written forms; a text has tokens or a first fault, and a tree or a first fault.
 #![tactic(auto)]
 
 mod grammar;

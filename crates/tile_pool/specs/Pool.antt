@@ -1,4 +1,6 @@
--- What contracts see of a pool of tiles. Source: this project's own choice.
+-- A pool of tiles as contracts see it: tiles to take, and room to give tiles back.
+-- Carried by: `TilePool::reserve`, `TilePool::make_room`, `TilePool::take`, `TilePool::give`, `TilePool::copy_of`.
+-- Tested by: `ptg_measure`.
 use Rattle.std.specs.Prelude.{◌≡◌, ℕ, ◌+◌, ℤ, List, length}
 use Rattle.std.specs.List.{All}
 

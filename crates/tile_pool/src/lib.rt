@@ -1,4 +1,4 @@
-//! Reserved tiles, which are taken and given back without memory.
+//! Reserved tiles, taken and given back without memory.
 #![tactic(auto)]
 
 mod pool;

@@ -76,7 +76,7 @@ impl TilePool {
         Ok(())
     }
 
-    /// Takes a tile, whose numbers are any.
+    /// Takes a tile. Its numbers may be any.
     pub fn take(&mut self) -> Tile
         requires { 0 < self.old.spare }
         ensures tile { length result ≡ self.old.elems }
@@ -103,7 +103,7 @@ impl TilePool {
         self.room > 0 && tile.len() == self.elems
     }
 
-    /// A copy of a tile: in a tile that is taken if there is one, and otherwise in new memory. An `Err` changes
+    /// A copy of a tile: made in one taken from the pool if there is one, and otherwise in new memory. An `Err` changes
     /// nothing.
     pub fn copy_of(&mut self, from: &Tile) -> Result<Tile, OutOfMemory>
         requires { length from.now ≡ self.old.elems }
@@ -135,7 +135,7 @@ impl TilePool {
     }
 }
 
-// Makes tiles until there are `n`. Where memory ends, those made go.
+// Makes tiles until there are `n`. If memory runs out, it drops those that it made.
 fn fill(tiles: &mut Vec<Tile>, alloc: Global, elems: u32, n: usize) -> Result<(), OutOfMemory>
     requires fits { n ≤ vec_capacity tiles.old }
     requires fewer { vec_len tiles.old ≤ n }

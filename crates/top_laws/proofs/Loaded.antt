@@ -1,4 +1,4 @@
--- Where reads gave pieces of known files, each load is the file with its name.
+-- If reads returned pieces of known files, each load is the file with its name, or both have more than 16 MiB.
 use Rattle.std.proofs.Common.{◌≡◌, ℕ, ◌+◌, ◌<◌, ◌≤◌, List, [], ◌∷◌, ◌++◌, length, take, drop, sym, ap, subst, ◌∙◌, refl, arith, append_assoc, append-nil, length-append, inl, inr}
 use Rattle.std.specs.Prelude.{Some, ◌⊎◌}
 use Rattle.std.specs.List.{AllByRecursion, concat}
@@ -34,7 +34,7 @@ all_back P (x ∷ xs) ys all = all_back P xs ys all.1
 
 -- ---- the pieces of one file
 
--- pieces in turn of a file are its bytes from where they began
+-- consecutive pieces of a file are its bytes from the offset where they began
 turn_is_front : (files : NamedFiles) (name bytes : List ℕ) → file_of files name ≡ Some bytes → (from : ℕ) (pieces : List (List ℕ)) → AllByRecursion (IsPieceOf files) (reads_in_turn name from pieces)
     → concat pieces ≡ take (length (concat pieces)) (drop from bytes)
 turn_is_front files name bytes there from [] all = refl

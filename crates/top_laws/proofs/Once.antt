@@ -1,4 +1,4 @@
--- Arguments and operands denote one verdict at most.
+-- Arguments and operands denote at most one verdict.
 use Rattle.std.proofs.Common.{◌≡◌, ℕ, List, ◌++◌, Some, sym, ◌∙◌, ap, subst, ◌⊎◌, inl, inr}
 use Rattle.std.specs.Prelude.{Option, None}
 use Rattle.jdf_tree.specs.declared.tree.Jdf.{Jdf}
@@ -51,7 +51,7 @@ demo_once n v w (a, h, e) (b, k, d) =
     once_on (IsSummary n) b v w (λ P given is p q. p ∙ sym q)
     (subst (λ (c : Denotation). OnConsistent (IsSummary n) c v) (job_texts_once jdf_text (data_text n) a b h k) e) d
 
--- a consistent job has one certificate
+-- a consistent job has at most one certified verdict
 certified_once : (P : Plan) (given : Data) (v w : Denotation) → IsConsistent P → IsCertified P given v → IsCertified P given w → v ≡ w
 certified_once P given v w con (c, h, e) (d, k, q) =
     let ws = class_weights P given in
@@ -65,7 +65,7 @@ certify_once operands jdf data_name v w (a, h, e) (b, k, d) =
     (λ P given is. certified_once P given v w (contents_consistent jdf data_name a_file b_file P given (subst (ContentsDenote jdf data_name a_file b_file) is k)))
     (subst (λ (c : Denotation). OnConsistent IsCertified c v) (contents_once jdf data_name a_file b_file a b h k) e) d
 
--- a text has one first fault, or is a trace
+-- a text has at most one first fault, or is a trace
 replay_of_once : (P : Plan) (given : Data) (text : List ℕ) (v w : Denotation) → IsConsistent P → IsReplayOf text P given v → IsReplayOf text P given w → v ≡ w
 replay_of_once P given text v w con (inl (f, h, e)) (inl (g, k, d)) = e ∙ (ap verdicts.TraceRefused (one_fault P given text f g h k) ∙ sym d)
 replay_of_once P given text v w con (inl (f, h, e)) (inr (trace, d)) = absurd (trace_or_fault P given con text trace f h)
@@ -95,7 +95,7 @@ traces_of_one_job : (operands : Operands) (jdf data_name : List ℕ) (workers sh
 traces_of_one_job operands jdf data_name workers shards v w (a, h, e) (b, k, d) =
     traces_on operands jdf data_name b v w k (subst (λ (c : Denotation). OnConsistent IsTraced c v) (contents_once jdf data_name (operands 0 jdf) (operands 1 data_name) a b h k) e) d
 
--- a command and the operands denote one verdict at most, where it is no trace
+-- a command other than `trace` denotes at most one verdict with the operands
 command_once : (operands : Operands) (command : Order) (v w : Denotation) → IsNoTrace command → CommandDenotes operands command v → CommandDenotes operands command w → v ≡ w
 command_once operands (Trace jdf data_name workers shards) v w free h k = absurd free
 command_once operands (Run jdf data_name workers shards preload) v w free (a, h, e) (b, k, d) =
@@ -119,7 +119,7 @@ one_meaning words operands v w free (inr (command, formed, h)) (inl k) = absurd 
 one_meaning words operands v w free (inr (a, formed, h)) (inr (b, other, k)) =
     command_once operands b v w (free b other) (subst (λ (r : Order). CommandDenotes operands r v) (one_command words a b formed other) h) k
 
--- and two of a trace are of one job
+-- and two verdicts of `trace` are of one job
 one_or_traces : (operands : Operands) (command : Order) (v w : Denotation) → CommandDenotes operands command v → CommandDenotes operands command w → (v ≡ w) ⊎ AreTracesOfOneJob operands v w
 one_or_traces operands (Trace jdf data_name workers shards) v w h k = traces_of_one_job operands jdf data_name workers shards v w h k
 one_or_traces operands (Run jdf data_name workers shards preload) v w h k = inl (command_once operands (Run jdf data_name workers shards preload) v w tt h k)

@@ -22,7 +22,7 @@ read_at name from piece = record { name = name; from = from; piece = piece }
 abbrev reads_of : List ℕ → ℕ → List (List ℕ) → List ℕ → List Read → List Read
 reads_of name from pieces last rest = reads_in_turn name from pieces ++ read_at name (from + length (concat pieces)) last ∷ rest
 
--- where two lists of reads are the same, so are the parts of their first reads, and what follows
+-- if two lists of reads are the same, so are the parts of their first reads, and what follows
 parts_of : (a b : List ℕ) (i j : ℕ) (p q : List ℕ) (r s : List Read) → read_at a i p ∷ r ≡ read_at b j q ∷ s → (a ≡ b) × (p ≡ q) × (r ≡ s)
 parts_of a b i j p q r s e =
     let heads : read_at a i p ≡ read_at b j q = cc in

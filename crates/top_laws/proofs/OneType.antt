@@ -1,4 +1,4 @@
--- The bytes of a preload where all tiles are of one type.
+-- The bytes of a preload if all tiles are of one type.
 use Rattle.std.proofs.Common.{zero-add, ◌≡◌, ℕ, ◌+◌, ◌*◌, [], ◌∷◌, length, ap, ◌∙◌, sum, arith}
 use Rattle.plan_core.specs.declared.plan.Plan.{Plan}
 use Rattle.dep_iter.specs.Consistent.{all_data, all_writes}

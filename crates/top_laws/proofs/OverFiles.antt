@@ -1,4 +1,4 @@
--- The clauses of the program where the contents of the files are known.
+-- The program's clauses over files whose contents are known.
 use Rattle.std.proofs.Common.{◌≡◌, ℕ, List, [], ◌∷◌, Some, sym, ◌∙◌, ap, subst, arith, inl, inr}
 use Rattle.std.specs.Prelude.{Option, None, Bool, true, false, if◌then◌else◌}
 use Rattle.std.specs.List.{AllByRecursion}
@@ -38,7 +38,7 @@ use Rattle.top_laws.proofs.Loaded.{loads_are_files, loads_before}
 use Rattle.top_laws.proofs.Texts.{Agree, WasRead, contents_known, replayed_known, shows_known}
 
 module _ (files : NamedFiles) where
-  -- ---- each operand holds the file of its name, where it holds a load
+  -- ---- each operand that holds a load holds the file of its name
 
   agrees_0 : (loads : List Load) (a : List ℕ) (rest : List (List ℕ)) → AreOf loads (a ∷ rest) → AllByRecursion (IsFileOf files) loads → Agree (text_at loads 0) (file_of files a)
   agrees_0 [] a rest names all = tt
@@ -52,10 +52,10 @@ module _ (files : NamedFiles) where
   agrees_2 [] a b c rest names all = tt
   agrees_2 (load ∷ loads) a b c rest names all = agrees_1 loads b c rest names.1 all.1
 
-  -- ---- what the loads denote, the files denote
+  -- ---- the files denote what the loads denote
 
   module _ (Verb : Plan → Data → Denotation → Type 0) where
-    -- a verdict of `check` that a verb goes on from is no read fault, if that of the verb is none
+    -- if the verdict of a verb is no read fault, neither is that of `check` before it
     checked_was_read : (checked v : Denotation) → OnConsistent Verb checked v → WasRead v → WasRead checked
     checked_was_read checked v h read name e = read name (subst (λ (c : Denotation). OnConsistent Verb c v) e h)
 
@@ -184,7 +184,7 @@ module _ (name : List ℕ) where
   same_name other e = cc
 
   module _ (contents : Option NamedFiles) where
-    -- a load is the file with its name, where the contents are known
+    -- if the contents are known, each load is the file with its name
     abbrev AreKnown : List Load → Type 0
     AreKnown loads = (files : NamedFiles) → contents ≡ Some files → AllByRecursion (IsFileOf files) loads
 

@@ -1,4 +1,4 @@
--- `replay` takes what `trace` prints: it is the text of a whole order, whose rows are spelled as those of a trace.
+-- `replay` accepts what `trace` prints: the text of a whole order, whose rows are spelled as those of a trace.
 use Rattle.std.proofs.Common.{◌≡◌, ◌↔◌, ◌≤◌, ℕ, Bool, true, false, List, [], ◌∷◌, map, length, Option, Some, None, refl, ap, sym, ◌∙◌, subst, inl, inr}
 use Rattle.std.specs.Prelude.{IsTrue}
 use Rattle.std.specs.List.{AllByRecursion, list_all}
@@ -41,7 +41,7 @@ use Rattle.top_laws.specs.Replays.{HasTrace, TracesReplay}
 
 -- ---- what two files denote
 
--- it is no run of a job
+-- two files never denote a run of a job
 no_run : (jdf data_name : List ℕ) (a b : Option (List ℕ)) (P : Plan) (f : Finding) → ContentsDenote jdf data_name a b (verdicts.Ran P f) → ⊥
 no_run jdf data_name None b P f h = cc
 no_run jdf data_name (Some text) None P f (inl h) = let e = h.2 in cc
@@ -61,7 +61,7 @@ texts_of jdf data_name (Some text) (Some data_text) P given h =
     same_job : (v w : JobVerdict) → verdicts.Job v ≡ verdicts.Job w → v ≡ w
     same_job v w e = cc
 
--- a verdict that is the text of a trace comes of a consistent job
+-- a verdict that is the text of a trace comes from a consistent job
 traced_on : (jdf data_name : List ℕ) (a b : Option (List ℕ)) (P : Plan) (text : List ℕ) (checked : Denotation) → ContentsDenote jdf data_name a b checked
     → OnConsistent IsTraced checked (verdicts.Ran P (found.Trace text))
     → (Q : Plan) × (given : Data) × (checked ≡ verdicts.Job (jobs.Consistent Q given)) × IsTraced Q given (verdicts.Ran P (found.Trace text))
@@ -134,7 +134,7 @@ module _ (jdf data_name trace text : List ℕ) (others more : ℕ) (operands lat
     run_is_replay : (v : Denotation) → IsRun v → IsReplayed trace (later 2 trace) Q given v
     run_is_replay v e = subst (λ c. IsReplayed trace c Q given v) (sym beside.has_text) (inr (is, e))
 
-    -- the job that a command goes on from is this one
+    -- the consistent job after which a command continues is this one
     this_job : (checked : Denotation) → FilesDenote operands jdf data_name checked → checked ≡ verdicts.Job (jobs.Consistent Q given)
     this_job checked h = contents_once jdf data_name (operands 0 jdf) (operands 1 data_name) checked (verdicts.Job (jobs.Consistent Q given)) h found_job
 
@@ -148,7 +148,7 @@ module _ (jdf data_name trace text : List ℕ) (others more : ℕ) (operands lat
         let on = subst (λ c. OnConsistent (IsAnswer settings) c v) (this_job checked h) k in
         (verdicts.Job (jobs.Consistent Q given), files_same (verdicts.Job (jobs.Consistent Q given)) found_job, run_is_replay v on)
 
--- what arguments denote that form this command
+-- if the arguments form this command, they denote what the command denotes
 command_of : (words : List (List ℕ)) (command : Order) (operands : Operands) (v : Denotation) → Orders words command → Denotes words operands v → CommandDenotes operands command v
 command_of words command operands v formed (inl h) = absurd (h.0 command formed)
 command_of words command operands v formed (inr (other, orders, h)) = subst (λ (c : Order). CommandDenotes operands c v) (one_command words other command orders formed) h

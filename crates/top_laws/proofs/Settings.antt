@@ -1,4 +1,4 @@
--- What the numbers of workers and of shards change, and the seed of ranks.
+-- What the numbers of workers and of shards, and the seed of `ranks`, change.
 use Rattle.std.proofs.Common.{◌≡◌, ℕ, List, refl, ◌∙◌, ap, subst, inl, inr}
 use Rattle.std.specs.Prelude.{Bool, false, if◌then◌else◌}
 use Rattle.plan_core.specs.declared.plan.Plan.{Plan}

@@ -1,4 +1,4 @@
--- Two texts that are the same, or both too long, denote the same.
+-- Two texts denote the same if they are the same or both too long.
 use Rattle.std.proofs.Common.{◌≡◌, ℕ, ◌<◌, List, length, Some, sym, subst, arith, inl, inr}
 use Rattle.std.specs.Prelude.{Option, None}
 use Rattle.coll_data.specs.Data.{Data}
@@ -23,7 +23,7 @@ use Rattle.top_laws.specs.Known.{IsSameOrLong}
 abbrev pub WasRead : Denotation → Type 0
 WasRead v = (name : List ℕ) → v ≡ verdicts.Unread name → ⊥
 
--- both contents are there, and their texts are the same or too long, where the first is there
+-- if the first content exists, so does the second, and their texts are the same or both too long
 abbrev pub Agree : Option (List ℕ) → Option (List ℕ) → Type 0
 Agree None content = Unit {0}
 Agree (Some text) content = (bytes : List ℕ) × (content ≡ Some bytes) × IsSameOrLong text bytes
@@ -91,7 +91,7 @@ module _ (text bytes : List ℕ) where
 
 -- ---- contents
 
--- a fault of the JDF's text is denoted whatever the data file is, and whether it is there or not
+-- a fault of the JDF's text is denoted whatever the data file holds, and also if it is missing
 refused_whatever : (jdf data_name text : List ℕ) (other : Option (List ℕ)) (v : Denotation) → RefusesText text v → ContentsDenote jdf data_name (Some text) other v
 refused_whatever jdf data_name text None v h = inl h
 refused_whatever jdf data_name text (Some data_text) v h = (h.0, inl h.1, h.2)

@@ -1,5 +1,5 @@
--- What the clauses of the program say where the contents of the files are known: what the loads denote, the files denote.
--- Source: this project's own choice.
+-- What the clauses of the program say if the contents of the files are known: the files denote what the loads denote.
+-- Carried by: law `over_known_files`.
 use Rattle.std.specs.Prelude.{◌≡◌, ◌⊎◌, ◌<◌, ℕ, List, length, Option, Some}
 use Rattle.std.specs.List.{AllByRecursion}
 use Rattle.ptg_base.specs.Limits.{most_bytes}
@@ -30,24 +30,24 @@ use Rattle.ptg_top.specs.Receipts.{HasConsistentJob}
 abbrev pub IsSameOrLong : List ℕ → List ℕ → Type 0
 IsSameOrLong text bytes = (text ≡ bytes) ⊎ ((most_bytes < length text) × (most_bytes < length bytes))
 
--- the load is the file with its name, which is there, or both have more than 16 MiB
+-- a file with the load's name exists, and the load is that file, or both have more than 16 MiB
 abbrev pub IsFileOf : NamedFiles → Load → Type 0
 IsFileOf files load = (bytes : List ℕ) × (file_of files load.name ≡ Some bytes) × IsSameOrLong load.text bytes
 
--- where reads gave pieces of known files, each load is the file with its name, or both have more than 16 MiB
+-- if reads returned pieces of known files, each load is the file with its name, or both have more than 16 MiB
 abbrev pub LoadsAreFiles : Type 0
 LoadsAreFiles =
     (files : NamedFiles) (old new : List Read) (loads : List Load)
     → AddsPieces (Some files) old new → Gave old new loads → AllByRecursion (IsFileOf files) loads
 
--- `exact` over known files: exactly a text and a status that the arguments and the files denote
+-- `exact` over known files: what is printed is exactly a text that the arguments and the files denote, with its status
 abbrev pub ExactOverFiles : Type 0
 ExactOverFiles =
     (words : List (List ℕ)) (files : NamedFiles) (old new : List Read) (before after : List ℕ) (status : Status)
     → AddsPieces (Some files) old new → IsExact status → PrintsLoaded words old new before after status
     → Prints words (in_files files) before after status
 
--- `complete` over known files: the same where no read and no write failed, unless memory runs out
+-- `complete` over known files: the same if no read and no write failed, unless memory ran out
 abbrev pub CompleteOverFiles : Type 0
 CompleteOverFiles =
     (words : List (List ℕ)) (files : NamedFiles) (old new : List Read) (before after : List ℕ) (status : Status)
@@ -55,17 +55,18 @@ CompleteOverFiles =
     → (IsExact status × PrintsLoaded words old new before after status) ⊎ (status ≡ OutOfMemory)
     → Prints words (in_files files) before after status ⊎ (status ≡ OutOfMemory)
 
--- the file of this name is the text of this tree
+-- the file of this name holds a text of this tree
 abbrev pub TreeAt : NamedFiles → List ℕ → Jdf → Type 0
 TreeAt files name J = (text : List ℕ) × (file_of files name ≡ Some text) × IsJdf text J
 
--- this is the JDF file, or it is the data file and the JDF is the text of a tree, where the contents are known
+-- This is the name of the JDF file or of the data file. If it is the data file and the contents are known, the JDF file
+-- holds the text of a tree.
 abbrev pub IsUnreadOf : Option NamedFiles → List ℕ → List ℕ → List ℕ → Type 0
 IsUnreadOf contents jdf data_name name =
     (name ≡ jdf)
     ⊎ ((name ≡ data_name) × ((files : NamedFiles) → contents ≡ Some files → (J : Jdf) × TreeAt files jdf J))
 
--- this is the trace file, and the other two are those of a consistent job, where the contents are known
+-- This is the name of the trace file. If the contents are known, the other two files are those of a consistent job.
 abbrev pub IsUnreadTrace : Option NamedFiles → List ℕ → List ℕ → List ℕ → List ℕ → Type 0
 IsUnreadTrace contents jdf data_name trace name =
     (name ≡ trace)
@@ -85,8 +86,9 @@ MayBeUnreadFor contents (Replay jdf data_name trace) name =
 MayBeUnreadFor contents (Certify jdf data_name) name = IsUnreadOf contents jdf data_name name
 MayBeUnreadFor contents (Ranks jdf data_name ranks seed) name = IsUnreadOf contents jdf data_name name
 
--- the names that `unread` may have: the JDF file's; the data file's if the JDF is the text of a tree, or the trace
--- file's if the other two are those of a consistent job, where the contents are known
+-- The names that `unread` may have: that of the JDF file, of the data file or of the trace file. If the contents are
+-- known, the data file comes only if the JDF is the text of a tree. The trace file then comes only if the other two
+-- files are those of a consistent job.
 abbrev pub MayBeUnread : List (List ℕ) → Option NamedFiles → List ℕ → Type 0
 MayBeUnread words contents name = (command : Order) × Orders words command × MayBeUnreadFor contents command name
 
@@ -98,8 +100,8 @@ UnreadOverFiles =
     → AddsPieces contents old new → IsUnread words old new failed failed_since name
     → Rose (failed name) (failed_since name) × MayBeUnread words contents name
 
--- a verdict that is due where a write failed: usage for arguments that form no command; the name of a file that could
--- not be read; or what the files denote, where the contents are known
+-- A verdict that was due when a write failed. It is usage for arguments that form no command, the name of a file that
+-- could not be read, or a verdict on texts. If the contents are known, the last is what the files denote.
 abbrev pub IsDue : List (List ℕ) → Option NamedFiles → (List ℕ → ℕ) → (List ℕ → ℕ) → Denotation → Type 0
 IsDue words contents failed failed_since v =
     (IsNoCommand words × (v ≡ verdicts.Usage))
@@ -108,7 +110,7 @@ IsDue words contents failed failed_since v =
     × (v ≡ verdicts.Unread name))
     ⊎ (IsOfTexts v × ((files : NamedFiles) → contents ≡ Some files → CommandDenotes (in_files files) command v))))
 
--- `cut` over files, known or not: a prefix of the text of a verdict that is due was written
+-- `cut` over files, known or not: a prefix of the text of a verdict that was due was written
 abbrev pub CutOverFiles : Type 0
 CutOverFiles =
     (words : List (List ℕ)) (contents : Option NamedFiles) (old new : List Read) (failed failed_since : List ℕ → ℕ)

@@ -1,4 +1,5 @@
--- That arguments and what their operands hold denote one verdict, so that one text is printed for them. Source: this project's own choice.
+-- Arguments and what their operands hold denote one verdict, so that one text is printed for them.
+-- Carried by: laws `one_meaning`, `some_meaning`, `one_job`.
 use Rattle.std.specs.Prelude.{◌≡◌, ◌⊎◌, ℕ, List}
 use Rattle.coll_data.specs.Data.{Data}
 use Rattle.plan_core.specs.declared.plan.Plan.{Plan}
@@ -15,7 +16,7 @@ use Rattle.ptg_top.specs.JobFiles.{FilesDenote}
 use Rattle.ptg_top.specs.Meaning.{Denotes}
 use Rattle.ptg_top.specs.Trace.{IsTraced}
 
--- the command is no trace
+-- the command is not `trace`
 abbrev pub IsNoTrace : Order → Type 0
 IsNoTrace (Trace jdf data_name workers shards) = ⊥
 IsNoTrace command = Unit {0}
@@ -24,20 +25,20 @@ IsNoTrace command = Unit {0}
 abbrev pub AskForNoTrace : List (List ℕ) → Type 0
 AskForNoTrace words = (command : Order) → Orders words command → IsNoTrace command
 
--- arguments that ask for no trace and operands denote one verdict at most
+-- arguments that ask for no trace, with their operands, denote at most one verdict
 abbrev pub OneMeaning : Type 0
 OneMeaning =
     (words : List (List ℕ)) (operands : Operands) (v w : Denotation) → AskForNoTrace words → Denotes words operands v
     → Denotes words operands w → v ≡ w
 
--- two verdicts are texts of whole orders of one consistent job, which two of the operands denote
+-- two verdicts are texts of whole orders of one consistent job, which the first two operands denote
 abbrev pub AreTracesOfOneJob : Operands → Denotation → Denotation → Type 0
 AreTracesOfOneJob operands v w =
     (jdf data_name : List ℕ) × (P : Plan) × (given : Data)
     × FilesDenote operands jdf data_name (verdicts.Job (jobs.Consistent P given))
     × IsTraced P given v × IsTraced P given w
 
--- two verdicts that any arguments and operands denote are the same, or traces of one job
+-- two verdicts that the same arguments and operands denote are the same, or traces of one job
 abbrev pub OneJob : Type 0
 OneJob =
     (words : List (List ℕ)) (operands : Operands) (v w : Denotation) → Denotes words operands v → Denotes words operands w
@@ -47,7 +48,7 @@ OneJob =
 abbrev pub SomeMeaning : Type 0
 SomeMeaning = (words : List (List ℕ)) (operands : Operands) → (v : Denotation) × Denotes words operands v
 
--- arguments that ask for no trace and operands determine what is printed, and the status
+-- arguments that ask for no trace, with their operands, determine what is printed, and the status
 abbrev pub OneOutput : Type 0
 OneOutput =
     (words : List (List ℕ)) (operands : Operands) (before after other : List ℕ) (status another : Status)

@@ -1,4 +1,6 @@
--- That `replay` takes what `trace` prints. Source: this project's own choice.
+-- `replay` accepts what `trace` prints.
+-- Carried by: law `traces_replay`.
+-- Tested by: `gate_runs`.
 use Rattle.std.specs.Prelude.{◌≡◌, ◌↔◌, ◌≤◌, ℕ, false, List, Some, length}
 use Rattle.ptg_base.specs.Limits.{most_bytes}
 use Rattle.plan_core.specs.declared.plan.Plan.{Plan}
@@ -10,13 +12,13 @@ use Rattle.ptg_top.specs.Denotation.{Denotation}
 use Rattle.ptg_top.specs.Meaning.{Denotes}
 use Rattle.ptg_top.specs.Operands.{Operands}
 
--- later operands hold the same JDF and the same data, and this text as the trace of this name
+-- the later operands hold the same JDF and the same data, and this text as the trace file of this name
 pub record HasTrace (operands later : Operands) (jdf data_name trace text : List ℕ) : Type 0 where
   pub same_jdf : later 0 jdf ≡ operands 0 jdf
   pub same_data : later 1 data_name ≡ operands 1 data_name
   pub has_text : later 2 trace ≡ Some text
 
--- of a text within 16 MiB that `trace` prints of a job, `replay` denotes what `run` denotes without a preload
+-- for a text of at most 16 MiB that `trace` prints, `replay` denotes what `run` denotes without a preload
 abbrev pub TracesReplay : Type 0
 TracesReplay =
     (tracing replaying running : List (List ℕ)) (jdf data_name trace : List ℕ) (workers shards others more : ℕ)

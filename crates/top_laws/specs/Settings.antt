@@ -1,4 +1,6 @@
--- What the numbers of workers and of shards change, and the seed of ranks. Source: this project's own choice.
+-- What the numbers of workers and of shards, and the seed of `ranks`, change.
+-- Carried by: law `settings_change_nothing_else`.
+-- Tested by: `ranks.txt`, every row of `run`, at three settings if it sets neither workers nor shards.
 use Rattle.std.specs.Prelude.{ℕ, Bool, false, List}
 use Rattle.ptg_words.specs.declared.order.Order.TheVariants.{Ranks, Run}
 use Rattle.ptg_words.specs.Words.{Orders}
@@ -6,7 +8,7 @@ use Rattle.ptg_top.specs.Denotation.{Denotation}
 use Rattle.ptg_top.specs.Operands.{Operands}
 use Rattle.ptg_top.specs.Meaning.{Denotes}
 
--- two runs of the same operands denote the same where they differ in their shards alone
+-- two runs with the same operands denote the same if they differ in their shards alone
 abbrev pub ShardsChangeNothing : Type 0
 ShardsChangeNothing =
     (one other : List (List ℕ)) (jdf data_name : List ℕ) (workers shards others : ℕ) (preload : Bool)
@@ -14,7 +16,7 @@ ShardsChangeNothing =
     → Orders one (Run jdf data_name workers shards preload) → Orders other (Run jdf data_name workers others preload)
     → Denotes one operands v → Denotes other operands v
 
--- two runs of the same operands without a preload denote the same where they differ in their workers and their shards
+-- two runs without a preload with the same operands denote the same if they differ in their workers and shards alone
 abbrev pub WorkersChangeNothing : Type 0
 WorkersChangeNothing =
     (one other : List (List ℕ)) (jdf data_name : List ℕ) (workers more shards others : ℕ)
@@ -22,7 +24,7 @@ WorkersChangeNothing =
     → Orders one (Run jdf data_name workers shards false) → Orders other (Run jdf data_name more others false)
     → Denotes one operands v → Denotes other operands v
 
--- two runs of the same operands by as many ranks denote the same where they differ in the seed alone
+-- two runs by ranks with the same operands denote the same if they differ in the seed alone
 abbrev pub SeedsChangeNothing : Type 0
 SeedsChangeNothing =
     (one other : List (List ℕ)) (jdf data_name : List ℕ) (ranks seed another : ℕ) (operands : Operands) (v : Denotation)

@@ -11,19 +11,19 @@ ghost use Rattle.run_pool.specs.Bytes as bytes;
 
 use word_laws::words_form_one_command;
 
-/// A law: arguments that ask for no trace and files denote one verdict at most, and so determine what is printed.
+/// A law: arguments that ask for no trace, with what their files hold, denote at most one verdict. So they determine
+/// what is printed.
 pub fn one_meaning()
     ensures meaning { OneMeaning }
     ensures output { OneOutput }
 {}
 
-/// A law: two verdicts that arguments and files denote are the same, or texts of whole orders of one job.
+/// A law: two verdicts that the same arguments and files denote are the same, or texts of whole orders of one job.
 pub fn one_job()
     ensures { OneJob }
 {}
 
-/// A law: all arguments and files denote a verdict, and so something is printed for them: no input is without a
-/// meaning.
+/// A law: any arguments and files denote a verdict, so no input is without a meaning, and something is printed for it.
 pub fn some_meaning()
     ensures meaning { SomeMeaning }
     ensures output { SomeOutput }
@@ -31,21 +31,22 @@ pub fn some_meaning()
     words_form_one_command();
 }
 
-/// A law: the number of shards changes nothing in what arguments and files denote. Without a preload the number of
-/// workers does not either. The seed of ranks changes nothing.
+/// A law: the number of shards changes nothing in what a `run` denotes, and without a preload the number of workers
+/// changes nothing either. The seed changes nothing in what `ranks` denotes.
 pub fn settings_change_nothing_else()
     ensures shards { ShardsChangeNothing }
     ensures workers { WorkersChangeNothing }
     ensures seeds { SeedsChangeNothing }
 {}
 
-/// A law: what `trace` prints of a job, within 16 MiB, `replay` takes with the same JDF and data: it denotes what `run`
-/// denotes without a preload, whatever the numbers of workers and shards.
+/// A law: `replay` accepts what `trace` prints, if that is at most 16 MiB and the JDF and the data are the same. It
+/// then denotes what `run` denotes without a preload, whatever the numbers of workers and shards.
 pub fn traces_replay()
     ensures { TracesReplay }
 {}
 
-/// A law: where DEFAULT is the only type, each tile has as many numbers, and the bytes are a product.
+/// A law: if DEFAULT is the only type, all tiles have the same number of numbers, and the bytes of a preload are a
+/// product.
 pub fn with_one_type_the_preload_is_a_product()
     ensures { (P : PlanValue) (elems workers : ℕ) → P.elems ≡ elems ∷ []
         → bytes.preload_bytes P workers

@@ -1,5 +1,6 @@
-//! Laws of the meaning of a command that no program cites: it is one, every input has one, and what
-//! `trace` prints is replayed; and of the bytes of a preload.
+//! Laws of commands that no program cites: arguments and files denote one verdict, or several only for a trace, and
+//! `replay` accepts what `trace` prints. Others say which settings change nothing, how many bytes a preload takes with
+//! one type, and how the program's clauses hold over known files.
 #![tactic(auto)]
 
 mod known;

@@ -1,4 +1,4 @@
--- A text is cut before its first byte of a kind in one way.
+-- A text is cut before its first byte of a kind in only one way.
 use Rattle.std.proofs.Common.{◌≡◌, ◌==◌, ℕ, Bool, true, false, not, List, [], ◌∷◌, ◌++◌, refl, ap, sym, ◌∙◌, subst}
 use Rattle.std.specs.List.{list_all}
 use Rattle.std.proofs.lemmas.Bool.{false≢true, ne_eqb, and_from}

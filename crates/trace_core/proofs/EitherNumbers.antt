@@ -10,7 +10,7 @@ use Rattle.trace_core.proofs.Fields.{field_none, no_numbers, numbers_more}
 use Rattle.trace_core.proofs.NoRows.{fewer, field_some, not_numbers, nothing_first, other_first}
 use Rattle.trace_core.proofs.Deciding.{cut_at, one_below}
 
--- a field is a number that fits 64 bits, or is none
+-- a field is a number that fits 64 bits
 abbrev IsNumber : List ℕ → Type 0
 IsNumber field = (n : ℤ) × (is_number n ≡ true) × (field ≡ signed_decimal n)
 

@@ -35,7 +35,7 @@ numbers_more text later n w = (
   λ p. let q = numbers_next text later n p.0 w p.1 in (q.0, q.2),
 )
 
--- no number comes first: then there are none
+-- if no number comes first, there are none
 pub none_left : (text : List ℕ) (ns : List ℤ) → HasNoNumber text → AreNumbers text ns → ns ≡ []
 none_left text [] none a = refl
 none_left text (m ∷ ms) none a = absurd (none m (number_fields ms) (record { split = a.spelled; fits = first_so (is_number m) (list_all is_number ms) a.fit; next = fields_open ms }))

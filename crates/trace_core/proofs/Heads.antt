@@ -23,7 +23,7 @@ module _ (text fields field rest : List ℕ) (word : text ≡ codes "trace," ++ 
   pub head_no_count : ((n : ℕ) → n ≤ 1000000 → field ≢ decimal n) → HasNoHead text
   head_no_count none n later le h = none n le (head_parts n later le h).0
 
--- a number of rows is a number
+-- a number of rows fits 64 bits
 small_fits : (n : ℕ) → n ≤ 1000000 → is_number (pos n) ≡ true
 small_fits n le = lt-ltb n 9223372036854775808 (omega arith)
 
@@ -49,7 +49,7 @@ pub empty : (xs : List ℕ) → (length xs == 0) ≡ true → xs ≡ []
 empty [] h = refl
 empty (x ∷ xs) h = let z = eqb-true (length (x ∷ xs)) 0 h in absurd (omega arith)
 
--- as many rows as the head says, and nothing after them
+-- as many rows as the head states, and nothing after them
 pub ended_rows : (text : List ℕ) (n : ℕ) (es : List TraceRow) (first left : List ℕ) → text ≡ head_line n ++ first → BeginsWith text n es left → length es ≡ n → (length left == 0) ≡ true → (ds : List TraceRow) × IsWellSpelled text ds × (first ≡ rows_text ds)
 ended_rows text n es first left is w all none =
     let nothing = empty left none in

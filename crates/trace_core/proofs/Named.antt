@@ -89,7 +89,7 @@ named_class P e t h =
     let k = class_of P t h.0 in
     (k.class, k.class_is, sym (ap (λ (x : TraceRow). x.name) h.1 ∙ class_name_at P t.class k.class k.class_is))
 
--- a row names one task at most
+-- a row names at most one task
 pub one_task : (P : Plan) (e : TraceRow) (t u : Task) → Names P e t → Names P e u → t ≡ u
 one_task P e t u h k =
     let class = one_name P.classes e.name P.well_made.class_names t.class u.class (named_class P e t h) (named_class P e u k) in
@@ -107,7 +107,7 @@ module _ (P : Plan) (e : TraceRow) (name numbers : List ℕ) (row : IsRowOf e na
     its_class : (t : Task) → Names P e t → t.class ≡ n
     its_class t h = one_name P.classes e.name P.well_made.class_names t.class n (named_class P e t h) (subst (λ l. IsNamed P.classes l n) row.same_name named)
 
-    -- more numbers than its class has parameters
+    -- a row with more numbers than a class may have parameters names no task
     pub too_many : ((s : ClassSpace) → slice_get P.spaces n ≡ Some s → length s.params ≤ 8) → 8 < length e.params → (t : Task) → Names P e t → ⊥
     too_many fits more t h =
         let k = class_of P t h.0 in

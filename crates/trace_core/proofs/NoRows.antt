@@ -27,7 +27,7 @@ fewer text later n w = let l = ap length w.split in omega (arith, l, length-appe
 pub no_word : (line : List ℕ) → ((rest : List ℕ) → line ≡ codes "ran," ++ rest → ⊥) → (e : TraceRow) → IsSpelled e → line ≡ row_content e → ⊥
 no_word line none e s is = none (e.name ++ number_fields e.params) is
 
--- a row is what comes before the first LF, if there is one
+-- a row ends with the first LF, so a text without LF begins with none
 pub no_lf : (text line rest : List ℕ) → IsCut 10 text line rest → rest ≡ [] → HasNoRow text
 no_lf text line rest cut is e later s h =
     let whole : line ++ rest ≡ row_content e ++ 10 ∷ later = sym cut.split ∙ h ∙ row_split e later in

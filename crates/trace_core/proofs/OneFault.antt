@@ -1,4 +1,4 @@
--- A text has one first fault at most, and none where all its rows may run and no task that runs is missing.
+-- A text has at most one first fault. It has none if all its rows may run and no task that runs is missing.
 use Rattle.std.proofs.Common.{◌≡◌, ◌≢◌, ℕ, ◌+◌, ◌≤◌, List, [], ◌∷◌, ◌++◌, map, length, refl, ap, sym, ◌∙◌, subst, ◌⊎◌, inl, inr, append_assoc, arith}
 use Rattle.std.proofs.lemmas.Bool.{false≢true}
 use Rattle.std.proofs.lemmas.List.{append-nil}
@@ -23,7 +23,7 @@ use Rattle.trace_core.proofs.OneText.{one_bad_row, one_spelling, spelled_or_bad}
 pub same_fault : (f g : TraceFault) → f.row ≡ g.row → f.code ≡ g.code → f ≡ g
 same_fault f g p q = λ i. record { row = p i; code = q i }
 
--- a text has one fault of its length or its spelling at most, and none where it is well spelled
+-- a text has at most one fault of its length or its spelling, and none if it is well spelled
 pub one_spelling_fault : (text : List ℕ) (f g : TraceFault) → IsSpellingFault text f → IsSpellingFault text g → f ≡ g
 one_spelling_fault text f g (over_length l p) (over_length m r) = p ∙ sym r
 one_spelling_fault text f g (over_length l p) (of_a_row le b c) = absurd (omega arith)
@@ -41,7 +41,7 @@ module _ (P : Plan) (G : Data) where
     | inr trap ↦ false≢true (sym trap ∙ may.have_outputs x i)
   ]
 
-  -- a row has no fault whose task may run
+  -- a row whose task may run has no fault
   fault_or_run : (before : List Task) (e : TraceRow) (code : TraceCode) (t : Task) → IsRowFault P G before e code → e ≡ row_of P t → MayRunAfter P G before t → ⊥
   fault_or_run before e TooLong t f is may = f
   fault_or_run before e BadTrace t f is may = f
@@ -54,7 +54,7 @@ module _ (P : Plan) (G : Data) where
       not_missing before t may f.3 (subst (λ u. IsIn f.3 (in_edges P u)) same f.4) f.5
   fault_or_run before e Unfinished t f is may = f
 
-  -- a row has one code at most
+  -- a row has at most one code
   one_code : (before : List Task) (e : TraceRow) (c d : TraceCode) → IsRowFault P G before e c → IsRowFault P G before e d → c ≡ d
   one_code before e TooLong d f g = absurd f
   one_code before e BadTrace d f g = absurd f
@@ -78,7 +78,7 @@ module _ (P : Plan) (G : Data) where
   one_code before e TooEarly TooEarly f g = refl
   one_code before e TooEarly Unfinished f g = absurd g
 
-  -- rows that all may run have none that fails
+  -- if all rows may run, none of them fails
   none_fails : (acc ts front : List Task) (e : TraceRow) (later : List TraceRow) (c : TraceCode) → map (row_of P) ts ≡ map (row_of P) front ++ e ∷ later → MayAllRunAfter P G acc ts → MayAllRunAfter P G acc front → IsRowFault P G (acc ++ front) e c → ⊥
   none_fails acc [] [] e later c h may mays f = let never : [] ≡ e ∷ later = h in absurd cc
   none_fails acc [] (u ∷ us) e later c h may mays f = let never : [] ≡ row_of P u ∷ (map (row_of P) us ++ e ∷ later) = h in absurd cc
@@ -94,7 +94,7 @@ module _ (P : Plan) (G : Data) where
       none_fails (acc ++ t ∷ []) ts us e later c rest may.1 (subst (λ v. MayAllRunAfter P G (acc ++ v ∷ []) us) (sym same) mays.1)
       (subst (λ b. IsRowFault P G b e c) ((λ i. acc ++ sym same i ∷ us) ∙ sym (append_assoc acc (t ∷ []) us)) f)
 
-  -- of two rows that fail, after rows that may run, each is the other
+  -- two rows that fail, each after rows that may run, are the same
   one_row : (acc front rear : List Task) (d e : TraceRow) (ds es : List TraceRow) (b c : TraceCode) → map (row_of P) front ++ d ∷ ds ≡ map (row_of P) rear ++ e ∷ es → MayAllRunAfter P G acc front → MayAllRunAfter P G acc rear
       → IsRowFault P G (acc ++ front) d b → IsRowFault P G (acc ++ rear) e c → (length front ≡ length rear) × (b ≡ c)
   one_row acc [] [] d e ds es b c h may mays f g =

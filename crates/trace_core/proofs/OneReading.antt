@@ -23,7 +23,7 @@ use Rattle.trace_core.proofs.OneFault.{no_spelling_fault, one_spelling_fault, sa
 use Rattle.trace_core.proofs.OneText.{one_spelling}
 
 module _ (P : Plan) where
-  -- a row that names a task which is new has no fault
+  -- a row that names a new task has no fault
   no_fault : (before : List Task) (e : TraceRow) (t : Task) (c : TraceCode) → Names P e t → (IsIn t before → ⊥) → IsNamingFault P before e c → ⊥
   no_fault before e t TooLong names new f = f
   no_fault before e t BadTrace names new f = f
@@ -32,7 +32,7 @@ module _ (P : Plan) where
   no_fault before e t TooEarly names new f = f
   no_fault before e t Unfinished names new f = f
 
-  -- a row has one code at most
+  -- a row has at most one code
   one_code : (before : List Task) (e : TraceRow) (c d : TraceCode) → IsNamingFault P before e c → IsNamingFault P before e d → c ≡ d
   one_code before e TooLong d f g = absurd f
   one_code before e BadTrace d f g = absurd f
@@ -55,7 +55,7 @@ module _ (P : Plan) where
   is_new : (acc ts : List Task) (t : Task) → HasNoRepeats (acc ++ t ∷ ts) → IsIn t acc → ⊥
   is_new acc ts t once i = HasNoRepeats-apart acc (t ∷ ts) once t i (inl refl)
 
-  -- rows of different tasks have none that fails
+  -- of rows of different tasks, none fails
   none_fails : (acc ts us : List Task) (e : TraceRow) (later : List TraceRow) (c : TraceCode) → map (row_of P) ts ≡ map (row_of P) us ++ e ∷ later
       → AllByRecursion (IsTask P) ts → AllByRecursion (IsTask P) us → HasNoRepeats (acc ++ ts) → IsNamingFault P (acc ++ us) e c → ⊥
   none_fails acc [] [] e later c h job jobs once f = let never : [] ≡ e ∷ later = h in absurd cc
@@ -72,7 +72,7 @@ module _ (P : Plan) where
       none_fails (acc ++ t ∷ []) ts us e later c rest job.1 jobs.1 (subst HasNoRepeats (sym (append_assoc acc (t ∷ []) ts)) once)
       (subst (λ b. IsNamingFault P b e c) ((λ i. acc ++ sym same i ∷ us) ∙ sym (append_assoc acc (t ∷ []) us)) f)
 
-  -- of two rows that fail, after rows of different tasks, each is the other
+  -- two rows that fail, each after rows of different tasks, are the same
   one_row : (acc ts us : List Task) (d e : TraceRow) (ds es : List TraceRow) (b c : TraceCode) → map (row_of P) ts ++ d ∷ ds ≡ map (row_of P) us ++ e ∷ es
       → AllByRecursion (IsTask P) ts → AllByRecursion (IsTask P) us → HasNoRepeats (acc ++ ts) → HasNoRepeats (acc ++ us)
       → IsNamingFault P (acc ++ ts) d b → IsNamingFault P (acc ++ us) e c → (length ts ≡ length us) × (b ≡ c)
@@ -112,7 +112,7 @@ module _ (P : Plan) where
         none_fails [] ts g.0 front.failed front.later f.code
         (sym rows.named ∙ same ∙ front.split ∙ ap (λ l. l ++ front.failed ∷ front.later) front.rows.named) rows.tasks front.rows.tasks rows.once front.fault
 
-    -- a text is read as one list at most
+    -- a text is read as at most one list
     one_reading : (ts us : List Task) → IsReading P text ts None → IsReading P text us None → ts ≡ us
     one_reading ts us r s =
         let rows : AreRowsOf P r.entries ts = r.read in
@@ -132,7 +132,7 @@ module _ (P : Plan) where
         front.rows.tasks before.rows.tasks front.rows.once before.rows.once front.fault before.fault in
         same_fault f g (a.1.read.1 ∙ ap (λ n. n + 2) q.0 ∙ sym b.1.read.1) q.1
 
-    -- so a call that finds only such a list, and only such a fault, finds each where it is there
+    -- so a call that returns only such lists and only such faults returns each exactly when there is one
     pub exactly : (r : Result (List Task) (Refusal TraceFault)) → IfOk r (λ ts. IsReading P text ts None) → ((f : TraceFault) → r ≡ Err (Fault f) → IsReadFault P text f) → FindsOrRefuses (λ ts. IsReading P text ts None) (IsReadFault P text) r
     exactly (Ok ts) found fault = record {
       found = found;

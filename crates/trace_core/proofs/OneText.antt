@@ -6,14 +6,14 @@ use Rattle.trace_core.specs.Spelling.{BeginsWith, HasNoHead, HasNoRow, IsBadRow,
 use Rattle.trace_core.specs.Text.{TraceRow, row_line, rows_text}
 use Rattle.trace_core.proofs.Spelled.{same_head, same_row}
 
--- where the rest of a text, behind the rows `es`, goes on with rows to those of `ds` and its rest
+-- the rest of a text after the rows `es` goes on with more rows, up to `ds` and their rest
 pub record GoesOn (es : List TraceRow) (rest : List ℕ) (ds : List TraceRow) (later : List ℕ) : Type 0 where
   pub more : List TraceRow
   pub all : ds ≡ es ++ more
   pub spelled : AllByRecursion IsSpelled more
   pub text : rest ≡ rows_text more ++ later
 
--- of two lists of rows that a text begins with, one goes on with the other
+-- of two lists of rows that a text begins with, one is continued by the other
 pub one_goes_on : (es ds : List TraceRow) (r s : List ℕ) → AllByRecursion IsSpelled es → AllByRecursion IsSpelled ds → rows_text es ++ r ≡ rows_text ds ++ s → GoesOn es r ds s ⊎ GoesOn ds s es r
 one_goes_on [] ds r s h k e = inl (record { more = ds; all = refl; spelled = k; text = e })
 one_goes_on (x ∷ es) [] r s h k e = inr (record { more = x ∷ es; all = refl; spelled = h; text = sym e })
@@ -27,7 +27,7 @@ one_goes_on (x ∷ es) (y ∷ ds) r s h k e =
 longer : (es : List TraceRow) (rest : List ℕ) (ds : List TraceRow) (later : List ℕ) (g : GoesOn es rest ds later) → length ds ≡ length es + length g.more
 longer es rest ds later g = ap length g.all ∙ length-append es g.more
 
--- no row follows: then nothing goes on
+-- if no row follows, no longer list continues these rows
 stops : (es : List TraceRow) (rest : List ℕ) (ds : List TraceRow) (later : List ℕ) → HasNoRow rest → GoesOn es rest ds later → (ds ≡ es)
 stops es rest ds later none g = by g.more g.all g.spelled g.text
   where
@@ -35,7 +35,7 @@ stops es rest ds later none g = by g.more g.all g.spelled g.text
     by [] all s t = all ∙ append-nil es
     by (x ∷ xs) all s t = absurd (none x (rows_text xs ++ later) s.0 (t ∙ append_assoc (row_line x) (rows_text xs) later))
 
--- as many rows: then they are the same, and so is what follows
+-- if the other list is no longer, it is the same, and so is the rest
 as_many : (es : List TraceRow) (rest : List ℕ) (ds : List TraceRow) (later : List ℕ) → length ds ≤ length es → GoesOn es rest ds later → (ds ≡ es) × (rest ≡ later)
 as_many es rest ds later le g = by g.more g.all g.text
   where
@@ -56,14 +56,14 @@ module _ (text : List ℕ) (n m : ℕ) (es ds : List TraceRow) (r s : List ℕ) 
 pub not_without_head : (text : List ℕ) (n : ℕ) (es : List TraceRow) (r : List ℕ) → BeginsWith text n es r → HasNoHead text → ⊥
 not_without_head text n es r w none = none n (rows_text es ++ r) w.at_most w.split
 
--- two rows that are not there come at one place
+-- two lists after which a row is missing have the same length
 two_bad : (text : List ℕ) (n m : ℕ) (es ds : List TraceRow) (r s : List ℕ) → BeginsWith text n es r → BeginsWith text m ds s → HasNoRow r → HasNoRow s → length es ≡ length ds
 two_bad text n m es ds r s w v fails ne = elim (goes_on text n m es ds r s w v) [
   | inl g ↦ sym (ap length (stops es r ds s fails g))
   | inr g ↦ ap length (stops ds s es r ne g)
 ]
 
--- a row that is not there leaves fails room for as many as the head says
+-- if a row is missing, no list has as many rows as the head states
 bad_before : (text : List ℕ) (n m : ℕ) (es ds : List TraceRow) (r s : List ℕ) → BeginsWith text n es r → BeginsWith text m ds s → HasNoRow r → length es < n → length ds ≡ m → ⊥
 bad_before text n m es ds r s w v fails lt all =
     let same = head_number text n m es ds r s w v in
@@ -72,7 +72,7 @@ bad_before text n m es ds r s w v fails lt all =
       | inr g ↦ let l = longer ds s es r g in absurd (omega arith)
     ]
 
--- as many rows as the head says are one list, with one rest
+-- lists of as many rows as the head states are the same, and so are their rests
 all_rows : (text : List ℕ) (n m : ℕ) (es ds : List TraceRow) (r s : List ℕ) → BeginsWith text n es r → BeginsWith text m ds s → length es ≡ n → length ds ≡ m → (es ≡ ds) × (r ≡ s)
 all_rows text n m es ds r s w v here there =
     let same = head_number text n m es ds r s w v in

@@ -32,7 +32,7 @@ pub record IsReadTo (P : Plan) (es : List TraceRow) (ts : List Task) (left : Lis
 pub nothing_read : (P : Plan) (es : List TraceRow) (text : List ℕ) → AllByRecursion IsSpelled es → text ≡ rows_text es → IsReadTo P es [] text
 nothing_read P es text all is = record { front = []; others = es; split = refl; spelled = all; text = is; rows = record { named = refl; tasks = tt; once = tt } }
 
--- no row comes first: all were read
+-- if no row comes first, all were read
 pub all_read : (P : Plan) (es : List TraceRow) (ts : List Task) (left : List ℕ) → IsReadTo P es ts left → HasNoRow left → AreRowsOf P es ts
 all_read P es ts left r none = by r.others r.split r.spelled r.text
   where

@@ -79,7 +79,7 @@ row_free e s = free_append 10 (codes "ran,") (e.name ++ number_fields e.params) 
 pub row_split : (e : TraceRow) (rest : List ℕ) → row_line e ++ rest ≡ row_content e ++ 10 ∷ rest
 row_split e rest = ap (λ t. t ++ rest) (row_line_is e) ∙ append_assoc (row_content e) (10 ∷ []) rest
 
--- numbers are printed alike only where they are the same
+-- only equal numbers are printed alike
 pub same_numbers : (ms ns : List ℤ) → list_all is_number ms ≡ true → list_all is_number ns ≡ true → number_fields ms ≡ number_fields ns → ms ≡ ns
 same_numbers [] [] h k e = refl
 same_numbers [] (n ∷ ns) h k e = cc
@@ -93,7 +93,7 @@ same_numbers (m ∷ ms) (n ∷ ns) h k e =
     let later = same_numbers ms ns (second_so (is_number m) (list_all is_number ms) h) (second_so (is_number n) (list_all is_number ns) k) r.1 in
     λ i. first i ∷ later i
 
--- rows are printed alike only where they say the same
+-- only equal rows are printed alike
 pub same_content : (d e : TraceRow) → IsSpelled d → IsSpelled e → row_content d ≡ row_content e → d ≡ e
 same_content d e s t h =
     let tail : d.name ++ number_fields d.params ≡ e.name ++ number_fields e.params = cc in
@@ -101,13 +101,13 @@ same_content d e s t h =
     let params = same_numbers d.params e.params s.params t.params r.1 in
     λ i. record { name = r.0 i; params = params i }
 
--- a text begins with one row at most
+-- a text begins with at most one row
 pub same_row : (d e : TraceRow) (rd re : List ℕ) → IsSpelled d → IsSpelled e → row_line d ++ rd ≡ row_line e ++ re → (d ≡ e) × (rd ≡ re)
 same_row d e rd re s t h =
     let r = cut_once 10 (row_content d) (row_content e) (10 ∷ rd) (10 ∷ re) (row_free d s) (row_free e t) refl refl (sym (row_split d rd) ∙ h ∙ row_split e re) in
     (same_content d e s t r.0, cc)
 
--- and with one head at most
+-- and with at most one head
 pub head_split : (n : ℕ) (rest : List ℕ) → head_line n ++ rest ≡ codes "trace," ++ (decimal n ++ 10 ∷ rest)
 head_split n rest = ap (λ t. codes "trace," ++ t) (append_assoc (decimal n) (10 ∷ []) rest)
 

@@ -27,7 +27,7 @@ head_or_none text = elim (one_below (HasHead text) has 1000001) [
 abbrev IsSpelledOrBad : List ℕ → Type 0
 IsSpelledOrBad text = ((es : List TraceRow) × IsWellSpelled text es) ⊎ ((row : ℕ) × IsBadRow text row)
 
--- with so many rows left of those that the head says
+-- with `left` rows to come of those that the head states
 rows_or_bad : (left : ℕ) (text : List ℕ) (n : ℕ) (es : List TraceRow) (rest : List ℕ) → BeginsWith text n es rest → n ≡ length es + left → IsSpelledOrBad text
 rows_or_bad zero text n es [] w all = let same : n ≡ length es = omega (arith, all) in inl (es, subst (λ m. BeginsWith text m es []) same w)
 rows_or_bad zero text n es (b ∷ bs) w all = inr (length es + 2, row_too_many n es (b ∷ bs) w (omega (arith, all)) (λ e. cc) refl)

@@ -1,4 +1,4 @@
--- How the text of a trace is put together.
+-- How the text of a trace is built.
 use Rattle.std.proofs.Common.{◌≡◌, ◌≤◌, ℕ, List, [], ◌∷◌, ◌++◌, codes, length, map, take, ap, sym, ◌∙◌, append_assoc, Some, slice_get}
 use Rattle.std.proofs.lemmas.List.{take_all}
 use Rattle.ptg_base.specs.Task.{Task}

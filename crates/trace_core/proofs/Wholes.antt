@@ -46,7 +46,7 @@ pub may_legal : (P : Plan) (G : Data) (acc ts : List Task) → MayAllRunAfter P 
 may_legal P G acc [] h = tt
 may_legal P G acc (t ∷ ts) h = (h.0.follows, may_legal P G (acc ++ t ∷ []) ts h.1)
 
--- of edges, all come from these tasks and their sources have outputs, or one does not
+-- all edges come from these tasks, whose outputs exist, or one does not
 pub all_or_missing : (P : Plan) (G : Data) (before : List Task) (es : List Edge) → ((e : Edge) → IsIn e es → IsIn e.from before × (has_outputs (ended P G e.from) ≡ true)) ⊎ ((x : Edge) × IsIn x es × IsMissing P G before x)
 all_or_missing P G before es = all_or_one (λ (e : Edge). IsIn e.from before × (has_outputs (ended P G e.from) ≡ true)) (IsMissing P G before) es decide
   where
@@ -57,7 +57,7 @@ all_or_missing P G before es = all_or_one (λ (e : Edge). IsIn e.from before × 
     ]
 
 module _ (P : Plan) (G : Data) (con : IsConsistent P) where
-  -- a task ends whose sources all have outputs, and the other way round
+  -- a task ends if its sources all have outputs, and conversely
   pub it_ends : (t : Task) → IsTask P t → ((e : Edge) → IsIn e (in_edges P t) → has_outputs (ended P G e.from) ≡ true) → is_some (ended P G t) ≡ true
   unfolding ended_on
   it_ends t job sources =
@@ -97,13 +97,13 @@ module _ (P : Plan) (G : Data) (con : IsConsistent P) where
         | inr absent ↦ uncounted t ts absent ∙ sym (uncounted t (ran P G) (λ i. absent ((same t).1 i)))
       ]
 
-  -- tasks that may run in their order are a whole order where no task that runs is missing
+  -- tasks that may run in their order are a whole order if no task that runs is missing
   pub whole : (ts : List Task) → MayAllRunAfter P G [] ts → ((t : Task) → IsIn t (ran P G) → IsIn t ts) → IsWholeOrder P G ts
   whole ts may all =
       let legal = may_legal P G [] ts may in
       record { legal = legal; all = (same_counts same_task same_task-decides ts (ran P G)).1 (same_count ts (legal_once P [] ts legal) (λ t. (may_ran [] ts may t, all t))) }
 
-  -- and the other way round
+  -- and conversely
   pub members : (ts : List Task) → HasSameMembers ts (ran P G) → (t : Task) → IsIn t ts ↔ IsIn t (ran P G)
   members ts same t =
       let counts : count (same_task t) ts ≡ count (same_task t) (ran P G) = same (λ u. as_number (same_task t u)) in (

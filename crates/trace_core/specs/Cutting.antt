@@ -1,4 +1,6 @@
--- Texts that are cut before the first byte of a kind. This is how rows and their fields are found.
+-- Texts that are cut before the first byte with a given value. This is how rows and their fields are found.
+-- Carried by: inside `read_rows`.
+-- Tested by: `trace_spelling.txt`.
 use Rattle.std.specs.Prelude.{◌≡◌, ◌==◌, ℕ, Bool, true, not, IsTrue, List, [], ◌∷◌, ◌++◌}
 use Rattle.std.specs.List.{list_all}
 
@@ -11,7 +13,7 @@ abbrev pub opens_with : ℕ → List ℕ → Bool
 opens_with c [] = true
 opens_with c (b ∷ bs) = b == c
 
--- a text is cut before its first byte c, or is not cut where it has none
+-- a text is cut before its first byte c, or at its end if it has none
 pub record IsCut (c : ℕ) (text front rest : List ℕ) : Type 0 where
   pub split : text ≡ front ++ rest
   pub free : IsTrue (is_free_of c front)

@@ -1,5 +1,8 @@
--- The first fault of a text as a trace of a job: of its length, else of how it is spelled, else of the first row whose
--- task may not run then. Source: this project's own choice.
+-- The first fault of a text as a trace of a job. It is that of the text's length, else of its spelling, else of the
+-- first row whose task may not run then, else that a task which runs has no row.
+-- Carried by: `trace_replay::replay`, `trace_replay::judge_trace`; laws `a_text_has_one_first_fault`,
+-- `trace_laws::the_text_of_a_whole_order_has_no_fault`.
+-- Tested by: `replay.txt`.
 use Rattle.std.specs.Prelude.{◌≡◌, ◌⊎◌, ◌+◌, ◌≤◌, ℕ, List, [], ◌∷◌, ◌++◌, IsFalse, length, map}
 use Rattle.ptg_base.specs.Limits.{most_bytes}
 use Rattle.ptg_base.specs.Lists.{IsIn}
@@ -34,7 +37,7 @@ IsRowFault P G before e TooLong = ⊥
 IsRowFault P G before e BadTrace = ⊥
 IsRowFault P G before e Unfinished = ⊥
 
--- the rows before this one are those of tasks that may run in their order, and the fault is that of this row
+-- the rows before a row are those of tasks that may run in their order, and the fault is that of this row
 pub record IsFaultOfRow (P : Plan) (G : Data) (es : List TraceRow) (f : TraceFault) : Type 0 where
   pub before : List Task
   pub failed : TraceRow

@@ -1,4 +1,6 @@
--- Which task a row names, and how far the rows of a text name tasks that are new. Source: this project's own choice.
+-- Which task a row names, and how far the rows of a text name new tasks.
+-- Carried by: `read_rows`, `read_trace`.
+-- Tested by: `trace_faults.txt`, `trace_lists.txt`.
 use Rattle.std.specs.Prelude.{◌≡◌, ◌+◌, ℕ, List, ◌∷◌, ◌++◌, Some, map, slice_get}
 use Rattle.std.specs.List.{AllByRecursion}
 use Rattle.ptg_base.specs.Lists.{HasNoRepeats, IsIn}
@@ -18,7 +20,7 @@ IsNamed classes name n = (c : ClassPlan) × (slice_get classes n ≡ Some c) × 
 abbrev pub Names : Plan → TraceRow → Task → Type 0
 Names P e t = IsTask P t × (e ≡ row_of P t)
 
--- the code of a row that names no task, or one of these
+-- the code of a row that names no task, or names one of these again
 abbrev pub IsNamingFault : Plan → List Task → TraceRow → TraceCode → Type 0
 IsNamingFault P before e UnknownTask = (t : Task) → Names P e t → ⊥
 IsNamingFault P before e RanTwice = (t : Task) × Names P e t × IsIn t before

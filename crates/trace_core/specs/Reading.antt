@@ -1,4 +1,6 @@
--- What is read of a text as a trace of a job. Source: this project's own choice.
+-- What is read from a text as a trace of a job.
+-- Carried by: `read_rows`, `read_trace`.
+-- Tested by: `trace_faults.txt`, `trace_lists.txt`.
 use Rattle.std.specs.Prelude.{◌≡◌, ◌⊎◌, ◌+◌, ◌<◌, ◌≤◌, ℕ, List, Option, Some, None, length, option_map}
 use Rattle.std.specs.List.{AllByRecursion}
 use Rattle.ptg_base.specs.Limits.{most_bytes}
@@ -31,7 +33,7 @@ abbrev pub IsReadAs : Plan → List TraceRow → List Task → Option TraceFault
 IsReadAs P es ts None = AreRowsOf P es ts
 IsReadAs P es ts (Some f) = AreRowsBefore P es ts f.code × (f.row ≡ length ts + 2)
 
--- what is read of a text that is well spelled
+-- what is read from a text that is well spelled
 pub record IsReading (P : Plan) (text : List ℕ) (ts : List Task) (fault : Option TraceFault) : Type 0 where
   pub at_most : length text ≤ most_bytes
   pub entries : List TraceRow

@@ -1,4 +1,6 @@
 -- The parts of a row: its name, and its numbers with a comma before each.
+-- Carried by: inside `read_rows`.
+-- Tested by: `trace_spelling.txt`.
 use Rattle.std.specs.Prelude.{◌≡◌, ℕ, ℤ, IsTrue, List, ◌∷◌, ◌++◌, codes, flat_map}
 use Rattle.std.specs.List.{list_all}
 use Rattle.std.specs.Fmt.{signed_decimal}
@@ -18,26 +20,26 @@ number_fields ns = flat_map number_field ns
 abbrev pub row_content : TraceRow → List ℕ
 row_content e = codes "ran," ++ (e.name ++ number_fields e.params)
 
--- a text begins with this number and its comma, and the next field is at `rest`
+-- a text begins with a comma and this number; the rest is empty or begins with a comma
 pub record BeginsWithNumber (text : List ℕ) (n : ℤ) (rest : List ℕ) : Type 0 where
   pub split : text ≡ number_field n ++ rest
   pub fits : IsTrue (is_number n)
   pub next : IsTrue (opens_with 44 rest)
 
--- a text begins with no number and its comma
+-- a text does not begin with a comma and a number
 abbrev pub HasNoNumber : List ℕ → Type 0
 HasNoNumber text = (n : ℤ) (rest : List ℕ) → BeginsWithNumber text n rest → ⊥
 
--- a text is numbers that fit 64 bits
+-- a text is these numbers, each after a comma, and they fit 64 bits
 pub record AreNumbers (text : List ℕ) (ns : List ℤ) : Type 0 where
   pub spelled : text ≡ number_fields ns
   pub fit : IsTrue (list_all is_number ns)
 
--- a text is numbers that fit 64 bits, whichever they are
+-- a text is some numbers that fit 64 bits, each after a comma
 abbrev pub IsOfNumbers : List ℕ → Type 0
 IsOfNumbers text = (ns : List ℤ) × AreNumbers text ns
 
--- the parts of a row that says this
+-- the parts of the row of this entry
 pub record IsRowOf (e : TraceRow) (name numbers : List ℕ) : Type 0 where
   pub spelled : IsSpelled e
   pub same_name : name ≡ e.name

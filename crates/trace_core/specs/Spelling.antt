@@ -1,5 +1,6 @@
--- Which texts are spelled as a trace, whatever their rows name, and which row is the first that is not. Source: this
--- project's own choice.
+-- Which texts are spelled as a trace, whatever their rows name, and which row is the first that is not.
+-- Carried by: `read_rows`.
+-- Tested by: `trace_spelling.txt`.
 use Rattle.std.specs.Prelude.{◌≡◌, ◌≢◌, ◌+◌, ◌<◌, ◌≤◌, ℕ, IsTrue, List, [], ◌++◌, length}
 use Rattle.std.specs.List.{AllByRecursion, list_all}
 use Rattle.ptg_base.specs.Limits.{most_tasks}
@@ -7,7 +8,7 @@ pub use Rattle.ptg_base.specs.Names.{is_name}
 pub use Rattle.term_core.specs.Arith.{is_number}
 use Rattle.trace_core.specs.Text.{TraceRow, head_line, row_line, rows_text}
 
--- what a row may say: any name, and any number of numbers that fit 64 bits
+-- what a row may have: any name, and any count of numbers that fit 64 bits
 pub record IsSpelled (e : TraceRow) : Type 0 where
   pub name : IsTrue (is_name e.name)
   pub params : IsTrue (list_all is_number e.params)
@@ -18,7 +19,7 @@ pub record BeginsWith (text : List ℕ) (n : ℕ) (es : List TraceRow) (rest : L
   pub split : text ≡ head_line n ++ (rows_text es ++ rest)
   pub spelled : AllByRecursion IsSpelled es
 
--- a text has as many rows as its head says, these, and nothing after them
+-- a text has as many rows as its head states, which are these, and nothing after them
 abbrev pub IsWellSpelled : List ℕ → List TraceRow → Type 0
 IsWellSpelled text es = BeginsWith text (length es) es []
 
@@ -34,9 +35,9 @@ HasNoRow text = (e : TraceRow) (rest : List ℕ) → IsSpelled e → text ≡ ro
 pub data IsBadRow (text : List ℕ) (row : ℕ) : Type 0 where
   -- the head
   bad_head : HasNoHead text → row ≡ 1 → IsBadRow text row
-  -- a row of those that the head says, which is missing or not spelled as one
+  -- a row of those that the head states is missing, or is not spelled as one
   bad_row : (n : ℕ) (es : List TraceRow) (rest : List ℕ) → BeginsWith text n es rest → length es < n → HasNoRow rest
       → row ≡ length es + 2 → IsBadRow text row
-  -- what follows them
+  -- something follows these rows
   row_too_many : (n : ℕ) (es : List TraceRow) (rest : List ℕ) → BeginsWith text n es rest → length es ≡ n → rest ≢ []
       → row ≡ length es + 2 → IsBadRow text row

@@ -1,5 +1,4 @@
-//! Traces: the text of the tasks of a job in an order in which they ran, how it is read, and its first fault. Its
-//! proofs have the lemmas by which every text has a first fault as a trace of a job, or is a trace of it.
+//! Traces: the text of a job's tasks in an order in which they ran, how it is read, and its first fault.
 #![tactic(auto)]
 
 mod cutting;

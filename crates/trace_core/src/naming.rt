@@ -15,7 +15,7 @@ use plan_core::{ClassPlan, Plan};
 use ptg_base::TaskId;
 use range_space::Numbers;
 
-// The number of the class with this name; the first of these classes has number `n`.
+// The number of the class with this name, if there is one; the first of these classes has number `n`.
 fn class_among(classes: &[ClassPlan], name: &[u8], n: u32) -> Option<u32>
     requires { n + length classes.now ≤ most_classes }
     ensures { MatchOption result ((k : ℕ) → IsNamed classes.now name.now k → ⊥) (λ number.
@@ -30,7 +30,7 @@ fn class_among(classes: &[ClassPlan], name: &[u8], n: u32) -> Option<u32>
     class_among(later, name, n + 1)
 }
 
-// The number of the class with this name.
+// The number of the class with this name, if there is one.
 fn class_named(plan: &Plan, name: &[u8]) -> Option<u32>
     ensures { MatchOption result ((k : ℕ) → IsNamed plan.now.classes name.now k → ⊥) (λ k.
         IsNamed plan.now.classes name.now k) }

@@ -11,7 +11,7 @@ use itoa::Buffer;
 use ptg_base::MOST_PARAMS;
 use range_space::Numbers;
 
-// The number that std reads from a field, whatever it is spelled like, if it fits 64 bits.
+// The number that std reads from a field in any spelling, if it fits 64 bits.
 fn read_number(field: &[u8]) -> Option<i64>
     ensures { (n : ℤ) → IsTrue (is_number n) → field.now ≡ signed_decimal n → MatchOption result ⊥ (λ read. read ≡ n) }
 {
@@ -24,7 +24,7 @@ fn read_number(field: &[u8]) -> Option<i64>
     }
 }
 
-// The number that a field spells exactly, if it fits 64 bits.
+// The number that a field spells exactly as it is printed, if it fits 64 bits.
 pub(crate) fn number(field: &[u8]) -> Option<i64>
     ensures { MatchOption result ((n : ℤ) → IsTrue (is_number n) → field.now ≢ signed_decimal n) (λ n.
         IsTrue (is_number n) × (field.now ≡ signed_decimal n)) }
@@ -67,7 +67,7 @@ pub(crate) fn are_numbers(fields: &[u8]) -> bool
     left.is_empty()
 }
 
-// Adds the numbers of these fields. False where they are more than there is room for.
+// Adds the numbers of these fields. Returns false if there is no room for all of them.
 pub(crate) fn push_numbers(fields: &[u8], numbers: &mut Numbers<MOST_PARAMS>) -> bool
     ensures all { (ns : List ℤ) → AreNumbers fields.now ns → IsTrue result → numbers.new ≡ numbers.old ++ ns }
     ensures more { (ns : List ℤ) → AreNumbers fields.now ns → IsFalse result

@@ -20,7 +20,8 @@ use plan_core::Plan;
 use ptg_base::{MOST_BYTES, OutOfMemory, Refusal, Seq, TaskId};
 use std::alloc::Global;
 
-// Adds the tasks of the rows of a text, up to the first row that names no task or one again: its code.
+// Adds the tasks of the rows of a text, up to the first row that names no task or repeats one. Returns the code of that
+// row.
 pub(crate) fn add_tasks(
     plan: &Plan,
     rows: &[u8],
@@ -45,7 +46,7 @@ pub(crate) fn add_tasks(
     Ok(None)
 }
 
-/// The tasks of the rows of a text, up to the first row that names no task of the job or one again.
+/// The tasks of the rows of a text, up to the first row that names no task of the job or repeats one.
 #[derive(Drop)]
 pub struct Reading {
     /// The tasks of the rows before it, or of all rows.
@@ -65,7 +66,7 @@ fn tasks_of(alloc: Global, set: IndexSet<TaskId>) -> Result<Seq<TaskId>, OutOfMe
     Ok(Seq::of(tasks))
 }
 
-// The fault with this code of the row after this many tasks, if there is one.
+// The fault with this code, if there is one, of the row after those of these tasks.
 fn fault_after(tasks: &Seq<TaskId>, code: Option<TraceCode>) -> Option<TraceFault>
     ensures { result ≡ reading.fault_after tasks.now code }
 {
@@ -89,15 +90,15 @@ fn read_tasks(alloc: Global, plan: &Plan, rows: &[u8]) -> Result<Reading, OutOfM
     Ok(Reading { tasks, fault })
 }
 
-// A text that is refused with this fault.
+// Refuses a text with this fault.
 fn refused<T>(row: u64, code: TraceCode) -> Result<T, TraceRefusal>
     ensures { result ≡ Err (Fault (record { row = row; code = code })) }
 {
     Err(Refusal::Fault(TraceFault { row, code }))
 }
 
-/// Reads the tasks of the rows of a text that is spelled as a trace. A fault is of the text's length or of its
-/// spelling.
+/// Reads the tasks of the rows of a text, if it is spelled as a trace. Otherwise the fault is that of its length or of
+/// its spelling.
 pub fn read_rows(alloc: Global, m: &Matched, bytes: &[u8]) -> Result<Reading, TraceRefusal>
     ensures read { IfOk result (λ r. IsReading m.now bytes.now r.tasks r.fault) }
     ensures fault { (f : TraceFaultValue) → result ≡ Err (Fault f) → IsSpellingFault bytes.now f }
@@ -113,7 +114,7 @@ pub fn read_rows(alloc: Global, m: &Matched, bytes: &[u8]) -> Result<Reading, Tr
     Ok(reading)
 }
 
-/// Reads a text as a list of tasks of the job that are different: its tasks, or its first fault as such a list.
+/// Reads a text as a list of different tasks of the job. Returns the tasks, or the text's first fault as such a list.
 pub fn read_trace(alloc: Global, m: &Matched, bytes: &[u8]) -> Result<Seq<TaskId>, TraceRefusal>
     ensures exact { FindsOrRefuses (λ tasks. IsReading m.now bytes.now tasks None)
         (IsReadFault m.now bytes.now) result }

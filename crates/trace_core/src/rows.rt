@@ -18,7 +18,7 @@ pub(crate) struct Row<'a> {
     pub(crate) numbers: &'a [u8],
 }
 
-// The parts of a row without its LF.
+// The parts of a row, from its line without LF.
 fn row_of(line: &[u8]) -> Option<Row<'_>>
     ensures { MatchOption result ((e : TraceRow) → IsSpelled e → line.now ≡ row_content e → ⊥) (λ row.
         (e : TraceRow) × IsRowOf e row.name.now row.numbers.now × (line.now ≡ row_content e)) }
@@ -51,7 +51,7 @@ pub(crate) fn next_row(text: &[u8]) -> Option<(Row<'_>, &[u8])>
     }
 }
 
-// The number of rows that a field says, if a text may have that many.
+// The number of rows that a field states, if a trace may have so many.
 fn row_count(field: &[u8]) -> Option<u64>
     ensures { MatchOption result ((n : ℕ) → n ≤ most_tasks → field.now ≢ decimal n) (λ n.
         (n ≤ most_tasks) × (field.now ≡ decimal n)) }

@@ -6,7 +6,8 @@ ghost use Rattle.trace_core.specs.Text.{TraceRow, rows_text};
 
 use crate::rows::{head, next_row};
 
-// The rows of a text that is spelled as a trace, after its head, or the number of the first row that is not.
+// The rows after the head of a text that is spelled as a trace, or the number of its first row that is not well
+// spelled.
 pub(crate) fn spelled_rows(text: &[u8]) -> Result<&[u8], u64>
     ensures ok { IfOk result (λ rows. (es : List TraceRow) × IsWellSpelled text.now es × (rows.now ≡ rows_text es)) }
     ensures err { IfErr result (λ row. IsBadRow text.now row) }

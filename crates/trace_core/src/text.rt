@@ -53,7 +53,7 @@ fn put_row(out: &mut Seq<u8>, plan: &Plan, t: &TaskId) -> Result<(), OutOfMemory
     Ok(())
 }
 
-/// The text of tasks of a job in this order, also where it is longer than a trace may be that is read.
+/// The text of these tasks of a job in this order. It may be longer than a trace that can be read.
 pub fn trace_text(alloc: Global, plan: &Plan, list: &[TaskId]) -> Result<Text, OutOfMemory>
     requires { AllByRecursion (IsTask plan.now) list.now }
     ensures { IfOk result (λ text. text ≡ spelling.trace_text plan.now list.now) }

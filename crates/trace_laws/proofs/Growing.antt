@@ -42,7 +42,7 @@ module _ (P : Plan) (G : Data) where
 
   module _ (con : IsConsistent P) where
     module _ (ts : List Task) (none : (t : Task) → MayRunAfter P G ts t → ⊥) where
-      -- where no task may run next, a task that ends is there
+      -- if no task may run next, a task that ends is there
       within : (n : ℕ) (t : Task) → IsTask P t → is_some (ended P G t) ≡ true → (v : Ended) → ended_within P G n t ≡ Some v → IsIn t ts
       unfolding ended_within
       within zero t job some v e = absurd cc

@@ -1,4 +1,4 @@
--- A text has a first fault exactly where it is no trace of a whole order, and a trace is the text of its tasks.
+-- A text has a first fault if and only if it is no trace of a whole order, and a trace is the text of its tasks.
 use Rattle.std.proofs.Common.{ℕ, ◌↔◌, List, [], map, refl, inl, inr}
 use Rattle.ptg_base.specs.Task.{Task}
 use Rattle.plan_core.specs.declared.plan.Plan.{Plan}

@@ -1,4 +1,4 @@
-//! Laws of orders, of which task may come next and that there is a whole one, and of their texts.
+//! Laws of orders and of their texts: which task may come next, and that there is a whole order.
 
 ghost use Rattle.std.specs.Prelude.{◌↔◌, IsTrue, List, ◌≡◌, ◌≤◌, length, map, ℕ};
 ghost use Rattle.ptg_base.specs.Lists.{IsIn};
@@ -28,8 +28,8 @@ pub fn every_job_has_a_whole_order()
     ensures { (P : Plan) (G : Data) → IsConsistent P → (tasks : List Task) × IsWholeOrder P G tasks }
 {}
 
-/// A law: where each claimed task does no more, a task may be claimed exactly if it is new, and the source of each edge
-/// into it is claimed and has outputs.
+/// A law: if all claimed tasks are finished, a task may be claimed if and only if it is new, and the source of each
+/// edge into it is claimed and has outputs.
 pub fn a_task_may_follow_finished_ones()
     ensures { (P : Plan) (G : Data) (S : MachineState) (t : Task) → IsConsistent P → IsSoundState P G S
         → ((u : Task) → IsIn u S.claims → IsFinished P G S u) → IsTask P t
@@ -39,22 +39,22 @@ pub fn a_task_may_follow_finished_ones()
         → IsIn e.from S.claims × IsTrue (has_outputs (ended P G e.from)))) }
 {}
 
-/// A law: a text whose rows are well spelled is that of one list of tasks at most, so that it reads back to its list.
+/// A law: a text whose rows are well spelled is that of at most one list of tasks, so that it reads back to its list.
 pub fn a_text_is_that_of_one_list()
     ensures { (P : Plan) (ts us : List Task) → AllByRecursion (IsTask P) ts → AllByRecursion (IsTask P) us
         → AllByRecursion IsSpelled (map (row_of P) ts) → AllByRecursion IsSpelled (map (row_of P) us)
         → length ts ≤ most_tasks → length us ≤ most_tasks → trace_text P ts ≡ trace_text P us → ts ≡ us }
 {}
 
-/// A law: the text of a whole order has no fault, if it is within 16 MiB and its rows are well spelled, as those of a
-/// job with the names of a JDF are.
+/// A law: the text of a whole order has no fault if it is within 16 MiB and its rows are well spelled, as they are if
+/// the names of the job are those of a JDF.
 pub fn the_text_of_a_whole_order_has_no_fault()
     ensures { (P : Plan) (G : Data) (ts : List Task) (f : TraceFault) → IsConsistent P → IsWholeOrder P G ts
         → AllByRecursion IsSpelled (map (row_of P) ts) → length (trace_text P ts) ≤ most_bytes
         → IsTraceFault P G (trace_text P ts) f → ⊥ }
 {}
 
-/// A law: a text has no fault exactly where it is the trace of a whole order, within 16 MiB; and each other text has a
+/// A law: a text has no fault if and only if it is the trace of a whole order, within 16 MiB. Each other text has a
 /// fault.
 pub fn every_text_has_a_fault_or_is_a_trace()
     ensures either { (P : Plan) (G : Data) (text : List ℕ) → IsConsistent P

@@ -1,5 +1,5 @@
-//! Laws of traces that no program cites: which task may come next; that every job has a whole order of its tasks, whose
-//! text has no fault; and that a text is that of one list, and has a fault or is a trace.
+//! Laws of traces that no program cites: every job has a whole order of its tasks, and a text has a fault or is a
+//! trace. Also which task may come next, and that a text is that of one list alone.
 #![tactic(auto)]
 
 mod laws;

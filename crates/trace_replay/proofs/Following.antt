@@ -19,7 +19,7 @@ use Rattle.flow_meaning.specs.Sound.{IsFinished, IsSoundState}
 use Rattle.flow_meaning.proofs.Events.{claim_member, delivers, each_arrived, member_claim}
 use Rattle.flow_meaning.proofs.Members.{in_edge_item}
 
--- a task may be claimed exactly where it is new and its sources are done
+-- a task may be claimed if and only if it is new and its sources are done
 module _ (P : Plan) (G : Data) (con : IsConsistent P) (S : MachineState) (sound : IsSoundState P G S) (done : (u : Task) → IsIn u S.claims → IsFinished P G S u) (t : Task) (job : IsTask P t) where
   edge_sent : (e : Edge) → IsIn e (in_edges P t) → IsIn e.from S.claims → has_outputs (ended P G e.from) ≡ true → is_sent S (item.Edge e) ≡ true
   edge_sent e i c o = elim (done e.from c) [

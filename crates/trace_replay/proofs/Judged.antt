@@ -1,4 +1,4 @@
--- What a verdict on rows says.
+-- What a verdict on rows shows.
 use Rattle.std.proofs.lemmas.Bool.{false≢true}
 use Rattle.std.specs.Prelude.{IfErr, IfOk, IsErr, MatchOption, OnOk}
 use Rattle.ptg_base.specs.declared.refusal.Refusal.{Refusal}
@@ -84,7 +84,7 @@ module _ (P : Plan) (G : Data) (es : List TraceRow) (ts : List Task) (jobs : All
         | inr p ↦ p
       ]
 
-  -- else the fault that was read is
+  -- otherwise the fault is the one that was read
   pub read_fault : MayAllRunAfter P G [] ts → (f : TraceFault) → fault ≡ Some f → IsVerdictOn P G es ts (Err f)
   read_fault may f is =
       let r = subst (IsReadAs P es ts) is read in
@@ -98,7 +98,7 @@ module _ (P : Plan) (G : Data) (es : List TraceRow) (ts : List Task) (jobs : All
         row = r.1;
       })
 
-  -- else a task that runs is missing
+  -- otherwise a task that runs is missing
   unfinished : MayAllRunAfter P G [] ts → fault ≡ None → (t : Task) × IsIn t (ran P G) × (IsIn t ts → ⊥) → (f : TraceFault) → f ≡ record { row = length ts + 2; code = Unfinished } → IsVerdictOn P G es ts (Err f)
   unfinished may is missing f same =
       let r = subst (IsReadAs P es ts) is read in
@@ -115,7 +115,7 @@ module _ (P : Plan) (G : Data) (es : List TraceRow) (ts : List Task) (jobs : All
       entries_length [] = refl
       entries_length (u ∷ us) = omega (arith, entries_length us)
 
-  -- else the order is whole
+  -- otherwise the order is whole
   finished : IsConsistent P → MayAllRunAfter P G [] ts → fault ≡ None → ((t : Task) → IsIn t (ran P G) → IsIn t ts) → (o : Outcome) → o ≡ answer P G → IsVerdictOn P G es ts (Ok o)
   finished con may is all o same = (same, subst (IsReadAs P es ts) is read, whole P G con ts may all)
 
@@ -123,7 +123,7 @@ module _ (P : Plan) (G : Data) (es : List TraceRow) (ts : List Task) (jobs : All
   at_end con keys ks may is f same (Ok o) e = finished con may is (λ t i. subst (IsIn t) ks (e.1 t i)) o e.0
   at_end con keys ks may is f same (Err g) e = unfinished may is (e.1.0, e.1.1, λ i. e.1.2 (subst (IsIn e.1.0) (sym ks) i)) g (e.0 ∙ same)
 
--- what the verdict on the rows of a text says of the text
+-- what the verdict on the rows of a text shows of the text
 module _ (P : Plan) (G : Data) (con : IsConsistent P) (text : List ℕ) (ts : List Task) (fault : Option TraceFault) (r : IsReading P text ts fault) where
   fault_of_text : (f : TraceFault) → IsVerdictOn P G r.entries ts (Err f) → IsTraceFault P G text f
   fault_of_text f v = of_tasks r.entries r.at_most r.spelled v
@@ -148,7 +148,7 @@ pub verdict_answer : (P : Plan) (G : Data) (es : List TraceRow) (ts : List Task)
 verdict_answer P G es ts (Err f) v = tt
 verdict_answer P G es ts (Ok o) v = v.0
 
--- what the turns of tasks came to
+-- how the runs of the tasks ended
 pub stopped_at : (P : Plan) (G : Data) (ts : List Task) (w : WorldView) (o : Option ℕ) (index : ℕ) → MatchOption o (HasRunInOrder P G ts w) (λ i. StopsAt P G ts i) → o ≡ Some index → StopsAt P G ts index
 stopped_at P G ts w o index h is = subst (λ x. MatchOption x (HasRunInOrder P G ts w) (λ i. StopsAt P G ts i)) is h
 

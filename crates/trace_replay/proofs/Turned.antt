@@ -34,7 +34,7 @@ use Rattle.list_lemmas.proofs.Truth.{by_test}
 use Rattle.trace_replay.specs.Replaying.{HasRunInOrder, IsOfOneRank, StopsAt}
 use Rattle.trace_replay.proofs.Following.{may_follow_finished}
 
--- where there is one rank, each task is of it, and no item needs a message
+-- if there is one rank, each task belongs to it, and no item needs a message
 module _ (P : Plan) where
   of_one_rank : (t : Task) → rank_of P 1 t ≡ 0
   of_one_rank t = omega (arith, home_below P 1 t (omega arith))
@@ -53,7 +53,7 @@ finished : (P : Plan) (G : Data) (v : WorldState) → IsSoundWorld P G 1 v → (
 finished P G v sound u c = by_test (has_outputs (ended P G u)) (λ o. inr (λ x m. sound.within u x c o (all_within P u x m))) (λ o. inl o)
 
 module _ (P : Plan) (G : Data) (con : IsConsistent P) (ts : List Task) (w : WorldView) (h : HasRunInOrder P G ts w) where
-  -- a task runs where it may
+  -- a task runs if and only if it may
   runs_or_not : (t : Task) → IsTask P t → MayClaim P w.state.machine t ↔ MayRunAfter P G ts t
   runs_or_not t job =
       let law = may_follow_finished P G con w.state.machine h.world.sound.state (finished P G w.state h.world.sound) t job in (
@@ -100,7 +100,7 @@ module _ (P : Plan) (G : Data) (con : IsConsistent P) (ts : List Task) (w : Worl
     is_index = at;
   }
 
--- a world of one rank is quiet exactly where each task that runs has run there
+-- a world of one rank is quiet if and only if each task that runs has run there
 module _ (P : Plan) (G : Data) (con : IsConsistent P) (w : WorldView) (o : IsOfOneRank P G w) where
   pub quiet_all : IsQuiet w.plan w.state → (t : Task) → IsIn t (ran P G) → IsIn t w.state.machine.claims
   quiet_all quiet t i = (claims_are_ran P G con w.state.machine o.sound.state ((quiet_iff P G con 1 w.state o.sound).0 (subst (λ p. IsQuiet p w.state) o.plan quiet)) t).1 i

@@ -1,4 +1,6 @@
--- Tasks that run one after another, in the order of a list, and the verdict on rows. Source: this project's own choice.
+-- Tasks that run one after another, in the order of a list, and the verdict on rows.
+-- Carried by: inside `replay`, `judge_trace`.
+-- Tested by: `replay.txt`.
 use Rattle.std.specs.Prelude.{◌≡◌, ◌⊎◌, ℕ, List, [], ◌∷◌, ◌++◌, length, Result, Ok, Err}
 use Rattle.ptg_base.specs.Lists.{IsIn}
 use Rattle.ptg_base.specs.Task.{Task}
@@ -38,13 +40,13 @@ pub record StopsAt (P : Plan) (G : Data) (ts : List Task) (index : ℕ) : Type 0
   pub early : MayRunAfter P G before stopped → ⊥
   pub is_index : index ≡ length before
 
--- the verdict on a run that has had these tasks: the answer, where each task that runs is one of them, else this fault
+-- the verdict on a run of these tasks: the answer if each task that runs is one of them, else this fault
 abbrev pub IsEndOf : Plan → Data → List Task → TraceFault → Result Outcome TraceFault → Type 0
 IsEndOf P G ts unfinished (Ok o) = (o ≡ answer P G) × ((t : Task) → IsIn t (ran P G) → IsIn t ts)
 IsEndOf P G ts unfinished (Err f) = (f ≡ unfinished) × ((t : Task) × IsIn t (ran P G) × (IsIn t ts → ⊥))
 
--- the verdict on rows, of which these tasks were read: their first fault; or the answer, where the tasks are those of
--- all rows and a whole order
+-- the verdict on rows from which these tasks were read: the first fault of the rows, or the answer if the tasks are
+-- those of all rows and a whole order
 abbrev pub IsVerdictOn : Plan → Data → List TraceRow → List Task → Result Outcome TraceFault → Type 0
 IsVerdictOn P G es ts (Err f) = IsFaultOfRow P G es f ⊎ IsUnfinished P G es f
 IsVerdictOn P G es ts (Ok o) = (o ≡ answer P G) × AreRowsOf P es ts × IsWholeOrder P G ts

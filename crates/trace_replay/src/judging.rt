@@ -24,7 +24,8 @@ use ptg_base::{OutOfMemory, Refusal, TaskId};
 use std::alloc::Global;
 use trace_core::{TraceCode, TraceFault, TraceRefusal, read_rows};
 
-// The verdict on rows of which these tasks were read, up to the one with this fault, if one has a fault.
+// The verdict on rows, from the tasks that were read from them: those of all rows, or of the rows before the one with
+// this fault.
 fn judge_tasks(
     alloc: Global,
     m: &Matched,
@@ -57,7 +58,7 @@ fn judge_tasks(
     Ok(verdict)
 }
 
-// What becomes of a text that could not be read.
+// The result for a text that could not be read.
 fn unread(refusal: TraceRefusal) -> Result<Result<Outcome, TraceFault>, OutOfMemory>
     ensures fault { (f : TraceFaultValue) → refusal ≡ Fault f → result ≡ Ok (Err f) }
     ensures memory { refusal ≡ refusals.OutOfMemory → IsErr result }
@@ -68,8 +69,8 @@ fn unread(refusal: TraceRefusal) -> Result<Result<Outcome, TraceFault>, OutOfMem
     }
 }
 
-/// Runs the tasks of a list in its order on one thread: the answer of the job, if the list is a whole order; else the
-/// first fault of the list, by the row that its task would have in a trace.
+/// Runs the tasks of a list in its order, on one thread. Returns the answer of the job if the list is a whole order.
+/// Otherwise returns the first fault of the list, with the row that its task would have in a trace.
 pub fn replay(
     alloc: Global,
     m: &Matched,
@@ -92,8 +93,8 @@ pub fn replay(
     }
 }
 
-/// The verdict on a text as a trace of a job: its first fault, or the answer of the job, where it is the text of a
-/// whole order.
+/// The verdict on a text as a trace of a job: its first fault, or the answer of the job if it is the text of a whole
+/// order.
 pub fn judge_trace(
     alloc: Global,
     m: &Matched,

@@ -1,4 +1,4 @@
-//! Traces, replayed: a job run in the order of a list of tasks, on one thread.
+//! Replays a trace, on one thread in a world of one rank. Returns its first fault, or the answer of the job.
 #![tactic(auto)]
 
 mod judging;

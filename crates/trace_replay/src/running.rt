@@ -23,7 +23,8 @@ fn opened<'m>(alloc: Global, m: &'m Matched, given: Given) -> Result<World<'m>, 
     World::new(alloc, m, given, 1)
 }
 
-// Runs the tasks of a list one after another, up to the first that may not run: its index.
+// Runs the tasks of a list one after another, up to the first that may not run. Returns the index of that task, if
+// there is one.
 pub(crate) fn run_in_order<'m>(
     alloc: Global,
     m: &'m Matched,

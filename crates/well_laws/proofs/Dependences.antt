@@ -30,7 +30,7 @@ from_arguments env (target.Element coll indices) have = list_all-from_members (h
 from_arguments env target.New have = refl
 from_arguments env target.Null have = refl
 
--- the guard of a dependence has its value, if there is one
+-- the guard of a dependence has a value, if the dependence has a guard
 abbrev pub GuardHasValue : List ℤ → DepPlan → Type 0
 GuardHasValue env d = (e : Term) → d.guard ≡ Some e → HasValue env e
 
@@ -38,7 +38,7 @@ known : {A E : Type 0} (r : Result A E) (x : A) → r ≡ Ok x → IsOk r
 known (Ok y) x e = refl
 known (Err f) x e = absurd cc
 
--- a dependence whose guard has a value has a target or none, and one whose guard has none has a fault
+-- if finding a dependence's target doesn't fail, its guard has a value
 guard_of : (env : List ℤ) (d : DepPlan) (o : Option Target) → active_target d env ≡ Ok o → GuardHasValue env d
 guard_of env d o e c is = by (value c env) refl where
   by : (r : Result ℤ ExprFault) → value c env ≡ r → HasValue env c
@@ -58,7 +58,7 @@ target_of env d has = by d.guard refl where
   by None is = refl
   by (Some c) is = valued (value c env) (has c is)
 
--- a dependence of a list that is reached: where the first that holds counts alone, none before it holds
+-- a dependence of a list is reached: if only the first that holds counts, none before it holds
 pub record IsReachedIn (first_only : Bool) (env : List ℤ) (ds : List DepPlan) (d : DepPlan) : Type 0 where
   pub before : List DepPlan
   pub after : List DepPlan
@@ -85,7 +85,7 @@ reached_later first_only env d e ds none reached = record {
   ];
 }
 
--- what is reached is the first, or is reached after it
+-- a reached dependence is the first, or is reached in the list after it
 reached_cases : (first_only : Bool) (env : List ℤ) (d e : DepPlan) (ds : List DepPlan) → IsReachedIn first_only env (d ∷ ds) e → (e ≡ d) ⊎ (IsReachedIn first_only env ds e × (first_only ≡ true → held_target d env ≡ None))
 reached_cases first_only env d e ds reached = by reached.before reached.listed reached.none_before where
   by : (before : List DepPlan) → d ∷ ds ≡ before ++ e ∷ reached.after → (first_only ≡ true → (b : DepPlan) → IsIn b before → held_target b env ≡ None) → (e ≡ d) ⊎ (IsReachedIn first_only env ds e × (first_only ≡ true → held_target d env ≡ None))
@@ -95,7 +95,7 @@ reached_cases first_only env d e ds reached = by reached.before reached.listed r
       let rest : ds ≡ bs ++ e ∷ reached.after = cc in
       inr (record { before = bs; after = reached.after; listed = rest; none_before = λ f c among. none f c (inr among) }, λ f. none f d (inl same))
 
--- the guards that are reached and the arguments of the active targets have their values
+-- the guards of the reached dependences and the arguments of the active targets have their values
 pub record HaveValues (first_only : Bool) (env : List ℤ) (ds : List DepPlan) : Type 0 where
   pub guards : (d : DepPlan) → IsReachedIn first_only env ds d → GuardHasValue env d
   pub arguments : (x : Target) → IsIn x (held_targets first_only ds env) → ArgumentsHaveValues env x
@@ -110,7 +110,7 @@ module _ (env : List ℤ) where
   targets_then : (first_only : Bool) (d : DepPlan) (ds : List DepPlan) (o : Option Target) → active_target d env ≡ Ok o → held_targets first_only (d ∷ ds) env ≡ held_then first_only o (held_targets first_only ds env)
   targets_then first_only d ds o at = ap (λ h. held_then first_only h (held_targets first_only ds env)) (held d o at)
 
-  -- what the walk found to be well has its values
+  -- if the walk finds the list well, the list has its values
   after_one : (first_only : Bool) (d : DepPlan) (ds : List DepPlan) (r : Result (Option Target) ExprFault) → active_target d env ≡ r → (are_well first_only env ds ≡ true → HaveValues first_only env ds) → is_well_then first_only env r (are_well first_only env ds) ≡ true → HaveValues first_only env (d ∷ ds)
   after_one first_only d ds (Err f) at later e = absurd cc
   after_one first_only d ds (Ok None) at later e =
@@ -149,7 +149,7 @@ module _ (env : List ℤ) where
   well_have first_only [] e = record { guards = λ d reached. absurd (none_reached first_only env d reached); arguments = λ x among. absurd among }
   well_have first_only (d ∷ ds) e = after_one first_only d ds (active_target d env) refl (well_have first_only ds) e
 
-  -- what has its values is found to be well
+  -- if the list has its values, the walk finds it well
   before_one : (first_only : Bool) (d : DepPlan) (ds : List DepPlan) (r : Result (Option Target) ExprFault) → active_target d env ≡ r → IsOk r → (HaveValues first_only env ds → are_well first_only env ds ≡ true) → HaveValues first_only env (d ∷ ds) → is_well_then first_only env r (are_well first_only env ds) ≡ true
   before_one first_only d ds (Err f) at ok later have = absurd cc
   before_one first_only d ds (Ok None) at ok later have =
@@ -204,7 +204,7 @@ module _ (env : List ℤ) where
     | inr there ↦ later_active first_only d ds x (held_target d env) refl there.1 (reached_active first_only ds x e there.0 at)
   ]
 
--- where not only the first counts, each is reached
+-- if not only the first counts, each is reached
 pub each_reached : (env : List ℤ) (ds : List DepPlan) (d : DepPlan) → IsIn d ds → IsReachedIn false env ds d
 each_reached env [] d among = absurd among
 each_reached env (e ∷ es) d among = elim among [

@@ -57,7 +57,7 @@ module _ (env : List ℤ) (f : FlowPlan) where
     λ p. reached_active env false f.outs x p.0 (each_reached env f.outs p.0 p.1) p.2,
   )
 
--- none of these flows is ill exactly where each is well
+-- if none of these flows is the first ill one, each is well
 no_ill_flow : (env : List ℤ) (n : ℕ) (fs : List FlowPlan) → first_ill_flow env n fs ≡ None → (f : FlowPlan) → IsIn f fs → is_well_flow env f ≡ true
 no_ill_flow env n [] e f among = absurd among
 no_ill_flow env n (g ∷ gs) e f among = by (λ k. no_ill_flow env (suc n) gs k f) (is_well_flow env g) refl e where

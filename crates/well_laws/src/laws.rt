@@ -11,14 +11,14 @@ ghost use Rattle.dep_iter.specs.Active.{flow_ins, flow_outs, held_target};
 ghost use Rattle.dep_iter.specs.Well.{IsWellTask};
 ghost use Rattle.well_laws.specs.Values.{IsReached, TaskHasValues};
 
-/// A law: a task is well exactly where each expression that it needs has a value: each index of its affinity, its
-/// priority, the guard of each dependence that is reached, and each argument of each active target.
+/// A law: a task is well if and only if each expression that it needs has a value. It needs each index of its affinity,
+/// its priority, the guard of each dependence that is reached, and each argument of each active target.
 pub fn a_well_task_has_its_values()
     ensures { (P : Plan) (t : Task) → IsWellTask P t ↔ TaskHasValues P t }
 {}
 
-/// A law: the targets of a flow's in dependences that are active are those of the dependences that are reached and
-/// hold; of its out dependences they are those of all that hold.
+/// A law: the active targets among a flow's in dependences are those of the dependences that are reached and hold. The
+/// active targets among its out dependences are those of all that hold.
 pub fn the_active_targets_are_those_that_are_reached()
     ensures ins { (env : List ℤ) (f : FlowPlan) (x : Target)
         → IsIn x (flow_ins env f) ↔ ((d : DepPlan) × IsReached env f d × (held_target d env ≡ Some x)) }

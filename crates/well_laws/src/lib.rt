@@ -1,4 +1,4 @@
-//! A well task has a value for each expression that it needs, stated apart from the walk that looks for a fault.
+//! Laws of well tasks that no program cites: a task is well if and only if each expression that it needs has a value.
 #![tactic(auto)]
 
 mod laws;

@@ -1,4 +1,4 @@
--- Every list of words is a command, or breaks one of the rules.
+-- Every list of words forms a command or breaks a rule.
 use Rattle.std.proofs.Common.{◌≡◌, ℕ, Bool, true, false, not, List, [], ◌∷◌, length, Option, Some, None, refl, sym, ap, ◌∙◌, inl, inr, arith, ◌==◌}
 use Rattle.std.specs.Prelude.{◌⊎◌, option_map}
 use Rattle.std.specs.List.{All, Any, list_any}
@@ -13,7 +13,7 @@ use Rattle.ptg_words.proofs.Rules.{breaks_none, breaks_number, to_rule}
 use Rattle.ptg_words.proofs.ValuesRead.{counted}
 use Rattle.word_laws.specs.Commands.{CommandOrUsage}
 
--- arguments whose parts break a rule
+-- arguments whose parts break a rule are a usage error
 pub breaks_rule : (ws : List (List ℕ)) (v : Verb) (ps : List Part) → read ws ≡ Some (v, ps) → is_read (operand_count v) ps ≡ false → IsUsage ws
 breaks_rule ws v ps e h = go (list_any is_stray ps) (list_any is_lacking ps) (has_twice ps) (length (operands ps) == operand_count v) refl refl refl refl
   where
@@ -24,7 +24,7 @@ breaks_rule ws v ps e h = go (list_any is_stray ps) (list_any is_lacking ps) (ha
     go false false false false ea eb ec ed = operands_differ (to_rule has_wrong_count ws v ps e (ap not ed))
     go false false false true ea eb ec ed = let bad : true ≡ false = sym (rw (ea, eb, ec, ed) refl) ∙ h in absurd cc
 
--- ---- the command of parts that keep the rules
+-- ---- the command of parts that break no rule
 
 all_formed : (v : Verb) (ops : List (List ℕ)) (ps : List Part) → length ops ≡ operand_count v → (order : Order) × (formed v ops ps ≡ Some order)
 all_formed verbs.Run (jdf ∷ data_name ∷ []) ps n = (_, refl)

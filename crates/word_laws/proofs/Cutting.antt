@@ -5,7 +5,7 @@ use Rattle.std.specs.List.{after_first, before_first, list_any, prefix_len}
 use Rattle.std.specs.Prelude.{if◌then◌else◌}
 use Rattle.ptg_words.specs.Parts.{text_after}
 
--- a text with an `=`: what is before the first, and what is after it
+-- a text with an `=`: what comes before the first one, and what comes after it
 pub record IsCut (v : List ℕ) : Type 0 where
   pub name : List ℕ
   pub text : List ℕ
@@ -13,7 +13,7 @@ pub record IsCut (v : List ℕ) : Type 0 where
   pub before : before_first (λ b. b == 61) v ≡ name
   pub after : text_after v ≡ Some text
 
--- a text without one
+-- a text without an `=`
 pub record IsWhole (v : List ℕ) : Type 0 where
   pub before : before_first (λ b. b == 61) v ≡ v
   pub after : text_after v ≡ None

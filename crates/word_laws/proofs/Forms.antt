@@ -1,4 +1,4 @@
--- What the form of a word says of it.
+-- What a word is, from its form.
 use Rattle.std.proofs.Common.{◌≡◌, ℕ, Bool, true, false, not, ◌==◌, ◌&&◌, ◌||◌, List, [], ◌∷◌, ◌++◌, ◌⊎◌, inl, inr, Option, Some, None, is_some, codes, refl, sym, ap, ◌∙◌, subst, eq-eqb}
 use Rattle.std.proofs.lemmas.Bool.{eqb-true, false_from_ne_true, false≢true, and_parts, and_from}
 use Rattle.std.proofs.lemmas.Slice.Eq.{bytes_eq-Decides}
@@ -33,7 +33,7 @@ flags_are Replay = refl
 flags_are Certify = refl
 flags_are Ranks = refl
 
--- what a form says of its word
+-- what the word is if it has this form
 abbrev pub Says : Verb → List ℕ → Form → Type 0
 Says verb word plain = begins_with_dash word ≡ false
 Says verb word (named workers None) = (has_numbers verb ≡ true) × (word ≡ codes "--workers")
@@ -57,7 +57,7 @@ no_dash b w e =
 clash : {P : Type 0} (b : Bool) → b ≡ true → b ≡ false → P
 clash b e f = absurd (false≢true (sym f ∙ e))
 
--- the name of an option of the verb, and whether it has a text, by what follows `--`
+-- what follows `--` is an option of the verb
 abbrev IsOption : Verb → List ℕ → Type 0
 IsOption verb v =
     ((has_numbers verb ≡ true) × (before_first (λ b. b == 61) v ≡ codes "workers"))
@@ -87,7 +87,7 @@ module _ (verb : Verb) where
       let second : c ≡ 45 = cc in
       false≢true (sym f ∙ eq-eqb c 45 second)
 
-  -- the word with these bytes after `--`
+  -- the word that has these bytes after `--`
   module _ (b c : ℕ) (v : List ℕ) (e : (b == 45) ≡ true) (f : (c == 45) ≡ true) where
     begins : b ∷ c ∷ v ≡ 45 ∷ 45 ∷ v
     begins = ap (λ x. x ∷ c ∷ v) (eqb-true b 45 e) ∙ ap (λ x. 45 ∷ x ∷ v) (eqb-true c 45 f)
@@ -179,7 +179,7 @@ module _ (verb : Verb) where
   has_form word flag s ne = preload_alone s.0 s.1
   has_form word unknown s ne = absurd (ne refl)
 
--- what the forms are by: a plain word begins with no `-`, and a name alone takes the next word
+-- two tests of a form: plain words do not begin with `-`, and an option's name alone takes the next word
 abbrev pub is_plain : Form → Bool
 is_plain plain = true
 is_plain _ = false

@@ -1,4 +1,4 @@
--- The parts of words by the forms of the words.
+-- The parts of words, from the forms of the words.
 use Rattle.std.proofs.Common.{◌≡◌, ℕ, ◌+◌, Bool, true, false, not, cond, ◌&&◌, ◌||◌, List, [], ◌∷◌, ◌++◌, ◌↔◌, Option, Some, None, is_some, length, map, refl, sym, ap, ◌∙◌, arith}
 use Rattle.std.proofs.lemmas.Bool.{false≢true, or_right}
 use Rattle.std.specs.List.{filter, list_any, zip}
@@ -41,10 +41,10 @@ stray_iff verb words = (
   λ p. stray_is verb None words ∙ list_any-from_member (λ (w : List ℕ). is_unknown (form_of (options_of verb) w)) words p.0 p.1 (by_test (is_unknown (form_of (options_of verb) p.0)) (λ e. e) (λ e. absurd (p.2 (known_has_form verb p.0 e)))),
 )
 
--- ---- values that are lacking
+-- ---- lacking values
 
 module _ (verb : Verb) where
-  -- no word follows, or one that is not plain
+  -- whether no word follows, or one that is not plain
   abbrev none_next : List (List ℕ) → Bool
   none_next [] = true
   none_next (word ∷ words) = not (is_plain (form_of (options_of verb) word))
@@ -93,7 +93,7 @@ module _ (verb : Verb) where
     by on true false at n k = on k
     by on false y at n k = on k
 
-  -- a list that lacks a value also lacks it after more words
+  -- if a list of words lacks a value, it does after more words too
   from_lacks : (before : List (List ℕ)) (option : List ℕ) (rest : List (List ℕ)) → IsTrue (takes_next verb option) → NoValueFollows rest → lacks verb (before ++ option ∷ rest) ≡ true
   from_lacks [] option rest takes none =
       ap (λ x. (x && none_next verb rest) || lacks verb rest) (sym (taking verb option) ∙ takes)
@@ -111,7 +111,7 @@ module _ (verb : Verb) where
 -- ---- operands
 
 module _ (verb : Verb) where
-  -- the form says whether a word is an operand, and whether the next one may be a value
+  -- the form of a word tells whether it is an operand, and whether the next one may be a value
   operands_next : (due : Option NumberOption) (f : Form) (word : List ℕ) (rest : Option NumberOption → List Part) (others : Bool → List (List ℕ))
       → ((next : Option NumberOption) → operands (rest next) ≡ others (is_some next))
       → operands (after due f word rest) ≡ cond (not (is_some due) && is_plain f) (word ∷ others (is_name_alone f)) (others (is_name_alone f))
@@ -126,7 +126,7 @@ module _ (verb : Verb) where
   operands_next (Some d) flag word rest others same = same None
   operands_next (Some d) unknown word rest others same = same None
 
-  -- the operands from a word on, where the word before it may take it as its value
+  -- the operands from a word on; the flag tells whether the word before takes it as its value
   abbrev from_word : Bool → List (List ℕ) → List (List ℕ)
   from_word due [] = []
   from_word due (word ∷ words) = cond (not due && is_plain (form_of (options_of verb) word)) (word ∷ from_word (is_name_alone (form_of (options_of verb) word)) words) (from_word (is_name_alone (form_of (options_of verb) word)) words)
@@ -159,7 +159,7 @@ module _ (verb : Verb) where
   pub which : (words : List (List ℕ)) → operands (parts (options_of verb) words) ≡ map (λ (p : List ℕ × List ℕ). p.1) (filter (is_other verb) (with_previous words))
   which words = operands_are None words ∙ others_are false [] words first_is
 
-  -- each word begins with `-`, or is a value, or is another word, and only one of these
+  -- each word begins with `-`, is a value, or is neither, and only one of these
   one_kind : (takes dash : Bool) (word : List ℕ) (values others : List (List ℕ × List ℕ)) (p : List ℕ × List ℕ) (dashes : List (List ℕ)) (n : ℕ)
       → length others + (length dashes + length values) ≡ n
       → length (cond (not takes && not dash) (p ∷ others) others) + (length (cond dash (word ∷ dashes) dashes) + length (cond (takes && not dash) (p ∷ values) values)) ≡ 1 + n

@@ -1,4 +1,4 @@
--- The rules that arguments break, over the words themselves.
+-- The rules that arguments break, stated for the words themselves.
 use Rattle.std.proofs.Common.{◌≡◌, ◌≢◌, ℕ, Bool, true, false, not, ◌==◌, List, ◌∷◌, ◌↔◌, inl, inr, length, Some, None, option_map, sym, ap, ◌∙◌, eq-eqb, ne_eqb}
 use Rattle.std.proofs.lemmas.Bool.{false≢true, or_cases, or_left, or_right, not-true}
 use Rattle.std.specs.List.{list_any}

@@ -1,4 +1,4 @@
--- The texts of options with a number, by the words that give them.
+-- The texts of options with a number, from the words that give them.
 use Rattle.std.proofs.Common.{◌≡◌, ℕ, Bool, true, false, cond, List, [], ◌∷◌, ◌++◌, ◌⊎◌, ◌↔◌, ◌==◌, inl, inr, Option, Some, None, drop, codes, refl, sym, ap, ◌∙◌, subst, eq-eqb}
 use Rattle.std.proofs.lemmas.Bool.{false≢true}
 use Rattle.std.specs.List.{zip}
@@ -20,7 +20,7 @@ abbrev pub with_text : NumberOption → List ℕ → List ℕ
 with_text workers text = codes "--workers=" ++ text
 with_text shards text = codes "--shards=" ++ text
 
--- the option of this form that takes the next word
+-- the option that takes the word after one of this form, if there is one
 abbrev next_due : Form → Option NumberOption
 next_due (named s None) = Some s
 next_due _ = None
@@ -42,7 +42,7 @@ of_itself : (s : NumberOption) → is_of s s ≡ true
 of_itself workers = refl
 of_itself shards = refl
 
--- the one text that may be there
+-- a member of `one_if b x` is x, and b holds
 only : (b : Bool) (x text : List ℕ) → IsIn text (one_if b x) → (b ≡ true) × (text ≡ x)
 only true x text i = elim i [ inl e ↦ (refl, e) | inr none ↦ absurd none ]
 only false x text i = absurd i
@@ -84,7 +84,7 @@ module _ (verb : Verb) (s : NumberOption) where
       texts_next due (form word) word (λ next. parts_from (options_of verb) next words)
       ∙ ap (λ ts. own due (form word) word ++ ts) (texts_are (next_due (form word)) words)
 
-  -- what a word of these forms is
+  -- what the word is if it takes the next one
   due_is : (word : List ℕ) (f : Form) → Says verb word f → (d : NumberOption) → next_due f ≡ Some d → (has_numbers verb ≡ true) × (word ≡ alone d)
   due_is word plain says_it d e = absurd cc
   due_is word (named workers None) says_it d e = let same : workers ≡ d = cc in (says_it.0, says_it.1 ∙ ap alone same)
@@ -97,7 +97,7 @@ module _ (verb : Verb) (s : NumberOption) where
   text_is word workers text says_it = (says_it.0, says_it.1)
   text_is word shards text says_it = (says_it.0, says_it.1)
 
-  -- the forms of these words
+  -- a word's third character tells the options apart
   abbrev third : List ℕ → ℕ
   third (a ∷ b ∷ c ∷ rest) = c
   third _ = 0
@@ -158,7 +158,7 @@ module _ (verb : Verb) (s : NumberOption) where
   plain_form word flag it e = absurd (false≢true (sym e ∙ ap begins_with_dash it.1))
   plain_form word unknown it e = absurd (false≢true (sym e ∙ it.0))
 
-  -- a text is given by the words after this one
+  -- a text is given by these words, the first of which follows `previous`
   abbrev Given : List ℕ → List (List ℕ) → List ℕ → Type 0
   Given previous words text =
       (has_numbers verb ≡ true) × (IsIn (with_text s text) words ⊎ (IsIn (alone s, text) (zip (previous ∷ words) words) × (begins_with_dash text ≡ false)))

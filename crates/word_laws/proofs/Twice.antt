@@ -1,4 +1,4 @@
--- Options that occur twice, by the names of the words.
+-- Options that occur twice, from the names of the words.
 use Rattle.std.proofs.Common.{◌≡◌, ℕ, Bool, true, false, ◌||◌, List, [], ◌∷◌, ◌++◌, ◌⊎◌, ◌↔◌, inl, inr, Option, Some, None, ◌==◌, codes, refl, sym, ap, ◌∙◌, eq-eqb}
 use Rattle.std.proofs.lemmas.Bool.{false≢true, or_right}
 use Rattle.std.proofs.lemmas.Slice.Eq.{bytes_eq-Decides}
@@ -11,7 +11,7 @@ use Rattle.ptg_words.specs.Words.{options_of}
 use Rattle.word_laws.specs.Forms.{HasForm, IsPreload, IsShards, IsWorkers, OccursTwice, begins_with_dash, preload_alone, shards_alone, shards_with, workers_alone, workers_with}
 use Rattle.word_laws.proofs.Forms.{Says, says}
 
--- the names of the options that parts are, and whether one is there twice
+-- the names of the options that parts are, and whether one occurs twice
 abbrev names : List Part → List (List ℕ)
 names ps = filter_map option_of ps
 
@@ -35,7 +35,7 @@ twice_is (lacking s ∷ ps) = λ i. named_is (name_of s) ps i || twice_is ps i
 twice_is (preload ∷ ps) = λ i. named_is (codes "preload") ps i || twice_is ps i
 twice_is (stray ∷ ps) = twice_is ps
 
--- the name of the option that a word of this form is
+-- the name of the option that a word of this form is, if it is one
 abbrev form_name : Form → Option (List ℕ)
 form_name plain = None
 form_name (named s text) = Some (name_of s)
@@ -67,7 +67,7 @@ module _ (verb : Verb) where
   names_next (Some d) flag word rest others same = ap (λ ns. name_of d ∷ codes "preload" ∷ ns) (same None)
   names_next (Some d) unknown word rest others same = ap (λ ns. name_of d ∷ ns) (same None)
 
-  -- the names of the words, in their order
+  -- the names of the options among the words, in their order
   abbrev word_names : List (List ℕ) → List (List ℕ)
   word_names [] = []
   word_names (word ∷ words) = with_name (word_name word) (word_names words)
@@ -78,7 +78,7 @@ module _ (verb : Verb) where
   names_are (Some s) [] = refl
   names_are due (word ∷ words) = names_next due (form_of (options_of verb) word) word (λ next. parts_from (options_of verb) next words) (word_names words) (λ next. names_are next words)
 
-  -- two words of one name
+  -- two of the words have one name
   record SameName (words : List (List ℕ)) : Type 0 where
     name : List ℕ
     before : List (List ℕ)
@@ -146,7 +146,7 @@ module _ (verb : Verb) where
     more None k = k
     more (Some n) k = ap (λ b. list_any (bytes_eq n) (word_names (before ++ first ∷ (between ++ second ∷ rest))) || b) k ∙ or_right (list_any (bytes_eq n) (word_names (before ++ first ∷ (between ++ second ∷ rest)))) true refl
 
-  -- a word of a name is that option
+  -- a word is the option of this name
   abbrev IsNamed : List ℕ → List ℕ → Type 0
   IsNamed name word =
       ((name ≡ codes "workers") × IsWorkers verb word) ⊎ (((name ≡ codes "shards") × IsShards verb word) ⊎ ((name ≡ codes "preload") × IsPreload verb word))

@@ -1,9 +1,10 @@
--- Arguments form one command, or break a rule, and never both.
+-- Arguments form one command or break a rule, and never both.
+-- Carried by: law `words_form_one_command`.
 use Rattle.std.specs.Prelude.{◌≡◌, ◌⊎◌, ℕ, List}
 use Rattle.ptg_words.specs.declared.order.Order.{Order}
 use Rattle.ptg_words.specs.Words.{IsUsage, Orders}
 
--- arguments form one command at most
+-- arguments form at most one command
 abbrev pub OneCommand : Type 0
 OneCommand = (words : List (List ℕ)) (a b : Order) → Orders words a → Orders words b → a ≡ b
 

@@ -1,5 +1,7 @@
--- The words after a verb, each by itself and with its neighbours. Source: this project's own choice; the forms of
--- options are those of GNU's long options.
+-- The forms of the words after a verb, each by itself and with its neighbours. Source of the options' forms: GNU's long
+-- options.
+-- Carried by: law `the_rules_are_over_the_words`.
+-- Tested by: `usage.txt`, `options.txt`.
 use Rattle.std.specs.Prelude.{◌≡◌, ◌⊎◌, ◌&&◌, ◌||◌, not, ℕ, Bool, true, false, IsTrue, List, [], ◌∷◌, ◌++◌, codes}
 use Rattle.std.specs.List.{zip}
 use Rattle.std.specs.Str.{bytes_eq}
@@ -7,23 +9,23 @@ use Rattle.ptg_base.specs.Lists.{IsIn}
 use Rattle.ptg_words.specs.declared.verbs.Verb.{Verb}
 use Rattle.ptg_words.specs.declared.verbs.Verb.TheVariants.{Run, Trace}
 
--- the first character is `-`
+-- whether the first character is `-`
 abbrev pub begins_with_dash : List ℕ → Bool
 begins_with_dash [] = false
 begins_with_dash (b ∷ bs) = bytes_eq (b ∷ []) (codes "-")
 
--- `run` and `trace` have `--workers` and `--shards`
+-- whether the verb has `--workers` and `--shards`: `run` and `trace` do
 abbrev pub has_numbers : Verb → Bool
 has_numbers Run = true
 has_numbers Trace = true
 has_numbers _ = false
 
--- `run` alone has `--preload`
+-- whether the verb has `--preload`: `run` alone does
 abbrev pub has_flag : Verb → Bool
 has_flag Run = true
 has_flag _ = false
 
--- a word of a form that the verb has: an operand or a value, which begins with no `-`, or an option of the verb
+-- a word of a form that the verb has: an operand or a value, which does not begin with `-`, or an option of the verb
 pub data HasForm (verb : Verb) (word : List ℕ) : Type 0 where
   operand_or_value : begins_with_dash word ≡ false → HasForm verb word
   workers_alone : has_numbers verb ≡ true → word ≡ codes "--workers" → HasForm verb word
@@ -32,16 +34,17 @@ pub data HasForm (verb : Verb) (word : List ℕ) : Type 0 where
   shards_with : (text : List ℕ) → has_numbers verb ≡ true → word ≡ codes "--shards=" ++ text → HasForm verb word
   preload_alone : has_flag verb ≡ true → word ≡ codes "--preload" → HasForm verb word
 
--- an option of the verb that takes a value, without `=`: the next word is its value, unless that begins with `-`
+-- whether the word is an option of the verb with a number, without `=`: the next word is its value, unless that begins
+-- with `-`
 abbrev pub takes_next : Verb → List ℕ → Bool
 takes_next verb word = has_numbers verb && (bytes_eq word (codes "--workers") || bytes_eq word (codes "--shards"))
 
--- no word follows that can be a value: none at all, or one that begins with `-`
+-- no value follows: there is no next word, or it begins with `-`
 abbrev pub NoValueFollows : List (List ℕ) → Type 0
 NoValueFollows [] = Unit {0}
 NoValueFollows (word ∷ words) = IsTrue (begins_with_dash word)
 
--- an option that takes the next word as its value is followed by none
+-- no value follows some option that takes the next word as its value
 pub record LacksValue (verb : Verb) (words : List (List ℕ)) : Type 0 where
   pub before : List (List ℕ)
   pub option : List ℕ
@@ -54,11 +57,11 @@ pub record LacksValue (verb : Verb) (words : List (List ℕ)) : Type 0 where
 abbrev pub with_previous : List (List ℕ) → List (List ℕ × List ℕ)
 with_previous words = zip ([] ∷ words) words
 
--- a value: a word that begins with no `-` and comes right after an option that takes it
+-- whether the word is a value: it does not begin with `-`, and comes right after an option that takes it
 abbrev pub is_value : Verb → List ℕ × List ℕ → Bool
 is_value verb p = takes_next verb p.0 && not (begins_with_dash p.1)
 
--- neither an option nor a value
+-- whether the word neither begins with `-` nor is a value
 abbrev pub is_other : Verb → List ℕ × List ℕ → Bool
 is_other verb p = not (takes_next verb p.0) && not (begins_with_dash p.1)
 
@@ -76,7 +79,7 @@ IsShards verb word =
 abbrev pub IsPreload : Verb → List ℕ → Type 0
 IsPreload verb word = (has_flag verb ≡ true) × (word ≡ codes "--preload")
 
--- two of the words are so
+-- two of the words have this property
 pub record OccursTwice (Is : List ℕ → Type 0) (words : List (List ℕ)) : Type 0 where
   pub before : List (List ℕ)
   pub first : List ℕ

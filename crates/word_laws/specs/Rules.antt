@@ -1,4 +1,6 @@
--- The rules of the command line over the words themselves. Source: this project's own choice.
+-- The rules of the command line, stated for the words themselves, and the words that break one.
+-- Carried by: law `the_rules_are_over_the_words`.
+-- Tested by: `usage.txt`, `options.txt`.
 use Rattle.std.specs.Prelude.{◌≡◌, ◌≢◌, ℕ, true, false, List, ◌∷◌, length, map}
 use Rattle.std.specs.List.{Any, filter}
 use Rattle.ptg_base.specs.Limits.{most_shards, most_workers}
@@ -11,9 +13,9 @@ use Rattle.word_laws.specs.Forms.{HasForm, IsPreload, IsShards, IsTextOfShards, 
 abbrev pub other_words : Verb → List (List ℕ) → List (List ℕ)
 other_words verb words = map (λ ((before, word) : List ℕ × List ℕ). word) (filter (is_other verb) (with_previous words))
 
--- The words after a verb break a rule: one of them is no text, is empty, or is `-` or `--`; one has a form that the
--- verb does not have; an option lacks its value; an option occurs twice; the other words are more or fewer than the
--- verb's operands; a number is none, or is out of its range.
+-- The verb or the words after it break a rule. A word is not UTF-8, is empty, or is `-` or `--`. A word has a form that
+-- the verb does not have. An option lacks its value. An option occurs twice. The words that are neither options nor
+-- values are more or fewer than the verb's operands. A text that must be a number is none, or is out of its range.
 pub data BreaksRule (verb : Verb) (first : List ℕ) (words : List (List ℕ)) : Type 0 where
   improper : Any (λ word. IsProper word → ⊥) (first ∷ words) → BreaksRule verb first words
   no_form : (word : List ℕ) → IsIn word words → (HasForm verb word → ⊥) → BreaksRule verb first words

@@ -1,4 +1,5 @@
-//! The rules of the command line over the words themselves, and that words give one command or break a rule.
+//! Laws of the command line that no program cites: arguments form one command or break a rule, and never both; and the
+//! rules, stated for the words themselves.
 #![tactic(auto)]
 
 mod laws;

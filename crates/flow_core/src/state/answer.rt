@@ -34,7 +34,7 @@ use ptg_base::{OutOfMemory, Seq, TaskId, Tile, WriteBack};
 use run_answer::{traps_in_task_order, waits_in_task_order, with_written};
 use term_core::Trap;
 
-// Adds the row of a task that has this cause of a trap.
+// Adds the row of a task that trapped with this cause.
 fn push_trap_row(t: &TaskId, cause: Trap, rows: &mut Vec<TrapRow>) -> Result<(), OutOfMemory>
     ensures { OnOk result (rows.new.items ≡ rows.old.items ++ record { task = t.now; cause = cause } ∷ []) }
 {
@@ -45,7 +45,7 @@ fn push_trap_row(t: &TaskId, cause: Trap, rows: &mut Vec<TrapRow>) -> Result<(),
     Ok(())
 }
 
-// Adds the row of a task that ended so, if it trapped.
+// Adds the row of a task with this end, if it trapped.
 fn push_trap_of_end(t: &TaskId, end: &End, rows: &mut Vec<TrapRow>) -> Result<(), OutOfMemory>
     ensures { OnOk result (rows.new.items ≡ rows.old.items ++ trap_rows t.now (Some end.now)) }
 {
@@ -80,7 +80,7 @@ impl State {
         self.complete_unless(m, given, found)
     }
 
-    // Gives up a run and its data, with this answer.
+    // Drops a run and its data, and returns this answer.
     fn ended_with(
         self,
         given: Given,
@@ -91,7 +91,7 @@ impl State {
         outcome
     }
 
-    // The answer that was found of a run that is not complete, or else that of a complete one.
+    // The answer that was found for an incomplete run, or else that of a complete one.
     fn complete_unless(
         self,
         m: &Matched,
@@ -112,7 +112,7 @@ impl State {
         }
     }
 
-    // The answer of a run that is not complete: its traps, or its stall. `None` where all tasks ran without a trap.
+    // The answer of a run that is not complete: its traps, or its stall. `None` if all tasks ran without a trap.
     fn incomplete(&self, m: &Matched) -> Result<Option<Outcome>, OutOfMemory>
         requires idle { (t : Task) → IsRunning self.now t → ⊥ }
         requires fits { FitsSome m.now self.now }
@@ -129,7 +129,7 @@ impl State {
         self.stall(m)
     }
 
-    // The answer of a run without traps that has stalled. `None` where all tasks ran.
+    // The answer of a run without traps that has stalled. `None` if all tasks ran.
     fn stall(&self, m: &Matched) -> Result<Option<Outcome>, OutOfMemory>
         requires { FitsSome m.now self.now }
         ensures { IfOk result (λ found.
@@ -207,7 +207,7 @@ impl State {
         Ok(())
     }
 
-    // The data with each place replaced to which a tile was written back.
+    // The data with the tile of each place replaced by what was written back to it, if anything was.
     fn final_data(self, m: &Matched, given: Given) -> Result<Given, OutOfMemory>
         requires fits { Fits m.now given self }
         requires known { DataFit m.now given }

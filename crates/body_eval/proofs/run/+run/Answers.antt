@@ -43,7 +43,7 @@ run_block-loop-statement-preserved t c =
       sizes = λ flow. c.run_statement.ensures.sizes flow ∙ c.loop-statement.invariant.sizes flow;
     }
 
--- the values that are left at a turn: the one of the turn, and those after it
+-- the values that are left at a turn: that of the turn, and those after it
 coming : (t : ℕ) (c : goal.run_turns-After-checked_add-next t) → values_left c.loop-next.next c.args.variable.hi ≡ c.in-Some.v ∷ values_left c.checked_add-next.result c.args.variable.hi
 coming t c =
     let f : FitsSigned w64 c.in-Some.v = search rules in

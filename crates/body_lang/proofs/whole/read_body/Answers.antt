@@ -3,7 +3,7 @@ use Rattle.body_names.specs.Environment.{environment_of}
 use Rattle.body_lang.proofs.Exactly.{of_tree, of_broken}
 use Rattle.body_lang.proofs.whole.read_body.Goals as goal
 
--- no more tokens are left at the fault than there are
+-- at the fault at most as many tokens are left as there are
 pub broken-requires : goal.broken-requires
 broken-requires c = (c.tree.ensures.exact.fault c.in-Err-Fault.fault (c.in-Err-Fault.is ∙ ap Err c.in-Err-Fault.field-0-is)).within
 

@@ -3,7 +3,7 @@ use Rattle.std.proofs.lemmas.Int.{to_z-of_z}
 use Rattle.plan_core.specs.Place.{IsColumn}
 use Rattle.dep_iter.proofs.hints.place_number.Goals as goal
 
--- the number of a column is its distance from 0
+-- a valid column equals its absolute value
 column_abs : (cols : Option ℕ) (j : ℤ) → IsColumn cols j → IsColumn cols (pos (nat_abs j))
 column_abs None j h = ap (λ z. pos (nat_abs z)) h
 column_abs (Some n) (pos k) h = h

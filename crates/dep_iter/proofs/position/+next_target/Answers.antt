@@ -7,7 +7,7 @@ use Rattle.dep_iter.specs.Active.{flow_targets, held_targets}
 use Rattle.dep_iter.specs.Walking.{targets_left}
 use Rattle.dep_iter.proofs.position.+next_target.Goals as goal
 
--- a walk whose dependences at hand have no target left goes on in the next flow
+-- if the flow at hand has no target left, the targets left are those from the next flow on
 entered : (d : Direction) (env : List ℤ) (p q : Position) (f : FlowPlan) (others : List FlowPlan)
     → held_targets p.first_only p.deps.now env ≡ [] → p.flows.now ≡ f ∷ others → q.flow ≡ p.next_flow
     → q.next_flow ≡ p.next_flow + 1 → q.flows.now ≡ others

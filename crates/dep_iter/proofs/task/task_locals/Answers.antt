@@ -7,7 +7,7 @@ use Rattle.dep_iter.specs.Tasks.{locals_with}
 use Rattle.dep_iter.proofs.Fitting.{locals_with-only}
 use Rattle.dep_iter.proofs.task.task_locals.Goals as goal
 
--- what is found is the task's only list of locals
+-- what is found are locals of a task of the class with this property; if nothing is found, there is no such task
 abbrev IsFound : ClassSpace → List ℤ → (List ℤ → Type 0) → Option (List ℤ) → Type 0
 IsFound s params Q o = MatchOption o (IsIn params (tasks s) → ⊥) (λ locals. IsIn params (tasks s) × Q locals)
 

@@ -7,7 +7,7 @@ use Rattle.expr_read.specs.Precedences.{form_of}
 use Rattle.expr_read.proofs.InWindow.{short, slice, fault}
 use Rattle.expr_read.proofs.window.within_limit.Goals as goal
 
--- no more tokens than the limit
+-- there are no more tokens than the limit
 pub returns-then-tokens-limit : goal.returns-then-tokens-limit
 returns-then-tokens-limit c =
     let within : length c.args.tokens.now ≤ expression_limit.at c.args.tokens.now = rw c.expression_limit-limit.ensures at c.if-tokens-limit.true in

@@ -7,6 +7,6 @@ use Rattle.flow_core.proofs.one_thread.run_tasks.Given as goal
 abbrev pub invariant-loop-t : goal.invariant-loop-t
 invariant-loop-t l = record { between : IsBetweenTasks l.m l.given l.runner.run l.runner.running.items; goals : AreGoals l.m l.runner.goals.entries }
 
--- each turn, one more task has ended
+-- in each turn, one more task ends
 abbrev pub decreases-loop-t : goal.decreases-loop-t
 decreases-loop-t l = length (all_tasks l.m) - ended_count l.runner.run

@@ -11,7 +11,7 @@ use Rattle.goal_count.specs.Counting.{IsCount}
 use Rattle.goal_count.proofs.Sums.{length-product, times}
 use Rattle.goal_count.proofs.count.+combination_count.Goals as goal
 
--- an expression that has a value has one
+-- an expression that has a value has exactly one
 one_value : (r : Result ℤ SpanFault) → is_ok (and_then r (λ z. Ok (z ∷ []))) ≡ true
     → length (result_unwrap_or (and_then r (λ z. Ok (z ∷ []))) []) ≡ 1
 one_value (Ok z) h = refl

@@ -8,9 +8,9 @@ use Rattle.jdf_lex.specs.Tokens.{IsTokenFault, IsTokensOf}
 use Rattle.jdf_lex.proofs.Uniqueness.{one_list, one_fault, no_fault}
 use Rattle.jdf_lex.proofs.lex.tokens.Goals as goal
 
--- what a text gives: only its tokens, and only its first fault
+-- the result for a text is only its tokens or its first fault, or out of memory
 module _ (text : List ℕ) (result : Result Lexed (Refusal JdfFault)) (found : IfOk result (IsTokensOf text)) (fault : (f : JdfFault) → result ≡ Err (Fault f) → IsTokenFault text f) where
-  -- What is found is the one list, and a fault that is found leaves none, so that a list that there is is found.
+  -- If the text has tokens, the result is these or out of memory: there is one list, and a text with a fault has none.
   only_from : (lexed : Lexed) → IsTokensOf text lexed → (result ≡ Ok lexed) ⊎ (result ≡ Err OutOfMemory)
   only_from lexed is = from result found fault
     where
@@ -22,7 +22,7 @@ module _ (text : List ℕ) (result : Result Lexed (Refusal JdfFault)) (found : I
       from (Err (Fault f)) h k = absurd (no_fault text lexed.tokens lexed.end f is.0 is.1 (k f refl))
       from (Err OutOfMemory) h k = inr refl
 
-  -- The fault that is found is the one fault, and a list that is found leaves none.
+  -- If the text has a first fault, the result is it or out of memory: there is one, and a text with tokens has none.
   fault_from : (f : JdfFault) → IsTokenFault text f → (result ≡ Err (Fault f)) ⊎ (result ≡ Err OutOfMemory)
   fault_from f is = from result found fault
     where

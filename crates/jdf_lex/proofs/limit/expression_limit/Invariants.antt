@@ -4,7 +4,7 @@ use Rattle.jdf_lex.specs.Terminals.{set}
 use Rattle.grammar_core.specs.TooMany.{token_indices}
 use Rattle.jdf_lex.proofs.limit.expression_limit.Given as goal
 
--- the token that is too many is the same, counted from here on
+-- counted from here on, the first token that is too many is the same
 abbrev pub invariant-loop-index : goal.invariant-loop-index
 invariant-loop-index l = record {
   at_most : l.index ≤ 512;

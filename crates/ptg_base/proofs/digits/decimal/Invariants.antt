@@ -4,7 +4,7 @@ use Rattle.ptg_base.specs.Decimal.{is_digit, decimal}
 use Rattle.ptg_base.proofs.DecimalDigits.{continued}
 use Rattle.ptg_base.proofs.digits.decimal.Given as goal
 
--- the digits so far make this number
+-- the value so far, continued by the digits that are left, is the number of the whole text
 abbrev pub invariant-loop-byte : goal.invariant-loop-byte
 invariant-loop-byte l = record {
   fits : l.value ≤ l.most;

@@ -1,4 +1,4 @@
--- The count and the tasks that are still to come make up all tasks.
+-- The count and the tasks that are still left make up all tasks.
 use Rattle.std.proofs.Common.{◌≡◌, length, ◌+◌}
 use Rattle.range_space.specs.Tasks.{tasks}
 use Rattle.ptg_measure.proofs.spaces.walked.Given as goal

@@ -5,21 +5,21 @@ use Rattle.ptg_top.proofs.Ending.{exact_prints, complete_prints, none_failed, us
 use Rattle.ptg_top.proofs.Receipts.{receipt_is_asked, no_receipt_no_answer, receipt_is_of_job, receipt_is_printed}
 use Rattle.ptg_top.proofs.program.ptg_main.Goals as goal
 
--- a verdict that was printed whole is exact where its status is no fault's
+-- a verdict that was printed whole is exact if its status is not that of a fault
 pub returns-in-Ok-print_verdict-clause-exact : goal.returns-in-Ok-print_verdict-clause-exact
 returns-in-Ok-print_verdict-clause-exact g c exact =
     exact_prints c.args.words.now (g.F.Files.reads c.args.files.now) (g.F.Files.reads c.judge.new.files) (g.F.Files.faults c.args.files.now) (g.F.Files.faults c.judge.new.files)
     (denoted c.in-Ok.verdict) (g.O.Sink.bytes c.args.out.now) (g.O.Sink.bytes c.print_verdict.new.out) c.status.result
     c.in-Ok.ensures.judged c.in-Ok-print_verdict.ensures.ok c.status.ensures exact
 
--- and it is exact where no read failed
+-- and it is exact if no read failed
 pub returns-in-Ok-print_verdict-clause-complete : goal.returns-in-Ok-print_verdict-clause-complete
 returns-in-Ok-print_verdict-clause-complete g c no_read no_write =
     complete_prints c.args.words.now (g.F.Files.reads c.args.files.now) (g.F.Files.reads c.judge.new.files) (g.F.Files.faults c.args.files.now) (g.F.Files.faults c.judge.new.files)
     (denoted c.in-Ok.verdict) no_read (g.O.Sink.bytes c.args.out.now) (g.O.Sink.bytes c.print_verdict.new.out) c.status.result
     c.in-Ok.ensures.judged c.in-Ok-print_verdict.ensures.ok c.status.ensures
 
--- no read failed where the status is that of a verdict
+-- no read failed if the status is that of a verdict
 pub returns-in-Ok-print_verdict-clause-no_read_fault : goal.returns-in-Ok-print_verdict-clause-no_read_fault
 returns-in-Ok-print_verdict-clause-no_read_fault g c exact =
     none_failed c.args.words.now (g.F.Files.reads c.args.files.now) (g.F.Files.reads c.judge.new.files) (g.F.Files.faults c.args.files.now) (g.F.Files.faults c.judge.new.files)
@@ -50,7 +50,7 @@ returns-in-Ok-print_verdict-clause-usage_line g c usage =
     (denoted c.in-Ok.verdict) c.in-Ok.ensures.judged (sym c.status.ensures ∙ usage)
     )
 
--- and only to arguments that form no command, which have no other
+-- and only if the arguments form no command; such arguments have no other status
 pub returns-in-Ok-print_verdict-clause-usage_only : goal.returns-in-Ok-print_verdict-clause-usage_only
 returns-in-Ok-print_verdict-clause-usage_only g c usage =
     usage_is_no_command c.args.words.now (g.F.Files.reads c.args.files.now) (g.F.Files.reads c.judge.new.files) (g.F.Files.faults c.args.files.now) (g.F.Files.faults c.judge.new.files)

@@ -4,7 +4,7 @@ use Rattle.ptg_words.specs.declared.order.Order.TheVariants.{Demo}
 use Rattle.ptg_top.proofs.Found.{made_by_receipt, refused_by_receipt}
 use Rattle.ptg_top.proofs.summing.demo.Goals as goal
 
--- what is found of the made job
+-- the finding of the made job
 pub returns-in-Ok-clause-denotes : goal.returns-in-Ok-clause-denotes
 returns-in-Ok-clause-denotes g c =
     summary_denoted c.args.rows (denoted c.in_ok-checked.checked) c.in-Ok.matched c.in-Ok.given c.summary_of.result c.in-Ok.ensures.found c.in_ok-checked.ensures.denotes c.summary_of.ensures.summary

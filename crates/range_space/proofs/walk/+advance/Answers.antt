@@ -14,7 +14,7 @@ returns-then-advance-clause-found t c =
     let k = cut old depth (omega arith) in
     rw e.0 (found_deeper _ _ old depth _ k _ c.if-advance.ensures.found)
 
--- the locals that are kept, and the one that was taken away
+-- the locals that are kept, and the one that is taken away
 kept : (t : ℕ) (c : goal.After-first_past t) → (c.pop.new.self ≡ take c.args.depth c.args.locals.now) × (c.in-Some-pop.v ≡ get_or c.args.locals.now c.args.depth (pos 0))
 kept t c =
     let old = c.args.locals.now in

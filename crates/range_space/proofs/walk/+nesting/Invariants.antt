@@ -12,7 +12,7 @@ decreases-first_with l = 3 * length l.inner.now + 1
 abbrev pub decreases-first_among : goal.decreases-first_among
 decreases-first_among l = 3 * length l.inner.now + 2
 
--- no list is continued by a value that was already taken
+-- no full list has a value that was tried before
 abbrev pub invariant-first_among-loop-v : goal.invariant-first_among-loop-v
 invariant-first_among-loop-v l = record {
   can_next : (goal.iterator-first_among-loop-v).can_next l.v-iterator;

@@ -5,7 +5,7 @@ use Rattle.run_answer.specs.Written.{IsWritable}
 use Rattle.run_answer.proofs.Replacing.{written_to}
 use Rattle.run_answer.proofs.written.with_written.Given as goal
 
--- what is left may be written, and comes to the same answer
+-- the write-backs left may be made, and lead to the same result
 abbrev pub invariant-loop-write : goal.invariant-loop-write
 invariant-loop-write l = record {
   writable : All (IsWritable l.given) l.written.items;

@@ -9,6 +9,6 @@ invariant-loop-at l = record {
   grown : HasGrown l.m (edges_of l.m (take l.at l.builder.order.items)) l.builder.order.items l.builder.lacking.entries;
 }
 
--- each turn, the edges out of one more task have come
+-- in each turn, the edges out of one more task come
 abbrev pub decreases-loop-at : goal.decreases-loop-at
 decreases-loop-at l = length (all_tasks l.m) - l.at

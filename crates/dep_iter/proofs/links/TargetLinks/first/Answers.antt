@@ -3,7 +3,7 @@ use Rattle.dep_iter.specs.declared.link.Link.{Link}
 use Rattle.dep_iter.specs.Links.{edge_of_link, link}
 use Rattle.dep_iter.proofs.links.TargetLinks.first.Goals as goal
 
--- the first of mapped items
+-- the first of the mapped items is the mapped first item
 first_some : {A B : Type 0} (h : A → B) (xs : List A) (x : A) → Some x ≡ slice_get xs 0
     → Some (h x) ≡ slice_get (map h xs) 0
 first_some h [] x e = absurd cc

@@ -16,7 +16,7 @@ set_bit (b ∷ bits) (suc m) (suc n) h =
     let r = set_bit bits m n (omega arith) in
     (λ w. elim (r.0 w) [ inl a ↦ inl a | inr e ↦ inr (ap suc e) ], λ w. r.1 (elim w [ inl a ↦ inl a | inr e ↦ inr cc ]))
 
--- a number from 0 on is below a bound as its distance from 0 is
+-- the absolute value of a valid row is below the number of rows
 abs_below : (i : ℤ) (n : ℕ) → IsRow n i → unsigned_abs i < n
 abs_below (pos k) n h = let r = h.1 in omega (arith, ints)
 abs_below (negsuc k) n h = let r = h.0 in absurd (omega (arith, ints))

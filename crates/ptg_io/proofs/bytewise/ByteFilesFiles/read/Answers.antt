@@ -5,7 +5,7 @@ use Rattle.ptg_io.specs.Files.{NamedFiles, ReadsPiece}
 use Rattle.ptg_io.specs.declared.files.Failed.{Failed}
 use Rattle.ptg_io.proofs.bytewise.ByteFilesFiles.read.Goals as goal
 
--- the buffer's first byte is that of the one that was read into
+-- what a read into the first byte of the buffer gave, the whole buffer has
 of_first : (contents : Option NamedFiles) (name : List ℕ) (from : ℕ) (first rest : List ℕ) (result : Result ℕ Failed)
     → ((files : NamedFiles) → contents ≡ Some files → IfOk result (λ n. ReadsPiece files name from n first)) → IfOk result (λ n. n ≤ length first)
     → (files : NamedFiles) → contents ≡ Some files → IfOk result (λ n. ReadsPiece files name from n (first ++ rest))
