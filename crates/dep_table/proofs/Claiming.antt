@@ -32,7 +32,7 @@ content_at y (x ∷ xs) = x.1
 pub held_is : (t : Turn) (v : PassRecord) (y z : Content) → IsTurnOf t v y z → (i : PassView) → i ≡ t.pass.now → (k : ℕ) (d : Content) (r : List (ℕ × Content)) → i.me.1 ≡ (k, d) ∷ r → d ≡ z
 held_is t v y z h i is k d r lent = ap (content_at z) (sym lent ∙ ap (λ (p : PassView). p.me.1) is ∙ ap (λ (m : Seated). m.1) h.me)
 
--- where a task has an entry, the shard has fewer tasks than a job may have
+-- if a task has an entry, its shard runs fewer tasks than a job may have
 pub entry_numbers : (t : Turn) (v : PassRecord) (y z : Content) → IsTurnOf t v y z → (d : Content) → d ≡ z → (u : Task) (e : Entry) → entry_of d u ≡ Some e → d.running < 1000000
 entry_numbers t v y z h d is u e at =
     let j = job_of t.table.now in
@@ -53,7 +53,7 @@ module _ (t : Turn) (v : PassRecord) (y z : Content) (h : IsTurnOf t v y z) (i q
   me0 : i.me.0 ≡ with_turn v t.shard y
   me0 = ap (λ (p : PassView). p.me.0) is ∙ ap (λ (m : Seated). m.0) h.me
 
-  -- nothing was ready
+  -- the task had no ready entry
   pub gone : (d : Content) → d ≡ z → (u : Task) → HasNoReadyOf d u → (r : List (ℕ × Content)) → q.me ≡ (turn_left i.me.0, r) → FoundGone t.shard u v (shown q)
   gone d same u none r me = subst (λ (p : PassRecord). FoundGone t.shard u v p) (sym (ap (λ (m : Seated). m.0) me ∙ ap turn_left me0)) (record {
     shard = y;

@@ -1,4 +1,4 @@
--- A pass stays clean where its record keeps what a clean pass has.
+-- A pass stays clean if its record keeps what a clean pass has.
 use Rattle.std.proofs.Common.{ℕ, ◌≡◌, ◌==◌, List, [], ◌∷◌, ◌++◌, length, sym, ap, ◌∙◌, subst, refl}
 use Rattle.table_rule.specs.Seats.{TableId}
 use Rattle.ptg_base.specs.Lists.{IsIn}
@@ -14,7 +14,7 @@ use Rattle.table_rule.specs.Turns.{holds}
 use Rattle.dep_table.specs.Passes.{IsPassOf}
 use Rattle.dep_table.specs.Views.{PassView, shown}
 
--- the fields that a clean pass is about are the same
+-- the fields that make a pass clean are the same
 pub record KeepsClean (v w : PassRecord) : Type 0 where
   pub turns : w.turns ≡ v.turns
   pub credit : w.credit ≡ v.credit

@@ -148,7 +148,7 @@ left_by j k p i ys job pass left =
     subst (λ (q : PassView). WereLeft j (shown q) ys) pass
     (subst (λ (h : TableJob). WereLeft h (shown i) ys) (sym job) left)
 
--- the shards of a table that was closed
+-- both look-ups at an index of a list find the same member
 same_get : {A : Type 0} (xs : List A) (k : ℕ) (y z : A) → slice_get xs k ≡ Some y → get_elem? xs k ≡ some z → z ≡ y
 same_get [] k y z e h = absurd (some-ne-none z (sym h))
 same_get (x ∷ xs) zero y z e h = let q : x ≡ y = cc in sym (some-injective x z h) ∙ q
@@ -193,7 +193,7 @@ closes_order j v vs ys all stamped did drew f ts o =
     (stamp_order j.matched j.given (moment_of v) v.stamps _ r.sound (alone_stamps j s f.id v f.rule f.mine all) once
     stamped ts mine)
 
--- where the last pass has seen quiet, no shard has work
+-- if the last pass has seen quiet, no shard has work
 pub closes_quiet : (j : TableJob) (v : PassRecord) (vs : List PassRecord) (ys : List Content)
     → AreAll (v ∷ []) → v.turns ≡ [] → moment_of v ≡ joined vs → v.handed ≡ joined_handed vs
     → WereLeft j v ys → v.quiet ≡ true → HaveNoWork ys

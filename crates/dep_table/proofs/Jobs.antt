@@ -1,4 +1,4 @@
--- What is said of the job that the words of a table are for is true of the table's job, which it is.
+-- The job of a table's words is the table's job, so what is said of the one is true of the other.
 use Rattle.std.proofs.Common.{◌≡◌, ℕ, ℤ, List, Option, sym, subst}
 use Rattle.ptg_base.specs.Entry.{FlowTile}
 use Rattle.ptg_base.specs.Task.{Task}

@@ -186,6 +186,6 @@ module _ (P : Plan) where
         inputs = λ t i. has_inputs P G con S sound t (sound.claimed_have_all t i);
       }
 
--- so it is of the passes of a table that was closed after the run had ended
+-- so it is with the passes of a table that was closed after the run had ended
 pub closed_meaning : (j : TableJob) (vs : List PassRecord) (ys : List Content) → IsClosedAt j vs ys → HaveNoWork ys → HasTheMeaning j.matched j.given (joined vs).state
 closed_meaning j vs ys c none = quiescent_meaning j.matched j.given c.consistent (joined vs).state c.sound (closed_quiescent j vs ys c (closed_calm j vs ys c none))

@@ -32,7 +32,7 @@ none_where : (b : Bool) → (b ≡ true → ⊥) → as_number b ≡ 0
 none_where true h = absurd (h refl)
 none_where false h = refl
 
--- of a list without repeats one member counts, where it alone passes
+-- in a list without repeats, a test that one member alone meets counts one
 count-once : {A : Type 0} (test : A → Bool) (xs : List A) (x : A) → HasNoRepeats xs → IsIn x xs → test x ≡ true → ((y : A) → IsIn y xs → test y ≡ true → y ≡ x) → count test xs ≡ 1
 count-once test [] x once i passes only = absurd i
 count-once test (y ∷ ys) x once i passes only = elim i [
@@ -48,7 +48,7 @@ count-once test (y ∷ ys) x once i passes only = elim i [
 pub known_types : (P : Plan) (t : Task) → IsTask P t → (f : FlowPlan) → IsIn f (flows_of P t) → f.datatype < length P.elems
 known_types P t job f i = let p = place_of_member (flows_of P t) f i in known_datatype P t p.0 f job p.1
 
--- of edges, those into flow n weigh so much, and those into flow n and later ones as much as their flows
+-- edges into the flow n, the weight of an edge into it, and the weight of an edge into it or a later flow
 abbrev into : ℕ → Edge → Bool
 into n e = e.in_flow == n
 
@@ -101,7 +101,7 @@ module _ (P : Plan) (con : IsConsistent P) (t : Task) (job : IsTask P t) where
   unfolding data_source
   source_is n f here = rw here refl
 
-  -- one edge at most goes into a data flow
+  -- at most one edge goes into a data flow
   module _ (n : ℕ) (f : FlowPlan) (here : slice_get (flows_of P t) n ≡ Some f) (carries : is_data (Some f.kind) ≡ true) where
     comes_from : (e : Edge) → IsIn e (in_edges P t) → into n e ≡ true → data_source P t n ≡ source.Task e
     comes_from e i at = only_source P t job (con.connected t job).well n f here carries e (eqb-true e.in_flow n at) i

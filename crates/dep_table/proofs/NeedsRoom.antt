@@ -1,4 +1,4 @@
--- That the counts of what shards need stay small: the needs of all tasks of a job are at most some millions.
+-- The counts of what shards need stay small: the needs of all tasks of a job are at most some millions.
 use Rattle.std.proofs.Common.{◌≡◌, ℕ, ◌+◌, ◌<◌, ◌≤◌, List, [], ◌∷◌, ◌++◌, length, ap, sym, ◌∙◌, slice_get, inl, inr, arith, length-append}
 use Rattle.std.proofs.lemmas.Bool.{cases_eq}
 use Rattle.std.specs.List.{filter, filter_map, flat_map}
@@ -43,7 +43,7 @@ module _ (P : Plan) where
   places_both : (ts us : List Task) → length (writes_of P (ts ++ us)) ≡ length (writes_of P ts) + length (writes_of P us)
   places_both ts us = ap length (flat_map-append (write_backs P) ts us) ∙ length-append (writes_of P ts) (writes_of P us)
 
-  -- the first of some tasks have room, and the later ones
+  -- if there is room for some tasks, there is room for the first of them and for the later ones
   pub room_first : (ts us : List Task) (n : Needs) → CanCount P (ts ++ us) n → CanCount P ts n
   room_first ts us n r = record {
     entries = omega (arith, r.entries, length-append ts us);

@@ -36,7 +36,7 @@ module _ (P : Plan) (of : Placement) where
         room = λ others r. room_task P t (of t) old new others near a r;
       }
 
-  -- for no tasks nothing is needed
+  -- no tasks need nothing
   pub no_task : (shards : ℕ) (ns : List Needs) → AreNoNeeds shards (length P.elems) ns → AreNeedsOf P of [] ns
   no_task shards ns z = λ k n at. let w = z.each k n at in record {
     entries = w.entries;
@@ -55,7 +55,7 @@ module _ (P : Plan) (of : Placement) where
     traps = omega (arith, w.traps, s.traps);
   }
 
-  -- the spares of a shard say nothing of what it holds
+  -- a shard that changed in its spares alone is still an opening shard
   pub still_opening : (k : ℕ) (y z : Content) → IsOpeningShard P of k y → IsUnchanged y z → IsOpeningShard P of k z
   still_opening k y z w same = record {
     there = λ t job own. ap (λ (l : Entries). entry_in l t) same.entries ∙ w.there t job own;
@@ -67,7 +67,7 @@ module _ (P : Plan) (of : Placement) where
     elems = same.elems ∙ w.elems;
   }
 
--- the needs of one shard more, of nothing
+-- one shard more, which needs nothing yet
 pub none_more : (shards types : ℕ) (ns : List Needs) (n : Needs) (new : List Needs) → AreNoNeeds shards types ns → IsNoNeed types n → new ≡ ns ++ n ∷ [] → AreNoNeeds (shards + 1) types new
 none_more shards types ns n new w none is = subst (AreNoNeeds (shards + 1) types) (sym is) (record {
   count = omega (arith, w.count, length-append ns (n ∷ []));
@@ -107,7 +107,7 @@ module _ (P : Plan) (n : ℕ) where
       one_more P (λ ts. AreNeedsOf P (shard_of P n) ts old) (λ ts. AreNeedsOf P (shard_of P n) ts new) t rest here.needs w
 
   module _ (ns : List Needs) (ys zs : List Content) (count : length ns ≡ n) (shards : AreOpeningShards P n ys) (reserved : AreReserved ns ys zs) where
-    -- what was a shard before it took its spares, and what it needed
+    -- each shard with its spares has a shard before it took them, and its needs
     before : (k : ℕ) (z : Content) → slice_get zs k ≡ Some z → (y : Content) × (m : Needs) × (slice_get ys k ≡ Some y) × (slice_get ns k ≡ Some m)
     before k z at =
         let lt = slice_get_within zs k z at in
@@ -127,7 +127,7 @@ module _ (P : Plan) (n : ℕ) where
   pub types_fit : (ns : List Needs) (ys : List Content) → AreNeedsOf P (shard_of P n) (all_tasks P) ns → AreOpeningShards P n ys → FitShards ns ys
   types_fit ns ys needs shards = λ k m y at here. (needs k m at).types ∙ ap length (sym (shards.each k y here).elems)
 
--- so many tiles and write-backs of all are still to be added
+-- so many of all tiles and write-backs are still to be added
 pub record AreLeft (tiles_left tiles_all : ℕ → ℕ) (left all : ℕ) (old new : Needs) : Type 0 where
   pub entries : new.entries ≡ old.entries
   pub types : length new.tiles.items ≡ length old.tiles.items

@@ -19,7 +19,7 @@ use Rattle.dep_table.specs.Tables.{id_of, job_of}
 use Rattle.dep_table.specs.Turns.{IsTurnOf}
 use Rattle.dep_table.specs.Views.{PassView}
 
--- the turn after a look at its shard, where u is the same turn of the same table
+-- the turn after a look at its shard; u is the same turn of the same table
 pub looked_turn : (t u : Turn) (v : PassRecord) (y z w : Content) → IsTurnOf t v y z → u.table.now ≡ t.table.now → u.shard ≡ t.shard
     → u.pass.now.table ≡ t.pass.now.table → u.pass.now.stamp ≡ t.pass.now.stamp → u.pass.now.me ≡ (t.pass.now.me.0, (t.shard, w) ∷ [])
     → IsUnchanged z w → Uses z.spare w.spare 0 None 0 0 → IsTurnOf u v y w
@@ -72,7 +72,7 @@ shard_in y (x ∷ xs) = x.1
 same_shard : (k : ℕ) (a b : Content) (l : List (ℕ × Content)) → l ≡ (k, a) ∷ [] → l ≡ (k, b) ∷ [] → a ≡ b
 same_shard k a b l p q = ap (shard_in a) (sym p ∙ q)
 
--- where the shard was y, a claim of its best task is a claim of the best, and not refused
+-- if the shard had y, a claim of its best task is a claim of the best, and is not refused
 pub best_claimed : (P : Plan) (G : Data) (k : ℕ) (x : Task) (tiles : List FlowTile) (v w : PassRecord) (y : Content) → w.last ≡ (k, y) ∷ [] → IsBest y.entries x → HasClaimed P G k x tiles v w → HasClaimedBest P G k x tiles v w
 best_claimed P G k x tiles v w y last best c = record { claimed = c; best = subst (λ (s : Content). IsBest s.entries x) (same_shard k y c.shard w.last last c.took.last) best }
 
@@ -82,7 +82,7 @@ best_goes k x v w y last best gone = gone.gone best.entry (ap (λ (s : Content).
 pub none_ready : (k : ℕ) (v w : PassRecord) (y : Content) → w.last ≡ (k, y) ∷ [] → HasNoReady y.entries → OnlyTook k v w → FoundNoReady k v w
 none_ready k v w y last none o = record { shard = o.shard; took = o.took; empty = subst (λ (s : Content). HasNoReady s.entries) (same_shard k y o.shard w.last last o.took.last) none; still = o.still }
 
--- the same by another name of the table or of the shard
+-- the same under another name of the table or of the shard
 pub placed_at : (b c : DepTable) → b ≡ c → (k n : ℕ) → k ≡ n → (x : Task) → shard_of (job_of b).matched (job_of b).shards x ≡ k → shard_of (job_of c).matched (job_of c).shards x ≡ n
 placed_at b c e k n f x h = ap (λ (d : DepTable). shard_of (job_of d).matched (job_of d).shards x) (sym e) ∙ (h ∙ f)
 

@@ -52,7 +52,7 @@ use Rattle.work_board.specs.Stamps.{StampedTask}
 abbrev found_in : Plan → Edge → Entries → Entry
 found_in P e es = unwrap_or (entry_in es e.to) (fresh (goal P e.to) (priority P e.to))
 
--- what an edge finds waits for as many edges as the plan says, where an entry that is there does
+-- what an edge finds waits for as many edges as the plan says, if an entry that is there does
 goal_found : (o : Option Entry) (g : ℕ) (p : ℤ) → ((x : Entry) → o ≡ Some x → x.goal ≡ g) → (unwrap_or o (fresh g p)).goal ≡ g
 goal_found None g p h = refl
 goal_found (Some x) g p h = h x refl
@@ -62,7 +62,7 @@ arrived_before : (o : Option Entry) (g : ℕ) (p : ℤ) → (unwrap_or o (fresh 
 arrived_before None g p = refl
 arrived_before (Some x) g p = refl
 
--- an answer is by the entries alone
+-- a result depends on the entries alone
 answers_along : (P : Plan) (i : Item) (a : Answer) (y d : Content) → d.entries ≡ y.entries → AnswersFor P d i a → AnswersFor P y i a
 answers_along P (item.Edge e) answer.Waits y d same h = subst (λ (es : Entries). option_map_or (λ (x : Entry). x.arrived) (entry_in es e.to) 0 + 1 < goal P e.to) same h
 answers_along P (item.Edge e) answer.Fired y d same h = subst (λ (es : Entries). option_map_or (λ (x : Entry). x.arrived) (entry_in es e.to) 0 + 1 ≡ goal P e.to) same h
@@ -73,7 +73,7 @@ answers_along P (item.Write w) answer.Waits y d same h = absurd h
 answers_along P (item.Write w) answer.Fired y d same h = absurd h
 answers_along P (item.Write w) answer.Busy y d same h = absurd h
 
--- and the credit of a pass after the answer is what the send spends
+-- and the pass's credit after the result is what the send spends
 fires_if : (P : Plan) (e : Edge) (y : Content) → (entry_before y e.to (goal P e.to) (priority P e.to)).goal ≡ goal P e.to → fires P y e ≡ ((arrived_in y e.to + 1) == goal P e.to)
 fires_if P e y same = (λ k. (arrived_before (entry_of y e.to) (goal P e.to) (priority P e.to) k + 1) == same k)
 
@@ -87,7 +87,7 @@ credit_is P (item.Write w) answer.Waits y tile may h = absurd h
 credit_is P (item.Write w) answer.Fired y tile may h = absurd h
 credit_is P (item.Write w) answer.Busy y tile may h = absurd h
 
--- what an item needs is by the entries and the lengths of tiles
+-- what an item needs depends on the entries and the lengths of tiles alone
 may_along : (P : Plan) (i : Item) (tile : Option (List ℤ)) (y d : Content) → d.entries ≡ y.entries → d.elems ≡ y.elems → MayTakeItem P i tile y → MayTakeItem P i tile d
 may_along P (item.Edge e) tile y d entries elems m =
     let may = m.0 in (
@@ -104,7 +104,7 @@ may_along P (item.Edge e) tile y d entries elems m =
     )
 may_along P (item.Write w) tile y d entries elems m = record { task = m.task; flow = m.flow; is_flow = m.is_flow; carries = m.carries; fits = subst (λ (ns : List ℕ). IfSome tile (IsTileOf ns m.flow.datatype)) (sym elems) m.fits }
 
--- spares that have grown are enough still
+-- spares that have grown are still enough
 spare_along : (P : Plan) (i : Item) (tile : Option (List ℤ)) (y d : Content) → d.entries ≡ y.entries → Uses y.spare d.spare 0 None 0 0 → HasSpareForItem P i tile y → HasSpareForItem P i tile d
 spare_along P (item.Edge e) tile y d entries uses h = record {
   entry = λ none. omega (arith, h.entry (ap (λ (es : Entries). entry_in es e.to) (sym entries) ∙ none), uses.entries);
@@ -112,7 +112,7 @@ spare_along P (item.Edge e) tile y d entries uses h = record {
 }
 spare_along P (item.Write w) tile y d entries uses h = record { place = omega (arith, h.place, uses.writes); tiles = λ t typed. omega (arith, h.tiles t typed, uses.tiles t) }
 
--- what an item changes, from the shard as it was taken on
+-- what an item changes, counted from the shard as it was taken
 takes_since : (P : Plan) (i : Item) (tile : Option (List ℤ)) (y d w : Content) → IsUnchanged y d → Uses y.spare d.spare 0 None 0 0 → TakesItem P i tile d w → TakesItem P i tile y w
 takes_since P (item.Edge e) tile y d w same grown t = record {
   datatype = t.datatype;
@@ -205,7 +205,7 @@ module _ (t : Turn) (v : PassRecord) (y z : Content) (h : IsTurnOf t v y z) wher
       }
 
   module _ (i : Item) (tile : Option (List ℤ)) (next : IsNext (job_of t.table.now).matched (job_of t.table.now).given i tile (shown t.pass.now)) (at : shard_of_item (shard_of (job_of t.table.now).matched (job_of t.table.now).shards) i ≡ t.shard) where
-    -- the pass is at the item since before it took the turn
+    -- the item was already the next one before the pass took the turn
     next_at_first : IsNext (job_of t.table.now).matched (job_of t.table.now).given i tile v
     next_at_first = let n = subst (λ (m : Seated). IsNext job.matched job.given i tile m.0) h.me next in record { runs = n.runs; is_item = n.is_item; outputs = n.outputs; unsent = n.unsent; tile = n.tile }
 

@@ -30,7 +30,7 @@ use Rattle.table_rule.proofs.Living.{same_stamp, same_stamp-decides}
 use Rattle.dep_table.specs.StampOrders.{AreInStampOrder, IsClaimOrder, number_of}
 use Rattle.work_board.specs.Stamps.{StampedTask}
 
--- where stamps rise, one that is below another comes before it
+-- in a list by rising stamps, a stamp below another comes before it
 earlier : (before after : List StampedTask) (x y : StampedTask) → IsNonDecreasingBy number_of (before ++ x ∷ after) → IsIn y (before ++ x ∷ after) → y.1 < x.1 → IsIn y before
 earlier [] after x y rise among low = elim among [
   | inl e ↦ absurd (omega (arith, ap number_of e))

@@ -1,4 +1,4 @@
--- A call that goes for one turn: what is said of that turn's table and shard is said of those of the call.
+-- A call that tries to take one turn: what is said of that turn's table and shard is true of those of the call.
 use Rattle.std.proofs.Common.{◌≡◌, ℕ, List, ℤ, Option, None, Some, Result, Ok, Err, IfOk, OnErr, IfNone, subst}
 use Rattle.ptg_base.specs.Entry.{FlowTile}
 use Rattle.ptg_base.specs.Task.{Task}
@@ -17,7 +17,7 @@ use Rattle.dep_table.specs.declared.turn.Turn.{Turn}
 use Rattle.dep_table.specs.Tables.{job_of}
 use Rattle.dep_table.specs.Turns.{IsTurnOf}
 
--- what is said of the turn's table and shard is said of these
+-- what is said of the turn's table and shard is true of these
 module _ (b c : DepTable) (e : b ≡ c) (k n : ℕ) (f : k ≡ n) (v w : PassRecord) where
   pub claimed_at : (x : Task) (tiles : List FlowTile) → HasClaimed (job_of b).matched (job_of b).given k x tiles v w → HasClaimed (job_of c).matched (job_of c).given n x tiles v w
   claimed_at x tiles h = subst (λ m. HasClaimed (job_of c).matched (job_of c).given m x tiles v w) f (subst (λ d. HasClaimed (job_of d).matched (job_of d).given k x tiles v w) e h)
@@ -47,7 +47,7 @@ sent_as P k i tile answer.Kept v w h = h
 sent_as P k (item.Edge e) tile answer.Busy v w h = absurd h.answer
 sent_as P k (item.Write x) tile answer.Busy v w h = absurd h.answer
 
--- what the answer of a send, or its want of memory, says
+-- what the result of a send says, also if it is out of memory
 module _ (t : Turn) (v : PassRecord) (y z : Content) (h : IsTurnOf t v y z) (b c : DepTable) (e : b ≡ c) (k n : ℕ) (f : k ≡ n) (w : PassRecord) where
   pub sent_in : {E : Type 0} (i : Item) (tile : Option (List ℤ)) (r : Result Sent E) → IfOk r (λ a. (u : PassRecord) → (x x' : Content) → IsTurnOf t u x x' → HasSent (job_of b).matched k i tile a u w)
       → IfOk r (λ a. SendAnswers (job_of c).matched n i tile a v w)

@@ -22,7 +22,7 @@ pub target_is_task : (P : Plan) → IsConsistent P → (i : Item) (e : Edge) →
 target_is_task P con i e is = subst (λ x. IsTask P (sender x) → IsIn x (items P (sender x)) → IsTask P e.to) (sym is)
     (λ task among. (con.connected e.from task).to_tasks e (IsIn-filter_map edge_of (items P e.from) (item.Edge e) e among refl))
 
--- a pass that runs nothing
+-- a clean pass that runs nothing is a worker's pass
 pub idle_works : (b : DepTable) (q : PassView) → IsPassOf (id_of b) q → (shown q).running ≡ [] → IsWorkerPass b q
 idle_works b q of idle = record { of = of; task = λ t runs. absurd (nothing (sym idle ∙ runs)) }
   where

@@ -1,4 +1,5 @@
--- The passes of a table that workers have. Source: this project's own choice.
+-- The passes that workers have of a table.
+-- Carried by: `impl Board for DepTable` (`IsWorkerPass`); law `an_idle_pass_is_a_workers_pass`.
 use Rattle.std.specs.Prelude.{◌≡◌, [], ◌∷◌}
 use Rattle.ptg_base.specs.Task.{Task}
 use Rattle.dep_iter.specs.Tasks.{IsTask}
@@ -7,7 +8,7 @@ use Rattle.dep_table.specs.Passes.{IsPassOf}
 use Rattle.dep_table.specs.Tables.{id_of, job_of}
 use Rattle.dep_table.specs.Views.{PassView, shown}
 
--- a clean pass of this table, and what it runs is a task of the table's job
+-- a clean pass of this table; if it runs a task, that is a task of the table's job
 pub record IsWorkerPass (table : DepTable) (p : PassView) : Type 0 where
   pub of : IsPassOf (id_of table) p
   pub task : (t : Task) → (shown p).running ≡ t ∷ [] → IsTask (job_of table).matched t

@@ -1,5 +1,6 @@
--- What the passes of a table have done together once a run has ended. Source: DAGuE (Parallel Computing, 2012): a task
--- runs on what its sources gave, and then satisfies its successors.
+-- What the passes of a table have done together once a run has ended, and what all tasks send. Source: DAGuE (Parallel
+-- Computing, 2012): a task runs on what its sources sent, and then satisfies its successors.
+-- Carried by: law `a_quiet_close_has_the_meaning`.
 use Rattle.std.specs.Prelude.{◌≡◌, List, [], map, flat_map, if◌then◌else◌}
 use Rattle.ptg_base.specs.Lists.{IsIn}
 use Rattle.ptg_base.specs.Task.{Task}
@@ -23,8 +24,8 @@ sent_by P G t = if has_outputs (ended P G t) then map (with_its_tile P G) (items
 abbrev pub all_sent : Plan → Data → List SentItem
 all_sent P G = flat_map (sent_by P G) (all_tasks P)
 
--- The tasks that run were claimed, and what all tasks send was sent, each once. The tiles that were sent to a claimed
--- task are its inputs.
+-- The tasks that run were claimed, each once, and what all tasks send was sent, each item once. The tiles that were
+-- sent to a claimed task are its inputs.
 pub record HasTheMeaning (P : Plan) (G : Data) (S : MachineState) : Type 0 where
   pub claims : HasSameMembers S.claims (ran P G)
   pub sends : HasSameMembers S.sends (all_sent P G)

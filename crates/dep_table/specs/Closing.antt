@@ -1,4 +1,5 @@
--- A closed table: no pass shares it any more. Source: this project's own choice.
+-- A closed table, which no pass shares any more; all passes of a table.
+-- Carried by: `DepTable::close`.
 use Rattle.std.specs.Prelude.{◌<◌, ◌≤◌, ◌≡◌, ℕ, true, List, [], ◌∷◌, map, length, slice_get, Some}
 use Rattle.table_rule.specs.Seats.{TableId}
 use Rattle.ptg_base.specs.Lists.{IsIn}
@@ -20,8 +21,8 @@ use Rattle.dep_table.specs.StampOrders.{joined_stamps}
 use Rattle.work_board.specs.Handed.{WereHandedInputs}
 use Rattle.work_board.specs.declared.record.PassRecord.{PassRecord}
 
--- The shards hold their parts of what these passes did together. That is sound: each claimed task was handed its inputs,
--- and it still runs, has trapped, or has sent all its items.
+-- The shards hold their parts of what these passes did together. What they did is sound, each claimed task was handed
+-- its inputs, and it still runs, has trapped, or has sent all its items.
 pub record IsClosedAt (j : TableJob) (vs : List PassRecord) (ys : List Content) : Type 0 where
   pub consistent : IsConsistent j.matched
   pub some_shards : 0 < j.shards
@@ -32,20 +33,20 @@ pub record IsClosedAt (j : TableJob) (vs : List PassRecord) (ys : List Content) 
   pub shares : (k : ℕ) (y : Content) → slice_get ys k ≡ Some y
       → IsShardOf j.matched j.given (placement_of j) k (joined vs) y
 
--- A closed table: its shards hold their parts of what its passes did, its data are those of the plan and, where all
--- memory was taken before, it has room for a row of each task.
+-- A closed table: its shards hold their parts of what its passes did, and its data fit the plan. If it was preloaded,
+-- it has room for a row of each task.
 pub record IsClosedTable (j : TableJob) (vs : List PassRecord) (ys : List Content) (rows : ℕ) : Type 0 where
   pub ends : IsClosedAt j vs ys
   pub fit : DataFit j.matched j.given
   pub room : j.preloaded ≡ true → length (all_tasks j.matched) ≤ rows
 
--- clean passes of one table, and all that it has
+-- all passes of one table, each of them clean
 pub record AreAllPasses (table : TableId) (ps : List PassView) : Type 0 where
   pub each : (p : PassView) → IsIn p ps → IsPassOf table p
   pub all : AreAll (map shown ps)
 
--- A pass to which all others were joined: it holds no turn, it has what the passes with these records did, were handed
--- and drew, and each of its claims has a stamp.
+-- A pass to which all others were joined. It holds no turn, and each of its claims has a stamp. It has all that the
+-- passes with these records did, were handed and drew.
 pub record IsLastPass (table : TableId) (p : PassView) (vs : List PassRecord) : Type 0 where
   pub of : p.table ≡ table
   pub no_shard : p.me.1 ≡ []

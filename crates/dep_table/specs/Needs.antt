@@ -1,5 +1,6 @@
--- What the shards of a preloaded table need for all that will come to them, counted task by task. Source: this
--- project's own choice.
+-- What the shards of a preloaded table need for all that they will receive, counted task by task; the tiles that edges
+-- bring to a flow; room for the counts.
+-- Carried by: inside `DepTable::open`.
 use Rattle.std.specs.Prelude.{◌≡◌, ◌<◌, ℕ, ◌+◌, ◌^◌, ℤ, Bool, true, false, ◌==◌, ◌&&◌, List, [], ◌∷◌, ◌++◌, length, filter, flat_map, slice_get, slice_index, Some}
 use Rattle.ptg_base.specs.Task.{Task}
 use Rattle.ptg_base.specs.declared.edge.Edge.{Edge}
@@ -29,9 +30,9 @@ data_into P ts = filter (is_data_edge P) (flat_map (in_edges P) ts)
 abbrev pub writes_of : Plan → List Task → List WriteBack
 writes_of P ts = flat_map (write_backs P) ts
 
--- What the shard k needs for these tasks: an entry for each of its own that edges go into, a tile of its type for each
--- data edge to one of its own and each write-back of one, a place for each such write-back, and a row for each of its
--- own
+-- What the shard k needs for those of these tasks that belong to it. It needs an entry for each that edges go into, and
+-- a row for each. It needs a tile of the right type for each data edge into one and for each write-back of one, and a
+-- place for each such write-back.
 pub record IsNeedOf (P : Plan) (of : Placement) (k : ℕ) (ts : List Task) (n : Needs) : Type 0 where
   pub entries : n.entries ≡ count (is_to_enter P of k) ts
   pub types : length n.tiles.items ≡ length P.elems
@@ -45,7 +46,7 @@ pub record IsNeedOf (P : Plan) (of : Placement) (k : ℕ) (ts : List Task) (n : 
 abbrev pub AreNeedsOf : Plan → Placement → List Task → List Needs → Type 0
 AreNeedsOf P of ts ns = (k : ℕ) (n : Needs) → slice_get ns k ≡ Some n → IsNeedOf P of k ts n
 
--- there are counts for this many types
+-- each shard's needs count this many types of tiles
 abbrev pub HaveTypes : ℕ → List Needs → Type 0
 HaveTypes types ns = (k : ℕ) (n : Needs) → slice_get ns k ≡ Some n → length n.tiles.items ≡ types
 
@@ -57,7 +58,7 @@ edge_tiles P es datatype = count (is_edge_of_type P datatype) (filter (is_data_e
 abbrev pub write_tiles : Plan → List WriteBack → ℕ → ℕ
 write_tiles P ws datatype = count (is_write_of_type P datatype) ws
 
--- the counts of a shard stay below 2 ^ 64 while what these tasks need is added, whatever shards they are of
+-- the counts of a shard stay below 2 ^ 64 while what these tasks need is added, whatever shards they belong to
 pub record CanCount (P : Plan) (ts : List Task) (n : Needs) : Type 0 where
   pub entries : n.entries + length ts < 2 ^ 64
   pub tiles : (datatype : ℕ)
@@ -67,12 +68,12 @@ pub record CanCount (P : Plan) (ts : List Task) (n : Needs) : Type 0 where
   pub writes : n.writes + length (writes_of P ts) < 2 ^ 64
   pub traps : n.traps + length ts < 2 ^ 64
 
--- the counts of each of these shards stay so
+-- the same for each of these shards
 abbrev pub CanCountEach : Plan → List Task → List Needs → Type 0
 CanCountEach P ts ns = (k : ℕ) (n : Needs) → slice_get ns k ≡ Some n → CanCount P ts n
 
--- Where old is what the shards need for some tasks, new is what they need for those and for this one. Where the counts
--- stayed so for this task and others, they stay so for the others.
+-- If old is what the shards need for some tasks, new is what they need for those and this one. If old had room to count
+-- this task and others, new has room to count the others.
 pub record AddsNeeds (P : Plan) (of : Placement) (t : Task) (old new : List Needs) : Type 0 where
   pub count : length new ≡ length old
   pub types : HaveTypes (length P.elems) old → HaveTypes (length P.elems) new
@@ -96,8 +97,8 @@ begins_with_edge (target.Element coll indices ∷ xs) = false
 begins_with_edge (target.New ∷ xs) = false
 begins_with_edge (target.Null ∷ xs) = false
 
--- how many tiles of a type come by edges into a flow of a task with these locals: one where it carries tiles and its
--- source is an edge
+-- How many tiles of a type come by edges into a flow of a task with these locals. It is one if the flow carries tiles
+-- of that type and its source is an edge, else none.
 abbrev pub flow_tiles : List ℤ → FlowPlan → ℕ → ℕ
 flow_tiles env f datatype =
     as_number ((is_data (Some f.kind) && begins_with_edge (flow_ins env f)) && (f.datatype == datatype))
@@ -106,7 +107,7 @@ flow_tiles env f datatype =
 abbrev pub flows_tiles : List ℤ → List FlowPlan → ℕ → ℕ
 flows_tiles env fs datatype = weigh (λ f. flow_tiles env f datatype) fs
 
--- what the shard of a task needs for it is added
+-- what a task needs in its shard is added
 pub record AddsTask (P : Plan) (t : Task) (old new : Needs) : Type 0 where
   pub entries : new.entries ≡ old.entries + as_number (has_edges P t)
   pub types : length new.tiles.items ≡ length old.tiles.items
@@ -117,11 +118,11 @@ pub record AddsTask (P : Plan) (t : Task) (old new : Needs) : Type 0 where
   pub writes : new.writes ≡ old.writes + length (write_backs P t)
   pub traps : new.traps ≡ old.traps + 1
 
--- what the shard k needs for its task is added to its needs, and those of the other shards stay
+-- what the task needs is added to the needs of the shard k, and those of the other shards stay
 abbrev pub AddsTaskAt : Plan → Task → ℕ → List Needs → List Needs → Type 0
 AddsTaskAt P t k old new = ChangesAt (AddsTask P t) k old new
 
--- nothing is needed, where there are this many types
+-- nothing is needed, and there are counts for this many types
 pub record IsNoNeed (types : ℕ) (n : Needs) : Type 0 where
   pub entries : n.entries ≡ 0
   pub types_count : length n.tiles.items ≡ types
@@ -129,7 +130,7 @@ pub record IsNoNeed (types : ℕ) (n : Needs) : Type 0 where
   pub writes : n.writes ≡ 0
   pub traps : n.traps ≡ 0
 
--- this many needs of shards, of nothing, for this number of types
+-- the needs of this many shards, none of which needs anything yet, with counts for this many types
 pub record AreNoNeeds (shards types : ℕ) (ns : List Needs) : Type 0 where
   pub count : length ns ≡ shards
   pub each : (k : ℕ) (n : Needs) → slice_get ns k ≡ Some n → IsNoNeed types n
@@ -149,7 +150,7 @@ pub record AreReserved (ns : List Needs) (old new : List Content) : Type 0 where
   pub each : (k : ℕ) (n : Needs) (y z : Content) → slice_get ns k ≡ Some n → slice_get old k ≡ Some y
       → slice_get new k ≡ Some z → IsReservedFor n y z
 
--- the needs and the shards are of as many types
+-- each shard and its needs have the same number of types
 abbrev pub FitShards : List Needs → List Content → Type 0
 FitShards ns ys =
     (k : ℕ) (n : Needs) (y : Content) → slice_get ns k ≡ Some n → slice_get ys k ≡ Some y

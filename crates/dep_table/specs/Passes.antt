@@ -1,4 +1,5 @@
--- Clean passes: those that a worker has between two calls. Source: this project's own choice.
+-- Clean passes: a worker's pass is clean between two calls.
+-- Carried by: calls of `DepTable` and `Turn`.
 use Rattle.std.specs.Prelude.{◌≡◌, [], ◌∷◌, length}
 use Rattle.table_rule.specs.Seats.{TableId}
 use Rattle.ptg_base.specs.Task.{Task}
@@ -14,12 +15,12 @@ pub record IsCleanSeat (m : Seated) : Type 0 where
   pub clean : IsClean m.0
   pub one_name : length m.0.names ≡ 1
 
--- a clean pass of this table. The stamp of the task that it runs is the one that it drew last
+-- a clean pass of this table. If it runs a task, the stamp of that task is the one that it drew last
 pub record IsPassOf (table : TableId) (p : PassView) : Type 0 where
   pub of : p.table ≡ table
   pub clean : IsCleanSeat p.me
   pub stamp : (t : Task) → (shown p).running ≡ t ∷ [] → HasStamp (shown p) t p.stamp
 
--- the first pass of this table: nothing is done, and none was split off it
+-- the first pass of this table: it has done nothing, and no pass was split off it
 abbrev pub IsFirstPassOf : TableId → PassView → Type 0
 IsFirstPassOf table p = IsPassOf table p × (p.me.0 ≡ first_pass)

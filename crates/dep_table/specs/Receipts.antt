@@ -1,12 +1,13 @@
--- A receipt as contracts see it. Source: this project's own choice.
+-- A receipt as contracts see it.
+-- Carried by: `Closed::outcome`, `Receipt::matched`.
 use Rattle.std.specs.Prelude.{ℕ, Bool}
 use Rattle.plan_core.specs.declared.plan.Plan.{Plan}
 use Rattle.coll_data.specs.Data.{Data}
 use Rattle.flow_meaning.specs.declared.outcome.Outcome.{Outcome}
 use Rattle.dep_table.specs.ClosedTables.{ClosedView}
 
--- the plan and the data of the job that was run, the numbers of shards and of passes, whether all memory was taken
--- before the first step, and the answer that was read from the table
+-- The plan and the data of the job that was run, the numbers of shards and of passes, and the answer that was read from
+-- the table. It also says whether all memory was reserved before the first step.
 pub record ReceiptView : Type 0 where
   pub plan : Plan
   pub given : Data

@@ -1,5 +1,6 @@
--- The claims of the passes of a table, put in the order of their stamps. Source: the usual topological order; the
--- stamps are this project's own choice.
+-- The claims of the passes of a table in the order of their stamps; a legal order of what was claimed. Source: the
+-- usual topological order; the stamps are this project's own choice.
+-- Carried by: `DepTable::close`; law `a_quiet_close_has_an_order_of_what_ran`.
 use Rattle.std.specs.Prelude.{◌≡◌, ℕ, List}
 use Rattle.std.specs.List.{flat_map}
 use Rattle.std.specs.List.Sorted.{IsNonDecreasingBy}
@@ -20,13 +21,13 @@ joined_stamps vs = flat_map (λ (v : PassRecord). v.stamps) vs
 abbrev pub number_of : StampedTask → ℕ
 number_of x = x.1
 
--- The tasks of these stamps, in the order of the stamps.
+-- These are the tasks of the stamps, in the order of the stamps.
 pub record AreInStampOrder (stamps : List StampedTask) (ts : List Task) : Type 0 where
   pub ordered : List StampedTask
   pub same : HasSameMembers ordered stamps
   pub rise : IsNonDecreasingBy number_of ordered
   pub tasks : ts ≡ keys_of ordered
 
--- A legal order of the tasks that were claimed.
+-- These are the tasks that were claimed, in a legal order.
 abbrev pub IsClaimOrder : Plan → MachineState → List Task → Type 0
 IsClaimOrder P S ts = IsOrderOf P S.claims ts

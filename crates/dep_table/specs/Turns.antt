@@ -1,4 +1,5 @@
--- A turn that a pass holds. Source: this project's own choice.
+-- A turn that a pass holds.
+-- Carried by: calls of `DepTable` and `Turn`.
 use Rattle.std.specs.Prelude.{◌≡◌, ℕ, ◌<◌, [], ◌∷◌, length}
 use Rattle.ptg_base.specs.Task.{Task}
 use Rattle.dep_shard.specs.Content.{Content, IsUnchanged, KeepsSpares}
@@ -10,8 +11,8 @@ use Rattle.table_rule.specs.Plays.{Seated, WasSeen}
 use Rattle.dep_table.specs.declared.turn.Turn.{Turn}
 use Rattle.dep_table.specs.Tables.{id_of, job_of}
 
--- the turn of a pass that was clean, with the record v, when it was taken: a table that meets the rule has that record
--- and y₀ in this shard, and by now at most spares have grown and it has y
+-- The turn of a pass that was clean and had the record v when the turn was taken. Some table that meets the rule has
+-- that record and y₀ in this shard. The shard has y now, and at most its spares have grown since.
 pub record IsTurnOf (t : Turn) (v : PassRecord) (y₀ y : Content) : Type 0 where
   pub of : t.pass.now.table ≡ id_of t.table.now
   pub within : t.shard < (job_of t.table.now).shards
@@ -27,7 +28,7 @@ pub record IsTurnOf (t : Turn) (v : PassRecord) (y₀ y : Content) : Type 0 wher
 abbrev pub IsTurn : Turn → Type 0
 IsTurn t = (v : PassRecord) × (y₀ : Content) × (y : Content) × IsTurnOf t v y₀ y
 
--- the pass looked into the shard whose turn it holds: nothing changed but spares of the shard that grew
+-- the pass looked into the shard k, whose turn it holds: nothing changed but spares of the shard that grew
 pub record HasLooked (k : ℕ) (before : Content) (m n : Seated) : Type 0 where
   pub after : Content
   pub me : n ≡ (m.0, (k, after) ∷ [])

@@ -1,4 +1,5 @@
--- A pass as contracts see it. Source: this project's own choice.
+-- A pass as contracts see it.
+-- Carried by: calls of `DepTable` and `Turn`.
 use Rattle.std.specs.Prelude.{ℕ}
 use Rattle.work_board.specs.declared.record.PassRecord.{PassRecord}
 use Rattle.table_rule.specs.Plays.{Seated}

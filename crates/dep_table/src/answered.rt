@@ -1,4 +1,4 @@
-//! The data of a run and its answer, as only proofs see them.
+//! The data of a run and its answer, which only contracts and proofs see.
 
 ghost use Rattle.std.specs.Prelude.{◌≡◌};
 ghost use Rattle.std.specs.Borrow.{ftrue};
@@ -9,7 +9,7 @@ use coll_data::Given;
 use flow_meaning::Outcome;
 use std::marker::Model;
 
-// The data of a run. It takes no memory: only proofs see it.
+// The data of a run. It takes no memory: only contracts and proofs see it.
 #[derive(Drop)]
 pub struct RunData {
     pub ghost given: { Data },
@@ -28,7 +28,7 @@ impl RunData {
     }
 }
 
-// The answer of a run. It takes no memory: only proofs see it.
+// The answer of a run. It takes no memory: only contracts and proofs see it.
 #[derive(Drop)]
 pub struct RunAnswer {
     pub ghost outcome: { OutcomeValue },

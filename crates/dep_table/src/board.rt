@@ -12,6 +12,7 @@ ghost use Rattle.table_rule.specs.Rule.{placement_of};
 use crate::pass::Pass;
 use crate::table::DepTable;
 use coll_data::Given;
+use crossbeam_utils::sync::EventCount;
 use dep_iter::Matched;
 use dep_shard::Arrivals;
 use ptg_base::{Item, OutOfMemory, TaskId, Tile};
@@ -53,6 +54,10 @@ impl Board for DepTable {
         DepTable::is_preloaded(self)
     }
 
+    fn events(&self) -> Option<&EventCount> {
+        Some(&self.events)
+    }
+
     fn try_claim(&self, pass: &mut Pass, t: &TaskId) -> Claim {
         self.claim_once(pass, t)
     }
@@ -84,6 +89,7 @@ impl Board for DepTable {
 
     fn halt(&self, pass: &mut Pass) {
         DepTable::halt(self, pass);
+        self.events.notify_all();
     }
 
     fn halted(&self, pass: &mut Pass) -> bool {
@@ -95,7 +101,7 @@ impl Board for DepTable {
     }
 }
 
-/// A law: a clean pass of a table that runs nothing is a worker's pass of it.
+/// A law: a clean pass of a table that runs nothing is a pass that a worker may have.
 pub fn an_idle_pass_is_a_workers_pass()
     ensures { (table : TableValue) (p : PassView) → IsPassOf (id_of table) p → (views.shown p).running ≡ []
         → IsWorkerPass table p }

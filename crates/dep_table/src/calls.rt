@@ -13,7 +13,7 @@ use crate::pass::Pass;
 use crate::table::DepTable;
 
 impl DepTable {
-    /// Splits a pass off another: a new name, and nothing done.
+    /// Splits a new pass off a pass. The new one has a new name and has done nothing.
     pub fn split(&self, pass: &mut Pass) -> Pass
         requires { IsPassOf (id_of self.now) pass.old }
         ensures pass { IsPassOf (id_of self.now) pass.new }
@@ -35,7 +35,7 @@ impl DepTable {
         self.words.raise_halt(&mut pass.seat);
     }
 
-    /// Whether the halt word was not 0, at one look. It never is in a preloaded table.
+    /// Whether the halt word was not 0, at one look. In a preloaded table it always is 0.
     pub fn halted(&self, pass: &mut Pass) -> bool
         requires { IsPassOf (id_of self.now) pass.old }
         ensures pass { IsPassOf (id_of self.now) pass.new }
@@ -45,7 +45,7 @@ impl DepTable {
         self.words.read_halt(&mut pass.seat) != 0
     }
 
-    /// Whether the live word was 0, at one look: then no task is ready or runs, now and from now on.
+    /// Whether the live word was 0, at one look: then no task is ready or runs, from that look on.
     pub fn see_quiet(&self, pass: &mut Pass) -> bool
         requires { IsPassOf (id_of self.now) pass.old }
         ensures pass { IsPassOf (id_of self.now) pass.new }

@@ -23,8 +23,8 @@ use std::marker::Model;
 use table_rule::{TableJob, a_pass_with_all_names_is_alone, all_passes_stay_all};
 
 /// A table that no pass shares any more: its shards hold their parts of what its passes did together. Contracts see its
-/// job, the records of its passes, its shards, and how many passes were closed with it. `DepTable::close` alone makes
-/// one.
+/// job, the records of its passes, its shards, and the number of passes that it was closed with. Only `DepTable::close`
+/// makes one.
 #[derive(Drop)]
 pub struct Closed {
     pub(crate) shards: Vec<Shard>,
@@ -52,7 +52,7 @@ impl Model for Closed {
 }
 
 impl DepTable {
-    // A pass that has what both had.
+    // Joins two passes to one that has the records of both.
     fn join(&self, pass: Pass, other: Pass) -> Pass
         requires of { (pass.table ≡ id_of self.now) × (other.table ≡ id_of self.now) }
         requires named { HasName (shown pass) }
@@ -69,7 +69,7 @@ impl DepTable {
         Pass { seat, stamp }
     }
 
-    // All passes as one, which has seen quiet where one of them has.
+    // Joins all passes to one, which has seen quiet if one of them has.
     fn join_all(&self, mut passes: Vec<Pass>) -> Pass
         requires { AreAllPasses (id_of self.now) passes.items }
         ensures last { IsLastPass (id_of self.now) result (map shown passes.items) }
@@ -83,7 +83,7 @@ impl DepTable {
         last
     }
 
-    // The shards of a table that its last pass gives up, which was made of this many passes with these records.
+    // Ends a table at its last pass, to which this many passes with these records were joined.
     fn end(self, pass: Pass, passes: usize, records: ClosedRecords) -> Closed
         requires { IsLastPass (id_of self) pass records.records }
         ensures job { result.job ≡ job_of self }
@@ -99,6 +99,7 @@ impl DepTable {
             words,
             job,
             closing,
+            events: _events,
         } = self;
         let Pass {
             seat,
@@ -115,10 +116,10 @@ impl DepTable {
         }
     }
 
-    /// Closes the table, where these are all its passes. It takes no memory. The closed table shows their records, and
-    /// what its shards hold is what they did together: a sound state, in which each claimed task was handed its inputs.
-    /// All their claims, in the order of their stamps, are a legal order of the plan. Where one of the passes has seen
-    /// quiet, no shard has work.
+    /// Closes the table with all its passes. It takes no memory. The closed table shows the passes' records, and its
+    /// shards hold what they did together: a sound state, in which each claimed task was handed its inputs. All their
+    /// claims, in the order of their stamps, are a legal order of the plan. If one of the passes has seen quiet, no
+    /// shard has work.
     pub fn close(self, passes: Vec<Pass>) -> Closed
         requires { AreAllPasses (id_of self) passes.items }
         ensures job { result.job ≡ job_of self }

@@ -1,4 +1,4 @@
-//! What the passes of a closed table did, as only proofs see it.
+//! The records of the passes of a closed table, which only contracts and proofs see.
 
 ghost use Rattle.std.specs.Prelude.{◌≡◌, List, [], ◌∷◌, ◌++◌, map};
 ghost use Rattle.std.specs.Borrow.{ftrue};
@@ -8,7 +8,7 @@ ghost use Rattle.dep_table.specs.Views.{shown};
 use crate::pass::Pass;
 use std::marker::Model;
 
-// The records of passes. It takes no memory: only proofs see it.
+// The records of passes. It takes no memory: only contracts and proofs see it.
 #[derive(Drop)]
 pub struct ClosedRecords {
     pub ghost records: { List PassRecord },
@@ -19,21 +19,21 @@ impl Model for ClosedRecords {
 }
 
 impl ClosedRecords {
-    // Those of no pass.
+    // No records.
     fn new() -> ClosedRecords
         ensures { result.records ≡ [] }
     {
         ClosedRecords {}
     }
 
-    // Those before, and then that of this pass.
+    // The earlier records, followed by that of this pass.
     fn with(_before: &ClosedRecords, _pass: &Pass) -> ClosedRecords
         ensures { result.records ≡ _before.now.records ++ shown _pass.now ∷ [] }
     {
         ClosedRecords {}
     }
 
-    // Those of these passes.
+    // The records of these passes.
     pub(crate) fn of(passes: &[Pass]) -> ClosedRecords
         ensures { result.records ≡ map shown passes.now }
     {

@@ -1,4 +1,4 @@
-//! What a table keeps for its close, taken before its first step.
+//! The memory that a table keeps for its close, taken before its first step.
 
 ghost use Rattle.std.specs.Prelude.{◌≡◌, ◌≤◌, [], IfOk, vec_capacity};
 

@@ -11,7 +11,7 @@ use table_rule::PassSeat;
 use work_board::Sent;
 
 impl DepTable {
-    // Raises the live word where a send has this answer: only where its target fires.
+    // Raises the live word after a send with this result, if and only if its target fired.
     pub(crate) fn raise_for(&self, seat: &mut PassSeat, answer: Sent)
         requires of { seat_table seat.old ≡ id_of self.now }
         requires room { (seated seat.old).0.credit < length (seated seat.old).0.turns }

@@ -14,7 +14,7 @@ use ptg_base::{Item, OutOfMemory, Tile};
 use shard_calls::{take_edge, take_write};
 use work_board::Sent;
 
-// What a send answers where this has become of the target.
+// What a send returns if this became of the target.
 fn answer_of(arrived: Arrived) -> Sent
     ensures { result ≡ sending.answer_of arrived }
 {
@@ -24,7 +24,7 @@ fn answer_of(arrived: Arrived) -> Sent
     }
 }
 
-// A shard takes an item in, with its tile. Without memory it stays as it was, but for spares that grow.
+// Adds an item with its tile to a shard. If memory is refused, the shard stays as it was, except that spares may grow.
 pub(crate) fn take_item(
     shard: &mut Shard,
     m: &Matched,

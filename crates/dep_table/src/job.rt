@@ -33,7 +33,7 @@ impl DepTable {
         self.job.shards
     }
 
-    /// Whether all memory was taken before the first step.
+    /// Whether all memory was reserved before the first step.
     pub fn is_preloaded(&self) -> bool
         ensures { result ≡ (job_of self.now).preloaded }
     {

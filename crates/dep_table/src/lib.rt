@@ -1,4 +1,5 @@
-//! The dependency table that workers share: its shards and its words under one rule, and the passes that workers hold.
+//! The dependency table that workers share (`DepTable`): its opening, with or without all memory reserved first, its
+//! passes and their turns, and its close with the answer and the receipt. It implements `Board`.
 #![tactic(auto)]
 
 mod answered;

@@ -19,7 +19,7 @@ use ptg_base::{OutOfMemory, TaskId, WriteBack};
 use shard_calls::flow_at;
 use std::alloc::Global;
 
-// What one shard needs for all that will come to it.
+// What one shard needs for all that it will receive.
 #[derive(Drop)]
 pub(crate) struct Needs {
     // Entries of the tasks that edges go into.
@@ -32,7 +32,7 @@ pub(crate) struct Needs {
     pub(crate) traps: u64,
 }
 
-// One more.
+// Adds one to a count.
 fn add_one(count: &mut u64)
     requires { count.old + 1 < 2 ^ 64 }
     ensures { count.new ≡ count.old + 1 }
@@ -40,7 +40,7 @@ fn add_one(count: &mut u64)
     *count += 1;
 }
 
-// Whether a target of an in dependence gives an edge.
+// Whether the target of an in dependence is a task, so that the dependence gives an edge.
 fn is_edge(target: &Target) -> bool
     ensures { result ≡ needs.begins_with_edge (target.now ∷ []) }
 {
@@ -66,7 +66,7 @@ fn begins_with_edge(deps: &[DepPlan], env: &[i64]) -> bool
 }
 
 impl Needs {
-    // Nothing, for a plan with this many types of tiles.
+    // No needs, for a plan with this many types of tiles.
     pub(crate) fn new(alloc: Global, types: usize) -> Result<Needs, OutOfMemory>
         ensures { IfOk result (IsNoNeed types) }
     {
@@ -111,7 +111,7 @@ impl Needs {
         self.add_flows(others, env);
     }
 
-    // The tiles of the edges into a task with these locals. No edge is walked.
+    // Adds the tiles of the edges into a task with these locals, without a walk over the edges.
     fn add_edges(&mut self, m: &Matched, t: &TaskId, env: &[i64])
         requires task { IsTask m.now t.now }
         requires locals { env.now ≡ tasks.locals_of m.now t.now }
@@ -123,7 +123,7 @@ impl Needs {
         self.add_flows(flows_of(m.plan(), t), env);
     }
 
-    // The place and the tile of a write-back of a task.
+    // Adds the place and the tile of a write-back of a task.
     fn add_write(&mut self, plan: &Plan, t: &TaskId, write: &WriteBack)
         requires task { IsTask plan.now t.now }
         requires from { write.now.from ≡ t.now }
@@ -139,7 +139,7 @@ impl Needs {
         }
     }
 
-    // The places and the tiles of the write-backs of a task with these locals.
+    // Adds the places and the tiles of the write-backs of a task with these locals.
     fn add_writes(&mut self, plan: &Plan, t: &TaskId, env: &[i64])
         requires task { IsTask plan.now t.now }
         requires locals { env.now ≡ tasks.locals_of plan.now t.now }
@@ -155,7 +155,7 @@ impl Needs {
         }
     }
 
-    // All that its shard needs for a task with these locals.
+    // Adds all that a task with these locals needs in its shard.
     pub(crate) fn add_task(&mut self, m: &Matched, t: &TaskId, env: &[i64])
         requires task { IsTask m.now t.now }
         requires locals { env.now ≡ tasks.locals_of m.now t.now }

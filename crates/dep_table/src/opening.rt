@@ -15,6 +15,7 @@ use crate::pass::Pass;
 use crate::preloaded::preloaded_shards;
 use crate::table::DepTable;
 use coll_data::Given;
+use crossbeam_utils::sync::EventCount;
 use dep_iter::Matched;
 use dep_shard::Shard;
 use ptg_base::OutOfMemory;
@@ -34,7 +35,7 @@ fn room_for(alloc: Global, job: &TableJob) -> Result<ClosingRoom, OutOfMemory>
     closing_room(alloc, job.shards, rows)
 }
 
-// A table of these words and shards, with this room for its close, and its first pass.
+// A table with these words and shards, this job and this room for its close, and its first pass.
 fn lay(
     alloc: Global,
     words: Vec<u64>,
@@ -53,11 +54,12 @@ fn lay(
         words,
         job,
         closing,
+        events: EventCount::new(),
     };
     Ok((table, Pass { seat, stamp: 0 }))
 }
 
-// The shards of a new table, with spares for all that will come to them where it is preloaded.
+// The shards of a new table; if it is preloaded, with spares for all that they will receive.
 fn shards_for(
     alloc: Global,
     m: &Matched,
@@ -75,7 +77,7 @@ fn shards_for(
     }
 }
 
-// A table for this job of these shards, and its first pass.
+// A table for this job with these shards, and its first pass.
 fn open_table(
     alloc: Global,
     shards: Vec<Shard>,
@@ -95,7 +97,7 @@ fn open_table(
 }
 
 impl DepTable {
-    /// A table for a job, with from 1 to 256 shards, and its first pass.
+    /// A table for a job, with 1 to 256 shards, and its first pass.
     pub fn new(
         alloc: Global,
         matched: Matched,
@@ -112,8 +114,8 @@ impl DepTable {
         DepTable::open(alloc, matched, given, shards, false)
     }
 
-    /// As `new`, with spares in each shard for all that will come to it, and with room for the close, so that none of
-    /// the table's calls wants memory.
+    /// As `new`, with spares in each shard for all that it will receive, and with room for the close. So no later call
+    /// of the table is refused memory.
     pub fn new_preloaded(
         alloc: Global,
         matched: Matched,
@@ -130,7 +132,7 @@ impl DepTable {
         DepTable::open(alloc, matched, given, shards, true)
     }
 
-    /// As `new_preloaded` where a preload is asked for, and else as `new`.
+    /// As `new_preloaded` if `preload` is set, else as `new`.
     pub fn open(
         alloc: Global,
         matched: Matched,

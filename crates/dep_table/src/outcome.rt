@@ -15,8 +15,8 @@ use shard_answer::outcome_of;
 use table_rule::TableJob;
 
 impl Closed {
-    /// The answer of the job, where the table was closed after the run had ended, and the receipt, which shows that
-    /// answer. No tile is copied. A preloaded table has the memory.
+    /// The answer of the job, and a receipt that shows it. The table must have been closed after the run had ended. No
+    /// tile is copied. A preloaded table has the memory.
     pub fn outcome(self) -> Result<(Outcome, Receipt), OutOfMemory>
         requires { HaveNoWork (shards_of self) }
         ensures answer { IfOk result (λ (outcome, receipt). outcome ≡ answer self.job.matched self.job.given) }

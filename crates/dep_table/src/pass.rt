@@ -3,7 +3,7 @@
 use std::marker::Model;
 use table_rule::PassSeat;
 
-/// A worker's part in a table. Contracts see which table it belongs to, its record, the shards that it holds, and the
+/// A worker's handle on a table. Contracts see which table it belongs to, its record, the shards that it holds, and the
 /// stamp that it drew last.
 #[derive(Drop)]
 pub struct Pass {

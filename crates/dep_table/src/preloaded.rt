@@ -1,4 +1,4 @@
-//! The shards of a table that takes all memory before the first step.
+//! The shards of a table that reserves all memory before the first step.
 
 ghost use Rattle.std.specs.Prelude.{◌≡◌, ◌<◌, ◌∷◌, [], Some, IfOk, OnOk, length, slice_get};
 ghost use Rattle.ptg_base.specs.Limits.{IsShardCount};
@@ -17,7 +17,7 @@ use ptg_base::{OutOfMemory, TaskId};
 use shard_calls::{opened_shards, shard_under};
 use std::alloc::Global;
 
-// Needs of nothing, for this many shards.
+// No needs yet, for each of this many shards.
 fn no_needs(alloc: Global, m: &Matched, shards: u32) -> Result<Vec<Needs>, OutOfMemory>
     ensures { IfOk result (λ v. AreNoNeeds shards (length m.now.elems) v.items) }
 {
@@ -103,7 +103,7 @@ fn reserve_all(shards: &mut Vec<Shard>, needs: &[Needs]) -> Result<(), OutOfMemo
     Ok(())
 }
 
-// The shards of a new table, each with spares for all that will come to it.
+// The shards of a new table, each with spares for all that it will receive.
 pub(crate) fn preloaded_shards(
     alloc: Global,
     m: &Matched,

@@ -26,8 +26,8 @@ impl Closed {
     }
 }
 
-/// A law: where no shard of a closed table has work, what its passes did together is calm, and no event is possible;
-/// and then only.
+/// A law: if no shard of a closed table has work, the moment of its passes is calm and no event is possible. If the
+/// moment is calm, no shard has work.
 pub fn a_closed_table_without_work_is_quiescent()
     ensures calm { (j : TableJob) (vs : List PassRecord) (ys : List Content) → IsClosedAt j vs ys → HaveNoWork ys
         → IsCalm j.matched (joined vs) × IsQuiescent j.matched j.given (joined vs).state }
@@ -35,16 +35,16 @@ pub fn a_closed_table_without_work_is_quiescent()
         → IsCalm j.matched (joined vs) → HaveNoWork ys }
 {}
 
-/// A law: where no shard of a closed table has work, its passes have done what the job means. They have claimed the
-/// tasks that run, each once, and sent the items of the tasks that have outputs, each once and with the tile that its
-/// task leaves; and each claimed task was sent its inputs.
+/// A law: if no shard of a closed table has work, its passes have done what the job means. They claimed the tasks that
+/// run, each once. They sent the items of the tasks that have outputs, each once and with the tile that its task
+/// leaves. Each claimed task was sent its inputs.
 pub fn a_quiet_close_has_the_meaning()
     ensures { (j : TableJob) (vs : List PassRecord) (ys : List Content) → IsClosedAt j vs ys → HaveNoWork ys
         → HasTheMeaning j.matched j.given (joined vs).state }
 {}
 
-/// A law: where no shard of a closed table has work, a legal order of the claims of its passes is one of the tasks that
-/// run.
+/// A law: if no shard of a closed table has work, a legal order of the claims of its passes is a legal order of the
+/// tasks that run.
 pub fn a_quiet_close_has_an_order_of_what_ran()
     ensures { (j : TableJob) (vs : List PassRecord) (ys : List Content) (ts : List Task) → IsClosedAt j vs ys
         → HaveNoWork ys → IsClaimOrder j.matched (joined vs).state ts → IsWholeOrder j.matched j.given ts }

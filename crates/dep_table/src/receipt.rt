@@ -6,9 +6,9 @@ use crate::answered::{RunAnswer, RunData};
 use dep_iter::Matched;
 use std::marker::Model;
 
-/// Shows that a table of a job was closed when it was quiet, and its answer read. Contracts see the plan, the data, the
-/// numbers of shards and of passes, whether all memory was taken before the first step, and the answer.
-/// `Closed::outcome` alone makes one, and it can't be copied.
+/// Shows that a table of a job was closed when it was quiet, and that its answer was read. Contracts see the plan, the
+/// data, the numbers of shards and of passes, whether all memory was reserved before the first step, and the answer.
+/// Only `Closed::outcome` makes one, and it can't be copied.
 #[derive(Drop)]
 pub struct Receipt {
     pub(crate) matched: Matched,

@@ -31,7 +31,7 @@ impl DepTable {
 }
 
 impl<'a> Turn<'a> {
-    /// The best ready task of the shard, None exactly where none is ready. The turn stays.
+    /// The best ready task of the shard, or None if and only if none is ready. The pass keeps the turn.
     pub fn best_ready(&mut self) -> Option<TaskId>
         requires turn { IsTurn self.old }
         ensures same_reference { self.new.pass.ghost_name ≡ self.old.pass.ghost_name }
@@ -48,7 +48,7 @@ impl<'a> Turn<'a> {
 }
 
 impl<'a> Turn<'a> {
-    // Claims the best ready task of the shard and gives the turn back. The claim has its stamp.
+    // Claims the best ready task of the shard and gives the turn back. The claim gets its stamp.
     pub(crate) fn claim_best(self, t: &TaskId) -> Arrivals
         requires idle { (shown self.pass.now).running ≡ [] }
         requires best { (v : PassRecord) × (y : Content) × (z : Content) × IsTurnOf self v y z

@@ -18,9 +18,10 @@ use ptg_base::{Item, OutOfMemory, Tile};
 use work_board::Sent;
 
 impl<'a> Turn<'a> {
-    /// Sends an item of the task that the pass runs, with its tile, and gives the turn back: Fired exactly where the
-    /// edge was the last that its target waits for, Waits where not, Kept for a write-back. All memory is taken first.
-    /// Without it the turn is given back, and nothing else happens; a preloaded table has the memory.
+    /// Sends an item of the task that the pass runs, with its tile, and gives the turn back. For an edge it returns
+    /// `Fired` if that was the last edge that its target waited for, else `Waits`; for a write-back `Kept`. It takes
+    /// all memory first. If memory is refused, the turn is given back and nothing else happens. A preloaded table has
+    /// the memory.
     pub fn send(self, item: &Item, tile: Option<&Tile>) -> Result<Sent, OutOfMemory>
         requires turn { IsTurn self }
         requires item { IsNext (job_of self.table.now).matched (job_of self.table.now).given item.now

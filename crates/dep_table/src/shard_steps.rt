@@ -8,7 +8,8 @@ ghost use Rattle.dep_shard.specs.Content.{Ends, HasNoReadyOf, KeepsEntriesAndWri
 use dep_shard::{Arrivals, Shard};
 use ptg_base::{MOST_TASKS, TaskId};
 
-// Takes the ready entry of a task out of a shard whose numbers allow it where the task has an entry.
+// Takes the ready entry of a task out of a shard, if there is one. If the task has an entry, the shard runs fewer tasks
+// than a job may have.
 pub(crate) fn take_ready(shard: &mut Shard, t: &TaskId) -> Option<Arrivals>
     requires { (e : Entry) → entry_of shard.old t.now ≡ Some e → shard.old.running < most_tasks }
     ensures none { IfNone result (HasNoReadyOf shard.old t.now) }
@@ -22,8 +23,8 @@ pub(crate) fn take_ready(shard: &mut Shard, t: &TaskId) -> Option<Arrivals>
     shard.take_ready(t)
 }
 
-// A running task of a shard ends. The shard keeps tiles that came with it, as far as it has room for them; the others
-// are dropped.
+// Ends a running task of a shard. The shard keeps the tiles that came with it as far as it has room, and drops the
+// others.
 pub(crate) fn end_task(shard: &mut Shard, spent: &mut Arrivals)
     requires running { 0 < shard.old.running }
     requires bound { shard.old.ended < most_tasks }

@@ -1,4 +1,4 @@
-//! The calls of a pass that go for the turn of one shard, once.
+//! The calls of a pass that try once to take the turn of one shard.
 
 ghost use Rattle.std.specs.Prelude.{◌≡◌, ◌<◌, [], true, IsOk, IfOk, OnErr};
 ghost use Rattle.std.specs.Option.{option_copied};
@@ -23,7 +23,7 @@ use term_core::Trap;
 use work_board::{Claim, Scan, Sent};
 
 impl DepTable {
-    // Claims a task: `Gone` exactly where its shard has no ready entry of it.
+    // Claims a task. With the turn, it returns `Gone` if and only if the shard has no ready entry of the task.
     pub(crate) fn claim_once(&self, pass: &mut Pass, t: &TaskId) -> Claim
         requires pass { IsPassOf (id_of self.now) pass.old }
         requires task { IsTask (job_of self.now).matched t.now }
@@ -42,7 +42,7 @@ impl DepTable {
         }
     }
 
-    // Claims the best ready task of a shard: `Empty` exactly where none is ready.
+    // Claims the best ready task of a shard. With the turn, it returns `Empty` if and only if none is ready.
     pub(crate) fn scan_once(&self, pass: &mut Pass, shard: u32) -> Scan
         requires pass { IsPassOf (id_of self.now) pass.old }
         requires shard { shard < (job_of self.now).shards }
@@ -66,7 +66,7 @@ impl DepTable {
         }
     }
 
-    // The number of the shard where an item of a task of the job is handled.
+    // The number of the shard that handles an item of a task of the job.
     fn shard_for(&self, item: &Item) -> u32
         requires task { IsTask (job_of self.now).matched (sender item.now) }
         requires item { IsIn item.now (items (job_of self.now).matched (sender item.now)) }
@@ -106,8 +106,8 @@ impl DepTable {
         }
     }
 
-    // Ends the task that the pass runs, whose items were all sent. Of the tiles that came with it none is left. False
-    // only where the turn was taken; then they stay.
+    // Ends the task that the pass runs, whose items were all sent. None of the tiles that came with it are left in
+    // `spent`. False only if another pass held the turn; then all of them are.
     pub(crate) fn end_once(&self, pass: &mut Pass, t: &TaskId, spent: &mut Arrivals) -> bool
         requires pass { IsPassOf (id_of self.now) pass.old }
         requires is_task { IsTask (job_of self.now).matched t.now }
@@ -126,7 +126,7 @@ impl DepTable {
         }
     }
 
-    // Notes that the task that the pass runs trapped with this cause. False only where the turn was taken.
+    // Notes that the task that the pass runs trapped with this cause. False only if another pass held the turn.
     pub(crate) fn trap_once(
         &self,
         pass: &mut Pass,

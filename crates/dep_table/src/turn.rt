@@ -1,4 +1,4 @@
-//! A turn that was taken: the one pass that holds it may read and write its shard.
+//! A turn that was taken: only the pass that holds it may read and write the shard.
 
 ghost use Rattle.std.specs.Prelude.{IsOk, OnErr, OnOk, ◌≡◌, ◌<◌, IfErr, IfNone, IfSome, IfOk, true, [], ◌∷◌};
 ghost use Rattle.dep_shard.specs.Content.{Content};
@@ -20,21 +20,21 @@ use dep_shard::Arrivals;
 use ptg_base::{OutOfMemory, TaskId};
 use term_core::Trap;
 
-/// The turn of a shard, with the pass that took it. It has no `Drop`: one of the calls that take it gives the turn
-/// back.
+/// The turn of a shard, with the pass that took it. It has no `Drop`, so one of the calls that consume it must give the
+/// turn back.
 pub struct Turn<'a> {
     pub(crate) table: &'a DepTable,
     pub(crate) pass: &'a mut Pass,
     pub(crate) shard: u32,
 }
 
-/// Another pass had the turn. The pass that was lent comes back.
+/// Another pass held the turn. The lent pass is returned.
 pub struct Busy<'a> {
     pub pass: &'a mut Pass,
 }
 
 impl DepTable {
-    /// Tries to take the turn of a shard, in one step on its word: busy only where another pass had it then.
+    /// Tries to take the turn of a shard, in one step on its word: `Busy` only if another pass held it then.
     pub fn try_turn<'a>(&'a self, pass: &'a mut Pass, shard: u32) -> Result<Turn<'a>, Busy<'a>>
         requires pass { IsPassOf (id_of self.now) pass.old }
         requires shard { shard < (job_of self.now).shards }
@@ -58,7 +58,7 @@ impl DepTable {
 }
 
 impl<'a> Turn<'a> {
-    /// Gives the turn back, and nothing else.
+    /// Gives the turn back without an event.
     pub fn leave(self)
         requires turn { IsTurn self }
         ensures pass { IsPassOf (id_of self.entry.table.now) self.exit.1.0.now }
@@ -73,8 +73,8 @@ impl<'a> Turn<'a> {
 }
 
 impl<'a> Turn<'a> {
-    /// Claims a task and gives the turn back: None exactly where the shard has no ready entry of the task. The claim
-    /// has its stamp.
+    /// Claims a task and gives the turn back: None if and only if the shard has no ready entry of the task. The claim
+    /// gets its stamp.
     pub fn claim(self, t: &TaskId) -> Option<Arrivals>
         requires turn { IsTurn self }
         requires idle { (shown self.pass.now).running ≡ [] }
@@ -106,8 +106,8 @@ impl<'a> Turn<'a> {
 }
 
 impl<'a> Turn<'a> {
-    /// Ends the running task, all of whose items the pass has sent, and gives the turn back. None of the tiles that came
-    /// with the task is left: the shard keeps them for what is sent later, or they are dropped.
+    /// Ends the running task, whose items the pass has all sent, and gives the turn back. None of the tiles that came
+    /// with the task are left in `spent`: the shard keeps them for later sends, or drops them.
     pub fn end(self, t: &TaskId, spent: &mut Arrivals)
         requires turn { IsTurn self }
         requires task { MayEnd (job_of self.table.now).matched (job_of self.table.now).given t.now
@@ -130,8 +130,8 @@ impl<'a> Turn<'a> {
 }
 
 impl<'a> Turn<'a> {
-    /// Notes that the running task trapped with this cause, which ends it, and gives the turn back. Without memory it
-    /// gives the turn back, and nothing else; a preloaded table has the memory.
+    /// Notes that the running task trapped with this cause, which ends it, and gives the turn back. If memory is
+    /// refused, the turn is given back and nothing else happens. A preloaded table has the memory.
     pub fn trap(self, t: &TaskId, cause: Trap) -> Result<(), OutOfMemory>
         requires turn { IsTurn self }
         requires task { MayTrap (job_of self.table.now).matched (job_of self.table.now).given t.now cause

@@ -72,7 +72,7 @@ pub stolen_empty : (result : Stolen) (n from : ℕ) (own : Owner) (thieves : Lis
 stolen_empty (Task id) n from own thieves f P A B ne within here h = tt
 stolen_empty Empty n from own thieves f P A B ne within here h = subst P (sym (taken_there n from own thieves f ne within here)) h.1
 
--- the condition of a steal, of the ends
+-- the condition of a steal, said of the ends
 pub another : (n from : ℕ) (own : Owner) (thieves : List Thief) (a : Account) → account n own thieves ≡ a → (from < length a.deques) × (from ≢ a.number) → (from ≢ n) × (from < length thieves)
 another n from own thieves a is h =
     let other = subst (λ (x : Account). (from < length x.deques) × (from ≢ x.number)) (sym is) h in
@@ -116,7 +116,7 @@ has_part n from thieves f others ne within here =
     let there : slice_get thieves from ≡ Some f = slice_get_read thieves (length thieves) from f refl within here in
     same_Some _ _ (sym (ap (option_map (λ (x : Thief). x.parts)) there) ∙ (sym (slice_get-map (λ (x : Thief). x.parts) thieves from) ∙ others from within ne))
 
--- the ends after another of them changed at the front
+-- the invariant of the ends holds after a thief's end changed and kept its deque and its parts
 pub stay : (n from parts : ℕ) (deque : DequeId) (thieves : List Thief) (f f' : Thief) → f ≡ get_or thieves from f → f'.deque ≡ f.deque → f'.parts ≡ f.parts
     → (n < length thieves) × (parts + length thieves ≡ 66) × (slice_get (map (λ (x : Thief). x.deque) thieves) n ≡ Some deque) × OthersHaveParts n thieves
     → (n < length (set thieves from f')) × (parts + length (set thieves from f') ≡ 66) × (slice_get (map (λ (x : Thief). x.deque) (set thieves from f')) n ≡ Some deque) × OthersHaveParts n (set thieves from f')

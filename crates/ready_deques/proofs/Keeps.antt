@@ -22,7 +22,7 @@ still_first (t ∷ ts) zero v w at who first = first
 still_first (t ∷ ts) (suc port) v w at (inl zeroth) first = absurd (omega (arith, zeroth))
 still_first (t ∷ ts) (suc port) v w at (inr same) first = All-set HasNotPushed ts port w (same ∙ all_at HasNotPushed ts port v at first) first
 
--- a tally that has pushed nothing comes at the end
+-- a tally that has pushed nothing is added at the end
 still_first_with : (tallies : List Tally) (w : Tally) → 0 < length tallies → w.pushed ≡ [] → OnlyFirstPushes tallies → OnlyFirstPushes (tallies ++ w ∷ [])
 still_first_with [] w nonempty none first = absurd (omega (arith, nonempty))
 still_first_with (t ∷ ts) w nonempty none first = All-append HasNotPushed ts (w ∷ []) first (All-cons HasNotPushed w [] none (All-nil HasNotPushed))
@@ -93,7 +93,7 @@ finds port v own views b at = first_of views b (subst (λ k. get_elem? views k �
     first_of [] balanced here = absurd (some-ne-none v (sym here))
     first_of (t ∷ ts) balanced here = (ts, subst (λ (first : Tally). Balanced [] (first ∷ ts)) (some-injective t v here) balanced)
 
--- one tally is changed and another one comes, of which neither pushes
+-- one tally is changed and another one is added, and neither pushes
 with_new_end : (views : List Tally) (port : ℕ) (v left right : Tally) → get_elem? views port ≡ some v → left.pushed ≡ v.pushed → right.pushed ≡ [] → OnlyFirstPushes views → OnlyFirstPushes (set views port left ++ right ∷ [])
 with_new_end views port v left right at same none first =
     let nonempty : 0 < length views = some_at views port v at in
@@ -120,7 +120,7 @@ forks port v some_parts items views b at =
       pushes = with_new_end views port v left right at refl refl b.pushes;
     }
 
--- an end without a part comes
+-- an end without a part is added
 pub forks_partless : (port : ℕ) (v : Tally) → Forks Balanced port v v (tally 0 [] [])
 forks_partless port v items views b at =
     let right = tally 0 [] [] in
@@ -141,7 +141,7 @@ forks_partless port v items views b at =
       pushes = with_new_end views port v v right at refl refl b.pushes;
     }
 
--- another tally than the first is spent
+-- a tally other than the first is spent
 spent_last : (views : List Tally) (other : ℕ) (w : Tally) → ¬ (other ≡ 0) → w.pushed ≡ [] → OnlyFirstPushes views → OnlyFirstPushes (set views other w)
 spent_last [] other w apart none first = tt
 spent_last (t ∷ ts) zero w apart none first = absurd (apart refl)
@@ -175,7 +175,7 @@ learns port v all held views b at id =
     let h = b.ids id in
     omega arith
 
--- the worker has all parts
+-- if the worker has all parts, each id was taken as often as it was pushed
 pub all_taken : (parts : ℕ) (pushed taken : List Task) → parts ≡ 65 → WasEmpty parts pushed taken → AllTaken pushed taken
 all_taken parts pushed taken all moment id =
     let h = learns 0 (tally parts pushed taken) all [] (tally parts pushed taken ∷ moment.0) moment.1 refl id in

@@ -34,7 +34,7 @@ of_two deques team before rest first last made popped popped_again =
       all = sym (ap length deques_last ∙ made.one_for_each);
     }
 
--- pushing and taking leaves them all hands
+-- after pushes and takes they are still all hands
 pub stay_others : (a b o p : Account) → AreTheOthers a (o ∷ []) → SameWorker a b → SameWorker o p → AreTheOthers b (p ∷ [])
 stay_others a b o p before same same_other =
     let apart_before : o.number ≢ a.number = before.apart 0 o (omega arith) in
@@ -45,6 +45,6 @@ stay_others a b o p before same same_other =
       all = before.all ∙ ap length (sym same.1);
     }
 
--- one event after another
+-- two steps that each keep the worker and the deques keep them together
 pub same_still : (a b c : Account) → SameWorker a b → SameWorker b c → SameWorker a c
 same_still a b c first then = (then.0 ∙ first.0, then.1 ∙ first.1)

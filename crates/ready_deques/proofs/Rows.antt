@@ -31,7 +31,7 @@ module _ {X : Type 0} (f : X → X) where
   pub partly-more : (xs : List X) (k : ℕ) (d : X) → k < length xs → set (partly k xs) k (f (get_or xs k d)) ≡ partly (k + 1) xs
   partly-more xs k d within = subst (λ m. set (partly k xs) k (f (get_or xs k d)) ≡ partly m xs) (sym (add-one k)) (changes xs k d within)
 
-  -- the next one is as it was
+  -- the next element is still unchanged
   pub get_or-partly : (xs : List X) (k : ℕ) (d : X) → get_or (partly k xs) k d ≡ get_or xs k d
   get_or-partly [] zero d = refl
   get_or-partly [] (suc k) d = refl
@@ -133,7 +133,7 @@ less-none (b ∷ owners) = let parts : b.parts - 0 ≡ b.parts = omega arith in 
 pub all_more : {X : Type 0} (P : X → Type 0) (xs ys : List X) (x : X) → ys ≡ xs ++ x ∷ [] → All P xs → P x → All P ys
 all_more P xs ys x added all holds = subst (All P) (sym added) (All-append P xs (x ∷ []) all (All-cons P x [] holds (All-nil P)))
 
--- the account of each place, after one more
+-- the account at each index, after one more was added
 pub each_more : (xs ys : List Account) (a : Account) (f : ℕ → Account) → ys ≡ xs ++ a ∷ [] → a ≡ f (length xs)
     → ((k : ℕ) → k < length xs → slice_get xs k ≡ Some (f k)) → (k : ℕ) → k < length ys → slice_get ys k ≡ Some (f k)
 each_more xs ys a f added is each = subst (λ zs. (k : ℕ) → k < length zs → slice_get zs k ≡ Some (f k)) (sym added) (snoc xs a f is each)
@@ -145,7 +145,7 @@ each_more xs ys a f added is each = subst (λ zs. (k : ℕ) → k < length zs �
     snoc (z ∷ zs) b g is' each' zero within = each' 0 (omega arith)
     snoc (z ∷ zs) b g is' each' (suc k) within = snoc zs b (λ j. g (suc j)) is' (λ j h. each' (suc j) (omega arith)) k (omega arith)
 
--- the next of a list, where the first n are gone
+-- the next element of a list after the first n, and what follows it
 pub record IsNext {X : Type 0} (xs : List X) (n : ℕ) (x : X) (rest : List X) : Type 0 where
   pub within : n < length xs
   pub here : slice_get xs n ≡ Some x
@@ -179,7 +179,7 @@ all_but_last {X = X} P xs ys x e all = split ys (subst (All P) e all)
     split [] h = (All-nil P, All-head P x [] h)
     split (z ∷ zs) h = let rest = split zs (All-tail P z (zs ++ x ∷ []) h) in (All-cons P z zs (All-head P z (zs ++ x ∷ []) h) rest.0, rest.1)
 
--- in a row of new thieves' ends, the deque at a worker's place is the worker's own
+-- in a row of new thieves' ends, the deque at a worker's index is the worker's own
 pub deque_at : (owners : List Owner) (thieves : List Thief) (n : ℕ) (own : Owner) → thieves ≡ map new_thief owners → slice_get owners n ≡ Some own
     → slice_get (map (λ (f : Thief). f.deque) thieves) n ≡ Some own.deque
 deque_at owners thieves n own row here =

@@ -38,7 +38,7 @@ pub gathered_all : (id : Task) (worker total : ℕ) (taken : List Task) (rest : 
 gathered_all id worker total taken [] none sum = omega arith
 gathered_all id worker total taken (x ∷ rest) none sum = absurd (omega arith)
 
--- what was taken is at most what was pushed, with the slot of the end too
+-- what was taken is at most what was pushed, also with the slot of the end
 pub settled : (id : Task) (n : ℕ) (own end : Owner) (thieves : List Thief) (a : Account) (others : List Account)
     (taken' pushed : List Task) → account n own thieves ≡ a → n < length thieves
     → times id own.taken + times id end.pushed ≤ times id own.pushed + times id end.taken

@@ -80,7 +80,7 @@ took_back e e' slot pushed taken taken' id counts moved longer = record {
       omega (arith, was, p);
 }
 
--- an empty deque with an empty slot has no id of those that were pushed
+-- if the slot is empty and the deque was empty, no pushed id was left
 pub none_left : (e : Owner) (slot : Option Task) (pushed taken : List Task) → 0 < e.parts
     → CountsWithSlot e (option_to_list slot) pushed taken → slot ≡ None
     → WasEmpty e.parts e.pushed e.taken → WasEmpty e.parts pushed taken
@@ -113,7 +113,7 @@ none_left e slot pushed taken some counts none was = (
     others : List Tally
     others = was.0
 
--- without the slot as many are missing, or more
+-- by the counts without the slot, at most as many of each id are left
 pub without_slot : (e : Owner) (slot pushed taken : List Task) (id : Task) → CountsWithSlot e slot pushed taken
     → times id taken + times id e.pushed ≤ times id pushed + times id e.taken
 without_slot e slot pushed taken id counts = let was = counts.ids id in omega (arith, was)

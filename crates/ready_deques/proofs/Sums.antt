@@ -26,7 +26,7 @@ module _ {X : Type 0} where
   sum_by-at-le f (z ∷ xs) zero x e = let same : f z ≡ f x = ap f (some-injective z x e) in omega (arith, sum_by-cons f z xs)
   sum_by-at-le f (z ∷ xs) (suc i) x e = let h = sum_by-at-le f xs i x e in omega (arith, sum_by-cons f z xs)
 
-  -- where the weights add up to 0, so do the terms that are 0 without weight
+  -- if the weights add up to 0, and each term without weight is 0, the terms add up to 0
   sum_by-idle : (weight f : X → ℕ) (xs : List X) → ((i : ℕ) (x : X) → get_elem? xs i ≡ some x → weight x ≡ 0 → f x ≡ 0) → sum_by weight xs ≡ 0 → sum_by f xs ≡ 0
   sum_by-idle weight f [] idle e = refl
   sum_by-idle weight f (z ∷ xs) idle e =
@@ -35,7 +35,7 @@ module _ {X : Type 0} where
       let rest = sum_by-idle weight f xs (λ i x. idle (suc i) x) (omega arith) in
       omega (arith, sum_by-cons f z xs)
 
-  -- where one has all the weight, the sum is its term
+  -- if one member has all the weight, and each term without weight is 0, the sum is its term
   pub sum_by-whole : (weight f : X → ℕ) (xs : List X) (i : ℕ) (x : X) → get_elem? xs i ≡ some x
       → ((j : ℕ) (y : X) → get_elem? xs j ≡ some y → weight y ≡ 0 → f y ≡ 0) → sum_by weight xs ≡ weight x → sum_by f xs ≡ f x
   sum_by-whole weight f [] i x e idle whole = absurd (some-ne-none x (sym e))

@@ -15,7 +15,7 @@ use std::marker::Model;
 use std::mem;
 use std::sync::Wait;
 
-// The ids that a deque has room for from the start.
+// The number of ids that a deque has room for from the start.
 const INITIAL_CAPACITY: usize = 16;
 
 // The end of a deque where its worker pushes and pops.
@@ -64,7 +64,7 @@ impl OwnerEnd {
         Ok(ThiefEnd { stealer, pass })
     }
 
-    // Adds at the back. The id comes back only where at least `initial_capacity` were pushed before.
+    // Adds at the back. The id is returned only if at least `initial_capacity` were pushed before.
     pub(crate) fn push(&mut self, id: TaskId) -> Result<(), TaskId>
         ensures pushed { MatchResult result (λ _. self.new ≡ record self.old { pushed = self.old.pushed ++ id ∷ [] })
             (λ back. (back ≡ id) × (self.new ≡ self.old)) }
@@ -73,7 +73,7 @@ impl OwnerEnd {
         self.worker.push_as::<Pushed>(id)
     }
 
-    // Takes at the back. None only where the deque was empty at one moment.
+    // Takes at the back. None only if the deque was empty at one moment of this call.
     pub(crate) fn pop(&mut self) -> Option<TaskId>
         ensures { MatchOption result ((self.new ≡ self.old) × WasEmpty self.old.parts self.old.pushed self.old.taken)
             (λ id. self.new ≡ record self.old { taken = self.old.taken ++ id ∷ [] }) }
@@ -103,7 +103,7 @@ impl OwnerEnd {
         self.worker.absorb::<Shares>(pass);
     }
 
-    // Who has all parts knows of every id that was taken: none was taken more often than it was pushed.
+    // With all parts, this end knows of every id that was taken: none was taken more often than it was pushed.
     pub(crate) fn audit(&mut self)
         requires { self.old.parts ≡ all_parts }
         ensures same { self.new ≡ self.old }
@@ -134,8 +134,8 @@ impl Model for ThiefEnd {
 }
 
 impl ThiefEnd {
-    // Takes at the front. `Empty` only where the deque held one id at most at one moment. It tries again where another
-    // one was first.
+    // Takes at the front. `Empty` only if the deque held at most one id at one moment of this call. If another thread
+    // was first, it tries again.
     pub(crate) fn take<R: Wait>(&mut self, rt: &R) -> Stolen
         requires { 0 < self.old.parts }
         ensures { MatchStolen result (λ id. self.new ≡ record self.old { taken = self.old.taken ++ id ∷ [] })
@@ -151,7 +151,7 @@ impl ThiefEnd {
         unreachable!()
     }
 
-    // One try. It may answer `Retry` where another one was first.
+    // One try. It may return `Retry` if another thread was first.
     fn try_take(&mut self) -> Steal<TaskId>
         requires { 0 < self.old.parts }
         ensures { MatchSteal result ((self.new ≡ self.old) × HeldAtMost 1 [] self.old.taken) (self.new ≡ self.old)

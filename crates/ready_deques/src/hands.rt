@@ -14,18 +14,19 @@ use std::marker::Model;
 use std::sync::Wait;
 use std::thread::Threads;
 
-/// One worker's ends of the deques of ready tasks. Each worker has a deque of its own, where it pushes and pops at the
-/// back, and steals at the front of the others'. Its newest id is kept in a slot before its deque, where no one can
-/// steal it: it goes to the deque when the next one is pushed.
+/// One worker's ends of the deques of ready tasks. Each worker pushes and pops at the back of its own deque, and steals
+/// at the front of the others'. It keeps its newest id in a slot, where no other worker can steal it. The next push
+/// moves that id to the deque.
 ///
-/// Contracts see the ids that the worker pushed and took, whether they met the deque or only the slot.
+/// Contracts see the ids that the worker pushed and took, whether they went through the deque or only the slot.
 ///
-/// An id only steers: the right to run its task comes from the table of dependences.
+/// An id is only a hint: the right to run its task comes from the table of dependences.
 #[derive(Drop)]
 pub struct Hands {
     number: u32,
     own: SlottedEnd,
-    // An end of each worker's deque, in order of their numbers. That of its own deque has no part, and takes nothing.
+    // A thief's end of each worker's deque, in order of the workers' numbers. The one of its own deque has no part and
+    // takes nothing.
     thieves: Vec<ThiefEnd>,
 }
 
@@ -51,7 +52,8 @@ impl Model for Hands {
 }
 
 impl Hands {
-    // The hands of a worker, before the first call. The part of its own thief's end goes to the owner's end.
+    // The hands of a worker before the first call. The part of the thief's end of its own deque goes to the owner's
+    // end.
     pub(crate) fn new(number: u32, mut own: OwnerEnd, mut thieves: Vec<ThiefEnd>) -> Hands
         requires number { number < length thieves.items }
         requires new { IsNew (length thieves.items) own }
@@ -75,16 +77,22 @@ impl Hands {
         self.number
     }
 
-    /// How many workers there are.
+    /// The number of workers.
     pub fn workers(&self) -> u32
         ensures { result ≡ length self.now.deques }
     {
         self.thieves.len() as u32
     }
 
-    /// Keeps the id in the worker's slot; the one that was there goes to the back of its deque. That may take memory:
-    /// where the deque cannot take the older id, that one stays in the slot, and the new one comes back, and only after
-    /// `initial_capacity` were pushed.
+    /// Whether the worker's slot holds an id, so that its next push leaves an id to thieves. It has no contract, since
+    /// an id is only a hint.
+    pub fn keeps_id(&self) -> bool {
+        self.own.keeps_id()
+    }
+
+    /// Puts the id into the worker's slot, and moves the id that was there to the back of its deque. That may need
+    /// memory. If it is refused, the older id stays in the slot and the new one is returned. That happens only after
+    /// `initial_capacity` pushes.
     pub fn push(&mut self, id: TaskId) -> Result<(), TaskId>
         ensures pushed { MatchResult result (λ _. self.new ≡ after_push self.old id) (λ back.
             (back ≡ id) × (self.new ≡ self.old)) }
@@ -94,9 +102,9 @@ impl Hands {
         self.own.push(id)
     }
 
-    /// Takes the id in the worker's slot, else at the back of its own deque. None only where the slot was empty and the
-    /// deque was so at one moment of this call; so in a team of one only where each id was taken as often as it was
-    /// pushed.
+    /// Takes the id in the worker's slot or, if there is none, at the back of its own deque. None only if the slot was
+    /// empty and the deque was empty at one moment of this call. In a team of one, each id was then taken as often as
+    /// it was pushed.
     pub fn pop(&mut self) -> Option<TaskId>
         ensures taken { MatchOption result (self.new ≡ self.old) (λ id.
             self.new ≡ after_take self.old.number self.old id) }
@@ -109,9 +117,8 @@ impl Hands {
         self.own.pop()
     }
 
-    /// Takes at the front of another worker's deque, and never from its slot. `Empty` only where the deque, without the
-    /// slot, held at most one id at one moment of this call. It tries again where another worker was first, and so may
-    /// wait.
+    /// Takes at the front of another worker's deque, never from its slot. `Empty` only if the deque, without the slot,
+    /// held at most one id at one moment of this call. If another worker was first, it tries again, and so may wait.
     pub fn steal<R: Threads + Wait + Sync>(&mut self, rt: &R, from: u32) -> Stolen
         requires another { (from < length self.old.deques) × (from ≢ self.old.number) }
         ensures taken { MatchStolen result (λ id. self.new ≡ after_take from self.old id) (self.new ≡ self.old) }
@@ -121,8 +128,8 @@ impl Hands {
         self.thieves[from as usize].take(rt)
     }
 
-    /// Ends the use of this worker's deque, and of all hands: the others of the same `make` come along.
-    /// So each id was taken from the deque at most as often as it was pushed to it, by all of them together.
+    /// Ends the use of all hands of one `make`: these and the others. It shows that they together took each id from
+    /// this worker's deque at most as often as it was pushed there.
     pub fn settle(self, others: Vec<Hands>)
         requires { AreTheOthers self others.items }
         ensures { TakenAtMostAsPushed self others.items }
@@ -137,7 +144,7 @@ impl Hands {
         end.audit();
     }
 
-    // The thief's end of this worker's deque.
+    // The thief's end of the deque of `worker`.
     fn into_thief(self, worker: u32) -> ThiefEnd
         requires { worker < length self.deques }
         ensures deque { slice_get self.deques worker ≡ Some result.deque }
@@ -153,7 +160,7 @@ impl Hands {
     }
 }
 
-// The owner's end of this worker's deque takes over the others' ends of it.
+// The owner's end of the deque of `worker` takes over the others' ends of it.
 fn gather(own: &mut OwnerEnd, worker: u32, others: Vec<Hands>)
     requires { All (λ o. (slice_get o.deques worker ≡ Some own.old.deque) × (o.number ≢ worker)) others.items }
     ensures same { (own.new.deque ≡ own.old.deque) × (own.new.pushed ≡ own.old.pushed) }

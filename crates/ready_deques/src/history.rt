@@ -7,7 +7,7 @@ ghost use Rattle.ptg_base.specs.Task.{Task};
 use ptg_base::TaskId;
 use std::marker::Model;
 
-// Ids, in order. It takes no memory: only proofs see it.
+// Ids, in order. It takes no memory: only contracts and proofs see it.
 #[derive(Drop)]
 pub struct IdHistory {
     pub ghost ids: { List Task },
@@ -28,7 +28,7 @@ impl IdHistory {
         IdHistory {}
     }
 
-    // The ids before, and then this one.
+    // The earlier ids, followed by this one.
     pub(crate) fn with(_before: &IdHistory, _id: &TaskId) -> IdHistory
         ensures { result.ids ≡ _before.now.ids ++ _id.now ∷ [] }
     {

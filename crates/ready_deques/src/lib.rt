@@ -1,5 +1,5 @@
-//! Deques of ready tasks, one for each worker: it pushes and pops at the back of its own, and the others steal at the
-//! front.
+//! The deques of ready tasks: a worker pushes and pops at the back of its own, and steals at the front of the others'.
+//! No id is taken more often than it was pushed.
 #![tactic(auto)]
 
 mod ends;

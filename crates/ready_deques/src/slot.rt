@@ -1,4 +1,4 @@
-//! The end of a deque where its worker pushes and pops, with a slot before it for the newest id.
+//! The end of a deque where its worker pushes and pops, with a slot for the newest id.
 
 ghost use Rattle.std.specs.Prelude.{◌≡◌, ◌+◌, ◌<◌, ◌≤◌, [], ◌∷◌, ◌++◌, length, true, false, None, Some, IfErr, MatchOption, MatchResult, option_to_list};
 ghost use Rattle.ptg_base.specs.Task.{Task};
@@ -10,13 +10,13 @@ use crate::history::IdHistory;
 use ptg_base::TaskId;
 use std::marker::Model;
 
-// The end where a worker pushes and pops. Its newest id is in a slot until the next one comes, and only then goes to the
-// deque, so that thieves don't see it. Contracts see the ids that were pushed and taken here, with those that only met
-// the slot.
+// The end where a worker pushes and pops. Its newest id stays in a slot, where thieves don't see it, until the next
+// push moves it to the deque. Contracts see all ids that were pushed and taken here, also those that never left the
+// slot.
 #[derive(Drop)]
 pub(crate) struct SlottedEnd {
     end: OwnerEnd,
-    // The newest id, where it was not taken yet.
+    // The newest id, if it was not taken yet.
     slot: Option<TaskId>,
     pushed: IdHistory,
     taken: IdHistory,
@@ -39,7 +39,7 @@ impl Model for SlottedEnd {
         × CountsWithSlot s.end (option_to_list s.slot) s.pushed.ids s.taken.ids };
 }
 
-// Moves the id in the slot to the deque. False where the deque cannot take it, and then it stays.
+// Moves the id in the slot, if there is one, to the deque. False if the deque cannot take it: then it stays.
 fn make_way(end: &mut OwnerEnd, slot: &mut Option<TaskId>) -> bool
     ensures moved { result ≡ true → (slot.new ≡ None)
         × (end.new ≡ record end.old { pushed = end.old.pushed ++ option_to_list slot.old }) }
@@ -59,7 +59,7 @@ fn make_way(end: &mut OwnerEnd, slot: &mut Option<TaskId>) -> bool
 }
 
 impl SlottedEnd {
-    // An end of which nothing was pushed or taken, with an empty slot.
+    // An end with an empty slot, where nothing was pushed or taken yet.
     pub(crate) fn new(end: OwnerEnd) -> SlottedEnd
         requires parts { 0 < end.parts }
         requires pushed { end.pushed ≡ [] }
@@ -74,8 +74,8 @@ impl SlottedEnd {
         }
     }
 
-    // Puts an id into the slot. The one that was there goes to the back of the deque; where the deque cannot take it, it
-    // stays, and the new id comes back.
+    // Puts an id into the slot, and moves the one that was there to the back of the deque. If the deque cannot take it,
+    // it stays in the slot, and the new id is returned.
     pub(crate) fn push(&mut self, id: TaskId) -> Result<(), TaskId>
         ensures pushed { MatchResult result (λ _. self.new ≡ record self.old { pushed = self.old.pushed ++ id ∷ [] })
             (λ back. (back ≡ id) × (self.new ≡ self.old)) }
@@ -89,8 +89,13 @@ impl SlottedEnd {
         Ok(())
     }
 
-    // Takes the id in the slot, else at the back of the deque. None only where the slot is empty and the deque was at
-    // one moment.
+    // Whether an id is in the slot.
+    pub(crate) fn keeps_id(&self) -> bool {
+        self.slot.is_some()
+    }
+
+    // Takes the id in the slot or, if there is none, at the back of the deque. None only if the slot was empty and the
+    // deque was empty at one moment of this call.
     pub(crate) fn pop(&mut self) -> Option<TaskId>
         ensures { MatchOption result ((self.new ≡ self.old) × WasEmpty self.old.parts self.old.pushed self.old.taken)
             (λ id. self.new ≡ record self.old { taken = self.old.taken ++ id ∷ [] }) }
@@ -106,7 +111,8 @@ impl SlottedEnd {
         Some(id)
     }
 
-    // The end without the slot, which took as many of what was pushed to it, or more are left.
+    // The end without the slot. By its own counts, at most as many of each id are left, pushed and not taken, as by the
+    // counts with the slot.
     pub(crate) fn into_end(self) -> OwnerEnd
         ensures deque { result.deque ≡ self.deque }
         ensures parts { result.parts ≡ self.parts }

@@ -1,8 +1,8 @@
-//! The answer of a steal.
+//! The result of a steal.
 
 use ptg_base::TaskId;
 
-/// What a steal answers.
+/// What a steal returns.
 #[derive(Drop)]
 pub enum Stolen {
     /// The id that was at the front.

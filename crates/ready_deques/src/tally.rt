@@ -1,11 +1,11 @@
-//! The rule of a deque of ready tasks, and what each step under it shows.
+//! The rule of a deque of ready tasks, and what each kind of step shows under it.
 
 use crossbeam_deque::protocol::{Join, Lesson, Outcome, Protocol, Split};
 use ptg_base::TaskId;
 use std::collections::LinkedList;
 
-/// What one who holds an end of a deque pushed to it and took from it, and its parts of the right to know the whole.
-/// No value of it is made.
+/// What the holder of an end of a deque pushed to it and took from it, and how many parts it has of the right to know
+/// the whole. No value of it is made: only contracts see tallies.
 pub struct Tally {
     pub parts: u64,
     pub pushed: LinkedList<TaskId>,
@@ -81,7 +81,7 @@ impl Outcome<TaskId, Tally> for Popped {
     ghost empty = { λ t. WasEmpty t.parts t.pushed t.taken };
 }
 
-/// An id was taken at the front, or the deque held one id at most at one moment.
+/// An id was taken at the front, or the deque held at most one id at one moment.
 pub struct Taken;
 
 impl Outcome<TaskId, Tally> for Taken {
@@ -93,7 +93,8 @@ impl Outcome<TaskId, Tally> for Taken {
     ghost empty = { λ t. HeldAtMost 1 t.pushed t.taken };
 }
 
-/// Who has all parts knows of every id that was taken.
+/// The holder of all parts knows every id that was pushed or taken: each was pushed as often as it was taken and is
+/// held.
 pub struct Whole;
 
 impl Lesson<TaskId, Tally> for Whole {

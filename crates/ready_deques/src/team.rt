@@ -10,7 +10,7 @@ use crate::hands::Hands;
 use ptg_base::OutOfMemory;
 use std::alloc::Global;
 
-/// An empty deque for each of these workers, and their hands in order of the workers' numbers from 0.
+/// Makes an empty deque for each of this many workers, and returns their hands in order of the workers' numbers from 0.
 pub fn make(alloc: Global, workers: u32) -> Result<Vec<Hands>, OutOfMemory>
     requires { IsWorkerCount workers }
     ensures { IfOk result (λ hands. (deques : List DequeId) × AreFresh workers deques hands.items) }
@@ -31,7 +31,7 @@ fn new_owners(alloc: Global, workers: u32) -> Result<Vec<OwnerEnd>, OutOfMemory>
     Ok(owners)
 }
 
-// For each worker a row of thieves' ends, one of each deque.
+// A row of thieves' ends for each worker: one end of each deque.
 fn thief_rows(alloc: Global, owners: &mut Vec<OwnerEnd>) -> Result<Vec<Vec<ThiefEnd>>, OutOfMemory>
     requires { All (λ b. length owners.old.items < b.parts) owners.old.items }
     ensures { IfOk result (λ rows. (length rows.items ≡ length owners.old.items)

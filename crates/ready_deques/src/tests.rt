@@ -11,12 +11,12 @@ use std::test::Fail;
 use std::thread;
 use std::thread::Threads;
 
-/// The task of this number: class 3 with one parameter.
+// The task of this number: class 3 with one parameter.
 fn task(k: i64) -> TaskId {
     TaskId::new(3, &[k])
 }
 
-/// The number of such a task.
+// The number of such a task.
 fn number_of(id: &TaskId) -> Option<i64> {
     id.params().first().copied()
 }
@@ -28,7 +28,7 @@ fn pop(hands: &mut Hands) -> Option<i64>
     hands.pop().and_then(|id| number_of(&id))
 }
 
-/// What these hands steal from another worker; none from themselves or from a worker that is not there.
+// What these hands steal from another worker; None if that is their own worker or there is no such worker.
 fn steal<R: Threads + Wait + Sync>(rt: &R, hands: &mut Hands, from: u32) -> Option<i64>
     ensures { SameWorker hands.old hands.new }
 {
@@ -41,7 +41,7 @@ fn steal<R: Threads + Wait + Sync>(rt: &R, hands: &mut Hands, from: u32) -> Opti
     }
 }
 
-/// Whether this many workers are numbered from 0 on, and know how many they are.
+// Whether the team has this many workers, numbered from 0, and each returns this number as the number of workers.
 fn are_numbered(team: &[Hands], workers: u32) -> bool {
     for (k, hands) in team.iter().enumerate() {
         if hands.number() as usize != k || hands.workers() != workers {
@@ -58,7 +58,7 @@ fn the_workers_of_a_team_are_numbered(rt: HostRuntime) -> Result<(), Fail> {
     Ok(())
 }
 
-/// The hands of workers 1 and 2 of three.
+// The hands of workers 1 and 2 of three.
 fn last_two(alloc: Global) -> Result<(Hands, Hands), Fail> {
     let mut team = make(alloc, 3)?;
     let (Some(last), Some(middle)) = (team.pop(), team.pop()) else {
@@ -67,7 +67,7 @@ fn last_two(alloc: Global) -> Result<(Hands, Hands), Fail> {
     Ok((middle, last))
 }
 
-/// Whether all of this many tasks were pushed.
+// Whether all of this many tasks were pushed.
 fn push_all(hands: &mut Hands, count: i64) -> bool {
     let mut all = true;
     for k in 0..count {
@@ -76,7 +76,7 @@ fn push_all(hands: &mut Hands, count: i64) -> bool {
     all
 }
 
-/// Whether the tasks of these numbers were popped, the last one first.
+// Whether the tasks with the numbers in `from..to` were popped, the last one first.
 fn pops_down(hands: &mut Hands, from: i64, to: i64) -> bool {
     let mut all = true;
     for k in (from..to).rev() {
@@ -85,13 +85,13 @@ fn pops_down(hands: &mut Hands, from: i64, to: i64) -> bool {
     all
 }
 
-/// Whether neither the owner, worker 1, nor the thief finds a task.
+// Whether neither the owner, worker 1, nor the thief finds a task.
 fn find_none<R: Threads + Wait + Sync>(rt: &R, owner: &mut Hands, thief: &mut Hands) -> bool {
     pop(owner).is_none() && steal(rt, thief, 1).is_none()
 }
 
-/// Whether the owner, worker 1, pops the newest of 20 tasks and the thief steals the oldest, and none from a worker
-/// that has none.
+// Whether the owner, worker 1, pops the newest of 20 tasks and the thief steals the oldest, and the thief steals none
+// from worker 0, which has none.
 fn take_from_both_ends<R: Threads + Wait + Sync>(
     rt: &R,
     owner: &mut Hands,
@@ -113,7 +113,7 @@ fn a_worker_pops_its_newest_and_another_steals_its_oldest(rt: HostRuntime) -> Re
     Ok(())
 }
 
-/// One worker's hands, and how often it took each task.
+// One worker's hands, and how often it took each task.
 #[derive(Drop)]
 struct Seat {
     hands: Hands,
@@ -121,7 +121,7 @@ struct Seat {
 }
 
 impl Seat {
-    /// Notes that a task was taken.
+    // Notes that a task was taken.
     fn note(&mut self, taken: Option<i64>) {
         let Some(k) = taken else {
             return;
@@ -132,11 +132,11 @@ impl Seat {
     }
 }
 
-// How many tasks worker 0 pushes.
+// The number of tasks that worker 0 pushes.
 const TASKS: i64 = 3000;
 
-/// Worker 0 pushes the tasks and pops every third time; an id that comes back it notes as taken.
-/// The others try to steal from worker 0, and then from worker 1, which has nothing.
+// Worker 0 pushes the tasks and pops every third time; an id that a push returns counts as taken. The others try to
+// steal from worker 0, and then from worker 1, which has nothing.
 fn take_part<R: Threads + Wait + Sync>(rt: &R, seat: &mut Seat) {
     let first = seat.hands.number() == 0;
     for k in 0..TASKS {
@@ -157,7 +157,7 @@ fn take_part<R: Threads + Wait + Sync>(rt: &R, seat: &mut Seat) {
     }
 }
 
-/// The hands of four workers, each with a count for each task.
+// The hands of four workers, each with a count for each task.
 fn four_seats(alloc: Global) -> Result<Vec<Seat>, Fail> {
     let mut seats = Vec::new(alloc);
     for hands in make(alloc, 4)? {
@@ -167,7 +167,7 @@ fn four_seats(alloc: Global) -> Result<Vec<Seat>, Fail> {
     Ok(seats)
 }
 
-/// Takes what is left of a worker's own tasks. Whether its deque is empty then.
+// Takes what is left of a worker's own tasks, and returns whether its deque is empty then.
 fn drain(seat: &mut Seat) -> bool {
     for _ in 0..TASKS {
         let left = pop(&mut seat.hands);
@@ -176,7 +176,7 @@ fn drain(seat: &mut Seat) -> bool {
     pop(&mut seat.hands).is_none()
 }
 
-/// Whether this task was taken once, by all together.
+// Whether all together took this task once.
 fn is_taken_once(seats: &[Seat], k: usize) -> bool {
     let mut all = 0u32;
     for seat in seats {
@@ -185,7 +185,7 @@ fn is_taken_once(seats: &[Seat], k: usize) -> bool {
     all == 1
 }
 
-/// Whether each task was taken once.
+// Whether each task was taken once.
 fn are_taken_once(seats: &[Seat]) -> bool {
     let mut each = true;
     for k in 0..TASKS as usize {
@@ -211,7 +211,7 @@ fn each_id_is_taken_once_by_four_threads(rt: HostRuntime) -> Result<(), Fail> {
     Ok(())
 }
 
-/// The hands of worker 1 of two, and those of worker 0.
+// The hands of worker 1 of two, and those of worker 0.
 fn pair(alloc: Global) -> Result<(Hands, Hands), Fail>
     ensures { IfOk result (λ pair. AreTheOthers pair.0 (pair.1 ∷ [])) }
 {

@@ -32,9 +32,10 @@ pub ran_job : ((j : TableJob) (vs : List PassRecord) (ys : List Content) → IsC
 ran_job law t at none = law t.job t.records t.shards at none
 
 -- the gate has let a worker run what they claimed
-pub through_gate : (lets : ℕ → Task → Type 0) (ps : List PassView) (es : List PaddedDesk) (vs : List PassRecord)
-    → ps ≡ map pass_on es → vs ≡ map shown ps → AreLetThrough lets (joined (map record_on es)).state.claims
-    → AreLetThrough lets (joined vs).state.claims
-through_gate lets ps es vs passes records h =
-    subst (λ (us : List PassRecord). AreLetThrough lets (joined us).state.claims)
+pub through_gate : (lets : ℕ → Task → Type 0) (workers : ℕ) (ps : List PassView) (es : List PaddedDesk)
+    (vs : List PassRecord) → ps ≡ map pass_on es → vs ≡ map shown ps
+    → AreLetThrough lets workers (joined (map record_on es)).state.claims
+    → AreLetThrough lets workers (joined vs).state.claims
+through_gate lets workers ps es vs passes records h =
+    subst (λ (us : List PassRecord). AreLetThrough lets workers (joined us).state.claims)
     (sym (seen_records ps es vs passes records)) h

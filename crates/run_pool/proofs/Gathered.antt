@@ -25,7 +25,7 @@ use Rattle.dep_table.specs.Passes.{IsPassOf}
 use Rattle.dep_table.specs.Views.{PassView, shown}
 use Rattle.run_pool.specs.Desks.{IsAnswerOfPass, HasWorkedAt, HaveWorked}
 use Rattle.run_pool.specs.Gates.{AreLetThrough}
-use Rattle.run_pool.specs.Seated.{AreSeated, HaveAnswered, IsDone, IsFresh, OneWasRefused, PaddedDesk, answer_on, pass_on, record_on}
+use Rattle.run_pool.specs.Seated.{AreSeated, HaveAnswered, IsDone, IsFresh, IsNumbered, OneWasRefused, PaddedDesk, answer_on, pass_on, record_on}
 use Rattle.run_pool.proofs.Places.{has_both, same_looks}
 
 abbrev names_of : PassRecord → List Name
@@ -43,14 +43,14 @@ first_in (e ∷ es) some = (e, inl refl)
 
 module _ (T : DepTable) (plan : Plan) (given : Data) (lets : ℕ → Task → Type 0) (preloaded : Bool) (ds es : List PaddedDesk)
     (count : length es ≡ length ds) (w : HaveWorked (IsWorkerPass T) shown plan given lets preloaded ds es) where
-  -- what a worker has done, and what it has answered
+  -- what a worker has done, and its result
   abbrev WorkedAt : PaddedDesk → PaddedDesk → Type 0
   WorkedAt d e = HasWorkedAt (IsWorkerPass T) shown plan given lets preloaded (padded_value d) (padded_value e)
 
   abbrev IsAnswer : ℕ → PassRecord → PassRecord → Option (Result Worked OutOfMemory) → Type 0
   IsAnswer worker v u o = IsAnswerOfPass (IsWorkerPass T) shown plan given lets preloaded worker v u o
 
-  -- what the worker at a place has done
+  -- what the worker at an index has done
   at : (k : ℕ) (d e : PaddedDesk) → slice_get ds k ≡ Some d → slice_get es k ≡ Some e → WorkedAt d e
   at k d e before after =
       let h = w k d (slice_get_within ds k d before) in
@@ -96,22 +96,23 @@ module _ (T : DepTable) (plan : Plan) (given : Data) (lets : ℕ → Task → Ty
       (has_done _ _ (record_on e) (answer_on e) done.worked done.answer p.2.answer).0
 
   -- the gate has let a worker run each task that was claimed at a desk
-  its_claims : ((d : PaddedDesk) → IsIn d ds → IsFresh d) → (e : PaddedDesk) → IsIn e es → IsDone e
-      → AreLetThrough lets (record_on e).claims
-  its_claims fresh e i done t claimed =
+  its_claims : ((d : PaddedDesk) → IsIn d ds → IsFresh d) → ((d : PaddedDesk) → IsIn d ds → IsNumbered (length ds) d)
+      → (e : PaddedDesk) → IsIn e es → IsDone e → AreLetThrough lets (length ds) (record_on e).claims
+  its_claims fresh numbered e i done t claimed =
       let p = worked_at e i in
       let d : PaddedDesk = p.0 in
       let h = (has_done _ (record_on d) (record_on e) (answer_on e) done.worked done.answer p.2.answer).2 in
       let new : (record_on e).claims ≡ keys_of h.more =
       h.claimed.claims ∙ ap (λ l. l ++ keys_of h.more) (fresh d p.1).no_claim in
-      ((padded_value d).hands.number, h.followed.let_through t (subst (IsIn t) new claimed))
+      ((padded_value d).hands.number, numbered d p.1, h.followed.let_through t (subst (IsIn t) new claimed))
 
-  pub let_through : ((d : PaddedDesk) → IsIn d ds → IsFresh d) → ((e : PaddedDesk) → IsIn e es → IsDone e)
-      → AreLetThrough lets (joined (map record_on es)).state.claims
-  let_through fresh done t i =
+  pub let_through : ((d : PaddedDesk) → IsIn d ds → IsFresh d) → ((d : PaddedDesk) → IsIn d ds → IsNumbered (length ds) d)
+      → ((e : PaddedDesk) → IsIn e es → IsDone e)
+      → AreLetThrough lets (length ds) (joined (map record_on es)).state.claims
+  let_through fresh numbered done t i =
       let v = from_flat_map (λ (u : PassRecord). u.claims) (map record_on es) t i in
       let e = from_map record_on es v.0 v.1 in
-      its_claims fresh e.0 e.1 (done e.0 e.1) t (subst (λ (u : PassRecord). IsIn t u.claims) e.2 v.2)
+      its_claims fresh numbered e.0 e.1 (done e.0 e.1) t (subst (λ (u : PassRecord). IsIn t u.claims) e.2 v.2)
 
   same_names : map names_of (map record_on es) ≡ map names_of (map record_on ds)
   same_names =
@@ -129,7 +130,7 @@ module _ (T : DepTable) (plan : Plan) (given : Data) (lets : ℕ → Task → Ty
     all = subst AreAll (sym (map-map shown pass_on es)) (names (map record_on ds) (map record_on es) same_names seated.all);
   }
 
-  -- where each worker is done, one of them has seen quiet
+  -- if each worker is done, one of them has seen quiet
   pub one_saw_quiet : 0 < length ds → ((e : PaddedDesk) → IsIn e es → IsDone e) → OneSawQuiet (map pass_on es)
   one_saw_quiet some done =
       let e = first_in es (omega (arith, count)) in

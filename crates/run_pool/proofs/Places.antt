@@ -1,8 +1,8 @@
--- Members of lists by their places.
+-- Members of lists by their index.
 use Rattle.std.proofs.Common.{◌≡◌, ℕ, suc, List, [], ◌∷◌, length, map, refl, ap, sym, ◌∙◌, inl, inr, Some, slice_get, arith}
 use Rattle.ptg_base.specs.Lists.{IsIn}
 
--- the place of a member, and what another list of that length has there
+-- the index of a member, and what another list of that length has there
 pub record HasBoth {A : Type 0} (xs ys : List A) (y : A) : Type 0 where
   pub place : ℕ
   pub other : A
@@ -17,7 +17,7 @@ has_both (x ∷ xs) (z ∷ ys) y n i = elim i [
   | inr t ↦ let p = has_both xs ys y (omega arith) t in record { place = suc p.place; other = p.other; before = p.before; after = p.after }
 ]
 
--- two lists of one length whose members look the same place by place
+-- two lists of one length whose members have the same view at each index
 pub same_looks : {A B : Type 0} (f : A → B) (xs ys : List A) → length ys ≡ length xs → ((k : ℕ) (x y : A) → slice_get xs k ≡ Some x → slice_get ys k ≡ Some y → f y ≡ f x) → map f ys ≡ map f xs
 same_looks f [] [] n h = refl
 same_looks f (x ∷ xs) [] n h = absurd (omega arith)

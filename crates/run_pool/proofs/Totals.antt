@@ -1,4 +1,4 @@
--- The numbers that go over edges and write-backs, all together, and how many they are at most.
+-- The numbers that are sent over all edges and write-backs, and a bound on how many they are.
 use Rattle.std.proofs.Common.{nat_le, ◌*◌, subst, ◌≡◌, ℕ, zero, suc, ◌+◌, ◌≤◌, ◌<◌, true, List, [], ◌∷◌, length, ap, ◌∙◌, Option, Some, None, slice_index, sum, arith}
 use Rattle.std.proofs.Math.Nat.{mul-le-mul_left}
 use Rattle.std.proofs.lemmas.Bool.{and_parts}
@@ -25,7 +25,7 @@ use Rattle.list_lemmas.specs.Counting.{weigh}
 use Rattle.run_pool.specs.Bytes.{edge_elements, elements_of, sent_elements, write_elements}
 use Rattle.run_pool.specs.Elements.{carried_elements, in_elements, written_elements, task_elements}
 
--- task by task as many numbers go over edges and write-backs as over all of them
+-- the numbers of each task add up to those of all edges and write-backs
 pub all_tasks_send : (P : Plan) → weigh (task_elements P) (all_tasks P) ≡ sent_elements P
 unfolding task_elements sent_elements
 all_tasks_send P =
@@ -39,7 +39,7 @@ length_at_most n h =
     let p : nat_le n 4096 ≡ true = (and_parts (nat_le 1 n) (nat_le n 4096) h).1 in
     grind (arith, nat_tests)
 
--- a tile of any type has at most so many numbers
+-- a tile of any type has at most 4,096 numbers
 type_at_most : (ns : List ℕ) (k : ℕ) → list_all is_element_count ns ≡ true → slice_index ns k ≤ 4096
 type_at_most [] k h = omega arith
 type_at_most (n ∷ ns) zero h = length_at_most n (and_parts _ _ h).0
@@ -53,7 +53,7 @@ elements_at_most P (Some f) = type_at_most P.elems f.datatype P.well_made.tile_l
 writes_at_most : (P : Plan) → length (all_writes P) ≤ length (all_items P)
 writes_at_most P = length-flat_map_le (write_backs P) (items P) (all_tasks P) (λ t. length-filter_map_le write_of (items P t))
 
--- a job has some millions of data edges and write-backs at most
+-- a job has at most 8,000,000 data edges and write-backs
 pub counts_at_most : (P : Plan) → IsConsistent P → length (all_data P) + length (all_writes P) ≤ 8000000
 counts_at_most P con = omega (arith, length-filter_le (is_data_edge P) (all_in P), writes_at_most P, con.in_edges_at_most, con.items_at_most)
 

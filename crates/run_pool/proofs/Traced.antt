@@ -83,7 +83,7 @@ module _ (ds es : List PaddedDesk) (count : length es ≡ length ds) (w : HaveLo
   pub logs_are : flat_map log_on es ≡ logged (joined_stamps (map record_on es))
   logs_are = logged_all es its_log
 
--- what a traced run gives beside its closed table
+-- what a traced run returns besides its closed table
 pub trace_of : (j : TableJob) (t : ClosedView) (ps : List PassView) (es : List PaddedDesk) (ts : List Task) → t.job ≡ j
     → ps ≡ map pass_on es → t.records ≡ map shown ps
     → ((us : List Task) → AreInStampOrder (joined_stamps t.records) us
@@ -98,7 +98,7 @@ trace_of j t ps es ts job passes records order sorted =
       legal = subst (λ (i : TableJob). IsClaimOrder i.matched (joined t.records).state ts) (sym job) (order ts here);
     }
 
--- the same list is one of what ran
+-- the same list is a legal order of the tasks that run
 pub ran_order : ((j : TableJob) (vs : List PassRecord) (ys : List Content) (ts : List Task) → IsClosedAt j vs ys
     → HaveNoWork ys → IsClaimOrder j.matched (joined vs).state ts → IsWholeOrder j.matched j.given ts)
     → (j : TableJob) (t : ClosedView) (ts : List Task) → t.job ≡ j → IsClosedAt t.job t.records t.shards

@@ -1,4 +1,5 @@
--- What the desks of workers hold, before a run and after it. Source: this project's own choice.
+-- What the desks of workers hold, before a run and after it.
+-- Carried by: `team`; inside `prepare` and `run`.
 use Rattle.std.specs.Prelude.{◌≡◌, ℕ, ◌<◌, Bool, true, false, List, [], length, slice_get, slice_index_or, Option, Some, None, Result, Ok, Err}
 use Rattle.crossbeam_utils.specs.declared.cache_padded.CachePadded.{CachePadded}
 use Rattle.crossbeam_utils.specs.Padded.{padded_value}
@@ -25,19 +26,19 @@ module _ {P : Type 0} (is_pass : P → Type 0) (shown : P → PassRecord) where
   abbrev pub AreReady : Plan → List (CachePadded (Desk P)) → Type 0
   AreReady plan ds = (k : ℕ) (d : CachePadded (Desk P)) → slice_get ds k ≡ Some d → IsReady plan (padded_value d)
 
--- the board is of this job, its gate has let a worker with this number run a task where `lets` says so, and it is
--- preloaded or not
+-- The board has this plan and these data, and `preloaded` says whether it is preloaded. `lets` says which tasks its
+-- gate has let a worker with some number run.
 module _ {P : Type 0} (is_pass : P → Type 0) (shown : P → PassRecord) (plan : Plan) (given : Data)
     (lets : ℕ → Task → Type 0) (preloaded : Bool) where
-  -- a worker with this number and this pass has answered so: where it has worked to the end, the pass has seen quiet,
-  -- the gate has let the worker run each task that it claimed, and each was followed by its end; else the board is
-  -- halted, which a preloaded board never is
+  -- What the result of a worker with this number and this pass says. Ok: the pass has seen quiet, the gate has let the
+  -- worker run each task that it claimed, and each claim was followed. Err: the pass knows that the board is halted,
+  -- which a preloaded board never is.
   abbrev pub IsAnswerOfPass : ℕ → PassRecord → PassRecord → Option (Result Worked OutOfMemory) → Type 0
   IsAnswerOfPass worker v w None = ⊥
   IsAnswerOfPass worker v w (Some (Ok worked)) = (w.quiet ≡ true) × HasWorked plan given (lets worker) worked.ran v w
   IsAnswerOfPass worker v w (Some (Err refused)) = KnowsHalted w × (preloaded ≡ false)
 
-  -- a worker has worked: its pass is clean and has what it had and maybe more, and its answer is on the desk
+  -- a worker has worked: its pass is clean and has what it had and maybe more, and its result is on the desk
   pub record HasWorkedAt (d e : Desk P) : Type 0 where
     pub pass : is_pass e.pass
     pub later : IsLaterRecord (shown d.pass) (shown e.pass)

@@ -1,4 +1,4 @@
--- The numbers that go over edges and write-backs, task by task. Source: this project's own choice.
+-- The numbers that are sent over edges and write-backs, task by task.
 use Rattle.std.specs.Prelude.{ℕ, ◌+◌, if◌then◌else◌}
 use Rattle.ptg_base.specs.Task.{Task}
 use Rattle.ptg_base.specs.declared.edge.Edge.{Edge}
@@ -9,7 +9,7 @@ use Rattle.dep_iter.specs.Items.{write_backs}
 use Rattle.list_lemmas.specs.Counting.{weigh}
 use Rattle.run_pool.specs.Bytes.{edge_elements, write_elements}
 
--- how many numbers go over an edge; none over one that carries no tile
+-- how many numbers are sent over an edge; none over one that carries no tile
 abbrev pub carried_elements : Plan → Edge → ℕ
 carried_elements P e = if is_data_edge P e then edge_elements P e else 0
 

@@ -1,4 +1,5 @@
--- What a traced run gives besides its closed table. Source: this project's own choice; the usual topological order.
+-- What a traced run returns besides its closed table. Source: the usual topological order.
+-- Carried by: `run_traced`.
 use Rattle.std.specs.Prelude.{List}
 use Rattle.ptg_base.specs.Task.{Task}
 use Rattle.table_rule.specs.Records.{joined}

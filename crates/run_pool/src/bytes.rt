@@ -8,7 +8,7 @@ use dep_iter::Matched;
 use plan_core::Plan;
 use ptg_base::MOST_FLOWS;
 
-// How many numbers one tile of each type has, all together.
+// The sum of the numbers in one tile of each type.
 fn type_elements(plan: &Plan) -> u64
     requires { sum plan.now.elems < 2 ^ 64 }
     ensures { result ≡ sum plan.now.elems }
@@ -20,8 +20,8 @@ fn type_elements(plan: &Plan) -> u64
     all
 }
 
-/// The bytes that a preload takes for this many workers: a tile for each data edge and each write-back, and for each
-/// worker as many tiles of each type as a task may have flows. It takes no memory.
+/// The bytes that a preload takes for this many workers. It has a tile for each data edge and each write-back and, for
+/// each worker, as many tiles of each type as a task may have flows. The call itself takes no memory.
 pub fn preload_bytes(m: &Matched, workers: u32) -> u64
     ensures { result ≡ bytes.preload_bytes m.now workers }
 {

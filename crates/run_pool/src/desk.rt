@@ -5,8 +5,8 @@ use ready_deques::Hands;
 use task_run::Bench;
 use worker_core::Worked;
 
-/// A worker's desk: its pass of a board, its ends of the deques, its bench, a place for the answer of its work, and the
-/// log of its claims, each with its stamp, which only a traced run keeps.
+/// A worker's desk: its pass of a board, its ends of the deques, its bench, and the result of its work once there is
+/// one. The log has its claims with their stamps; only a traced run keeps it.
 #[derive(Drop)]
 pub struct Desk<P> {
     pub pass: P,

@@ -1,4 +1,4 @@
-//! How many numbers go over the edges and the write-backs of a job.
+//! How many numbers are sent over the edges and write-backs of a job.
 
 ghost use Rattle.std.specs.Prelude.{◌≡◌, ◌≤◌, ◌<◌, ◌^◌, length, if◌then◌else◌};
 ghost use Rattle.plan_core.specs.Kinds as kinds;
@@ -12,7 +12,7 @@ use dep_iter::{Matched, all_tasks, flows_of, in_edges_under, locals_of, write_ba
 use plan_core::Plan;
 use ptg_base::TaskId;
 
-// How many numbers a tile of this flow of a task has.
+// How many numbers a tile of this flow of a task has; 0 if there is no such flow.
 fn flow_elements(plan: &Plan, t: &TaskId, flow: u8) -> u64
     requires { IsTask plan.now t.now }
     ensures { result ≡ bytes.elements_of plan.now (kinds.flow_of plan.now.classes t.now.class flow) }
@@ -34,7 +34,7 @@ fn is_data_flow(plan: &Plan, t: &TaskId, flow: u8) -> bool
     }
 }
 
-// How many numbers go over an edge into this flow of a task.
+// How many numbers are sent over an edge into this flow of a task.
 fn carried_elements(plan: &Plan, t: &TaskId, flow: u8) -> u64
     requires { IsTask plan.now t.now }
     ensures { result
@@ -49,7 +49,7 @@ fn carried_elements(plan: &Plan, t: &TaskId, flow: u8) -> u64
     }
 }
 
-// How many numbers go over the edges into a task.
+// How many numbers are sent over the edges into a task.
 fn in_elements(plan: &Plan, t: &TaskId, env: &[i64]) -> u64
     requires task { IsTask plan.now t.now }
     requires locals { env.now ≡ tasks.locals_of plan.now t.now }
@@ -63,7 +63,7 @@ fn in_elements(plan: &Plan, t: &TaskId, env: &[i64]) -> u64
     all
 }
 
-// How many numbers go over the write-backs of a task.
+// How many numbers are sent over the write-backs of a task.
 fn written_elements(plan: &Plan, t: &TaskId, env: &[i64]) -> u64
     requires task { IsTask plan.now t.now }
     requires locals { env.now ≡ tasks.locals_of plan.now t.now }
@@ -77,7 +77,7 @@ fn written_elements(plan: &Plan, t: &TaskId, env: &[i64]) -> u64
     all
 }
 
-// How many numbers go over the edges into a task and over its write-backs.
+// How many numbers are sent over the edges into a task and over its write-backs.
 #[tactic(auto, unfolding(crate::specs::Elements::task_elements))]
 fn task_elements(plan: &Plan, t: &TaskId) -> u64
     requires task { IsTask plan.now t.now }
@@ -88,7 +88,7 @@ fn task_elements(plan: &Plan, t: &TaskId) -> u64
     in_elements(plan, t, env.as_slice()) + written_elements(plan, t, env.as_slice())
 }
 
-// How many numbers go over the edges into all tasks and over their write-backs, by a walk over the tasks.
+// How many numbers are sent over the edges into all tasks and over their write-backs, by a walk over the tasks.
 fn elements_of_all(m: &Matched) -> u64
     ensures { result ≡ bytes.sent_elements m.now }
 {
@@ -100,7 +100,7 @@ fn elements_of_all(m: &Matched) -> u64
     all
 }
 
-// How many numbers go over all edges and write-backs where all tiles are of one type: a product, without a walk.
+// How many numbers are sent over all edges and write-backs if all tiles are of one type: a product, without a walk.
 fn elements_of_one_type(m: &Matched) -> u64
     requires { length m.now.elems ≡ 1 }
     ensures { result ≡ bytes.sent_elements m.now }

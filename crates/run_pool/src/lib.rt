@@ -1,4 +1,5 @@
-//! A run by many workers: what is made ready before it, and the team that does it.
+//! A run of a job by a team of workers: `prepare` makes it ready, with a preload by reserving all memory first. `run`
+//! runs all tasks and closes the table, and `run_traced` also returns the order of the claims.
 #![tactic(auto)]
 
 mod bytes;

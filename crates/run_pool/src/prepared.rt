@@ -1,4 +1,4 @@
-//! A run that is ready.
+//! A run that was made ready.
 
 ghost use Rattle.std.specs.Prelude.{◌≡◌};
 
@@ -6,8 +6,8 @@ use crate::seating::PaddedDesk;
 use dep_table::{DepTable, Pass};
 use std::marker::Model;
 
-/// A run that is ready: its table, a desk for each worker, and room for the passes that the table is closed with.
-/// Contracts see its job and how many workers it has.
+/// A run that was made ready: its table, a desk for each worker, and room for the passes that the table is closed with.
+/// Contracts see its job and its number of workers.
 #[derive(Drop)]
 pub struct Prepared {
     pub(crate) table: DepTable,
@@ -36,7 +36,7 @@ impl Model for Prepared {
 }
 
 impl Prepared {
-    /// Whether a preload was asked for: then the run never wants memory.
+    /// Whether a preload was asked for: then the run is never refused memory.
     pub fn preloaded(&self) -> bool
         ensures { result ≡ self.now.job.preloaded }
     {

@@ -1,4 +1,4 @@
-//! What is made ready before a run: with a preload, all memory whose refusal could end it.
+//! What is made ready before a run; with a preload, that includes all memory whose refusal could end the run.
 
 ghost use Rattle.std.specs.Prelude.{◌≡◌, ◌↔◌, ℕ, Err, Some, IfOk};
 ghost use Rattle.ptg_base.specs.Limits.{AreRunCounts};
@@ -17,15 +17,15 @@ use ptg_base::OutOfMemory;
 use ready_deques::make;
 use std::alloc::Global;
 
-/// The most bytes that a preload may take.
+// The largest number of bytes that a preload may take.
 const MOST_PRELOAD_BYTES: u64 = 1 << 30;
 
 /// Why a run was not made ready.
 #[derive(Clone, Copy, Debug, PartialEq, Eq)]
 pub enum PrepareFault {
-    /// A preload was asked for that takes this many bytes, more than 2^30.
+    /// The preload would take this many bytes, more than 2^30.
     PreloadTooLarge(u64),
-    /// Want of memory.
+    /// Out of memory.
     OutOfMemory,
 }
 
@@ -37,7 +37,7 @@ impl From<OutOfMemory> for PrepareFault {
     }
 }
 
-// The bytes of a preload that is asked for and too large.
+// The bytes of a preload that is asked for and too large, else None.
 fn too_large(m: &Matched, settings: Settings) -> Option<u64>
     ensures { result ≡ too_large_preload settings m.now }
 {
@@ -48,8 +48,8 @@ fn too_large(m: &Matched, settings: Settings) -> Option<u64>
     (bytes > MOST_PRELOAD_BYTES).then_some(bytes)
 }
 
-/// Makes a run of a job ready: its table, its passes, hands and benches, and room for the close. A preload is taken
-/// however large it is.
+/// Makes a run of a job ready: its table, its passes, hands and benches, and room for the close. A preload may have any
+/// size.
 pub fn lay_out(
     alloc: Global,
     m: Matched,
@@ -68,8 +68,8 @@ pub fn lay_out(
     Ok(Prepared { table, desks, room })
 }
 
-/// Makes a run of a job ready, as `lay_out` does. A preload that takes more than 2^30 bytes is refused first; nothing
-/// else is refused but want of memory.
+/// Makes a run of a job ready, as `lay_out` does, but first refuses a preload over 2^30 bytes. The only other fault is
+/// that it is out of memory.
 pub fn prepare(
     alloc: Global,
     m: Matched,

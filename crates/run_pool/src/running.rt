@@ -20,7 +20,7 @@ use std::thread::Threads;
 use table_rule::all_passes_stay_all;
 use worker_core::Gate;
 
-// The passes of workers that have answered. Want of memory exactly where one of them had it.
+// The passes of workers that have a result on their desks. Out of memory if and only if one of the workers was.
 pub(crate) fn passes_of(desks: Vec<PaddedDesk>, room: Vec<Pass>) -> Result<Vec<Pass>, OutOfMemory>
     requires answered { HaveAnswered desks.items }
     requires room { (room.items ≡ []) × (length desks.items ≤ vec_capacity room) }
@@ -43,10 +43,10 @@ pub(crate) fn passes_of(desks: Vec<PaddedDesk>, room: Vec<Pass>) -> Result<Vec<P
     Ok(passes)
 }
 
-/// Runs a job by as many workers as were made ready, and closes its table, with a pass for each worker. No shard has
-/// work then. By the records of these passes, the tasks that run were claimed, each once, and their items sent, each
-/// once and with the tile that its task leaves. Each claimed task was handed its inputs, and the gate has let a worker
-/// run it. A preloaded run is never refused memory. It may wait.
+/// Runs a job with the workers that were made ready, and closes its table with a pass for each worker. No shard has
+/// work then. By the records of these passes, the tasks that run were claimed, each once. Their items were sent, each
+/// once and with the tile that its task leaves. Each claimed task was handed its inputs, and the gate has let one of the
+/// workers run it. A preloaded run is never refused memory. It may wait.
 pub fn run<R: Threads + Wait + Sync, G: Gate>(
     rt: &R,
     prepared: Prepared,
@@ -60,7 +60,8 @@ pub fn run<R: Threads + Wait + Sync, G: Gate>(
     ensures handed { IfOk result (λ closed.
         WereHandedInputs closed.job.matched closed.job.given (joined closed.records).state.claims
         (joined_handed closed.records)) }
-    ensures gate { IfOk result (λ closed. AreLetThrough (G.lets gate.now) (joined closed.records).state.claims) }
+    ensures gate { IfOk result (λ closed.
+        AreLetThrough (G.lets gate.now) prepared.workers (joined closed.records).state.claims) }
     ensures preloaded { prepared.job.preloaded ≡ true → IsOk result }
 {
     all_passes_stay_all();

@@ -2,6 +2,8 @@
 
 ghost use Rattle.std.specs.Prelude.{◌≡◌, ◌<◌, [], None, IfOk, length};
 ghost use Rattle.crossbeam_utils.specs.Padded.{padded_value};
+ghost use Rattle.ptg_base.specs.Lists.{IsIn};
+ghost use Rattle.ready_deques.specs.Hands.{Account};
 ghost use Rattle.task_run.specs.Bench.{IsBenchOf};
 ghost use Rattle.table_rule.specs.Changes.{first_pass};
 ghost use Rattle.dep_table.specs.Passes.{IsPassOf};
@@ -19,12 +21,13 @@ use std::alloc::Global;
 use table_rule::all_passes_stay_all;
 use task_run::Bench;
 
-// A worker's desk on cache lines of its own.
+// A worker's desk, on cache lines of its own.
 pub(crate) type PaddedDesk = CachePadded<Desk<Pass>>;
 
 // A desk with this pass and these hands, for tasks of a plan.
 fn new_desk(alloc: Global, m: &Matched, pass: Pass, hands: Hands) -> Result<PaddedDesk, OutOfMemory>
     ensures pass { IfOk result (λ d. (padded_value d).pass ≡ pass) }
+    ensures hands { IfOk result (λ d. (padded_value d).hands ≡ hands) }
     ensures bench { IfOk result (λ d. IsBenchOf m.now (padded_value d).bench) }
     ensures log { IfOk result (λ d. log_on d ≡ []) }
 {
@@ -38,7 +41,7 @@ fn new_desk(alloc: Global, m: &Matched, pass: Pass, hands: Hands) -> Result<Padd
     }))
 }
 
-// A desk for each of these workers: with the first pass of a table, or with one that is split off it.
+// A desk for the worker of each of these hands, with the first pass of a table or one that is split off it.
 pub(crate) fn seat_workers(
     alloc: Global,
     table: &DepTable,
@@ -46,6 +49,7 @@ pub(crate) fn seat_workers(
     hands: Vec<Hands>,
 ) -> Result<Vec<PaddedDesk>, OutOfMemory>
     requires workers { 0 < length hands.items }
+    requires numbered { (h : Account) → IsIn h hands.items → h.number < length hands.items }
     requires pass { IsPassOf (id_of table.now) first × (shown first ≡ first_pass) }
     ensures seated { IfOk result (λ desks. AreSeated (id_of table.now) (job_of table.now).matched desks.items) }
     ensures count { IfOk result (λ desks. length desks.items ≡ length hands.items) }

@@ -1,4 +1,4 @@
-//! A run that tells in which order its tasks were claimed.
+//! A run that also returns the order in which its tasks were claimed.
 
 ghost use Rattle.std.specs.Prelude.{◌≡◌, ◌++◌, ℕ, List, false, map, IfOk};
 ghost use Rattle.std.specs.List.{flat_map};
@@ -30,7 +30,7 @@ use std::thread::Threads;
 use table_rule::all_passes_stay_all;
 use worker_core::Gate;
 
-// A log with copies of further entries.
+// A log with copies of more entries at its end.
 fn with_entries(
     log: Vec<(u64, TaskId)>,
     more: &[(u64, TaskId)],
@@ -77,8 +77,8 @@ fn in_stamp_order(alloc: Global, log: Vec<(u64, TaskId)>) -> Result<Vec<TaskId>,
     tasks_of(alloc, log)
 }
 
-/// Runs a job as `run` does, without a preload, and gives all claims of the passes of its closed table in the order of
-/// their stamps: a legal order of the tasks that run. It may wait.
+/// Runs a job as `run` does, without a preload, and also returns a trace: all claims of the passes of its closed table
+/// in the order of their stamps. That is a legal order of the tasks that run. It may wait.
 pub fn run_traced<R: Threads + Wait + Sync, G: Gate>(
     alloc: Global,
     rt: &R,
@@ -94,7 +94,8 @@ pub fn run_traced<R: Threads + Wait + Sync, G: Gate>(
     ensures handed { IfOk result (λ (trace, closed).
         WereHandedInputs closed.job.matched closed.job.given (joined closed.records).state.claims
         (joined_handed closed.records)) }
-    ensures gate { IfOk result (λ (trace, closed). AreLetThrough (G.lets gate.now) (joined closed.records).state.claims) }
+    ensures gate { IfOk result (λ (trace, closed).
+        AreLetThrough (G.lets gate.now) prepared.workers (joined closed.records).state.claims) }
     ensures trace { IfOk result (λ (trace, closed). IsTraceOf closed trace.items) }
     ensures order { IfOk result (λ (trace, closed). IsWholeOrder prepared.job.matched prepared.job.given trace.items) }
 {

@@ -1,4 +1,4 @@
-//! The workers of a run, each in a thread of its own where one can be made.
+//! The workers of a run, each in a thread of its own if one can be made.
 
 ghost use Rattle.std.specs.Prelude.{◌≡◌, ◌<◌, true, false, length};
 ghost use Rattle.crossbeam_utils.specs.Padded.{padded_value};
@@ -12,7 +12,7 @@ use std::thread::{Threads, for_each_mut};
 use work_board::Board;
 use worker_core::{Gate, work, work_logged};
 
-// A worker works at its desk, and leaves its answer there.
+// Lets a worker work at its desk, and leaves its result there.
 fn work_untraced<R: Threads + Wait + Sync, B: Board, G: Gate>(
     rt: &R,
     board: &B,
@@ -36,7 +36,7 @@ fn work_untraced<R: Threads + Wait + Sync, B: Board, G: Gate>(
     desk.answer = Some(answer);
 }
 
-// A worker works at its desk, leaves its answer there, and its log gains its claims.
+// Lets a worker work at its desk, and leaves its result there. Its log gains its claims.
 fn work_traced<R: Threads + Wait + Sync, B: Board, G: Gate>(
     rt: &R,
     board: &B,
@@ -84,8 +84,9 @@ fn work_at<R: Threads + Wait + Sync, B: Board, G: Gate>(
     }
 }
 
-/// Lets a worker work at each desk until all is quiet, in as many threads as desks where that many can be made. The gate
-/// lets each worker run what it claims. In a traced run, which is not preloaded, each log gains the claims of its worker.
+/// Lets a worker work at each desk until all is quiet, in as many threads as desks if that many can be made. The gate
+/// lets each worker run what it claims. In a traced run, which is not preloaded, each log gains the claims of its
+/// worker.
 pub fn team<R: Threads + Wait + Sync, B: Board, G: Gate>(
     rt: &R,
     board: &B,

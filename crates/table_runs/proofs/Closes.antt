@@ -9,7 +9,7 @@ use Rattle.dep_table.specs.Passes.{IsPassOf}
 use Rattle.dep_table.specs.Views.{PassView, shown}
 use Rattle.table_runs.specs.Watching.{split_as}
 
--- all passes stay all where one is split, and as long as the names stay
+-- all passes stay all after one is split, and as long as the names stay
 abbrev Splits : Type 0
 Splits = (v : PassRecord) (vs : List PassRecord) → length v.names ≡ 1 → AreAll (v ∷ vs) → AreAll (after_split v ∷ split_off v ∷ vs)
 
@@ -40,6 +40,6 @@ all_of_three split names one T mine second first ps is m s f mn sn fn = subst (A
       (split (after_split first_pass) (split_off first_pass ∷ []) refl (split first_pass [] refl one));
 })
 
--- the list that one push, or three, make
+-- the list that one push makes, or three
 pub three_pushed : (a b c : PassView) (k l m n : List PassView) → k ≡ [] → l ≡ k ++ a ∷ [] → m ≡ l ++ b ∷ [] → n ≡ m ++ c ∷ [] → n ≡ a ∷ b ∷ c ∷ []
 three_pushed a b c k l m n ek el em en = en ∙ ap (λ x. x ++ c ∷ []) (em ∙ ap (λ x. x ++ b ∷ []) (el ∙ ap (λ x. x ++ a ∷ []) ek))

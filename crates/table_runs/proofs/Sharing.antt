@@ -3,6 +3,7 @@ use denote.Param.Send.{IsSync, sendable, struct_sync}
 use denote.Struct.Struct.{Struct}
 use denote.Struct.Declared.{shape}
 use Rattle.std.proofs.Crossing.{crosses}
+use Rattle.crossbeam_utils.specs.contracts.sync.event_count.EventCount.{the_type as events_type}
 use Rattle.shard_meaning.proofs.Sharing.{declared_sync, shard_sync}
 use Rattle.table_rule.proofs.Sharing.{job_fields, words_fields}
 use Rattle.dep_table.specs.contracts.closing_room.ClosingRoom.{the_type as closing_type}
@@ -14,9 +15,13 @@ use Rattle.table_runs.specs.contracts.watching.Watched.{the_row as watched_row, 
 closing_fields : IsSync (Struct (shape closing_type))
 closing_fields = let s = shard_sync in struct_sync (shape closing_type) (search (sendable, crosses) depth 30)
 
+-- the place where workers sleep as a field of another struct
+events_fields : IsSync (Struct (shape events_type))
+events_fields = struct_sync (shape events_type) (search (sendable, crosses) depth 30)
+
 -- a table as a field of another struct
 table_fields : IsSync (Struct (shape table_type))
-table_fields = struct_sync (shape table_type) (words_fields, (job_fields, (closing_fields, tt)))
+table_fields = struct_sync (shape table_type) (words_fields, (job_fields, (closing_fields, (events_fields, tt))))
 
 pub watched_sync : IsSync watched_row
 watched_sync = declared_sync watched_type (table_fields, tt)

@@ -1,4 +1,4 @@
--- A pass of a table, and two that look on. Source: this project's own choice.
+-- A pass of a table, and two that look on.
 use Rattle.std.specs.Prelude.{◌≡◌, ℕ, Bool, true, false, List, [], ◌∷◌}
 use Rattle.plan_core.specs.declared.plan.Plan.{Plan}
 use Rattle.dep_iter.specs.Tasks.{IsTask}
@@ -20,13 +20,13 @@ is_refusal (claim.Got tiles) = false
 is_refusal claim.Gone = true
 is_refusal claim.Busy = true
 
--- a task that a scan found is one of the job
+-- if a scan found a task, it is one of the job
 abbrev pub FindsTask : Plan → Scan → Type 0
 FindsTask P (scan.Got t tiles) = IsTask P t
 FindsTask P scan.Empty = Unit {0}
 FindsTask P scan.Busy = Unit {0}
 
--- a worker's pass of this table. Where it says that it is idle, it runs nothing
+-- a worker's pass of this table; if it is marked idle, it runs nothing
 pub record IsWatcher (table : DepTable) (w : Watcher) : Type 0 where
   pub pass : IsWorkerPass table w.pass
   pub idle : w.idle ≡ true → (shown w.pass).running ≡ []
@@ -43,7 +43,7 @@ pub record IsWatch (b : Watched) (w : Watch) : Type 0 where
   pub first_name : (shown w.first.pass).names ≡ split_as 0
   pub second_name : (shown w.second.pass).names ≡ split_as 1
 
--- the three passes are all of the table, and the worker's one runs nothing
+-- the three passes are all passes of the table, and the worker's one runs nothing
 pub record IsReadyWatch (b : Watched) (w : Watch) : Type 0 where
   pub watch : IsWatch b w
   pub idle : (shown w.mine).running ≡ []

@@ -1,4 +1,4 @@
-//! What a closed table answers.
+//! The answer of a closed table, in numbers.
 
 use dep_table::Closed;
 use flow_meaning::Outcome;

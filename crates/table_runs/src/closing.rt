@@ -1,4 +1,4 @@
-//! Tables that are closed with all their passes.
+//! Closes of tables with all their passes.
 
 ghost use Rattle.std.specs.Prelude.{◌≡◌, [], ◌∷◌};
 ghost use Rattle.dep_table.specs.Passes.{IsPassOf};
@@ -12,7 +12,7 @@ use ptg_base::OutOfMemory;
 use std::alloc::Global;
 use table_rule::all_passes_stay_all;
 
-/// Closes a table with its first pass, off which none was split.
+/// Closes a table with its first pass, its only one.
 pub fn close_one(alloc: Global, table: DepTable, pass: Pass) -> Result<Closed, OutOfMemory>
     requires pass { IsPassOf (id_of table) pass }
     requires names { (shown pass).names ≡ first_pass.names }

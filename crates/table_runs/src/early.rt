@@ -1,4 +1,4 @@
-//! Tables of which one pass makes a single claim.
+//! Tables that are closed after a single claim.
 
 ghost use Rattle.std.specs.Prelude.{◌≡◌, []};
 ghost use Rattle.dep_table.specs.Boards.{IsWorkerPass};
@@ -16,18 +16,18 @@ use ptg_base::{OutOfMemory, TaskId};
 use std::alloc::Global;
 use work_board::{Board, Claim};
 
-/// What came of the claim.
+/// The result of the claim and the close.
 #[derive(Clone, Copy)]
 pub struct Early {
     /// Whether the task was claimed.
     pub claimed: bool,
     /// Whether the pass saw quiet after it.
     pub seen_quiet: bool,
-    /// Whether the table was quiet that was closed after it.
+    /// Whether the closed table was quiet.
     pub quiet: bool,
 }
 
-// Whether a task of the job was claimed.
+// Claims a task, if it is one of the job, and returns whether it got it.
 fn claim(table: &DepTable, pass: &mut Pass, task: &TaskId) -> bool
     requires pass { IsWorkerPass table.now pass.old }
     requires idle { (shown pass.old).running ≡ [] }
@@ -41,7 +41,7 @@ fn claim(table: &DepTable, pass: &mut Pass, task: &TaskId) -> bool
     matches!(&claim, Claim::Got(_arrivals))
 }
 
-// What comes of a claim at a new table, which is then closed.
+// Claims a task at a new table and closes the table.
 fn closed_after(
     alloc: Global,
     table: DepTable,
@@ -63,8 +63,8 @@ fn closed_after(
     })
 }
 
-/// Claims one task of a job with three shards, and closes the table: with a task that is not ready the ready ones are
-/// left, and with one that is it runs.
+/// Claims one task of a job with three shards, and closes the table. If the task is not ready, the ready ones are left;
+/// if it is, it still runs.
 pub fn claim_and_close(
     alloc: Global,
     texts: &Texts,

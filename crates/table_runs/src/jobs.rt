@@ -1,6 +1,6 @@
-//! The jobs that are played.
+//! The jobs that are run.
 
-/// A job's two texts.
+/// A job's two texts, with a name to print.
 #[derive(Clone, Copy)]
 pub struct Texts {
     pub name: &'static str,
@@ -8,7 +8,7 @@ pub struct Texts {
     pub data: &'static [u8],
 }
 
-/// One task sends a tile to three, each of which adds its number and writes the tile back.
+/// One task sends a tile to three tasks; each adds its number and writes the tile back.
 pub const BROADCAST: Texts = Texts {
     name: "broadcast",
     jdf: b"D
@@ -139,7 +139,7 @@ tile,Q,0,3,4
 ",
 };
 
-/// One task, which no edge goes into or comes from.
+/// One task without edges.
 pub const ONE_TASK: Texts = Texts {
     name: "one task",
     jdf: b"D

@@ -1,6 +1,8 @@
-//! Plays jobs over the shared table: by one worker while two passes look on, in several orders, by one that can only
-//! steal, by several workers in threads, and up to a close before the end. It prints what the passes were answered and
-//! what the closed tables answer.
+//! Runs jobs over the shared table in several ways, and prints what the calls of its passes returned and the answers of
+//! the closed tables.
+//!
+//! Jobs are run by one worker while two passes look on, by one worker in several orders, and by one that can only steal
+//! ids. They are also run by several workers in threads, and up to an early close.
 #![tactic(auto)]
 
 mod answer;
@@ -40,7 +42,7 @@ const SHARDS: [u32; 3] = [1, 3, 256];
 // The numbers of workers that are tried.
 const WORKERS: [u32; 3] = [1, 2, 5];
 
-// A job played over a new table, if it is consistent and the number of shards is right.
+// Plays a job over a new table, if it is consistent and the number of shards is within its limits.
 fn played<R: Threads + Wait + Sync>(
     rt: &R,
     alloc: Global,
@@ -53,7 +55,7 @@ fn played<R: Threads + Wait + Sync>(
     Ok(Some(play(rt, alloc, table, first)?))
 }
 
-// A job played over tables with these numbers of shards, each with and without a preload.
+// Plays a job over tables with these numbers of shards, each with and without a preload.
 fn print_played<R: Threads + Wait + Print + Sync>(
     rt: &R,
     alloc: Global,
@@ -100,7 +102,7 @@ fn print_answers<R: Threads + Wait + Print + Sync>(
     Ok(())
 }
 
-// A table that is closed after a claim of the task of this class with the parameter 0.
+// Closes a table after a claim of the task of this class with the parameter 0.
 fn print_early<R: Print>(rt: &R, alloc: Global, texts: &Texts, class: u32) -> io::Result<()> {
     let name = texts.name;
     match claim_and_close(alloc, texts, &TaskId::new(class, &[0])) {
@@ -145,7 +147,7 @@ fn print_claims<R: Threads + Wait + Print + Sync>(
     }
 }
 
-// The shard of a task of the job, among 16.
+// The number of a task's shard, among 16.
 fn print_shard<R: Print>(rt: &R, alloc: Global, texts: &Texts, task: &TaskId) -> io::Result<()> {
     let name = texts.name;
     match shard_of(alloc, texts, task) {
@@ -155,7 +157,7 @@ fn print_shard<R: Print>(rt: &R, alloc: Global, texts: &Texts, task: &TaskId) ->
     }
 }
 
-// What a worker runs that can only steal, of these ids of tasks of class 0.
+// What a worker that can only steal runs, with these ids of tasks of class 0.
 fn print_thief<R: Threads + Wait + Print + Sync>(
     rt: &R,
     alloc: Global,
@@ -171,7 +173,7 @@ fn print_thief<R: Threads + Wait + Print + Sync>(
     }
 }
 
-// What comes of the jobs in orders that ids steer, and of early closes.
+// The results of the jobs in orders that ids steer, and of early closes.
 fn print_orders<R: Threads + Wait + Print + Sync>(rt: &R, alloc: Global) -> io::Result<()> {
     print_ordered(rt, alloc, &GATHER, &[])?;
     print_ordered(rt, alloc, &GATHER, &[0, 1, 2])?;
@@ -182,7 +184,7 @@ fn print_orders<R: Threads + Wait + Print + Sync>(rt: &R, alloc: Global) -> io::
     print_early(rt, alloc, &BROADCAST, 0)
 }
 
-// What a thief runs, the claims of four workers, and which shard a task has.
+// What a thief runs, the claims of four workers, and the shards of two tasks.
 fn print_others<R: Threads + Wait + Print + Sync>(rt: &R, alloc: Global) -> io::Result<()> {
     print_thief(rt, alloc, &ONE_TASK, &[0, 0, 0])?;
     print_thief(rt, alloc, &PAIR, &[0, 0, 0])?;

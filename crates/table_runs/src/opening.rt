@@ -1,4 +1,4 @@
-//! Tables of jobs.
+//! New tables of jobs.
 
 ghost use Rattle.std.specs.Prelude.{◌≡◌, IfOk, IfSome};
 ghost use Rattle.table_rule.specs.Changes.{first_pass};
@@ -19,7 +19,8 @@ pub struct Make {
     pub preload: bool,
 }
 
-/// A table of the job of two texts, with its first pass, if the job is consistent and the number of shards is right.
+/// A table of the job of two texts, with its first pass. None if the job is not consistent or the number of shards is
+/// not within its limits.
 pub fn table_of(
     alloc: Global,
     texts: &Texts,

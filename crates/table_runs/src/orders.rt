@@ -1,4 +1,4 @@
-//! A job run by one worker in an order that its deque of ids steers.
+//! Runs of a job by one worker in an order that its deque of ids steers.
 
 ghost use Rattle.std.specs.Prelude.{◌≡◌, [], false};
 ghost use Rattle.table_rule.specs.Changes.{first_pass};
@@ -41,7 +41,7 @@ impl fmt::Display for Ordered {
     }
 }
 
-// The claims of a worker with these ids in its deque, up to the end.
+// Lets a worker with these ids in its deque work to the end, and returns its claims.
 fn claims_by_one<R: Threads + Wait + Sync>(
     rt: &R,
     alloc: Global,
@@ -90,7 +90,7 @@ fn work_with<R: Threads + Wait + Sync>(
     Ok(Ordered { claims, answer })
 }
 
-/// Lets one worker run a job over three shards, with the ids of these tasks of class 0 in its deque: it takes the last
+/// Lets one worker run a job over three shards, with the ids of these tasks of class 0 in its deque. It takes the last
 /// one first.
 pub fn play_in_order<R: Threads + Wait + Sync>(
     rt: &R,

@@ -1,4 +1,4 @@
-//! A job run by one worker at a watched table, up to the close.
+//! Runs of a job by one worker at a watched table, up to the close.
 
 ghost use Rattle.std.specs.Prelude.{◌≡◌, [], ◌∷◌};
 ghost use Rattle.table_rule.specs.Changes.{first_pass};
@@ -22,7 +22,7 @@ use std::thread::Threads;
 use task_run::Bench;
 use worker_core::{Always, work};
 
-// Two passes are split off the first one, to look on.
+// Splits two passes off the first one, to look on.
 fn with_watch(table: DepTable, first: Pass) -> (Watched, Watch)
     requires pass { IsPassOf (id_of table) first }
     requires first { shown first ≡ first_pass }
@@ -47,14 +47,14 @@ fn with_watch(table: DepTable, first: Pass) -> (Watched, Watch)
     (Watched { table }, watch)
 }
 
-/// What came of a job that was played.
+/// The result of a job that was played.
 #[derive(Drop)]
 pub struct Played {
     /// Whether a pass that looks on saw quiet before the first claim.
     pub quiet_before: bool,
-    /// How many tasks the worker ran.
+    /// The number of tasks that the worker ran.
     pub ran: u64,
-    /// What the passes that look on were answered.
+    /// What the calls of the passes returned.
     pub seen: Seen,
     /// Whether a pass that looks on saw quiet at the end.
     pub quiet_after: bool,
@@ -73,7 +73,7 @@ impl fmt::Display for Played {
     }
 }
 
-// The watched table is closed, with all its passes.
+// Closes the watched table with all its passes.
 fn close(alloc: Global, watched: Watched, watch: Watch) -> Result<Closed, OutOfMemory>
     requires watch { IsWatch watched watch }
     requires name { (shown watch.mine).names ≡ ([], 2) ∷ [] }
@@ -94,7 +94,7 @@ fn close(alloc: Global, watched: Watched, watch: Watch) -> Result<Closed, OutOfM
     close_three(alloc, table, mine, first, second)
 }
 
-// Lets one worker work at a watched table to the end: how many tasks it ran.
+// Lets one worker work at a watched table to the end, and returns the number of tasks that it ran.
 fn ran_by_one<R: Threads + Wait + Sync>(
     rt: &R,
     alloc: Global,

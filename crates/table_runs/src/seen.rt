@@ -1,9 +1,9 @@
-//! What the passes of a table were answered, in numbers.
+//! Counts of what the calls of a table's passes returned.
 
 use std::fmt;
 use work_board::Sent;
 
-/// How a claim by a pass that looks on was answered.
+/// The result of a claim by a pass that looks on.
 #[derive(Clone, Copy)]
 pub enum Reply {
     /// The task was claimed.
@@ -12,29 +12,29 @@ pub enum Reply {
     Gone,
     /// Another pass held the turn.
     Busy,
-    /// The pass ran a task, so that it could claim no other, or did not get the turn that it was to hold.
+    /// No claim was tried: the pass ran a task, or did not get the turn that it was to hold.
     NotAsked,
 }
 
-/// How often each answer came.
+/// How often each result came.
 #[derive(Clone, Copy)]
 pub struct Seen {
-    /// Claims of the task that runs, which were refused.
+    /// Claims of the running task, which returned `Gone`.
     gone: u64,
-    /// Claims at a turn that another pass held, which found it taken.
+    /// Claims at a turn that another pass held, which returned `Busy`.
     busy: u64,
-    /// Looks for quiet while a task ran, which saw none.
+    /// Looks for quiet while a task ran, which did not see quiet.
     restless: u64,
-    /// Edges after which their target waited on, and edges after which it was ready; and write-backs.
+    /// Edges whose target still waited, edges that fired their target, and write-backs.
     waits: u64,
     fired: u64,
     kept: u64,
-    /// Other answers.
+    /// Other results.
     other: u64,
 }
 
 impl Seen {
-    /// Nothing was answered yet.
+    /// All counts are 0.
     pub fn nothing() -> Seen {
         Seen {
             gone: 0,
@@ -49,7 +49,7 @@ impl Seen {
 }
 
 impl Seen {
-    /// Counts the reply to a claim of the task that runs.
+    /// Counts the result of a claim of the running task.
     pub fn note_claim(&mut self, reply: Reply) {
         match reply {
             Reply::Gone => self.gone = self.gone.saturating_add(1),
@@ -57,7 +57,7 @@ impl Seen {
         }
     }
 
-    /// Counts the reply to a claim at a turn that another pass held.
+    /// Counts the result of a claim at a turn that another pass held.
     pub fn note_at_turn(&mut self, reply: Reply) {
         match reply {
             Reply::Busy => self.busy = self.busy.saturating_add(1),
@@ -74,7 +74,7 @@ impl Seen {
         }
     }
 
-    /// Counts a send.
+    /// Counts the result of a send.
     pub fn note_sent(&mut self, sent: Sent) {
         match sent {
             Sent::Waits => self.waits = self.waits.saturating_add(1),

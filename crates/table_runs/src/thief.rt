@@ -1,5 +1,5 @@
-//! A worker that can find tasks in no other way than by stealing ids, beside one that does not work: the shards of its
-//! table can't be scanned, and the id of the ready task is in the deque of the other one.
+//! A worker that can find tasks only by stealing ids. The shards of its table can't be scanned, and the id of the ready
+//! task is in the deque of another worker, which does not work.
 
 ghost use Rattle.std.specs.Prelude.{◌≡◌, []};
 ghost use Rattle.task_run.specs.Bench.{IsBenchOf};
@@ -26,9 +26,9 @@ use worker_core::{Always, work};
 /// How the work of the thief ended.
 #[derive(Clone, Copy)]
 pub enum End {
-    /// It saw that all is quiet, after it had run this many tasks.
+    /// It saw quiet after it had run this many tasks.
     Quiet(u64),
-    /// Its board was halted first, or it had no memory.
+    /// Its board was halted first, or it was out of memory.
     Halted,
 }
 
@@ -102,9 +102,9 @@ fn ran_with<R: Threads + Wait + Sync>(
     Ok(Some(steal(rt, alloc, table, first, thief)?))
 }
 
-/// Lets worker 1 of two work at a table of one shard that can't be scanned. The id of the job's ready task, the one of
-/// class 0 with the parameter 0, was pushed by worker 0 this many times: at least three times where it is to be found,
-/// since the newest stays in its slot, and a steal may leave the last one of its deque.
+/// Lets worker 1 of two work at a table of one shard that can't be scanned. Worker 0 pushed the ids of the tasks of
+/// class 0 with these parameters. To be found, the id of the job's ready task must be pushed at least three times. The
+/// newest id stays in the slot, and a steal may leave the last one of the deque.
 pub fn ran_by_thief<R: Threads + Wait + Sync>(
     rt: &R,
     alloc: Global,

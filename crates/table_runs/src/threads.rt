@@ -1,4 +1,4 @@
-//! Jobs run by several workers, each in a thread of its own.
+//! Runs of jobs by several workers, each in a thread of its own.
 
 ghost use Rattle.std.specs.Prelude.{IsTrue};
 ghost use Rattle.ptg_base.specs.Limits.{AreRunCounts};
@@ -27,7 +27,8 @@ fn are_settings(settings: Settings) -> bool
     true
 }
 
-/// The answer of a job, if the settings are within their limits and it is consistent and its preload is not too large.
+/// The answer of a job. None if the settings are not within their limits, the job is not consistent, or its preload is
+/// too large.
 pub fn answer_by<R: Threads + Wait + Sync>(
     rt: &R,
     alloc: Global,
@@ -50,15 +51,15 @@ pub fn answer_by<R: Threads + Wait + Sync>(
 /// The claims of a run by four workers over 16 shards.
 #[derive(Clone, Copy)]
 pub struct Claims {
-    /// How many there are.
+    /// The number of claims.
     pub count: usize,
-    /// How many of them are of a task that another one is of.
+    /// How many of them claim a task that was claimed already.
     pub again: usize,
     /// The answer of the closed table.
     pub answer: Answer,
 }
 
-// How many of these tasks in their order are the same as the one before.
+// How many of these tasks are the same as the one before them.
 fn repeats(tasks: &[TaskId]) -> usize {
     let mut again: usize = 0;
     for k in 1..tasks.len() {
@@ -69,7 +70,7 @@ fn repeats(tasks: &[TaskId]) -> usize {
     again
 }
 
-// The claims of a run, with its answer.
+// The numbers of the claims of a run, with its answer.
 fn claims_of(tasks: Vec<TaskId>, closed: Closed) -> Result<Claims, OutOfMemory> {
     let mut tasks = tasks;
     tasks.sort_unstable();
@@ -80,7 +81,7 @@ fn claims_of(tasks: Vec<TaskId>, closed: Closed) -> Result<Claims, OutOfMemory> 
     })
 }
 
-/// Runs a job by four workers over 16 shards and tells of its claims.
+/// Runs a job by four workers over 16 shards, and returns its claims. None if the job is not consistent.
 pub fn traced<R: Threads + Wait + Sync>(
     rt: &R,
     alloc: Global,

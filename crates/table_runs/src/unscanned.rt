@@ -1,4 +1,4 @@
-//! A table of whose shards only some can be scanned.
+//! A table on which only some shards can be scanned.
 
 ghost use Rattle.std.specs.Prelude.{◌≡◌, ◌≤◌};
 ghost use Rattle.shard_meaning.specs.Placing as placing;
@@ -8,6 +8,7 @@ ghost use Rattle.dep_table.specs.Boards.{IsWorkerPass};
 ghost use Rattle.dep_table.specs.Views as views;
 
 use coll_data::Given;
+use crossbeam_utils::sync::EventCount;
 use dep_iter::Matched;
 use dep_shard::Arrivals;
 use dep_table::{DepTable, Pass};
@@ -18,12 +19,13 @@ use work_board::{Board, Claim, Scan, Sent};
 // After this many looks for quiet the table is halted.
 const LOOKS: u64 = 1_000;
 
-/// A table of whose shards only the first ones can be scanned: where none can, a worker gets at its tasks by ids alone.
-/// It is halted once a worker has looked for quiet a thousand times, so that a worker without an id ends too.
+/// A table on which only the first shards can be scanned; if none can, a worker finds tasks by ids alone. It is halted
+/// once a worker has looked for quiet a thousand times, so that a worker without an id ends too. No worker sleeps at
+/// it.
 #[derive(Drop)]
 pub struct Unscanned {
     pub table: DepTable,
-    /// How many shards can be scanned, from the first on: none in this program.
+    /// How many shards can be scanned, from the first on. This program uses 0.
     pub scanned: u32,
     pub ghost within: { scanned ≤ (job_of table).shards },
 }
@@ -38,7 +40,7 @@ pub struct PassPair {
 }
 
 impl Unscanned {
-    // Counts a look for quiet. At the last one the table is halted.
+    // Counts a look for quiet, and halts the table at the last one.
     fn note_look(&self, pass: &mut PassPair)
         requires { IsPassOf (id_of self.now.table) pass.old.halting }
         ensures halting { IsPassOf (id_of self.now.table) pass.new.halting }
@@ -88,6 +90,10 @@ impl Board for Unscanned {
 
     fn is_preloaded(&self) -> bool {
         self.table.is_preloaded()
+    }
+
+    fn events(&self) -> Option<&EventCount> {
+        None
     }
 
     fn try_claim(&self, pass: &mut PassPair, t: &TaskId) -> Claim {

@@ -11,7 +11,7 @@ use dep_table::{Busy, DepTable, Pass};
 use ptg_base::TaskId;
 use work_board::{Board, Claim};
 
-/// A pass that looks on. It claims only while it runs nothing.
+/// A pass that looks on. It claims only if it runs nothing.
 #[derive(Drop)]
 pub struct Watcher {
     pub pass: Pass,
@@ -29,7 +29,7 @@ fn is_refused(claim: &Claim) -> bool
     }
 }
 
-// How a claim was answered.
+// The result of a claim.
 fn reply_of(claim: Claim) -> Reply {
     match claim {
         Claim::Got(_arrivals) => Reply::Got,
@@ -54,7 +54,7 @@ impl Watcher {
         reply_of(claim)
     }
 
-    /// Takes the turn of a task's shard, and lets another pass claim the task meanwhile.
+    /// Takes the turn of a task's shard, lets another pass try to claim the task meanwhile, and gives the turn back.
     pub fn hold(&mut self, table: &DepTable, other: &mut Watcher, t: &TaskId) -> Reply
         requires watcher { IsWatcher table.now self.old }
         requires other { IsWatcher table.now other.old }

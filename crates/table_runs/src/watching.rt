@@ -1,4 +1,4 @@
-//! A table that a worker works at while two further passes look on: what they are answered in between is counted.
+//! A table that a worker works at while two other passes look on and what their calls return is counted.
 
 ghost use Rattle.std.specs.Prelude.{◌≡◌};
 ghost use Rattle.dep_iter.specs.Tasks.{IsTask};
@@ -12,6 +12,7 @@ ghost use Rattle.table_runs.specs.Watching.{FindsTask, IsWatch};
 use crate::seen::Seen;
 use crate::watcher::Watcher;
 use coll_data::Given;
+use crossbeam_utils::sync::EventCount;
 use dep_iter::Matched;
 use dep_shard::Arrivals;
 use dep_table::{DepTable, Pass};
@@ -19,7 +20,7 @@ use ptg_base::{Item, OutOfMemory, TaskId, Tile};
 use term_core::Trap;
 use work_board::{Board, Claim, Scan, Sent};
 
-/// The worker's pass, and the two that look on.
+/// The worker's pass, the two that look on, and the counts.
 #[derive(Drop)]
 pub struct Watch {
     pub mine: Pass,
@@ -35,7 +36,7 @@ pub struct Watched {
 }
 
 impl Watched {
-    // What the others are answered while the task runs.
+    // Counts what the calls of the others return while the task runs.
     fn watch(&self, pass: &mut Watch, t: &TaskId)
         requires watch { IsWatch self.now pass.old }
         requires task { IsTask (job_of self.now.table).matched t.now }
@@ -52,7 +53,7 @@ impl Watched {
         pass.seen.note_look(quiet);
     }
 
-    // The same if the task was claimed.
+    // The same, but only if the task was claimed.
     fn watch_claim(&self, pass: &mut Watch, t: &TaskId, claim: &Claim)
         requires watch { IsWatch self.now pass.old }
         requires task { IsTask (job_of self.now.table).matched t.now }
@@ -66,7 +67,7 @@ impl Watched {
         }
     }
 
-    // The same if the scan found a task.
+    // The same, but only if the scan found a task.
     fn watch_scan(&self, pass: &mut Watch, scan: &Scan)
         requires watch { IsWatch self.now pass.old }
         requires task { FindsTask (job_of self.now.table).matched scan.now }
@@ -123,6 +124,10 @@ impl Board for Watched {
 
     fn is_preloaded(&self) -> bool {
         self.table.is_preloaded()
+    }
+
+    fn events(&self) -> Option<&EventCount> {
+        Board::events(&self.table)
     }
 
     fn try_claim(&self, pass: &mut Watch, t: &TaskId) -> Claim {

@@ -1,5 +1,6 @@
--- What a claim answers, and how it changes the record of its pass. Source: DAGuE (Parallel Computing, 2012), where a
--- worker takes a ready task from the table; the answers are this project's own choice.
+-- What the result of a claim says, and how a claim changes the record of its pass. Source: DAGuE (Parallel Computing,
+-- 2012), where a worker takes a ready task from the table; the results are this project's own choice.
+-- Carried by: `Board::try_claim` (`ClaimAnswers`), `Board::try_scan` (`ScanAnswers`).
 use Rattle.std.specs.Prelude.{◌≡◌, ℕ, List, [], ◌∷◌, ◌++◌}
 use Rattle.ptg_base.specs.Entry.{FlowTile}
 use Rattle.ptg_base.specs.Lists.{IsIn}
@@ -20,15 +21,15 @@ use Rattle.work_board.specs.declared.answers.Scan.TheVariants as scan
 use Rattle.work_board.specs.Records.{FoundBusy, IsStill, KeepsNamesAndMarks, TookShard, done_by}
 use Rattle.work_board.specs.Word.{Turn}
 
--- A task that may start, with the tiles that it starts on: it runs in this job, the tiles are its inputs, and the pass
+-- A task that may start, with the tiles that it starts on. It runs in this job, the tiles are its inputs, and the pass
 -- has sent none of its items.
 pub record MayStart (P : Plan) (G : Data) (t : Task) (tiles : List FlowTile) (v : PassRecord) : Type 0 where
   pub task : IsTask P t
   pub run : MayRun P G t tiles
   pub unsent : (i : Item) → IsIn i (items P t) → send_count (done_by v) i ≡ 0
 
--- The claim is added to the record with its stamp and with the tiles that were handed out, and its task runs. All else
--- stays but the looks and the shard taken last.
+-- The claim is added to the record with its stamp and with the tiles that were handed out, and its task runs. Nothing
+-- else changes but the looks and the shard taken last.
 pub record AddsClaim (t : Task) (tiles : List FlowTile) (v w : PassRecord) : Type 0 where
   pub stamp : ℕ
   pub claims : w.claims ≡ v.claims ++ t ∷ []
@@ -53,7 +54,7 @@ pub record FoundGone (k : ℕ) (t : Task) (v w : PassRecord) : Type 0 where
   pub gone : HasNoReadyOf shard t
   pub still : IsStill v w
 
--- what the answer of a claim of task t, which belongs to shard k, says
+-- what the result of a claim of task t says, if t belongs to shard k
 abbrev pub ClaimAnswers : Plan → Data → ℕ → Task → Claim → PassRecord → PassRecord → Type 0
 ClaimAnswers P G k t (claim.Got tiles) v w = HasClaimed P G k t tiles v w
 ClaimAnswers P G k t claim.Gone v w = FoundGone k t v w
@@ -72,7 +73,7 @@ pub record FoundNoReady (k : ℕ) (v w : PassRecord) : Type 0 where
   pub empty : HasNoReady shard.entries
   pub still : IsStill v w
 
--- what the answer of a scan of shard k says, where `of` is the shard of each task
+-- what the result of a scan of shard k says; `of` is the shard of each task
 abbrev pub ScanAnswers : Plan → Data → (Task → ℕ) → ℕ → Scan → PassRecord → PassRecord → Type 0
 ScanAnswers P G of k (scan.Got t tiles) v w = (of t ≡ k) × HasClaimedBest P G k t tiles v w
 ScanAnswers P G of k scan.Empty v w = FoundNoReady k v w

@@ -1,5 +1,6 @@
 -- A claimed task with the tiles that were handed out with it. Source: DAGuE (Parallel Computing, 2012), where a task
--- runs on what its sources gave.
+-- runs on what its sources sent.
+-- Carried by: `dep_table::Turn::claim`, `dep_table::DepTable::close`, `run_pool::run`, `run_pool::run_traced`.
 use Rattle.std.specs.Prelude.{◌≡◌, List}
 use Rattle.std.specs.Map.{keys_of}
 use Rattle.ptg_base.specs.Entry.{FlowTile}

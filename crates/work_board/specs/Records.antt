@@ -1,4 +1,5 @@
--- How the record of a pass grows. Source: this project's own choice.
+-- The record of a pass (`work_board/src/record.rt`), and how it grows.
+-- Carried by: every call of `Board`.
 use Rattle.std.specs.Prelude.{◌≡◌, ◌≢◌, ℕ, ◌+◌, List, [], ◌∷◌, ◌++◌}
 use Rattle.ptg_base.specs.Lists.{IsIn}
 use Rattle.ptg_base.specs.Task.{Task}
@@ -9,17 +10,18 @@ use Rattle.work_board.specs.Word.{Word, Turn}
 use Rattle.work_board.specs.Stamps.{StampedTask}
 use Rattle.work_board.specs.Handed.{HandedTask}
 
--- what a pass alone did, as a state of the event machine: its claims and its sends
+-- what one pass did, as a state of the event machine: its claims and its sends
 abbrev pub done_by : PassRecord → MachineState
 done_by v = record { claims = v.claims; sends = v.sends }
 
 -- The pass holds no turn, owes the live word nothing, and each of its claims has a stamp.
+-- Carried by: `Board`, law `clean`.
 pub record IsClean (v : PassRecord) : Type 0 where
   pub no_turn : v.turns ≡ []
   pub no_credit : v.credit ≡ 0
   pub stamped : (t : Task) → IsIn t v.claims → (stamp : ℕ) × IsIn (t, stamp) v.stamps
 
--- The names, the turns, the two marks and the credit stay.
+-- The names, the turns, the two marks (quiet and halt) and the credit stay.
 pub record KeepsNamesAndMarks (v w : PassRecord) : Type 0 where
   pub names : w.names ≡ v.names
   pub turns : w.turns ≡ v.turns
@@ -34,19 +36,19 @@ pub record KeepsDone (v w : PassRecord) : Type 0 where
   pub handed : w.handed ≡ v.handed
   pub sends : w.sends ≡ v.sends
 
--- Nothing changes but the looks and the shard taken last.
+-- Nothing changes but, at most, the looks and the shard taken last.
 pub record IsStill (v w : PassRecord) : Type 0 where
   pub kept : KeepsNamesAndMarks v w
   pub done : KeepsDone v w
   pub running : w.running ≡ v.running
 
--- The pass took the turn of shard k, which had y then; so it found 0 in the turn word, in its one look.
+-- The pass took the turn of shard k, which had the content y then: in its one look it found 0 in the turn word.
 pub record TookShard (k : ℕ) (y : Content) (v w : PassRecord) : Type 0 where
   pub look : w.look ≡ (Turn k, 0)
   pub looks : w.looks ≡ v.looks + 1
   pub last : w.last ≡ (k, y) ∷ []
 
--- In its one look the pass found that a word was not 0, and nothing else changed.
+-- In its one look the pass found that a word was not 0, and nothing changed but its looks.
 pub record FoundBusy (looked_at : Word) (v w : PassRecord) : Type 0 where
   pub word : w.look.0 ≡ looked_at
   pub taken : w.look.1 ≢ 0
@@ -60,7 +62,7 @@ pub record OnlyTook (k : ℕ) (v w : PassRecord) : Type 0 where
   pub took : TookShard k shard v w
   pub still : IsStill v w
 
--- Nothing that the pass did is undone, and its names stay: it has what it had, and maybe more after it.
+-- Nothing that the pass did is undone, and its names stay: each list has what it had, and maybe more after it.
 pub record IsLaterRecord (v w : PassRecord) : Type 0 where
   pub more_stamps : List StampedTask
   pub more_handed : List HandedTask

@@ -1,4 +1,4 @@
--- A claimed task with its stamp. Source: this project's own choice.
+-- A claimed task with its stamp.
 use Rattle.std.specs.Prelude.{ℕ}
 use Rattle.ptg_base.specs.Task.{Task}
 

@@ -1,4 +1,4 @@
--- The words that the passes of a table share. Source: this project's own choice.
+-- The words that the passes of a table share.
 use Rattle.std.specs.Prelude.{ℕ}
 
 -- the turn word of a shard, the halt word, and the live word: which word a pass looked at last

@@ -1,20 +1,20 @@
-//! What a board answers a worker.
+//! What a board returns to a worker.
 
 use dep_shard::Arrivals;
 use ptg_base::TaskId;
 
-/// The answer of a claim of a task.
+/// The result of a claim of a task.
 #[derive(Drop)]
 pub enum Claim {
     /// The task is claimed, and these tiles came to it.
     Got(Arrivals),
-    /// The task is not ready: another worker may have claimed it.
+    /// The task has no ready entry: another worker may have claimed it.
     Gone,
     /// Another pass holds the turn of the task's shard.
     Busy,
 }
 
-/// The answer of a scan of a shard.
+/// The result of a scan of a shard.
 #[derive(Drop)]
 pub enum Scan {
     /// This task is claimed, and these tiles came to it.
@@ -25,10 +25,10 @@ pub enum Scan {
     Busy,
 }
 
-/// The answer of a send of an item.
+/// The result of a send of an item.
 #[derive(Clone, Copy, Debug, PartialEq, Eq)]
 pub enum Sent {
-    /// The edge was sent, and its target waits for further edges.
+    /// The edge was sent, and its target still waits for other edges.
     Waits,
     /// The edge was sent, and was the last that its target waited for.
     Fired,

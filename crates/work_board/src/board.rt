@@ -12,18 +12,19 @@ ghost use Rattle.work_board.specs.Looks.{HaltAnswers, HasHalted, HasStamp, Quiet
 
 use crate::answers::{Claim, Scan, Sent};
 use coll_data::Given;
+use crossbeam_utils::sync::EventCount;
 use dep_iter::Matched;
 use dep_shard::Arrivals;
 use ptg_base::{Item, OutOfMemory, TaskId, Tile};
 use std::marker::Sync;
 use term_core::Trap;
 
-/// A table of dependences that workers share, each by a pass of its own. Its calls go for the turn of one shard, once,
-/// and do not wait: where another pass holds that turn they answer so, and the pass's look shows the word that was not
-/// 0.
+/// A table of dependences that workers share, each by a pass of its own. A call that needs a shard tries to take its
+/// turn once and does not wait. If another pass holds the turn, the call returns `Busy` or false, and the pass's look
+/// shows the word that was not 0.
 ///
-/// Every call that takes a pass needs a clean pass of this board, and leaves it so. Want of memory, `Busy` and false
-/// change at most the pass's looks and the shard that it took last.
+/// Every call that takes a pass needs a clean pass of this board, and leaves it clean. A call that returns
+/// `OutOfMemory`, `Busy` or false changes at most the pass's looks and the shard that it took last.
 pub trait Board: Sync {
     ghost use Rattle.std.specs.Prelude.{Bool, ℕ};
     ghost use Rattle.ptg_base.specs.Task.{Task};
@@ -31,16 +32,16 @@ pub trait Board: Sync {
     ghost use Rattle.coll_data.specs.Data.{Data};
     ghost use Rattle.work_board.specs.declared.record.PassRecord.{PassRecord};
 
-    /// A worker's part in the table.
+    /// A worker's handle on the table: what it did and holds.
     type Pass;
 
     /// What a pass has done and what it holds.
     ghost shown: { Self.Pass → PassRecord };
 
-    /// The pass is a clean one of this board.
+    /// The pass belongs to this board and is clean.
     ghost is_pass: { Self → Self.Pass → Type 0 };
 
-    /// The job: its plan and its data.
+    /// The plan of the job.
     ghost plan: { Self → Plan };
 
     ghost job_data: { Self → Data };
@@ -48,7 +49,7 @@ pub trait Board: Sync {
     /// The shard of each task.
     ghost placement: { Self → Task → ℕ };
 
-    /// How many shards can be scanned.
+    /// The number of shards that can be scanned.
     ghost shard_count: { Self → ℕ };
 
     /// Whether all memory was taken before the run.
@@ -63,7 +64,7 @@ pub trait Board: Sync {
         ensures same { result.now ≡ job_data self.now }
         ensures fit { DataFit (plan self.now) (job_data self.now) };
 
-    /// How many shards can be scanned.
+    /// The number of shards that can be scanned.
     fn shards(&self) -> u32
         ensures { result ≡ shard_count self.now };
 
@@ -71,7 +72,13 @@ pub trait Board: Sync {
     fn is_preloaded(&self) -> bool
         ensures { result ≡ preloaded self.now };
 
-    /// Claims a task: `Gone` exactly where its shard has no ready entry of it.
+    /// Where workers sleep that find nothing to do; None if they may not sleep. Before it sleeps, a worker announces
+    /// its sleep and then looks at all shards that can be scanned. So a board on which some shards can't be scanned
+    /// returns None. Whoever makes a task ready and leaves it to others, or halts the board, must notify after that
+    /// step. No clause speaks of this.
+    fn events(&self) -> Option<&EventCount>;
+
+    /// Claims a task. With the turn, it returns `Gone` if and only if the shard has no ready entry of the task.
     fn try_claim(&self, pass: &mut Self::Pass, t: &TaskId) -> Claim
         requires pass { is_pass self.now pass.old }
         requires task { IsTask (plan self.now) t.now }
@@ -80,7 +87,7 @@ pub trait Board: Sync {
         ensures claim { ClaimAnswers (plan self.now) (job_data self.now) (placement self.now t.now) t.now result
             (shown pass.old) (shown pass.new) };
 
-    /// Claims the best ready task of a shard: `Empty` exactly where none is ready.
+    /// Claims the best ready task of a shard. With the turn, it returns `Empty` if and only if none is ready.
     fn try_scan(&self, pass: &mut Self::Pass, shard: u32) -> Scan
         requires pass { is_pass self.now pass.old }
         requires shard { shard < shard_count self.now }
@@ -106,8 +113,8 @@ pub trait Board: Sync {
             (OnlyTook (shard_of_item (placement self.now) item.now) (shown pass.old) (shown pass.new)) }
         ensures preloaded { preloaded self.now ≡ true → IsOk result };
 
-    /// Ends the task that the pass runs, whose items were all sent. False only where the turn was taken. The board may
-    /// keep tiles that came with the task, for what is sent later; with false they stay.
+    /// Ends the task that the pass runs, whose items were all sent. False only if another pass held the turn. The board
+    /// may keep tiles that came with the task for later sends, or drop them; with false they all stay.
     fn try_end(&self, pass: &mut Self::Pass, t: &TaskId, spent: &mut Arrivals) -> bool
         requires pass { is_pass self.now pass.old }
         requires task { MayEnd (plan self.now) (job_data self.now) t.now (shown pass.old) }
@@ -115,7 +122,7 @@ pub trait Board: Sync {
         ensures ended { EndAnswers result (placement self.now t.now) (shown pass.old) (shown pass.new) }
         ensures spent { SpentAfter result spent.old spent.new };
 
-    /// Notes that the task that the pass runs trapped with this cause. False only where the turn was taken.
+    /// Notes that the task that the pass runs trapped with this cause. False only if another pass held the turn.
     fn try_trap(&self, pass: &mut Self::Pass, t: &TaskId, cause: Trap) -> Result<bool, OutOfMemory>
         requires pass { is_pass self.now pass.old }
         requires task { MayTrap (plan self.now) (job_data self.now) t.now cause (shown pass.old) }
@@ -124,20 +131,20 @@ pub trait Board: Sync {
         ensures err { OnErr result (OnlyTook (placement self.now t.now) (shown pass.old) (shown pass.new)) }
         ensures preloaded { preloaded self.now ≡ true → IsOk result };
 
-    /// Looks at the live word. True exactly where it was 0: then the pass has seen quiet.
+    /// Looks at the live word. True if and only if it was 0: then the pass has seen quiet.
     fn see_quiet(&self, pass: &mut Self::Pass) -> bool
         requires { is_pass self.now pass.old }
         ensures pass { is_pass self.now pass.new }
         ensures quiet { QuietAnswers result (shown pass.old) (shown pass.new) };
 
-    /// Raises the halt word. A preloaded board is never halted.
+    /// Raises the halt word, and then wakes all sleeping workers. A preloaded board is never halted.
     fn halt(&self, pass: &mut Self::Pass)
         requires pass { is_pass self.now pass.old }
         requires not_preloaded { preloaded self.now ≡ false }
         ensures pass { is_pass self.now pass.new }
         ensures halted { HasHalted (shown pass.old) (shown pass.new) };
 
-    /// Whether the halt word is raised: exactly where it was not 0. Never on a preloaded board.
+    /// Whether the halt word was not 0, at one look. It is never raised on a preloaded board.
     fn halted(&self, pass: &mut Self::Pass) -> bool
         requires { is_pass self.now pass.old }
         ensures pass { is_pass self.now pass.new }

@@ -1,4 +1,5 @@
-//! What the passes of a table have done, and what a worker needs of a table.
+//! What a worker needs of a table of dependences (`Board`), and the record of what a pass has done (`PassRecord`). Each
+//! result of a call comes with its cause, so that a contract says what the pass found.
 #![tactic(auto)]
 
 mod answers;

@@ -10,19 +10,20 @@ ghost use Rattle.work_board.specs.Handed.{HandedTask};
 
 use std::marker::Model;
 
-/// What a pass has done and what it holds, for contracts alone: no value of it is made.
+/// What a pass has done and what it holds. Only contracts see it: no value of it is made.
 pub struct PassRecord {
-    /// Its names, each with the number of passes that were split off under it. It has one name until passes are joined.
+    /// Its names, each with the number of passes that were split off under it. It has one name until it is joined with
+    /// another pass.
     pub ghost names: { List (List ℕ × ℕ) },
     /// The tasks that it claimed.
     pub ghost claims: { List Task },
     /// The items that it sent, each with its tile.
     pub ghost sends: { List SentItem },
-    /// The tasks that it runs: at most one until passes are joined.
+    /// The tasks that it runs: at most one until it is joined with another pass.
     pub ghost running: { List Task },
     /// The shards whose turns it holds, each with what the shard had when the turn was taken.
     pub ghost turns: { List (ℕ × Content) },
-    /// The shard whose turn it took last, with what that shard had then. It has none before its first turn.
+    /// The shard whose turn it took last, with what that shard had then; empty before its first turn.
     pub ghost last: { List (ℕ × Content) },
     /// Whether it has seen quiet.
     pub ghost quiet: { Bool },
@@ -32,8 +33,8 @@ pub struct PassRecord {
     pub ghost look: { Word × ℕ },
     /// How many looks it has made.
     pub ghost looks: { ℕ },
-    /// Its part of the live word that stands for no task: it will lower the word by it, or make a task ready that takes
-    /// its place.
+    /// Its credit: the part of the live word that it holds and that stands for no task. It will lower the word by the
+    /// credit, or make a task ready that takes the credit's place.
     pub ghost credit: { ℕ },
     /// The stamps of its claims, each with its task.
     pub ghost stamps: { List StampedTask },

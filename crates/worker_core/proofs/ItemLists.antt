@@ -33,14 +33,14 @@ use Rattle.work_board.specs.Sends.{IsNext, MayEnd}
 use Rattle.worker_core.specs.Sending.{HasSentAll, MaySendAll, RunsUnsent}
 use Rattle.worker_core.proofs.Steps.{kept_then}
 
--- what an edge and a write-back are as items
+-- edges and write-backs as items
 abbrev pub as_edges : List Edge → List Item
 as_edges es = map (λ (e : Edge). item.Edge e) es
 
 abbrev pub as_writes : List WriteBack → List Item
 as_writes ws = map (λ (w : WriteBack). item.Write w) ws
 
--- how often an item is among others
+-- an item occurs 0 times in a list that lacks it, and more often in one that has it
 not_among : (i : Item) (js : List Item) → (IsIn i js → ⊥) → count (same_item i) js ≡ 0
 not_among i [] h = refl
 not_among i (j ∷ js) h = by (not_among i js (λ k. h (inr k))) (same_item i j) refl
@@ -67,7 +67,7 @@ module _ (P : Plan) (G : Data) where
   sent_count i [] = refl
   sent_count i (j ∷ js) = ap (λ n. as_number (same_item i j) + n) (sent_count i js)
 
-  -- after these sends an item was sent as often as before, and as often as it is among them
+  -- after these sends an item was sent as often as before, plus as often as it is among them
   count_after : (is : List Item) (v w : PassRecord) (i : Item) → HasSentAll P G is v w → send_count (done_by w) i ≡ send_count (done_by v) i + count (same_item i) is
   count_after is v w i sent =
       ap (weigh (λ (x : SentItem). as_number (same_item i x.item))) sent.sends

@@ -26,7 +26,7 @@ use Rattle.work_board.specs.Stamps.{StampedTask}
 more_positive : (m n : ℕ) → nat_lt 0 m ≡ true → nat_lt 0 (m + n) ≡ true
 more_positive m n h = grind (arith, nat_tests)
 
--- what was sent stays sent
+-- an item that was sent stays sent
 sent_stays : (i : Item) (claims after : List Task) (sends more : List SentItem) → IsTrue (is_sent (record { claims = claims; sends = sends }) i) → IsTrue (is_sent (record { claims = after; sends = sends ++ more }) i)
 sent_stays i claims after sends more h =
     subst (λ n. nat_lt 0 n ≡ true) (sym (weigh-append (λ (x : SentItem). as_number (same_item i x.item)) sends more))
@@ -104,7 +104,7 @@ module _ (P : Plan) (G : Data) (lets : Task → Type 0) (keeps : Bool) where
         gained = gained_more far.more f w x old mid new far.gained got;
       }
 
-  -- a claim that was refused memory afterwards is a claim
+  -- a claim counts even if memory was refused after it
   pub logged_claims : (ran : ℕ) (f : Found) (v w x y : PassRecord) (old mid new : List (ℕ × Task)) → IsWorked P G lets keeps ran v w old mid → HasGotLogged P G keeps f w x mid new → HasSentSome x y → HasLogged keeps v y old new
   logged_claims ran f v w x y old mid new far got some = record {
     more = far.more ++ (f.task, got.got.added.stamp) ∷ [];

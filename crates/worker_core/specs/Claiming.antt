@@ -1,4 +1,4 @@
--- What a worker has after a claim. Source: this project's own choice.
+-- What a worker has after a search for a task.
 use Rattle.std.specs.Prelude.{◌≡◌, ℕ, List, [], ◌∷◌, ◌++◌, Bool, true}
 use Rattle.ptg_base.specs.Task.{Task}
 use Rattle.plan_core.specs.declared.plan.Plan.{Plan}
@@ -24,13 +24,13 @@ pub record IsQuietAfter (v w : PassRecord) : Type 0 where
   pub running : w.running ≡ v.running
   pub done : KeepsDone v w
 
--- what one search for a task found
+-- what the result of one search for a task says
 abbrev pub SearchAnswers : Plan → Data → Search → PassRecord → PassRecord → Type 0
 SearchAnswers P G (search.Task f) v w = HasGot P G f v w
 SearchAnswers P G search.Quiet v w = IsQuietAfter v w
 SearchAnswers P G search.Nothing v w = IsStill v w
 
--- The pass has got the found task, and where the log keeps what is noted, it has gained the claim with its stamp.
+-- The pass claimed the found task. If the log keeps what is noted, it has gained the claim with its stamp.
 pub record HasGotLogged (P : Plan) (G : Data) (keeps : Bool) (f : Found)
     (v w : PassRecord) (old new : List (ℕ × Task)) : Type 0 where
   pub got : HasGot P G f v w

@@ -1,5 +1,5 @@
--- How a worker sends what a task leaves. Source: DAGuE (Parallel Computing, 2012), where a task that ends satisfies the
--- dependences of its successors.
+-- How a worker sends the items of a task. Source: DAGuE (Parallel Computing, 2012), where a task that ends satisfies
+-- the dependences of its successors.
 use Rattle.std.specs.Prelude.{◌≡◌, List, [], ◌∷◌, ◌++◌, map, IsTrue}
 use Rattle.ptg_base.specs.Lists.{HasNoRepeats, IsIn}
 use Rattle.ptg_base.specs.Task.{Task}
@@ -26,8 +26,8 @@ edge_items P t = map (λ (e : Edge). item.Edge e) (out_edges P t)
 abbrev pub write_items : Plan → Task → List Item
 write_items P t = map (λ (w : WriteBack). item.Write w) (write_backs P t)
 
--- The pass sent these items, each with the tile that its task leaves. All else stays but the looks and the shard taken
--- last.
+-- The pass sent these items, each with the tile that its task leaves. Nothing else changes but the looks and the shard
+-- taken last.
 pub record HasSentAll (P : Plan) (G : Data) (is : List Item) (v w : PassRecord) : Type 0 where
   pub sends : w.sends ≡ v.sends ++ map (with_its_tile P G) is
   pub claims : w.claims ≡ v.claims
@@ -36,8 +36,8 @@ pub record HasSentAll (P : Plan) (G : Data) (is : List Item) (v w : PassRecord) 
   pub running : w.running ≡ v.running
   pub kept : KeepsNamesAndMarks v w
 
--- The pass may send these items one after another: they are items of the task that it runs, which has outputs, and each
--- is there once and was not sent.
+-- The pass may send these items one after another. They are different items of the task that it runs, that task has
+-- outputs, and none of them was sent yet.
 pub record MaySendAll (P : Plan) (G : Data) (t : Task) (is : List Item) (v : PassRecord) : Type 0 where
   pub runs : v.running ≡ t ∷ []
   pub outputs : IsTrue (has_outputs (ended P G t))
@@ -45,13 +45,13 @@ pub record MaySendAll (P : Plan) (G : Data) (t : Task) (is : List Item) (v : Pas
   pub once : HasNoRepeats is
   pub unsent : (i : Item) → IsIn i is → send_count (done_by v) i ≡ 0
 
--- The pass runs this task of the job and has sent none of its items.
+-- The pass runs this task of a consistent job and has sent none of its items.
 pub record RunsUnsent (P : Plan) (t : Task) (v : PassRecord) : Type 0 where
   pub runs : v.running ≡ t ∷ []
   pub consistent : IsConsistent P
   pub unsent : (i : Item) → IsIn i (items P t) → send_count (done_by v) i ≡ 0
 
--- The pass has sent some items more, and claimed nothing.
+-- The pass may have sent more items, and has claimed nothing.
 pub record HasSentSome (v w : PassRecord) : Type 0 where
   pub more_sends : List SentItem
   pub names : w.names ≡ v.names

@@ -1,4 +1,4 @@
--- A claimed task that is about to run. Source: this project's own choice.
+-- A claimed task that is about to run.
 use Rattle.std.specs.Prelude.{◌≡◌, [], ◌∷◌}
 use Rattle.plan_core.specs.declared.plan.Plan.{Plan}
 use Rattle.coll_data.specs.Data.{Data}

@@ -26,7 +26,7 @@ pub(crate) struct Found {
     pub(crate) arrivals: Arrivals,
 }
 
-// Claims a task of the job, however long its turn takes. None where it is gone.
+// Claims a task of the job, and waits for its turn as long as that takes. None if the task is gone.
 fn claim<R: Threads + Wait + Sync, B: Board, G>(
     post: &Post<R, B, G>,
     pass: &mut B::Pass,
@@ -52,7 +52,7 @@ fn claim<R: Threads + Wait + Sync, B: Board, G>(
     unreachable!()
 }
 
-// Claims the task of an id, if it is a task of the job and is not gone.
+// Claims the task of an id, unless it is no task of the job or is gone.
 pub(crate) fn claim_id<R: Threads + Wait + Sync, B: Board, G>(
     post: &Post<R, B, G>,
     pass: &mut B::Pass,
@@ -74,8 +74,8 @@ pub(crate) fn claim_id<R: Threads + Wait + Sync, B: Board, G>(
     })
 }
 
-// Claims the best ready task of the next shard in turn, if one is ready and the shard's turn is free. The shard stays
-// next while it has ready tasks.
+// Claims the best ready task of the next shard, if one is ready and the shard's turn is free. A shard stays the next
+// one while its scans find tasks.
 pub(crate) fn scan<R: Threads + Wait + Sync, B: Board, G>(
     post: &Post<R, B, G>,
     pass: &mut B::Pass,
@@ -105,6 +105,30 @@ pub(crate) fn scan<R: Threads + Wait + Sync, B: Board, G>(
             None
         }
     }
+}
+
+// Claims the best ready task of the first shard that has one and whose turn is free. `calm` becomes false if another
+// pass held the turn of a shard that was tried.
+pub(crate) fn scan_all<R: Threads + Wait + Sync, B: Board, G>(
+    post: &Post<R, B, G>,
+    pass: &mut B::Pass,
+    calm: &mut bool,
+) -> Option<Found>
+    requires pass { B.is_pass post.now.board.now pass.old }
+    requires idle { (B.shown pass.old).running ≡ [] }
+    ensures pass { B.is_pass post.now.board.now pass.new }
+    ensures found { MatchOption result (IsStill (B.shown pass.old) (B.shown pass.new)) (λ f.
+        HasGot (B.plan post.now.board.now) (B.job_data post.now.board.now) f (B.shown pass.old) (B.shown pass.new)) }
+{
+    let shards = post.board.shards();
+    for shard in 0..shards {
+        match post.board.try_scan(pass, shard) {
+            Scan::Got(task, arrivals) => return Some(with_locals(post, task, arrivals)),
+            Scan::Empty => {}
+            Scan::Busy => *calm = false,
+        }
+    }
+    None
 }
 
 // A claimed task with its locals.

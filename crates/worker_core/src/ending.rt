@@ -13,7 +13,8 @@ use std::thread::Threads;
 use term_core::Trap;
 use work_board::Board;
 
-// Ends the task that the pass runs, however long its turn takes. The board may keep the tiles that came with it.
+// Ends the task that the pass runs, and waits for the turn as long as that takes. The board may keep the tiles that
+// came with it.
 pub(crate) fn end_one<R: Threads + Wait + Sync, B: Board, G>(
     post: &Post<R, B, G>,
     pass: &mut B::Pass,
@@ -34,7 +35,7 @@ pub(crate) fn end_one<R: Threads + Wait + Sync, B: Board, G>(
     }
 }
 
-// Notes that the task that the pass runs trapped, however long its turn takes.
+// Notes that the task that the pass runs trapped, and waits for the turn as long as that takes.
 pub(crate) fn trap_one<R: Threads + Wait + Sync, B: Board, G>(
     post: &Post<R, B, G>,
     pass: &mut B::Pass,

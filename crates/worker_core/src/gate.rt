@@ -7,20 +7,20 @@ use std::marker::Sync;
 use std::sync::Wait;
 use std::thread::Threads;
 
-/// What a worker passes before it runs the body of a task. A gate may wait, and changes nothing that contracts see.
+/// What a worker passes before it runs the body of a task. A gate may wait. It changes nothing that contracts see.
 pub trait Gate: Sync {
     ghost use Rattle.std.specs.Prelude.{ℕ};
     ghost use Rattle.ptg_base.specs.Task.{Task};
 
-    /// The gate has let this worker run this task. A worker knows it of no other call.
+    /// The gate has let this worker run this task. Only `before_body` tells a worker so.
     ghost lets: { Self → ℕ → Task → Type 0 } = { λ _ _ _. Unit {0} };
 
-    /// Comes before the body of a task is run by a worker.
+    /// A worker calls it before it runs the body of a task.
     fn before_body<R: Threads + Wait + Sync>(&self, rt: &R, worker: u32, task: &TaskId)
         ensures { lets self.now worker task.now };
 }
 
-/// The gate that is open at once.
+/// The gate that is always open.
 #[derive(Drop)]
 pub struct Always;
 

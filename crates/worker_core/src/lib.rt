@@ -1,4 +1,5 @@
-//! A worker: it claims ready tasks of a board, runs each, and sends what it leaves, until all is quiet.
+//! A worker (`work`, `work_logged`): it claims ready tasks of any `Board`, runs each and sends its items, until all is
+//! quiet. A `Gate` is passed before each body; `Always` is the one that never waits.
 #![tactic(auto)]
 
 mod claiming;
@@ -6,10 +7,12 @@ mod ending;
 mod gate;
 mod log;
 mod next;
+mod patience;
 mod post;
 mod running;
 mod scans;
 mod sending;
+mod sleeping;
 mod stealing;
 mod worker;
 

@@ -19,7 +19,7 @@ pub(crate) trait Log {
     /// One more claim can be noted.
     ghost has_room: { Self → Type 0 };
 
-    /// Takes room for one more claim. A log that keeps nothing needs none.
+    /// Makes room for one more claim. A log that keeps nothing needs none.
     fn make_room(&mut self) -> Result<(), OutOfMemory>
         ensures room { OnOk result (has_room self.new) }
         ensures same { entries self.new ≡ entries self.old }

@@ -6,10 +6,11 @@ ghost use Rattle.work_board.specs.Records.{IsStill};
 ghost use Rattle.worker_core.specs.Claiming.{HasGot, IsQuietAfter, SearchAnswers};
 
 use crate::claiming::{Found, claim_id, scan};
+use crate::patience::Patience;
 use crate::post::Post;
 use crate::scans::Scans;
+use crate::sleeping::{sleep, wake_all};
 use crate::stealing::take_id;
-use crossbeam_utils::Backoff;
 use ptg_base::OutOfMemory;
 use ready_deques::Hands;
 use std::sync::Wait;
@@ -27,8 +28,8 @@ pub(crate) enum Search {
     Nothing,
 }
 
-// Whether all is quiet.
-fn see_quiet<R: Threads + Wait + Sync, B: Board, G>(
+// Looks for quiet: Quiet or Nothing.
+pub(crate) fn see_quiet<R: Threads + Wait + Sync, B: Board, G>(
     post: &Post<R, B, G>,
     pass: &mut B::Pass,
 ) -> Search
@@ -43,12 +44,14 @@ fn see_quiet<R: Threads + Wait + Sync, B: Board, G>(
     Search::Nothing
 }
 
-// Looks for a task once: among the worker's own ids, then those of others, then in the next shard if a scan is due.
+// Looks for a task once: among the worker's own ids, then those of other workers, then in the next shard if a scan is
+// due. An id whose task is gone starts the patience anew, since the look did find something.
 fn look_once<R: Threads + Wait + Sync, B: Board, G>(
     post: &Post<R, B, G>,
     pass: &mut B::Pass,
     hands: &mut Hands,
     scans: &mut Scans,
+    patience: &mut Patience,
 ) -> Search
     requires pass { B.is_pass post.now.board.now pass.old }
     requires idle { (B.shown pass.old).running ≡ [] }
@@ -60,7 +63,10 @@ fn look_once<R: Threads + Wait + Sync, B: Board, G>(
     if let Some(id) = take_id(post.rt, hands) {
         return match claim_id(post, pass, id) {
             Some(found) => Search::Task(found),
-            None => Search::Nothing,
+            None => {
+                *patience = Patience::new();
+                Search::Nothing
+            }
         };
     }
     if !scans.is_due(post.board.shards()) {
@@ -72,18 +78,51 @@ fn look_once<R: Threads + Wait + Sync, B: Board, G>(
     }
 }
 
-// How often a worker pauses at most between two looks.
-const MOST_PAUSES: u32 = 64;
-
-// Pauses this often. How often to pause after the next look that finds nothing: twice as often, up to a bound.
-fn rest(backoff: &Backoff, times: u32) -> u32 {
-    for _ in 0..times {
-        backoff.snooze();
+// Pauses after a look that found nothing. If the patience is over and the board has a place to sleep, it sleeps there.
+fn rest<R: Threads + Wait + Sync, B: Board, G>(
+    post: &Post<R, B, G>,
+    pass: &mut B::Pass,
+    patience: &mut Patience,
+) -> Search
+    requires pass { B.is_pass post.now.board.now pass.old }
+    requires idle { (B.shown pass.old).running ≡ [] }
+    ensures pass { B.is_pass post.now.board.now pass.new }
+    ensures looked { SearchAnswers (B.plan post.now.board.now) (B.job_data post.now.board.now) result (B.shown pass.old)
+        (B.shown pass.new) }
+{
+    if patience.is_over() {
+        if let Some(events) = post.board.events() {
+            *patience = Patience::new();
+            return sleep(post, pass, events);
+        }
     }
-    times.saturating_mul(2).min(MOST_PAUSES)
+    patience.pause();
+    Search::Nothing
 }
 
-// The next task, which is claimed; none where all is quiet. Want of memory where the board is halted.
+// Looks for a task once, and rests if it finds none.
+fn look_or_rest<R: Threads + Wait + Sync, B: Board, G>(
+    post: &Post<R, B, G>,
+    pass: &mut B::Pass,
+    hands: &mut Hands,
+    scans: &mut Scans,
+    patience: &mut Patience,
+) -> Search
+    requires pass { B.is_pass post.now.board.now pass.old }
+    requires idle { (B.shown pass.old).running ≡ [] }
+    ensures pass { B.is_pass post.now.board.now pass.new }
+    ensures hands { SameWorker hands.old hands.new }
+    ensures looked { SearchAnswers (B.plan post.now.board.now) (B.job_data post.now.board.now) result (B.shown pass.old)
+        (B.shown pass.new) }
+{
+    match look_once(post, pass, hands, scans, patience) {
+        Search::Task(found) => Search::Task(found),
+        Search::Quiet => Search::Quiet,
+        Search::Nothing => rest(post, pass, patience),
+    }
+}
+
+// Claims the next task; None if all is quiet. Out of memory if the board is halted.
 pub(crate) fn next_task<R: Threads + Wait + Sync, B: Board, G>(
     post: &Post<R, B, G>,
     pass: &mut B::Pass,
@@ -101,16 +140,18 @@ pub(crate) fn next_task<R: Threads + Wait + Sync, B: Board, G>(
     ensures still { OnErr result (IsStill (B.shown pass.old) (B.shown pass.new)) }
     ensures halted { OnErr result (B.preloaded post.now.board.now ≡ false) }
 {
-    let backoff = Backoff::new();
-    let mut pauses = 1;
+    let mut patience = Patience::new();
     for _ in post.rt.forever() {
         if post.board.halted(pass) {
             return Err(OutOfMemory);
         }
-        match look_once(post, pass, hands, scans) {
+        match look_or_rest(post, pass, hands, scans, &mut patience) {
             Search::Task(found) => return Ok(Some(found)),
-            Search::Quiet => return Ok(None),
-            Search::Nothing => pauses = rest(&backoff, pauses),
+            Search::Quiet => {
+                wake_all(post.board);
+                return Ok(None);
+            }
+            Search::Nothing => {}
         }
     }
     unreachable!()

@@ -1,8 +1,8 @@
-//! Where a worker works.
+//! What a worker's calls share, and a claimed task with its locals.
 
 use ptg_base::TaskId;
 
-// A worker's number, the board and the gate that it shares with others, and the runtime that it waits with.
+// A worker's number, the board and the gate that it shares with other workers, and the runtime that it waits with.
 #[derive(Drop)]
 pub(crate) struct Post<'a, R, B, G> {
     pub(crate) rt: &'a R,

@@ -1,4 +1,4 @@
-//! One claimed task, from the gate to its end.
+//! The run of one claimed task, from the gate to its end.
 
 ghost use Rattle.std.specs.Prelude.{◌≡◌, false, Err, Some, OnOk, OnErr, IfErr};
 ghost use Rattle.dep_iter.specs.Tasks.{IsTask, locals_of};
@@ -51,7 +51,7 @@ fn run_body<R: Threads + Wait + Sync, B: Board, G: Gate>(
     bench.run(&start, arrivals)
 }
 
-// Sends what the task on the bench leaves, takes it off the bench, and ends it.
+// Sends the items of the task on the bench, clears the bench, and ends the task.
 fn send_and_end<R: Threads + Wait + Sync, B: Board, G>(
     post: &Post<R, B, G>,
     pass: &mut B::Pass,
@@ -99,8 +99,8 @@ fn note_trap<R: Threads + Wait + Sync, B: Board, G>(
     trap_one(post, pass, at.task, cause)
 }
 
-// Runs a claimed task after the gate: its body, then its sends and its end, or its trap. The bench is cleared whatever
-// comes.
+// Passes the gate and runs a claimed task: its body, then its sends and its end, or its trap. In any case the bench is
+// cleared.
 pub(crate) fn run_found<R: Threads + Wait + Sync, B: Board, G: Gate>(
     post: &Post<R, B, G>,
     pass: &mut B::Pass,

@@ -1,13 +1,13 @@
 //! When a worker scans, and which shard.
 
-// How many looks that found no id there are for each scan, once every shard was scanned in vain.
+// Once every shard was scanned in vain, one look in this many scans a shard. Only looks that found no id count.
 const LOOKS_BETWEEN_SCANS: u32 = 16;
 
-// Which shard a worker scans next, and whether it scans at all: while scans find tasks, it does at each look, and else
-// seldom, so that it leaves the turns to those who work.
+// Which shard a worker scans next, and whether it scans at all. While scans find tasks, it scans at each look that
+// found no id. Otherwise it scans rarely, to leave the turns to the workers that have work.
 #[derive(Drop)]
 pub(crate) struct Scans {
-    // The shard that is scanned next.
+    // The shard to scan next.
     pub(crate) next: u32,
     // How many scans have found nothing since the last one that found a task.
     pub(crate) missed: u32,

@@ -1,4 +1,4 @@
-//! Sends of what a task leaves.
+//! Sends of the items of a task.
 
 ghost use Rattle.std.specs.Prelude.{◌≡◌, ◌∷◌, [], false, OnOk, OnErr};
 ghost use Rattle.std.specs.Option.{option_copied};
@@ -12,6 +12,7 @@ ghost use Rattle.work_board.specs.Sends.{AddsSend, IsNext, MayEnd};
 ghost use Rattle.worker_core.specs.Sending.{HasSentAll, HasSentSome, MaySendAll, RunsUnsent, edge_items, write_items};
 
 use crate::post::{ClaimedTask, Post};
+use crate::sleeping::wake_one;
 use crossbeam_utils::Backoff;
 use dep_iter::{out_edges_under, write_backs_under};
 use ptg_base::{Edge, Item, OutOfMemory, Tile, WriteBack};
@@ -21,7 +22,7 @@ use std::thread::Threads;
 use task_run::Bench;
 use work_board::{Board, Sent};
 
-// Sends an item, however long its turn takes. Whether its edge was the last that its target waited for.
+// Sends an item, and waits for its turn as long as that takes. Returns whether it was an edge that fired its target.
 fn send_one<R: Threads + Wait + Sync, B: Board, G>(
     post: &Post<R, B, G>,
     pass: &mut B::Pass,
@@ -47,16 +48,21 @@ fn send_one<R: Threads + Wait + Sync, B: Board, G>(
     unreachable!()
 }
 
-// Pushes the target of an edge that fired. An id that does not fit is dropped.
-fn push_target(hands: &mut Hands, item: &Item)
+// Pushes the target of an edge that fired. An id that does not fit is dropped. If the worker kept an id already, it
+// wakes a sleeping worker, which may find one of the two.
+fn push_target<B: Board>(board: &B, hands: &mut Hands, item: &Item)
     ensures { SameWorker hands.old hands.new }
 {
     if let Item::Edge(edge) = item {
+        let second = hands.keeps_id();
         let _dropped = hands.push(edge.to.copy());
+        if second {
+            wake_one(board);
+        }
     }
 }
 
-// Sends an edge. A target that fires is the worker's newest id; one that does not fit is found by a scan.
+// Sends an edge. A target that fires becomes the worker's newest id; a scan finds one that does not fit.
 fn send_edge<R: Threads + Wait + Sync, B: Board, G>(
     post: &Post<R, B, G>,
     pass: &mut B::Pass,
@@ -80,7 +86,7 @@ fn send_edge<R: Threads + Wait + Sync, B: Board, G>(
     let tile = bench.tile(edge.out_flow);
     let item = Item::Edge(edge);
     if send_one(post, pass, &item, tile)? {
-        push_target(hands, &item);
+        push_target(post.board, hands, &item);
     }
     Ok(())
 }

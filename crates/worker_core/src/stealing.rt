@@ -8,7 +8,7 @@ use ready_deques::{Hands, Stolen};
 use std::sync::Wait;
 use std::thread::Threads;
 
-// Steals from the first of these workers, but for this one, that has an id.
+// Steals from the first of the workers `first..end`, except this one, that has an id.
 fn steal_among<R: Threads + Wait + Sync>(
     rt: &R,
     hands: &mut Hands,
@@ -29,7 +29,7 @@ fn steal_among<R: Threads + Wait + Sync>(
     None
 }
 
-// The worker's own newest id, else the oldest of the next worker in order of number that has one.
+// The worker's own newest id or, if it has none, the oldest id of the next worker by number that has one.
 pub(crate) fn take_id<R: Threads + Wait + Sync>(rt: &R, hands: &mut Hands) -> Option<TaskId>
     ensures { SameWorker hands.old hands.new }
 {

@@ -25,11 +25,11 @@ use work_board::Board;
 /// What a worker did.
 #[derive(Clone, Copy, Debug, PartialEq, Eq)]
 pub struct Worked {
-    /// How many tasks it claimed and ran.
+    /// The number of tasks that it claimed and ran.
     pub ran: u64,
 }
 
-// Claims the next task, and notes it in the log. None where all is quiet.
+// Claims the next task and notes it in the log. None if all is quiet.
 fn claim_next<R: Threads + Wait + Sync, B: Board, G, L: Log>(
     post: &Post<R, B, G>,
     pass: &mut B::Pass,
@@ -93,7 +93,7 @@ fn run_all<R: Threads + Wait + Sync, B: Board, G: Gate, L: Log>(
     unreachable!()
 }
 
-// Claims and runs tasks until all is quiet; where memory is wanted, halts the board.
+// Claims and runs tasks until all is quiet. If it is refused memory, it halts the board.
 fn work_with<R: Threads + Wait + Sync, B: Board, G: Gate, L: Log>(
     post: &Post<R, B, G>,
     pass: &mut B::Pass,
@@ -125,9 +125,9 @@ fn work_with<R: Threads + Wait + Sync, B: Board, G: Gate, L: Log>(
     }
 }
 
-/// Works at a board until all is quiet: takes the next ready task, of its own, of another worker or of a shard, runs it
-/// after the gate, and sends its items, or notes its trap. Ok only where the pass has seen quiet and runs nothing. With
-/// want of memory the board is halted; at a preloaded board it does not come. It may wait.
+/// Works at a board until all is quiet. It takes the next ready task (its own, another worker's or one of a shard),
+/// passes the gate, runs the task, and sends its items or notes its trap. Ok only if the pass has seen quiet and runs
+/// nothing. If it is out of memory, the board is halted; at a preloaded board that does not happen. It may wait.
 pub fn work<R: Threads + Wait + Sync, B: Board, G: Gate>(
     rt: &R,
     worker: u32,
@@ -160,8 +160,8 @@ pub fn work<R: Threads + Wait + Sync, B: Board, G: Gate>(
     work_with(&post, pass, hands, bench, &mut NoLog)
 }
 
-/// A worker works on a board that is not preloaded, with a log. It takes room in the log before each claim; afterwards,
-/// whatever the answer, the log has gained exactly the claims of the pass, each with its stamp.
+/// As `work`, at a board that is not preloaded, with a log. It makes room in the log before each claim. Whatever it
+/// returns, the log has gained exactly the claims of the pass, each with its stamp.
 pub fn work_logged<R: Threads + Wait + Sync, B: Board, G: Gate>(
     rt: &R,
     worker: u32,

@@ -1,4 +1,4 @@
-use Rattle.std.proofs.Common.{◌∙◌, flat_map, ap, map, refl, sym, subst}
+use Rattle.std.proofs.Common.{◌≡◌, ◌∙◌, ℕ, length, flat_map, ap, map, refl, sym, subst}
 use denote.Param.Send.{sendable}
 use Rattle.crossbeam_utils.specs.Padded.{padded_value}
 use Rattle.ptg_base.specs.Lists.{IsIn}
@@ -6,6 +6,8 @@ use Rattle.dep_table.specs.Closing.{AreAllPasses}
 use Rattle.dep_table.specs.StampOrders.{AreInStampOrder, joined_stamps}
 use Rattle.dep_table.specs.Tables.{id_of, job_of}
 use Rattle.dep_table.proofs.Sharing.{pass_send, table_sync}
+use Rattle.table_rule.specs.Records.{joined}
+use Rattle.run_pool.specs.Gates.{AreLetThrough}
 use Rattle.run_pool.specs.Runs.{Run}
 use Rattle.run_pool.specs.Seated.{log_on, record_on}
 use Rattle.run_pool.proofs.Closed.{closed_at, ran_job, through_gate}
@@ -61,9 +63,15 @@ returns-clause-gate g c =
     let job = job_of c.prepared.inside.table in
     let es = c.team.new.desks.items in
     let lets = g.G.Gate.lets c.args.gate.now in
-    through_gate lets _ es c.close.result.records c.in_ok-passes.ensures.passes c.close.ensures.records
-    (let_through c.prepared.inside.table job.matched job.given lets job.preloaded c.prepared.inside.desks.items es
-    c.team.ensures.count c.team.ensures.worked c.prepared.invariant.0.fresh c.in_ok-passes.ensures.done)
+    let ds = c.prepared.inside.desks.items in
+    let seated = c.prepared.invariant.0 in
+    let let_by : AreLetThrough lets (length ds) (joined (map record_on es)).state.claims =
+    let_through c.prepared.inside.table job.matched job.given lets job.preloaded ds es c.team.ensures.count
+    c.team.ensures.worked seated.fresh seated.numbered c.in_ok-passes.ensures.done in
+    through_gate lets c.args.prepared.workers _ es c.close.result.records c.in_ok-passes.ensures.passes
+    c.close.ensures.records
+    (subst (λ (n : ℕ). AreLetThrough lets n (joined (map record_on es)).state.claims)
+    (ap (λ (r : Run). r.workers) c.prepared.view_is) let_by)
 
 pub returns-clause-trace : goal.returns-clause-trace
 returns-clause-trace g c =

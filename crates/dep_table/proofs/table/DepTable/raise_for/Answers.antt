@@ -6,7 +6,7 @@ use Rattle.table_rule.specs.Seats.{seated}
 use Rattle.dep_table.specs.Sending.{credited}
 use Rattle.dep_table.proofs.table.DepTable.raise_for.Goals as goal
 
--- only where the target fires there is a credit
+-- there is a credit only if the target fires
 no_credit : (a : Sent) (v : PassRecord) → (a ≡ answer.Waits) ⊎ ((a ≡ answer.Kept) ⊎ (a ≡ answer.Busy)) → v ≡ credited a v
 no_credit answer.Waits v h = refl
 no_credit answer.Kept v h = refl
