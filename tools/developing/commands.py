@@ -31,6 +31,7 @@ SECTIONS = {
     "For a landing": (
         Command("check", "runs `check_docs` and the tests of the tools; with `--program` also those that need a built program"),
         Command("crates", "writes the table of crates in `docs/architecture.md`"),
+        Command("definitions", "writes the tables of `docs/definitions.md`"),
         tool("check_docs", "checks what documents say about files, and their words; runs `shellcheck` and `pyflakes3` if they are installed"),
         tool("sentences", "lists sentences of documents that have more than 30 words"),
         tool("build", "proves and builds a program; `./ptg` calls it"),
