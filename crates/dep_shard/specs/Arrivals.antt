@@ -1,6 +1,6 @@
 -- The tiles that came to a task, in flow order, by the numbers of its flows. Source: DAGuE 2012, where a task keeps the
 -- data of its dependences until it runs.
--- Carried by: `Arrivals::put`, `Arrivals::tile`, `Arrivals::take`.
+-- Carried by: `Arrivals::move_to`, `FlowTiles::take`.
 -- Tested by: `ptg_measure`.
 use Rattle.std.specs.Prelude.{ℕ, ◌+◌, ◌<◌, ◌≤◌, ℤ, not, nat_eq, nat_lt, if◌then◌else◌, List, [], ◌∷◌, filter, Option, Some, None}
 use Rattle.std.specs.Map.{lookup}

@@ -1,4 +1,5 @@
 pub mod Arrivals
+pub mod Slots
 pub mod TileList
 pub mod Stock
 pub mod Content

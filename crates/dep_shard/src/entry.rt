@@ -5,7 +5,7 @@ ghost use Rattle.ptg_base.specs.Limits.{most_flows};
 ghost use Rattle.dep_shard.specs.Content.{fresh, with_arrival, IsWaiting};
 
 use crate::arrivals::Arrivals;
-use crate::tile_list::{SpareNodes, TileList, TileWithNode};
+use crate::tile_list::{TileList, TileWithNode};
 use std::marker::Model;
 use std::mem;
 
@@ -23,11 +23,12 @@ impl Model for Entry {
     ghost use Rattle.std.specs.Prelude.{◌<◌, ◌^◌};
     ghost use Rattle.ptg_base.specs.Entry.{Entry as EntryContent};
     ghost use Rattle.dep_shard.specs.Arrivals.{in_flow_order};
+    ghost use Rattle.dep_shard.specs.Slots.{held};
 
     ghost Value = { EntryContent };
 
     ghost view = { λ e.
-        record { goal = e.goal; arrived = e.arrived; priority = e.priority; tiles = in_flow_order e.tiles } };
+        record { goal = e.goal; arrived = e.arrived; priority = e.priority; tiles = in_flow_order (held e.tiles) } };
 
     ghost invariant = { λ e. e.goal < 2 ^ 32 };
 }
@@ -58,13 +59,11 @@ impl Entry {
         }
     }
 
-    // The tiles that have come. Their nodes become free.
-    pub(crate) fn into_arrivals(self, free: &mut SpareNodes) -> Arrivals
+    // The tiles that have come, in their nodes.
+    pub(crate) fn into_arrivals(self) -> Arrivals
         ensures { result ≡ self.tiles }
     {
-        let mut arrivals = Arrivals::new();
-        self.tiles.move_to(&mut arrivals, free);
-        arrivals
+        Arrivals::of(self.tiles)
     }
 
     /// How many edges the task waits for in all.

@@ -4,6 +4,7 @@
 
 mod arrivals;
 mod entry;
+mod flow_tiles;
 mod parts;
 mod queue;
 mod shard;
@@ -13,5 +14,6 @@ mod tile_list;
 
 pub use arrivals::Arrivals;
 pub use entry::Entry;
+pub use flow_tiles::FlowTiles;
 pub use parts::{Entries, Parts};
 pub use shard::{Arrived, Shard};

@@ -387,7 +387,7 @@ impl Shard {
     {
         let (_task, entry) = self.table.swap_remove_index(index)?;
         self.running += 1;
-        Some(self.stock.arrivals_of(entry))
+        Some(entry.into_arrivals())
     }
 
     // Drops the stale candidates if most candidates are stale, so that they do not pile up until the next search.
@@ -439,6 +439,7 @@ impl Shard {
     /// Contracts see no change but spares that may grow.
     pub fn reuse(&mut self, spent: &mut Arrivals)
         ensures same { IsUnchanged self.old self.new }
+        ensures none { spent.new ≡ [] }
         ensures spare { KeepsSpares self.old.spare self.new.spare }
     {
         self.stock.keep_all(spent);

@@ -1,13 +1,12 @@
 //! Reserved tiles of each type, and nodes to hold them in entries.
-ghost use Rattle.std.specs.Prelude.{◌≡◌, ◌+◌, ◌<◌, ◌≤◌, ℕ, Some, None, IsOk, IsSome, IfOk, IfSome, OnOk, OnErr, is_some, if◌then◌else◌, length, slice_index, vec_len};
+ghost use Rattle.std.specs.Prelude.{◌≡◌, ◌+◌, ◌<◌, ◌≤◌, ℕ, [], Some, None, IsOk, IsSome, IfOk, IfSome, OnOk, OnErr, is_some, if◌then◌else◌, length, slice_index, vec_len};
 ghost use Rattle.std.specs.Option.{option_copied, option_map};
 ghost use Rattle.dep_shard.specs.Content.{IsTileOf};
 ghost use Rattle.dep_shard.specs.Stock.{UsesTile};
 
 use crate::arrivals::Arrivals;
-use crate::entry::Entry;
-use crate::tile_list::{MOST_FREE_NODES, SpareNodes, TileNode, TileWithNode};
-use ptg_base::{MOST_FLOWS, MOST_IN_PLACE, OutOfMemory, Tile};
+use crate::tile_list::{SpareNodes, TileNode, TileWithNode};
+use ptg_base::{MOST_IN_PLACE, OutOfMemory, Tile};
 use std::alloc::Global;
 use std::marker::Model;
 use tile_pool::TilePool;
@@ -15,6 +14,9 @@ use tile_pool::TilePool;
 // A shard keeps tiles of one type for later copies up to this many numbers (1 MiB), besides those that were reserved.
 // Further ones are freed.
 const MOST_KEPT: u64 = 1 << 17;
+
+// A shard keeps at most this many nodes that hold nothing. Further ones are freed.
+const MOST_FREE_NODES: usize = 1 << 16;
 
 // The reserved tiles of one type, and as many nodes. A write-back uses a tile alone.
 #[derive(Drop)]
@@ -145,7 +147,7 @@ fn take_node(
     }
     match nodes.pop() {
         Some(node) => Ok(node),
-        None => Ok(Box::new(alloc, TileNode::Spare)?),
+        None => Ok(Box::new(alloc, TileNode::new())?),
     }
 }
 
@@ -156,7 +158,7 @@ fn make_nodes(nodes: &mut SpareNodes, alloc: Global, n: usize) -> Result<(), Out
     ensures succeeds { n ≤ vec_len nodes.old → IsOk result }
 {
     for _i in nodes.len()..n {
-        nodes.push(Box::new(alloc, TileNode::Spare)?)?;
+        nodes.push(Box::new(alloc, TileNode::new())?)?;
     }
     Ok(())
 }
@@ -278,7 +280,7 @@ impl Stock {
     }
 
     // Keeps a tile that nothing needs any more for a later copy, if a type has room for it.
-    fn keep(&mut self, tile: Tile)
+    pub(crate) fn keep(&mut self, tile: Tile)
         ensures elems { self.new.elems ≡ self.old.elems }
         ensures spare { UsesTile self.old.spare self.new.spare None }
     {
@@ -287,15 +289,21 @@ impl Stock {
         }
     }
 
-    // Keeps all of these tiles that there is room for.
+    // Keeps all of these tiles and their nodes that there is room for.
     pub(crate) fn keep_all(&mut self, spent: &mut Arrivals)
         ensures elems { self.new.elems ≡ self.old.elems }
         ensures spare { UsesTile self.old.spare self.new.spare None }
+        ensures none { spent.new ≡ [] }
     {
-        for flow in 0..MOST_FLOWS as u8 {
-            if let Some(tile) = spent.take(flow) {
-                self.keep(tile);
-            }
+        spent.take_list().give_to(self);
+    }
+
+    // Keeps a node that holds nothing, up to the bound.
+    pub(crate) fn keep_node(&mut self, node: Box<TileNode>)
+        ensures { self.new ≡ self.old }
+    {
+        if self.free.len() < MOST_FREE_NODES {
+            let _kept = self.free.push(node);
         }
     }
 
@@ -307,14 +315,6 @@ impl Stock {
     {
         let stock = &mut self.types[k];
         stock.keep(tile);
-    }
-
-    // The tiles of an entry. Their nodes are free from then on.
-    pub(crate) fn arrivals_of(&mut self, entry: Entry) -> Arrivals
-        ensures tiles { result ≡ entry.tiles }
-        ensures same { self.new ≡ self.old }
-    {
-        entry.into_arrivals(&mut self.free)
     }
 
     // A copy of a tile of this type and a node to hold it, if there is a tile.

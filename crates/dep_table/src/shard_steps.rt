@@ -36,5 +36,4 @@ pub(crate) fn end_task(shard: &mut Shard, spent: &mut Arrivals)
 {
     shard.end();
     shard.reuse(spent);
-    *spent = Arrivals::new();
 }

@@ -11,10 +11,11 @@ ghost use Rattle.dep_shard.specs.declared.shard.Arrived.TheVariants.{Fired};
 ghost use Rattle.dep_shard.specs.Content.{IsReady, IsTileOf, IsWaiting, KeepsAllButEntries, KeepsSpares, Updates, Uses, entry_of};
 ghost use Rattle.shard_meaning.specs.Share.{entry_after, entry_found};
 
-use dep_iter::{Matched, flows_of, locals_of, priority_under};
+use dep_iter::{Matched, TaskAt, flows_of, priority_under};
 use dep_shard::{Arrived, Shard};
 use goal_count::goal_under;
 use ptg_base::{Edge, OutOfMemory, TaskId, Tile};
+use range_space::Numbers;
 
 // The number of the type of the tiles of a flow.
 pub(crate) fn type_of_flow(m: &Matched, t: &TaskId, flow: u8) -> u32
@@ -52,9 +53,10 @@ fn arrive_first(
     ensures succeeds { 0 < shard.old.spare.entries
         → (IsSome tile.entry → 0 < slice_index shard.old.spare.tiles datatype) → IsOk result }
 {
-    let locals = locals_of(m.plan(), &edge.to);
-    let goal = goal_under(m, &edge.to, locals.as_slice());
-    let priority = priority_under(m.plan(), &edge.to, locals.as_slice());
+    let mut room = Numbers::new();
+    let at = TaskAt::of(m.plan(), &edge.to, &mut room);
+    let goal = goal_under(m, &edge.to, at.locals);
+    let priority = priority_under(m.plan(), &edge.to, at.locals);
     shard.arrive_first(edge, goal, priority, datatype, tile)
 }
 

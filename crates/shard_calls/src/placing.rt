@@ -8,9 +8,10 @@ ghost use Rattle.shard_meaning.specs.Placing as placing;
 ghost use Rattle.shard_meaning.specs.Placing.{home_of, shard_of};
 ghost use Rattle.shard_calls.specs.Opened.{placement_by};
 
-use dep_iter::{Matched, affinity_under, locals_of, place_number};
+use dep_iter::{Matched, TaskAt, affinity_under, place_number};
 use plan_core::Plan;
 use ptg_base::TaskId;
+use range_space::Numbers;
 use term_core::{Expr, is_closed};
 
 // What tasks are shared out to.
@@ -99,8 +100,9 @@ pub fn home_at(m: &Matched, shards: usize, t: &TaskId) -> usize
     ensures number { result ≡ home_of m.now shards t.now }
     ensures within { result < shards }
 {
-    let locals = locals_of(m.plan(), t);
-    home_under(m, shards, t, locals.as_slice())
+    let mut room = Numbers::new();
+    let at = TaskAt::of(m.plan(), t, &mut room);
+    home_under(m, shards, t, at.locals)
 }
 
 /// The shard of a task with these locals, among `shards` shards.

@@ -14,11 +14,12 @@ use crate::pools::Pools;
 use crate::start::{Start, next_tile};
 use body_eval::{Scratch, run_body};
 use dep_iter::{Matched, flows_of};
-use dep_shard::Arrivals;
+use dep_shard::{Arrivals, FlowTiles};
 use plan_core::FlowPlan;
 use ptg_base::{MOST_FLOWS, OutOfMemory, Tile};
 use std::alloc::Global;
 use std::marker::Model;
+use std::mem;
 use term_core::Trap;
 
 /// Where one worker runs tasks, one after another. It has a place for the tile of each flow, eight tiles of each type
@@ -28,6 +29,8 @@ pub struct Bench {
     scratch: Scratch,
     pools: Pools,
     tiles: [Option<Tile>; MOST_FLOWS],
+    // The nodes of the tiles that came with the task.
+    nodes: Arrivals,
 }
 
 impl Model for Bench {
@@ -51,6 +54,7 @@ impl Bench {
             scratch: Scratch::new(),
             pools: Pools::new(alloc, m.plan())?,
             tiles: [None, None, None, None, None, None, None, None],
+            nodes: Arrivals::new(),
         })
     }
 
@@ -62,7 +66,7 @@ impl Bench {
     }
 
     // Lays the tile of the next flow of a task on the bench: the one that arrived, or else one from its source.
-    fn lay(&mut self, start: &Start, flow: &FlowPlan, arrivals: &mut Arrivals)
+    fn lay(&mut self, start: &Start, flow: &FlowPlan, arrivals: &mut FlowTiles)
         requires start { IsStart start.now.plan.now start.now.given.now start.now.task.now start.now.locals.now }
         requires elems { self.old.elems ≡ start.now.plan.now.elems }
         requires room { length self.old.tiles < most_flows }
@@ -86,7 +90,7 @@ impl Bench {
     }
 
     // Lays the tiles of all flows of a task on the bench.
-    fn lay_all(&mut self, start: &Start, arrivals: &mut Arrivals)
+    fn lay_all(&mut self, start: &Start, arrivals: &mut FlowTiles)
         requires start { IsStart start.now.plan.now start.now.given.now start.now.task.now start.now.locals.now }
         requires bench { IsBenchOf start.now.plan.now self.old }
         requires inputs { arrivals.old ≡ inputs start.now.plan.now start.now.given.now start.now.task.now }
@@ -136,8 +140,10 @@ impl Bench {
         ensures trap { IfErr result (λ cause.
             ended start.now.plan.now start.now.given.now start.now.task.now ≡ Some (Err cause)) }
     {
-        let mut arrivals = arrivals;
-        self.lay_all(start, &mut arrivals);
+        self.nodes = arrivals;
+        let mut tiles = FlowTiles::new();
+        self.nodes.move_to(&mut tiles);
+        self.lay_all(start, &mut tiles);
         self.run_laid(start)
     }
 
@@ -151,7 +157,7 @@ impl Bench {
         self.tiles[flow as usize].as_ref()
     }
 
-    // Clears the place of the last flow of the task on the bench. A tile that came to it by an edge goes to `spent`.
+    // Clears the place of the last flow of the task on the bench. `spent` takes a tile along that came to it by an edge.
     fn clear_last(&mut self, spent: &mut Arrivals)
         requires { 0 < length self.old.tiles }
         ensures elems { self.new.elems ≡ self.old.elems }
@@ -160,7 +166,7 @@ impl Bench {
         let last = self.pools.flows() - 1;
         let tile = self.tiles[last].take();
         if let Some(tile) = self.pools.take_back(tile) {
-            spent.put(last as u8, tile);
+            spent.take_along(tile);
         }
     }
 
@@ -170,7 +176,7 @@ impl Bench {
         ensures elems { self.new.elems ≡ self.old.elems }
         ensures idle { self.new.tiles ≡ [] }
     {
-        let mut spent = Arrivals::new();
+        let mut spent = mem::replace(&mut self.nodes, Arrivals::new());
         for _flow in 0..self.flows() {
             self.clear_last(&mut spent);
         }

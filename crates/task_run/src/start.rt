@@ -15,7 +15,7 @@ ghost use Rattle.flow_meaning.specs.Starting.{nothing_delivered};
 use crate::pools::Pools;
 use coll_data::Given;
 use dep_iter::{Source, TaskAt};
-use dep_shard::Arrivals;
+use dep_shard::FlowTiles;
 use plan_core::{FlowPlan, Plan};
 use plan_data::opening_tile;
 use ptg_base::{Place, TaskId, Tile};
@@ -118,7 +118,7 @@ pub(crate) fn next_tile(
     pools: &mut Pools,
     start: &Start,
     flow: &FlowPlan,
-    arrivals: &mut Arrivals,
+    arrivals: &mut FlowTiles,
 ) -> Option<Tile>
     requires start { IsStart start.now.plan.now start.now.given.now start.now.task.now start.now.locals.now }
     requires elems { pools.old.elems ≡ start.now.plan.now.elems }

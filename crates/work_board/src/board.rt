@@ -75,7 +75,7 @@ pub trait Board: Sync {
     /// Where workers sleep that find nothing to do; None if they may not sleep. Before it sleeps, a worker announces
     /// its sleep and then looks at all shards that can be scanned. So a board on which some shards can't be scanned
     /// returns None. Whoever makes a task ready and leaves it to others, or halts the board, must notify after that
-    /// step. No clause speaks of this.
+    /// step. Whoever ends a task must then look for quiet and, if it sees it, wake all. No clause speaks of this.
     fn events(&self) -> Option<&EventCount>;
 
     /// Claims a task. With the turn, it returns `Gone` if and only if the shard has no ready entry of the task.

@@ -1,6 +1,5 @@
 -- The items of a task, sent one after another.
-use Rattle.std.proofs.Common.{◌≡◌, ℕ, ◌+◌, ◌<◌, Bool, true, false, List, [], ◌∷◌, ◌++◌, map, refl, ap, sym, ◌∙◌, subst, append_assoc, IsTrue, inl, inr, ◌⊎◌, nat_lt, arith}
-use Rattle.std.specs.List.{filter_map}
+use Rattle.std.proofs.Common.{◌≡◌, ℕ, ◌+◌, ◌<◌, Bool, true, false, List, [], ◌∷◌, ◌++◌, map, refl, ap, sym, ◌∙◌, subst, append_assoc, IsTrue, inl, inr, nat_lt, arith}
 use Rattle.std.proofs.lemmas.Bool.Decides.{nat_tests}
 use Rattle.std.proofs.lemmas.List.{append-nil, map-append}
 use Rattle.ptg_base.specs.Lists.{HasNoRepeats, IsIn}
@@ -12,13 +11,13 @@ use Rattle.ptg_base.specs.declared.edge.Item.TheVariants as item
 use Rattle.plan_core.specs.declared.plan.Plan.{Plan}
 use Rattle.coll_data.specs.Data.{Data}
 use Rattle.dep_iter.specs.Tasks.{IsTask}
-use Rattle.dep_iter.specs.Items.{edge_of, items, out_edges, write_backs, write_of}
+use Rattle.dep_iter.specs.Items.{edges_then_writes, items, out_edges, write_backs}
 use Rattle.dep_iter.specs.Consistent.{IsConsistent}
-use Rattle.dep_iter.proofs.Items.{Edge-injective, Write-injective, edge_item, item_edge, item_write, write_item}
+use Rattle.dep_iter.proofs.Items.{Edge-injective, Write-injective, items-in_order}
 use Rattle.dep_iter.proofs.Once.{once-out_edges, once-write_backs}
-use Rattle.list_lemmas.proofs.Members.{IsIn-append_right, IsIn-map, from_map}
+use Rattle.list_lemmas.proofs.Members.{IsIn-append_right, from_map}
 use Rattle.list_lemmas.proofs.Counts.{weigh-append}
-use Rattle.list_lemmas.proofs.Distinct.{HasNoRepeats-apart, HasNoRepeats-map}
+use Rattle.list_lemmas.proofs.Distinct.{HasNoRepeats-apart, HasNoRepeats-append, HasNoRepeats-map}
 use Rattle.list_lemmas.specs.Counting.{as_number, count, weigh}
 use Rattle.flow_meaning.specs.Comparing.{same_item}
 use Rattle.flow_meaning.specs.Ending.{has_outputs}
@@ -32,13 +31,6 @@ use Rattle.work_board.specs.Records.{done_by}
 use Rattle.work_board.specs.Sends.{IsNext, MayEnd}
 use Rattle.worker_core.specs.Sending.{HasSentAll, MaySendAll, RunsUnsent}
 use Rattle.worker_core.proofs.Steps.{kept_then}
-
--- edges and write-backs as items
-abbrev pub as_edges : List Edge → List Item
-as_edges es = map (λ (e : Edge). item.Edge e) es
-
-abbrev pub as_writes : List WriteBack → List Item
-as_writes ws = map (λ (w : WriteBack). item.Write w) ws
 
 -- an item occurs 0 times in a list that lacks it, and more often in one that has it
 not_among : (i : Item) (js : List Item) → (IsIn i js → ⊥) → count (same_item i) js ≡ 0
@@ -129,68 +121,53 @@ module _ (P : Plan) (G : Data) where
         tile = refl;
       }
 
--- an item that is an edge of a list is one of the items; likewise a write-back
-edge_item_of : (is : List Item) (i : Item) → IsIn i (as_edges (filter_map edge_of is)) → IsIn i is
-edge_item_of is i h =
-    let p = from_map (λ (e : Edge). item.Edge e) (filter_map edge_of is) i h in
-    subst (λ j. IsIn j is) (sym p.2) (edge_item is p.0 p.1)
-
-write_item_of : (is : List Item) (i : Item) → IsIn i (as_writes (filter_map write_of is)) → IsIn i is
-write_item_of is i h =
-    let p = from_map (λ (w : WriteBack). item.Write w) (filter_map write_of is) i h in
-    subst (λ j. IsIn j is) (sym p.2) (write_item is p.0 p.1)
-
-no_write_among : (es : List Edge) (w : WriteBack) → IsIn (item.Write w) (as_edges es) → ⊥
-no_write_among es w h =
-    let p = from_map (λ (e : Edge). item.Edge e) es (item.Write w) h in
+-- an edge is no write-back
+apart : (es : List Edge) (ws : List WriteBack) (i : Item) → IsIn i (map (λ (e : Edge). item.Edge e) es)
+    → IsIn i (map (λ (w : WriteBack). item.Write w) ws) → ⊥
+apart es ws (item.Edge e) edge write =
+    let w = from_map (λ (w : WriteBack). item.Write w) ws (item.Edge e) write in
+    absurd cc
+apart es ws (item.Write w) edge write =
+    let e = from_map (λ (e : Edge). item.Edge e) es (item.Write w) edge in
     absurd cc
 
+positive : (n : ℕ) → 0 < n → nat_lt 0 n ≡ true
+positive n h = grind (arith, nat_tests)
+
 module _ (P : Plan) (G : Data) (con : IsConsistent P) (t : Task) (job : IsTask P t) where
-  -- the edges may be sent first, and then the write-backs
-  pub edges_may : (v : PassRecord) → IsTrue (has_outputs (ended P G t)) → RunsUnsent P t v → MaySendAll P G t (as_edges (out_edges P t)) v
-  edges_may v outputs runs = record {
+  -- what a task sends has no repeats
+  once : HasNoRepeats (edges_then_writes P t)
+  once =
+      HasNoRepeats-append (map (λ (e : Edge). item.Edge e) (out_edges P t))
+      (map (λ (w : WriteBack). item.Write w) (write_backs P t))
+      (HasNoRepeats-map (λ (e : Edge). item.Edge e) (out_edges P t) (once-out_edges P con t job) Edge-injective)
+      (HasNoRepeats-map (λ (w : WriteBack). item.Write w) (write_backs P t) (once-write_backs P con t job)
+      Write-injective) (apart (out_edges P t) (write_backs P t))
+
+  -- the items may be sent one after another
+  pub may_send : (v : PassRecord) → IsTrue (has_outputs (ended P G t)) → RunsUnsent P t v
+      → MaySendAll P G t (edges_then_writes P t) v
+  may_send v outputs runs = record {
     runs = runs.runs;
     outputs = outputs;
-    are_items = λ i h. edge_item_of (items P t) i h;
-    once = HasNoRepeats-map (λ (e : Edge). item.Edge e) (out_edges P t) (once-out_edges P con t job) Edge-injective;
-    unsent = λ i h. runs.unsent i (edge_item_of (items P t) i h);
+    are_items = λ i h. (items-in_order P t i).1 h;
+    once = once;
+    unsent = λ i h. runs.unsent i ((items-in_order P t i).1 h);
   }
 
-  pub writes_may : (v w : PassRecord) → IsTrue (has_outputs (ended P G t)) → RunsUnsent P t v → HasSentAll P G (as_edges (out_edges P t)) v w → MaySendAll P G t (as_writes (write_backs P t)) w
-  writes_may v w outputs runs sent = record {
+  -- then all were sent
+  pub may_end : (v w : PassRecord) → IsTrue (has_outputs (ended P G t)) → RunsUnsent P t v
+      → HasSentAll P G (edges_then_writes P t) v w → MayEnd P G t w
+  may_end v w outputs runs sent = record {
     runs = sent.running ∙ runs.runs;
     outputs = outputs;
-    are_items = λ i h. write_item_of (items P t) i h;
-    once = HasNoRepeats-map (λ (w : WriteBack). item.Write w) (write_backs P t) (once-write_backs P con t job) Write-injective;
-    unsent = λ i h.
-        let q = from_map (λ (w : WriteBack). item.Write w) (write_backs P t) i h in
-        let none = not_among i (as_edges (out_edges P t)) (λ k. no_write_among (out_edges P t) q.0 (subst (λ j. IsIn j (as_edges (out_edges P t))) q.2 k)) in
-        let counts = count_after P G (as_edges (out_edges P t)) v w i sent in
-        let unsent = runs.unsent i (write_item_of (items P t) i h) in
-        counts ∙ omega (arith, none, unsent);
-  }
-
-  -- then all items were sent
-  to_edge : (i : Item) → IsIn i (items P t) → IsIn i (as_edges (out_edges P t)) ⊎ IsIn i (as_writes (write_backs P t))
-  to_edge (item.Edge e) h = inl (IsIn-map (λ (d : Edge). item.Edge d) (out_edges P t) e (item_edge (items P t) e h))
-  to_edge (item.Write w) h = inr (IsIn-map (λ (u : WriteBack). item.Write u) (write_backs P t) w (item_write (items P t) w h))
-
-  positive : (n : ℕ) → 0 < n → nat_lt 0 n ≡ true
-  positive n h = grind (arith, nat_tests)
-
-  pub may_end : (v w x : PassRecord) → IsTrue (has_outputs (ended P G t)) → RunsUnsent P t v → HasSentAll P G (as_edges (out_edges P t)) v w → HasSentAll P G (as_writes (write_backs P t)) w x → MayEnd P G t x
-  may_end v w x outputs runs edges writes = record {
-    runs = writes.running ∙ edges.running ∙ runs.runs;
-    outputs = outputs;
     sent = λ i h.
-        let first = count_after P G (as_edges (out_edges P t)) v w i edges in
-        let second = count_after P G (as_writes (write_backs P t)) w x i writes in
-        positive (send_count (done_by x) i) (elim (to_edge i h) [
-          | inl k ↦
-              let some = is_among i (as_edges (out_edges P t)) k in
-              omega (arith, first, second, some)
-          | inr k ↦
-              let some = is_among i (as_writes (write_backs P t)) k in
-              omega (arith, first, second, some)
-        ]);
+        let counts = count_after P G (edges_then_writes P t) v w i sent in
+        let some = is_among i (edges_then_writes P t) ((items-in_order P t i).0 h) in
+        positive (send_count (done_by w) i) (omega (arith, counts, some));
   }
+
+  -- all that were sent are all
+  pub all_sent : (all : List Item) (v w : PassRecord) → IsSentSoFar P G all [] v w → HasSentAll P G all v w
+  all_sent all v w far =
+      subst (λ l. HasSentAll P G l v w) (sym (append-nil far.before) ∙ sym far.split) far.sent

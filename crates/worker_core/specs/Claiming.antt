@@ -1,5 +1,5 @@
 -- What a worker has after a search for a task.
-use Rattle.std.specs.Prelude.{◌≡◌, ℕ, List, [], ◌∷◌, ◌++◌, Bool, true}
+use Rattle.std.specs.Prelude.{◌≡◌, ℕ, List, [], ◌∷◌, ◌++◌, Bool, true, false}
 use Rattle.ptg_base.specs.Task.{Task}
 use Rattle.plan_core.specs.declared.plan.Plan.{Plan}
 use Rattle.coll_data.specs.Data.{Data}
@@ -8,8 +8,8 @@ use Rattle.work_board.specs.declared.record.PassRecord.{PassRecord}
 use Rattle.work_board.specs.Records.{IsStill, KeepsDone}
 use Rattle.work_board.specs.Claims.{AddsClaim, MayStart}
 use Rattle.worker_core.specs.declared.claiming.Found.{Found}
-use Rattle.worker_core.specs.declared.next.Search.{Search}
-use Rattle.worker_core.specs.declared.next.Search.TheVariants as search
+use Rattle.worker_core.specs.declared.claiming.Search.{Search}
+use Rattle.worker_core.specs.declared.claiming.Search.TheVariants as search
 
 -- The pass claimed this task, which may start on these tiles, and these are its locals.
 pub record HasGot (P : Plan) (G : Data) (f : Found) (v w : PassRecord) : Type 0 where
@@ -24,14 +24,26 @@ pub record IsQuietAfter (v w : PassRecord) : Type 0 where
   pub running : w.running ≡ v.running
   pub done : KeepsDone v w
 
--- what the result of one search for a task says
-abbrev pub SearchAnswers : Plan → Data → Search → PassRecord → PassRecord → Type 0
-SearchAnswers P G (search.Task f) v w = HasGot P G f v w
-SearchAnswers P G search.Quiet v w = IsQuietAfter v w
-SearchAnswers P G search.Nothing v w = IsStill v w
+-- what the result of one search for a task says, with the place for it
+abbrev pub SearchAnswers : Plan → Data → Search → Found → PassRecord → PassRecord → Type 0
+SearchAnswers P G search.Task f v w = HasGot P G f v w
+SearchAnswers P G search.Quiet f v w = IsQuietAfter v w
+SearchAnswers P G search.Nothing f v w = IsStill v w
+
+-- The pass claimed the task that is in the place for it; with false, it has seen quiet.
+abbrev pub GotOrQuiet : Plan → Data → Bool → Found → PassRecord → PassRecord → Type 0
+GotOrQuiet P G true f v w = HasGot P G f v w
+GotOrQuiet P G false f v w = IsQuietAfter v w
 
 -- The pass claimed the found task. If the log keeps what is noted, it has gained the claim with its stamp.
 pub record HasGotLogged (P : Plan) (G : Data) (keeps : Bool) (f : Found)
     (v w : PassRecord) (old new : List (ℕ × Task)) : Type 0 where
   pub got : HasGot P G f v w
   pub noted : keeps ≡ true → new ≡ old ++ (got.added.stamp, f.task) ∷ []
+
+-- The pass claimed the task that is in the place for it, and the log has gained the claim; with false, the pass has
+-- seen quiet, and the log is the same.
+abbrev pub GotLoggedOrQuiet : Plan → Data → Bool → Bool → Found → PassRecord → PassRecord
+    → List (ℕ × Task) → List (ℕ × Task) → Type 0
+GotLoggedOrQuiet P G keeps true f v w old new = HasGotLogged P G keeps f v w old new
+GotLoggedOrQuiet P G keeps false f v w old new = IsQuietAfter v w × (new ≡ old)

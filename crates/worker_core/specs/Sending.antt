@@ -3,13 +3,10 @@
 use Rattle.std.specs.Prelude.{◌≡◌, List, [], ◌∷◌, ◌++◌, map, IsTrue}
 use Rattle.ptg_base.specs.Lists.{HasNoRepeats, IsIn}
 use Rattle.ptg_base.specs.Task.{Task}
-use Rattle.ptg_base.specs.declared.edge.Edge.{Edge}
-use Rattle.ptg_base.specs.declared.edge.WriteBack.{WriteBack}
 use Rattle.ptg_base.specs.declared.edge.Item.{Item}
-use Rattle.ptg_base.specs.declared.edge.Item.TheVariants as item
 use Rattle.plan_core.specs.declared.plan.Plan.{Plan}
 use Rattle.coll_data.specs.Data.{Data}
-use Rattle.dep_iter.specs.Items.{items, out_edges, write_backs}
+use Rattle.dep_iter.specs.Items.{items}
 use Rattle.dep_iter.specs.Consistent.{IsConsistent}
 use Rattle.flow_meaning.specs.Ending.{has_outputs}
 use Rattle.flow_meaning.specs.Backward.{ended}
@@ -17,14 +14,6 @@ use Rattle.flow_meaning.specs.Machine.{SentItem, send_count}
 use Rattle.flow_meaning.specs.Sound.{with_its_tile}
 use Rattle.work_board.specs.declared.record.PassRecord.{PassRecord}
 use Rattle.work_board.specs.Records.{KeepsNamesAndMarks, done_by}
-
--- The edges out of a task, as items.
-abbrev pub edge_items : Plan → Task → List Item
-edge_items P t = map (λ (e : Edge). item.Edge e) (out_edges P t)
-
--- The write-backs of a task, as items.
-abbrev pub write_items : Plan → Task → List Item
-write_items P t = map (λ (w : WriteBack). item.Write w) (write_backs P t)
 
 -- The pass sent these items, each with the tile that its task leaves. Nothing else changes but the looks and the shard
 -- taken last.

@@ -1,11 +1,11 @@
 //! Claims of tasks.
 
-ghost use Rattle.std.specs.Prelude.{◌≡◌, [], MatchOption, IfNone, IfSome};
+ghost use Rattle.std.specs.Prelude.{◌≡◌, [], IfNone, IfSome};
 ghost use Rattle.dep_iter.specs.Tasks as tasks;
 ghost use Rattle.dep_iter.specs.Tasks.{IsTask};
 ghost use Rattle.work_board.specs.Claims.{AddsClaim, MayStart};
 ghost use Rattle.work_board.specs.Records.{IsStill};
-ghost use Rattle.worker_core.specs.Claiming.{HasGot};
+ghost use Rattle.worker_core.specs.Claiming.{SearchAnswers};
 
 use crate::post::Post;
 use crate::scans::Scans;
@@ -18,12 +18,35 @@ use std::sync::Wait;
 use std::thread::Threads;
 use work_board::{Board, Claim, Scan};
 
-// A claimed task with its locals, and the tiles that came to it.
+// A claimed task with its locals, and the tiles that came to it. A worker has one, which each search fills, so that
+// nothing large is moved from call to call.
 #[derive(Drop)]
 pub(crate) struct Found {
     pub(crate) task: TaskId,
     pub(crate) locals: Numbers<MOST_LOCALS>,
     pub(crate) arrivals: Arrivals,
+}
+
+// What one search for a task found.
+#[derive(Clone, Copy, Debug, PartialEq, Eq)]
+pub(crate) enum Search {
+    // A task, which is claimed: the place for it is filled.
+    Task,
+    // All is quiet.
+    Quiet,
+    // No task yet.
+    Nothing,
+}
+
+impl Found {
+    // A place for a claimed task, before the first search.
+    pub(crate) fn new() -> Found {
+        Found {
+            task: TaskId::new(0, &[]),
+            locals: Numbers::new(),
+            arrivals: Arrivals::new(),
+        }
+    }
 }
 
 // Claims a task of the job, and waits for its turn as long as that takes. None if the task is gone.
@@ -57,21 +80,24 @@ pub(crate) fn claim_id<R: Threads + Wait + Sync, B: Board, G>(
     post: &Post<R, B, G>,
     pass: &mut B::Pass,
     id: TaskId,
-) -> Option<Found>
+    found: &mut Found,
+) -> Search
     requires pass { B.is_pass post.now.board.now pass.old }
     requires idle { (B.shown pass.old).running ≡ [] }
     ensures pass { B.is_pass post.now.board.now pass.new }
-    ensures found { MatchOption result (IsStill (B.shown pass.old) (B.shown pass.new)) (λ f.
-        HasGot (B.plan post.now.board.now) (B.job_data post.now.board.now) f (B.shown pass.old) (B.shown pass.new)) }
+    ensures looked { SearchAnswers (B.plan post.now.board.now) (B.job_data post.now.board.now) result found.new
+        (B.shown pass.old) (B.shown pass.new) }
 {
-    let plan = post.board.matched().plan();
-    let locals = task_locals(plan, &id)?;
-    let arrivals = claim(post, pass, &id)?;
-    Some(Found {
-        task: id,
-        locals,
-        arrivals,
-    })
+    let Some(locals) = task_locals(post.board.matched().plan(), &id) else {
+        return Search::Nothing;
+    };
+    let Some(arrivals) = claim(post, pass, &id) else {
+        return Search::Nothing;
+    };
+    found.task = id;
+    found.locals = locals;
+    found.arrivals = arrivals;
+    Search::Task
 }
 
 // Claims the best ready task of the next shard, if one is ready and the shard's turn is free. A shard stays the next
@@ -80,16 +106,17 @@ pub(crate) fn scan<R: Threads + Wait + Sync, B: Board, G>(
     post: &Post<R, B, G>,
     pass: &mut B::Pass,
     scans: &mut Scans,
-) -> Option<Found>
+    found: &mut Found,
+) -> Search
     requires pass { B.is_pass post.now.board.now pass.old }
     requires idle { (B.shown pass.old).running ≡ [] }
     ensures pass { B.is_pass post.now.board.now pass.new }
-    ensures found { MatchOption result (IsStill (B.shown pass.old) (B.shown pass.new)) (λ f.
-        HasGot (B.plan post.now.board.now) (B.job_data post.now.board.now) f (B.shown pass.old) (B.shown pass.new)) }
+    ensures looked { SearchAnswers (B.plan post.now.board.now) (B.job_data post.now.board.now) result found.new
+        (B.shown pass.old) (B.shown pass.new) }
 {
     let shards = post.board.shards();
     if shards == 0 {
-        return None;
+        return Search::Nothing;
     }
     if scans.next >= shards {
         scans.next = 0;
@@ -97,12 +124,13 @@ pub(crate) fn scan<R: Threads + Wait + Sync, B: Board, G>(
     match post.board.try_scan(pass, scans.next) {
         Scan::Got(task, arrivals) => {
             scans.missed = 0;
-            Some(with_locals(post, task, arrivals))
+            fill(post, found, task, arrivals);
+            Search::Task
         }
         Scan::Empty | Scan::Busy => {
             scans.next += 1;
             scans.missed = scans.missed.saturating_add(1);
-            None
+            Search::Nothing
         }
     }
 }
@@ -113,39 +141,41 @@ pub(crate) fn scan_all<R: Threads + Wait + Sync, B: Board, G>(
     post: &Post<R, B, G>,
     pass: &mut B::Pass,
     calm: &mut bool,
-) -> Option<Found>
+    found: &mut Found,
+) -> Search
     requires pass { B.is_pass post.now.board.now pass.old }
     requires idle { (B.shown pass.old).running ≡ [] }
     ensures pass { B.is_pass post.now.board.now pass.new }
-    ensures found { MatchOption result (IsStill (B.shown pass.old) (B.shown pass.new)) (λ f.
-        HasGot (B.plan post.now.board.now) (B.job_data post.now.board.now) f (B.shown pass.old) (B.shown pass.new)) }
+    ensures looked { SearchAnswers (B.plan post.now.board.now) (B.job_data post.now.board.now) result found.new
+        (B.shown pass.old) (B.shown pass.new) }
 {
     let shards = post.board.shards();
     for shard in 0..shards {
         match post.board.try_scan(pass, shard) {
-            Scan::Got(task, arrivals) => return Some(with_locals(post, task, arrivals)),
+            Scan::Got(task, arrivals) => {
+                fill(post, found, task, arrivals);
+                return Search::Task;
+            }
             Scan::Empty => {}
             Scan::Busy => *calm = false,
         }
     }
-    None
+    Search::Nothing
 }
 
-// A claimed task with its locals.
-fn with_locals<R: Threads + Wait + Sync, B: Board, G>(
+// Fills the place for a claimed task.
+fn fill<R: Threads + Wait + Sync, B: Board, G>(
     post: &Post<R, B, G>,
+    found: &mut Found,
     task: TaskId,
     arrivals: Arrivals,
-) -> Found
+)
     requires { IsTask (B.plan post.now.board.now) task }
-    ensures task { result.task ≡ task }
-    ensures locals { result.locals ≡ tasks.locals_of (B.plan post.now.board.now) task }
-    ensures arrivals { result.arrivals ≡ arrivals }
+    ensures task { found.new.task ≡ task }
+    ensures locals { found.new.locals ≡ tasks.locals_of (B.plan post.now.board.now) task }
+    ensures arrivals { found.new.arrivals ≡ arrivals }
 {
-    let locals = locals_of(post.board.matched().plan(), &task);
-    Found {
-        task,
-        locals,
-        arrivals,
-    }
+    found.locals = locals_of(post.board.matched().plan(), &task);
+    found.task = task;
+    found.arrivals = arrivals;
 }

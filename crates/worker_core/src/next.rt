@@ -1,11 +1,12 @@
 //! The next task of a worker.
 
-ghost use Rattle.std.specs.Prelude.{◌≡◌, [], false, OnErr, IfOk, MatchOption};
+ghost use Rattle.std.specs.Prelude.{◌≡◌, [], false, OnErr, IfOk};
 ghost use Rattle.ready_deques.specs.Hands.{SameWorker};
 ghost use Rattle.work_board.specs.Records.{IsStill};
-ghost use Rattle.worker_core.specs.Claiming.{HasGot, IsQuietAfter, SearchAnswers};
+ghost use Rattle.worker_core.specs.Claiming.{GotOrQuiet, SearchAnswers};
+ghost use Rattle.worker_core.specs.declared.claiming.Found.{Found as FoundTask};
 
-use crate::claiming::{Found, claim_id, scan};
+use crate::claiming::{Found, Search, claim_id, scan};
 use crate::patience::Patience;
 use crate::post::Post;
 use crate::scans::Scans;
@@ -17,17 +18,6 @@ use std::sync::Wait;
 use std::thread::Threads;
 use work_board::Board;
 
-// What one search for a task found.
-#[derive(Drop)]
-pub(crate) enum Search {
-    // A task, which is claimed.
-    Task(Found),
-    // All is quiet.
-    Quiet,
-    // No task yet.
-    Nothing,
-}
-
 // Looks for quiet: Quiet or Nothing.
 pub(crate) fn see_quiet<R: Threads + Wait + Sync, B: Board, G>(
     post: &Post<R, B, G>,
@@ -35,8 +25,8 @@ pub(crate) fn see_quiet<R: Threads + Wait + Sync, B: Board, G>(
 ) -> Search
     requires { B.is_pass post.now.board.now pass.old }
     ensures pass { B.is_pass post.now.board.now pass.new }
-    ensures looked { SearchAnswers (B.plan post.now.board.now) (B.job_data post.now.board.now) result (B.shown pass.old)
-        (B.shown pass.new) }
+    ensures looked { (f : FoundTask) → SearchAnswers (B.plan post.now.board.now) (B.job_data post.now.board.now) result f
+        (B.shown pass.old) (B.shown pass.new) }
 {
     if post.board.see_quiet(pass) {
         return Search::Quiet;
@@ -52,29 +42,26 @@ fn look_once<R: Threads + Wait + Sync, B: Board, G>(
     hands: &mut Hands,
     scans: &mut Scans,
     patience: &mut Patience,
+    found: &mut Found,
 ) -> Search
     requires pass { B.is_pass post.now.board.now pass.old }
     requires idle { (B.shown pass.old).running ≡ [] }
     ensures pass { B.is_pass post.now.board.now pass.new }
     ensures hands { SameWorker hands.old hands.new }
-    ensures looked { SearchAnswers (B.plan post.now.board.now) (B.job_data post.now.board.now) result (B.shown pass.old)
-        (B.shown pass.new) }
+    ensures looked { SearchAnswers (B.plan post.now.board.now) (B.job_data post.now.board.now) result found.new
+        (B.shown pass.old) (B.shown pass.new) }
 {
     if let Some(id) = take_id(post.rt, hands) {
-        return match claim_id(post, pass, id) {
-            Some(found) => Search::Task(found),
-            None => {
-                *patience = Patience::new();
-                Search::Nothing
-            }
-        };
+        *patience = Patience::new();
+        return claim_id(post, pass, id, found);
     }
     if !scans.is_due(post.board.shards()) {
         return see_quiet(post, pass);
     }
-    match scan(post, pass, scans) {
-        Some(found) => Search::Task(found),
-        None => see_quiet(post, pass),
+    match scan(post, pass, scans, found) {
+        Search::Task => Search::Task,
+        Search::Quiet => Search::Quiet,
+        Search::Nothing => see_quiet(post, pass),
     }
 }
 
@@ -83,17 +70,18 @@ fn rest<R: Threads + Wait + Sync, B: Board, G>(
     post: &Post<R, B, G>,
     pass: &mut B::Pass,
     patience: &mut Patience,
+    found: &mut Found,
 ) -> Search
     requires pass { B.is_pass post.now.board.now pass.old }
     requires idle { (B.shown pass.old).running ≡ [] }
     ensures pass { B.is_pass post.now.board.now pass.new }
-    ensures looked { SearchAnswers (B.plan post.now.board.now) (B.job_data post.now.board.now) result (B.shown pass.old)
-        (B.shown pass.new) }
+    ensures looked { SearchAnswers (B.plan post.now.board.now) (B.job_data post.now.board.now) result found.new
+        (B.shown pass.old) (B.shown pass.new) }
 {
     if patience.is_over() {
         if let Some(events) = post.board.events() {
             *patience = Patience::new();
-            return sleep(post, pass, events);
+            return sleep(post, pass, events, found);
         }
     }
     patience.pause();
@@ -107,36 +95,37 @@ fn look_or_rest<R: Threads + Wait + Sync, B: Board, G>(
     hands: &mut Hands,
     scans: &mut Scans,
     patience: &mut Patience,
+    found: &mut Found,
 ) -> Search
     requires pass { B.is_pass post.now.board.now pass.old }
     requires idle { (B.shown pass.old).running ≡ [] }
     ensures pass { B.is_pass post.now.board.now pass.new }
     ensures hands { SameWorker hands.old hands.new }
-    ensures looked { SearchAnswers (B.plan post.now.board.now) (B.job_data post.now.board.now) result (B.shown pass.old)
-        (B.shown pass.new) }
+    ensures looked { SearchAnswers (B.plan post.now.board.now) (B.job_data post.now.board.now) result found.new
+        (B.shown pass.old) (B.shown pass.new) }
 {
-    match look_once(post, pass, hands, scans, patience) {
-        Search::Task(found) => Search::Task(found),
+    match look_once(post, pass, hands, scans, patience, found) {
+        Search::Task => Search::Task,
         Search::Quiet => Search::Quiet,
-        Search::Nothing => rest(post, pass, patience),
+        Search::Nothing => rest(post, pass, patience, found),
     }
 }
 
-// Claims the next task; None if all is quiet. Out of memory if the board is halted.
+// Claims the next task, and fills the place for it; false if all is quiet. Out of memory if the board is halted.
 pub(crate) fn next_task<R: Threads + Wait + Sync, B: Board, G>(
     post: &Post<R, B, G>,
     pass: &mut B::Pass,
     hands: &mut Hands,
     scans: &mut Scans,
-) -> Result<Option<Found>, OutOfMemory>
+    found: &mut Found,
+) -> Result<bool, OutOfMemory>
     requires pass { B.is_pass post.now.board.now pass.old }
     requires idle { (B.shown pass.old).running ≡ [] }
     ensures pass { B.is_pass post.now.board.now pass.new }
     ensures hands { SameWorker hands.old hands.new }
-    ensures found { IfOk result (λ found.
-        MatchOption found (IsQuietAfter (B.shown pass.old) (B.shown pass.new)) (λ f.
-        HasGot (B.plan post.now.board.now) (B.job_data post.now.board.now) f (B.shown pass.old)
-        (B.shown pass.new))) }
+    ensures found { IfOk result (λ got.
+        GotOrQuiet (B.plan post.now.board.now) (B.job_data post.now.board.now) got found.new (B.shown pass.old)
+        (B.shown pass.new)) }
     ensures still { OnErr result (IsStill (B.shown pass.old) (B.shown pass.new)) }
     ensures halted { OnErr result (B.preloaded post.now.board.now ≡ false) }
 {
@@ -145,11 +134,11 @@ pub(crate) fn next_task<R: Threads + Wait + Sync, B: Board, G>(
         if post.board.halted(pass) {
             return Err(OutOfMemory);
         }
-        match look_or_rest(post, pass, hands, scans, &mut patience) {
-            Search::Task(found) => return Ok(Some(found)),
+        match look_or_rest(post, pass, hands, scans, &mut patience, found) {
+            Search::Task => return Ok(true),
             Search::Quiet => {
                 wake_all(post.board);
-                return Ok(None);
+                return Ok(false);
             }
             Search::Nothing => {}
         }

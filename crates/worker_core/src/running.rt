@@ -1,7 +1,6 @@
 //! The run of one claimed task, from the gate to its end.
 
 ghost use Rattle.std.specs.Prelude.{◌≡◌, false, Err, Some, OnOk, OnErr, IfErr};
-ghost use Rattle.dep_iter.specs.Tasks.{IsTask, locals_of};
 ghost use Rattle.flow_meaning.specs.Backward.{ended, MayRun};
 ghost use Rattle.ready_deques.specs.Hands.{SameWorker};
 ghost use Rattle.task_run.specs.Bench.{HoldsOutputs, IsBenchOf};
@@ -13,11 +12,13 @@ ghost use Rattle.worker_core.specs.Working.{HasRun};
 use crate::claiming::Found;
 use crate::ending::{end_one, trap_one};
 use crate::gate::Gate;
-use crate::post::{ClaimedTask, Post};
+use crate::post::Post;
 use crate::sending::send_all;
+use dep_iter::TaskAt;
 use dep_shard::Arrivals;
 use ptg_base::OutOfMemory;
 use ready_deques::Hands;
+use std::mem;
 use std::sync::Wait;
 use std::thread::Threads;
 use task_run::{Bench, Start};
@@ -28,13 +29,12 @@ use work_board::Board;
 fn run_body<R: Threads + Wait + Sync, B: Board, G: Gate>(
     post: &Post<R, B, G>,
     bench: &mut Bench,
-    at: &ClaimedTask,
+    at: &TaskAt,
     arrivals: Arrivals,
 ) -> Result<(), Trap>
     requires gate { G.lets post.now.gate.now post.now.worker at.now.task.now }
     requires bench { IsBenchOf (B.plan post.now.board.now) bench.old }
-    requires task { IsTask (B.plan post.now.board.now) at.now.task.now }
-    requires locals { at.now.locals.now ≡ locals_of (B.plan post.now.board.now) at.now.task.now }
+    requires plan { at.now.plan.now ≡ B.plan post.now.board.now }
     requires inputs { MayRun (B.plan post.now.board.now) (B.job_data post.now.board.now) at.now.task.now arrivals }
     ensures elems { bench.new.elems ≡ bench.old.elems }
     ensures ok { OnOk result
@@ -57,11 +57,10 @@ fn send_and_end<R: Threads + Wait + Sync, B: Board, G>(
     pass: &mut B::Pass,
     hands: &mut Hands,
     bench: &mut Bench,
-    at: &ClaimedTask,
+    at: &TaskAt,
 ) -> Result<(), OutOfMemory>
     requires pass { B.is_pass post.now.board.now pass.old }
-    requires task { IsTask (B.plan post.now.board.now) at.now.task.now }
-    requires locals { at.now.locals.now ≡ locals_of (B.plan post.now.board.now) at.now.task.now }
+    requires plan { at.now.plan.now ≡ B.plan post.now.board.now }
     requires tiles { HoldsOutputs (B.plan post.now.board.now) (B.job_data post.now.board.now) at.now.task.now
         bench.old }
     requires unsent { RunsUnsent (B.plan post.now.board.now) at.now.task.now (B.shown pass.old) }
@@ -83,7 +82,7 @@ fn send_and_end<R: Threads + Wait + Sync, B: Board, G>(
 fn note_trap<R: Threads + Wait + Sync, B: Board, G>(
     post: &Post<R, B, G>,
     pass: &mut B::Pass,
-    at: &ClaimedTask,
+    at: &TaskAt,
     cause: Trap,
 ) -> Result<(), OutOfMemory>
     requires pass { B.is_pass post.now.board.now pass.old }
@@ -100,38 +99,36 @@ fn note_trap<R: Threads + Wait + Sync, B: Board, G>(
 }
 
 // Passes the gate and runs a claimed task: its body, then its sends and its end, or its trap. In any case the bench is
-// cleared.
+// cleared. The tiles that came to the task go to the bench.
 pub(crate) fn run_found<R: Threads + Wait + Sync, B: Board, G: Gate>(
     post: &Post<R, B, G>,
     pass: &mut B::Pass,
     hands: &mut Hands,
     bench: &mut Bench,
-    found: Found,
+    found: &mut Found,
 ) -> Result<(), OutOfMemory>
     requires pass { B.is_pass post.now.board.now pass.old }
     requires bench { IsBenchOf (B.plan post.now.board.now) bench.old }
-    requires started { HasStarted (B.plan post.now.board.now) (B.job_data post.now.board.now) found (B.shown pass.old) }
+    requires started { HasStarted (B.plan post.now.board.now) (B.job_data post.now.board.now) found.old
+        (B.shown pass.old) }
     ensures pass { B.is_pass post.now.board.now pass.new }
     ensures hands { SameWorker hands.old hands.new }
     ensures bench { IsBenchOf (B.plan post.now.board.now) bench.new }
-    ensures gate { G.lets post.now.gate.now post.now.worker found.task }
+    ensures gate { G.lets post.now.gate.now post.now.worker found.old.task }
     ensures some { HasSentSome (B.shown pass.old) (B.shown pass.new) }
     ensures run { OnOk result
-        (HasRun (B.plan post.now.board.now) (B.job_data post.now.board.now) found.task (B.shown pass.old)
+        (HasRun (B.plan post.now.board.now) (B.job_data post.now.board.now) found.old.task (B.shown pass.old)
         (B.shown pass.new)) }
     ensures err { OnErr result (B.preloaded post.now.board.now ≡ false) }
 {
-    let Found {
-        task,
-        locals,
-        arrivals,
-    } = found;
-    let at = ClaimedTask {
-        task: &task,
-        locals: locals.as_slice(),
+    let arrivals = mem::replace(&mut found.arrivals, Arrivals::new());
+    let at = TaskAt {
+        plan: post.board.matched().plan(),
+        task: &found.task,
+        locals: found.locals.as_slice(),
     };
     post.board.matched().plan_is_consistent();
-    post.gate.before_body(post.rt, post.worker, &task);
+    post.gate.before_body(post.rt, post.worker, &found.task);
     let answer = match run_body(post, bench, &at, arrivals) {
         Ok(()) => send_and_end(post, pass, hands, bench, &at),
         Err(cause) => note_trap(post, pass, &at, cause),

@@ -1,21 +1,22 @@
 //! Sends of the items of a task.
 
-ghost use Rattle.std.specs.Prelude.{◌≡◌, ◌∷◌, [], false, OnOk, OnErr};
+ghost use Rattle.std.specs.Prelude.{◌≡◌, ◌∷◌, [], false, Ok, Some, OnOk, OnErr};
 ghost use Rattle.std.specs.Option.{option_copied};
-ghost use Rattle.ptg_base.specs.declared.edge.Item.TheVariants as item;
-ghost use Rattle.dep_iter.specs.Tasks.{IsTask, locals_of};
 ghost use Rattle.ready_deques.specs.Hands.{SameWorker};
+ghost use Rattle.dep_iter.specs.Items.{item_flow};
+ghost use Rattle.flow_meaning.specs.Ending.{output_tile};
+ghost use Rattle.flow_meaning.specs.Machine.{sender};
 ghost use Rattle.flow_meaning.specs.Sound.{with_its_tile};
 ghost use Rattle.task_run.specs.Bench.{HoldsOutputs};
 ghost use Rattle.work_board.specs.Records.{IsStill};
 ghost use Rattle.work_board.specs.Sends.{AddsSend, IsNext, MayEnd};
-ghost use Rattle.worker_core.specs.Sending.{HasSentAll, HasSentSome, MaySendAll, RunsUnsent, edge_items, write_items};
+ghost use Rattle.worker_core.specs.Sending.{HasSentAll, HasSentSome, RunsUnsent};
 
-use crate::post::{ClaimedTask, Post};
+use crate::post::Post;
 use crate::sleeping::wake_one;
 use crossbeam_utils::Backoff;
-use dep_iter::{out_edges_under, write_backs_under};
-use ptg_base::{Edge, Item, OutOfMemory, Tile, WriteBack};
+use dep_iter::TaskAt;
+use ptg_base::{Item, OutOfMemory, Tile};
 use ready_deques::Hands;
 use std::sync::Wait;
 use std::thread::Threads;
@@ -62,126 +63,56 @@ fn push_target<B: Board>(board: &B, hands: &mut Hands, item: &Item)
     }
 }
 
-// Sends an edge. A target that fires becomes the worker's newest id; a scan finds one that does not fit.
-fn send_edge<R: Threads + Wait + Sync, B: Board, G>(
+// The tile of the flow by which an item leaves the task on the bench.
+fn tile_for<'a>(bench: &'a Bench, item: &Item) -> Option<&'a Tile>
+    ensures { option_copied result ≡ output_tile (Some (Ok bench.now.tiles)) (item_flow item.now) }
+{
+    match item {
+        Item::Edge(edge) => bench.tile(edge.out_flow),
+        Item::Write(write) => bench.tile(write.flow),
+    }
+}
+
+// Sends an item of the task on the bench. A target that fires becomes the worker's newest id; a scan finds one that
+// does not fit.
+fn send_item<R: Threads + Wait + Sync, B: Board, G>(
     post: &Post<R, B, G>,
     pass: &mut B::Pass,
     hands: &mut Hands,
     bench: &Bench,
-    edge: Edge,
+    item: &Item,
 ) -> Result<(), OutOfMemory>
     requires pass { B.is_pass post.now.board.now pass.old }
-    requires tiles { HoldsOutputs (B.plan post.now.board.now) (B.job_data post.now.board.now) edge.from bench.now }
-    requires next { IsNext (B.plan post.now.board.now) (B.job_data post.now.board.now) (item.Edge edge)
-        (with_its_tile (B.plan post.now.board.now) (B.job_data post.now.board.now) (item.Edge edge)).tile
+    requires tiles { HoldsOutputs (B.plan post.now.board.now) (B.job_data post.now.board.now) (sender item.now)
+        bench.now }
+    requires next { IsNext (B.plan post.now.board.now) (B.job_data post.now.board.now) item.now
+        (with_its_tile (B.plan post.now.board.now) (B.job_data post.now.board.now) item.now).tile
         (B.shown pass.old) }
     ensures pass { B.is_pass post.now.board.now pass.new }
     ensures hands { SameWorker hands.old hands.new }
     ensures sent { OnOk result
-        (HasSentAll (B.plan post.now.board.now) (B.job_data post.now.board.now) (item.Edge edge ∷ []) (B.shown pass.old)
+        (HasSentAll (B.plan post.now.board.now) (B.job_data post.now.board.now) (item.now ∷ []) (B.shown pass.old)
         (B.shown pass.new)) }
     ensures still { OnErr result (IsStill (B.shown pass.old) (B.shown pass.new)) }
     ensures err { OnErr result (B.preloaded post.now.board.now ≡ false) }
 {
-    let tile = bench.tile(edge.out_flow);
-    let item = Item::Edge(edge);
-    if send_one(post, pass, &item, tile)? {
-        push_target(post.board, hands, &item);
+    let tile = tile_for(bench, item);
+    if send_one(post, pass, item, tile)? {
+        push_target(post.board, hands, item);
     }
     Ok(())
 }
 
-// Sends the edges out of a task.
-fn send_edges<R: Threads + Wait + Sync, B: Board, G>(
-    post: &Post<R, B, G>,
-    pass: &mut B::Pass,
-    hands: &mut Hands,
-    bench: &Bench,
-    at: &ClaimedTask,
-) -> Result<(), OutOfMemory>
-    requires pass { B.is_pass post.now.board.now pass.old }
-    requires task { IsTask (B.plan post.now.board.now) at.now.task.now }
-    requires locals { at.now.locals.now ≡ locals_of (B.plan post.now.board.now) at.now.task.now }
-    requires tiles { HoldsOutputs (B.plan post.now.board.now) (B.job_data post.now.board.now) at.now.task.now
-        bench.now }
-    requires edges { MaySendAll (B.plan post.now.board.now) (B.job_data post.now.board.now) at.now.task.now
-        (edge_items (B.plan post.now.board.now) at.now.task.now) (B.shown pass.old) }
-    ensures pass { B.is_pass post.now.board.now pass.new }
-    ensures hands { SameWorker hands.old hands.new }
-    ensures sent { OnOk result
-        (HasSentAll (B.plan post.now.board.now) (B.job_data post.now.board.now)
-        (edge_items (B.plan post.now.board.now) at.now.task.now) (B.shown pass.old) (B.shown pass.new)) }
-    ensures some { OnErr result (HasSentSome (B.shown pass.old) (B.shown pass.new)) }
-    ensures err { OnErr result (B.preloaded post.now.board.now ≡ false) }
-{
-    for edge in out_edges_under(post.board.matched().plan(), at.task, at.locals) {
-        send_edge(post, pass, hands, bench, edge)?;
-    }
-    Ok(())
-}
-
-// Sends a write-back.
-fn send_write<R: Threads + Wait + Sync, B: Board, G>(
-    post: &Post<R, B, G>,
-    pass: &mut B::Pass,
-    bench: &Bench,
-    write: WriteBack,
-) -> Result<(), OutOfMemory>
-    requires pass { B.is_pass post.now.board.now pass.old }
-    requires tiles { HoldsOutputs (B.plan post.now.board.now) (B.job_data post.now.board.now) write.from bench.now }
-    requires next { IsNext (B.plan post.now.board.now) (B.job_data post.now.board.now) (item.Write write)
-        (with_its_tile (B.plan post.now.board.now) (B.job_data post.now.board.now) (item.Write write)).tile
-        (B.shown pass.old) }
-    ensures pass { B.is_pass post.now.board.now pass.new }
-    ensures sent { OnOk result
-        (HasSentAll (B.plan post.now.board.now) (B.job_data post.now.board.now) (item.Write write ∷ [])
-        (B.shown pass.old) (B.shown pass.new)) }
-    ensures still { OnErr result (IsStill (B.shown pass.old) (B.shown pass.new)) }
-    ensures err { OnErr result (B.preloaded post.now.board.now ≡ false) }
-{
-    let tile = bench.tile(write.flow);
-    let _fired = send_one(post, pass, &Item::Write(write), tile)?;
-    Ok(())
-}
-
-// Sends the write-backs of a task.
-fn send_writes<R: Threads + Wait + Sync, B: Board, G>(
-    post: &Post<R, B, G>,
-    pass: &mut B::Pass,
-    bench: &Bench,
-    at: &ClaimedTask,
-) -> Result<(), OutOfMemory>
-    requires pass { B.is_pass post.now.board.now pass.old }
-    requires task { IsTask (B.plan post.now.board.now) at.now.task.now }
-    requires locals { at.now.locals.now ≡ locals_of (B.plan post.now.board.now) at.now.task.now }
-    requires tiles { HoldsOutputs (B.plan post.now.board.now) (B.job_data post.now.board.now) at.now.task.now
-        bench.now }
-    requires writes { MaySendAll (B.plan post.now.board.now) (B.job_data post.now.board.now) at.now.task.now
-        (write_items (B.plan post.now.board.now) at.now.task.now) (B.shown pass.old) }
-    ensures pass { B.is_pass post.now.board.now pass.new }
-    ensures sent { OnOk result
-        (HasSentAll (B.plan post.now.board.now) (B.job_data post.now.board.now)
-        (write_items (B.plan post.now.board.now) at.now.task.now) (B.shown pass.old) (B.shown pass.new)) }
-    ensures some { OnErr result (HasSentSome (B.shown pass.old) (B.shown pass.new)) }
-    ensures err { OnErr result (B.preloaded post.now.board.now ≡ false) }
-{
-    for write in write_backs_under(post.board.matched().plan(), at.task, at.locals) {
-        send_write(post, pass, bench, write)?;
-    }
-    Ok(())
-}
-
-// Sends all items of a task, each once: first its edges, then its write-backs.
+// Sends all items of a task, each once: its edges before its write-backs.
 pub(crate) fn send_all<R: Threads + Wait + Sync, B: Board, G>(
     post: &Post<R, B, G>,
     pass: &mut B::Pass,
     hands: &mut Hands,
     bench: &Bench,
-    at: &ClaimedTask,
+    at: &TaskAt,
 ) -> Result<(), OutOfMemory>
     requires pass { B.is_pass post.now.board.now pass.old }
-    requires task { IsTask (B.plan post.now.board.now) at.now.task.now }
-    requires locals { at.now.locals.now ≡ locals_of (B.plan post.now.board.now) at.now.task.now }
+    requires plan { at.now.plan.now ≡ B.plan post.now.board.now }
     requires tiles { HoldsOutputs (B.plan post.now.board.now) (B.job_data post.now.board.now) at.now.task.now
         bench.now }
     requires unsent { RunsUnsent (B.plan post.now.board.now) at.now.task.now (B.shown pass.old) }
@@ -192,6 +123,8 @@ pub(crate) fn send_all<R: Threads + Wait + Sync, B: Board, G>(
     ensures some { HasSentSome (B.shown pass.old) (B.shown pass.new) }
     ensures err { OnErr result (B.preloaded post.now.board.now ≡ false) }
 {
-    send_edges(post, pass, hands, bench, at)?;
-    send_writes(post, pass, bench, at)
+    for item in at.items() {
+        send_item(post, pass, hands, bench, &item)?;
+    }
+    Ok(())
 }

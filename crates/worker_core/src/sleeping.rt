@@ -3,8 +3,8 @@
 ghost use Rattle.std.specs.Prelude.{◌≡◌, []};
 ghost use Rattle.worker_core.specs.Claiming.{SearchAnswers};
 
-use crate::claiming::scan_all;
-use crate::next::{Search, see_quiet};
+use crate::claiming::{Found, Search, scan_all};
+use crate::next::see_quiet;
 use crate::post::Post;
 use crossbeam_utils::sync::EventCount;
 use std::sync::Wait;
@@ -17,16 +17,18 @@ fn look_at_all<R: Threads + Wait + Sync, B: Board, G>(
     post: &Post<R, B, G>,
     pass: &mut B::Pass,
     calm: &mut bool,
+    found: &mut Found,
 ) -> Search
     requires pass { B.is_pass post.now.board.now pass.old }
     requires idle { (B.shown pass.old).running ≡ [] }
     ensures pass { B.is_pass post.now.board.now pass.new }
-    ensures looked { SearchAnswers (B.plan post.now.board.now) (B.job_data post.now.board.now) result (B.shown pass.old)
-        (B.shown pass.new) }
+    ensures looked { SearchAnswers (B.plan post.now.board.now) (B.job_data post.now.board.now) result found.new
+        (B.shown pass.old) (B.shown pass.new) }
 {
-    match scan_all(post, pass, calm) {
-        Some(found) => Search::Task(found),
-        None => see_quiet(post, pass),
+    match scan_all(post, pass, calm, found) {
+        Search::Task => Search::Task,
+        Search::Quiet => Search::Quiet,
+        Search::Nothing => see_quiet(post, pass),
     }
 }
 
@@ -36,20 +38,21 @@ pub(crate) fn sleep<R: Threads + Wait + Sync, B: Board, G>(
     post: &Post<R, B, G>,
     pass: &mut B::Pass,
     events: &EventCount,
+    found: &mut Found,
 ) -> Search
     requires pass { B.is_pass post.now.board.now pass.old }
     requires idle { (B.shown pass.old).running ≡ [] }
     ensures pass { B.is_pass post.now.board.now pass.new }
-    ensures looked { SearchAnswers (B.plan post.now.board.now) (B.job_data post.now.board.now) result (B.shown pass.old)
-        (B.shown pass.new) }
+    ensures looked { SearchAnswers (B.plan post.now.board.now) (B.job_data post.now.board.now) result found.new
+        (B.shown pass.old) (B.shown pass.new) }
 {
     let announced = events.prepare_wait();
     if post.board.halted(pass) {
         return Search::Nothing;
     }
     let mut calm = true;
-    let search = look_at_all(post, pass, &mut calm);
-    if calm && matches!(&search, Search::Nothing) {
+    let search = look_at_all(post, pass, &mut calm, found);
+    if calm && matches!(search, Search::Nothing) {
         announced.wait(post.rt);
     }
     search

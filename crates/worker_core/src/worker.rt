@@ -1,11 +1,11 @@
 //! A worker's whole work.
 
-ghost use Rattle.std.specs.Prelude.{◌≡◌, [], true, false, IsOk, IfOk, IfNone, MatchOption, OnErr, OnOk};
+ghost use Rattle.std.specs.Prelude.{◌≡◌, [], true, false, IsOk, IfOk, OnErr, OnOk};
 ghost use Rattle.ready_deques.specs.Hands.{SameWorker};
 ghost use Rattle.task_run.specs.Bench.{IsBenchOf};
 ghost use Rattle.work_board.specs.Looks.{KnowsHalted};
 ghost use Rattle.work_board.specs.Records.{IsLaterRecord, IsStill};
-ghost use Rattle.worker_core.specs.Claiming.{HasGotLogged, IsQuietAfter};
+ghost use Rattle.worker_core.specs.Claiming.{GotLoggedOrQuiet};
 ghost use Rattle.worker_core.specs.Working.{HasLogged, HasWorked};
 
 use crate::claiming::Found;
@@ -29,34 +29,34 @@ pub struct Worked {
     pub ran: u64,
 }
 
-// Claims the next task and notes it in the log. None if all is quiet.
+// Claims the next task, fills the place for it, and notes it in the log. False if all is quiet.
 fn claim_next<R: Threads + Wait + Sync, B: Board, G, L: Log>(
     post: &Post<R, B, G>,
     pass: &mut B::Pass,
     hands: &mut Hands,
     log: &mut L,
     scans: &mut Scans,
-) -> Result<Option<Found>, OutOfMemory>
+    found: &mut Found,
+) -> Result<bool, OutOfMemory>
     requires pass { B.is_pass post.now.board.now pass.old }
     requires idle { (B.shown pass.old).running ≡ [] }
     requires log { L.keeps ≡ true → B.preloaded post.now.board.now ≡ false }
     ensures pass { B.is_pass post.now.board.now pass.new }
     ensures hands { SameWorker hands.old hands.new }
-    ensures found { IfOk result (λ found.
-        MatchOption found (IsQuietAfter (B.shown pass.old) (B.shown pass.new)) (λ f.
-        HasGotLogged (B.plan post.now.board.now) (B.job_data post.now.board.now) L.keeps f (B.shown pass.old)
-        (B.shown pass.new) (L.entries log.old) (L.entries log.new))) }
-    ensures none { IfOk result (λ found. IfNone found (L.entries log.new ≡ L.entries log.old)) }
+    ensures found { IfOk result (λ got.
+        GotLoggedOrQuiet (B.plan post.now.board.now) (B.job_data post.now.board.now) L.keeps got found.new
+        (B.shown pass.old) (B.shown pass.new) (L.entries log.old) (L.entries log.new)) }
     ensures still { OnErr result
         (IsStill (B.shown pass.old) (B.shown pass.new) × (L.entries log.new ≡ L.entries log.old)) }
     ensures err { OnErr result (B.preloaded post.now.board.now ≡ false) }
 {
     log.make_room()?;
-    let Some(found) = next_task(post, pass, hands, scans)? else {
-        return Ok(None);
-    };
-    log.note(post.board.stamp(pass), &found.task);
-    Ok(Some(found))
+    let got = next_task(post, pass, hands, scans, found)?;
+    if got {
+        log.note(post.board.stamp(pass), &found.task);
+        return Ok(true);
+    }
+    Ok(false)
 }
 
 // Claims and runs tasks until all is quiet.
@@ -82,10 +82,13 @@ fn run_all<R: Threads + Wait + Sync, B: Board, G: Gate, L: Log>(
     ensures err { OnErr result (B.preloaded post.now.board.now ≡ false) }
 {
     let mut scans = Scans::new(post.worker);
+    let mut found = Found::new();
     for ran in 0..u64::MAX {
-        match claim_next(post, pass, hands, log, &mut scans)? {
-            Some(found) => run_found(post, pass, hands, bench, found)?,
-            None => return Ok(Worked { ran }),
+        let got = claim_next(post, pass, hands, log, &mut scans, &mut found)?;
+        if got {
+            run_found(post, pass, hands, bench, &mut found)?;
+        } else {
+            return Ok(Worked { ran });
         }
     }
     // No job has that many tasks.

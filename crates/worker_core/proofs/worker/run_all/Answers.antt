@@ -1,6 +1,5 @@
 use Rattle.std.proofs.Common.{refl, subst, ◌∙◌}
-use Rattle.std.specs.Prelude.{MatchOption}
-use Rattle.worker_core.specs.Claiming.{HasGotLogged, IsQuietAfter}
+use Rattle.worker_core.specs.Claiming.{GotLoggedOrQuiet, HasGotLogged}
 use Rattle.worker_core.proofs.WorkedSteps.{logged_claims, nothing_done, one_task_more}
 use Rattle.worker_core.proofs.worker.run_all.Goals as goal
 
@@ -27,17 +26,17 @@ loop-ran-preserved g c =
     let old = g.L.Log.entries c.args.log.now in
     let mid = g.L.Log.entries c.loop-ran.log in
     let new = g.L.Log.entries c.claim_next.new.log in
-    let got : HasGotLogged P G keeps c.in-Some.found w x mid new =
-    subst (λ o. MatchOption o (IsQuietAfter w x) (λ f. HasGotLogged P G keeps f w x mid new)) c.in-Some.is c.in_ok-found.ensures.found in
+    let got : HasGotLogged P G keeps c.claim_next.new.found w x mid new =
+    subst (λ b. GotLoggedOrQuiet P G keeps b c.claim_next.new.found w x mid new) c.if-got.true c.in_ok-got.ensures.found in
     record {
-      pass = c.in_ok-run_found-in-Some.ensures.pass;
-      hands = (c.in_ok-run_found-in-Some.ensures.hands.0 ∙ c.in_ok-found.ensures.hands.0 ∙ c.loop-ran.invariant.hands.0, c.in_ok-run_found-in-Some.ensures.hands.1 ∙ c.in_ok-found.ensures.hands.1 ∙ c.loop-ran.invariant.hands.1);
-      bench = c.in_ok-run_found-in-Some.ensures.bench;
-      worked = one_task_more P G (g.G.Gate.lets c.args.post.now.gate.now c.args.post.now.worker) keeps c.loop-ran.ran c.in-Some.found v w x y old mid new c.loop-ran.invariant.worked got c.in_ok-run_found-in-Some.ensures.some c.in_ok-run_found-in-Some.ensures.run c.in_ok-run_found-in-Some.ensures.gate;
+      pass = c.in_ok-run_found.ensures.pass;
+      hands = (c.in_ok-run_found.ensures.hands.0 ∙ c.in_ok-got.ensures.hands.0 ∙ c.loop-ran.invariant.hands.0, c.in_ok-run_found.ensures.hands.1 ∙ c.in_ok-got.ensures.hands.1 ∙ c.loop-ran.invariant.hands.1);
+      bench = c.in_ok-run_found.ensures.bench;
+      worked = one_task_more P G (g.G.Gate.lets c.args.post.now.gate.now c.args.post.now.worker) keeps c.loop-ran.ran c.claim_next.new.found v w x y old mid new c.loop-ran.invariant.worked got c.in_ok-run_found.ensures.some c.in_ok-run_found.ensures.run c.in_ok-run_found.ensures.gate;
     }
 
-pub returns-in_err-run_found-in-Some-clause-logged : goal.returns-in_err-run_found-in-Some-clause-logged
-returns-in_err-run_found-in-Some-clause-logged g c =
+pub returns-in_err-run_found-clause-logged : goal.returns-in_err-run_found-clause-logged
+returns-in_err-run_found-clause-logged g c =
     let P = g.B.Board.plan c.args.post.now.board.now in
     let G = g.B.Board.job_data c.args.post.now.board.now in
     let keeps = g.L.Log.keeps in
@@ -48,6 +47,6 @@ returns-in_err-run_found-in-Some-clause-logged g c =
     let old = g.L.Log.entries c.args.log.now in
     let mid = g.L.Log.entries c.loop-ran.log in
     let new = g.L.Log.entries c.claim_next.new.log in
-    let got : HasGotLogged P G keeps c.in-Some.found w x mid new =
-    subst (λ o. MatchOption o (IsQuietAfter w x) (λ f. HasGotLogged P G keeps f w x mid new)) c.in-Some.is c.in_ok-found.ensures.found in
-    logged_claims P G (g.G.Gate.lets c.args.post.now.gate.now c.args.post.now.worker) keeps c.loop-ran.ran c.in-Some.found v w x y old mid new c.loop-ran.invariant.worked got c.run_found.ensures.some
+    let got : HasGotLogged P G keeps c.claim_next.new.found w x mid new =
+    subst (λ b. GotLoggedOrQuiet P G keeps b c.claim_next.new.found w x mid new) c.if-got.true c.in_ok-got.ensures.found in
+    logged_claims P G (g.G.Gate.lets c.args.post.now.gate.now c.args.post.now.worker) keeps c.loop-ran.ran c.claim_next.new.found v w x y old mid new c.loop-ran.invariant.worked got c.run_found.ensures.some

@@ -30,7 +30,7 @@ returns-clause-some c t k =
         entry = k.entry;
         is = k.is;
         ready = subst IsReady ((one_row es c.args.index _ _ _ _ (view ∙ c.requires.ready.at) (view ∙ k.at)).1) c.requires.ready.ready;
-        handed = c.arrivals_of.ensures.tiles ∙ ap (λ (e : Entry). e.tiles) here.1;
+        handed = c.into_arrivals.ensures ∙ ap (λ (e : Entry). e.tiles) here.1;
       };
       entries = subst (λ (fs : Entries). Updates fs c.swap_remove_index.new.self.entries t None) same up;
       running = search rules;

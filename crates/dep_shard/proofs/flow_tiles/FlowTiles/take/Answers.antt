@@ -2,7 +2,7 @@ use Rattle.std.proofs.Common.{rules, arith, ◌∙◌, ap, sym, List}
 use Rattle.ptg_base.specs.Entry.{FlowTile}
 use Rattle.dep_shard.specs.Arrivals.{tile_of, without_tile}
 use Rattle.dep_shard.proofs.ByFlow.{tile_of-tiles_by_flow, tiles_by_flow-clear}
-use Rattle.dep_shard.proofs.arrivals.Arrivals.take.Goals as goal
+use Rattle.dep_shard.proofs.flow_tiles.FlowTiles.take.Goals as goal
 
 pub returns-clause-tile : goal.returns-clause-tile
 returns-clause-tile c =
