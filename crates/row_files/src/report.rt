@@ -58,7 +58,7 @@ impl<'a, R: Print> Report<'a, R> {
         }
     }
 
-    /// Prints the last line: how many rows came out as wanted, and how many did not.
+    /// Prints the last line: that all rows came out as wanted, or how many did, and how many did not.
     pub fn end(&self) -> io::Result<()> {
         let rt = self.rt;
         let as_wanted = self.as_wanted;
@@ -66,7 +66,7 @@ impl<'a, R: Print> Report<'a, R> {
         if others > 0 {
             println!(rt; "{as_wanted} rows as wanted, {others} not")
         } else {
-            println!(rt; "{as_wanted} rows as wanted")
+            println!(rt; "all rows as wanted")
         }
     }
 }

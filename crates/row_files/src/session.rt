@@ -6,7 +6,7 @@ use crate::prefixes::wanted_of;
 use crate::report::Report;
 use crate::tried::Tried;
 use crate::why::Why;
-use crate::worked_row::{RowCall, StatusOfEach, Wanted, WorkedRow};
+use crate::worked_row::{RowCall, StatusOfEach, Wanted, WorkedRow, number};
 use std::alloc::Global;
 use std::rt::{Env, Files};
 use std::sync::Wait;
@@ -22,10 +22,14 @@ struct Reading<'a> {
     row: Option<WorkedRow<'a>>,
     // Whether no row has begun yet.
     is_head: bool,
+    // How many rows have begun.
+    rows: usize,
+    // Whether the number of rows was read, which ends the file.
+    is_counted: bool,
 }
 
 /// Tries the rows of the files that the program's arguments name. Prints a line for each that is not as wanted or can't
-/// be read, and at the end how many came out as wanted. Returns whether all did.
+/// be read, and at the end whether all came out as wanted. Returns that too.
 pub fn all_as_wanted<R: Print + Files + Env + AllocGlobal + Threads + Wait + Sync, C: Call>(
     rt: &R,
     call: &C,
@@ -76,7 +80,17 @@ fn try_items<'a, R: Print + Threads + Wait + Sync, C: Call>(
     for item in list {
         reading.take(report, call, file, item)?;
     }
-    reading.finish(report, call, file)
+    reading.finish(report, call, file)?;
+    if reading.is_counted {
+        Ok(())
+    } else {
+        let last = list.last().map_or(0, |item| item.line);
+        report.unread(
+            file,
+            last,
+            Why("a file that does not end with its number of rows"),
+        )
+    }
 }
 
 impl<'a> Reading<'a> {
@@ -86,10 +100,12 @@ impl<'a> Reading<'a> {
             all: WorkedRow::new(alloc),
             row: None,
             is_head: true,
+            rows: 0,
+            is_counted: false,
         }
     }
 
-    // Takes an item: the one that begins a row ends the row before it.
+    // Takes an item: one that begins a row, or counts the rows, ends the row before it.
     fn take<R: Print + Threads + Wait + Sync, C: Call>(
         &mut self,
         report: &mut Report<'_, R>,
@@ -97,7 +113,7 @@ impl<'a> Reading<'a> {
         file: &str,
         item: &Item<'a>,
     ) -> io::Result<()> {
-        if item.keyword == "row" {
+        if matches!(item.keyword, "row" | "rows") {
             self.finish(report, call, file)?;
         }
         if let Err(why) = self.add(report.alloc, item) {
@@ -109,9 +125,14 @@ impl<'a> Reading<'a> {
 
     // Takes an item into the row that it belongs to.
     fn add(&mut self, alloc: Global, item: &Item<'a>) -> Result<(), Why> {
+        if self.is_counted {
+            return Err(Why("a line after the number of rows"));
+        }
         match &mut self.row {
+            _ if item.keyword == "rows" => self.count(item),
             _ if item.keyword == "row" => {
                 self.is_head = false;
+                self.rows = self.rows.saturating_add(1);
                 self.row = Some(WorkedRow::begin(alloc, item, &self.all)?);
                 Ok(())
             }
@@ -119,6 +140,20 @@ impl<'a> Reading<'a> {
             None if self.is_head => self.add_for_all(alloc, item),
             None => Ok(()),
         }
+    }
+
+    // Takes the number of rows, which ends the file. There must be as many, and at least one.
+    fn count(&mut self, item: &Item<'a>) -> Result<(), Why> {
+        self.is_counted = true;
+        item.has_no_text()?;
+        let rows = number(item.rest)?;
+        if rows == 0 {
+            return Err(Why("a file without rows"));
+        }
+        if rows != self.rows {
+            return Err(Why("another number of rows than there are"));
+        }
+        Ok(())
     }
 
     // Takes an item before the first row: it belongs to all rows.

@@ -214,8 +214,8 @@ fn add_numbers(numbers: &mut Vec<u64>, list: &str) -> Result<(), Why> {
     Ok(())
 }
 
-// The number of these digits.
-fn number(digits: &str) -> Result<usize, Why> {
+/// The number of these digits.
+pub fn number(digits: &str) -> Result<usize, Why> {
     digits
         .parse::<usize>()
         .map_err(|_| Why("a number that is none"))
