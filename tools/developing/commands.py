@@ -38,6 +38,7 @@ SECTIONS = {
         tool("more-edits", "tries the edits that must fail and that the gate leaves out"),
         tool("shown_edits", "tries whether a row or a test fails with an edit of `more-edits/` that names one"),
         tool("clauses", "lists what contracts say about refusals"),
+        tool("model", "searches a model of how workers sleep and are woken for hangs; with `--quick` only small jobs and teams"),
     ),
     "Tests of tools": (
         tool("explained", "tests the explanations of a built program; with `--damage` on randomly damaged files"),
