@@ -11,14 +11,14 @@ use Rattle.jdf_tree.specs.Fault.{IsJdfFault, first_spot}
 use Rattle.jdf_print.specs.Spelling.{spelling}
 use Rattle.job_stages.specs.declared.verdict.JobVerdict.{JobVerdict}
 use Rattle.job_stages.specs.declared.verdict.JobVerdict.TheVariants as jobs
-use Rattle.ptg_words.specs.declared.order.Order.TheVariants.{Show}
+use Rattle.ptg_top.specs.declared.command.Command.TheVariants.{Show}
 use Rattle.ptg_top.specs.Denotation as verdicts
 use Rattle.ptg_top.specs.declared.verdict.Verdict.{Verdict}
 use Rattle.ptg_top.specs.Denotation.{Denotation, denoted}
 use Rattle.ptg_top.specs.Operands.{Read, load_of}
 use Rattle.ptg_top.specs.JobFiles.{RefusesText}
-use Rattle.ptg_top.specs.Steps.{IsTreeRead, LoadedAs, TreeIsRefused}
-use Rattle.ptg_top.specs.Reports.{IsOfTexts, IsVerdictOnCommand, NoneFailed}
+use Rattle.ptg_top.specs.Steps.{IsTreeRead, LoadedAs, StepsEndWith, TreeIsRefused}
+use Rattle.ptg_top.specs.Reports.{IsOfTexts, NoneFailed}
 
 -- the first fault of a text, too long or not
 pub fault_refuses : (text : List ℕ) (fault : JdfFault) → IsJdfFault text fault → RefusesText text (verdicts.Job (jobs.Jdf fault))
@@ -56,7 +56,7 @@ module _ (old new : List Read) (failed failed_since : List ℕ → ℕ) where
   long_is_refused name fault e long none = inr (tt, long.0, long_refuses long.0 fault e long.1, (long.2, none))
 
   -- what `show` denotes
-  pub tree_shown : (jdf : List ℕ) (J : Jdf) (text : List ℕ) → IsTreeRead old new failed failed_since jdf J → text ≡ spelling J → IsVerdictOnCommand old new failed failed_since (Show jdf) (verdicts.Spelling text)
+  pub tree_shown : (jdf : List ℕ) (J : Jdf) (text : List ℕ) → IsTreeRead old new failed failed_since jdf J → text ≡ spelling J → StepsEndWith old new failed failed_since (Show jdf) (verdicts.Spelling text)
   tree_shown jdf J text read e =
       record {
         loads = load_of jdf read.0 ∷ [];
@@ -65,7 +65,7 @@ module _ (old new : List Read) (failed failed_since : List ℕ → ℕ) where
         reads = inr (tt, (new, read.2.0, refl), read.2.1);
       }
 
-  pub refusal_shown : (jdf : List ℕ) (v : Denotation) → TreeIsRefused old new failed failed_since jdf v → IsVerdictOnCommand old new failed failed_since (Show jdf) v
+  pub refusal_shown : (jdf : List ℕ) (v : Denotation) → TreeIsRefused old new failed failed_since jdf v → StepsEndWith old new failed failed_since (Show jdf) v
   refusal_shown jdf v (inl (e, begun, rose)) = record { loads = []; operands = tt; denoted = e; reads = inl (jdf, e, (old, refl, begun, rose)) }
   refusal_shown jdf v (inr (of, text, h, loaded)) =
       record { loads = load_of jdf text ∷ []; operands = (refl, tt); denoted = inl h; reads = inr (of, (new, loaded.0, refl), loaded.1) }

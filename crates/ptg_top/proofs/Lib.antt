@@ -1,15 +1,14 @@
+pub mod Commands
 pub mod Loading
 pub mod JdfFiles
 pub mod Checked
-pub mod Answered
 pub mod Replayed
 pub mod Summed
 pub mod Preloads
 pub mod TableRuns
 pub mod Traced
 pub mod Certified
-pub mod Found
+pub mod Actions
 pub mod Carried
-pub mod JobTexts
 pub mod Ending
 pub mod Receipts

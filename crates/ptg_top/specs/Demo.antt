@@ -11,7 +11,6 @@ use Rattle.flow_meaning.specs.declared.outcome.Outcome.TheVariants.{Complete}
 use Rattle.job_gen.specs.Job.{data_text, jdf_text}
 use Rattle.ptg_top.specs.declared.verdict.Finding.{Finding}
 use Rattle.ptg_top.specs.declared.verdict.Finding.TheVariants.{Answer, Summary}
-use Rattle.ptg_top.specs.Answering.{GoesOnFrom}
 use Rattle.ptg_top.specs.Denotation as verdicts
 use Rattle.ptg_top.specs.Denotation.{Denotation}
 use Rattle.ptg_top.specs.JobFiles.{JobTextsDenote}
@@ -29,7 +28,3 @@ IsSummary n P given v = v ≡ verdicts.Ran P (summed n (answer P given))
 -- the two texts of the made job of n rows of tiles denote this verdict of `check`
 abbrev pub MadeTextsDenote : ℕ → Denotation → Type 0
 MadeTextsDenote n v = JobTextsDenote jdf_text (data_text n) v
-
--- the verdict of `demo`: if the made job is consistent, its summary or its answer; else its refusal
-abbrev pub DemoDenotes : ℕ → Denotation → Type 0
-DemoDenotes n v = GoesOnFrom (MadeTextsDenote n) (IsSummary n) v

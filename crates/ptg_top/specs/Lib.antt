@@ -1,5 +1,6 @@
 pub mod Denotation
 pub mod Tables
+pub mod Commands
 pub mod Findings
 pub mod Answering
 pub mod Operands

@@ -10,7 +10,7 @@ use Rattle.ptg_words.specs.Laws.{files_of}
 use Rattle.ptg_words.specs.Words.{Orders}
 use Rattle.ptg_top.specs.Denotation as verdicts
 use Rattle.ptg_top.specs.Denotation.{Denotation}
-use Rattle.ptg_top.specs.Operands.{AreOf, Load, Read, in_loads}
+use Rattle.ptg_top.specs.Operands.{AreOf, Load, Operands, Read, in_loads}
 use Rattle.ptg_top.specs.Meaning.{AreFirstOperands, CommandDenotes, Denotes, IsNoCommand}
 
 -- the verdict is on what was read: it is neither usage nor a file that could not be read
@@ -39,14 +39,19 @@ EndsAfter old new loads failed failed_since v =
     ((name : List ℕ) × (v ≡ verdicts.Unread name) × FailedAfter old new loads name failed failed_since)
     ⊎ (IsOfTexts v × Gave old new loads × NoneFailed failed failed_since)
 
--- The verdict on a command: what its operands denote if the first of them hold what was loaded and the others count as
--- missing.
-pub record IsVerdictOnCommand (old new : List Read) (failed failed_since : List ℕ → ℕ) (command : Order)
-    (v : Denotation) : Type 0 where
+-- How steps end whose file operands have these names: their verdict is what the operands denote by `Denoted` if the
+-- first of them hold what was loaded and the others count as missing.
+pub record EndsWith (old new : List Read) (failed failed_since : List ℕ → ℕ) (names : List (List ℕ))
+    (Denoted : Operands → Denotation → Type 0) (v : Denotation) : Type 0 where
   pub loads : List Load
-  pub operands : AreOf loads (files_of command)
-  pub denoted : CommandDenotes (in_loads loads) command v
+  pub operands : AreOf loads names
+  pub denoted : Denoted (in_loads loads) v
   pub reads : EndsAfter old new loads failed failed_since v
+
+-- the verdict on a command
+abbrev pub IsVerdictOnCommand : List Read → List Read → (List ℕ → ℕ) → (List ℕ → ℕ) → Order → Denotation → Type 0
+IsVerdictOnCommand old new failed failed_since command v =
+    EndsWith old new failed failed_since (files_of command) (λ operands. CommandDenotes operands command) v
 
 -- A verdict on the arguments. If they form no command it is usage, and nothing was read; otherwise it is the verdict on
 -- the command.

@@ -1,5 +1,5 @@
--- How the steps of `check` and of `replay` end, if reads may fail. `old` and `new` are the reads before and after;
--- `failed` and `failed_since` count, before and after, the failed reads of each name.
+-- How the steps of a command end, if reads may fail. `old` and `new` are the reads before and after; `failed` and
+-- `failed_since` count, before and after, the failed reads of each name.
 use Rattle.std.specs.Prelude.{◌≡◌, ◌⊎◌, ℕ, List}
 use Rattle.ptg_io.specs.Faults.{Rose}
 use Rattle.ptg_io.specs.Reads.{HaveBegun, IsLoaded}
@@ -9,12 +9,17 @@ use Rattle.jdf_tree.specs.declared.tree.Jdf.{Jdf}
 use Rattle.jdf_tree.specs.Jdf.{IsJdf}
 use Rattle.job_stages.specs.declared.verdict.JobVerdict.{JobVerdict}
 use Rattle.job_stages.specs.Verdict.{TextsDenote}
+use Rattle.ptg_top.specs.declared.command.Action.{Action}
+use Rattle.ptg_top.specs.declared.command.Command.{Command}
+use Rattle.ptg_top.specs.declared.command.Source.{Source}
+use Rattle.ptg_top.specs.Commands.{files_of_action, files_of_source, files_of_steps}
 use Rattle.ptg_top.specs.Denotation as verdicts
 use Rattle.ptg_top.specs.Denotation.{Denotation}
 use Rattle.ptg_top.specs.Operands.{Read, load_of}
 use Rattle.ptg_top.specs.JobFiles.{RefusesText}
 use Rattle.ptg_top.specs.Replay.{IsReplayOf}
-use Rattle.ptg_top.specs.Reports.{IsOfTexts, NoneFailed}
+use Rattle.ptg_top.specs.Meaning.{ActionDenotes, SourceDenotes, StepsDenote}
+use Rattle.ptg_top.specs.Reports.{EndsWith, IsOfTexts, NoneFailed}
 
 -- the file of this name was loaded with this text, and no read failed
 abbrev pub LoadedAs : List Read → List Read → (List ℕ → ℕ) → (List ℕ → ℕ) → List ℕ → List ℕ → Type 0
@@ -54,3 +59,20 @@ ReplayEndsWith old new failed failed_since trace P given v =
     IsReadFault old new failed failed_since trace v
     ⊎ (IsOfTexts v × (text : List ℕ) × IsReplayOf text P given v
     × LoadedAs old new failed failed_since trace text)
+
+-- how the check of a job ends
+abbrev pub CheckEndsWith : List Read → List Read → (List ℕ → ℕ) → (List ℕ → ℕ) → Source → Denotation → Type 0
+CheckEndsWith old new failed failed_since source v =
+    EndsWith old new failed failed_since (files_of_source source) (λ operands. SourceDenotes operands source) v
+
+-- how an action on a consistent job ends
+abbrev pub ActionEndsWith : List Read → List Read → (List ℕ → ℕ) → (List ℕ → ℕ) → Action → Plan → Data → Denotation
+    → Type 0
+ActionEndsWith old new failed failed_since action P given v =
+    EndsWith old new failed failed_since (files_of_action action)
+    (λ operands. ActionDenotes (operands 0) action P given) v
+
+-- how all that is done for a command ends
+abbrev pub StepsEndWith : List Read → List Read → (List ℕ → ℕ) → (List ℕ → ℕ) → Command → Denotation → Type 0
+StepsEndWith old new failed failed_since command v =
+    EndsWith old new failed failed_since (files_of_steps command) (λ operands. StepsDenote operands command) v

@@ -2,14 +2,14 @@
 //! prints its verdict.
 #![tactic(auto)]
 
+mod acting;
 mod certifying;
 mod checking;
+mod command;
 mod consistent;
 mod ended;
-mod finding_printing;
 mod host;
 mod jdf_file;
-mod job_printing;
 mod judge;
 mod printing;
 mod program;

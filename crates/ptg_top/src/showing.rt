@@ -3,10 +3,10 @@
 ghost use Rattle.std.specs.Prelude.{◌≡◌, ◌≤◌, ℕ, List, IfOk, None};
 ghost use Rattle.std.specs.Str.{IsUtf8};
 ghost use Rattle.ptg_io.specs.Reads.{AddsPieces};
-ghost use Rattle.ptg_words.specs.declared.order.Order.TheVariants as commands;
+ghost use Rattle.ptg_top.specs.declared.command.Command.TheVariants as commands;
 ghost use Rattle.ptg_top.specs.Denotation.{denoted};
-ghost use Rattle.ptg_top.specs.Reports.{IsVerdictOnCommand};
 ghost use Rattle.ptg_top.specs.Receipts.{receipt_of};
+ghost use Rattle.ptg_top.specs.Steps.{StepsEndWith};
 
 use crate::jdf_file::tree_of_file;
 use crate::verdict::Verdict;
@@ -22,7 +22,7 @@ pub fn show<F: Files>(alloc: Global, jdf: &Text, files: &mut F) -> Result<Verdic
     ensures grows { (other : List ℕ) → F.faults files.old other ≤ F.faults files.new other }
     ensures pieces { AddsPieces (F.contents files.old) (F.reads files.old) (F.reads files.new) }
     ensures verdict { IfOk result (λ v.
-        IsVerdictOnCommand (F.reads files.old) (F.reads files.new) (F.faults files.old) (F.faults files.new)
+        StepsEndWith (F.reads files.old) (F.reads files.new) (F.faults files.old) (F.faults files.new)
         (commands.Show jdf.now) (denoted v)) }
     ensures not_run { IfOk result (λ v. receipt_of v ≡ None) }
 {

@@ -18,7 +18,7 @@ use Rattle.ptg_top.specs.Operands.{Operands}
 use Rattle.ptg_top.specs.Meaning.{CommandDenotes, ContentShows, IsNoCommand, Shows}
 use Rattle.ptg_top.specs.Headline.{text_of, status_of}
 use Rattle.top_laws.specs.Meanings.{SomeMeaning, SomeOutput}
-use Rattle.ptg_top.specs.Answering.{IsAnswer}
+use Rattle.ptg_top.specs.Answering.{GoesOnFrom, IsAnswer}
 use Rattle.coll_data.specs.Data.{Data}
 use Rattle.plan_core.specs.declared.plan.Plan.{Plan}
 use Rattle.dep_iter.specs.Consistent.{IsConsistent}
@@ -32,12 +32,11 @@ use Rattle.ptg_top.specs.Trace.{IsTraced}
 use Rattle.ptg_top.specs.Replay.{IsReplayed}
 use Rattle.rank_core.specs.Sound.{message_count}
 use Rattle.ptg_top.specs.Ranks.{IsRanked}
-use Rattle.ptg_top.specs.Demo.{DemoDenotes, IsSummary, summed}
+use Rattle.ptg_top.specs.Demo.{IsSummary, MadeTextsDenote, summed}
 use Rattle.ptg_top.specs.declared.verdict.Finding.TheVariants.{Answer, Trace as TraceText, Ranked}
 use Rattle.run_pool.specs.declared.settings.Settings.{Settings}
 use Rattle.run_pool.specs.Runs.{is_too_large}
-use Rattle.ptg_top.proofs.Answered.{some_on}
-use Rattle.ptg_top.proofs.Checked.{contents_consistent}
+use Rattle.top_laws.proofs.Checked.{contents_consistent, some_on}
 use Rattle.ptg_top.proofs.JdfFiles.{fault_refuses}
 
 -- ---- the command
@@ -71,7 +70,7 @@ contents_some jdf data_name (Some text) None = elim (tree_or_fault text) [
 ]
 contents_some jdf data_name (Some text) (Some data_text) = job_texts_some text data_text
 
-demo_some : (n : ℕ) → (v : Denotation) × DemoDenotes n v
+demo_some : (n : ℕ) → (v : Denotation) × GoesOnFrom (MadeTextsDenote n) (IsSummary n) v
 demo_some n =
     let checked = job_texts_some jdf_text (data_text n) in
     let found = some_on (IsSummary n) checked.0 (λ P given is. (verdicts.Ran P (summed n (answer P given)), refl)) in

@@ -1,3 +1,4 @@
+pub mod Checked
 pub mod Once
 pub mod Always
 pub mod Settings

@@ -14,7 +14,7 @@ use Rattle.ptg_top.specs.Operands.{Operands}
 use Rattle.ptg_top.specs.Meaning.{CommandDenotes, Shows, ContentShows}
 use Rattle.ptg_top.specs.Headline.{text_of, status_of}
 use Rattle.top_laws.specs.Meanings.{AreTracesOfOneJob, IsNoTrace, OneJob, OneMeaning, OneOutput}
-use Rattle.ptg_top.specs.Answering.{IsAnswer, OnConsistent}
+use Rattle.ptg_top.specs.Answering.{GoesOnFrom, IsAnswer, OnConsistent}
 use Rattle.coll_data.specs.Data.{Data}
 use Rattle.plan_core.specs.declared.plan.Plan.{Plan}
 use Rattle.dep_iter.specs.Consistent.{IsConsistent}
@@ -23,7 +23,7 @@ use Rattle.chain_cert.specs.Weights.{class_weights}
 use Rattle.chain_cert.specs.declared.certificate.Certificate.{Certificate}
 use Rattle.chain_exists.proofs.Unique.{one}
 use Rattle.ptg_top.specs.Certify.{IsCertified, certified}
-use Rattle.ptg_top.specs.Demo.{DemoDenotes, IsSummary}
+use Rattle.ptg_top.specs.Demo.{IsSummary, MadeTextsDenote}
 use Rattle.trace_core.proofs.OneFault.{one_fault}
 use Rattle.trace_laws.proofs.Traces.{trace_or_fault}
 use Rattle.ptg_top.specs.Replay.{IsReplayed, IsReplayOf}
@@ -31,9 +31,8 @@ use Rattle.ptg_top.specs.Trace.{IsTraced}
 use Rattle.job_stages.specs.declared.verdict.JobVerdict.TheVariants as jobs
 use Rattle.run_pool.specs.declared.settings.Settings.{Settings}
 use Rattle.ptg_top.specs.Ranks.{IsRanked}
-use Rattle.ptg_top.proofs.Answered.{once_on}
 use Rattle.ptg_words.proofs.OneCommand.{one_command}
-use Rattle.ptg_top.proofs.Checked.{refused_once, refused_or_read, contents_consistent, contents_once, job_texts_once}
+use Rattle.top_laws.proofs.Checked.{once_on, refused_once, refused_or_read, contents_consistent, contents_once, job_texts_once}
 
 shows_once : (text : List ℕ) (v w : Denotation) → Shows text v → Shows text w → v ≡ w
 shows_once text v w (inl h) (inl k) = refused_once text v w h k
@@ -46,7 +45,7 @@ content_shows_once : (name : List ℕ) (content : Option (List ℕ)) (v w : Deno
 content_shows_once name None v w h k = h ∙ sym k
 content_shows_once name (Some text) v w h k = shows_once text v w h k
 
-demo_once : (n : ℕ) (v w : Denotation) → DemoDenotes n v → DemoDenotes n w → v ≡ w
+demo_once : (n : ℕ) (v w : Denotation) → GoesOnFrom (MadeTextsDenote n) (IsSummary n) v → GoesOnFrom (MadeTextsDenote n) (IsSummary n) w → v ≡ w
 demo_once n v w (a, h, e) (b, k, d) =
     once_on (IsSummary n) b v w (λ P given is p q. p ∙ sym q)
     (subst (λ (c : Denotation). OnConsistent (IsSummary n) c v) (job_texts_once jdf_text (data_text n) a b h k) e) d

@@ -21,7 +21,7 @@ use Rattle.ptg_top.specs.declared.status.Status.{Status}
 use Rattle.ptg_top.specs.declared.verdict.Finding.TheVariants.{Answer}
 use Rattle.ptg_top.specs.Denotation as verdicts
 use Rattle.ptg_top.specs.Denotation.{Denotation}
-use Rattle.ptg_top.specs.Answering.{IsAnswer, OnConsistent}
+use Rattle.ptg_top.specs.Answering.{GoesOnFrom, IsAnswer, OnConsistent}
 use Rattle.ptg_top.specs.Certify.{IsCertified}
 use Rattle.ptg_top.specs.Ranks.{IsRanked}
 use Rattle.ptg_top.specs.Replay.{IsReplayed}
@@ -29,10 +29,10 @@ use Rattle.ptg_top.specs.Trace.{IsTraced}
 use Rattle.ptg_top.specs.Operands.{AreOf, Load, NamedFiles, Read, in_files, in_loads, text_at}
 use Rattle.ptg_top.specs.JobFiles.{ContentsDenote, FilesDenote}
 use Rattle.ptg_top.specs.Meaning.{AreFirstOperands, CommandDenotes, Denotes}
-use Rattle.ptg_top.specs.Demo.{DemoDenotes, IsSummary}
+use Rattle.ptg_top.specs.Demo.{IsSummary, MadeTextsDenote}
 use Rattle.ptg_top.specs.Reports.{EndsAfter, FailedAfter, IsOfTexts, IsVerdictOnWords}
 use Rattle.ptg_top.specs.Headline.{IsExact, status_of}
-use Rattle.ptg_top.specs.Receipts.{FilesHaveJob, FindsJob}
+use Rattle.ptg_top.specs.Receipts.{FindsJob}
 use Rattle.top_laws.specs.Known.{CompleteOverFiles, CutOverFiles, ExactOverFiles, IsDue, IsFileOf, IsUnreadOf, JobOverFiles, MayBeUnread, MayBeUnreadFor, TreeAt, UnreadOverFiles}
 use Rattle.top_laws.proofs.Loaded.{loads_are_files, loads_before}
 use Rattle.top_laws.proofs.Texts.{Agree, WasRead, contents_known, replayed_known, shows_known}
@@ -123,7 +123,8 @@ job_is_read P given name e = absurd cc
 
 module _ (files : NamedFiles) (loads : List Load) (all : AllByRecursion (IsFileOf files) loads) (P : Plan) (given : Data) where
   files_have_job : (jdf data_name : List ℕ) (rest : List (List ℕ)) → AreOf loads (jdf ∷ data_name ∷ rest)
-      → FilesHaveJob (in_loads loads) jdf data_name P given → FilesHaveJob (in_files files) jdf data_name P given
+      → FilesDenote (in_loads loads) jdf data_name (verdicts.Job (jobs.Consistent P given))
+      → FilesDenote (in_files files) jdf data_name (verdicts.Job (jobs.Consistent P given))
   files_have_job jdf data_name rest names h =
       files_known files loads all jdf data_name rest names (verdicts.Job (jobs.Consistent P given)) (job_is_read P given) h
 
@@ -170,7 +171,7 @@ module _ (name : List ℕ) where
   no_summary : (rows : ℕ) (P : Plan) (given : Data) → IsSummary rows P given (verdicts.Unread name) → ⊥
   no_summary rows P given e = absurd cc
 
-  no_demo : (rows : ℕ) → DemoDenotes rows (verdicts.Unread name) → ⊥
+  no_demo : (rows : ℕ) → GoesOnFrom (MadeTextsDenote rows) (IsSummary rows) (verdicts.Unread name) → ⊥
   no_demo rows (checked, (job, h, e), k) =
       let same : verdicts.Unread name ≡ verdicts.Job job = unread_is_checked (IsSummary rows) (no_summary rows) checked k ∙ e in
       absurd cc

@@ -36,7 +36,7 @@ use Rattle.ptg_top.specs.Meaning.{CommandDenotes, Denotes}
 use Rattle.ptg_top.specs.Operands.{Operands}
 use Rattle.ptg_top.specs.Replay.{IsReplayOf, IsReplayed}
 use Rattle.ptg_top.specs.Trace.{IsTraced}
-use Rattle.ptg_top.proofs.Checked.{contents_consistent, contents_once}
+use Rattle.top_laws.proofs.Checked.{contents_consistent, contents_once}
 use Rattle.top_laws.specs.Replays.{HasTrace, TracesReplay}
 
 -- ---- what two files denote

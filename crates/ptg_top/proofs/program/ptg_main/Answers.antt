@@ -67,24 +67,24 @@ returns-in-Ok-print_verdict-clause-usage g c none =
 -- the receipt of an answer is the one that was asked for
 pub returns-in-Ok-print_verdict-clause-receipt : goal.returns-in-Ok-print_verdict-clause-receipt
 returns-in-Ok-print_verdict-clause-receipt g c =
-    receipt_is_asked c.args.words.now (g.F.Files.reads c.args.files.now) (g.F.Files.reads c.judge.new.files) (g.F.Files.faults c.args.files.now) (g.F.Files.faults c.judge.new.files)
-    c.in-Ok.verdict c.status.result c.receipt.result c.in-Ok.ensures.judged c.in-Ok.ensures.ran c.status.ensures c.receipt.ensures
+    receipt_is_asked c.args.words.now (g.F.Files.reads c.args.files.now) (g.F.Files.reads c.judge.new.files) c.in-Ok.verdict
+    c.receipt.result c.receipt.ensures c.in-Ok.ensures.receipt c.status.result c.status.ensures
 
 -- and a run without one has no answer
 pub returns-in-Ok-print_verdict-clause-no_receipt : goal.returns-in-Ok-print_verdict-clause-no_receipt
 returns-in-Ok-print_verdict-clause-no_receipt g c =
-    no_receipt_no_answer c.args.words.now c.status.result c.in-Ok.verdict c.receipt.result c.in-Ok.ensures.ran c.status.ensures c.receipt.ensures
+    no_receipt_no_answer c.args.words.now (g.F.Files.reads c.args.files.now) (g.F.Files.reads c.judge.new.files) c.in-Ok.verdict
+    c.receipt.result c.receipt.ensures c.in-Ok.ensures.receipt c.status.result c.status.ensures
 
 -- it is of the job that the loads denote
 pub returns-in-Ok-print_verdict-clause-of_job : goal.returns-in-Ok-print_verdict-clause-of_job
 returns-in-Ok-print_verdict-clause-of_job g c =
-    receipt_is_of_job c.args.words.now (g.F.Files.reads c.args.files.now) (g.F.Files.reads c.judge.new.files)
-    c.in-Ok.verdict c.receipt.result c.in-Ok.ensures.by_receipt c.receipt.ensures
+    receipt_is_of_job c.args.words.now (g.F.Files.reads c.args.files.now) (g.F.Files.reads c.judge.new.files) c.in-Ok.verdict
+    c.receipt.result c.receipt.ensures c.in-Ok.ensures.receipt
 
 -- and its outcome is the answer that was printed
 pub returns-in-Ok-print_verdict-clause-answer : goal.returns-in-Ok-print_verdict-clause-answer
 returns-in-Ok-print_verdict-clause-answer g c =
-    receipt_is_printed c.args.words.now (g.F.Files.reads c.args.files.now) (g.F.Files.reads c.judge.new.files)
-    c.in-Ok.verdict c.receipt.result c.in-Ok.ensures.by_receipt c.receipt.ensures
-    (g.O.Sink.bytes c.args.out.now) (g.O.Sink.bytes c.print_verdict.new.out) c.status.result
-    c.in-Ok-print_verdict.ensures.ok c.status.ensures
+    receipt_is_printed c.args.words.now (g.F.Files.reads c.args.files.now) (g.F.Files.reads c.judge.new.files) c.in-Ok.verdict
+    c.receipt.result c.receipt.ensures c.in-Ok.ensures.receipt c.status.result c.status.ensures
+    (g.O.Sink.bytes c.args.out.now) (g.O.Sink.bytes c.print_verdict.new.out) c.in-Ok-print_verdict.ensures.ok

@@ -1,30 +1,18 @@
-use Rattle.std.proofs.Common.{subst}
-use Rattle.std.specs.Prelude.{Option}
-use Rattle.ptg_io.proofs.Loads.{more_pieces}
-use Rattle.ptg_io.specs.Reads.{AddsPieces}
-use Rattle.ptg_top.specs.Denotation.{denoted}
-use Rattle.ptg_top.specs.Operands.{NamedFiles}
-use Rattle.ptg_top.proofs.Replayed.{replay_finds, replay_refuses}
+use Rattle.std.proofs.Common.{Err, ap}
+use Rattle.ptg_top.proofs.Loading.{loaded_as, long_as, long_is_no_fault, value_is_no_fault}
+use Rattle.ptg_top.proofs.Replayed.{long_ends, read_ends}
 use Rattle.ptg_top.proofs.replaying.replay.Goals as goal
 
--- the verdict on the trace file
+-- the verdict on the text that was read
 pub returns-in-Ok-clause-verdict : goal.returns-in-Ok-clause-verdict
 returns-in-Ok-clause-verdict g c =
-    replay_finds c.args.jdf.now c.args.data_name.now c.args.trace.now
-    (g.F.Files.reads c.args.files.now) (g.F.Files.reads c.check.new.files) (g.F.Files.reads c.replayed.new.files)
-    (g.F.Files.faults c.args.files.now) (g.F.Files.faults c.check.new.files) (g.F.Files.faults c.replayed.new.files)
-    c.in-Ok.matched c.in-Ok.given (denoted c.in_ok-checked.checked) c.replayed.result c.in-Ok.ensures.found c.in_ok-checked.ensures.verdict c.replayed.ensures.verdict
+    read_ends (g.F.Files.reads c.args.files.now) (g.F.Files.reads c.load.new.files) (g.F.Files.faults c.args.files.now) (g.F.Files.faults c.load.new.files) c.args.trace.now c.args.matched c.args.given c.as_slice.result.now c.replay_of.result
+    (loaded_as (g.F.Files.reads c.args.files.now) (g.F.Files.reads c.load.new.files) (g.F.Files.faults c.args.files.now) (g.F.Files.faults c.load.new.files) c.args.trace.now c.name_of.result.now c.name_of.ensures c.in-Ok.text c.as_slice.result.now c.as_slice.ensures c.in-Ok.ensures.loaded (c.in-Ok.ensures.no_fault (value_is_no_fault _)))
+    c.replay_of.ensures.verdict
 
--- the pieces of the three files
-pub returns-in-Ok-clause-pieces : goal.returns-in-Ok-clause-pieces
-returns-in-Ok-clause-pieces g c =
-    let Pieces : Option NamedFiles → Type 0 = λ t. AddsPieces t (g.F.Files.reads c.check.new.files) (g.F.Files.reads c.replayed.new.files) in
-    more_pieces (g.F.Files.contents c.args.files.now) (g.F.Files.reads c.args.files.now) (g.F.Files.reads c.check.new.files) (g.F.Files.reads c.replayed.new.files)
-    c.check.ensures.pieces (subst Pieces c.check.ensures.stays c.replayed.ensures.pieces)
-
--- a refusal
-pub returns-in-Err-clause-verdict : goal.returns-in-Err-clause-verdict
-returns-in-Err-clause-verdict g c =
-    replay_refuses c.args.jdf.now c.args.data_name.now c.args.trace.now
-    (g.F.Files.reads c.args.files.now) (g.F.Files.reads c.check.new.files) (g.F.Files.faults c.args.files.now) (g.F.Files.faults c.check.new.files)
-    c.in_ok-checked.checked c.in-Err.refused c.in-Err.ensures.refused.0 c.in_ok-checked.ensures.verdict c.in-Err.ensures.refused.1
+-- a trace file that is too long
+pub returns-in-Err-TooLong-clause-verdict : goal.returns-in-Err-TooLong-clause-verdict
+returns-in-Err-TooLong-clause-verdict g c =
+    long_ends (g.F.Files.reads c.args.files.now) (g.F.Files.reads c.load.new.files) (g.F.Files.faults c.args.files.now) (g.F.Files.faults c.load.new.files) c.args.trace.now c.args.matched c.args.given c.trace_too_long.result c.trace_too_long.ensures
+    (long_as (g.F.Files.reads c.args.files.now) (g.F.Files.reads c.load.new.files) (g.F.Files.faults c.args.files.now) (g.F.Files.faults c.load.new.files) c.args.trace.now c.name_of.result.now c.name_of.ensures (c.in-Err-TooLong.ensures.long (ap Err c.in-Err-TooLong.field-0-is)))
+    (c.in-Err-TooLong.ensures.no_fault (long_is_no_fault _ c.in-Err-TooLong.field-0-is))

@@ -1,33 +1,24 @@
-use Rattle.ptg_top.specs.Denotation.{denoted}
-use Rattle.ptg_top.proofs.Answered.{run_goes_on, verb_finds, verb_refuses}
-use Rattle.ptg_words.specs.declared.order.Order.TheVariants.{Run}
-use Rattle.ptg_top.proofs.Found.{refused_by_receipt, run_files, verb_by_receipt}
+use Rattle.std.proofs.Common.{Err, ap, refl}
+use Rattle.ptg_top.specs.declared.verdict.Finding.TheVariants.{Answer}
+use Rattle.ptg_top.proofs.Preloads.{fitting_is_answer, refused_is_answer}
+use Rattle.ptg_top.proofs.TableRuns.{found_of_run}
 use Rattle.ptg_top.proofs.running.run.Goals as goal
 
--- the answer of the job that was found
-pub returns-in-Ok-clause-verdict : goal.returns-in-Ok-clause-verdict
-returns-in-Ok-clause-verdict g c =
-    verb_finds (g.F.Files.reads c.args.files.now) (g.F.Files.reads c.check.new.files) (g.F.Files.faults c.args.files.now) (g.F.Files.faults c.check.new.files) (run_goes_on c.args.jdf.now c.args.data_name.now c.args.settings)
-    (denoted c.in_ok-checked.checked) c.in-Ok.matched c.in-Ok.given c.answered.result c.in-Ok.ensures.found c.in_ok-checked.ensures.verdict c.answered.ensures.answer
+-- the answer of the table, whose preload was not refused
+pub returns-in_ok-receipt-in-Ok-clause-answer : goal.returns-in_ok-receipt-in-Ok-clause-answer
+returns-in_ok-receipt-in-Ok-clause-answer g c =
+    let ran = c.in_ok-receipt-in-Ok.ensures.ran c.args.matched c.args.given c.args.settings c.in-Ok.ensures.run in
+    fitting_is_answer c.args.matched c.args.settings c.args.given _ (λ bytes large. let e = (c.in-Ok.ensures.too_large bytes).1 large in absurd cc)
+    (found_of_run c.args.settings c.args.matched c.args.given c.in_ok-receipt-in-Ok.receipt c.in_ok-receipt-in-Ok.outcome ran Answer (Answer c.in_ok-receipt-in-Ok.outcome) refl)
 
--- a refusal
-pub returns-in-Err-clause-verdict : goal.returns-in-Err-clause-verdict
-returns-in-Err-clause-verdict g c =
-    verb_refuses (g.F.Files.reads c.args.files.now) (g.F.Files.reads c.check.new.files) (g.F.Files.faults c.args.files.now) (g.F.Files.faults c.check.new.files) (run_goes_on c.args.jdf.now c.args.data_name.now c.args.settings)
-    c.in_ok-checked.checked c.in-Err.refused c.in-Err.ensures.refused.0 c.in_ok-checked.ensures.verdict c.in-Err.ensures.refused.1
+-- its receipt is of the job
+pub returns-in_ok-receipt-in-Ok-clause-receipt : goal.returns-in_ok-receipt-in-Ok-clause-receipt
+returns-in_ok-receipt-in-Ok-clause-receipt g c =
+    let ran = c.in_ok-receipt-in-Ok.ensures.ran c.args.matched c.args.given c.args.settings c.in-Ok.ensures.run in
+    (ran.settings, ran.job)
 
--- it is found by the receipt of its table
-pub returns-in-Ok-clause-by_receipt : goal.returns-in-Ok-clause-by_receipt
-returns-in-Ok-clause-by_receipt g c =
-    verb_by_receipt (g.F.Files.reads c.args.files.now) (g.F.Files.reads c.check.new.files)
-    (g.F.Files.faults c.args.files.now) (g.F.Files.faults c.check.new.files)
-    (run_files c.args.jdf.now c.args.data_name.now c.args.settings)
-    c.in-Ok.matched c.in-Ok.given (denoted c.in_ok-checked.checked) c.answered.result
-    c.in-Ok.ensures.found c.in_ok-checked.ensures.verdict c.answered.ensures.answer c.answered.ensures.receipt
-
--- a refusal has no receipt
-pub returns-in-Err-clause-by_receipt : goal.returns-in-Err-clause-by_receipt
-returns-in-Err-clause-by_receipt g c =
-    refused_by_receipt (g.F.Files.reads c.args.files.now) (g.F.Files.reads c.check.new.files)
-    (Run c.args.jdf.now c.args.data_name.now c.args.settings.workers c.args.settings.shards c.args.settings.preload)
-    c.in-Err.refused c.in-Err.ensures.refused.1
+-- a preload that is too large
+pub returns-in-Err-PreloadTooLarge-clause-answer : goal.returns-in-Err-PreloadTooLarge-clause-answer
+returns-in-Err-PreloadTooLarge-clause-answer g c =
+    refused_is_answer c.args.matched c.args.settings c.args.given c.in-Err-PreloadTooLarge._bytes
+    ((c.in-Err-PreloadTooLarge.ensures.too_large c.in-Err-PreloadTooLarge._bytes).0 (ap Err c.in-Err-PreloadTooLarge.field-0-is))

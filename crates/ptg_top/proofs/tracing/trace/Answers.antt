@@ -1,33 +1,26 @@
-use Rattle.ptg_top.specs.Denotation.{denoted}
-use Rattle.ptg_top.proofs.Answered.{trace_goes_on, verb_finds, verb_refuses}
-use Rattle.ptg_words.specs.declared.order.Order.TheVariants.{Trace}
-use Rattle.ptg_top.proofs.Found.{refused_by_receipt, trace_files, verb_by_receipt}
+use Rattle.std.proofs.Common.{◌≡◌, ap, ◌∙◌}
+use Rattle.dep_table.specs.Receipts.{ReceiptView}
+use Rattle.ptg_top.proofs.TableRuns.{closed_is_run}
+use Rattle.ptg_top.proofs.Traced.{ran_tasks, traced_by}
 use Rattle.ptg_top.proofs.tracing.trace.Goals as goal
 
--- the trace of the job that was found
-pub returns-in-Ok-clause-verdict : goal.returns-in-Ok-clause-verdict
-returns-in-Ok-clause-verdict g c =
-    verb_finds (g.F.Files.reads c.args.files.now) (g.F.Files.reads c.check.new.files) (g.F.Files.faults c.args.files.now) (g.F.Files.faults c.check.new.files) (trace_goes_on c.args.jdf.now c.args.data_name.now c.args.settings.workers c.args.settings.shards)
-    (denoted c.in_ok-checked.checked) c.in-Ok.matched c.in-Ok.given c.traced.result c.in-Ok.ensures.found c.in_ok-checked.ensures.verdict c.traced.ensures.trace
+-- the tasks are those of the plan of the table
+pub trace_text-requires : goal.trace_text-requires
+trace_text-requires g c =
+    let closed : c.in_ok-tasks.closed.job.matched ≡ c.in_ok-prepared.prepared.job.matched = rw c.in_ok-tasks.ensures.job in
+    let plan = c.plan.ensures.same ∙ (c.matched.ensures ∙ (ap (λ (r : ReceiptView). r.plan) c.in_ok-_outcome.ensures.receipt ∙ closed)) in
+    ran_tasks _ c.plan.result.now _ c.in_ok-tasks.tasks.items c.as_slice.result.now plan c.as_slice.ensures.value c.in_ok-tasks.ensures.order
 
--- a refusal
-pub returns-in-Err-clause-verdict : goal.returns-in-Err-clause-verdict
-returns-in-Err-clause-verdict g c =
-    verb_refuses (g.F.Files.reads c.args.files.now) (g.F.Files.reads c.check.new.files) (g.F.Files.faults c.args.files.now) (g.F.Files.faults c.check.new.files) (trace_goes_on c.args.jdf.now c.args.data_name.now c.args.settings.workers c.args.settings.shards)
-    c.in_ok-checked.checked c.in-Err.refused c.in-Err.ensures.refused.0 c.in_ok-checked.ensures.verdict c.in-Err.ensures.refused.1
+pub returns-clause-trace : goal.returns-clause-trace
+returns-clause-trace g c =
+    let of = closed_is_run c.args.settings c.args.matched c.args.given c.in_ok-prepared.prepared c.in_ok-tasks.closed c.in_ok-_outcome.receipt c.in_ok-_outcome._outcome c.in_ok-prepared.ensures
+    c.in_ok-tasks.ensures.job c.in_ok-tasks.ensures.passes c.in_ok-_outcome.ensures.receipt c.in_ok-_outcome.ensures.answer in
+    traced_by c.args.settings c.args.matched c.args.given c.in_ok-prepared.prepared c.in_ok-_outcome.receipt c.in_ok-_outcome._outcome c.in_ok-tasks.tasks.items c.as_slice.result.now c.in_ok-text.text c.plan.result.now
+    c.in_ok-prepared.ensures of c.in_ok-tasks.ensures.order (c.plan.ensures.same ∙ c.matched.ensures) c.as_slice.ensures.value c.in_ok-text.ensures
 
--- it is found by the receipt of its table
-pub returns-in-Ok-clause-by_receipt : goal.returns-in-Ok-clause-by_receipt
-returns-in-Ok-clause-by_receipt g c =
-    verb_by_receipt (g.F.Files.reads c.args.files.now) (g.F.Files.reads c.check.new.files)
-    (g.F.Files.faults c.args.files.now) (g.F.Files.faults c.check.new.files)
-    (trace_files c.args.jdf.now c.args.data_name.now c.args.settings.workers c.args.settings.shards)
-    c.in-Ok.matched c.in-Ok.given (denoted c.in_ok-checked.checked) c.traced.result
-    c.in-Ok.ensures.found c.in_ok-checked.ensures.verdict c.traced.ensures.trace c.traced.ensures.receipt
-
--- a refusal has no receipt
-pub returns-in-Err-clause-by_receipt : goal.returns-in-Err-clause-by_receipt
-returns-in-Err-clause-by_receipt g c =
-    refused_by_receipt (g.F.Files.reads c.args.files.now) (g.F.Files.reads c.check.new.files)
-    (Trace c.args.jdf.now c.args.data_name.now c.args.settings.workers c.args.settings.shards)
-    c.in-Err.refused c.in-Err.ensures.refused.1
+-- its receipt is of the job
+pub returns-clause-receipt : goal.returns-clause-receipt
+returns-clause-receipt g c =
+    let of = closed_is_run c.args.settings c.args.matched c.args.given c.in_ok-prepared.prepared c.in_ok-tasks.closed c.in_ok-_outcome.receipt c.in_ok-_outcome._outcome c.in_ok-prepared.ensures
+    c.in_ok-tasks.ensures.job c.in_ok-tasks.ensures.passes c.in_ok-_outcome.ensures.receipt c.in_ok-_outcome.ensures.answer in
+    (of.settings, of.job)

@@ -1,6 +1,6 @@
 use Rattle.std.proofs.Common.{◌∙◌}
 use Rattle.ptg_top.proofs.Summed.{made_denoted}
-use Rattle.ptg_top.proofs.summing.check_made.Goals as goal
+use Rattle.ptg_top.proofs.checking.check_made.Goals as goal
 
 -- the two texts are those of the made job
 pub returns-clause-denotes : goal.returns-clause-denotes
