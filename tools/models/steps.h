@@ -93,7 +93,7 @@ inline const StepText STEPS[] = {
 
     // The run of a task: `run_found`.
     {Step::BeginBody, "BeginBody", Access::LoadAndStore,
-     {{RUNNING, "run_found", "post.gate.before_body(post.rt, post.worker, &task)"}}},
+     {{RUNNING, "run_found", "post.gate.before_body(post.rt, post.worker, &found.task)"}}},
     {Step::EndBody, "EndBody", Access::None, {{RUNNING, "run_found", "run_body(post, bench, &at, arrivals)"}}},
     // Its sends: `send_all` calls `send_item` for each item, and this `send_one` and `push_target`.
     {Step::SendTurn, "SendTurn", Access::LoadAndStore,
