@@ -10,9 +10,9 @@ use Rattle.jdf_lex.specs.declared.fault.JdfFault.{JdfFault}
 use Rattle.term_core.specs.declared.body.Body.{Body}
 use Rattle.jdf_tree.specs.Statements.{Statements}
 use Rattle.expr_names.specs.Symbols.{Resolved}
-use Rattle.body_read.specs.Text.{IsTree, IsFaultBefore}
-use Rattle.body_names.specs.Environment.{Environment}
-use Rattle.body_names.specs.Statements.{body_of}
+use Rattle.body_lang.specs.Text.{IsTree, IsFaultBefore}
+use Rattle.body_lang.specs.Environment.{Environment}
+use Rattle.body_lang.specs.Statements.{body_of}
 use Rattle.body_lang.specs.Broken.{broken_fault}
 use Rattle.body_lang.specs.Body.{IsBody, IsBodyFault}
 use Rattle.body_lang.proofs.Once.{one_body, one_fault, body_or_fault}

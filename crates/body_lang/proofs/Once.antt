@@ -10,9 +10,9 @@ use Rattle.grammar_core.proofs.Whole.{fault_index}
 use Rattle.jdf_tree.specs.BodyGrammar.{body}
 use Rattle.jdf_tree.specs.Grammar.{productions}
 use Rattle.jdf_tree.specs.Statements.{Statements}
-use Rattle.body_read.proofs.Whole.{only, fault_read, one_tree, no_fault, one_place}
-use Rattle.body_names.specs.Environment.{Environment}
-use Rattle.body_names.specs.Statements.{body_of}
+use Rattle.body_lang.proofs.WholeText.{only, fault_read, one_tree, no_fault, one_place}
+use Rattle.body_lang.specs.Environment.{Environment}
+use Rattle.body_lang.specs.Statements.{body_of}
 use Rattle.body_lang.specs.Broken.{broken_fault}
 use Rattle.body_lang.specs.Body.{IsNameFault, IsTextFault}
 use Rattle.body_lang.specs.Laws.{OneBody, OneFault, BodyOrFault}

@@ -15,12 +15,12 @@ use Rattle.term_core.specs.declared.body.Stmt.TheVariants as stmt
 use Rattle.term_core.specs.BlockStatementList.{then}
 use Rattle.term_core.specs.StatementList.{StatementList}
 use Rattle.ptg_base.specs.Returns.{and_then}
-use Rattle.body_names.specs.Environment.{Environment}
-use Rattle.body_names.specs.Meanings.{meaning_of}
+use Rattle.body_lang.specs.Environment.{Environment}
+use Rattle.body_lang.specs.Meanings.{meaning_of}
 use Rattle.expr_names.specs.Symbols.{Resolved}
-use Rattle.body_names.specs.Expressions.{slot_of, written_flow, term_of}
-use Rattle.body_names.specs.Bindings.{Bindings, no_bindings, block_opened, with_variable, require_room, require_fresh, numbered}
-use Rattle.body_names.specs.Statements.{Resolver, declare, set, put, in_block, if_else, for_loop, trap, follow, resolved, body_of}
+use Rattle.body_lang.specs.Expressions.{slot_of, written_flow, term_of}
+use Rattle.body_lang.specs.Bindings.{Bindings, no_bindings, block_opened, with_variable, require_room, require_fresh, numbered}
+use Rattle.body_lang.specs.Statements.{Resolver, declare, set, put, in_block, if_else, for_loop, trap, follow, resolved, body_of}
 use Rattle.body_lang.specs.TrapWords.{words_of, numbers_of, with_word, words_in_order}
 
 -- what holds for everything

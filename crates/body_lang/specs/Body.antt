@@ -12,8 +12,8 @@ use Rattle.term_core.specs.declared.body.Body.{Body}
 use Rattle.jdf_tree.specs.BodyGrammar.{body}
 use Rattle.jdf_tree.specs.Grammar.{productions}
 use Rattle.jdf_tree.specs.Statements.{Statements}
-use Rattle.body_names.specs.Environment.{Environment}
-use Rattle.body_names.specs.Statements.{body_of}
+use Rattle.body_lang.specs.Environment.{Environment}
+use Rattle.body_lang.specs.Statements.{body_of}
 use Rattle.body_lang.specs.Broken.{broken_fault}
 
 -- The tokens are the text of this body, with these trap words, and each of its names means something.

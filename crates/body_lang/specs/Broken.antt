@@ -7,9 +7,9 @@ use Rattle.grammar_core.specs.declared.token.Token.{Token}
 use Rattle.grammar_core.specs.declared.code.Code.{Code}
 use Rattle.ptg_base.specs.Returns.{and_then}
 use Rattle.expr_read.specs.Front.{fault_at}
-use Rattle.body_names.specs.Environment.{Environment}
+use Rattle.body_lang.specs.Environment.{Environment}
 use Rattle.expr_names.specs.Symbols.{Resolved}
-use Rattle.body_names.specs.TokenScan.{front_fault}
+use Rattle.body_lang.specs.TokenScan.{front_fault}
 
 -- the first fault of a name before that token, or else the fault of the text there
 abbrev pub broken_fault : Environment → List Token → Spot → ℕ → Code → Resolved (Unit {0})

@@ -4,7 +4,7 @@ use Rattle.jdf_lex.specs.declared.fault.JdfFault.{JdfFault}
 use Rattle.grammar_core.specs.declared.token.Spot.{Spot}
 use Rattle.grammar_core.specs.declared.token.Token.{Token}
 use Rattle.term_core.specs.declared.body.Body.{Body}
-use Rattle.body_names.specs.Environment.{Environment}
+use Rattle.body_lang.specs.Environment.{Environment}
 use Rattle.body_lang.specs.Body.{IsBody, IsBodyFault}
 
 -- Tokens are the text of at most one body.

@@ -1,3 +1,11 @@
+pub mod Text
+pub mod Environment
+pub mod Meanings
+pub mod Expressions
+pub mod Bindings
+pub mod Statements
+pub mod TokenScan
+pub mod Scanner
 pub mod Broken
 pub mod Body
 pub mod TrapWords

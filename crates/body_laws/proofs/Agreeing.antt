@@ -18,14 +18,14 @@ use Rattle.jdf_tree.specs.declared.part.Part.TheVariants.{Body}
 use Rattle.jdf_tree.specs.BodyGrammar.{value, declare_of, declaration, element, assign_of, assignment, trap_statement, text}
 use Rattle.jdf_tree.specs.Nonterminal.{Nonterminal, TreeOf}
 use Rattle.jdf_tree.specs.GrammarParts.{word_of, name}
-use Rattle.body_names.specs.Environment.{Environment}
-use Rattle.body_names.specs.Meanings.{meaning_of}
+use Rattle.body_lang.specs.Environment.{Environment}
+use Rattle.body_lang.specs.Meanings.{meaning_of}
 use Rattle.expr_names.specs.Symbols.{Resolved}
-use Rattle.body_names.specs.Expressions.{slot_of, written_flow, term_of}
-use Rattle.body_names.specs.Bindings.{Bindings, require_room, require_fresh, numbered}
-use Rattle.body_names.specs.Statements.{declare, set, put, resolved, statement_of}
-use Rattle.body_names.specs.Statements as resolving
-use Rattle.body_names.specs.TokenScan.{TokenScan, declared, fault_of}
+use Rattle.body_lang.specs.Expressions.{slot_of, written_flow, term_of}
+use Rattle.body_lang.specs.Bindings.{Bindings, require_room, require_fresh, numbered}
+use Rattle.body_lang.specs.Statements.{declare, set, put, resolved, statement_of}
+use Rattle.body_lang.specs.Statements as resolving
+use Rattle.body_lang.specs.TokenScan.{TokenScan, declared, fault_of}
 use Rattle.body_laws.proofs.Along.{along, along_append, after_after, after_same, with_previous}
 use Rattle.body_laws.proofs.Alike.{Alike, names_append, fresh_alike, slot_alike, term_alike}
 use Rattle.body_laws.proofs.Declared as count

@@ -11,13 +11,13 @@ use Rattle.jdf_tree.specs.Expression.{Expression, Num, Name, Elem, Unary, Binary
 use Rattle.ptg_base.specs.Returns.{and_then}
 use Rattle.expr_names.specs.declared.meaning.Meaning.{Meaning}
 use Rattle.expr_names.specs.declared.meaning.Meaning.TheVariants as meaning
-use Rattle.body_names.specs.Environment.{Environment}
-use Rattle.body_names.specs.declared.variable.Variable.{Variable}
-use Rattle.body_names.specs.Meanings.{last_named, variable_or, meaning_of, outer_meaning}
+use Rattle.body_lang.specs.Environment.{Environment}
+use Rattle.body_lang.specs.declared.variable.Variable.{Variable}
+use Rattle.body_lang.specs.Meanings.{last_named, variable_or, meaning_of, outer_meaning}
 use Rattle.expr_names.specs.Symbols.{Resolved}
-use Rattle.body_names.specs.Expressions.{value_of, slot_of, read_flow, term_of}
-use Rattle.body_names.specs.Bindings.{Bindings, require_fresh}
-use Rattle.body_names.specs.TokenScan.{fault_of}
+use Rattle.body_lang.specs.Expressions.{value_of, slot_of, read_flow, term_of}
+use Rattle.body_lang.specs.Bindings.{Bindings, require_fresh}
+use Rattle.body_lang.specs.TokenScan.{fault_of}
 use Rattle.body_laws.proofs.Judging.{unary_fault, binary_fault, choose_fault, elem_fault}
 
 -- variables without their slots

@@ -10,14 +10,14 @@ use Rattle.jdf_lex.specs.Terminals.{terminal_of, is}
 use Rattle.ptg_base.specs.Returns.{and_then}
 use Rattle.jdf_tree.specs.declared.part.Part.TheVariants.{Body}
 use Rattle.jdf_tree.specs.GrammarParts.{names, word_of}
-use Rattle.body_names.specs.declared.role.Role.{Role}
-use Rattle.body_names.specs.declared.role.Role.TheVariants as role
-use Rattle.body_names.specs.Environment.{Environment}
-use Rattle.body_names.specs.declared.variable.Variable.{Variable}
-use Rattle.body_names.specs.Meanings.{meaning_of}
+use Rattle.body_lang.specs.declared.role.Role.{Role}
+use Rattle.body_lang.specs.declared.role.Role.TheVariants as role
+use Rattle.body_lang.specs.Environment.{Environment}
+use Rattle.body_lang.specs.declared.variable.Variable.{Variable}
+use Rattle.body_lang.specs.Meanings.{meaning_of}
 use Rattle.expr_names.specs.Symbols.{Resolved}
-use Rattle.body_names.specs.Expressions.{value_of, read_flow}
-use Rattle.body_names.specs.TokenScan.{TokenScan, after_terminal, after_token, previous_is, role_of, fault_of, judged_as, judged, judged_among}
+use Rattle.body_lang.specs.Expressions.{value_of, read_flow}
+use Rattle.body_lang.specs.TokenScan.{TokenScan, after_terminal, after_token, previous_is, role_of, fault_of, judged_as, judged, judged_among}
 use Rattle.std.proofs.lemmas.Bool.{and_parts, not-true}
 
 -- ---- one after another

@@ -2,9 +2,9 @@
 use Rattle.std.proofs.Common.{◌≡◌, ℕ, zero, suc, ◌<◌, List, [], ◌∷◌, ◌++◌, length, Ok, Err, ◌⊎◌, inl, inr, refl, ap, arith}
 use Rattle.grammar_core.specs.declared.token.Token.{Token}
 use Rattle.ptg_base.specs.Returns.{and_then}
-use Rattle.body_names.specs.Environment.{Environment}
+use Rattle.body_lang.specs.Environment.{Environment}
 use Rattle.expr_names.specs.Symbols.{Resolved}
-use Rattle.body_names.specs.TokenScan.{TokenScan, after_token, judged, judged_among}
+use Rattle.body_lang.specs.TokenScan.{TokenScan, after_token, judged, judged_among}
 
 module _ (scope : Environment) where
   pub none_or_whole : (st : TokenScan) (n : ℕ) (s : List Token) → (judged_among scope st n s ≡ Ok tt) ⊎ (judged_among scope st n s ≡ judged_among scope st (length s) s)

@@ -21,13 +21,13 @@ use Rattle.jdf_tree.specs.ExpressionGrammar.{number, number_at, parens, index, r
 use Rattle.jdf_tree.specs.Grammar.{productions}
 use Rattle.jdf_tree.specs.Nonterminal.{Nonterminal, an_expr, a_unary, TreeOf, Grammar}
 use Rattle.jdf_tree.specs.GrammarParts.{any, name, word_of}
-use Rattle.body_names.specs.Environment.{Environment}
-use Rattle.body_names.specs.declared.variable.Variable.{Variable}
-use Rattle.body_names.specs.Meanings.{meaning_of}
+use Rattle.body_lang.specs.Environment.{Environment}
+use Rattle.body_lang.specs.declared.variable.Variable.{Variable}
+use Rattle.body_lang.specs.Meanings.{meaning_of}
 use Rattle.expr_names.specs.Symbols.{Resolved}
 use Rattle.expr_names.specs.Expressions.{together}
-use Rattle.body_names.specs.Expressions.{value_of, read_flow, term_of}
-use Rattle.body_names.specs.TokenScan.{fault_of}
+use Rattle.body_lang.specs.Expressions.{value_of, read_flow, term_of}
+use Rattle.body_lang.specs.TokenScan.{fault_of}
 use Rattle.body_laws.proofs.Along.{Judges, faultless, same_verdict, same_rest, then_judges, token_then, then_token, quiet_judges, value_judges, element_judges, after_after, is_quiet}
 
 -- no index follows

@@ -26,14 +26,14 @@ use Rattle.jdf_tree.specs.Nonterminal.{Nonterminal, a_block, TreeOf}
 use Rattle.jdf_tree.specs.GrammarParts.{any, word_of, name}
 use Rattle.jdf_tree.specs.GrammarParts as piece
 use Rattle.jdf_tree.specs.Statements.{Statements, Done}
-use Rattle.body_names.specs.Environment.{Environment}
+use Rattle.body_lang.specs.Environment.{Environment}
 use Rattle.expr_names.specs.Symbols.{Resolved}
-use Rattle.body_names.specs.Expressions.{term_of}
-use Rattle.body_names.specs.Bindings.{Bindings, no_bindings, block_opened, block_closed, next_slot, with_variable, require_room}
-use Rattle.body_names.specs.Statements.{in_block, resolved, statement_of, body_of}
-use Rattle.body_names.specs.Statements as resolving
-use Rattle.body_names.proofs.Blocks.{resolved-then}
-use Rattle.body_names.specs.TokenScan.{TokenScan, at_first, declared_by, declared, block_entered, block_left_by, block_left, fault_of, front_fault}
+use Rattle.body_lang.specs.Expressions.{term_of}
+use Rattle.body_lang.specs.Bindings.{Bindings, no_bindings, block_opened, block_closed, next_slot, with_variable, require_room}
+use Rattle.body_lang.specs.Statements.{in_block, resolved, statement_of, body_of}
+use Rattle.body_lang.specs.Statements as resolving
+use Rattle.body_lang.proofs.Blocks.{resolved-then}
+use Rattle.body_lang.specs.TokenScan.{TokenScan, at_first, declared_by, declared, block_entered, block_left_by, block_left, fault_of, front_fault}
 use Rattle.body_laws.specs.Declarations.{declarations}
 use Rattle.body_laws.proofs.Along.{along, along_append, after_after, after_same, among_all, with_previous, is_inside}
 use Rattle.body_laws.proofs.Alike.{Alike, names_of, names_append, names_take, names_length, term_alike}

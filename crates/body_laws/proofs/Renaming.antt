@@ -22,14 +22,14 @@ use Rattle.jdf_tree.specs.Expression.{Expression, Num, Name, Elem, Unary, Binary
 use Rattle.jdf_tree.specs.Statements.{Statements, Done, DeclareThen, SetThen, PutThen, IfThen, ForThen, TrapThen}
 use Rattle.expr_names.specs.declared.meaning.Meaning.{Meaning}
 use Rattle.expr_names.specs.declared.meaning.Meaning.TheVariants as meaning
-use Rattle.body_names.specs.Environment.{Environment}
-use Rattle.body_names.specs.declared.variable.Variable.{Variable}
-use Rattle.body_names.specs.Meanings.{last_named, variable_or, meaning_of, outer_meaning}
+use Rattle.body_lang.specs.Environment.{Environment}
+use Rattle.body_lang.specs.declared.variable.Variable.{Variable}
+use Rattle.body_lang.specs.Meanings.{last_named, variable_or, meaning_of, outer_meaning}
 use Rattle.expr_names.specs.Symbols.{Resolved, fault_at}
 use Rattle.expr_names.specs.Expressions.{together}
-use Rattle.body_names.specs.Expressions.{value_of, slot_of, read_flow, written_flow, term_of}
-use Rattle.body_names.specs.Bindings.{Bindings, block_opened, block_closed, next_slot, with_variable, require_room, require_fresh, numbered}
-use Rattle.body_names.specs.Statements.{Resolver, declare, set, put, in_block, if_else, for_loop, trap, follow, resolved}
+use Rattle.body_lang.specs.Expressions.{value_of, slot_of, read_flow, written_flow, term_of}
+use Rattle.body_lang.specs.Bindings.{Bindings, block_opened, block_closed, next_slot, with_variable, require_room, require_fresh, numbered}
+use Rattle.body_lang.specs.Statements.{Resolver, declare, set, put, in_block, if_else, for_loop, trap, follow, resolved}
 use Rattle.body_laws.specs.Renaming.{named, renamed_word, with_words, renamed_term, renamed, reads, occurs, DeclaredSame, LoopedSame}
 use Rattle.list_lemmas.proofs.Truth.{first_false, second_false, or-false, or-assoc}
 use Rattle.list_lemmas.proofs.Texts.{bytes_eq-sym_false}

@@ -22,15 +22,15 @@ use Rattle.jdf_tree.specs.Statements.{Statements, Done, DeclareThen, SetThen, Pu
 use Rattle.body_lang.proofs.Words.{Anything}
 use Rattle.expr_names.specs.declared.meaning.Meaning.{Meaning}
 use Rattle.expr_names.specs.declared.meaning.Meaning.TheVariants as meaning
-use Rattle.body_names.specs.declared.scope.FlowName.{FlowName}
-use Rattle.body_names.specs.Environment.{Environment}
-use Rattle.body_names.specs.declared.variable.Variable.{Variable}
-use Rattle.body_names.specs.Meanings.{meaning_of, flow_named}
+use Rattle.body_lang.specs.declared.scope.FlowName.{FlowName}
+use Rattle.body_lang.specs.Environment.{Environment}
+use Rattle.body_lang.specs.declared.variable.Variable.{Variable}
+use Rattle.body_lang.specs.Meanings.{meaning_of, flow_named}
 use Rattle.expr_names.specs.Symbols.{Resolved}
 use Rattle.expr_names.specs.Expressions.{together}
-use Rattle.body_names.specs.Expressions.{value_of, slot_of, readable, writable, if_flow, flow_by, read_flow, written_flow, term_of}
-use Rattle.body_names.specs.Bindings.{Bindings, no_bindings, block_opened, block_closed, next_slot, with_variable, require_room, require_fresh, numbered}
-use Rattle.body_names.specs.Statements.{Resolver, declare, set, put, in_block, if_else, for_loop, trap, follow, resolved, body_of}
+use Rattle.body_lang.specs.Expressions.{value_of, slot_of, readable, writable, if_flow, flow_by, read_flow, written_flow, term_of}
+use Rattle.body_lang.specs.Bindings.{Bindings, no_bindings, block_opened, block_closed, next_slot, with_variable, require_room, require_fresh, numbered}
+use Rattle.body_lang.specs.Statements.{Resolver, declare, set, put, in_block, if_else, for_loop, trap, follow, resolved, body_of}
 use Rattle.body_laws.specs.Declarations.{declarations}
 
 -- the value satisfies P, or the fault is not TooManyVars

@@ -10,13 +10,13 @@ use Rattle.jdf_lex.specs.Terminals.{terminal_of, is, number_of}
 use Rattle.ptg_base.specs.Returns.{and_then}
 use Rattle.jdf_tree.specs.declared.part.Part.TheVariants.{Body}
 use Rattle.jdf_tree.specs.GrammarParts.{names, word_of}
-use Rattle.body_names.specs.Environment.{Environment}
-use Rattle.body_names.specs.declared.variable.Variable.{Variable}
-use Rattle.body_names.specs.Meanings.{meaning_of}
+use Rattle.body_lang.specs.Environment.{Environment}
+use Rattle.body_lang.specs.declared.variable.Variable.{Variable}
+use Rattle.body_lang.specs.Meanings.{meaning_of}
 use Rattle.expr_names.specs.Symbols.{Resolved}
-use Rattle.body_names.specs.Expressions.{slot_of, written_flow}
-use Rattle.body_names.specs.Bindings.{Bindings, require_fresh}
-use Rattle.body_names.specs.TokenScan.{TokenScan, after_terminal, after_token, named_by, previous_is, begins_here, fault_of, judged, declared, block_left}
+use Rattle.body_lang.specs.Expressions.{slot_of, written_flow}
+use Rattle.body_lang.specs.Bindings.{Bindings, require_fresh}
+use Rattle.body_lang.specs.TokenScan.{TokenScan, after_terminal, after_token, named_by, previous_is, begins_here, fault_of, judged, declared, block_left}
 use Rattle.body_laws.proofs.Along.{along, along_append, after_after, with_previous, is_inside, Judges}
 use Rattle.body_laws.proofs.Alike.{Alike}
 

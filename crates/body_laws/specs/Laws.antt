@@ -8,9 +8,9 @@ use Rattle.term_core.specs.declared.body.Body.{Body}
 use Rattle.jdf_tree.specs.BodyGrammar.{body}
 use Rattle.jdf_tree.specs.Grammar.{productions}
 use Rattle.jdf_tree.specs.Statements.{Statements}
-use Rattle.body_names.specs.Environment.{Environment}
-use Rattle.body_names.specs.Statements.{body_of}
-use Rattle.body_names.specs.TokenScan.{fault_of, front_fault}
+use Rattle.body_lang.specs.Environment.{Environment}
+use Rattle.body_lang.specs.Statements.{body_of}
+use Rattle.body_lang.specs.TokenScan.{fault_of, front_fault}
 use Rattle.body_lang.specs.Body.{IsBody, IsNameFault}
 use Rattle.body_lang.specs.TrapWords.{words_of, numbers_of, words_in_order}
 use Rattle.body_laws.specs.Declarations.{declarations}

@@ -9,10 +9,10 @@ use Rattle.term_core.specs.StatementList.{StatementList}
 use Rattle.jdf_tree.specs.declared.expression.Word.{Word}
 use Rattle.jdf_tree.specs.Expression.{Expression, Num, Name, Elem, Unary, Binary, Choose}
 use Rattle.jdf_tree.specs.Statements.{Statements, Done, DeclareThen, SetThen, PutThen, IfThen, ForThen, TrapThen}
-use Rattle.body_names.specs.Environment.{Environment}
-use Rattle.body_names.specs.declared.variable.Variable.{Variable}
-use Rattle.body_names.specs.Bindings.{Bindings, next_slot}
-use Rattle.body_names.specs.Statements.{for_loop, resolved}
+use Rattle.body_lang.specs.Environment.{Environment}
+use Rattle.body_lang.specs.declared.variable.Variable.{Variable}
+use Rattle.body_lang.specs.Bindings.{Bindings, next_slot}
+use Rattle.body_lang.specs.Statements.{for_loop, resolved}
 
 -- a word with another name
 abbrev pub named : List ℕ → Word → Word

@@ -12,8 +12,8 @@ use Rattle.dep_iter.specs.Edges.{in_edges}
 use Rattle.dep_iter.specs.Consistent.{IsConsistent}
 use Rattle.dep_iter.proofs.Listing.{listed}
 use Rattle.dep_iter.proofs.Once.{once-all_tasks}
-use Rattle.task_order.specs.Greatest.{IsGreatestOrder}
-use Rattle.task_order.proofs.Orders.{from_outside}
+use Rattle.chain_cert.specs.Greatest.{IsGreatestOrder}
+use Rattle.chain_cert.proofs.Orders.{from_outside}
 use Rattle.chain_cert.specs.Chains.{HasNoCycle, IsSourceOf}
 use Rattle.chain_exists.proofs.Completeness.{long_walk}
 use Rattle.chain_cert.proofs.Turning.{IsBackFrom, source_task}

@@ -7,7 +7,7 @@ ghost use Rattle.coll_data.specs.Data.{Data};
 ghost use Rattle.dep_iter.specs.Tasks.{all_tasks};
 ghost use Rattle.dep_iter.specs.Consistent.{IsConsistent};
 ghost use Rattle.flow_meaning.specs.Answer.{answer, trapped};
-ghost use Rattle.task_order.specs.Greatest.{IsGreatestOrder};
+ghost use Rattle.chain_cert.specs.Greatest.{IsGreatestOrder};
 ghost use Rattle.chain_cert.specs.declared.certificate.Certificate.{Certificate};
 ghost use Rattle.chain_cert.specs.Certificates.{IsCertificate};
 ghost use Rattle.chain_cert.specs.Chains.{HasNoCycle, IsCycle};

@@ -1,3 +1,9 @@
+pub mod Orders
+pub mod Coming
+pub mod Grown
+pub mod Passing
+pub mod Running
+pub mod Tables
 pub mod Linking
 pub mod TaskSorting
 pub mod Prefixes

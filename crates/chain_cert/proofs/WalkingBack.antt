@@ -20,9 +20,9 @@ use Rattle.dep_iter.specs.Edges.{in_edges, sources}
 use Rattle.dep_iter.specs.Consistent.{IsConsistent}
 use Rattle.dep_iter.proofs.Listing.{listed}
 use Rattle.dep_iter.proofs.Once.{once-all_tasks}
-use Rattle.task_order.proofs.Orders.{from_outside}
+use Rattle.chain_cert.proofs.Orders.{from_outside}
 use Rattle.indexmap.specs.IndexSet.{insert_key}
-use Rattle.task_order.specs.Greatest.{IsGreatestOrder}
+use Rattle.chain_cert.specs.Greatest.{IsGreatestOrder}
 use Rattle.chain_cert.specs.Finding.{HasLevels, IsLeastWhere, IsLevelAmong, LacksTasks, is_left}
 use Rattle.chain_cert.specs.Printed.{IsLeast, IsPrintedCycle, IsSourceLeft, IsTaskLeft, IsWalkBack, IsWalkedBack}
 use Rattle.chain_cert.proofs.Turning.{source_task}

@@ -17,7 +17,7 @@ use Rattle.dep_iter.specs.Consistent.{IsConsistent}
 use Rattle.dep_iter.proofs.Listing.{listed}
 use Rattle.flow_meaning.specs.Order.{IsLegalAfter, IsLegalOrder}
 use Rattle.run_answer.specs.Rows.{AreOfDifferentTasks}
-use Rattle.task_order.proofs.Orders.{legal_once, legal_tasks}
+use Rattle.chain_cert.proofs.Orders.{legal_once, legal_tasks}
 use Rattle.chain_cert.specs.Certificates.{AreLevels, tasks_in_order}
 use Rattle.chain_cert.specs.Chains.{HasNoCycle, IsCycle}
 use Rattle.chain_cert.specs.Finding.{HasAllLevels, HasLevels, IsLevelAmong, IsNextTask, rows_by}

@@ -11,7 +11,7 @@ use Rattle.dep_iter.specs.Tasks.{IsTask, all_tasks}
 use Rattle.flow_meaning.specs.declared.outcome.Outcome.{Outcome}
 use Rattle.flow_meaning.specs.declared.outcome.Outcome.TheVariants as outcome
 use Rattle.flow_meaning.specs.Order.{MayFollow}
-use Rattle.task_order.specs.Greatest.{IsGreatestOrder}
+use Rattle.chain_cert.specs.Greatest.{IsGreatestOrder}
 use Rattle.chain_cert.specs.declared.certificate.Certificate.{Certificate}
 use Rattle.chain_cert.specs.declared.certificate.Certificate.TheVariants.{Chain, Cycle, Trapped}
 use Rattle.chain_cert.specs.Chains.{IsCycle}

@@ -1,3 +1,5 @@
+pub mod Greatest
+pub mod Growing
 pub mod Chains
 pub mod Weights
 pub mod Levels

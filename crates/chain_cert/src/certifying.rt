@@ -16,13 +16,13 @@ ghost use Rattle.chain_cert.specs.Printed.{IsPrintedChain};
 use crate::certificate::Certificate;
 use crate::leveling::{levels_along, rows_by};
 use crate::longest::printed_chain;
+use crate::order::order_of;
 use crate::walking::printed_cycle;
 use dep_iter::Matched;
 use flow_meaning::Outcome;
 use indexmap::IndexMap;
 use ptg_base::{OutOfMemory, Seq, TaskId};
 use std::alloc::Global;
-use task_order::order_of;
 
 // Whether an answer is that a task trapped.
 fn has_trap(outcome: &Outcome) -> bool

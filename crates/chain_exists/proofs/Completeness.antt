@@ -28,7 +28,7 @@ use Rattle.flow_meaning.specs.Final.{final_data}
 use Rattle.flow_meaning.proofs.Members.{source_is_task}
 use Rattle.flow_meaning.proofs.Enough.{fixed}
 use Rattle.flow_meaning.proofs.SourceEdges.{class_of}
-use Rattle.task_order.proofs.Running.{all_outputs}
+use Rattle.chain_cert.proofs.Running.{all_outputs}
 use Rattle.chain_cert.specs.Chains.{HasNoCycle, IsCycle, IsSourceOf}
 use Rattle.chain_exists.specs.Completing.{IsComplete}
 use Rattle.chain_cert.proofs.Linking.{chain_task}

@@ -10,11 +10,11 @@ use Rattle.dep_iter.proofs.Listing.{listed}
 use Rattle.dep_iter.proofs.Once.{once-all_tasks}
 use Rattle.flow_meaning.specs.declared.outcome.TrapRow.{TrapRow}
 use Rattle.flow_meaning.specs.Answer.{ran, trapped}
-use Rattle.task_order.specs.Greatest.{IsGreatestOrder}
+use Rattle.chain_cert.specs.Greatest.{IsGreatestOrder}
 use Rattle.list_lemmas.proofs.Distinct.{no_longer}
 use Rattle.list_lemmas.proofs.Tasks.{all_or_absent}
-use Rattle.task_order.proofs.Orders.{legal_once, legal_tasks}
-use Rattle.task_order.proofs.Running.{members_ran}
+use Rattle.chain_cert.proofs.Orders.{legal_once, legal_tasks}
+use Rattle.chain_cert.proofs.Running.{members_ran}
 use Rattle.chain_cert.specs.declared.certificate.Certificate.{Certificate}
 use Rattle.chain_cert.specs.declared.certificate.Certificate.TheVariants.{Chain, Cycle, Trapped}
 use Rattle.chain_cert.specs.Certificates.{AreLevels, IsCertificate, tasks_in_order}

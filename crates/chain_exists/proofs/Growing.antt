@@ -14,8 +14,8 @@ use Rattle.dep_iter.specs.Tasks.{IsTask, all_tasks}
 use Rattle.dep_iter.specs.Edges.{in_edges, sources}
 use Rattle.dep_iter.proofs.Listing.{listed}
 use Rattle.flow_meaning.specs.Order.{IsLegalAfter, IsLegalOrder, MayFollow}
-use Rattle.task_order.specs.Greatest.{IsGreatestOrder}
-use Rattle.task_order.proofs.Orders.{legal_push}
+use Rattle.chain_cert.specs.Greatest.{IsGreatestOrder}
+use Rattle.chain_cert.proofs.Orders.{legal_push}
 use Rattle.chain_cert.specs.Chains.{IsSourceOf}
 use Rattle.chain_cert.specs.Levels.{IsLevel}
 use Rattle.chain_cert.specs.Weights.{weight}

@@ -1,9 +1,9 @@
 -- Parts that are there if no rule is broken.
 use Rattle.std.proofs.Common.{◌≡◌, List, [], ◌∷◌, ◌++◌, flat_map, Option, Some, None, is_none, refl}
 use Rattle.std.specs.Option.{IsSome}
-use Rattle.check_names.specs.TreesAndFaults.{Spot, JdfCode, JdfFault}
-use Rattle.check_names.specs.Faults.{fault, fault_if}
-use Rattle.check_names.specs.Returns.{both, each, each_option}
+use Rattle.type_rules.specs.TreesAndFaults.{Spot, JdfCode, JdfFault}
+use Rattle.type_rules.specs.Faults.{fault, fault_if}
+use Rattle.type_rules.specs.Returns.{both, each, each_option}
 use Rattle.list_lemmas.proofs.Joins.{first_nil, rest_nil}
 use Rattle.list_lemmas.proofs.Options.{IsSome-option_map}
 

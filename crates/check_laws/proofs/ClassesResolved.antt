@@ -2,27 +2,27 @@
 use Rattle.std.proofs.Common.{◌≡◌, List, [], ◌∷◌, ◌++◌, flat_map, Option, Some, None, Ok, Err, inl, inr, refl}
 use Rattle.std.specs.Option.{IsSome}
 use Rattle.std.specs.Result.{result_ok}
-use Rattle.check_names.specs.TreesAndFaults.{JdfFault, DefTree, FlowTree, ClassTree, NameTwice}
-use Rattle.check_names.specs.Faults.{first_fault, resolved_faults}
-use Rattle.check_names.specs.Returns.{both}
-use Rattle.check_names.specs.Repeats.{repeats}
-use Rattle.check_names.specs.Names.{Job}
-use Rattle.check_names.specs.Expressions.{option_faults, option_term}
-use Rattle.check_names.specs.Definitions.{space_of, space_faults}
-use Rattle.check_names.proofs.First.{first_none}
+use Rattle.type_rules.specs.TreesAndFaults.{JdfFault, DefTree, FlowTree, ClassTree, NameTwice}
+use Rattle.type_rules.specs.Faults.{first_fault, resolved_faults}
+use Rattle.type_rules.specs.Returns.{both}
+use Rattle.type_rules.specs.Repeats.{repeats}
+use Rattle.type_rules.specs.Names.{Job}
+use Rattle.type_rules.specs.Expressions.{option_faults, option_term}
+use Rattle.type_rules.specs.Definitions.{space_of, space_faults}
+use Rattle.type_rules.proofs.First.{first_none}
 use Rattle.list_lemmas.proofs.Joins.{first_nil}
 use Rattle.list_lemmas.proofs.Options.{some_value}
 use Rattle.check_laws.proofs.AllThere.{both_there, each_there}
 use Rattle.check_laws.proofs.NamesResolved.{option_there, space_there}
-use Rattle.check_flows.specs.Elements.{element_faults, element_of}
-use Rattle.check_flows.specs.Dependences.{flow_faults, flow_plan}
+use Rattle.type_rules.specs.Elements.{element_faults, element_of}
+use Rattle.type_rules.specs.Dependences.{flow_faults, flow_plan}
 use Rattle.check_laws.proofs.FlowsResolved.{element_there, flow_is_there}
-use Rattle.flow_check.specs.Bodies.{BodyResult}
-use Rattle.flow_check.specs.Classes.{flows_of, flows_faults, head_from, head_of, head_faults, class_from, class_plan, class_faults}
-use Rattle.flow_check.specs.Check.{ReadBodies, classes_faults, classes_plan, names_faults, faults_of, AreResolved}
+use Rattle.type_check.specs.Bodies.{BodyResult}
+use Rattle.type_check.specs.Classes.{flows_of, flows_faults, head_from, head_of, head_faults, class_from, class_plan, class_faults}
+use Rattle.type_check.specs.Check.{ReadBodies, classes_faults, classes_plan, names_faults, faults_of, AreResolved}
 use Rattle.check_laws.specs.Laws.{HasPlanOrFault, EachHasPlanOrFault}
-use Rattle.flow_check.proofs.ClassesRead.{Plans, plan_first}
-use Rattle.flow_check.proofs.Plans.{plan_there}
+use Rattle.type_check.proofs.ClassesRead.{Plans, plan_first}
+use Rattle.type_check.proofs.Plans.{plan_there}
 use Rattle.check_laws.proofs.Readings.{bodies_read}
 
 -- ---- a class

@@ -10,26 +10,26 @@ use Rattle.term_core.specs.declared.flow.FlowKind.{FlowKind}
 use Rattle.jdf_tree.specs.declared.tree.TargetTree.TheVariants as tree
 use Rattle.coll_data.specs.Data.{Data}
 use Rattle.plan_core.specs.declared.target.Target.TheVariants as plan
-use Rattle.check_names.specs.TreesAndFaults.{Word, DefTree, ArgTree, TargetTree, DepTree, FlowTree, ClassTree, NoSuchFlow, Arity, Datatype}
-use Rattle.check_names.specs.Faults.{fault_if}
-use Rattle.check_names.specs.Returns.{both, each_option}
-use Rattle.check_names.specs.Names.{Job, class_named, class_of, flow_named, coll_named}
-use Rattle.check_names.specs.Arguments.{arguments_faults, arguments_of, indices_faults, indices_of}
-use Rattle.check_names.specs.Expressions.{option_faults, option_term}
+use Rattle.type_rules.specs.TreesAndFaults.{Word, DefTree, ArgTree, TargetTree, DepTree, FlowTree, ClassTree, NoSuchFlow, Arity, Datatype}
+use Rattle.type_rules.specs.Faults.{fault_if}
+use Rattle.type_rules.specs.Returns.{both, each_option}
+use Rattle.type_rules.specs.Names.{Job, class_named, class_of, flow_named, coll_named}
+use Rattle.type_rules.specs.Arguments.{arguments_faults, arguments_of, indices_faults, indices_of}
+use Rattle.type_rules.specs.Expressions.{option_faults, option_term}
 use Rattle.list_lemmas.proofs.Joins.{first_nil, rest_nil}
 use Rattle.list_lemmas.proofs.Texts.{bytes_eq-self}
 use Rattle.list_lemmas.proofs.Options.{IsSome-option_map}
 use Rattle.check_laws.proofs.AllThere.{some_both, not_none, both_there, each_there, maybe_there}
 use Rattle.check_laws.proofs.NamesResolved.{option_there, arguments_there, indices_there}
-use Rattle.check_flows.specs.Kinds.{is_control}
-use Rattle.check_flows.specs.Elements.{collection_faults, element_faults, element_of}
+use Rattle.type_rules.specs.Kinds.{is_control}
+use Rattle.type_rules.specs.Elements.{collection_faults, element_faults, element_of}
 use Rattle.coll_data.specs.Types.{default_type}
-use Rattle.check_flows.specs.Datatypes.{type_is, allowed_type, type_of_written, written_faults, first_written, flow_type}
-use Rattle.check_flows.specs.Targets.{task_faults, task_of, named_faults, target_of}
-use Rattle.check_flows.specs.Rules.{rule_faults}
-use Rattle.check_flows.specs.Dependences.{target_faults, type_faults, dependence_faults, dependence_of, is_of_direction, dependences_of, dependences_faults, directions_of, directions_faults, flow_faults, flow_from, flow_plan}
-use Rattle.check_flows.proofs.Tasks.{task_from}
-use Rattle.check_flows.proofs.Ways.{dep_from}
+use Rattle.type_rules.specs.Datatypes.{type_is, allowed_type, type_of_written, written_faults, first_written, flow_type}
+use Rattle.type_rules.specs.Targets.{task_faults, task_of, named_faults, target_of}
+use Rattle.type_rules.specs.Rules.{rule_faults}
+use Rattle.type_rules.specs.Dependences.{target_faults, type_faults, dependence_faults, dependence_of, is_of_direction, dependences_of, dependences_faults, directions_of, directions_faults, flow_faults, flow_from, flow_plan}
+use Rattle.type_rules.proofs.Tasks.{task_from}
+use Rattle.type_rules.proofs.Ways.{dep_from}
 
 -- ---- elements
 

@@ -2,10 +2,10 @@
 use Rattle.std.proofs.Common.{◌≡◌, Bool, true, false, List, [], ◌∷◌, Option, Some, None, refl, sym, ◌∙◌, ap, subst, inl, inr}
 use Rattle.std.proofs.lemmas.Option.{same_Some}
 use Rattle.ptg_base.specs.Lists.{IsIn}
-use Rattle.check_names.specs.TreesAndFaults.{JdfFault}
-use Rattle.check_names.specs.Faults.{is_before, earlier_of, first_fault}
-use Rattle.check_names.proofs.Order.{before-trans, before-cotrans, before-irrefl}
-use Rattle.check_names.proofs.First.{the-later, the-former, first_none}
+use Rattle.type_rules.specs.TreesAndFaults.{JdfFault}
+use Rattle.type_rules.specs.Faults.{is_before, earlier_of, first_fault}
+use Rattle.type_rules.proofs.Order.{before-trans, before-cotrans, before-irrefl}
+use Rattle.type_rules.proofs.First.{the-later, the-former, first_none}
 
 no_fault : {A : Type 0} (f : JdfFault) → None ≡ Some f → A
 no_fault f e = absurd cc

@@ -5,3 +5,7 @@ mod NamesResolved
 mod FlowsResolved
 mod Readings
 pub mod ClassesResolved
+pub mod Resolved
+pub mod Types
+pub mod Targets
+pub mod Flows

@@ -5,20 +5,20 @@ use Rattle.term_core.specs.declared.space.Def.TheVariants as def
 use Rattle.jdf_tree.specs.Expression.{Expression}
 use Rattle.jdf_tree.specs.declared.tree.ArgTree.TheVariants as tree
 use Rattle.plan_core.specs.declared.target.Arg.TheVariants as plan
-use Rattle.check_names.specs.TreesAndFaults.{Word, DefTree, ArgTree, RangeInPlace, ParamUndefined, RangedLocal, LocalTwice, NameTwice}
-use Rattle.check_names.specs.Faults.{fault_if}
-use Rattle.check_names.specs.Returns.{both, each}
-use Rattle.check_names.specs.Names.{Job, local_named}
-use Rattle.check_names.specs.Expressions.{expression_faults, term_of, option_faults, option_term}
-use Rattle.check_names.specs.Arguments.{argument_faults, range_of, argument_of, index_faults, index_of, arguments_faults, arguments_of, indices_faults, indices_of}
-use Rattle.check_names.specs.Definitions.{is_ranged_local, definition_faults, definitions_faults, definition_of, definitions_of, parameter_faults, parameter_of, space_faults, space_of}
-use Rattle.check_names.specs.Repeats.{repeats}
+use Rattle.type_rules.specs.TreesAndFaults.{Word, DefTree, ArgTree, RangeInPlace, ParamUndefined, RangedLocal, LocalTwice, NameTwice}
+use Rattle.type_rules.specs.Faults.{fault_if}
+use Rattle.type_rules.specs.Returns.{both, each}
+use Rattle.type_rules.specs.Names.{Job, local_named}
+use Rattle.type_rules.specs.Expressions.{expression_faults, term_of, option_faults, option_term}
+use Rattle.type_rules.specs.Arguments.{argument_faults, range_of, argument_of, index_faults, index_of, arguments_faults, arguments_of, indices_faults, indices_of}
+use Rattle.type_rules.specs.Definitions.{is_ranged_local, definition_faults, definitions_faults, definition_of, definitions_of, parameter_faults, parameter_of, space_faults, space_of}
+use Rattle.type_rules.specs.Repeats.{repeats}
 use Rattle.list_lemmas.proofs.Joins.{first_nil, rest_nil}
 use Rattle.list_lemmas.proofs.Options.{IsSome-option_map}
 use Rattle.check_laws.proofs.AllThere.{some_both, not_none, no_nil, both_there, each_there, maybe_there}
-use Rattle.check_names.proofs.OneResolver.{agrees, faultless_there}
-use Rattle.check_names.proofs.Ranges.{range_from}
-use Rattle.check_names.proofs.Spaces.{space_from}
+use Rattle.type_rules.proofs.OneResolver.{agrees, faultless_there}
+use Rattle.type_rules.proofs.Ranges.{range_from}
+use Rattle.type_rules.proofs.Spaces.{space_from}
 
 pub term_there : (job : Job) (seen : List DefTree) (e : Expression) → expression_faults job seen e ≡ [] → IsSome (term_of job seen e)
 term_there job seen e h = faultless_there _ _ _ (agrees job seen e) h

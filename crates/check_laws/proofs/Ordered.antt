@@ -2,9 +2,9 @@
 use Rattle.std.proofs.Common.{◌≡◌, ℕ, Bool, true, false, List, [], ◌∷◌, arith, refl, sym, ◌∙◌, ap, inl, inr}
 use Rattle.std.specs.Prelude.{Some, nat_lt, slice_get}
 use Rattle.std.proofs.lemmas.Bool.{cases_order, ltb-false}
-use Rattle.check_names.specs.TreesAndFaults.{JdfCode, JdfFault, TooLong, NotUtf8, Unclosed, TooManyTokens, Syntax, Truncated, BadNumber, ExprTooLong, TooManyClasses, TooManyParams, TooManyLocals, TooManyFlows, TooManyDeps, TooDeep, TooManyVars, NameTwice, LocalTwice, ParamUndefined, RangedLocal, UnknownName, WrongKind, NoSuchFlow, Arity, CtlMixed, WriteInput, NewSent, RangeInDataInput, RangeInPlace, Datatype, MixedTypes, TypeDiffers, ReadAssigned, NotAssignable}
-use Rattle.check_names.specs.Faults.{code_number, is_before}
-use Rattle.check_names.proofs.Order.{lex, lex-less, lex-same}
+use Rattle.type_rules.specs.TreesAndFaults.{JdfCode, JdfFault, TooLong, NotUtf8, Unclosed, TooManyTokens, Syntax, Truncated, BadNumber, ExprTooLong, TooManyClasses, TooManyParams, TooManyLocals, TooManyFlows, TooManyDeps, TooDeep, TooManyVars, NameTwice, LocalTwice, ParamUndefined, RangedLocal, UnknownName, WrongKind, NoSuchFlow, Arity, CtlMixed, WriteInput, NewSent, RangeInDataInput, RangeInPlace, Datatype, MixedTypes, TypeDiffers, ReadAssigned, NotAssignable}
+use Rattle.type_rules.specs.Faults.{code_number, is_before}
+use Rattle.type_rules.proofs.Order.{lex, lex-less, lex-same}
 
 -- all codes, each at the index that is its number
 abbrev codes_by_number : List JdfCode

@@ -13,16 +13,16 @@ use Rattle.jdf_tree.specs.BodyGrammar.{body}
 use Rattle.jdf_tree.specs.Grammar.{productions}
 use Rattle.jdf_tree.specs.Statements.{Statements}
 use Rattle.jdf_tree.specs.TreeLimits.{IsClassWithinLimits}
-use Rattle.body_read.proofs.Whole.{found, faulty}
-use Rattle.body_names.specs.Environment.{Environment}
+use Rattle.body_lang.proofs.WholeText.{found, faulty}
+use Rattle.body_lang.specs.Environment.{Environment}
 use Rattle.expr_names.specs.Symbols.{Resolved}
-use Rattle.body_names.specs.Statements.{body_of}
-use Rattle.body_names.specs.TokenScan.{front_fault}
+use Rattle.body_lang.specs.Statements.{body_of}
+use Rattle.body_lang.specs.TokenScan.{front_fault}
 use Rattle.body_lang.specs.Broken.{broken_fault}
-use Rattle.check_names.specs.TreesAndFaults.{JdfFault, DefTree, FlowTree, ClassTree}
-use Rattle.check_names.specs.Names.{Job, int_named, coll_named}
-use Rattle.flow_check.specs.Bodies.{local_names, flow_names, BodyResult, ReadsAs, ReadsBody}
-use Rattle.flow_check.specs.Check.{ReadBodies}
+use Rattle.type_rules.specs.TreesAndFaults.{JdfFault, DefTree, FlowTree, ClassTree}
+use Rattle.type_rules.specs.Names.{Job, int_named, coll_named}
+use Rattle.type_check.specs.Bodies.{local_names, flow_names, BodyResult, ReadsAs, ReadsBody}
+use Rattle.type_check.specs.Check.{ReadBodies}
 
 -- tokens have a tree, or a first fault
 abbrev Read : List Token → Type 0

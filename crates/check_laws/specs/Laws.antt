@@ -6,17 +6,17 @@ use Rattle.jdf_tree.specs.Expression.{Expression}
 use Rattle.jdf_tree.specs.TreeLimits.{IsClassWithinLimits, IsWithinLimits}
 use Rattle.coll_data.specs.WellMade as well_data
 use Rattle.plan_core.specs.declared.plan.Plan.{Plan}
-use Rattle.check_names.specs.TreesAndFaults.{JdfFault, Word, DefTree, ArgTree, FlowTree, ClassTree}
-use Rattle.check_names.specs.Names.{Job}
-use Rattle.check_names.specs.Arguments.{arguments_faults, arguments_of, indices_faults, indices_of}
-use Rattle.check_names.specs.Expressions.{option_faults, option_term}
-use Rattle.check_names.specs.Definitions.{space_faults, space_of}
-use Rattle.check_flows.specs.Elements.{element_faults, element_of}
-use Rattle.check_flows.specs.Dependences.{flow_faults, flow_plan}
-use Rattle.flow_check.specs.Bodies.{BodyResult, ReadsBody}
-use Rattle.flow_check.specs.Classes.{class_plan, class_faults}
-use Rattle.flow_check.specs.Check.{IsFirstFault}
-use Rattle.flow_check.specs.Plans.{IsPlan}
+use Rattle.type_rules.specs.TreesAndFaults.{JdfFault, Word, DefTree, ArgTree, FlowTree, ClassTree}
+use Rattle.type_rules.specs.Names.{Job}
+use Rattle.type_rules.specs.Arguments.{arguments_faults, arguments_of, indices_faults, indices_of}
+use Rattle.type_rules.specs.Expressions.{option_faults, option_term}
+use Rattle.type_rules.specs.Definitions.{space_faults, space_of}
+use Rattle.type_rules.specs.Elements.{element_faults, element_of}
+use Rattle.type_rules.specs.Dependences.{flow_faults, flow_plan}
+use Rattle.type_check.specs.Bodies.{BodyResult, ReadsBody}
+use Rattle.type_check.specs.Classes.{class_plan, class_faults}
+use Rattle.type_check.specs.Check.{IsFirstFault}
+use Rattle.type_check.specs.Plans.{IsPlan}
 
 -- Arguments that break no rule are resolved.
 abbrev pub ArgumentsAreResolved : Type 0

@@ -15,8 +15,8 @@ use Rattle.plan_core.specs.declared.plan.Plan.{Plan}
 use Rattle.dep_iter.specs.declared.source.Source.{Source}
 use Rattle.dep_iter.specs.Tasks.{all_tasks, flows_of}
 use Rattle.dep_iter.specs.Active.{by_number}
-use Rattle.edge_accept.specs.Tallies.{places_of}
-use Rattle.edge_accept.proofs.TaskFlows.{items-flows}
+use Rattle.edge_match.specs.Tallies.{places_of}
+use Rattle.edge_match.proofs.TaskFlows.{items-flows}
 use Rattle.dep_iter.specs.Consistent.{all_in, all_items, all_writes}
 use Rattle.dep_iter.specs.Edges.{data_source, in_edges}
 use Rattle.dep_iter.specs.Items.{items, write_of}

@@ -24,7 +24,7 @@ use Rattle.dep_iter.specs.Tasks.{IsTask, all_tasks, flows_of, locals_of}
 use Rattle.dep_iter.proofs.Belonging.{in_edge_is, out_edge_is}
 use Rattle.dep_iter.proofs.Listing.{listed}
 use Rattle.dep_iter.proofs.Once.{once-all_tasks}
-use Rattle.edge_accept.proofs.TaskFlows.{from_by_number, item_flow-sends, items-flows, once_by_number, sent_flow_is, source_flow}
+use Rattle.edge_match.proofs.TaskFlows.{from_by_number, item_flow-sends, items-flows, once_by_number, sent_flow_is, source_flow}
 use Rattle.edge_match.specs.declared.phase.Phase.{Phase}
 use Rattle.edge_match.specs.declared.phase.Phase.TheVariants.{Connecting, Matching}
 use Rattle.edge_match.specs.Marks.{AllPass, Before, add_all, flow_items, marks, nothing, phase_marks}

@@ -35,10 +35,10 @@ use Rattle.dep_iter.specs.Items.{edge_of, out_edges_before, write_of}
 use Rattle.dep_iter.specs.Arguments.{combinations}
 use Rattle.dep_iter.proofs.Belonging.{held-none}
 use Rattle.dep_iter.proofs.Distinctness.{distinct_in, distinct_out}
-use Rattle.edge_accept.specs.Flows.{edges_into_flow}
-use Rattle.edge_accept.proofs.SentItems.{edges_only}
-use Rattle.edge_accept.proofs.TakenEdges.{held-next_none, held-next_some}
-use Rattle.edge_accept.proofs.TaskFlows.{each_more, in_edges-flows, into_flow_is, items-flows, sent_flow_is}
+use Rattle.edge_match.specs.Flows.{edges_into_flow}
+use Rattle.edge_match.proofs.SentItems.{edges_only}
+use Rattle.edge_match.proofs.TakenEdges.{held-next_none, held-next_some}
+use Rattle.edge_match.proofs.TaskFlows.{each_more, in_edges-flows, into_flow_is, items-flows, sent_flow_is}
 use Rattle.edge_match.specs.declared.counted.Counted.{Counted}
 use Rattle.edge_match.specs.declared.fault.MatchFault.{MatchFault}
 use Rattle.edge_match.specs.declared.phase.Phase.{Phase}

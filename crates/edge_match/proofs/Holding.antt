@@ -26,7 +26,7 @@ use Rattle.edge_match.specs.Marks.{AllPass, Before, Check, CountsIn, CountsItem,
 use Rattle.edge_match.specs.Marks.{edge_marks, flow_marks, flow_start, item_marks, phase_marks, task_marks, task_start}
 use Rattle.edge_match.specs.Marks.{direction_marks, write_marks}
 use Rattle.dep_iter.specs.Active.{by_number}
-use Rattle.edge_accept.proofs.TaskFlows.{each_more}
+use Rattle.edge_match.proofs.TaskFlows.{each_more}
 
 -- ---- lists
 

@@ -1,3 +1,10 @@
+pub mod Sets
+pub mod RootCount
+pub mod TaskFlows
+pub mod TakenEdges
+pub mod SentItems
+pub mod Walking
+pub mod Conclusion
 pub mod Parts
 pub mod Tallies
 pub mod Directed

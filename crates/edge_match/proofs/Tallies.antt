@@ -11,8 +11,8 @@ use Rattle.plan_core.specs.Kinds.{is_data, kind_of}
 use Rattle.plan_core.specs.Place.{HasPlace}
 use Rattle.dep_iter.specs.Consistent.{is_data_edge}
 use Rattle.dep_iter.specs.Directions.{near_flow, near_task}
-use Rattle.place_set.specs.Sets.{IsSetOf}
-use Rattle.edge_accept.proofs.TakenEdges.{kind_of-here}
+use Rattle.edge_match.specs.Sets.{IsSetOf}
+use Rattle.edge_match.proofs.TakenEdges.{kind_of-here}
 use Rattle.edge_match.specs.declared.counted.Counted.{Counted}
 use Rattle.edge_match.specs.declared.fault.MatchCode.TheVariants as code
 use Rattle.edge_match.specs.declared.flow_at.FlowAt.{FlowAt}

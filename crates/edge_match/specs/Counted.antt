@@ -8,7 +8,7 @@ use Rattle.edge_match.specs.declared.fault.MatchRefusal.{MatchRefusal}
 use Rattle.edge_match.specs.declared.fault.MatchRefusal.TheVariants as refusal
 use Rattle.edge_match.specs.Marks.{Before, Check, Mark, AllPass, Passes, add, add_all}
 use Rattle.edge_match.specs.FirstFault.{IsFirstFailure, IsFirstFault}
-use Rattle.place_set.specs.Sets.{IsSetOf}
+use Rattle.edge_match.specs.Sets.{IsSetOf}
 
 -- the counts are those of what came before
 pub record IsCounted (P : Plan) (c : Counted) (b : Before) : Type 0 where

@@ -1,6 +1,6 @@
 -- How a fault is named: by its code, and by the class, the numbers and the flow at which it is found.
--- Carried by: `match_edges`; laws `a_consistent_plan_has_no_fault`, `fault_laws::a_plan_has_one_first_fault`,
--- `fault_laws::a_plan_is_consistent_or_has_a_first_fault`, `fault_laws::a_first_fault_names_what_exists`.
+-- Carried by: `match_edges`; laws `a_consistent_plan_has_no_fault`, `edge_laws::a_plan_has_one_first_fault`,
+-- `edge_laws::a_plan_is_consistent_or_has_a_first_fault`, `edge_laws::a_first_fault_names_what_exists`.
 -- Tested by: `check_codes.txt`, `check_limits.txt`.
 use Rattle.std.specs.Prelude.{ℕ, [], Option, None}
 use Rattle.ptg_base.specs.Task.{Task}

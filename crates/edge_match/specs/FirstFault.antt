@@ -1,7 +1,7 @@
 -- The first fault of a plan that is not consistent. There are three phases, each in walk order: the spaces, then all
 -- tasks and what they name, then that the edges match.
--- Carried by: `match_edges`; laws `a_consistent_plan_has_no_fault`, `fault_laws::a_plan_has_one_first_fault`,
--- `fault_laws::a_plan_is_consistent_or_has_a_first_fault`, `fault_laws::a_first_fault_names_what_exists`.
+-- Carried by: `match_edges`; laws `a_consistent_plan_has_no_fault`, `edge_laws::a_plan_has_one_first_fault`,
+-- `edge_laws::a_plan_is_consistent_or_has_a_first_fault`, `edge_laws::a_first_fault_names_what_exists`.
 -- Tested by: `check_codes.txt`, `check_limits.txt`.
 use Rattle.std.specs.Prelude.{◌≡◌, List, ◌∷◌, ◌++◌, ◌⊎◌}
 use Rattle.term_core.specs.declared.direction.Direction.TheVariants.{In, Out}

@@ -1,3 +1,6 @@
+pub mod Sets
+pub mod Flows
+pub mod Tallies
 pub mod Faults
 pub mod Marks
 pub mod FirstFault

@@ -1,8 +1,8 @@
 -- What is checked of a plan whose tasks are known, as one list of marks in their order. First, all tasks and their
 -- edges exist; then, the edges match. Source: PaRSEC (2013), in which each edge is written at both ends; the order is
 -- this project's own choice.
--- Carried by: `match_edges`; laws `a_consistent_plan_has_no_fault`, `fault_laws::a_plan_has_one_first_fault`,
--- `fault_laws::a_plan_is_consistent_or_has_a_first_fault`, `fault_laws::a_first_fault_names_what_exists`.
+-- Carried by: `match_edges`; laws `a_consistent_plan_has_no_fault`, `edge_laws::a_plan_has_one_first_fault`,
+-- `edge_laws::a_plan_is_consistent_or_has_a_first_fault`, `edge_laws::a_first_fault_names_what_exists`.
 -- Tested by: `check_codes.txt`, `check_limits.txt`.
 use Rattle.std.specs.Prelude.{◌≡◌, ◌≢◌, ◌<◌, ℕ, ℤ, List, [], ◌∷◌, ◌++◌, map, flat_map, length, IsTrue}
 use Rattle.std.specs.Prelude.{Option, Some, None, unwrap_or}

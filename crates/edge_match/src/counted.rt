@@ -3,7 +3,7 @@
 ghost use Rattle.std.specs.Prelude.{◌≤◌};
 ghost use Rattle.ptg_base.specs.Limits.{most_edges};
 
-use place_set::PlaceSet;
+use crate::place_set::PlaceSet;
 
 /// How many edges into tasks and items were counted, how many of those edges carry a tile, and which places are written
 /// to.

@@ -8,10 +8,11 @@ ghost use Rattle.edge_match.specs.Counted.{IsCounted, IsRefusalOf};
 ghost use Rattle.edge_match.specs.Faults as faults;
 ghost use Rattle.edge_match.specs.FirstFault.{IsFirstFailure, IsFirstFault};
 ghost use Rattle.edge_match.specs.Marks.{AllPass, marks, nothing};
-ghost use Rattle.place_set.specs.Sets.{IsSetOf};
+ghost use Rattle.edge_match.specs.Sets.{IsSetOf};
 ghost use Rattle.edge_match.specs.declared.fault.MatchFault.{MatchFault as MatchFaultValue};
 ghost use Rattle.edge_match.specs.declared.fault.MatchRefusal.TheVariants as refusal;
 
+use crate::accepting::accepts;
 use crate::counted::Counted;
 use crate::fault::{MatchCode, MatchFault, MatchRefusal};
 use crate::laws::{
@@ -19,10 +20,10 @@ use crate::laws::{
     all_edges_and_items_are_counted,
 };
 use crate::phase::Phase;
+use crate::place_set::PlaceSet;
+use crate::roots::root_count;
 use crate::tasks::check_all;
 use dep_iter::{Counts, Matched, all_tasks_are_listed};
-use edge_accept::{accepts, root_count};
-use place_set::PlaceSet;
 use plan_core::Plan;
 use range_space::{Numbers, SpaceFault, space_size};
 use std::alloc::Global;

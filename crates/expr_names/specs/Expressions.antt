@@ -1,6 +1,6 @@
 -- The expressions of a JDF with their names resolved, or the fault that is reported of their names. Source: the JDF
 -- documentation; that one fault is reported is this project's own choice.
--- Carried by: `term_of`, and with it `flow_check::check`, `body_names::resolve`.
+-- Carried by: `term_of`, and with it `type_check::check`, `body_lang::resolve`.
 -- Tested by: `type_faults.txt`, `body_names.txt`.
 use Rattle.std.specs.Prelude.{Ok, Err}
 use Rattle.jdf_lex.specs.declared.fault.JdfFault.{JdfFault}

@@ -1,6 +1,6 @@
 -- What a name in an expression means, and the number that it stands for. Source: the JDF documentation; the language of
 -- bodies is this project's own choice.
--- Carried by: `term_of`, and with it `flow_check::check`, `body_names::resolve`.
+-- Carried by: `term_of`, and with it `type_check::check`, `body_lang::resolve`.
 -- Tested by: `type_faults.txt`, `body_names.txt`.
 use Rattle.std.specs.Prelude.{ℕ, ℤ, Bool, Option, Ok, if◌then◌else◌}
 use Rattle.std.specs.Option.{option_map_or}

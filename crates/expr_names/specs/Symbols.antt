@@ -1,5 +1,5 @@
 -- What the names in expressions mean. Source: the JDF documentation.
--- Carried by: `term_of`, and with it `flow_check::check`, `body_names::resolve`.
+-- Carried by: `term_of`, and with it `type_check::check`, `body_lang::resolve`.
 -- Tested by: `type_faults.txt`, `body_names.txt`.
 use Rattle.std.specs.Prelude.{ℕ, List, Result, Err}
 use Rattle.jdf_lex.specs.declared.fault.JdfCode.{JdfCode}

@@ -1,5 +1,5 @@
 -- Limits by a test of a token with the tokens before it.
--- Carried by: the readers of `expr_read`, `jdf_read`, `body_read`.
+-- Carried by: the readers of `expr_read`, `jdf_read`, `body_lang`.
 -- Tested by: `body_limits.txt`, `too_many.txt`, `long_expressions.txt`.
 use Rattle.std.proofs.Common.{◌≡◌, ℕ, suc, ◌≤◌, Bool, true, false, cond, List, [], ◌∷◌, ◌++◌, length, refl, arith}
 use Rattle.std.specs.Prelude.{if◌then◌else◌}

@@ -1,6 +1,6 @@
 -- Grammars as data: which texts a production derives, with which trees and first faults. Nothing here says how a text
 -- is read: no lookahead, no order of choice. Source: the field's context-free grammars with synthesized attributes.
--- Carried by: law `text_laws::is_read_exactly`; the readers of `expr_read`, `jdf_read`, `body_read`.
+-- Carried by: law `text_laws::is_read_exactly`; the readers of `expr_read`, `jdf_read`, `body_lang`.
 -- Tested by: `body_limits.txt`, `too_many.txt`, `long_expressions.txt`.
 use Rattle.std.specs.Prelude.{◌≡◌, ℕ, zero, suc, Bool, true, false, List, [], ◌∷◌, Option, Some, None, ◌⊎◌, ◌++◌, ◌≤◌, ◌<◌, ◌+◌, ◌-◌, length, take, nat_lt, if◌then◌else◌}
 use Rattle.std.specs.Option.{option_or}

@@ -1,5 +1,5 @@
 -- The index of the first token that is too many, by count.
--- Carried by: law `text_laws::is_read_exactly`; the readers of `expr_read`, `jdf_read`, `body_read`.
+-- Carried by: law `text_laws::is_read_exactly`; the readers of `expr_read`, `jdf_read`, `body_lang`.
 -- Tested by: `body_limits.txt`, `too_many.txt`, `long_expressions.txt`.
 use Rattle.std.specs.Prelude.{ℕ, Bool, List, min, map, filter, slice_index_or}
 use Rattle.std.specs.List.{enumerate_from}

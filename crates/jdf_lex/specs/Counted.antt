@@ -1,5 +1,5 @@
 -- The limit of an expression: 512 tokens, of which at most 128 are names, numbers, operators or "?".
--- Carried by: law `text_laws::is_read_exactly`; the readers of `expr_read`, `jdf_read`, `body_read`.
+-- Carried by: law `text_laws::is_read_exactly`; the readers of `expr_read`, `jdf_read`, `body_lang`.
 -- Tested by: `body_limits.txt`, `too_many.txt`, `long_expressions.txt`.
 use Rattle.std.specs.Prelude.{ℕ, pred, Bool, ◌||◌}
 use Rattle.jdf_lex.specs.declared.terminal.Terminal.{Terminal}

@@ -1,5 +1,5 @@
 -- The grammar of the body of a class.
--- Carried by: `body_read::tree`, `body_read::read`.
+-- Carried by: `body_lang::tree`, `body_lang::read`.
 -- Tested by: `body_syntax.txt`, `body_reserved.txt`, `body_limits.txt`, `body_two_faults.txt`.
 use Rattle.std.specs.Prelude.{Bool, Option, Some, None, ◌||◌, unwrap_or}
 use Rattle.jdf_lex.specs.declared.terminal.Terminal.{Terminal}

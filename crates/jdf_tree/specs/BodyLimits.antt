@@ -1,5 +1,5 @@
 -- How deep the blocks of a body may nest, and how many variables it may declare.
--- Carried by: `body_read::tree`, `body_read::read`.
+-- Carried by: `body_lang::tree`, `body_lang::read`.
 -- Tested by: `body_syntax.txt`, `body_reserved.txt`, `body_limits.txt`, `body_two_faults.txt`.
 use Rattle.std.specs.Prelude.{◌≡◌, ℕ, ◌-◌, Bool, true, false, nat_le, ◌&&◌, ◌||◌, List, [], if◌then◌else◌, count_by, refl, ◌+◌}
 use Rattle.ptg_base.specs.Limits.{most_variables}

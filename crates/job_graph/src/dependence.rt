@@ -1,8 +1,8 @@
 //! Where a dependence of a plan stands in the text.
 
-use check_flows::first_spot;
 use jdf_tree::{ClassTree, FlowTree, Jdf};
 use term_core::Direction;
+use type_rules::first_spot;
 
 /// The number of a dependence among all of its flow, from 1, and the line of its first target.
 #[derive(Clone, Copy)]

@@ -7,10 +7,10 @@ use Rattle.coll_data.specs.Data.{Data}
 use Rattle.coll_data.specs.declared.fault.DataFault.{DataFault}
 use Rattle.data_read.specs.Reading.{data_of}
 use Rattle.plan_core.specs.declared.plan.Plan.{Plan}
-use Rattle.check_names.specs.Names.{Job}
-use Rattle.flow_check.specs.Given.{is_missing}
+use Rattle.type_rules.specs.Names.{Job}
+use Rattle.type_check.specs.Given.{is_missing}
 use Rattle.check_laws.proofs.ClassesResolved.{plan_or_first_fault}
-use Rattle.fault_laws.proofs.Either.{consistent_or_fault}
+use Rattle.edge_laws.proofs.Either.{consistent_or_fault}
 use Rattle.job_stages.specs.declared.verdict.JobVerdict.{JobVerdict}
 use Rattle.job_stages.specs.declared.verdict.JobVerdict.TheVariants as verdicts
 use Rattle.job_stages.specs.DataText.{IsData, IsDataFault, too_long}

@@ -23,8 +23,8 @@ use Rattle.term_core.specs.declared.space.Def.{Def}
 use Rattle.term_core.specs.declared.space.Def.TheVariants as def
 use Rattle.term_core.specs.declared.space.Range.{Range}
 use Rattle.range_space.specs.Tasks.{tasks}
-use Rattle.range_laws.specs.Numbers as terms
-use Rattle.range_laws.proofs.Numbers.{parameters_numbers}
+use Rattle.edge_laws.specs.Numbers as terms
+use Rattle.edge_laws.proofs.Numbers.{parameters_numbers}
 use Rattle.jdf_lex.specs.declared.fault.JdfFault.{JdfFault}
 use Rattle.jdf_tree.specs.Expression.{Expression, Num, Name, Elem, Unary, Binary, Choose}
 use Rattle.jdf_tree.specs.declared.expression.Word.{Word}
@@ -47,17 +47,17 @@ use Rattle.coll_data.specs.Data.{Data}
 use Rattle.data_laws.specs.Integers.{has_64_bits}
 use Rattle.data_laws.proofs.Integers.{integers_numbers}
 use Rattle.dep_iter.specs.Tasks.{IsTask}
-use Rattle.check_names.specs.Arguments.{range_of}
-use Rattle.check_names.specs.Definitions.{definition_of, definitions_of, parameter_of, space_of}
-use Rattle.check_names.specs.Expressions.{option_term, symbols_of, term_of}
-use Rattle.check_names.specs.Names.{Job, coll_named, int_named, is_declared, local_named, meaning_of}
-use Rattle.check_names.specs.Returns.{both, each, each_option}
-use Rattle.check_names.proofs.NoFaults.{option_there, parts_of}
-use Rattle.check_names.proofs.WellSpaces.{pair_of}
-use Rattle.flow_check.specs.Bodies.{BodyResult}
-use Rattle.flow_check.specs.Check.{classes_plan}
-use Rattle.flow_check.specs.Classes.{class_plan}
-use Rattle.flow_check.proofs.WellClasses.{class_of}
+use Rattle.type_rules.specs.Arguments.{range_of}
+use Rattle.type_rules.specs.Definitions.{definition_of, definitions_of, parameter_of, space_of}
+use Rattle.type_rules.specs.Expressions.{option_term, symbols_of, term_of}
+use Rattle.type_rules.specs.Names.{Job, coll_named, int_named, is_declared, local_named, meaning_of}
+use Rattle.type_rules.specs.Returns.{both, each, each_option}
+use Rattle.type_rules.proofs.NoFaults.{option_there, parts_of}
+use Rattle.type_rules.proofs.WellSpaces.{pair_of}
+use Rattle.type_check.specs.Bodies.{BodyResult}
+use Rattle.type_check.specs.Check.{classes_plan}
+use Rattle.type_check.specs.Classes.{class_plan}
+use Rattle.type_check.proofs.WellClasses.{class_of}
 use Rattle.job_stages.specs.Verdict.{TextsDenote}
 use Rattle.job_stages.specs.declared.verdict.JobVerdict.TheVariants as verdicts
 

@@ -2,7 +2,7 @@
 use Rattle.std.specs.Prelude.{ℕ, List, ◌≡◌}
 use Rattle.jdf_tree.specs.TreeLimits.{IsWithinLimits}
 use Rattle.coll_data.specs.WellMade as well_data
-use Rattle.check_names.specs.Names.{Job}
+use Rattle.type_rules.specs.Names.{Job}
 use Rattle.job_stages.specs.declared.verdict.JobVerdict.{JobVerdict}
 use Rattle.job_stages.specs.Verdict.{JobDenotes, TextsDenote, JdfTextDenotes}
 use Rattle.coll_data.specs.Data.{Data}

@@ -5,9 +5,9 @@ use Rattle.jdf_read.proofs.Once.{one_tree, one_fault, not_both}
 use Rattle.coll_data.specs.Data.{Data}
 use Rattle.coll_data.specs.declared.fault.DataFault.{DataFault}
 use Rattle.data_read.specs.Reading.{data_of}
-use Rattle.check_names.specs.Names.{Job}
-use Rattle.flow_check.proofs.Unique.{one_first_fault}
-use Rattle.flow_check.proofs.Plans.{one_plan, a_plan_has_no_fault}
+use Rattle.type_rules.specs.Names.{Job}
+use Rattle.type_check.proofs.Unique.{one_first_fault}
+use Rattle.type_check.proofs.Plans.{one_plan, a_plan_has_no_fault}
 use Rattle.plan_core.specs.declared.plan.Plan.{Plan}
 use Rattle.edge_match.specs.declared.fault.MatchFault.{MatchFault}
 use Rattle.edge_match.specs.FirstFault.{IsFirstFault}

@@ -1,6 +1,6 @@
 -- What follows from the definition of the verdict on two texts.
 use Rattle.std.specs.Prelude.{◌≡◌, ℕ, List}
-use Rattle.check_names.specs.Names.{Job}
+use Rattle.type_rules.specs.Names.{Job}
 use Rattle.job_stages.specs.declared.verdict.JobVerdict.{JobVerdict}
 use Rattle.job_stages.specs.Verdict.{JobDenotes, TextsDenote}
 

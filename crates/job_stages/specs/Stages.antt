@@ -3,9 +3,9 @@
 -- Tested by: `check.txt`, `check_codes.txt`.
 use Rattle.std.specs.Prelude.{◌≡◌, ℕ, List, true, false}
 use Rattle.jdf_tree.specs.Jdf.{IsJdf}
-use Rattle.check_names.specs.Names.{Job}
-use Rattle.flow_check.specs.Given.{is_missing}
-use Rattle.flow_check.specs.Plans.{IsPlan}
+use Rattle.type_rules.specs.Names.{Job}
+use Rattle.type_check.specs.Given.{is_missing}
+use Rattle.type_check.specs.Plans.{IsPlan}
 use Rattle.plan_core.specs.declared.plan.Plan.{Plan}
 use Rattle.job_stages.specs.DataText.{IsData}
 

@@ -10,8 +10,8 @@ use Rattle.jdf_tree.specs.Fault.{IsJdfFault}
 use Rattle.coll_data.specs.Data.{Data}
 use Rattle.coll_data.specs.declared.fault.DataCode.TheVariants.{MissingName}
 use Rattle.coll_data.specs.declared.fault.DataFault.{DataFault}
-use Rattle.check_names.specs.Names.{Job}
-use Rattle.flow_check.specs.Check as types
+use Rattle.type_rules.specs.Names.{Job}
+use Rattle.type_check.specs.Check as types
 use Rattle.dep_iter.specs.Consistent.{IsConsistent}
 use Rattle.edge_match.specs.FirstFault as edges
 use Rattle.job_stages.specs.declared.verdict.JobVerdict.{JobVerdict}

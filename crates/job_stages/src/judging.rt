@@ -1,7 +1,7 @@
 //! The verdict on the text of a JDF and the text of its data.
 
 ghost use Rattle.std.specs.Prelude.{◌≡◌, ℕ, List, Some, IfOk, IfSome};
-ghost use Rattle.check_names.specs.Names.{Job};
+ghost use Rattle.type_rules.specs.Names.{Job};
 ghost use Rattle.jdf_tree.specs.Jdf.{IsJdf};
 ghost use Rattle.jdf_tree.specs.TreeLimits.{IsWithinLimits};
 ghost use Rattle.coll_data.specs.Data.{Data};
@@ -20,12 +20,12 @@ use crate::verdict::JobVerdict;
 use coll_data::{DataRefusal, Given};
 use dep_iter::Matched;
 use edge_match::{MatchRefusal, match_edges};
-use flow_check::{check, globals_of, missing};
 use jdf_lex::JdfRefusal;
 use jdf_tree::Jdf;
 use plan_core::Plan;
 use ptg_base::OutOfMemory;
 use std::alloc::Global;
+use type_check::{check, globals_of, missing};
 
 /// The verdict on the text of a JDF and the text of its data.
 pub fn judge_texts(

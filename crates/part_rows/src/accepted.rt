@@ -1,7 +1,7 @@
 //! Whether one walk over the tasks of a job accepts it, beside the verdict on the job.
 
 use dep_iter::all_tasks_are_listed;
-use edge_accept::accepts;
+use edge_match::accepts;
 use job_stages::JobVerdict;
 use plan_core::Plan;
 use range_space::space_size;

@@ -13,7 +13,7 @@ use term_core::Trap;
 /// Reads the syntax of a body, whatever its names mean. Returns `read`, or its first fault.
 pub fn read_syntax(alloc: Global, text: &[u8]) -> Result<Printed, Why> {
     let lexed = lexed(alloc, text)?;
-    match body_read::read(alloc, lexed.tokens.as_slice(), lexed.end) {
+    match body_lang::read(alloc, lexed.tokens.as_slice(), lexed.end) {
         Ok(_) => is_read(alloc),
         Err(refusal) => refused(alloc, refusal),
     }

@@ -1,6 +1,6 @@
 //! What the names in the rows' bodies mean.
 
-use body_names::{FlowName, Scope};
+use body_lang::{FlowName, Scope};
 use name_table::NameTable;
 use ptg_base::{Seq, Text};
 use row_files::Why;

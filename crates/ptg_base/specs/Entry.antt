@@ -1,8 +1,8 @@
 -- Entries of the dependency table, for shards and the table of a state alike: what it has of a task; tiles with the
 -- numbers of their flows. Source: DAGuE (Parallel Computing, 2012), where an entry counts the dependences that have
 -- come, and a task keeps their data until it runs. Here the tiles are in flow order, one a flow.
--- Carried by: `dep_shard::Shard::entry`, `dep_shard::Entries::get`; laws `shard_laws::an_edge_finds_its_target`,
--- `claim_laws::a_claim_takes_its_own_entry`.
+-- Carried by: `dep_shard::Shard::entry`, `dep_shard::Entries::get`; laws `run_laws::an_edge_finds_its_target`,
+-- `run_laws::a_claim_takes_its_own_entry`.
 -- Tested by: `ptg_measure`.
 use Rattle.std.specs.Prelude.{ℕ, ℤ, List}
 

@@ -1,6 +1,6 @@
 -- The result of a call for which a definition gives a value or a fault: that value, that fault, or out of memory.
 -- Carried by: `body_lang::read_body`, `data_read::read_data`, `job_stages::given_of`, `jdf_read::read`,
--- `flow_check::check`, `body_names::resolve`.
+-- `type_check::check`, `body_lang::resolve`.
 use Rattle.std.specs.Prelude.{◌≡◌, ◌⊎◌, Result, Ok, Err, IfOk}
 use Rattle.ptg_base.specs.declared.refusal.Refusal.{Refusal}
 use Rattle.ptg_base.specs.declared.refusal.Refusal.TheVariants.{Fault, OutOfMemory}

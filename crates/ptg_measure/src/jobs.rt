@@ -5,11 +5,11 @@ ghost use Rattle.plan_data.specs.Fit.{DataFit};
 use crate::count::Failure;
 use coll_data::Given;
 use dep_iter::Matched;
-use flow_check::{check, globals_of, missing};
 use job_stages::{given_of, job_of_texts, tree_of};
 use plan_core::Plan;
 use ptg_base::MOST_ROWS;
 use std::alloc::Global;
+use type_check::{check, globals_of, missing};
 
 // One task with an edge to and an edge from each of the others, which are numbered from 0 to LAST.
 const STAR: &[u8] = b"D

@@ -1,7 +1,6 @@
 //! Parsing of bodies with many names, under as many globals.
 use crate::count::{Count, Counts, Failure};
-use body_lang::read_body;
-use body_names::{FlowName, Scope};
+use body_lang::{FlowName, Scope, read_body};
 use jdf_lex::tokens;
 use name_table::NameTable;
 use ptg_base::{MOST_BYTES, Seq, Text};

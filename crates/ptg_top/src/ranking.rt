@@ -12,7 +12,7 @@ use crate::verdict::{Finding, RanBy, Verdict};
 use coll_data::Given;
 use dep_iter::Matched;
 use ptg_base::OutOfMemory;
-use rank_world::ranks_of;
+use rank_core::ranks_of;
 use report_text::RankedAnswer;
 use std::alloc::Global;
 

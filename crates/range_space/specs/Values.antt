@@ -1,5 +1,5 @@
 -- The values of a range. Source: the JDF documentation, in unbounded whole numbers, so that no sum overflows.
--- Carried by: `Steps::values`, `Steps::count`, `Steps::has`; law `range_laws::values_are_a_progression`.
+-- Carried by: `Steps::values`, `Steps::count`, `Steps::has`; law `edge_laws::values_are_a_progression`.
 -- Tested by: `edges.txt`, `check_codes.txt`.
 use Rattle.std.specs.Prelude.{ℕ, zero, suc, ℤ, pos, negsuc, ◌+ℤ◌, ◌-ℤ◌, unsigned_abs, int_le, Bool, false, List, [], ◌∷◌, Option, Some, None, if◌then◌else◌}
 

@@ -1,5 +1,15 @@
 pub mod Items
-pub mod Running
+pub mod Happening
 pub mod Worlds
 pub mod Quiet
 pub mod Messages
+pub mod Keeping
+pub mod Delivering
+pub mod Parts
+pub mod Posted
+pub mod Outgoings
+pub mod LeftWithin
+pub mod Kept
+pub mod Ran
+pub mod Setting
+pub mod Turns

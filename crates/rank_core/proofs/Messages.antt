@@ -29,7 +29,7 @@ use Rattle.rank_core.specs.World.{IsQuiet, WorldState, edges_between, is_between
 use Rattle.rank_core.specs.Sound.{IsSoundWorld, message_count}
 use Rattle.rank_core.proofs.Items.{between_is_out, between_once}
 use Rattle.rank_core.proofs.Quiet.{quiet_iff}
-use Rattle.rank_core.proofs.Running.{message_is, messages_with, messages_without}
+use Rattle.rank_core.proofs.Happening.{message_is, messages_with, messages_without}
 
 -- in a list without repeats nothing occurs twice, so two such lists of the same things have the same members
 module _ {A : Type 0} (same : A → A → Bool) (decides : (a b : A) → IsTrue (same a b) ↔ (a ≡ b)) where

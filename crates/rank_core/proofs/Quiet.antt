@@ -21,7 +21,7 @@ use Rattle.rank_core.specs.declared.message.Message.{Message}
 use Rattle.rank_core.specs.World.{IsQuiet, WorldState, edges_between, message_from, messages_by}
 use Rattle.rank_core.specs.Sound.{IsSoundWorld}
 use Rattle.rank_core.proofs.Items.{between_is_out, out_is_item, within_or_between}
-use Rattle.rank_core.proofs.Running.{message_is, messages_with}
+use Rattle.rank_core.proofs.Happening.{message_is, messages_with}
 
 module _ (P : Plan) (G : Data) (con : IsConsistent P) (r : ℕ) (w : WorldState) (sound : IsSoundWorld P G r w) where
   -- an edge to another rank of a task that ran and has outputs is a message

@@ -24,7 +24,7 @@ use Rattle.flow_meaning.proofs.Events.{happen_sound, member_send, opening_sound}
 use Rattle.rank_core.specs.declared.message.Message.{Message}
 use Rattle.rank_core.specs.World.{Deliver, IsPossibleIn, Run, WorldEvent, WorldState, after_delivery, after_run, items_by, items_within, messages_by, opening_world, is_delivered, with_message, world_after}
 use Rattle.rank_core.specs.Sound.{IsSoundWorld}
-use Rattle.rank_core.proofs.Running.{delivered, items_with, run_ends, run_happens}
+use Rattle.rank_core.proofs.Happening.{delivered, items_with, run_ends, run_happens}
 
 -- what was sent stays sent
 pub still_sent : (S : MachineState) (claims : List Task) (more : List SentItem) (i : Item) → is_sent S i ≡ true → is_sent (record { claims = claims; sends = S.sends ++ more }) i ≡ true

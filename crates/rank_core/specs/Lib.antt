@@ -1,2 +1,10 @@
 pub mod World
 pub mod Sound
+pub mod Views
+pub mod Keeping
+pub mod RankRoom
+pub mod RunningTasks
+pub mod Outgoings
+pub mod Changes
+pub mod Driving
+pub mod Choices

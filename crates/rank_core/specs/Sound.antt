@@ -1,5 +1,5 @@
 -- Sound worlds, and how many messages a job has.
--- Carried by: laws `a_quiet_world_has_the_meaning`, `world_laws::events_keep_worlds_sound`.
+-- Carried by: laws `a_quiet_world_has_the_meaning`, `run_laws::events_keep_worlds_sound`.
 -- Tested by: `ranks.txt`.
 use Rattle.std.specs.Prelude.{◌≡◌, ℕ, ◌&&◌, flat_map, IsTrue}
 use Rattle.ptg_base.specs.Lists.{IsIn}

@@ -2,8 +2,7 @@
 -- affinity. An edge between two ranks is a message, which may come late, twice and in any order. Source: PaRSEC (2013),
 -- where a task runs on the rank that has the data of its affinity, and the runtime sends a message for an edge between
 -- ranks.
--- Carried by: `rank_world::World::rank_of`, `rank_world::World::run`, `rank_world::World::deliver`,
--- `rank_world::World::quiescent`; laws of `rank_core`.
+-- Carried by: `World::rank_of`, `World::run`, `World::deliver`, `World::quiescent`; laws of `rank_core`.
 -- Tested by: `run_orders`, `ranks.txt`.
 use Rattle.std.specs.Prelude.{◌≡◌, ℕ, ◌<◌, ◌==◌, List, [], ◌∷◌, ◌++◌, map, filter, length, slice_get, Bool, not, IsTrue, Option, if◌then◌else◌}
 use Rattle.std.specs.Option.{option_map_or}

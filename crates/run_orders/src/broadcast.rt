@@ -7,7 +7,7 @@ use crate::jobs::{BROADCAST, numbers};
 use crate::steps::{Step, first_other};
 use job_stages::job_of_texts;
 use ptg_base::OutOfMemory;
-use rank_world::World;
+use rank_core::World;
 use std::alloc::Global;
 use std::fmt;
 

@@ -8,7 +8,7 @@ use crate::stepwise::answer_of_run_one;
 use flow_meaning::Outcome;
 use job_stages::job_of_texts;
 use ptg_base::OutOfMemory;
-use rank_world::ranks_of;
+use rank_core::ranks_of;
 use std::alloc::Global;
 use std::fmt;
 

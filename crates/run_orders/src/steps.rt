@@ -1,7 +1,7 @@
 //! What is asked of a world, step by step.
 
 use ptg_base::{OutOfMemory, TaskId};
-use rank_world::World;
+use rank_core::World;
 
 /// What is asked of a world. A task is its class and its parameter.
 #[derive(Clone, Copy)]

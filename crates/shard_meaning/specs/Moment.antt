@@ -1,7 +1,7 @@
 -- Moments of a run by several workers, sound or reordered: what has happened, which of the claimed tasks still run, and
 -- what these may send; claims, sends and ends. Source: the events are those of DAGuE (Parallel Computing, 2012), as the
 -- event machine has them.
--- Carried by: laws `running_tasks_may_send`, `order_changes_no_shard`, `shard_laws::events_keep_moments_sound`.
+-- Carried by: laws `running_tasks_may_send`, `order_changes_no_shard`, `run_laws::events_keep_moments_sound`.
 use Rattle.std.specs.Prelude.{◌≡◌, ◌<◌, ◌≤◌, ℕ, List, [], ◌∷◌, ◌++◌, IsTrue, if◌then◌else◌}
 use Rattle.ptg_base.specs.Lists.{IsIn}
 use Rattle.ptg_base.specs.Task.{Task}

@@ -27,7 +27,7 @@ use Rattle.chain_exists.proofs.Existing.{some_certificate}
 use Rattle.ptg_top.specs.Certify.{IsCertified, certified}
 use Rattle.trace_core.specs.Text.{trace_text}
 use Rattle.trace_core.proofs.Either.{fault_or_trace}
-use Rattle.trace_laws.proofs.Growing.{some_whole_order}
+use Rattle.run_laws.proofs.Growing.{some_whole_order}
 use Rattle.ptg_top.specs.Trace.{IsTraced}
 use Rattle.ptg_top.specs.Replay.{IsReplayed}
 use Rattle.rank_core.specs.Sound.{message_count}

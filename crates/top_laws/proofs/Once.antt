@@ -25,7 +25,7 @@ use Rattle.chain_exists.proofs.Unique.{one}
 use Rattle.ptg_top.specs.Certify.{IsCertified, certified}
 use Rattle.ptg_top.specs.Demo.{IsSummary, MadeTextsDenote}
 use Rattle.trace_core.proofs.OneFault.{one_fault}
-use Rattle.trace_laws.proofs.Traces.{trace_or_fault}
+use Rattle.run_laws.proofs.Traces.{trace_or_fault}
 use Rattle.ptg_top.specs.Replay.{IsReplayed, IsReplayOf}
 use Rattle.ptg_top.specs.Trace.{IsTraced}
 use Rattle.job_stages.specs.declared.verdict.JobVerdict.TheVariants as jobs

@@ -11,12 +11,12 @@ use Rattle.dep_iter.specs.Consistent.{IsConsistent}
 use Rattle.dep_iter.specs.Tasks.{IsTask}
 use Rattle.flow_meaning.specs.Answer.{answer}
 use Rattle.flow_meaning.specs.Order.{IsWholeOrder}
-use Rattle.task_order.proofs.Orders.{legal_tasks}
+use Rattle.chain_cert.proofs.Orders.{legal_tasks}
 use Rattle.trace_core.specs.Spelling.{IsSpelled, IsWellSpelled}
 use Rattle.trace_core.specs.Text.{row_of, trace_text}
 use Rattle.trace_core.specs.Traces.{IsSomeTrace}
-use Rattle.trace_laws.proofs.Texts.{spelled_text, whole_length}
-use Rattle.trace_laws.proofs.Traces.{trace_or_fault}
+use Rattle.run_laws.proofs.Texts.{spelled_text, whole_length}
+use Rattle.run_laws.proofs.Traces.{trace_or_fault}
 use Rattle.job_laws.proofs.Spelled.{names_spelled, params_numbers}
 use Rattle.job_stages.specs.Verdict.{TextsDenote}
 use Rattle.job_stages.specs.declared.verdict.JobVerdict.{JobVerdict}

@@ -33,7 +33,7 @@ use Rattle.flow_meaning.specs.Starting.{starting_tiles}
 use Rattle.flow_meaning.proofs.Enough.{fixed}
 use Rattle.flow_meaning.proofs.Rounds.{has_sources}
 use Rattle.flow_meaning.proofs.SourceEdges.{class_of}
-use Rattle.task_order.proofs.Orders.{legal_once}
+use Rattle.chain_cert.proofs.Orders.{legal_once}
 use Rattle.trace_core.specs.Faults.{IsMissing}
 use Rattle.trace_core.specs.Orders.{MayAllRunAfter, MayRunAfter}
 

@@ -1,7 +1,7 @@
 -- The first fault of a text as a trace of a job. It is that of the text's length, else of its spelling, else of the
 -- first row whose task may not run then, else that a task which runs has no row.
 -- Carried by: `trace_replay::replay`, `trace_replay::judge_trace`; laws `a_text_has_one_first_fault`,
--- `trace_laws::the_text_of_a_whole_order_has_no_fault`.
+-- `run_laws::the_text_of_a_whole_order_has_no_fault`.
 -- Tested by: `replay.txt`.
 use Rattle.std.specs.Prelude.{◌≡◌, ◌⊎◌, ◌+◌, ◌≤◌, ℕ, List, [], ◌∷◌, ◌++◌, IsFalse, length, map}
 use Rattle.ptg_base.specs.Limits.{most_bytes}

@@ -1,7 +1,7 @@
 -- Orders in which the tasks of a job may run. Source: DAGuE (Parallel Computing, 2012): a task runs after the sources
 -- of its edges.
 -- Carried by: `trace_replay::replay`, `trace_replay::judge_trace`; laws `a_text_has_one_first_fault`,
--- `trace_laws::the_text_of_a_whole_order_has_no_fault`.
+-- `run_laws::the_text_of_a_whole_order_has_no_fault`.
 -- Tested by: `replay.txt`.
 use Rattle.std.specs.Prelude.{List, [], ◌∷◌, ◌++◌, IsTrue}
 use Rattle.ptg_base.specs.Lists.{IsIn}

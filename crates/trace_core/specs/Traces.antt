@@ -1,6 +1,6 @@
 -- Texts that are traces of a whole order of a job.
--- Carried by: `ptg_top::ptg_main` (`CommandDenotes`); laws `trace_laws::every_text_has_a_fault_or_is_a_trace`,
--- `trace_laws::a_trace_is_the_text_of_its_list`.
+-- Carried by: `ptg_top::ptg_main` (`CommandDenotes`); laws `run_laws::every_text_has_a_fault_or_is_a_trace`,
+-- `run_laws::a_trace_is_the_text_of_its_list`.
 -- Tested by: `replay.txt`, `replay_limits.txt`.
 use Rattle.std.specs.Prelude.{◌≤◌, ℕ, List, length, map}
 use Rattle.ptg_base.specs.Limits.{most_bytes}

@@ -4,7 +4,7 @@ use Rattle.std.specs.Prelude.{IfErr, IfOk, IsErr, MatchOption, OnOk}
 use Rattle.ptg_base.specs.declared.refusal.Refusal.{Refusal}
 use Rattle.ptg_base.specs.declared.refusal.Refusal.TheVariants as refusals
 use Rattle.ptg_base.specs.declared.refusal.Refusal.TheVariants.{Fault}
-use Rattle.rank_world.specs.Views.{WorldView}
+use Rattle.rank_core.specs.Views.{WorldView}
 use Rattle.std.proofs.Common.{◌≡◌, ℕ, ◌+◌, List, [], ◌∷◌, ◌++◌, map, length, refl, ap, sym, ◌∙◌, subst, inl, inr, append_assoc, Option, Some, None, Result, Ok, Err, arith}
 use Rattle.std.specs.List.{AllByRecursion}
 use Rattle.std.proofs.lemmas.List.{append-nil, map-append}

@@ -24,7 +24,7 @@ use Rattle.rank_core.specs.Sound.{IsSoundWorld}
 use Rattle.rank_core.specs.World.{IsQuiet, WorldState, is_between, items_within, rank_of}
 use Rattle.rank_core.proofs.Items.{within_or_between}
 use Rattle.rank_core.proofs.Quiet.{quiet_iff}
-use Rattle.rank_world.specs.Views.{WorldView, with_run}
+use Rattle.rank_core.specs.Views.{WorldView, with_run}
 use Rattle.trace_core.specs.Orders.{MayRunAfter}
 use Rattle.trace_core.proofs.Wholes.{may_push, ran_ends}
 use Rattle.list_lemmas.proofs.Members.{IsIn-filter}

@@ -9,7 +9,7 @@ use Rattle.coll_data.specs.Data.{Data}
 use Rattle.flow_meaning.specs.declared.outcome.Outcome.{Outcome}
 use Rattle.flow_meaning.specs.Answer.{answer, ran}
 use Rattle.rank_core.specs.Sound.{IsSoundWorld}
-use Rattle.rank_world.specs.Views.{WorldView}
+use Rattle.rank_core.specs.Views.{WorldView}
 use Rattle.trace_core.specs.declared.fault.TraceFault.{TraceFault}
 use Rattle.trace_core.specs.Faults.{IsFaultOfRow, IsUnfinished}
 use Rattle.trace_core.specs.Naming.{AreRowsOf}

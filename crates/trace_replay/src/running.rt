@@ -10,7 +10,7 @@ use coll_data::Given;
 use dep_iter::Matched;
 use flow_meaning::Outcome;
 use ptg_base::{OutOfMemory, TaskId};
-use rank_world::World;
+use rank_core::World;
 use std::alloc::Global;
 use trace_core::TraceFault;
 

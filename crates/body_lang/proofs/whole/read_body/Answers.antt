@@ -1,5 +1,5 @@
 use Rattle.std.proofs.Common.{ap, ◌∙◌, Err}
-use Rattle.body_names.specs.Environment.{environment_of}
+use Rattle.body_lang.specs.Environment.{environment_of}
 use Rattle.body_lang.proofs.Exactly.{of_tree, of_broken}
 use Rattle.body_lang.proofs.whole.read_body.Goals as goal
 

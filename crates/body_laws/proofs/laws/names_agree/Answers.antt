@@ -1,5 +1,5 @@
 use Rattle.std.proofs.Common.{inl, inr, ◌∙◌}
-use Rattle.body_names.specs.TokenScan.{at_first}
+use Rattle.body_lang.specs.TokenScan.{at_first}
 use Rattle.body_laws.proofs.Fronts.{none_or_whole, whatever_after}
 use Rattle.body_laws.proofs.Nesting.{agrees}
 use Rattle.body_laws.proofs.laws.names_agree.Goals as goal

@@ -1,7 +1,7 @@
 use Rattle.std.proofs.Common.{◌≡◌, ◌<◌, ◌≤◌, length, sym, ◌∙◌, subst, ap, arith}
 use Rattle.dep_iter.specs.Tasks.{all_tasks}
 use Rattle.flow_meaning.specs.Answer.{ran}
-use Rattle.task_order.proofs.Running.{members_ran}
+use Rattle.chain_cert.proofs.Running.{members_ran}
 use Rattle.chain_cert.specs.Finding.{HasLevels}
 use Rattle.chain_cert.proofs.Accepting.{shows_heaviest}
 use Rattle.chain_cert.proofs.Found.{answer_calm, answer_trapped}

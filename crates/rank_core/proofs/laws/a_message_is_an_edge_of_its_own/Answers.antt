@@ -1,5 +1,5 @@
 use Rattle.rank_core.proofs.Messages.{edges_once}
-use Rattle.rank_core.proofs.Running.{message_is, message_may}
+use Rattle.rank_core.proofs.Happening.{message_is, message_may}
 use Rattle.rank_core.proofs.laws.a_message_is_an_edge_of_its_own.Goals as goal
 
 pub returns : goal.returns

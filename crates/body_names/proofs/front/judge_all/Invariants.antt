@@ -1,8 +1,0 @@
-use Rattle.std.proofs.Common.{◌≡◌, ◌-◌, drop}
-use Rattle.body_names.specs.Environment.{environment_of}
-use Rattle.body_names.specs.TokenScan.{judged_among}
-use Rattle.body_names.specs.Scanner.{scan_of}
-use Rattle.body_names.proofs.front.judge_all.Given as goal
-
-abbrev pub invariant-loop-index : goal.invariant-loop-index
-invariant-loop-index l = judged_among (environment_of l.scope) (scan_of l.scanner) (l.count - l.index) (drop l.index l.tokens) ≡ judged_among (environment_of l.scope) (scan_of l.fn.scanner) l.count l.tokens

@@ -1,5 +1,0 @@
-use Rattle.body_read.proofs.LimitSearch.{BlocksSoFar}
-use Rattle.body_read.proofs.limits.block_limit.Given as goal
-
-abbrev pub invariant-loop-index : goal.invariant-loop-index
-invariant-loop-index l = BlocksSoFar l.tokens l.index l.opened l.closed

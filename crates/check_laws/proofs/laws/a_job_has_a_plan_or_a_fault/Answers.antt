@@ -1,5 +1,0 @@
-use Rattle.check_laws.proofs.ClassesResolved.{plan_or_first_fault}
-use Rattle.check_laws.proofs.laws.a_job_has_a_plan_or_a_fault.Goals as goal
-
-pub returns : goal.returns
-returns c = plan_or_first_fault

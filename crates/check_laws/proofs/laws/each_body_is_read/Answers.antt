@@ -1,5 +1,0 @@
-use Rattle.check_laws.proofs.Readings.{body_read}
-use Rattle.check_laws.proofs.laws.each_body_is_read.Goals as goal
-
-pub returns : goal.returns
-returns c = body_read

@@ -1,8 +1,0 @@
-use Rattle.std.proofs.Common.{take, []}
-use Rattle.check_names.specs.Contexts.{job_of}
-use Rattle.check_names.specs.Returns.{ReturnsChecked}
-use Rattle.check_names.specs.Definitions.{definitions_faults, definitions_of}
-use Rattle.check_names.proofs.definition.definitions.Given as goal
-
-abbrev pub invariant-loop-i : goal.invariant-loop-i
-invariant-loop-i l = ReturnsChecked l.parts (definitions_of (job_of l.context) [] (take l.i l.definitions)) (definitions_faults (job_of l.context) l.params [] (take l.i l.definitions))

@@ -1,7 +1,0 @@
-use Rattle.flow_meaning.specs.Machine.{opening_state}
-use Rattle.flow_meaning.proofs.Events.{opening_sound}
-use Rattle.claim_laws.proofs.Orders.{happen_legal}
-use Rattle.claim_laws.proofs.laws.claims_are_a_legal_order.Goals as goal
-
-pub returns : goal.returns
-returns c = λ P G es S con h. happen_legal P G con es opening_state S (opening_sound P G) tt h

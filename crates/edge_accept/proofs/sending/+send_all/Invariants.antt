@@ -1,5 +1,0 @@
-use Rattle.std.proofs.Common.{length}
-use Rattle.edge_accept.proofs.sending.+send_all.Given as goal
-
-abbrev pub decreases-send_all : goal.decreases-send_all
-decreases-send_all l = length l.deps.now

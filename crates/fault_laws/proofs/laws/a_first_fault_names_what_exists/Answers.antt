@@ -1,5 +1,0 @@
-use Rattle.fault_laws.proofs.FaultNames.{class_exists, flow_exists, outer_fewer, task_exists}
-use Rattle.fault_laws.proofs.laws.a_first_fault_names_what_exists.Goals as goal
-
-pub returns : goal.returns
-returns c = record { class = class_exists; flow = flow_exists; task = task_exists; outer = λ P class values s. outer_fewer P.spaces class values s }

@@ -1,5 +1,0 @@
-use Rattle.edge_match.proofs.OneFault.{one_first}
-use Rattle.fault_laws.proofs.laws.a_plan_has_one_first_fault.Goals as goal
-
-pub returns : goal.returns
-returns c = one_first

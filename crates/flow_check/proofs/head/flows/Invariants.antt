@@ -1,9 +1,0 @@
-use Rattle.std.proofs.Common.{take, flat_map}
-use Rattle.check_names.specs.Contexts.{job_of}
-use Rattle.check_names.specs.Returns.{ReturnsChecked}
-use Rattle.check_flows.specs.Dependences.{flow_faults}
-use Rattle.flow_check.specs.Classes.{flows_of}
-use Rattle.flow_check.proofs.head.flows.Given as goal
-
-abbrev pub invariant-loop-each : goal.invariant-loop-each
-invariant-loop-each l = ReturnsChecked l.parts (flows_of (job_of l.context) l.context.seen.now (take l.each-index l.flows)) (flat_map (flow_faults (job_of l.context) l.context.seen.now) (take l.each-index l.flows))

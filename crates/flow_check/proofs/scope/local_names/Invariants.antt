@@ -1,6 +1,0 @@
-use Rattle.std.proofs.Common.{◌≡◌, take}
-use Rattle.flow_check.specs.Bodies.{local_names}
-use Rattle.flow_check.proofs.scope.local_names.Given as goal
-
-abbrev pub invariant-loop-definition : goal.invariant-loop-definition
-invariant-loop-definition l = l.names ≡ local_names (take l.definition-index l.defs)

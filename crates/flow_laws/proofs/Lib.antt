@@ -1,4 +1,0 @@
-pub mod Resolved
-pub mod Types
-pub mod Targets
-pub mod Flows

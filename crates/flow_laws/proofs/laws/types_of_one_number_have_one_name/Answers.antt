@@ -1,5 +1,0 @@
-use Rattle.flow_laws.proofs.Types.{one_name}
-use Rattle.flow_laws.proofs.laws.types_of_one_number_have_one_name.Goals as goal
-
-pub returns : goal.returns
-returns c = one_name

@@ -1,2 +1,0 @@
-pub mod Progression
-pub mod Numbers

@@ -1,5 +1,0 @@
-use Rattle.range_laws.proofs.Progression.{value_at}
-use Rattle.range_laws.proofs.laws.values_are_a_progression.Goals as goal
-
-pub returns : goal.returns
-returns c = λ lo hi step index. value_at hi step index lo

@@ -1,0 +1,14 @@
+pub mod Claiming
+pub mod Reached
+pub mod Orders
+pub mod Writing
+pub mod Moments
+pub mod Ready
+pub mod Free
+pub mod Seeing
+pub mod Words
+pub mod Greatest
+pub mod Worlds
+pub mod Growing
+pub mod Texts
+pub mod Traces

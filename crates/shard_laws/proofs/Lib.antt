@@ -1,4 +1,0 @@
-pub mod Writing
-pub mod Moments
-pub mod Ready
-pub mod Free

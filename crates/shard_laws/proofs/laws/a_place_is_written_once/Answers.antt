@@ -1,5 +1,0 @@
-use Rattle.shard_laws.proofs.Writing.{unwritten}
-use Rattle.shard_laws.proofs.laws.a_place_is_written_once.Goals as goal
-
-pub returns : goal.returns
-returns c = λ P G of k R w y p con sound may h i same. unwritten P G con of k R sound w may y h p i same

@@ -1,6 +1,0 @@
-pub mod Orders
-pub mod Coming
-pub mod Grown
-pub mod Passing
-pub mod Running
-pub mod Tables

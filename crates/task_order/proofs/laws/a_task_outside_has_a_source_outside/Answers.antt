@@ -1,5 +1,0 @@
-use Rattle.task_order.proofs.Orders.{from_outside}
-use Rattle.task_order.proofs.laws.a_task_outside_has_a_source_outside.Goals as goal
-
-pub returns : goal.returns
-returns c = λ P ts t g job no. from_outside P ts g t job no

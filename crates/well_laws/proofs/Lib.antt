@@ -1,2 +1,0 @@
-pub mod Dependences
-pub mod Tasks

@@ -1,8 +1,0 @@
-use Rattle.well_laws.proofs.Tasks.{ins_reached, outs_reached}
-use Rattle.well_laws.proofs.laws.the_active_targets_are_those_that_are_reached.Goals as goal
-
-pub returns : goal.returns
-returns c = record {
-  ins = ins_reached;
-  outs = outs_reached;
-}
