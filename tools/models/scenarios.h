@@ -14,6 +14,9 @@ inline TaskSet tasks(std::initializer_list<int> list) {
     return set;
 }
 
+// How many of a task's sends may wait in the sources: `MOST_WAITING` of worker_core/src/waiting.rt.
+constexpr int MOST_WAITING = 4;
+
 struct Scenario {
     std::string name;
     int workers;
@@ -29,6 +32,9 @@ struct Scenario {
     bool refuses_sends = false;
     bool refuses_log = false;
     bool refuses_pushes = false;
+    // How many of a task's sends may wait for turns. If fewer than in the sources may, a small job shows too what a
+    // worker does that has no room for another one.
+    int most_waiting = MOST_WAITING;
     // The gate: the body of task t ends only once the bodies of meets[t] have begun and those of follows[t] have ended.
     // Without a gate a lost wake costs only time, since a busy worker looks again. With one it is a hang.
     std::vector<TaskSet> meets;
@@ -45,6 +51,7 @@ struct Scenario {
     Scenario refusing_sends() const { Scenario it = *this; it.refuses_sends = true; return it; }
     Scenario refusing_log() const { Scenario it = *this; it.refuses_log = true; return it; }
     Scenario refusing_pushes() const { Scenario it = *this; it.refuses_pushes = true; return it; }
+    Scenario with_most_waiting(int most) const { Scenario it = *this; it.most_waiting = most; return it; }
     // The bodies of the set end only once all of them have begun: they need a worker each, at one time.
     Scenario meeting(TaskSet set) const {
         Scenario it = *this;
@@ -60,6 +67,8 @@ struct Scenario {
 inline std::vector<Scenario> all_scenarios() {
     const std::vector<std::vector<int>> fan2 = {{1, 2}, {}, {}};
     const std::vector<std::vector<int>> fan3 = {{1, 2, 3}, {}, {}, {}};
+    const std::vector<std::vector<int>> fan4 = {{1, 2, 3, 4}, {}, {}, {}, {}};
+    const std::vector<std::vector<int>> fan5 = {{1, 2, 3, 4, 5}, {}, {}, {}, {}, {}};
     const std::vector<std::vector<int>> chain_fan2_and_root = {{1}, {2, 3}, {}, {}, {}};
     const std::vector<std::vector<int>> diamond = {{1, 2}, {3}, {3}, {}};
     const std::vector<std::vector<int>> fan2_and_root = {{1, 2}, {}, {}, {}};
@@ -88,6 +97,17 @@ inline std::vector<Scenario> all_scenarios() {
         Scenario("gate-meet-2w", 2, 1, {0, 0, 0}, fan2).meeting(tasks({1, 2})),
         Scenario("gate-meet-drop-2w", 2, 1, {0, 0, 0}, fan2).meeting(tasks({1, 2})).refusing_pushes(),
         Scenario("gate-meet3-2w", 2, 1, {0, 0, 0, 0}, fan3).meeting(tasks({1, 2})),
+        // A send to one shard waits, and one to the other shard goes first.
+        Scenario("gate-meet-2w-2k", 2, 2, {0, 1, 0}, fan2).meeting(tasks({1, 2})),
+        // Two workers send to the same shards.
+        Scenario("trees-2w-2k", 2, 2, {0, 1, 0, 1, 0}, trees),
+        // One or two sends may wait. If another one has to, the oldest is sent first.
+        Scenario("room1-2w", 2, 2, {0, 1, 0, 1}, fan3).with_most_waiting(1),
+        Scenario("gate-room1-2w", 2, 2, {0, 1, 0, 1}, fan3).meeting(tasks({2, 3})).with_most_waiting(1),
+        Scenario("oom-room1-2w", 2, 2, {0, 1, 0, 1}, fan3).refusing_sends().with_most_waiting(1),
+        Scenario("gate-room2-2w", 2, 2, {0, 1, 0, 1, 0}, fan4).meeting(tasks({1, 2})).with_most_waiting(2),
+        // As many wait as may in the sources, and the fifth send has to wait too.
+        Scenario("gate-room4-2w", 2, 1, {0, 0, 0, 0, 0, 0}, fan5).meeting(tasks({1, 2})),
         Scenario("fan2-3w", 3, 1, {0, 0, 0}, fan2),
         Scenario("gate-2meet-3w", 3, 1, {0, 0, 0}, fan2).meeting(tasks({1, 2})),
         // Task 3, which is ready at the start, keeps a worker until tasks 1 and 2 have met.
@@ -112,6 +132,7 @@ inline std::vector<Scenario> all_scenarios() {
             .meeting(tasks({1, 2})).following(3, tasks({1, 2})),
         Scenario("oom-fan2-3w-2k", 3, 2, {0, 1, 0}, fan2).refusing_sends(),
         Scenario("gate-3meet-3w-2k", 3, 2, {0, 1, 0, 1}, fan3).meeting(tasks({1, 2, 3})).refusing_pushes(),
+        Scenario("gate-room1-3w-2k", 3, 2, {0, 1, 0, 1}, fan3).meeting(tasks({1, 2, 3})).with_most_waiting(1),
         Scenario("one-task-4w", 4, 1, {0}, {{}}),
         Scenario("chain2-4w", 4, 1, {0, 0}, {{1}, {}}),
         Scenario("gate-2meet-4w", 4, 1, {0, 0, 0}, fan2).meeting(tasks({1, 2})),
@@ -121,7 +142,8 @@ inline std::vector<Scenario> all_scenarios() {
 // The scenarios in which each wrong variant is tried, the smaller ones first.
 inline std::vector<std::string> scenarios_of_variants() {
     return {"gate-meet-2w", "gate-meet-drop-2w", "fan2-2w", "oom-fan2-2w", "fan2-drop-2w", "oom-log-2w", "chain3-2w",
-            "one-task-3w", "trap-stall-2w", "oom-chain2-3w", "gate-3meet-3w", "gate-2meet-3w", "gate-long-3w"};
+            "gate-meet-2w-2k", "one-task-3w", "trap-stall-2w", "gate-room1-2w", "oom-room1-2w", "oom-chain2-3w",
+            "gate-3meet-3w", "gate-2meet-3w", "gate-long-3w"};
 }
 
 // Those that `--quick` leaves out.

@@ -27,7 +27,7 @@
 // - A push, a pop or a steal is one step. A steal may miss an id that is there, as one that began before the push.
 // - The ready task with the lowest number is the best one of its shard.
 // - Stamps, tiles, write-backs and the log's entries are left out: no worker waits for them. A write-back is a send
-//   that fires nothing.
+//   that fires nothing, as one whose target waits for further edges.
 // - The kernel's queue is first in, first out, except with the variant `any_sleeper_wakes`. The kit allows that a sleep
 //   ends for no reason. Here none does, so that no run depends on it.
 // - The epoch is only compared, so the model keeps whether it has changed. It would need 2^32 notifications between two
@@ -71,8 +71,12 @@ struct Worker {
     Step after_sleep, after_wake;
     // The task that it runs or is about to claim, and the id that its slot keeps.
     Byte task, slot;
-    // Which of the task's edges it sends.
-    Byte edge;
+    // Which of the task's edges it sends or tries to send, and which one its walk over them has reached. After the walk
+    // that is their number.
+    Byte edge, walk;
+    // The edges that wait for a turn, a bit for each. They begin to wait in the walk's order, so the oldest one has the
+    // lowest bit.
+    Byte waiting;
     // The worker from which it steals, or the shard at which it looks a second time.
     Byte at;
     // `Scans::next`.
@@ -104,6 +108,12 @@ struct State {
 static_assert(std::is_trivially_copyable<State>::value && sizeof(State) % 8 == 0, "no gaps");
 
 bool operator==(const State &left, const State &right) { return std::memcmp(&left, &right, sizeof(State)) == 0; }
+
+int bits_of(TaskSet set) {
+    int count = 0;
+    for (; set; set >>= 1) count += set & 1;
+    return count;
+}
 
 bool is_at_end(const Worker &it) { return it.step == Step::EndedQuiet || it.step == Step::EndedHalted; }
 
@@ -147,7 +157,7 @@ class Protocol {
             Worker &it = state.workers[number];
             it.step = number < job.workers ? first_step() : Step::EndedQuiet;
             it.task = it.slot = NONE;
-            it.next_scan = number < job.workers ? number % job.shards : 0;
+            it.next_scan = number < job.workers && number < job.shards ? number : 0;
         }
         return state;
     }
@@ -192,7 +202,9 @@ class Protocol {
         case Step::Cancel: return cancel(state, me);
         case Step::BeginBody: return begin_body(state, me);
         case Step::EndBody: return end_body(state, me);
-        case Step::SendTurn: return take_turn(state, me, shard_of(target_of(state, me)), Step::SendItem);
+        case Step::SendTurn: return send_turn(state, me);
+        case Step::OldestTurn: return take_turn(state, me, shard_of(target_of(state, me)), Step::SendItem);
+        case Step::WaitingTurn: return waiting_turn(state, me);
         case Step::SendItem: return send_item(state, me);
         case Step::SendFired: return send_fired(state, me);
         case Step::PushOlder: return push_older(state, me);
@@ -482,21 +494,70 @@ class Protocol {
         int task = state.workers[me].task;
         if (job.meets[task] & ~state.begun || job.follows[task] & ~state.done) return;
         state.done |= 1 << task;
-        if (traps(task) || job.edges[task].empty()) arrive(state, me, Step::EndTurn);
-        else begin_send(state, me);
+        if (traps(task)) arrive(state, me, Step::EndTurn);
+        else go_on(state, me, next_try(state.workers[me]));
     }
 
     bool traps(int task) const { return job.traps >> task & 1; }
+
+    // --- The sends of a task: `send_all`. The tries have the order of the sources. If any order were allowed, a state
+    // could have a way to the end that it does not have there, and hangs would be missed.
+
+    int edge_count(const Worker &worker) const { return job.edges[worker.task].size(); }
 
     int target_of(const State &state, int me) const {
         const Worker &worker = state.workers[me];
         return job.edges[worker.task][worker.edge];
     }
 
-    void begin_send(State &state, int me) {
-        bool wakes = wrong.push_wakes_first && state.workers[me].slot != NONE;
-        if (wakes) return notify(state, me, Step::OneReadWaiters, Step::SendTurn);
-        arrive(state, me, Step::SendTurn);
+    static bool edge_waits(const Worker &worker) { return worker.waiting >> worker.edge & 1; }
+
+    // The edge of the walk finds the turn taken, so it waits and the walk goes on. If no more edges may wait, the
+    // worker sends the oldest one first.
+    void send_turn(State &state, int me) {
+        Worker &worker = state.workers[me];
+        int shard = shard_of(target_of(state, me));
+        if (!state.turn[shard]) return take_turn(state, me, shard, Step::SendItem);
+        if (bits_of(worker.waiting) == job.most_waiting) {
+            worker.edge = 0;
+            while (!edge_waits(worker)) worker.edge++;
+            return go_on(state, me, Step::OldestTurn);
+        }
+        worker.waiting |= 1 << worker.walk++;
+        go_on(state, me, next_try(worker));
+    }
+
+    // After the walk, an edge that waits finds the turn taken, so the next one is tried. If it is the only one, it is
+    // tried again.
+    void waiting_turn(State &state, int me) {
+        Worker &worker = state.workers[me];
+        int shard = shard_of(target_of(state, me));
+        if (!state.turn[shard]) return take_turn(state, me, shard, Step::SendItem);
+        Byte tried = worker.edge;
+        Step then = next_try(worker);
+        if (worker.edge != tried) go_on(state, me, then);
+    }
+
+    // Goes on to the next edge of the walk. After the walk, it goes on to the next edge that waits, in this round or
+    // else in the next one, and at last to the task's end.
+    Step next_try(Worker &worker) const {
+        if (worker.walk < edge_count(worker)) {
+            worker.edge = worker.walk;
+            return Step::SendTurn;
+        }
+        if (!worker.waiting) {
+            worker.edge = worker.walk = 0;
+            return Step::EndTurn;
+        }
+        do worker.edge = (worker.edge + 1) % edge_count(worker);
+        while (!edge_waits(worker));
+        return Step::WaitingTurn;
+    }
+
+    void go_on(State &state, int me, Step then) {
+        bool wakes = wrong.push_wakes_first && then != Step::EndTurn && state.workers[me].slot != NONE;
+        if (wakes) return notify(state, me, Step::OneReadWaiters, then);
+        arrive(state, me, then);
     }
 
     // The worker holds the turn of the target's shard. The send is refused, or fires its target, or does not.
@@ -542,22 +603,28 @@ class Protocol {
     }
 
     void pushed(State &state, int me, bool wakes) {
-        if (!wakes || wrong.push_wakes_nobody || wrong.push_wakes_first) return sent(state, me);
+        if (wrong.push_wakes_nobody || wrong.push_wakes_first) wakes = false;
+        if (wrong.waited_send_wakes_nobody && edge_waits(state.workers[me])) wakes = false;
+        if (!wakes) return sent(state, me);
         Step then = step_after_send(state, me);
         notify(state, me, Step::OneReadWaiters, then);
     }
 
-    void sent(State &state, int me) {
-        if (step_after_send(state, me) == Step::SendTurn) begin_send(state, me);
-        else arrive(state, me, Step::EndTurn);
+    void sent(State &state, int me) { go_on(state, me, step_after_send(state, me)); }
+
+    // The edge was sent. If it waited during the walk, it leaves its room to the walk's edge, which waits from now on.
+    Step step_after_send(State &state, int me) const {
+        Worker &worker = state.workers[me];
+        bool waited = edge_waits(worker);
+        worker.waiting &= ~(1 << worker.edge);
+        if (worker.walk < edge_count(worker)) {
+            worker.waiting |= waited << worker.walk;
+            worker.walk++;
+        }
+        return next_try(worker);
     }
 
-    // Goes on to the next edge, or to the task's end.
-    Step step_after_send(State &state, int me) {
-        Worker &worker = state.workers[me];
-        worker.edge = (worker.edge + 1) % job.edges[worker.task].size();
-        return worker.edge ? Step::SendTurn : Step::EndTurn;
-    }
+    // --- The end of a task, or its trap.
 
     void end_give(State &state, int me) {
         int task = state.workers[me].task;
@@ -587,7 +654,7 @@ class Protocol {
     void fail(State state, int me) {
         Worker &worker = state.workers[me];
         worker.task = worker.slot = NONE;
-        worker.edge = 0;
+        worker.edge = worker.walk = worker.waiting = 0;
         if (wrong.error_does_not_halt) return arrive(state, me, Step::EndedHalted);
         if (wrong.halt_wakes_first) return notify(state, me, Step::AllReadWaiters, Step::RaiseHalt);
         arrive(state, me, Step::RaiseHalt);
@@ -664,8 +731,7 @@ bool is_wrong_end(const State &state, const Scenario &job, TaskSet runs) {
 // Whether a worker sleeps though more tasks are ready than workers will look, or wake one that looks.
 bool is_unwatched(const State &state) {
     if (state.halt || !state.sleeper_count) return false;
-    int tasks = 0, looks = 0;
-    for (int task = 0; task < MOST_TASKS; task++) tasks += state.ready >> task & 1;
+    int tasks = bits_of(state.ready), looks = 0;
     for (const Worker &worker : state.workers) {
         bool is_away = worker.step == Step::Asleep || worker.step == Step::EndBody || is_at_end(worker);
         bool is_waking = worker.step >= Step::PushOlder && worker.step <= Step::OneWake;
@@ -819,8 +885,8 @@ std::string set_text(TaskSet set) {
     return text.empty() ? "-" : text;
 }
 
-// One line for each step: which worker took it, and after it where all workers are, with their tasks, the tasks that
-// are ready, and the shared words.
+// One line for each step: which worker took it, and after it where all workers are, with their tasks and their sends
+// that wait, the tasks that are ready, and the shared words.
 void print_trace(const Found &found, const Scenario &job) {
     for (const auto &[stepped, state] : found.trace) {
         std::printf("  worker %d:", stepped);
@@ -829,6 +895,8 @@ void print_trace(const Found &found, const Scenario &job) {
             std::string task = worker.task == NONE ? "" : " " + std::to_string(worker.task);
             std::printf(" %s%s%s", number ? "| " : "", text_of(worker.step).name, task.c_str());
             if (worker.slot != NONE) std::printf(" (keeps %d)", worker.slot);
+            for (int edge = 0; worker.waiting >> edge; edge++)
+                if (worker.waiting >> edge & 1) std::printf(" (%d waits)", job.edges[worker.task][edge]);
         }
         std::printf("; ready %s, live %d, halt %d", set_text(state.ready).c_str(), state.live, state.halt);
         std::printf(", waiters %d, turns", state.waiters);

@@ -9,7 +9,8 @@ using Byte = std::uint8_t;
 enum class Step : Byte {
     MakeRoom, ReadHalt, PopOwn, Steal, ClaimTurn, ClaimGive, ScanTurn, ScanGive, ReadLive,
     Announce, ReadEpoch, SecondHalt, LookTurn, LookGive, SecondLive, CompareEpoch, Park, Asleep, Cancel,
-    BeginBody, EndBody, SendTurn, SendItem, SendFired, PushOlder, OneReadWaiters, OneRaiseEpoch, OneWake,
+    BeginBody, EndBody,
+    SendTurn, OldestTurn, WaitingTurn, SendItem, SendFired, PushOlder, OneReadWaiters, OneRaiseEpoch, OneWake,
     EndTurn, EndGive, PeekLive, LowerLive,
     RaiseHalt, AllReadWaiters, AllRaiseEpoch, AllWake, EndedQuiet, EndedHalted,
     Count
@@ -39,6 +40,8 @@ constexpr const char *CLAIMING = "worker_core/src/claiming.rt";
 constexpr const char *SLEEPING = "worker_core/src/sleeping.rt";
 constexpr const char *RUNNING = "worker_core/src/running.rt";
 constexpr const char *SENDING = "worker_core/src/sending.rt";
+constexpr const char *WAITING = "worker_core/src/waiting.rt";
+constexpr const char *ENDING = "worker_core/src/ending.rt";
 constexpr const char *BOARD = "dep_table/src/board.rt";
 constexpr const char *TRIES = "dep_table/src/tries.rt";
 constexpr const char *TURN = "dep_table/src/turn.rt";
@@ -55,7 +58,7 @@ inline const StepText STEPS[] = {
     {Step::PopOwn, "PopOwn", Access::Load, {{STEALING, "take_id", "hands.pop()"}}},
     {Step::Steal, "Steal", Access::Load, {{STEALING, "steal_among", "hands.steal(rt, from)"}}},
     {Step::ClaimTurn, "ClaimTurn", Access::LoadAndStore,
-     {{CLAIMING, "claim", "post.board.try_claim(pass, t)"},
+     {{CLAIMING, "claim", "post.board.try_claim(pass, shard, t)"},
       {TRIES, "claim_once", "self.try_turn(pass, shard)"}}},
     {Step::ClaimGive, "ClaimGive", Access::Store,
      {{TURN, "claim", "table.words.give_claim(&mut pass.seat, shard, t, &tiles)"},
@@ -94,13 +97,26 @@ inline const StepText STEPS[] = {
     // The run of a task: `run_found`.
     {Step::BeginBody, "BeginBody", Access::LoadAndStore,
      {{RUNNING, "run_found", "post.gate.before_body(post.rt, post.worker, &found.task)"}}},
-    {Step::EndBody, "EndBody", Access::None, {{RUNNING, "run_found", "run_body(post, bench, &at, arrivals)"}}},
-    // Its sends: `send_all` calls `send_item` for each item, and this `send_one` and `push_target`.
+    {Step::EndBody, "EndBody", Access::None, {{RUNNING, "run_found", "run_body(post, bench, &placed.at, arrivals)"}}},
+    // Its sends: `send_and_end` calls `send_all`. This walks over the task's items, and tries each one once. An item
+    // whose turn is taken waits.
     {Step::SendTurn, "SendTurn", Access::LoadAndStore,
-     {{SENDING, "send_one", "post.board.try_send(pass, item, tile)"},
+     {{SENDING, "send_all", "try_item(context, pass, hands, shard, &item)"},
+      {SENDING, "send_all", "outbox.waiting.push(WaitingItem { item, shard })"},
+      {SENDING, "try_item", "context.board.try_send(pass, shard, item, tile)"},
       {TRIES, "send_once", "self.try_turn(pass, shard)"}}},
-    // A send that fires its target raises the live word, and needs an empty store buffer for that: `send_item`. Others
-    // give the turn back.
+    // If as many items wait as may, the worker tries to send the oldest one until it is sent.
+    {Step::OldestTurn, "OldestTurn", Access::LoadAndStore,
+     {{SENDING, "send_all", "make_room(context, pass, hands, &mut outbox.waiting)"},
+      {WAITING, "make_room", "try_waiting(context, pass, hands, waiting, 0)"},
+      {WAITING, "try_waiting", "try_item(context, pass, hands, next.shard, &next.item)"}}},
+    // After the walk, `send_waiting` calls `try_each`, and this tries each item that waits, until none does.
+    {Step::WaitingTurn, "WaitingTurn", Access::LoadAndStore,
+     {{SENDING, "send_all", "send_waiting(context, pass, hands, &mut outbox.waiting)"},
+      {WAITING, "send_waiting", "try_each(context, pass, hands, waiting)"},
+      {WAITING, "try_each", "try_waiting(context, pass, hands, waiting, index)"}}},
+    // A send that fires its target raises the live word, and needs an empty store buffer for that: `send_item` of the
+    // model. Others give the turn back.
     {Step::SendItem, "SendItem", Access::Store,
      {{TABLE_SENDING, "send", "table.raise_for(&mut pass.seat, answer)"},
       {TABLE_SENDING, "send", "table.words.give_send(&mut pass.seat, shard, item, tile)"},
@@ -110,14 +126,17 @@ inline const StepText STEPS[] = {
     // Only if the slot keeps an id. Else the push accesses nothing that is shared, and is part of SendFired.
     {Step::PushOlder, "PushOlder", Access::LoadAndStore, {{SENDING, "push_target", "hands.push(edge.to.copy())"}}},
     {Step::OneReadWaiters, "OneReadWaiters", Access::Load,
-     {{SENDING, "push_target", "wake_one(board)"},
+     {{SENDING, "try_item", "push_target(context.board, hands, item)"},
+      {SENDING, "push_target", "wake_one(board)"},
       {EVENTS, "notify_one", "self.waiters.load(SeqCst) != 0"}}},
     {Step::OneRaiseEpoch, "OneRaiseEpoch", Access::LoadAndStore,
      {{EVENTS, "notify_one", "self.epoch.fetch_add(1, SeqCst)"}}},
     {Step::OneWake, "OneWake", Access::Load, {{EVENTS, "notify_one", "self.epoch.wake_one()"}}},
     // Its end, or its trap: `end_one` or `trap_one`.
     {Step::EndTurn, "EndTurn", Access::LoadAndStore,
-     {{TRIES, "end_once", "self.try_turn(pass, shard)"},
+     {{ENDING, "end_one", "post.board.try_end(pass, shard, t, &mut spent)"},
+      {ENDING, "trap_one", "post.board.try_trap(pass, shard, t, cause)"},
+      {TRIES, "end_once", "self.try_turn(pass, shard)"},
       {TRIES, "trap_once", "self.try_turn(pass, shard)"}}},
     {Step::EndGive, "EndGive", Access::Store,
      {{TURN, "end", "table.words.give_end(&mut pass.seat, shard)"},

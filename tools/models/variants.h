@@ -36,9 +36,11 @@ struct Variant {
     bool quiet_wakes_one = false;
     // Whoever pushes a second id wakes nobody.
     bool push_wakes_nobody = false;
+    // Whoever sends an item that waited, and so pushes a second id, wakes nobody.
+    bool waited_send_wakes_nobody = false;
     // If the second id is dropped, since the deque was refused memory, nobody is woken.
     bool dropped_id_wakes_nobody = false;
-    // Whoever keeps an id wakes a sleeper before each further send, not after the push.
+    // Whoever keeps an id wakes a sleeper before each further try of a send, not after the push.
     bool push_wakes_first = false;
     // `notify_one` wakes any sleeper, not the one that sleeps longest. The kit's page allows that for threads of
     // different priorities, so it is no fault.
@@ -77,6 +79,7 @@ inline std::vector<WrongVariant> all_variants() {
         {"quiet_wakes_nobody", {&Variant::quiet_wakes_nobody}, true},
         {"quiet_wakes_first", {&Variant::quiet_wakes_first}, true},
         {"push_wakes_nobody", {&Variant::push_wakes_nobody}, true},
+        {"waited_send_wakes_nobody", {&Variant::waited_send_wakes_nobody}, true},
         {"dropped_id_wakes_nobody", {&Variant::dropped_id_wakes_nobody}, true},
         {"halt_is_stored_late", {&Variant::halt_is_stored_late}, true},
         {"turns_are_given_late, busy_counts_as_empty",

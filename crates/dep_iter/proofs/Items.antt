@@ -1,15 +1,13 @@
--- The edges and the write-backs of a list of items, and the items of a task.
-use Rattle.std.proofs.Common.{◌≡◌, ◌↔◌, List, [], ◌∷◌, ◌++◌, map, refl, ap, sym, subst, inl, inr}
+-- The edges and the write-backs of a list of items.
+use Rattle.std.proofs.Common.{◌≡◌, List, [], ◌∷◌, refl, ap, inl, inr}
 use Rattle.std.specs.List.{filter_map}
 use Rattle.ptg_base.specs.Lists.{IsIn}
-use Rattle.ptg_base.specs.Task.{Task}
 use Rattle.ptg_base.specs.declared.edge.Edge.{Edge}
 use Rattle.ptg_base.specs.declared.edge.WriteBack.{WriteBack}
 use Rattle.ptg_base.specs.declared.edge.Item.{Item}
 use Rattle.ptg_base.specs.declared.edge.Item.TheVariants as item
-use Rattle.plan_core.specs.declared.plan.Plan.{Plan}
-use Rattle.dep_iter.specs.Items.{edge_of, edges_then_writes, items, out_edges, write_backs, write_of}
-use Rattle.list_lemmas.proofs.Members.{IsIn-append_left, IsIn-append_right, IsIn-filter_map, IsIn-map, from_append, from_map}
+use Rattle.dep_iter.specs.Items.{edge_of, write_of}
+use Rattle.list_lemmas.proofs.Members.{IsIn-filter_map}
 
 pub Edge-injective : (a b : Edge) → item.Edge a ≡ item.Edge b → a ≡ b
 Edge-injective a b q = cc
@@ -33,31 +31,3 @@ write_item (item.Write v ∷ is) w h = elim h [ inl q ↦ inl (ap (λ (x : Write
 
 pub item_write : (is : List Item) (w : WriteBack) → IsIn (item.Write w) is → IsIn w (filter_map write_of is)
 item_write is w h = IsIn-filter_map write_of is (item.Write w) w h refl
-
--- the items of a task are its edges and its write-backs
-pub items-in_order : (P : Plan) (t : Task) (i : Item) → IsIn i (items P t) ↔ IsIn i (edges_then_writes P t)
-items-in_order P t i = (there i, back i)
-  where
-    edges : List Item
-    edges = map (λ (e : Edge). item.Edge e) (out_edges P t)
-
-    writes : List Item
-    writes = map (λ (w : WriteBack). item.Write w) (write_backs P t)
-
-    there : (j : Item) → IsIn j (items P t) → IsIn j (edges ++ writes)
-    there (item.Edge e) mine =
-        let here = IsIn-map (λ (e : Edge). item.Edge e) (out_edges P t) e (item_edge (items P t) e mine) in
-        IsIn-append_left (item.Edge e) edges writes here
-    there (item.Write w) mine =
-        let here = IsIn-map (λ (w : WriteBack). item.Write w) (write_backs P t) w (item_write (items P t) w mine) in
-        IsIn-append_right (item.Write w) edges writes here
-
-    back : (j : Item) → IsIn j (edges ++ writes) → IsIn j (items P t)
-    back j among = elim (from_append j edges writes among) [
-      | inl m ↦
-          let e = from_map (λ (e : Edge). item.Edge e) (out_edges P t) j m in
-          subst (λ k. IsIn k (items P t)) (sym e.2) (edge_item (items P t) e.0 e.1)
-      | inr m ↦
-          let w = from_map (λ (w : WriteBack). item.Write w) (write_backs P t) j m in
-          subst (λ k. IsIn k (items P t)) (sym w.2) (write_item (items P t) w.0 w.1)
-    ]

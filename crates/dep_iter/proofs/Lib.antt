@@ -9,3 +9,4 @@ pub mod Distinctness
 pub mod Directed
 pub mod Writing
 pub mod OwnLocals
+pub mod Sending

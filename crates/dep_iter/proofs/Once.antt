@@ -1,9 +1,11 @@
--- No task is listed twice. In a consistent job no task has an edge or a write-back twice.
+-- No task is listed twice. In a consistent job no task has an edge or a write-back twice, and none sends an item twice.
 use Rattle.std.proofs.Common.{◌≡◌, ℕ, suc, ◌≤◌, List, [], ◌∷◌, map, refl, ap, Some, slice_get, inl, inr, arith}
-use Rattle.std.specs.List.{flat_map}
+use Rattle.std.specs.List.{filter_map, flat_map}
 use Rattle.ptg_base.specs.Lists.{HasNoRepeats, IsIn}
 use Rattle.ptg_base.specs.Task.{Task}
 use Rattle.ptg_base.specs.declared.edge.WriteBack.{WriteBack}
+use Rattle.ptg_base.specs.declared.edge.Item.{Item}
+use Rattle.ptg_base.specs.declared.edge.Item.TheVariants as item
 use Rattle.term_core.specs.declared.space.ClassSpace.{ClassSpace}
 use Rattle.term_core.specs.WellSpace.{IsWellSpace}
 use Rattle.range_space.specs.Tasks.{tasks}
@@ -13,9 +15,10 @@ use Rattle.list_lemmas.proofs.Distinct.{HasNoRepeats-append, HasNoRepeats-from_m
 use Rattle.plan_core.specs.declared.plan.Plan.{Plan}
 use Rattle.dep_iter.specs.Consistent.{IsConsistent}
 use Rattle.dep_iter.specs.Edges.{in_edges}
-use Rattle.dep_iter.specs.Items.{out_edges, write_backs}
+use Rattle.dep_iter.specs.Items.{edge_of, items, out_edges, write_backs, write_of}
 use Rattle.dep_iter.specs.Tasks.{IsTask, all_tasks, task, tasks_from}
 pub use Rattle.dep_iter.specs.OneTask.{well_space}
+use Rattle.dep_iter.proofs.Items.{item_edge, item_write}
 use Rattle.dep_iter.proofs.Listing.{listed}
 
 class_from : (n : ℕ) (ss : List ClassSpace) (t : Task) → IsIn t (tasks_from n ss) → n ≤ t.class
@@ -34,6 +37,13 @@ once-tasks_from n (s ∷ ss) well =
     let b = class_from (suc n) ss t k in
     omega arith)
 
+-- items have no repeats if neither their edges nor their write-backs have any
+once-parts : (is : List Item) → HasNoRepeats (filter_map edge_of is) → HasNoRepeats (filter_map write_of is)
+    → HasNoRepeats is
+once-parts [] edges writes = tt
+once-parts (item.Edge e ∷ is) edges writes = (λ i. edges.0 (item_edge is e i), once-parts is edges.1 writes)
+once-parts (item.Write w ∷ is) edges writes = (λ i. writes.0 (item_write is w i), once-parts is edges writes.1)
+
 -- no task of a plan is listed twice
 pub once-all_tasks : (P : Plan) → HasNoRepeats (all_tasks P)
 once-all_tasks P = once-tasks_from 0 P.spaces (well_space P)
@@ -47,3 +57,7 @@ module _ (P : Plan) (con : IsConsistent P) (t : Task) (job : IsTask P t) where
 
   pub once-write_backs : HasNoRepeats (write_backs P t)
   once-write_backs = HasNoRepeats-part (write_backs P) (all_tasks P) (HasNoRepeats-from_map (λ (w : WriteBack). w.place) (flat_map (write_backs P) (all_tasks P)) con.written_once) t ((listed P t).0 job)
+
+  -- no item is sent twice
+  pub once-items : HasNoRepeats (items P t)
+  once-items = once-parts (items P t) once-out_edges once-write_backs

@@ -2,7 +2,7 @@
 -- 2012) and PaRSEC (2013); that `-> NULL` sends nothing is this project's own choice.
 -- Carried by: `out_edges`, `write_backs`, `TaskItems`.
 -- Tested by: `edges.txt`, `edges_cholesky.txt`.
-use Rattle.std.specs.Prelude.{ℕ, ℤ, List, [], ◌∷◌, ◌++◌, map, flat_map, filter_map, take, false, Option, Some, None, slice_get}
+use Rattle.std.specs.Prelude.{ℕ, ℤ, List, [], ◌∷◌, map, flat_map, filter_map, take, false, Option, Some, None, slice_get}
 use Rattle.std.specs.Option.{option_map_or}
 use Rattle.ptg_base.specs.Task.{Task}
 use Rattle.ptg_base.specs.declared.place.Place.{Place}
@@ -54,14 +54,6 @@ out_edges P t = filter_map edge_of (items P t)
 -- the write-backs of a task
 abbrev pub write_backs : Plan → Task → List WriteBack
 write_backs P t = filter_map write_of (items P t)
-
--- these edges and then these write-backs, as items
-abbrev pub in_order : List Edge → List WriteBack → List Item
-in_order es ws = map (λ (e : Edge). item.Edge e) es ++ map (λ (w : WriteBack). item.Write w) ws
-
--- what a task sends, its edges before its write-backs
-abbrev pub edges_then_writes : Plan → Task → List Item
-edges_then_writes P t = in_order (out_edges P t) (write_backs P t)
 
 -- the number of the flow that an item is sent by
 abbrev pub item_flow : Item → ℕ

@@ -53,15 +53,6 @@ fn push_first(spans: &[Steps], values: &mut Numbers<MOST_PARAMS>)
     push_first(inner, values);
 }
 
-// Removes all numbers.
-fn clear(values: &mut Numbers<MOST_PARAMS>)
-    ensures { values.new ≡ [] }
-{
-    if values.pop().is_some() {
-        clear(values);
-    }
-}
-
 // Advances to the next combination: the last value that can advance does so, and those after it begin anew. Returns
 // whether there is a next one.
 fn advance(spans: &[Steps], at: &mut Numbers<MOST_PARAMS>) -> bool
@@ -134,7 +125,7 @@ impl Combinations {
     {
         self.spans.clear();
         self.live = push_spans(args, env, &mut self.spans);
-        clear(&mut self.at);
+        self.at.clear();
         if self.live {
             push_first(self.spans.as_slice(), &mut self.at);
         }

@@ -1,19 +1,20 @@
 //! The links of a task, one after another.
 
-ghost use Rattle.std.specs.Prelude.{◌≡◌, ◌+◌, ◌≤◌, [], length, map, IsTrue, List, slice_get};
+ghost use Rattle.std.specs.Prelude.{◌≡◌, ◌+◌, ◌≤◌, [], is_some, length, map, IsTrue, List, slice_get};
 ghost use Rattle.std.specs.Iterator.{YieldsFirst};
 ghost use Rattle.ptg_base.specs.Limits.{most_flows, most_params};
 ghost use Rattle.ptg_base.specs.declared.edge.Edge.{Edge as EdgeValue};
 ghost use Rattle.dep_iter.specs.Links.{edge_of_link, fits, links_to};
-ghost use Rattle.dep_iter.specs.Walking.{edges_left, position_fits};
+ghost use Rattle.dep_iter.specs.Walking.{link_item, edges_left, position_fits};
 ghost use Rattle.plan_core.specs.declared.target.Target.TheVariants.{Task};
 
 use crate::combining::Combinations;
+use crate::item::link_item;
 use crate::near_end::NearEnd;
 use crate::position::{Position, next_target};
 use crate::single::only_edge;
 use plan_core::{Arg, Plan, Target};
-use ptg_base::Edge;
+use ptg_base::{Edge, Item, TaskId};
 use std::marker::Model;
 
 /// The links of one target that were not yet yielded.
@@ -57,7 +58,7 @@ impl TargetLinks {
     }
 
     // Replaces the links by those of this flow that a target stands for.
-    fn restart(&mut self, plan: &Plan, near: u8, target: &Target, env: &[i64])
+    pub(crate) fn restart(&mut self, plan: &Plan, near: u8, target: &Target, env: &[i64])
         requires { IsTrue (fits plan.now target.now) }
         ensures { self.new ≡ links_to env.now near target.now }
     {
@@ -91,6 +92,33 @@ impl TargetLinks {
         let edge = self.first(end);
         self.params.pass();
         edge
+    }
+
+    // Whether a link is left.
+    pub(crate) fn has_next(&self) -> bool
+        ensures { result ≡ is_some (slice_get self.now 0) }
+    {
+        self.params.first().is_some()
+    }
+
+    // The next link as an item that a task sends, if there is one.
+    fn first_item(&self, task: &TaskId) -> Option<Item>
+        ensures { result ≡ slice_get (map (link_item task.now) self.now) 0 }
+    {
+        match self.params.first() {
+            Some(values) => link_item(task, self.near, self.class, self.far_flow, values),
+            None => None,
+        }
+    }
+
+    // Takes the next link of the target as an item that a task sends.
+    pub(crate) fn next_item(&mut self, task: &TaskId) -> Option<Item>
+        ensures { YieldsFirst (λ left. left)
+            (map (link_item task.now) self.old) result (map (link_item task.now) self.new) }
+    {
+        let item = self.first_item(task);
+        self.params.pass();
+        item
     }
 }
 

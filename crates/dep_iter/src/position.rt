@@ -62,29 +62,22 @@ pub(crate) fn next_held<'a>(
     }
 }
 
-// The position of a walk that enters a flow, with the flows after it.
-fn enter<'a>(
-    direction: Direction,
-    flow: &'a FlowPlan,
-    number: u8,
-    others: &'a [FlowPlan],
-) -> Position<'a>
-    requires { number < most_flows }
-    ensures flow { result.flow ≡ number }
-    ensures next { result.next_flow ≡ number + 1 }
-    ensures flows { result.flows.now ≡ others.now }
+// Moves a walk to its next flow, after which these flows come.
+fn enter<'a>(direction: Direction, flow: &'a FlowPlan, others: &'a [FlowPlan], p: &mut Position<'a>)
+    requires { p.old.next_flow < most_flows }
+    ensures flow { p.new.flow ≡ p.old.next_flow }
+    ensures next { p.new.next_flow ≡ p.old.next_flow + 1 }
+    ensures flows { p.new.flows.now ≡ others.now }
     ensures targets { (env : List ℤ)
-        → held_targets result.first_only result.deps.now env ≡ flow_targets direction env flow.now }
+        → held_targets p.new.first_only p.new.deps.now env ≡ flow_targets direction env flow.now }
     ensures fits { (P : Plan) → IsTrue (dependences_fit P flow.now.ins && dependences_fit P flow.now.outs)
-        → IsTrue (dependences_fit P result.deps.now) }
+        → IsTrue (dependences_fit P p.new.deps.now) }
 {
-    Position {
-        flow: number,
-        first_only: flow.kind.first_only(direction),
-        deps: flow.dependences(direction),
-        next_flow: number + 1,
-        flows: others,
-    }
+    p.flow = p.next_flow;
+    p.first_only = flow.kind.first_only(direction);
+    p.deps = flow.dependences(direction);
+    p.next_flow += 1;
+    p.flows = others;
 }
 
 // Returns the next active target of a walk in one direction, under these locals, and moves the walk past it.
@@ -102,12 +95,11 @@ pub(crate) fn next_target<'a>(
     ensures fits { (P : Plan) → IsTrue (position_fits P p.old)
         → IsTrue (position_fits P p.new) × IfSome result (λ target. IsTrue (fits P target.now)) }
 {
-    let at = *p;
-    if let Some((target, later)) = next_held(at.first_only, at.deps, env) {
-        *p = Position { deps: later, ..at };
+    if let Some((target, later)) = next_held(p.first_only, p.deps, env) {
+        p.deps = later;
         return Some(target);
     }
-    let (flow, others) = at.flows.split_first()?;
-    *p = enter(direction, flow, at.next_flow, others);
+    let (flow, others) = p.flows.split_first()?;
+    enter(direction, flow, others, p);
     next_target(direction, env, p)
 }

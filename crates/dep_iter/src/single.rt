@@ -14,9 +14,9 @@ use ptg_base::{Edge, MOST_PARAMS};
 use range_space::Numbers;
 use term_core::{Expr, eval};
 
-// Adds the value of each of these arguments, which is their only combination. Returns false if one of them is a range
-// or has a fault.
-fn push_only(args: &[Arg], env: &[i64], values: &mut Numbers<MOST_PARAMS>) -> bool
+/// Adds the value of each of these arguments, which is their only combination. Returns false if one of them is a range
+/// or has a fault.
+pub fn push_only(args: &[Arg], env: &[i64], values: &mut Numbers<MOST_PARAMS>) -> bool
     requires { length values.old + length args.now ≤ most_params }
     ensures { OnTrue result (AddsOnly (combinations args.now env.now) values.old values.new) }
 {

@@ -1,7 +1,7 @@
 //! Tasks of a plan, their locals and their flows.
 
 ghost use Rattle.std.specs.Prelude.{◌≡◌, ◌↔◌, ◌+◌, ◌<◌, ◌≤◌, ◌++◌, length, slice_get, Some, IsTrue, MatchOption};
-ghost use Rattle.std.specs.Bool.{OnTrue};
+ghost use Rattle.std.specs.Bool.{OnFalse, OnTrue};
 ghost use Rattle.ptg_base.specs.Limits.{most_flows, most_locals, most_params};
 ghost use Rattle.term_core.specs.WellSpace.{IsWellSpace};
 ghost use Rattle.dep_iter.specs.Tasks as tasks;
@@ -10,7 +10,7 @@ ghost use Rattle.dep_iter.specs.Links.{flows_fit};
 
 use plan_core::{FlowPlan, Plan};
 use ptg_base::{MOST_LOCALS, TaskId};
-use range_space::{Numbers, a_task_has_one_list_of_locals, find_locals, in_space};
+use range_space::{Numbers, a_task_has_one_list_of_locals, in_space};
 use term_core::ClassSpace;
 
 // The space of a task's class, if the class exists and has as many parameters as the task has values; else the job has
@@ -82,13 +82,21 @@ fn push_all(values: &[i64], numbers: &mut Numbers<MOST_LOCALS>)
     push_all(others, numbers);
 }
 
-// A copy of the parameters of a task.
-fn params_copy(t: &TaskId) -> Numbers<MOST_LOCALS>
-    ensures { result ≡ t.now.params }
+// Replaces these numbers by the parameters of a task.
+fn copy_params(t: &TaskId, numbers: &mut Numbers<MOST_LOCALS>)
+    ensures { numbers.new ≡ t.now.params }
 {
-    let mut numbers = Numbers::new();
-    push_all(t.params(), &mut numbers);
-    numbers
+    numbers.clear();
+    push_all(t.params(), numbers);
+}
+
+/// Replaces these numbers by the locals of a task. Its definitions are evaluated even if its parameters are its locals.
+pub fn fill_locals(plan: &Plan, t: &TaskId, locals: &mut Numbers<MOST_LOCALS>)
+    requires { IsTask plan.now t.now }
+    ensures { locals.new ≡ tasks.locals_of plan.now t.now }
+{
+    a_task_has_one_list_of_locals();
+    range_space::fill_locals(plan.space(t.class()), t.params(), locals);
 }
 
 /// The locals of a task, on which the expressions of its class are evaluated.
@@ -96,21 +104,39 @@ pub fn locals_of(plan: &Plan, t: &TaskId) -> Numbers<MOST_LOCALS>
     requires { IsTask plan.now t.now }
     ensures { result ≡ tasks.locals_of plan.now t.now }
 {
+    let mut locals = Numbers::new();
     if has_own_locals(plan, t) {
-        return params_copy(t);
+        copy_params(t, &mut locals);
+    } else {
+        fill_locals(plan, t, &mut locals);
     }
-    a_task_has_one_list_of_locals();
-    range_space::locals_of(plan.space(t.class()), t.params())
+    locals
 }
 
-/// The locals of a task, or None if the job has no such task, in one pass over the definitions. The calls named
-/// `.._under` evaluate on them.
+/// Replaces these numbers by the locals of a task, and returns whether the job has the task. Takes one pass over the
+/// definitions.
+pub fn find_locals(plan: &Plan, t: &TaskId, locals: &mut Numbers<MOST_LOCALS>) -> bool
+    ensures found { OnTrue result (IsTask plan.now t.now × (locals.new ≡ tasks.locals_of plan.now t.now)) }
+    ensures none { OnFalse result (IsTask plan.now t.now → ⊥) }
+{
+    a_task_has_one_list_of_locals();
+    let Some(space) = space_for(plan, t) else {
+        return false;
+    };
+    range_space::find_locals(space, t.params(), locals)
+}
+
+/// The locals of a task, or None if the job has no such task. The calls named `.._under` evaluate on them.
 pub fn task_locals(plan: &Plan, t: &TaskId) -> Option<Numbers<MOST_LOCALS>>
     ensures { MatchOption result (IsTask plan.now t.now → ⊥)
         (λ locals. IsTask plan.now t.now × (locals ≡ tasks.locals_of plan.now t.now)) }
 {
-    a_task_has_one_list_of_locals();
-    find_locals(space_for(plan, t)?, t.params())
+    let mut locals = Numbers::new();
+    if find_locals(plan, t, &mut locals) {
+        Some(locals)
+    } else {
+        None
+    }
 }
 
 /// The flows of the class of a task.

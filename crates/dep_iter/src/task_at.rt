@@ -7,7 +7,7 @@ ghost use Rattle.dep_iter.specs.Tasks.{IsTask};
 ghost use Rattle.dep_iter.specs.Links.{dependences_fit, flows_fit};
 ghost use Rattle.dep_iter.specs.OneTask.{IsTask-prop};
 
-use crate::task::{flows_of, has_own_locals, is_task, locals_of, task_locals};
+use crate::task::{fill_locals, find_locals, flows_of, has_own_locals, is_task};
 use plan_core::{FlowPlan, Plan};
 use ptg_base::{MOST_LOCALS, TaskId};
 use range_space::Numbers;
@@ -56,7 +56,7 @@ impl<'a> TaskAt<'a> {
                 locals: task.params(),
             };
         }
-        *room = locals_of(plan, task);
+        fill_locals(plan, task, room);
         TaskAt {
             plan,
             task,
@@ -77,7 +77,9 @@ impl<'a> TaskAt<'a> {
         if has_own_locals(plan, task) {
             return lent(plan, task);
         }
-        *room = task_locals(plan, task)?;
+        if !find_locals(plan, task, room) {
+            return None;
+        }
         Some(TaskAt {
             plan,
             task,

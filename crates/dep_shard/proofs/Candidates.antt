@@ -1,10 +1,8 @@
 -- Live and stale candidates.
-use Rattle.std.specs.Prelude.{◌≡◌, ◌<◌, ℤ, Bool, true, false, ◌&&◌, ◌||◌, nat_eq, List, [], ◌∷◌, length, filter, cond, Option, Some, None, IsTrue, IfSome, IfNone, slice_index_or}
+use Rattle.std.specs.Prelude.{◌≡◌, ◌<◌, ℤ, Bool, true, false, ◌&&◌, ◌||◌, nat_eq, List, [], ◌∷◌, length, Option, Some, None, IsTrue, IfSome, IfNone, slice_index_or}
 use Rattle.std.proofs.Common.{refl, sym, ap, ◌∙◌, true≢false, arith, subst}
 use Rattle.std.specs.List.{list_any, AllByRecursion}
-use Rattle.std.specs.List.Retain.{IsFiltered}
 use Rattle.std.specs.List.Sorted.{IsPermutation}
-use Rattle.std.proofs.lemmas.Fn.{filter_same}
 use Rattle.std.proofs.lemmas.List.Sorted.{list_any-IsPermutation, length_permutation}
 use Rattle.std.specs.BinaryHeap.{IsHeap, PopsGreatest}
 use Rattle.std.specs.Option.{option_map_or}
@@ -126,30 +124,3 @@ none_from es (r ∷ rs) l q t e is ready = omega (arith, l)
 pub live_front : (es : Entries) (x : Candidate) (cs : List Candidate) → HasLiveFront es cs → x ≡ slice_index_or cs 0 x → 0 < length cs → is_live es x.0 x.1.0 ≡ true
 live_front es x [] front first some = absurd (omega (arith, some))
 live_front es x (c ∷ rest) front first some = (λ i. is_live es (first i).0 (first i).1.0) ∙ front c rest refl
-
--- a live candidate stays if only the live ones are kept
-stays : (es : Entries) (p : ℤ) (t : Task) (rs : List Candidate) → is_live es p t ≡ true → list_any (is_candidate p t) rs ≡ true → list_any (is_candidate p t) (filter (λ x. is_live es x.0 x.1.0) rs) ≡ true
-stays es p t [] live any = any
-stays es p t (x ∷ xs) live any = by (stays es p t xs live) (is_candidate p t x) refl (is_live es x.0 x.1.0) refl
-  where
-    by : (list_any (is_candidate p t) xs ≡ true → list_any (is_candidate p t) (filter (λ x. is_live es x.0 x.1.0) xs) ≡ true) → (a : Bool) → is_candidate p t x ≡ a → (b : Bool) → is_live es x.0 x.1.0 ≡ b → list_any (is_candidate p t) (filter (λ x. is_live es x.0 x.1.0) (x ∷ xs)) ≡ true
-    by rest true h true k =
-        ap (λ b. list_any (is_candidate p t) (cond b (x ∷ filter (λ x. is_live es x.0 x.1.0) xs) (filter (λ x. is_live es x.0 x.1.0) xs))) k
-        ∙ ap (λ b. b || list_any (is_candidate p t) (filter (λ x. is_live es x.0 x.1.0) xs)) h
-    by rest true h false k =
-        let m = candidate_means p t x h in
-        let same : is_live es p t ≡ is_live es x.0 x.1.0 = λ i. is_live es (m.0 i) (m.1 i) in
-        absurd (true≢false (sym live ∙ same ∙ k))
-    by rest false h true k =
-        ap (λ b. list_any (is_candidate p t) (cond b (x ∷ filter (λ x. is_live es x.0 x.1.0) xs) (filter (λ x. is_live es x.0 x.1.0) xs))) k
-        ∙ ap (λ b. b || list_any (is_candidate p t) (filter (λ x. is_live es x.0 x.1.0) xs)) h ∙ rest (or_second (is_candidate p t x) (list_any (is_candidate p t) xs) any h)
-    by rest false h false k =
-        ap (λ b. list_any (is_candidate p t) (cond b (x ∷ filter (λ x. is_live es x.0 x.1.0) xs) (filter (λ x. is_live es x.0 x.1.0) xs))) k
-        ∙ rest (or_second (is_candidate p t x) (list_any (is_candidate p t) xs) any h)
-
--- All stale candidates may go.
-pub kept_live : {F : Type 0} (R : F → Candidate → Bool → F → Type 0) (es : Entries) (f : F) (rs kept ss : List Candidate) → IsFiltered R f rs kept → IsPermutation kept ss → HasEveryReady es rs
-    → ((x : Candidate) (b : Bool) (g : F) → R f x b g → (b ≡ is_live es x.0 x.1.0) × (g ≡ f)) → HasEveryReady es ss
-kept_live R es f rs kept ss filtered moves q says t p live =
-    let is : kept ≡ filter (λ x. is_live es x.0 x.1.0) rs = filter_same R (λ x. is_live es x.0 x.1.0) f says rs kept filtered in
-    sym (list_any-IsPermutation (is_candidate p t) kept ss moves) ∙ ap (list_any (is_candidate p t)) is ∙ stays es p t rs live (q t p live)

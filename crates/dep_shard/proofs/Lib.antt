@@ -3,4 +3,5 @@ pub mod StockLemmas
 pub mod Candidates
 pub mod Waiting
 pub mod QueueLemmas
+pub mod Searches
 pub mod TableLemmas

@@ -1,22 +1,19 @@
 -- The queue and its room, as entries come and go.
-use Rattle.std.specs.Prelude.{◌≡◌, ◌↔◌, ℕ, ◌+◌, ◌<◌, ◌≤◌, ℤ, Bool, true, false, ◌||◌, cond, nat_eq, List, [], ◌∷◌, ◌++◌, length, slice_get, swap_remove, Option, Some, None, IfNone, IfSome, position}
+use Rattle.std.specs.Prelude.{◌≡◌, ◌↔◌, ℕ, ◌+◌, ◌<◌, ◌≤◌, ℤ, Bool, true, false, ◌&&◌, ◌||◌, cond, nat_eq, List, [], ◌∷◌, ◌++◌, length, slice_get, swap_remove, Option, Some, None, IfNone, IfSome, position}
 use Rattle.std.proofs.Common.{zero, suc, refl, sym, ap, ◌∙◌, true≢false, arith, subst}
 use Rattle.std.specs.List.{list_any}
-use Rattle.std.specs.List.Sorted.{IsPermutation}
-use Rattle.std.proofs.lemmas.List.Sorted.{list_any-IsPermutation}
 use Rattle.std.specs.Cmp.{first_so, second_so, unsigned_Decides, signed_Decides}
 use Rattle.ptg_base.specs.Entry.{Entry}
 use Rattle.ptg_base.specs.Task.{Task}
 use Rattle.ptg_base.specs.TaskComparing.{same_task}
 use Rattle.list_lemmas.proofs.Places.{slice_get_there}
 use Rattle.dep_shard.specs.Content.{Entries, Content, entry_in, IsReady, IsWaiting, HasNoReady, IsEntryAt, ArrivesAt, Updates, with_arrival}
-use Rattle.dep_shard.specs.Queue.{Candidate, order, is_candidate, is_ready_at, HasEveryReady, HaveAtMostGoal, is_waiting, count_waiting, IsQueueOf}
-use Rattle.dep_shard.proofs.Candidates.{same_means, candidate_self}
+use Rattle.dep_shard.specs.Queue.{Candidate, QueueContent, Serves, Adds, is_candidate, is_ready_at, HasEveryReady, HaveAtMostGoal, is_waiting, count_waiting, IsQueueOf}
+use Rattle.dep_shard.proofs.Candidates.{same_means, same_self}
 use Rattle.dep_shard.proofs.Waiting.{count_waiting-push, count_waiting-set_at, count_waiting-swap_remove_at, all_wait, count_all}
 use Rattle.std.proofs.lemmas.Bool.Decides.{nat_tests}
 use Rattle.std.specs.Map.{lookup_key, keys_of, values_of}
 use Rattle.std.specs.Ordering.{int_eq}
-use Rattle.std.specs.BinaryHeap.{KeepsHeap}
 use Rattle.std.specs.List.{IsDistinct}
 use Rattle.std.specs.Cmp.{IsEquivalence, decided}
 use Rattle.ptg_base.specs.TaskLaws.{same_task-decides}
@@ -32,15 +29,6 @@ one_waits e less = grind (arith, nat_tests)
 
 none_waits : (e : Entry) → IsReady e → as_number (is_waiting e) ≡ 0
 none_waits e ready = grind (arith, nat_tests)
-
--- A queue that has every ready entry has it after a push.
-pub pushed : (es : Entries) (x : Candidate) (rs ss : List Candidate) → IsPermutation (x ∷ rs) ss → HasEveryReady es rs → HasEveryReady es ss
-pushed es x rs ss moves q t p h =
-    sym (list_any-IsPermutation (is_candidate p t) (x ∷ rs) ss moves) ∙ or_right (is_candidate p t x) (list_any (is_candidate p t) rs) (q t p h)
-  where
-    or_right : (a b : Bool) → b ≡ true → (a || b) ≡ true
-    or_right true b h = refl
-    or_right false b h = h
 
 -- One entry changes. If the new one is ready, the queue has it.
 pub changed : (es fs : Entries) (t : Task) (w : Option Entry) (rs : List Candidate) → Updates es fs t w → ((p : ℤ) → is_ready_at p w ≡ true → list_any (is_candidate p t) rs ≡ true) → HasEveryReady es rs → HasEveryReady fs rs
@@ -61,12 +49,39 @@ not_ready e less p h =
     let same : e.arrived ≡ e.goal = (unsigned_Decides e.arrived e.goal).0 (first_so (nat_eq e.arrived e.goal) (int_eq e.priority p) h) in
     omega (arith, same, less)
 
--- a pushed candidate is in the queue
-pub served : (t : Task) (e : Entry) (x : Candidate) (rs ss : List Candidate) → IsPermutation (x ∷ rs) ss → x.0 ≡ e.priority → x.1.0 ≡ t → (p : ℤ) → is_ready_at p (Some e) ≡ true → list_any (is_candidate p t) ss ≡ true
-served t e x rs ss moves prio is p h =
-    let level : e.priority ≡ p = (signed_Decides e.priority p).0 (second_so (nat_eq e.arrived e.goal) (int_eq e.priority p) h) in
-    let here : is_candidate p t x ≡ true = subst (λ (u : Task). is_candidate p u x ≡ true) is (subst (λ (q : ℤ). is_candidate q x.1.0 x ≡ true) (prio ∙ level) (candidate_self x)) in
-    sym (list_any-IsPermutation (is_candidate p t) (x ∷ rs) ss moves) ∙ ap (λ b. b || list_any (is_candidate p t) rs) here
+or_second_so : (a b : Bool) → b ≡ true → (a || b) ≡ true
+or_second_so true b h = refl
+or_second_so false b h = h
+
+-- An entry changes or comes, and its candidate comes to the queue.
+pub comes : (es fs : Entries) (t : Task) (e : Entry) (q r : QueueContent) → Serves es q → Updates es fs t (Some e) → Adds q r e.priority t → Serves fs r
+comes es fs t e q r serves up adds on =
+    changed es fs t (Some e) r.candidates up here (λ u p h. (adds on).1 p u ∙ or_second_so (int_eq p e.priority && same_task u t) (list_any (is_candidate p u) q.candidates) (serves (adds on).0 u p h))
+  where
+    here : (p : ℤ) → is_ready_at p (Some e) ≡ true → list_any (is_candidate p t) r.candidates ≡ true
+    here p h =
+        let level : e.priority ≡ p = (signed_Decides e.priority p).0 (second_so (nat_eq e.arrived e.goal) (int_eq e.priority p) h) in
+        let a : int_eq p e.priority ≡ true = (signed_Decides p e.priority).1 (sym level) in
+        let b : same_task t t ≡ true = same_self t in
+        (adds on).1 p t ∙ (λ i. a i && b i || list_any (is_candidate p t) q.candidates)
+
+-- the same priority, in other words
+pub adds_at : (q r : QueueContent) (t : Task) (p p' : ℤ) → Adds q r p t → p ≡ p' → Adds q r p' t
+adds_at q r t p p' adds same = subst (λ (x : ℤ). Adds q r x t) same adds
+
+-- A queue that is listed only if nothing happened to it serves on.
+pub serves_on : (es : Entries) (q r : QueueContent) → Serves es q → (r.listed ≡ true → r ≡ q) → Serves es r
+serves_on es q r serves same on =
+    let is : r ≡ q = same on in
+    subst (λ (x : QueueContent). HasEveryReady es x.candidates) (sym is) (serves (sym (ap (λ (x : QueueContent). x.listed) is) ∙ on))
+
+-- The queue forgets its candidates or stays as it is.
+pub forgets : (es : Entries) (q r : QueueContent) (waiting : ℕ) → IsQueueOf es q waiting → (r.listed ≡ true → r ≡ q) → IsQueueOf es r waiting
+forgets es q r waiting k same = record {
+  serves = serves_on es q r k.serves same;
+  at_most_goal = k.at_most_goal;
+  counted = k.counted;
+}
 
 -- One entry changes. If the new one has received no more edges than it waits for, the same holds for every entry.
 at_most_after : (es fs : Entries) (t : Task) (w : Option Entry) → Updates es fs t w → ((e : Entry) → w ≡ Some e → e.arrived ≤ e.goal) → HaveAtMostGoal es → HaveAtMostGoal fs
@@ -82,86 +97,60 @@ at_most_new f h e is = let one : f ≡ e = cc in subst (λ (x : Entry). x.arrive
 no_new : (e : Entry) → None ≡ Some e → e.arrived ≤ e.goal
 no_new e is = absurd cc
 
--- The queue has more room, and nothing else differs.
-pub gets_room : (es fs : Entries) (rs ss : List Candidate) (len capacity waiting len' capacity' : ℕ)
-    → IsQueueOf es rs len capacity waiting → fs ≡ es → ss ≡ rs → len' ≡ len → capacity ≤ capacity'
-    → IsQueueOf fs ss len' capacity' waiting
-gets_room es fs rs ss len capacity waiting len' capacity' k same items count more =
-    let held : IsQueueOf es rs len' capacity' waiting = record {
-      heap = k.heap;
-      has_ready = k.has_ready;
-      at_most_goal = k.at_most_goal;
-      counted = k.counted;
-      room = omega (arith, k.room);
-    } in
-    subst (λ (xs : Entries). IsQueueOf xs ss len' capacity' waiting) (sym same) (subst (λ (cs : List Candidate). IsQueueOf es cs len' capacity' waiting) (sym items) held)
-
 -- after a ready entry came, and its candidate
-pub enters_ready : (es fs : Entries) (t : Task) (e : Entry) (x : Candidate) (rs ss : List Candidate) (len capacity waiting len' capacity' : ℕ)
-    → IsQueueOf es rs len capacity waiting → fs ≡ es ++ (t, e) ∷ [] → Updates es fs t (Some e) → IsReady e
-    → IsPermutation (x ∷ rs) ss → KeepsHeap order rs ss → x.0 ≡ e.priority → x.1.0 ≡ t → len' + waiting ≤ capacity'
-    → IsQueueOf fs ss len' capacity' waiting
-enters_ready es fs t e x rs ss len capacity waiting len' capacity' k is up ready moves heap prio same room = record {
-  heap = heap k.heap;
-  has_ready = changed es fs t (Some e) ss up (served t e x rs ss moves prio same) (pushed es x rs ss moves k.has_ready);
+pub enters_ready : (es fs : Entries) (t : Task) (e : Entry) (q r : QueueContent) (waiting : ℕ)
+    → IsQueueOf es q waiting → fs ≡ es ++ (t, e) ∷ [] → Updates es fs t (Some e) → IsReady e → Adds q r e.priority t
+    → IsQueueOf fs r waiting
+enters_ready es fs t e q r waiting k is up ready adds = record {
+  serves = comes es fs t e q r k.serves up adds;
   at_most_goal = at_most_after es fs t (Some e) up (at_most_new e (omega (arith, ready))) k.at_most_goal;
   counted = ap count_waiting is ∙ omega (arith, count_waiting-push es t e, k.counted, none_waits e ready);
-  room = room;
 }
 
 -- after a waiting entry came
-pub enters_waiting : (es fs : Entries) (t : Task) (e : Entry) (rs : List Candidate) (len capacity waiting : ℕ)
-    → IsQueueOf es rs len capacity waiting → fs ≡ es ++ (t, e) ∷ [] → Updates es fs t (Some e) → IsWaiting e
-    → len + waiting < capacity
-    → IsQueueOf fs rs len capacity (waiting + 1)
-enters_waiting es fs t e rs len capacity waiting k is up waits_e room = record {
-  heap = k.heap;
-  has_ready = changed es fs t (Some e) rs up (λ p h. absurd (not_ready e waits_e p h)) k.has_ready;
+pub enters_waiting : (es fs : Entries) (t : Task) (e : Entry) (q : QueueContent) (waiting : ℕ)
+    → IsQueueOf es q waiting → fs ≡ es ++ (t, e) ∷ [] → Updates es fs t (Some e) → IsWaiting e
+    → IsQueueOf fs q (waiting + 1)
+enters_waiting es fs t e q waiting k is up waits_e = record {
+  serves = λ on. changed es fs t (Some e) q.candidates up (λ p h. absurd (not_ready e waits_e p h)) (k.serves on);
   at_most_goal = at_most_after es fs t (Some e) up (at_most_new e (omega (arith, waits_e))) k.at_most_goal;
   counted = ap count_waiting is ∙ omega (arith, count_waiting-push es t e, k.counted, one_waits e waits_e);
-  room = omega arith;
 }
 
 -- after a ready entry went
-pub leaves : (es fs : Entries) (i : ℕ) (t : Task) (e : Entry) (rs : List Candidate) (len capacity waiting : ℕ)
-    → IsQueueOf es rs len capacity waiting → slice_get es i ≡ Some (t, e) → fs ≡ swap_remove es i (t, e) → Updates es fs t None → IsReady e
-    → IsQueueOf fs rs len capacity waiting
-leaves es fs i t e rs len capacity waiting k is gone up ready = record {
-  heap = k.heap;
-  has_ready = changed es fs t None rs up (λ p h. absurd (true≢false (sym h))) k.has_ready;
+pub leaves : (es fs : Entries) (i : ℕ) (t : Task) (e : Entry) (q : QueueContent) (waiting : ℕ)
+    → IsQueueOf es q waiting → slice_get es i ≡ Some (t, e) → fs ≡ swap_remove es i (t, e) → Updates es fs t None → IsReady e
+    → IsQueueOf fs q waiting
+leaves es fs i t e q waiting k is gone up ready = record {
+  serves = λ on. changed es fs t None q.candidates up (λ p h. absurd (true≢false (sym h))) (k.serves on);
   at_most_goal = at_most_after es fs t None up no_new k.at_most_goal;
   counted = ap count_waiting gone ∙ omega (arith, count_waiting-swap_remove_at es i t e is, k.counted, none_waits e ready);
-  room = k.room;
 }
 
 -- after an edge came to an entry that still waits
-pub lands : (es fs : Entries) (i : ℕ) (t : Task) (e f : Entry) (rs : List Candidate) (len capacity waiting : ℕ)
-    → IsQueueOf es rs len capacity waiting → slice_get es i ≡ Some (t, e) → fs ≡ set_value_at es i f → Updates es fs t (Some f) → IsWaiting e → IsWaiting f
-    → IsQueueOf fs rs len capacity waiting
-lands es fs i t e f rs len capacity waiting k is set up waits_e waits_f = record {
-  heap = k.heap;
-  has_ready = changed es fs t (Some f) rs up (λ p h. absurd (not_ready f waits_f p h)) k.has_ready;
+pub lands : (es fs : Entries) (i : ℕ) (t : Task) (e f : Entry) (q : QueueContent) (waiting : ℕ)
+    → IsQueueOf es q waiting → slice_get es i ≡ Some (t, e) → fs ≡ set_value_at es i f → Updates es fs t (Some f) → IsWaiting e → IsWaiting f
+    → IsQueueOf fs q waiting
+lands es fs i t e f q waiting k is set up waits_e waits_f = record {
+  serves = λ on. changed es fs t (Some f) q.candidates up (λ p h. absurd (not_ready f waits_f p h)) (k.serves on);
   at_most_goal = at_most_after es fs t (Some f) up (at_most_new f (omega (arith, waits_f))) k.at_most_goal;
   counted = ap count_waiting set ∙ omega (arith, count_waiting-set_at es i t e f is, k.counted, one_waits e waits_e, one_waits f waits_f);
-  room = k.room;
 }
 
 -- after the last edge came, and the candidate
-pub fires : (es fs : Entries) (i : ℕ) (t : Task) (e f : Entry) (x : Candidate) (rs ss : List Candidate) (len capacity waiting len' capacity' waiting' : ℕ)
-    → IsQueueOf es rs len capacity waiting → slice_get es i ≡ Some (t, e) → fs ≡ set_value_at es i f → Updates es fs t (Some f) → IsWaiting e → IsReady f
-    → IsPermutation (x ∷ rs) ss → KeepsHeap order rs ss → x.0 ≡ f.priority → x.1.0 ≡ t → waiting ≡ waiting' + 1 → len' + waiting' ≤ capacity'
-    → IsQueueOf fs ss len' capacity' waiting'
-fires es fs i t e f x rs ss len capacity waiting len' capacity' waiting' k is set up waits_e ready_f moves heap prio same less room = record {
-  heap = heap k.heap;
-  has_ready = changed es fs t (Some f) ss up (served t f x rs ss moves prio same) (pushed es x rs ss moves k.has_ready);
+pub fires : (es fs : Entries) (i : ℕ) (t : Task) (e f : Entry) (q r : QueueContent) (waiting waiting' : ℕ)
+    → IsQueueOf es q waiting → slice_get es i ≡ Some (t, e) → fs ≡ set_value_at es i f → Updates es fs t (Some f) → IsWaiting e → IsReady f
+    → Adds q r f.priority t → waiting ≡ waiting' + 1
+    → IsQueueOf fs r waiting'
+fires es fs i t e f q r waiting waiting' k is set up waits_e ready_f adds less = record {
+  serves = comes es fs t f q r k.serves up adds;
   at_most_goal = at_most_after es fs t (Some f) up (at_most_new f (omega (arith, ready_f))) k.at_most_goal;
-  counted = ap count_waiting set ∙ omega (arith, count_waiting-set_at es i t e f is, k.counted, one_waits e waits_e, none_waits f ready_f);
-  room = room;
+  counted = ap count_waiting set ∙ omega (arith, count_waiting-set_at es i t e f is, k.counted, one_waits e waits_e, none_waits f ready_f, less);
 }
 
 -- If an entry waits, at least one is counted.
-pub some_wait : (es : Entries) (i : ℕ) (t : Task) (e : Entry) (rs : List Candidate) (len capacity waiting : ℕ) → IsQueueOf es rs len capacity waiting → slice_get es i ≡ Some (t, e) → IsWaiting e → 0 < waiting
-some_wait es i t e rs len capacity waiting k is waits_e = omega (arith, k.counted, count_waiting-swap_remove_at es i t e is, one_waits e waits_e)
+pub some_wait : (es : Entries) (i : ℕ) (t : Task) (e : Entry) (q : QueueContent) (waiting : ℕ) → IsQueueOf es q waiting → slice_get es i ≡ Some (t, e) → IsWaiting e → 0 < waiting
+some_wait es i t e q waiting k is waits_e = omega (arith, k.counted, count_waiting-swap_remove_at es i t e is, one_waits e waits_e)
 
 pub updates_twice : (es fs gs : Entries) (t : Task) (v w : Option Entry) → Updates es fs t v → Updates fs gs t w → Updates es gs t w
 updates_twice es fs gs t v w one two u = by (same_task t u) refl
@@ -195,8 +184,8 @@ looked_up es i t e distinct is =
     (Found-position (same_task t) es i (index-first (same_task t) es i (own_first same_task task_equivalence es i t e distinct is))).value ∙ value_of es i t e is
 
 -- All entries wait if and only if none is ready.
-pub calm : (es : Entries) (rs : List Candidate) (len capacity waiting : ℕ) → IsQueueOf es rs len capacity waiting → IsDistinct same_task (keys_of es) → (waiting ≡ length es) ↔ HasNoReady es
-calm es rs len capacity waiting k distinct = (
+pub calm : (es : Entries) (q : QueueContent) (waiting : ℕ) → IsQueueOf es q waiting → IsDistinct same_task (keys_of es) → (waiting ≡ length es) ↔ HasNoReady es
+calm es q waiting k distinct = (
   λ all t e is ready. absurd (omega (arith, ready, all_wait (same_task t) es e (k.counted ∙ all) is)),
   λ none. sym k.counted ∙ count_all es (λ i t e is. below e (k.at_most_goal t e (looked_up es i t e distinct is)) (none t e (looked_up es i t e distinct is))),
 )

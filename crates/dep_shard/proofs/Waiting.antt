@@ -35,7 +35,7 @@ count_waiting-swap_remove_at es i t e is =
     let one : f (slice_index_or es i (t, e)) ≡ as_number (is_waiting e) = ap f there.0 in
     omega (arith, one, weigh-sum f es, weigh-sum f (swap_remove es i (t, e)), sum_by-swap_remove f es i (t, e) there.1)
 
-count_waiting-le : (es : Entries) → count_waiting es ≤ length es
+pub count_waiting-le : (es : Entries) → count_waiting es ≤ length es
 count_waiting-le es = count-at_most (λ (x : Task × Entry). is_waiting x.1) es
 
 waits_if : (e : Entry) → as_number (is_waiting e) ≡ 1 → IsWaiting e

@@ -1,6 +1,5 @@
 -- How a shard's queue of candidates serves its entries.
-use Rattle.std.specs.Prelude.{◌≡◌, ℕ, ◌+◌, ◌≤◌, ℤ, Bool, true, false, ◌&&◌, nat_lt, nat_eq, List, ◌∷◌, Option, Some}
-use Rattle.std.specs.BinaryHeap.{IsHeap}
+use Rattle.std.specs.Prelude.{◌≡◌, ℕ, ◌≤◌, ℤ, Bool, true, false, ◌&&◌, ◌||◌, nat_lt, nat_eq, if◌then◌else◌, List, ◌∷◌, slice_get, Option, Some, None}
 use Rattle.std.specs.List.{list_any}
 use Rattle.std.specs.Option.{option_map_or}
 use Rattle.std.specs.Ordering.{int_eq}
@@ -53,10 +52,35 @@ count_waiting entries = count (λ ((t, e) : Task × Entry). is_waiting e) entrie
 abbrev pub HaveAtMostGoal : Entries → Type 0
 HaveAtMostGoal entries = (t : Task) (e : Entry) → entry_in entries t ≡ Some e → e.arrived ≤ e.goal
 
--- the queue is in order and has every ready entry, and it has room for every entry that waits
-pub record IsQueueOf (entries : Entries) (cs : List Candidate) (len capacity waiting : ℕ) : Type 0 where
-  pub heap : IsHeap order cs
-  pub has_ready : HasEveryReady entries cs
+-- the candidate of a row of the list, if its entry is ready
+abbrev pub candidate_of : Option (Task × Entry) → Option Candidate
+candidate_of None = None
+candidate_of (Some (t, e)) = if nat_eq e.arrived e.goal then Some (e.priority, record { 0 = t }) else None
+
+-- the candidate of the entry at an index of the list, if the entry is ready
+abbrev pub candidate_at : Entries → ℕ → Option Candidate
+candidate_at entries index = candidate_of (slice_get entries index)
+
+-- a queue: whether each ready task is to have a candidate, and the candidates
+pub record QueueContent : Type 0 where
+  pub listed : Bool
+  pub candidates : List Candidate
+
+-- if the queue is listed, every ready entry is among its candidates
+abbrev pub Serves : Entries → QueueContent → Type 0
+Serves entries q = q.listed ≡ true → HasEveryReady entries q.candidates
+
+-- If the queue is listed now, it was before, and it has one candidate more: the task at this priority.
+abbrev pub Adds : QueueContent → QueueContent → ℤ → Task → Type 0
+Adds old new priority task =
+    new.listed ≡ true
+    → (old.listed ≡ true)
+    × ((p : ℤ) (t : Task)
+    → list_any (is_candidate p t) new.candidates
+    ≡ (int_eq p priority && same_task t task || list_any (is_candidate p t) old.candidates))
+
+-- the queue serves the entries, and this many of them wait
+pub record IsQueueOf (entries : Entries) (q : QueueContent) (waiting : ℕ) : Type 0 where
+  pub serves : Serves entries q
   pub at_most_goal : HaveAtMostGoal entries
   pub counted : count_waiting entries ≡ waiting
-  pub room : len + waiting ≤ capacity

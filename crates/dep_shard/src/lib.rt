@@ -5,6 +5,7 @@
 mod arrivals;
 mod entry;
 mod flow_tiles;
+mod hashing;
 mod parts;
 mod queue;
 mod shard;

@@ -14,19 +14,21 @@ ghost use Rattle.dep_shard.specs.Content.{HasSpares, KeepsSpares, Uses, HasNoRea
 use crate::arrivals::Arrivals;
 use crate::entry::Entry;
 use crate::parts::{Entries, Parts};
-use crate::queue::{Queue, drop_all_stale, drop_stale};
+use crate::queue::Queue;
 use crate::stock::Stock;
 use crate::table::Table;
 use crate::tile_list::TileWithNode;
 use ptg_base::{Edge, OutOfMemory, TaskId, Tile, WriteBack};
 use std::alloc::Global;
-use std::cmp::Reverse;
-use std::collections::BinaryHeap;
 use std::marker::Model;
 use term_core::Trap;
 
-// This many stale candidates may stay in the queue.
+// This many stale candidates may always stay in the queue.
 const STALE_ALLOWANCE: usize = 16;
+
+// Besides, one stale candidate may stay for this many entries. So a walk passes at most this many entries for each
+// claim since the last walk, and the new ones.
+const ENTRIES_PER_STALE: usize = 8;
 
 /// What has become of the target of an edge that came.
 #[derive(Clone, Copy, Debug, PartialEq, Eq)]
@@ -45,7 +47,7 @@ pub enum Arrived {
 pub struct Shard {
     table: Table,
     queue: Queue,
-    // How many entries wait. The queue has room for the candidate of each, so that the last edge needs no memory.
+    // How many entries wait. All others are ready.
     waiting: usize,
     stock: Stock,
     written: Vec<(WriteBack, Tile)>,
@@ -55,8 +57,7 @@ pub struct Shard {
 }
 
 impl Model for Shard {
-    ghost use Rattle.std.specs.Prelude.{◌-◌, min, vec_len, vec_capacity};
-    ghost use Rattle.std.specs.BinaryHeap.{heap_items, heap_len, heap_capacity};
+    ghost use Rattle.std.specs.Prelude.{◌-◌, vec_len, vec_capacity};
     ghost use Rattle.dep_shard.specs.Content.{Content};
     ghost use Rattle.dep_shard.specs.Queue.{IsQueueOf};
 
@@ -71,25 +72,33 @@ impl Model for Shard {
           ended = s.ended;
           elems = s.stock.elems;
           spare = record {
-            entries = min s.table.spare (heap_capacity s.queue - heap_len s.queue - s.waiting);
+            entries = s.table.spare;
             tiles = s.stock.spare;
             writes = vec_capacity s.written - vec_len s.written;
             traps = vec_capacity s.trapped - vec_len s.trapped;
           };
         } };
 
-    ghost invariant = { λ s.
-        IsQueueOf s.table.entries (heap_items s.queue) (heap_len s.queue) (heap_capacity s.queue) s.waiting };
+    ghost invariant = { λ s. IsQueueOf s.table.entries s.queue s.waiting };
 }
 
 impl Shard {
-    /// A shard in which nothing has happened. A tile of type k has `elems[k]` numbers.
+    /// A shard in which nothing has happened. A tile of type k has `elems[k]` numbers. The tasks are hashed without a
+    /// key.
     pub fn new(alloc: Global, elems: &[u32]) -> Result<Shard, OutOfMemory>
         ensures { IfOk result (λ shard. IsNew shard elems.now) }
     {
+        Shard::keyed(alloc, elems, 0)
+    }
+
+    /// As `new`, with a key for the hashes of tasks. If it is secret, whoever writes a job can't choose tasks whose
+    /// look-ups take long. No clause speaks of it.
+    pub fn keyed(alloc: Global, elems: &[u32], key: u64) -> Result<Shard, OutOfMemory>
+        ensures { IfOk result (λ shard. IsNew shard elems.now) }
+    {
         Ok(Shard {
-            table: Table::new(alloc),
-            queue: BinaryHeap::new(alloc),
+            table: Table::new(alloc, key),
+            queue: Queue::new(alloc),
             waiting: 0,
             stock: Stock::new(alloc, elems)?,
             written: Vec::new(alloc),
@@ -121,21 +130,14 @@ impl Shard {
         Ok(())
     }
 
-    // Takes memory for `n` more entries and their candidates.
+    // Takes memory for `n` more entries.
     fn reserve_entries(&mut self, n: usize) -> Result<(), OutOfMemory>
         ensures ok { OnOk result (n ≤ self.new.spare.entries) }
         ensures same { IsUnchanged self.old self.new }
         ensures spare { KeepsSpares self.old.spare self.new.spare }
         ensures succeeds { n ≤ self.old.spare.entries → IsOk result }
     {
-        self.table.reserve(n)?;
-        match self.waiting.checked_add(n) {
-            Some(candidates) => {
-                self.queue.reserve(candidates)?;
-                Ok(())
-            }
-            None => Err(OutOfMemory),
-        }
+        self.table.reserve(n)
     }
 
     /// Adds a ready entry for a task that has no entry. It uses a spare entry.
@@ -162,7 +164,7 @@ impl Shard {
         ensures spare { Uses self.old.spare self.new.spare 1 None 0 0 }
     {
         self.table.insert(t.copy(), Entry::new(0, priority));
-        self.queue.push((priority, Reverse(t.copy()))).unwrap();
+        self.queue.add(t, priority);
     }
 
     // Adds a waiting entry, to which nothing has come, at the end of the list. Returns its index.
@@ -181,17 +183,18 @@ impl Shard {
         index
     }
 
-    /// The best ready task: the one of the greatest priority, and of equal ones the first in task order. The search
-    /// drops stale candidates. Contracts see no change but spares that may grow.
+    /// The best ready task: the one of the greatest priority, and of equal ones the first in task order. A search after
+    /// many claims by task walks over all entries. Contracts see no change but spares that may grow.
     pub fn best_ready(&mut self) -> Option<TaskId>
         ensures same { IsUnchanged self.old self.new }
         ensures spare { KeepsSpares self.old.spare self.new.spare }
         ensures none { IfNone result (HasNoReady self.old.entries) }
         ensures some { IfSome result (IsBest self.old.entries) }
     {
-        drop_stale(&self.table, &mut self.queue);
-        let best = self.queue.peek()?;
-        Some(best.1.0.copy())
+        if self.waiting == self.table.len() {
+            return None;
+        }
+        self.queue.best(&self.table)
     }
 
     /// The index of a task's entry in the list of entries, if the task has one. It is valid until an entry comes or
@@ -316,7 +319,7 @@ impl Shard {
         self.stock.copy_if_any(datatype, tile)
     }
 
-    // Notes that an edge has come to a waiting entry. The queue has room for its candidate.
+    // Notes that an edge has come to a waiting entry.
     fn land(&mut self, index: usize, flow: u8, tile: Option<TileWithNode>) -> Arrived
         requires flow { flow < most_flows }
         requires waits { HasWaitingAt self.old index }
@@ -331,9 +334,8 @@ impl Shard {
         if entry.arrived() < entry.goal() {
             return Arrived::Waits;
         }
-        let candidate = (entry.priority(), Reverse(task.copy()));
         self.waiting -= 1;
-        self.queue.push(candidate).unwrap();
+        self.queue.add(task, entry.priority());
         Arrived::Fired
     }
 
@@ -351,7 +353,7 @@ impl Shard {
             return None;
         }
         let arrivals = self.take_at(index)?;
-        self.drop_stale_if_many();
+        self.forget_if_stale();
         Some(arrivals)
     }
 
@@ -390,15 +392,16 @@ impl Shard {
         Some(entry.into_arrivals())
     }
 
-    // Drops the stale candidates if most candidates are stale, so that they do not pile up until the next search.
-    fn drop_stale_if_many(&mut self)
+    // Lets the queue forget its candidates once many are stale. A walk over all entries then costs no more than the
+    // claims since the last one, and stale candidates don't pile up.
+    fn forget_if_stale(&mut self)
         ensures same { IsUnchanged self.old self.new }
         ensures spare { KeepsSpares self.old.spare self.new.spare }
     {
-        let ready = self.table.len().saturating_sub(self.waiting);
-        if self.queue.len() / 2 > ready + STALE_ALLOWANCE {
-            drop_all_stale(&self.table, &mut self.queue);
-        }
+        let entries = self.table.len();
+        let ready = entries.saturating_sub(self.waiting);
+        self.queue
+            .forget_if_stale(ready, entries / ENTRIES_PER_STALE + STALE_ALLOWANCE);
     }
 
     /// Writes a copy of a tile of this type back. It uses a spare write-back and a spare tile of the type.

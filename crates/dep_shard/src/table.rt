@@ -12,6 +12,7 @@ ghost use Rattle.dep_shard.specs.Table.{spare_of};
 ghost use Rattle.dep_shard.specs.TableLends.{lends_entry};
 
 use crate::entry::Entry;
+use crate::hashing::TaskHashing;
 use indexmap::IndexMap;
 use ptg_base::{OutOfMemory, TaskId};
 use std::alloc::Global;
@@ -19,7 +20,7 @@ use std::marker::Model;
 use std::mem;
 
 // Entries by their tasks.
-type TaskMap = IndexMap<TaskId, Entry>;
+type TaskMap = IndexMap<TaskId, Entry, TaskHashing>;
 
 // Room for this many entries is never too much for the map in use.
 const SMALL_RESERVE: usize = 64;
@@ -53,13 +54,14 @@ impl Model for Table {
 }
 
 impl Table {
-    // A table without entries.
-    pub(crate) fn new(alloc: Global) -> Table
+    // A table without entries, whose tasks are hashed with this key.
+    pub(crate) fn new(alloc: Global, key: u64) -> Table
         ensures { result.entries ≡ [] }
     {
+        let hashing = TaskHashing::with_key(key);
         Table {
-            used: IndexMap::new(alloc),
-            reserved: IndexMap::new(alloc),
+            used: IndexMap::with_hasher(alloc, hashing),
+            reserved: IndexMap::with_hasher(alloc, hashing),
         }
     }
 

@@ -13,7 +13,7 @@ use crate::pass::Pass;
 use crate::table::DepTable;
 use coll_data::Given;
 use crossbeam_utils::sync::EventCount;
-use dep_iter::Matched;
+use dep_iter::{Matched, TaskAt};
 use dep_shard::Arrivals;
 use ptg_base::{Item, OutOfMemory, TaskId, Tile};
 use term_core::Trap;
@@ -58,8 +58,12 @@ impl Board for DepTable {
         Some(&self.events)
     }
 
-    fn try_claim(&self, pass: &mut Pass, t: &TaskId) -> Claim {
-        self.claim_once(pass, t)
+    fn shard_of(&self, at: &TaskAt) -> u32 {
+        self.shard_under(at)
+    }
+
+    fn try_claim(&self, pass: &mut Pass, shard: u32, t: &TaskId) -> Claim {
+        self.claim_once(pass, shard, t)
     }
 
     fn try_scan(&self, pass: &mut Pass, shard: u32) -> Scan {
@@ -69,18 +73,25 @@ impl Board for DepTable {
     fn try_send(
         &self,
         pass: &mut Pass,
+        shard: u32,
         item: &Item,
         tile: Option<&Tile>,
     ) -> Result<Sent, OutOfMemory> {
-        self.send_once(pass, item, tile)
+        self.send_once(pass, shard, item, tile)
     }
 
-    fn try_end(&self, pass: &mut Pass, t: &TaskId, spent: &mut Arrivals) -> bool {
-        self.end_once(pass, t, spent)
+    fn try_end(&self, pass: &mut Pass, shard: u32, t: &TaskId, spent: &mut Arrivals) -> bool {
+        self.end_once(pass, shard, t, spent)
     }
 
-    fn try_trap(&self, pass: &mut Pass, t: &TaskId, cause: Trap) -> Result<bool, OutOfMemory> {
-        self.trap_once(pass, t, cause)
+    fn try_trap(
+        &self,
+        pass: &mut Pass,
+        shard: u32,
+        t: &TaskId,
+        cause: Trap,
+    ) -> Result<bool, OutOfMemory> {
+        self.trap_once(pass, shard, t, cause)
     }
 
     fn see_quiet(&self, pass: &mut Pass) -> bool {

@@ -7,9 +7,9 @@ ghost use Rattle.table_rule.specs.Rule.{placement_of};
 
 use crate::table::DepTable;
 use coll_data::Given;
-use dep_iter::Matched;
+use dep_iter::{Matched, TaskAt};
 use ptg_base::TaskId;
-use shard_calls::shard_at;
+use shard_calls::{shard_at, shard_under};
 
 impl DepTable {
     /// The plan of the job.
@@ -47,5 +47,14 @@ impl DepTable {
         ensures within { result < (job_of self.now).shards }
     {
         shard_at(&self.job.matched, self.job.shards as usize, t) as u32
+    }
+
+    // The number of the shard of a task, by its locals.
+    pub(crate) fn shard_under(&self, at: &TaskAt) -> u32
+        requires { at.now.plan.now ≡ (job_of self.now).matched }
+        ensures { result ≡ placement_of (job_of self.now) at.now.task.now }
+    {
+        let shards = self.job.shards as usize;
+        shard_under(&self.job.matched, shards, at.task, at.locals) as u32
     }
 }

@@ -59,21 +59,23 @@ fn lay(
     Ok((table, Pass { seat, stamp: 0 }))
 }
 
-// The shards of a new table; if it is preloaded, with spares for all that they will receive.
+// The shards of a new table; if it is preloaded, with spares for all that they will receive. Tasks are hashed with this
+// key.
 fn shards_for(
     alloc: Global,
     m: &Matched,
     shards: u32,
     preload: bool,
+    key: u64,
 ) -> Result<Vec<Shard>, OutOfMemory>
     requires { IsShardCount shards }
     ensures shards { IfOk result (λ v. AreOpeningShards m.now shards v.items) }
     ensures spares { preload ≡ true → IfOk result (λ v. HaveOpeningReserve m.now shards v.items) }
 {
     if preload {
-        preloaded_shards(alloc, m, shards)
+        preloaded_shards(alloc, m, shards, key)
     } else {
-        opened_shards(alloc, m, shards)
+        opened_shards(alloc, m, shards, key)
     }
 }
 
@@ -97,7 +99,7 @@ fn open_table(
 }
 
 impl DepTable {
-    /// A table for a job, with 1 to 256 shards, and its first pass.
+    /// A table for a job, with 1 to 256 shards, and its first pass. Tasks are hashed without a key.
     pub fn new(
         alloc: Global,
         matched: Matched,
@@ -111,7 +113,7 @@ impl DepTable {
         ensures job { IfOk result (λ (table, pass).
             job_of table ≡ record { matched = matched; given = given; shards = shards; preloaded = false }) }
     {
-        DepTable::open(alloc, matched, given, shards, false)
+        DepTable::open(alloc, matched, given, shards, false, 0)
     }
 
     /// As `new`, with spares in each shard for all that it will receive, and with room for the close. So no later call
@@ -129,16 +131,18 @@ impl DepTable {
         ensures job { IfOk result (λ (table, pass).
             job_of table ≡ record { matched = matched; given = given; shards = shards; preloaded = true }) }
     {
-        DepTable::open(alloc, matched, given, shards, true)
+        DepTable::open(alloc, matched, given, shards, true, 0)
     }
 
-    /// As `new_preloaded` if `preload` is set, else as `new`.
+    /// As `new_preloaded` if `preload` is set, else as `new`, but tasks are hashed with this key. If it is secret,
+    /// whoever writes a job can't choose tasks whose look-ups take long. No clause speaks of it.
     pub fn open(
         alloc: Global,
         matched: Matched,
         given: Given,
         shards: u32,
         preload: bool,
+        key: u64,
     ) -> Result<(DepTable, Pass), OutOfMemory>
         requires fit { DataFit matched given }
         requires some_shards { 0 < shards }
@@ -147,7 +151,7 @@ impl DepTable {
         ensures job { IfOk result (λ (table, pass).
             job_of table ≡ record { matched = matched; given = given; shards = shards; preloaded = preload }) }
     {
-        let opened = shards_for(alloc, &matched, shards, preload)?;
+        let opened = shards_for(alloc, &matched, shards, preload, key)?;
         let job = TableJob {
             matched,
             given,

@@ -103,17 +103,18 @@ fn reserve_all(shards: &mut Vec<Shard>, needs: &[Needs]) -> Result<(), OutOfMemo
     Ok(())
 }
 
-// The shards of a new table, each with spares for all that it will receive.
+// The shards of a new table, each with spares for all that it will receive. Tasks are hashed with this key.
 pub(crate) fn preloaded_shards(
     alloc: Global,
     m: &Matched,
     shards: u32,
+    key: u64,
 ) -> Result<Vec<Shard>, OutOfMemory>
     requires { IsShardCount shards }
     ensures shards { IfOk result (λ v. AreOpeningShards m.now shards v.items) }
     ensures spares { IfOk result (λ v. HaveOpeningReserve m.now shards v.items) }
 {
-    let mut opened = opened_shards(alloc, m, shards)?;
+    let mut opened = opened_shards(alloc, m, shards, key)?;
     let needs = needs_of(alloc, m, shards)?;
     reserve_all(&mut opened, needs.as_slice())?;
     Ok(opened)

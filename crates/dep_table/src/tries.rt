@@ -2,10 +2,6 @@
 
 ghost use Rattle.std.specs.Prelude.{◌≡◌, ◌<◌, [], true, IsOk, IfOk, OnErr};
 ghost use Rattle.std.specs.Option.{option_copied};
-ghost use Rattle.ptg_base.specs.Lists.{IsIn};
-ghost use Rattle.dep_iter.specs.Items.{items};
-ghost use Rattle.dep_iter.specs.Tasks.{IsTask};
-ghost use Rattle.flow_meaning.specs.Machine.{sender};
 ghost use Rattle.work_board.specs.Claims.{ClaimAnswers, ScanAnswers};
 ghost use Rattle.work_board.specs.Records.{OnlyTook};
 ghost use Rattle.work_board.specs.Sends.{EndAnswers, IsNext, MayEnd, MayTrap, SendAnswers, SpentAfter, shard_of_item};
@@ -19,20 +15,22 @@ use crate::table::DepTable;
 use crate::turn::Busy;
 use dep_shard::Arrivals;
 use ptg_base::{Item, OutOfMemory, TaskId, Tile};
+use table_rule::each_task_has_a_shard;
 use term_core::Trap;
 use work_board::{Claim, Scan, Sent};
 
 impl DepTable {
-    // Claims a task. With the turn, it returns `Gone` if and only if the shard has no ready entry of the task.
-    pub(crate) fn claim_once(&self, pass: &mut Pass, t: &TaskId) -> Claim
+    // Claims a task of this shard. With the turn, it returns `Gone` if and only if the shard has no ready entry of the
+    // task.
+    pub(crate) fn claim_once(&self, pass: &mut Pass, shard: u32, t: &TaskId) -> Claim
         requires pass { IsPassOf (id_of self.now) pass.old }
-        requires task { IsTask (job_of self.now).matched t.now }
+        requires shard { shard ≡ placement_of (job_of self.now) t.now }
         requires idle { (shown pass.old).running ≡ [] }
         ensures pass { IsPassOf (id_of self.now) pass.new }
         ensures claim { ClaimAnswers (job_of self.now).matched (job_of self.now).given
             (placement_of (job_of self.now) t.now) t.now result (shown pass.old) (shown pass.new) }
     {
-        let shard = self.shard_of(t);
+        each_task_has_a_shard();
         match self.try_turn(pass, shard) {
             Ok(turn) => match turn.claim(t) {
                 Some(arrivals) => Claim::Got(arrivals),
@@ -66,31 +64,19 @@ impl DepTable {
         }
     }
 
-    // The number of the shard that handles an item of a task of the job.
-    fn shard_for(&self, item: &Item) -> u32
-        requires task { IsTask (job_of self.now).matched (sender item.now) }
-        requires item { IsIn item.now (items (job_of self.now).matched (sender item.now)) }
-        ensures number { result ≡ shard_of_item (placement_of (job_of self.now)) item.now }
-        ensures within { result < (job_of self.now).shards }
-    {
-        self.job.matched.plan_is_consistent();
-        match item {
-            Item::Edge(edge) => self.shard_of(&edge.to),
-            Item::Write(write) => self.shard_of(&write.from),
-        }
-    }
-
-    // Sends an item of the task that the pass runs, with the tile that the task leaves in its flow.
+    // Sends an item of the task that the pass runs, with the tile that the task leaves in its flow. This is the shard
+    // that handles the item.
     pub(crate) fn send_once(
         &self,
         pass: &mut Pass,
+        shard: u32,
         item: &Item,
         tile: Option<&Tile>,
     ) -> Result<Sent, OutOfMemory>
         requires pass { IsPassOf (id_of self.now) pass.old }
-        requires task { IsTask (job_of self.now).matched (sender item.now) }
         requires item { IsNext (job_of self.now).matched (job_of self.now).given item.now (option_copied tile)
             (shown pass.old) }
+        requires shard { shard ≡ shard_of_item (placement_of (job_of self.now)) item.now }
         ensures pass { IsPassOf (id_of self.now) pass.new }
         ensures sent { IfOk result (λ a.
             SendAnswers (job_of self.now).matched (shard_of_item (placement_of (job_of self.now)) item.now) item.now
@@ -99,24 +85,30 @@ impl DepTable {
             (OnlyTook (shard_of_item (placement_of (job_of self.now)) item.now) (shown pass.old) (shown pass.new)) }
         ensures preloaded { (job_of self.now).preloaded ≡ true → IsOk result }
     {
-        let shard = self.shard_for(item);
+        each_task_has_a_shard();
         match self.try_turn(pass, shard) {
             Ok(turn) => turn.send(item, tile),
             Err(Busy { pass: _pass }) => Ok(Sent::Busy),
         }
     }
 
-    // Ends the task that the pass runs, whose items were all sent. None of the tiles that came with it are left in
-    // `spent`. False only if another pass held the turn; then all of them are.
-    pub(crate) fn end_once(&self, pass: &mut Pass, t: &TaskId, spent: &mut Arrivals) -> bool
+    // Ends the task that the pass runs, which belongs to this shard and whose items were all sent. None of the tiles
+    // that came with it are left in `spent`. False only if another pass held the turn; then all of them are.
+    pub(crate) fn end_once(
+        &self,
+        pass: &mut Pass,
+        shard: u32,
+        t: &TaskId,
+        spent: &mut Arrivals,
+    ) -> bool
         requires pass { IsPassOf (id_of self.now) pass.old }
-        requires is_task { IsTask (job_of self.now).matched t.now }
         requires task { MayEnd (job_of self.now).matched (job_of self.now).given t.now (shown pass.old) }
+        requires shard { shard ≡ placement_of (job_of self.now) t.now }
         ensures pass { IsPassOf (id_of self.now) pass.new }
         ensures ended { EndAnswers result (placement_of (job_of self.now) t.now) (shown pass.old) (shown pass.new) }
         ensures spent { SpentAfter result spent.old spent.new }
     {
-        let shard = self.shard_of(t);
+        each_task_has_a_shard();
         match self.try_turn(pass, shard) {
             Ok(turn) => {
                 turn.end(t, spent);
@@ -126,16 +118,18 @@ impl DepTable {
         }
     }
 
-    // Notes that the task that the pass runs trapped with this cause. False only if another pass held the turn.
+    // Notes that the task that the pass runs, which belongs to this shard, trapped with this cause. False only if
+    // another pass held the turn.
     pub(crate) fn trap_once(
         &self,
         pass: &mut Pass,
+        shard: u32,
         t: &TaskId,
         cause: Trap,
     ) -> Result<bool, OutOfMemory>
         requires pass { IsPassOf (id_of self.now) pass.old }
-        requires is_task { IsTask (job_of self.now).matched t.now }
         requires task { MayTrap (job_of self.now).matched (job_of self.now).given t.now cause (shown pass.old) }
+        requires shard { shard ≡ placement_of (job_of self.now) t.now }
         ensures pass { IsPassOf (id_of self.now) pass.new }
         ensures ended { IfOk result (λ a.
             EndAnswers a (placement_of (job_of self.now) t.now) (shown pass.old) (shown pass.new)) }
@@ -143,7 +137,7 @@ impl DepTable {
             (OnlyTook (placement_of (job_of self.now) t.now) (shown pass.old) (shown pass.new)) }
         ensures preloaded { (job_of self.now).preloaded ≡ true → IsOk result }
     {
-        let shard = self.shard_of(t);
+        each_task_has_a_shard();
         match self.try_turn(pass, shard) {
             Ok(turn) => {
                 turn.trap(t, cause)?;

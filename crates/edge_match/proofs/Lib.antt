@@ -3,6 +3,7 @@ pub mod RootCount
 pub mod TaskFlows
 pub mod TakenEdges
 pub mod SentItems
+pub mod HarmlessParts
 pub mod Walking
 pub mod Conclusion
 pub mod Parts

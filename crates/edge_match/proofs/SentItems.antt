@@ -4,13 +4,21 @@ use Rattle.std.proofs.Common.{subst, append_assoc, inl, inr, arith}
 use Rattle.std.proofs.lemmas.List.{append-nil, map-append, nil_from_length}
 use Rattle.std.proofs.lemmas.List.Elements.{filter_map-append}
 use Rattle.std.specs.List.{filter_map}
+use Rattle.std.proofs.Math.Seq.{take-length}
+use Rattle.ptg_base.specs.Lists.{IsIn}
+use Rattle.ptg_base.specs.Task.{Task}
 use Rattle.ptg_base.specs.declared.edge.Edge.{Edge}
 use Rattle.ptg_base.specs.declared.edge.Item.{Item}
 use Rattle.ptg_base.specs.declared.edge.Item.TheVariants as item
 use Rattle.ptg_base.specs.declared.edge.WriteBack.{WriteBack}
+use Rattle.term_core.specs.declared.direction.Direction.TheVariants.{Out}
+use Rattle.plan_core.specs.declared.flow.FlowPlan.{FlowPlan}
+use Rattle.plan_core.specs.declared.plan.Plan.{Plan}
 use Rattle.plan_core.specs.declared.shape.Shape.{Shape}
 use Rattle.list_lemmas.proofs.Members.{from_append}
-use Rattle.dep_iter.specs.Items.{edge_of, write_of}
+use Rattle.dep_iter.specs.Directions.{IsNearFlow, edges_before}
+use Rattle.dep_iter.specs.Items.{edge_of, out_edges, write_of}
+use Rattle.dep_iter.proofs.Belonging.{IsGiven, before-by, edge-by}
 use Rattle.edge_match.specs.declared.outs.Outs.{Outs}
 use Rattle.edge_match.specs.Tallies.{AreSent, IsOnceIn, places_of}
 use Rattle.edge_match.proofs.TaskFlows.{length-items}
@@ -68,3 +76,9 @@ module _ (colls : List Shape) where
       let w = a.writes in
       let l = length-items is in
       nil_from_length is (omega arith)
+
+-- an edge from one of all out dependences of its flow is an edge out of the task
+pub by_all_dependences : (P : Plan) (t : Task) (e : Edge) (f : FlowPlan) → IsNearFlow Out P t e f
+    → IsIn e (edges_before Out P t e.out_flow (length f.outs)) → IsIn e (out_edges P t)
+by_all_dependences P t e f near h =
+    (edge-by Out P t e f near).1 (subst (IsGiven Out P t e f) (take-length f.outs) ((before-by P t e f (length f.outs) Out near).0 h))

@@ -1,5 +1,5 @@
 -- The edges into a flow, one dependence after another.
-use Rattle.std.proofs.Common.{◌≡◌, ◌+◌, ℕ, zero, suc, ℤ, Bool, true, false, List, [], ◌∷◌, ◌++◌, length, length-append, drop, take, refl, ap}
+use Rattle.std.proofs.Common.{◌≡◌, ◌+◌, ℕ, zero, suc, ℤ, Bool, true, false, List, [], ◌∷◌, ◌++◌, map, length, length-append, drop, take, refl, ap}
 use Rattle.std.proofs.Common.{sym, ◌∙◌, ◌≤◌, subst, Option, Some, None, IsTrue, slice_get, if◌then◌else◌, inl, inr, arith}
 use Rattle.std.proofs.Math.ListN.{drop_of_length-le}
 use Rattle.std.proofs.lemmas.List.{append-nil}
@@ -14,17 +14,21 @@ use Rattle.plan_core.specs.declared.class.ClassPlan.{ClassPlan}
 use Rattle.plan_core.specs.declared.flow.DepPlan.{DepPlan}
 use Rattle.plan_core.specs.declared.flow.FlowPlan.{FlowPlan}
 use Rattle.plan_core.specs.declared.plan.Plan.{Plan}
+use Rattle.plan_core.specs.declared.target.Arg.{Arg}
 use Rattle.plan_core.specs.declared.target.Target.{Target}
+use Rattle.plan_core.specs.declared.target.Target.TheVariants as target
 use Rattle.plan_core.specs.Kinds.{kind_of}
 use Rattle.list_lemmas.proofs.Members.{IsIn-append_left, IsIn-append_right, from_append}
 use Rattle.list_lemmas.proofs.Distinct.{HasNoRepeats-append}
 use Rattle.list_lemmas.proofs.Places.{drop_from}
 use Rattle.dep_iter.proofs.Belonging.{held-more}
-use Rattle.dep_iter.specs.Tasks.{flows_of}
+use Rattle.dep_iter.specs.Tasks.{flows_of, task}
+use Rattle.dep_iter.specs.Arguments.{combinations}
+use Rattle.dep_iter.specs.Combining.{AddsOnly}
 use Rattle.term_core.specs.Kinds.{is_data}
 use Rattle.dep_iter.specs.Active.{held_target, held_targets, held_then}
 use Rattle.dep_iter.specs.Consistent.{is_data_edge, takes_tile}
-use Rattle.dep_iter.specs.Edges.{edges_into, in_edges_before}
+use Rattle.dep_iter.specs.Edges.{edge, edges_into, in_edges_before}
 use Rattle.edge_match.specs.declared.accepted_flow.FlowAt.{FlowAt}
 use Rattle.edge_match.specs.declared.ins.Ins.{Ins}
 use Rattle.edge_match.specs.Flows.{AreTaken, AreTakenOnce, IsSent}
@@ -125,6 +129,21 @@ module _ (at : FlowAt) where
   takes_nothing k s past none =
       rw (drop_of_length-le at.flow.now.ins past)
       (record { source = none; taken = once_nil (plan_of at) (in_edges_before (plan_of at) (task_of at) at.number k) s })
+
+  -- a target whose arguments have one combination
+  pub takes_only : (k class flow : ℕ) (args : List Arg) (none values : List ℤ) (s u : Ins) → none ≡ [] → AddsOnly (combinations args (env_of at)) none values
+      → AreTaken (plan_of at) (in_edges_before (plan_of at) (task_of at) at.number k) s u (edge (task class values) flow (task_of at) at.number ∷ [])
+      → Takes at k s u (target.Task class flow args ∷ [])
+  takes_only k class flow args none values s u empty only taken =
+      let mk = λ (ps : List ℤ). edge (task class ps) flow (task_of at) at.number in
+      let same : values ≡ only.added = only.extends ∙ ap (λ (l : List ℤ). l ++ only.added) empty in
+      let all : combinations args (env_of at) ≡ values ∷ [] = only.only ∙ ap (λ (l : List ℤ). l ∷ []) (sym same) in
+      record {
+        source = tt;
+        taken =
+            subst (λ (cs : List (List ℤ)). AreTakenOnce (plan_of at) (in_edges_before (plan_of at) (task_of at) at.number k) s u (map mk cs ++ []))
+            (sym all) (record { taken = taken; once = (λ h. h, tt) });
+      }
 
   -- the dependence at hand, by whether it holds
   module _ (k : ℕ) (d : DepPlan) (this : slice_get at.flow.now.ins k ≡ Some d) where

@@ -1,4 +1,5 @@
 pub mod Sets
+pub mod Harmless
 pub mod Flows
 pub mod Tallies
 pub mod Faults

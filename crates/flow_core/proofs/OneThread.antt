@@ -16,16 +16,16 @@ use Rattle.ptg_base.specs.declared.edge.Item.TheVariants as item
 use Rattle.term_core.specs.declared.trap.Trap.{Trap}
 use Rattle.plan_core.specs.declared.plan.Plan.{Plan}
 use Rattle.coll_data.specs.Data.{Data}
-use Rattle.list_lemmas.proofs.Members.{IsIn-append_left, IsIn-append_right, from_append}
+use Rattle.list_lemmas.proofs.Members.{IsIn-append_left, IsIn-append_right}
 use Rattle.list_lemmas.proofs.Truth.{by_test}
 use Rattle.list_lemmas.proofs.Lookups.{apart, set_other, set_same}
 use Rattle.list_lemmas.proofs.Counts.{weigh-push}
 use Rattle.range_space.specs.Tasks.{tasks}
 use Rattle.dep_iter.specs.Tasks.{IsTask, all_tasks}
-use Rattle.dep_iter.specs.Items.{edges_then_writes, items}
+use Rattle.dep_iter.specs.Items.{items}
 use Rattle.dep_iter.specs.Consistent.{IsConsistent}
 use Rattle.dep_iter.proofs.Listing.{listed}
-use Rattle.dep_iter.proofs.Items.{item_edge, items-in_order}
+use Rattle.dep_iter.proofs.Items.{item_edge}
 use Rattle.list_lemmas.specs.Counting.{as_number}
 use Rattle.flow_meaning.specs.Ending.{Ended, has_outputs}
 use Rattle.flow_meaning.specs.Machine.{IsQuiescent, MayClaim, MachineState, claim_count, is_sent, send_count, sender, state_after, Send}
@@ -56,19 +56,6 @@ done_then P ts us is js a b c d e = record {
   ended = e.ended ∙ d.ended;
   ends = λ t. e.ends t ∙ d.ends t;
   fits = λ G h. e.fits G (d.fits G h);
-}
-
--- what is done with more items is done with these
-pub done_with_these : (P : Plan) (ts : List Task) (is js : List Item) (a b : RunState) → ((i : Item) → IsIn i is → IsIn i js) → HasDone P ts js a b → HasDone P ts is a b
-done_with_these P ts is js a b among d = record {
-  claimed = d.claimed;
-  sent = λ ks h. d.sent ks (λ t tiles end i mine. elim (h t tiles end i mine) [
-    | inl s ↦ inl s
-    | inr k ↦ elim (from_append i is ks k) [ inl x ↦ inr (IsIn-append_left i js ks (among i x)) | inr y ↦ inr (IsIn-append_right i js ks y) ]
-  ]);
-  ended = d.ended;
-  ends = d.ends;
-  fits = d.fits;
 }
 
 module _ (P : Plan) (r : RunState) (t : Task) where
@@ -342,11 +329,11 @@ module _ (P : Plan) (t : Task) (a b : RunState) (outputs : has_outputs (end_of a
       let from : sender i ≡ t = item_sender P t i mine in
       record { outputs = ap (λ u. has_outputs (end_of b u)) from ∙ ap has_outputs (ends t) ∙ outputs; is_item = subst (λ u. IsIn i (items P u)) (sym from) mine }
 
-  pub item_output : (all left : List Item) (i : Item) → all ≡ edges_then_writes P t → IsSoFar P [] [] all (i ∷ left) a b
+  pub item_output : (all left : List Item) (i : Item) → all ≡ items P t → IsSoFar P [] [] all (i ∷ left) a b
       → IsOutputItem P b i
   item_output all left i is w =
       let among : IsIn i all = subst (IsIn i) (sym w.split_items) (IsIn-append_right i w.sent (i ∷ left) (inl refl)) in
-      output i ((items-in_order P t i).1 (subst (IsIn i) is among)) w.done.ends
+      output i (subst (IsIn i) is among) w.done.ends
 
 -- the next task of a walk over all tasks is one of the job
 pub next_task : (P : Plan) (t : Task) (left : List Task) (a b : RunState) → IsSoFar P (all_tasks P) (t ∷ left) [] [] a b → IsTask P t

@@ -1,7 +1,6 @@
 //! Sends of the items of a task that has ended.
 
 ghost use Rattle.std.specs.Prelude.{◌≡◌, ◌∷◌, [], IsTrue, OnOk};
-ghost use Rattle.dep_iter.specs.Items.{edges_then_writes};
 ghost use Rattle.dep_iter.specs.Items as items;
 ghost use Rattle.dep_iter.specs.Tasks.{IsTask};
 ghost use Rattle.flow_meaning.specs.Ending.{has_outputs};
@@ -36,8 +35,8 @@ fn send_item(runner: &mut Runner, m: &Matched, item: &Item) -> Result<(), OutOfM
     }
 }
 
-// Sends all items of a task that has ended without a trap, its edges before its write-backs, and claims the tasks that
-// may be claimed then.
+// Sends all items of a task that has ended without a trap, given its locals, and claims the tasks that may be claimed
+// then.
 fn send_all(runner: &mut Runner, m: &Matched, at: &TaskAt) -> Result<(), OutOfMemory>
     requires plan { at.now.plan.now ≡ m.now }
     requires outputs { IsTrue (has_outputs (end_of runner.old.run at.now.task.now)) }
@@ -45,7 +44,7 @@ fn send_all(runner: &mut Runner, m: &Matched, at: &TaskAt) -> Result<(), OutOfMe
     requires running { runner.old.running.items ≡ running_tasks runner.old.run }
     requires goals { AreGoals m.now runner.old.goals.entries }
     ensures done { OnOk result
-        (HasDone m.now [] (edges_then_writes m.now at.now.task.now) runner.old.run runner.new.run) }
+        (HasDone m.now [] (items.items m.now at.now.task.now) runner.old.run runner.new.run) }
     ensures running { OnOk result (runner.new.running.items ≡ running_tasks runner.new.run) }
     ensures goals { OnOk result (AreGoals m.now runner.new.goals.entries) }
 {

@@ -9,12 +9,13 @@ use ptg_top::Status;
 use std::alloc::Global;
 use std::io;
 use std::process::ExitCode;
+use std::random::RandomSource;
 use std::rt::Files;
 use std::sync::Wait;
 use std::thread::Threads;
 
 /// Carries out a command over the system's files.
-pub fn carried_out<R: Threads + Wait + Files + Print + Sync>(
+pub fn carried_out<R: Threads + Wait + RandomSource + Files + Print + Sync>(
     rt: &R,
     alloc: Global,
     words: &[Text],

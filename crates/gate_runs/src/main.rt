@@ -31,12 +31,13 @@ use ptg_top::Status;
 use std::alloc::Global;
 use std::io;
 use std::process::ExitCode;
+use std::random::RandomSource;
 use std::sync::Wait;
 use std::thread::Threads;
 use worker_core::Always;
 
 // Runs two tasks. The one that comes first may run its body only once the other has come.
-fn meet<R: Threads + Wait + Print + Sync>(rt: &R, alloc: Global) -> io::Result<()> {
+fn meet<R: Threads + Wait + RandomSource + Print + Sync>(rt: &R, alloc: Global) -> io::Result<()> {
     let gate = Meeting::new();
     let job = Job {
         jdf: PAIR,
@@ -51,7 +52,7 @@ fn meet<R: Threads + Wait + Print + Sync>(rt: &R, alloc: Global) -> io::Result<(
 }
 
 // Counts each body of the Cholesky job with four rows of tiles. Its text is the made one, or a decorated one.
-fn count<R: Threads + Wait + Print + Sync>(
+fn count<R: Threads + Wait + RandomSource + Print + Sync>(
     rt: &R,
     alloc: Global,
     jdf: &[u8],
@@ -73,7 +74,11 @@ fn count<R: Threads + Wait + Print + Sync>(
 }
 
 // Notes the tasks of the Cholesky job in the order in which one worker runs them. The trace must have that order.
-fn note<R: Threads + Wait + Print + Sync>(rt: &R, alloc: Global, options: &str) -> io::Result<()> {
+fn note<R: Threads + Wait + RandomSource + Print + Sync>(
+    rt: &R,
+    alloc: Global,
+    options: &str,
+) -> io::Result<()> {
     let job = Job {
         jdf: JDF,
         data: CHOLESKY_DATA,
@@ -90,7 +95,7 @@ fn note<R: Threads + Wait + Print + Sync>(rt: &R, alloc: Global, options: &str) 
 }
 
 // Runs a job with several numbers of workers, and replays what `trace` prints of it with the same ones.
-fn replay<R: Threads + Wait + Print + Sync>(
+fn replay<R: Threads + Wait + RandomSource + Print + Sync>(
     rt: &R,
     alloc: Global,
     name: &str,
@@ -110,7 +115,10 @@ fn replay<R: Threads + Wait + Print + Sync>(
 }
 
 // Replays the traces of a job that is complete, of one that stalls and of one with traps.
-fn replay_all<R: Threads + Wait + Print + Sync>(rt: &R, alloc: Global) -> io::Result<()> {
+fn replay_all<R: Threads + Wait + RandomSource + Print + Sync>(
+    rt: &R,
+    alloc: Global,
+) -> io::Result<()> {
     for (name, jdf, data, answer) in [
         ("cholesky", JDF, CHOLESKY_DATA, CHOLESKY_ANSWER),
         ("stall", STALL, ONE_TILE, STALL_ANSWER),
@@ -122,7 +130,10 @@ fn replay_all<R: Threads + Wait + Print + Sync>(rt: &R, alloc: Global) -> io::Re
 }
 
 // Loads the JDF and the data of the Cholesky job from one file, which changes between its loads.
-fn change<R: Threads + Wait + Print + Sync>(rt: &R, alloc: Global) -> io::Result<()> {
+fn change<R: Threads + Wait + RandomSource + Print + Sync>(
+    rt: &R,
+    alloc: Global,
+) -> io::Result<()> {
     let job = Job {
         jdf: JDF,
         data: CHOLESKY_DATA,
@@ -139,7 +150,10 @@ fn change<R: Threads + Wait + Print + Sync>(rt: &R, alloc: Global) -> io::Result
 }
 
 // All runs of jobs in memory.
-fn run_all<R: Threads + Wait + Print + Sync>(rt: &R, alloc: Global) -> io::Result<()> {
+fn run_all<R: Threads + Wait + RandomSource + Print + Sync>(
+    rt: &R,
+    alloc: Global,
+) -> io::Result<()> {
     meet(rt, alloc)?;
     for options in [
         "--workers 1 --shards 1",

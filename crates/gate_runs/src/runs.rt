@@ -7,6 +7,7 @@ use ptg_io::{File, MemFiles, MemSink};
 use ptg_top::ptg_main;
 use std::alloc::Global;
 use std::fmt;
+use std::random::RandomSource;
 use std::sync::Wait;
 use std::thread::Threads;
 use worker_core::Gate;
@@ -64,7 +65,7 @@ fn files(alloc: Global, job: &Job, trace: &[u8]) -> Result<MemFiles, OutOfMemory
 }
 
 // What a command prints of a job and a trace of it, and its status.
-fn printed<R: Threads + Wait + Sync, G: Gate>(
+fn printed<R: Threads + Wait + RandomSource + Sync, G: Gate>(
     rt: &R,
     alloc: Global,
     words: &[Text],
@@ -86,7 +87,7 @@ fn one_file(alloc: Global, name: &str, bytes: &[u8]) -> Result<MemFiles, OutOfMe
 }
 
 /// Runs a job with this gate, from one file that holds the JDF at its first load and the data at its second.
-pub fn ran_from_one_file<R: Threads + Wait + Sync, G: Gate>(
+pub fn ran_from_one_file<R: Threads + Wait + RandomSource + Sync, G: Gate>(
     rt: &R,
     alloc: Global,
     job: &Job,
@@ -108,7 +109,7 @@ pub fn ran_from_one_file<R: Threads + Wait + Sync, G: Gate>(
 }
 
 /// Runs a job with these options and this gate.
-pub fn ran<R: Threads + Wait + Sync, G: Gate>(
+pub fn ran<R: Threads + Wait + RandomSource + Sync, G: Gate>(
     rt: &R,
     alloc: Global,
     job: &Job,
@@ -124,7 +125,7 @@ pub fn ran<R: Threads + Wait + Sync, G: Gate>(
 }
 
 /// Traces a job with these options and a gate that notes its tasks.
-pub fn traced<R: Threads + Wait + Sync>(
+pub fn traced<R: Threads + Wait + RandomSource + Sync>(
     rt: &R,
     alloc: Global,
     job: &Job,
@@ -141,7 +142,7 @@ pub fn traced<R: Threads + Wait + Sync>(
 }
 
 // What `trace` prints of a job with these options.
-fn trace_of<R: Threads + Wait + Sync, G: Gate>(
+fn trace_of<R: Threads + Wait + RandomSource + Sync, G: Gate>(
     rt: &R,
     alloc: Global,
     job: &Job,
@@ -154,7 +155,7 @@ fn trace_of<R: Threads + Wait + Sync, G: Gate>(
 }
 
 // Replays a trace of a job.
-fn replay_of<R: Threads + Wait + Sync, G: Gate>(
+fn replay_of<R: Threads + Wait + RandomSource + Sync, G: Gate>(
     rt: &R,
     alloc: Global,
     job: &Job,
@@ -170,7 +171,7 @@ fn replay_of<R: Threads + Wait + Sync, G: Gate>(
 }
 
 /// Traces a job with these options and replays what was printed.
-pub fn replayed<R: Threads + Wait + Sync, G: Gate>(
+pub fn replayed<R: Threads + Wait + RandomSource + Sync, G: Gate>(
     rt: &R,
     alloc: Global,
     job: &Job,

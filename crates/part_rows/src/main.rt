@@ -27,6 +27,7 @@ use ptg_base::Text;
 use row_files::{Call, Printed, RowCall, Why, all_as_wanted};
 use std::alloc::Global;
 use std::process::ExitCode;
+use std::random::RandomSource;
 use std::sync::Wait;
 use std::thread::Threads;
 
@@ -41,7 +42,7 @@ fn main(rt: HostRuntime) -> ExitCode {
 struct Parts;
 
 impl Call for Parts {
-    fn printed<R: Threads + Wait + Sync>(
+    fn printed<R: Threads + Wait + RandomSource + Sync>(
         &self,
         _rt: &R,
         alloc: Global,

@@ -183,7 +183,7 @@ fn closed<R: Threads + Wait + Sync>(
         shards: SHARDS,
         preload: false,
     };
-    let prepared = lay_out(alloc, matched, given, settings)?;
+    let prepared = lay_out(alloc, matched, given, settings, 0)?;
     Ok(run(rt, prepared, &Always)?)
 }
 

@@ -14,13 +14,14 @@ use std::alloc::Global;
 use std::env::Env;
 use std::io::Write;
 use std::process::ExitCode;
+use std::random::RandomSource;
 use std::rt::Files;
 use std::sync::Wait;
 use std::thread::Threads;
 use worker_core::{Always, Gate};
 
 /// Carries out the command that these arguments form over the system's files, with this output and this gate.
-pub fn carry_out<R: Threads + Wait + Files + Sync, W: Write + Drop, G: Gate>(
+pub fn carry_out<R: Threads + Wait + RandomSource + Files + Sync, W: Write + Drop, G: Gate>(
     rt: &R,
     alloc: Global,
     words: &[Text],
@@ -34,7 +35,7 @@ pub fn carry_out<R: Threads + Wait + Files + Sync, W: Write + Drop, G: Gate>(
 
 /// The program: carries out the command that the process's arguments form, and returns the exit code of its status. If
 /// the arguments can't be read, it returns the code of `OutOfMemory` and writes nothing.
-pub fn process<R: Threads + Wait + Env + Files + Sync, W: Write + Drop>(
+pub fn process<R: Threads + Wait + RandomSource + Env + Files + Sync, W: Write + Drop>(
     rt: &R,
     alloc: Global,
     out: W,

@@ -5,8 +5,10 @@
 //! and with the most workers and shards.
 #![tactic(auto)]
 
+mod known;
 mod settings;
 
+use crate::known::Known;
 use crate::settings::with_settings;
 use ptg_base::Seq;
 use ptg_io::{ByteFiles, ByteSink, MemFiles, MemSink};
@@ -15,6 +17,7 @@ use row_files::{Call, Printed, RowCall, Why, all_as_wanted};
 use std::alloc::Global;
 use std::io;
 use std::process::ExitCode;
+use std::random::RandomSource;
 use std::rt::{Env, Files};
 use std::sync::Wait;
 use std::thread::Threads;
@@ -34,7 +37,7 @@ fn main(rt: HostRuntime) -> ExitCode {
 }
 
 // Whether all rows come out as wanted, with each choice of settings.
-fn all_ways<R: Print + Files + Env + Threads + Wait + Sync + AllocGlobal>(
+fn all_ways<R: Print + Files + Env + Threads + Wait + RandomSource + Sync + AllocGlobal>(
     rt: &R,
 ) -> io::Result<bool> {
     let at_large = all_as_wanted(rt, &Program { settings: &[] })?;
@@ -50,7 +53,7 @@ struct Program<'a> {
 }
 
 impl<'a> Call for Program<'a> {
-    fn printed<R: Threads + Wait + Sync>(
+    fn printed<R: Threads + Wait + RandomSource + Sync>(
         &self,
         rt: &R,
         alloc: Global,
@@ -65,7 +68,14 @@ impl<'a> Call for Program<'a> {
         let words = with_settings(alloc, words, self.settings)?;
         let mut files = MemFiles::new(alloc, Seq::of(files), Seq::of(failing_reads))?;
         let mut out = MemSink::new(alloc, Seq::of(failing_writes));
-        let ended = ptg_main(rt, alloc, words.as_slice(), &mut files, &mut out, &Always);
+        let ended = ptg_main(
+            &Known { rt },
+            alloc,
+            words.as_slice(),
+            &mut files,
+            &mut out,
+            &Always,
+        );
         Ok(Printed {
             text: out.bytes().to_vec(alloc)?,
             status: ended.status.code(),
@@ -81,7 +91,7 @@ struct ProgramByBytes<'a> {
 }
 
 impl<'a> Call for ProgramByBytes<'a> {
-    fn printed<R: Threads + Wait + Sync>(
+    fn printed<R: Threads + Wait + RandomSource + Sync>(
         &self,
         rt: &R,
         alloc: Global,
@@ -98,7 +108,14 @@ impl<'a> Call for ProgramByBytes<'a> {
         let mut files = ByteFiles { files };
         let sink = MemSink::new(alloc, Seq::new(alloc));
         let mut out = ByteSink { sink };
-        let ended = ptg_main(rt, alloc, words.as_slice(), &mut files, &mut out, &Always);
+        let ended = ptg_main(
+            &Known { rt },
+            alloc,
+            words.as_slice(),
+            &mut files,
+            &mut out,
+            &Always,
+        );
         Ok(Printed {
             text: out.sink.bytes().to_vec(alloc)?,
             status: ended.status.code(),

@@ -8,6 +8,7 @@ mod checking;
 mod command;
 mod consistent;
 mod ended;
+mod hash_key;
 mod host;
 mod jdf_file;
 mod judge;

@@ -13,6 +13,7 @@ ghost use Rattle.ptg_words.specs.declared.order.Order.{Order};
 ghost use Rattle.ptg_words.specs.Words.{Orders};
 
 use crate::ended::Ended;
+use crate::hash_key::hash_key;
 use crate::host::Host;
 use crate::judge::judge;
 use crate::printing::{print_verdict, receipt, status};
@@ -20,6 +21,7 @@ use crate::status::Status;
 use ptg_base::{OutOfMemory, Text};
 use ptg_io::{Failed, Files, Sink};
 use std::alloc::Global;
+use std::random::RandomSource;
 use std::sync::Wait;
 use std::thread::Threads;
 use worker_core::Gate;
@@ -48,7 +50,7 @@ use worker_core::Gate;
 /// - `trace JDF DATA`: some trace of a run of the job: the text of a whole order of the tasks that run.
 ///
 /// It may wait, as workers wait for each other.
-pub fn ptg_main<R: Threads + Wait + Sync, F: Files, O: Sink, G: Gate>(
+pub fn ptg_main<R: Threads + Wait + RandomSource + Sync, F: Files, O: Sink, G: Gate>(
     rt: &R,
     alloc: Global,
     words: &[Text],
@@ -112,7 +114,12 @@ pub fn ptg_main<R: Threads + Wait + Sync, F: Files, O: Sink, G: Gate>(
     ensures answer { IfSome result.receipt (λ r.
         PrintsReceipt words.now r (O.bytes out.old) (O.bytes out.new) result.status) }
 {
-    let host = Host { rt, alloc, gate };
+    let host = Host {
+        rt,
+        alloc,
+        gate,
+        key: hash_key(rt),
+    };
     match judge(&host, words, files) {
         Ok(verdict) => match print_verdict(&verdict, out) {
             Ok(()) => Ended {

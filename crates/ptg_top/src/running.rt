@@ -30,7 +30,7 @@ pub fn run<R: Threads + Wait + Sync, G: Gate>(
     ensures answer { IfOk result (λ v. IsAnswer settings matched given (denoted v)) }
     ensures receipt { IfOk result (λ v. IsReceipted (Some settings) matched given v) }
 {
-    match prepare(host.alloc, matched, given, settings) {
+    match prepare(host.alloc, matched, given, settings, host.key) {
         Ok(prepared) => {
             let (receipt, outcome) = run_prepared(host, prepared)?;
             Ok(Verdict::Ran(RanBy::Table(receipt), Finding::Answer(outcome)))

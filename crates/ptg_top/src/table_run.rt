@@ -46,6 +46,6 @@ pub fn run_on_table<R: Threads + Wait + Sync, G: Gate>(
     requires counts { AreRunCounts settings.workers settings.shards }
     ensures { IfOk result (λ (receipt, outcome). IsTableAnswer settings matched given receipt outcome) }
 {
-    let prepared = lay_out(host.alloc, matched, given, settings)?;
+    let prepared = lay_out(host.alloc, matched, given, settings, host.key)?;
     run_prepared(host, prepared)
 }

@@ -31,7 +31,7 @@ pub fn trace<R: Threads + Wait + Sync, G: Gate>(
     ensures trace { IfOk result (λ v. IsTraced matched given (denoted v)) }
     ensures receipt { IfOk result (λ v. IsReceipted (Some settings) matched given v) }
 {
-    let prepared = lay_out(host.alloc, matched, given, settings)?;
+    let prepared = lay_out(host.alloc, matched, given, settings, host.key)?;
     let (tasks, closed) = run_traced(host.alloc, host.rt, prepared, host.gate)?;
     let (_outcome, receipt) = closed.outcome()?;
     let text = trace_text(host.alloc, receipt.matched().plan(), tasks.as_slice())?;

@@ -16,7 +16,7 @@ mod walk;
 pub use all_locals::AllLocals;
 pub use fault::{SpaceFault, SpanFault};
 pub use laws::{a_task_has_one_list_of_locals, one_first_fault, tasks_are_distinct};
-pub use member::{find_locals, in_space, locals_of, param_value};
+pub use member::{fill_locals, find_locals, in_space, locals_of, param_value};
 pub use numbers::Numbers;
 pub use size::space_size;
 pub use steps::{Steps, steps_of};

@@ -142,35 +142,46 @@ pub fn in_space(space: &ClassSpace, params: &[i64]) -> bool
     )
 }
 
-/// The locals of the task with these parameters, or None if the class has no such task. Takes one pass over the
-/// definitions.
-pub fn find_locals(space: &ClassSpace, params: &[i64]) -> Option<Numbers<MOST_LOCALS>>
+/// Replaces the locals by those of the task with these parameters, and returns whether the class has it. Takes one pass
+/// over the definitions.
+pub fn find_locals(space: &ClassSpace, params: &[i64], locals: &mut Numbers<MOST_LOCALS>) -> bool
     requires well { IsWellSpace space.now }
     requires arity { length params.now ≡ length space.now.params }
-    ensures { MatchOption result (IsIn params.now (tasks space.now) → ⊥) (λ locals.
-        IsIn params.now (tasks space.now) × IsLocalsOf space.now params.now locals) }
+    ensures found { OnTrue result
+        (IsIn params.now (tasks space.now) × IsLocalsOf space.now params.now locals.new) }
+    ensures none { OnFalse result (IsIn params.now (tasks space.now) → ⊥) }
 {
-    let mut locals = Numbers::new();
-    let defs = space.defs.as_slice();
-    if complete(defs, space.params.as_slice(), params, &mut locals) {
-        Some(locals)
-    } else {
-        None
-    }
+    locals.clear();
+    complete(
+        space.defs.as_slice(),
+        space.params.as_slice(),
+        params,
+        locals,
+    )
 }
 
-/// The locals of the task with these parameters, which must exist. So no range is evaluated.
+/// Replaces the locals by those of the task with these parameters, which must exist. So no range is evaluated.
+pub fn fill_locals(space: &ClassSpace, params: &[i64], locals: &mut Numbers<MOST_LOCALS>)
+    requires well { IsWellSpace space.now }
+    requires task { IsIn params.now (tasks space.now) }
+    ensures { IsLocalsOf space.now params.now locals.new }
+{
+    locals.clear();
+    fill(
+        space.defs.as_slice(),
+        space.params.as_slice(),
+        params,
+        locals,
+    );
+}
+
+/// The locals of the task with these parameters, which must exist.
 pub fn locals_of(space: &ClassSpace, params: &[i64]) -> Numbers<MOST_LOCALS>
     requires well { IsWellSpace space.now }
     requires task { IsIn params.now (tasks space.now) }
     ensures { IsLocalsOf space.now params.now result }
 {
     let mut locals = Numbers::new();
-    fill(
-        space.defs.as_slice(),
-        space.params.as_slice(),
-        params,
-        &mut locals,
-    );
+    fill_locals(space, params, &mut locals);
     locals
 }

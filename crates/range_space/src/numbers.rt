@@ -52,6 +52,13 @@ impl<const N: usize> Numbers<N> {
         self.values.pop()
     }
 
+    /// Removes all numbers.
+    pub fn clear(&mut self)
+        ensures { self.new ≡ [] }
+    {
+        self.values.clear();
+    }
+
     /// A copy of the list.
     pub fn copy(&self) -> Numbers<N>
         ensures { result ≡ self.now }

@@ -8,6 +8,7 @@ use crate::tried::Tried;
 use crate::why::Why;
 use crate::worked_row::{RowCall, StatusOfEach, Wanted, WorkedRow, number};
 use std::alloc::Global;
+use std::random::RandomSource;
 use std::rt::{Env, Files};
 use std::sync::Wait;
 use std::thread::Threads;
@@ -30,10 +31,10 @@ struct Reading<'a> {
 
 /// Tries the rows of the files that the program's arguments name. Prints a line for each that is not as wanted or can't
 /// be read, and at the end whether all came out as wanted. Returns that too.
-pub fn all_as_wanted<R: Print + Files + Env + AllocGlobal + Threads + Wait + Sync, C: Call>(
-    rt: &R,
-    call: &C,
-) -> io::Result<bool> {
+pub fn all_as_wanted<
+    R: Print + Files + Env + AllocGlobal + Threads + Wait + RandomSource + Sync,
+    C: Call,
+>(rt: &R, call: &C) -> io::Result<bool> {
     let alloc = rt.alloc();
     let mut report = Report::new(rt, alloc);
     for word in env::args(rt)?.skip(1) {
@@ -44,7 +45,7 @@ pub fn all_as_wanted<R: Print + Files + Env + AllocGlobal + Threads + Wait + Syn
 }
 
 // Tries the rows of a file.
-fn try_file<R: Print + Files + AllocGlobal + Threads + Wait + Sync, C: Call>(
+fn try_file<R: Print + Files + AllocGlobal + Threads + Wait + RandomSource + Sync, C: Call>(
     rt: &R,
     report: &mut Report<'_, R>,
     call: &C,
@@ -57,7 +58,7 @@ fn try_file<R: Print + Files + AllocGlobal + Threads + Wait + Sync, C: Call>(
 }
 
 // Tries the rows of a file's text.
-fn try_text<R: Print + Threads + Wait + Sync, C: Call>(
+fn try_text<R: Print + Threads + Wait + RandomSource + Sync, C: Call>(
     report: &mut Report<'_, R>,
     call: &C,
     file: &str,
@@ -70,7 +71,7 @@ fn try_text<R: Print + Threads + Wait + Sync, C: Call>(
 }
 
 // Tries the rows of a file's items.
-fn try_items<'a, R: Print + Threads + Wait + Sync, C: Call>(
+fn try_items<'a, R: Print + Threads + Wait + RandomSource + Sync, C: Call>(
     report: &mut Report<'_, R>,
     call: &C,
     file: &str,
@@ -106,7 +107,7 @@ impl<'a> Reading<'a> {
     }
 
     // Takes an item: one that begins a row, or counts the rows, ends the row before it.
-    fn take<R: Print + Threads + Wait + Sync, C: Call>(
+    fn take<R: Print + Threads + Wait + RandomSource + Sync, C: Call>(
         &mut self,
         report: &mut Report<'_, R>,
         call: &C,
@@ -165,7 +166,7 @@ impl<'a> Reading<'a> {
     }
 
     // Tries the row that was read to its end, if there is one.
-    fn finish<R: Print + Threads + Wait + Sync, C: Call>(
+    fn finish<R: Print + Threads + Wait + RandomSource + Sync, C: Call>(
         &mut self,
         report: &mut Report<'_, R>,
         call: &C,
@@ -184,7 +185,7 @@ impl<'a> Reading<'a> {
 }
 
 /// How a row came out, if not as wanted.
-pub fn tried<'a, R: Threads + Wait + Sync, C: Call>(
+pub fn tried<'a, R: Threads + Wait + RandomSource + Sync, C: Call>(
     rt: &R,
     alloc: Global,
     call: &C,
@@ -207,7 +208,7 @@ pub fn tried<'a, R: Threads + Wait + Sync, C: Call>(
 }
 
 // How a row came out with the shortest prefix of a file with which it did not come out as wanted.
-fn tried_with_each<R: Threads + Wait + Sync, C: Call>(
+fn tried_with_each<R: Threads + Wait + RandomSource + Sync, C: Call>(
     rt: &R,
     alloc: Global,
     call: &C,

@@ -5,6 +5,7 @@
 use row_files::{Call, Printed, RowCall, Why, all_as_wanted};
 use std::alloc::Global;
 use std::process::ExitCode;
+use std::random::RandomSource;
 use std::sync::Wait;
 use std::thread::Threads;
 
@@ -19,7 +20,7 @@ fn main(rt: HostRuntime) -> ExitCode {
 struct ByLength;
 
 impl Call for ByLength {
-    fn printed<R: Threads + Wait + Sync>(
+    fn printed<R: Threads + Wait + RandomSource + Sync>(
         &self,
         _rt: &R,
         alloc: Global,

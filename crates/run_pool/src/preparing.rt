@@ -49,18 +49,19 @@ fn too_large(m: &Matched, settings: Settings) -> Option<u64>
 }
 
 /// Makes a run of a job ready: its table, its passes, hands and benches, and room for the close. A preload may have any
-/// size.
+/// size. The table hashes tasks with this key ([`DepTable::open`]).
 pub fn lay_out(
     alloc: Global,
     m: Matched,
     given: Given,
     settings: Settings,
+    key: u64,
 ) -> Result<Prepared, OutOfMemory>
     requires counts { AreRunCounts settings.workers settings.shards }
     requires fit { DataFit m given }
     ensures { IfOk result (λ p. p ≡ run_of m given settings) }
 {
-    let (table, first) = DepTable::open(alloc, m, given, settings.shards, settings.preload)?;
+    let (table, first) = DepTable::open(alloc, m, given, settings.shards, settings.preload, key)?;
     let hands = make(alloc, settings.workers)?;
     let desks = seat_workers(alloc, &table, first, hands)?;
     let mut room = Vec::new(alloc);
@@ -75,6 +76,7 @@ pub fn prepare(
     m: Matched,
     given: Given,
     settings: Settings,
+    key: u64,
 ) -> Result<Prepared, PrepareFault>
     requires counts { AreRunCounts settings.workers settings.shards }
     requires fit { DataFit m given }
@@ -84,6 +86,6 @@ pub fn prepare(
 {
     match too_large(&m, settings) {
         Some(bytes) => Err(PrepareFault::PreloadTooLarge(bytes)),
-        None => Ok(lay_out(alloc, m, given, settings)?),
+        None => Ok(lay_out(alloc, m, given, settings, key)?),
     }
 }

@@ -54,24 +54,30 @@ fn open_task(
     Ok(true)
 }
 
-// This many new shards.
-fn new_shards(alloc: Global, m: &Matched, count: u32) -> Result<Vec<Shard>, OutOfMemory>
+// This many new shards, in which tasks are hashed with this key.
+fn new_shards(alloc: Global, m: &Matched, count: u32, key: u64) -> Result<Vec<Shard>, OutOfMemory>
     ensures { IfOk result (λ v. AreNew count m.now.elems v.items) }
 {
     let elems = m.plan().elems.as_slice();
     let mut shards = Vec::new(alloc);
     for _ in 0..count {
-        shards.push(Shard::new(alloc, elems)?)?;
+        shards.push(Shard::keyed(alloc, elems, key)?)?;
     }
     Ok(shards)
 }
 
 // This many new shards, opened. The walk stops once all tasks without in edges are found.
-fn opened(alloc: Global, m: &Matched, count: u32, to: SharedTo) -> Result<Vec<Shard>, OutOfMemory>
+fn opened(
+    alloc: Global,
+    m: &Matched,
+    count: u32,
+    to: SharedTo,
+    key: u64,
+) -> Result<Vec<Shard>, OutOfMemory>
     requires { IsShardCount count }
     ensures { IfOk result (λ v. AreOpening m.now (placement_by to m.now count) count v.items) }
 {
-    let mut opened = new_shards(alloc, m, count)?;
+    let mut opened = new_shards(alloc, m, count, key)?;
     let mut left = m.roots();
     for t in all_tasks(m.plan()) {
         if left == 0 {
@@ -84,18 +90,25 @@ fn opened(alloc: Global, m: &Matched, count: u32, to: SharedTo) -> Result<Vec<Sh
     Ok(opened)
 }
 
-/// This many new shards of a table: each has the ready entries of its own tasks that no edge goes into.
-pub fn opened_shards(alloc: Global, m: &Matched, shards: u32) -> Result<Vec<Shard>, OutOfMemory>
+/// This many new shards of a table: each has the ready entries of its own tasks that no edge goes into. Tasks are
+/// hashed with this key.
+pub fn opened_shards(
+    alloc: Global,
+    m: &Matched,
+    shards: u32,
+    key: u64,
+) -> Result<Vec<Shard>, OutOfMemory>
     requires { IsShardCount shards }
     ensures { IfOk result (λ v. AreOpeningShards m.now shards v.items) }
 {
-    opened(alloc, m, shards, SharedTo::Shards)
+    opened(alloc, m, shards, SharedTo::Shards, key)
 }
 
-/// A new shard for each of this many ranks: it has the ready entries of the rank's tasks that no edge goes into.
+/// A new shard for each of this many ranks: it has the ready entries of the rank's tasks that no edge goes into. Tasks
+/// are hashed without a key.
 pub fn opened_ranks(alloc: Global, m: &Matched, ranks: u32) -> Result<Vec<Shard>, OutOfMemory>
     requires { IsShardCount ranks }
     ensures { IfOk result (λ v. AreOpeningRanks m.now ranks v.items) }
 {
-    opened(alloc, m, ranks, SharedTo::Ranks)
+    opened(alloc, m, ranks, SharedTo::Ranks, 0)
 }

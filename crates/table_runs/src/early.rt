@@ -37,7 +37,7 @@ fn claim(table: &DepTable, pass: &mut Pass, task: &TaskId) -> bool
     if !is_task(table.matched().plan(), task) {
         return false;
     }
-    let claim = Board::try_claim(table, pass, task);
+    let claim = Board::try_claim(table, pass, table.shard_of(task), task);
     matches!(&claim, Claim::Got(_arrivals))
 }
 

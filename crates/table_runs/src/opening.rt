@@ -36,6 +36,6 @@ pub fn table_of(
     let Some((matched, given)) = job_of_texts(alloc, texts.jdf, texts.data)? else {
         return Ok(None);
     };
-    let opened = DepTable::open(alloc, matched, given, make.shards, make.preload)?;
+    let opened = DepTable::open(alloc, matched, given, make.shards, make.preload, 0)?;
     Ok(Some(opened))
 }

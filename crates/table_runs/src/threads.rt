@@ -41,7 +41,7 @@ pub fn answer_by<R: Threads + Wait + Sync>(
     let Some((matched, given)) = job_of_texts(alloc, texts.jdf, texts.data)? else {
         return Ok(None);
     };
-    match prepare(alloc, matched, given, settings) {
+    match prepare(alloc, matched, given, settings, 0) {
         Ok(prepared) => Ok(Some(answer_of(run(rt, prepared, &Always)?)?)),
         Err(PrepareFault::PreloadTooLarge(_bytes)) => Ok(None),
         Err(PrepareFault::OutOfMemory) => Err(OutOfMemory),
@@ -95,7 +95,7 @@ pub fn traced<R: Threads + Wait + Sync>(
         shards: 16,
         preload: false,
     };
-    let prepared = lay_out(alloc, matched, given, settings)?;
+    let prepared = lay_out(alloc, matched, given, settings, 0)?;
     let (tasks, closed) = run_traced(alloc, rt, prepared, &Always)?;
     Ok(Some(claims_of(tasks, closed)?))
 }

@@ -9,7 +9,7 @@ ghost use Rattle.dep_table.specs.Views as views;
 
 use coll_data::Given;
 use crossbeam_utils::sync::EventCount;
-use dep_iter::Matched;
+use dep_iter::{Matched, TaskAt};
 use dep_shard::Arrivals;
 use dep_table::{DepTable, Pass};
 use ptg_base::{Item, OutOfMemory, TaskId, Tile};
@@ -96,8 +96,12 @@ impl Board for Unscanned {
         None
     }
 
-    fn try_claim(&self, pass: &mut PassPair, t: &TaskId) -> Claim {
-        self.table.try_claim(&mut pass.own, t)
+    fn shard_of(&self, at: &TaskAt) -> u32 {
+        Board::shard_of(&self.table, at)
+    }
+
+    fn try_claim(&self, pass: &mut PassPair, shard: u32, t: &TaskId) -> Claim {
+        self.table.try_claim(&mut pass.own, shard, t)
     }
 
     fn try_scan(&self, pass: &mut PassPair, shard: u32) -> Scan {
@@ -107,18 +111,25 @@ impl Board for Unscanned {
     fn try_send(
         &self,
         pass: &mut PassPair,
+        shard: u32,
         item: &Item,
         tile: Option<&Tile>,
     ) -> Result<Sent, OutOfMemory> {
-        self.table.try_send(&mut pass.own, item, tile)
+        self.table.try_send(&mut pass.own, shard, item, tile)
     }
 
-    fn try_end(&self, pass: &mut PassPair, t: &TaskId, spent: &mut Arrivals) -> bool {
-        self.table.try_end(&mut pass.own, t, spent)
+    fn try_end(&self, pass: &mut PassPair, shard: u32, t: &TaskId, spent: &mut Arrivals) -> bool {
+        self.table.try_end(&mut pass.own, shard, t, spent)
     }
 
-    fn try_trap(&self, pass: &mut PassPair, t: &TaskId, cause: Trap) -> Result<bool, OutOfMemory> {
-        self.table.try_trap(&mut pass.own, t, cause)
+    fn try_trap(
+        &self,
+        pass: &mut PassPair,
+        shard: u32,
+        t: &TaskId,
+        cause: Trap,
+    ) -> Result<bool, OutOfMemory> {
+        self.table.try_trap(&mut pass.own, shard, t, cause)
     }
 
     fn see_quiet(&self, pass: &mut PassPair) -> bool {

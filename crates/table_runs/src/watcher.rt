@@ -49,7 +49,7 @@ impl Watcher {
         if !self.idle {
             return Reply::NotAsked;
         }
-        let claim = Board::try_claim(table, &mut self.pass, t);
+        let claim = Board::try_claim(table, &mut self.pass, table.shard_of(t), t);
         self.idle = is_refused(&claim);
         reply_of(claim)
     }

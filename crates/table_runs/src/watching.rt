@@ -13,7 +13,7 @@ use crate::seen::Seen;
 use crate::watcher::Watcher;
 use coll_data::Given;
 use crossbeam_utils::sync::EventCount;
-use dep_iter::Matched;
+use dep_iter::{Matched, TaskAt};
 use dep_shard::Arrivals;
 use dep_table::{DepTable, Pass};
 use ptg_base::{Item, OutOfMemory, TaskId, Tile};
@@ -130,8 +130,12 @@ impl Board for Watched {
         Board::events(&self.table)
     }
 
-    fn try_claim(&self, pass: &mut Watch, t: &TaskId) -> Claim {
-        let claim = Board::try_claim(&self.table, &mut pass.mine, t);
+    fn shard_of(&self, at: &TaskAt) -> u32 {
+        Board::shard_of(&self.table, at)
+    }
+
+    fn try_claim(&self, pass: &mut Watch, shard: u32, t: &TaskId) -> Claim {
+        let claim = Board::try_claim(&self.table, &mut pass.mine, shard, t);
         self.watch_claim(pass, t, &claim);
         claim
     }
@@ -145,20 +149,27 @@ impl Board for Watched {
     fn try_send(
         &self,
         pass: &mut Watch,
+        shard: u32,
         item: &Item,
         tile: Option<&Tile>,
     ) -> Result<Sent, OutOfMemory> {
-        let sent = Board::try_send(&self.table, &mut pass.mine, item, tile)?;
+        let sent = Board::try_send(&self.table, &mut pass.mine, shard, item, tile)?;
         pass.seen.note_sent(sent);
         Ok(sent)
     }
 
-    fn try_end(&self, pass: &mut Watch, t: &TaskId, spent: &mut Arrivals) -> bool {
-        Board::try_end(&self.table, &mut pass.mine, t, spent)
+    fn try_end(&self, pass: &mut Watch, shard: u32, t: &TaskId, spent: &mut Arrivals) -> bool {
+        Board::try_end(&self.table, &mut pass.mine, shard, t, spent)
     }
 
-    fn try_trap(&self, pass: &mut Watch, t: &TaskId, cause: Trap) -> Result<bool, OutOfMemory> {
-        Board::try_trap(&self.table, &mut pass.mine, t, cause)
+    fn try_trap(
+        &self,
+        pass: &mut Watch,
+        shard: u32,
+        t: &TaskId,
+        cause: Trap,
+    ) -> Result<bool, OutOfMemory> {
+        Board::try_trap(&self.table, &mut pass.mine, shard, t, cause)
     }
 
     fn see_quiet(&self, pass: &mut Watch) -> bool {

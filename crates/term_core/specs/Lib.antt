@@ -3,6 +3,7 @@ pub mod TermCode
 pub mod NodeTerm
 pub mod Arith
 pub mod Value
+pub mod ValueBounds
 pub mod WellSpace
 pub mod StatementList
 pub mod StatementListCode

@@ -4,6 +4,7 @@
 
 mod arithmetic;
 mod body;
+mod bounding;
 mod closed;
 mod direction;
 mod evaluate;
@@ -13,9 +14,11 @@ mod flow;
 mod operator;
 mod space;
 mod trap;
+mod value_bound;
 
 pub use arithmetic::{arith, decide, unary};
 pub use body::{Block, Body, Stmt};
+pub use bounding::{are_small, bound_of};
 pub use closed::is_closed;
 pub use direction::Direction;
 pub use evaluate::{ReadElement, eval, eval_with, local};
@@ -25,3 +28,4 @@ pub use flow::FlowKind;
 pub use operator::{BinOp, UnOp};
 pub use space::{ClassSpace, Def, Params, Range};
 pub use trap::Trap;
+pub use value_bound::ValueBound;

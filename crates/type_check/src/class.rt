@@ -13,8 +13,7 @@ ghost use Rattle.type_check.specs.Classes.{class_plan, class_faults};
 
 use crate::head::head;
 use crate::scope::scope_of;
-use body_lang::read_body;
-use body_lang::Scope;
+use body_lang::{Scope, read_body};
 use jdf_lex::{JdfFault, JdfRefusal};
 use jdf_tree::ClassTree;
 use plan_core::ClassPlan;

@@ -13,7 +13,7 @@ ghost use Rattle.work_board.specs.Looks.{HaltAnswers, HasHalted, HasStamp, Quiet
 use crate::answers::{Claim, Scan, Sent};
 use coll_data::Given;
 use crossbeam_utils::sync::EventCount;
-use dep_iter::Matched;
+use dep_iter::{Matched, TaskAt};
 use dep_shard::Arrivals;
 use ptg_base::{Item, OutOfMemory, TaskId, Tile};
 use std::marker::Sync;
@@ -78,10 +78,18 @@ pub trait Board: Sync {
     /// step. Whoever ends a task must then look for quiet and, if it sees it, wake all. No clause speaks of this.
     fn events(&self) -> Option<&EventCount>;
 
-    /// Claims a task. With the turn, it returns `Gone` if and only if the shard has no ready entry of the task.
-    fn try_claim(&self, pass: &mut Self::Pass, t: &TaskId) -> Claim
+    /// The number of the shard of a task: the one in which it is claimed and ends, and at which the edges into it
+    /// arrive. The calls that need the turn of a shard are given its number, so that it is found once for all tries.
+    fn shard_of(&self, at: &TaskAt) -> u32
+        requires { at.now.plan.now ≡ plan self.now }
+        ensures { result ≡ placement self.now at.now.task.now };
+
+    /// Claims a task of this shard. With the turn, it returns `Gone` if and only if the shard has no ready entry of the
+    /// task.
+    fn try_claim(&self, pass: &mut Self::Pass, shard: u32, t: &TaskId) -> Claim
         requires pass { is_pass self.now pass.old }
         requires task { IsTask (plan self.now) t.now }
+        requires shard { shard ≡ placement self.now t.now }
         requires idle { (shown pass.old).running ≡ [] }
         ensures pass { is_pass self.now pass.new }
         ensures claim { ClaimAnswers (plan self.now) (job_data self.now) (placement self.now t.now) t.now result
@@ -96,15 +104,18 @@ pub trait Board: Sync {
         ensures scan { ScanAnswers (plan self.now) (job_data self.now) (placement self.now) shard result
             (shown pass.old) (shown pass.new) };
 
-    /// Sends an item of the task that the pass runs, with the tile that the task leaves in its flow.
+    /// Sends an item of the task that the pass runs, with the tile that the task leaves in its flow. This is the shard
+    /// that handles the item: for an edge that of its target, for a write-back that of the task.
     fn try_send(
         &self,
         pass: &mut Self::Pass,
+        shard: u32,
         item: &Item,
         tile: Option<&Tile>,
     ) -> Result<Sent, OutOfMemory>
         requires pass { is_pass self.now pass.old }
         requires item { IsNext (plan self.now) (job_data self.now) item.now (option_copied tile) (shown pass.old) }
+        requires shard { shard ≡ shard_of_item (placement self.now) item.now }
         ensures pass { is_pass self.now pass.new }
         ensures sent { IfOk result (λ a.
             SendAnswers (plan self.now) (shard_of_item (placement self.now) item.now) item.now
@@ -113,19 +124,29 @@ pub trait Board: Sync {
             (OnlyTook (shard_of_item (placement self.now) item.now) (shown pass.old) (shown pass.new)) }
         ensures preloaded { preloaded self.now ≡ true → IsOk result };
 
-    /// Ends the task that the pass runs, whose items were all sent. False only if another pass held the turn. The board
-    /// may keep tiles that came with the task for later sends, or drop them; with false they all stay.
-    fn try_end(&self, pass: &mut Self::Pass, t: &TaskId, spent: &mut Arrivals) -> bool
+    /// Ends the task that the pass runs, which belongs to this shard and whose items were all sent. False only if
+    /// another pass held the turn. The board may keep tiles that came with the task for later sends, or drop them; with
+    /// false they all stay.
+    fn try_end(&self, pass: &mut Self::Pass, shard: u32, t: &TaskId, spent: &mut Arrivals) -> bool
         requires pass { is_pass self.now pass.old }
         requires task { MayEnd (plan self.now) (job_data self.now) t.now (shown pass.old) }
+        requires shard { shard ≡ placement self.now t.now }
         ensures pass { is_pass self.now pass.new }
         ensures ended { EndAnswers result (placement self.now t.now) (shown pass.old) (shown pass.new) }
         ensures spent { SpentAfter result spent.old spent.new };
 
-    /// Notes that the task that the pass runs trapped with this cause. False only if another pass held the turn.
-    fn try_trap(&self, pass: &mut Self::Pass, t: &TaskId, cause: Trap) -> Result<bool, OutOfMemory>
+    /// Notes that the task that the pass runs, which belongs to this shard, trapped with this cause. False only if
+    /// another pass held the turn.
+    fn try_trap(
+        &self,
+        pass: &mut Self::Pass,
+        shard: u32,
+        t: &TaskId,
+        cause: Trap,
+    ) -> Result<bool, OutOfMemory>
         requires pass { is_pass self.now pass.old }
         requires task { MayTrap (plan self.now) (job_data self.now) t.now cause (shown pass.old) }
+        requires shard { shard ≡ placement self.now t.now }
         ensures pass { is_pass self.now pass.new }
         ensures ended { IfOk result (λ a. EndAnswers a (placement self.now t.now) (shown pass.old) (shown pass.new)) }
         ensures err { OnErr result (OnlyTook (placement self.now t.now) (shown pass.old) (shown pass.new)) }

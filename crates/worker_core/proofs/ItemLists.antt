@@ -1,24 +1,16 @@
--- The items of a task, sent one after another.
-use Rattle.std.proofs.Common.{◌≡◌, ℕ, ◌+◌, ◌<◌, Bool, true, false, List, [], ◌∷◌, ◌++◌, map, refl, ap, sym, ◌∙◌, subst, append_assoc, IsTrue, inl, inr, nat_lt, arith}
-use Rattle.std.proofs.lemmas.Bool.Decides.{nat_tests}
+-- The items of a task, sent one after another in any order.
+use Rattle.std.proofs.Common.{◌≡◌, ◌+◌, ◌<◌, ◌≤◌, List, [], ◌∷◌, ◌++◌, map, refl, ap, sym, ◌∙◌, subst, append_assoc, IsTrue, arith}
 use Rattle.std.proofs.lemmas.List.{append-nil, map-append}
 use Rattle.ptg_base.specs.Lists.{HasNoRepeats, IsIn}
 use Rattle.ptg_base.specs.Task.{Task}
-use Rattle.ptg_base.specs.declared.edge.Edge.{Edge}
-use Rattle.ptg_base.specs.declared.edge.WriteBack.{WriteBack}
 use Rattle.ptg_base.specs.declared.edge.Item.{Item}
-use Rattle.ptg_base.specs.declared.edge.Item.TheVariants as item
 use Rattle.plan_core.specs.declared.plan.Plan.{Plan}
 use Rattle.coll_data.specs.Data.{Data}
-use Rattle.dep_iter.specs.Tasks.{IsTask}
-use Rattle.dep_iter.specs.Items.{edges_then_writes, items, out_edges, write_backs}
-use Rattle.dep_iter.specs.Consistent.{IsConsistent}
-use Rattle.dep_iter.proofs.Items.{Edge-injective, Write-injective, items-in_order}
-use Rattle.dep_iter.proofs.Once.{once-out_edges, once-write_backs}
-use Rattle.list_lemmas.proofs.Members.{IsIn-append_right, from_map}
-use Rattle.list_lemmas.proofs.Counts.{weigh-append}
-use Rattle.list_lemmas.proofs.Distinct.{HasNoRepeats-apart, HasNoRepeats-append, HasNoRepeats-map}
-use Rattle.list_lemmas.specs.Counting.{as_number, count, weigh}
+use Rattle.dep_iter.specs.Items.{items}
+use Rattle.list_lemmas.proofs.Members.{IsIn-append_left, IsIn-append_right}
+use Rattle.list_lemmas.proofs.Counts.{HasSameMembers-sym, count-once, count-some, same_in, weigh-append}
+use Rattle.list_lemmas.proofs.Distinct.{HasNoRepeats-left}
+use Rattle.list_lemmas.specs.Counting.{HasSameMembers, as_number, count, weigh}
 use Rattle.flow_meaning.specs.Comparing.{same_item}
 use Rattle.flow_meaning.specs.Ending.{has_outputs}
 use Rattle.flow_meaning.specs.Backward.{ended}
@@ -27,32 +19,50 @@ use Rattle.flow_meaning.proofs.Comparing.{same_item-decides}
 use Rattle.flow_meaning.proofs.Rest.{item_sender}
 use Rattle.flow_meaning.specs.Sound.{with_its_tile}
 use Rattle.work_board.specs.declared.record.PassRecord.{PassRecord}
-use Rattle.work_board.specs.Records.{done_by}
-use Rattle.work_board.specs.Sends.{IsNext, MayEnd}
-use Rattle.worker_core.specs.Sending.{HasSentAll, MaySendAll, RunsUnsent}
+use Rattle.work_board.specs.Records.{IsStill, done_by}
+use Rattle.work_board.specs.Sends.{IsNext}
+use Rattle.worker_core.specs.Sending.{HasSentAll, HasSentFrom, HasSentSome, MaySendAll}
 use Rattle.worker_core.proofs.Steps.{kept_then}
 
--- an item occurs 0 times in a list that lacks it, and more often in one that has it
-not_among : (i : Item) (js : List Item) → (IsIn i js → ⊥) → count (same_item i) js ≡ 0
-not_among i [] h = refl
-not_among i (j ∷ js) h = by (not_among i js (λ k. h (inr k))) (same_item i j) refl
-  where
-    by : count (same_item i) js ≡ 0 → (b : Bool) → same_item i j ≡ b → as_number (same_item i j) + count (same_item i) js ≡ 0
-    by later true e = absurd (h (inl ((same_item-decides i j).0 e)))
-    by later false e =
-        let none : as_number (same_item i j) ≡ 0 = ap as_number e in
-        omega (arith, none, later)
+-- an item occurs in a list that has it
+pub is_among : (i : Item) (js : List Item) → IsIn i js → 0 < count (same_item i) js
+is_among i js h = count-some (same_item i) js i h ((same_item-decides i i).1 refl)
 
-is_among : (i : Item) (js : List Item) → IsIn i js → 0 < count (same_item i) js
-is_among i [] h = absurd h
-is_among i (j ∷ js) h = elim h [
-  | inl e ↦
-      let one : as_number (same_item i j) ≡ 1 = ap as_number ((same_item-decides i j).1 e) in
-      omega (arith, one)
-  | inr k ↦
-      let later = is_among i js k in
-      omega (arith, later)
-]
+-- a list in which each item occurs at most once has no repeats
+distinct : (is : List Item) → ((i : Item) → count (same_item i) is ≤ 1) → HasNoRepeats is
+distinct [] most = tt
+distinct (i ∷ is) most = (
+  λ again.
+      let here : as_number (same_item i i) ≡ 1 = ap as_number ((same_item-decides i i).1 refl) in
+      let later = is_among i is again in
+      let all = most i in
+      absurd (omega (arith, here, later, all)),
+  distinct is (λ j. let all = most j in omega (arith, all)),
+)
+
+-- how often an item occurs in a list without repeats, some of whose items were sent
+module _ (old sent new : List Item) (once : HasNoRepeats old) (same : HasSameMembers old (sent ++ new)) where
+  both_at_most : (i : Item) → count (same_item i) sent + count (same_item i) new ≤ 1
+  both_at_most i =
+      let most = count-once same_item (λ a b. (same_item-decides a b).0) old once i in
+      let all = same (λ j. as_number (same_item i j)) in
+      let parts = weigh-append (λ j. as_number (same_item i j)) sent new in
+      omega (arith, most, all, parts)
+
+  -- an item that is left was not sent
+  none_sent : (i : Item) → IsIn i new → count (same_item i) sent ≡ 0
+  none_sent i h =
+      let both = both_at_most i in
+      let some = is_among i new h in
+      omega (arith, both, some)
+
+  rest_once : HasNoRepeats new
+  rest_once = distinct new (λ i. let both = both_at_most i in omega (arith, both))
+
+  was_among : (i : Item) → IsIn i new → IsIn i old
+  was_among i h =
+      same_in same_item same_item-decides (sent ++ new) old (HasSameMembers-sym old (sent ++ new) same) i
+      (IsIn-append_right i sent new h)
 
 module _ (P : Plan) (G : Data) where
   sent_count : (i : Item) (js : List Item) → weigh (λ (x : SentItem). as_number (same_item i x.item)) (map (with_its_tile P G) js) ≡ count (same_item i) js
@@ -60,114 +70,116 @@ module _ (P : Plan) (G : Data) where
   sent_count i (j ∷ js) = ap (λ n. as_number (same_item i j) + n) (sent_count i js)
 
   -- after these sends an item was sent as often as before, plus as often as it is among them
-  count_after : (is : List Item) (v w : PassRecord) (i : Item) → HasSentAll P G is v w → send_count (done_by w) i ≡ send_count (done_by v) i + count (same_item i) is
+  pub count_after : (is : List Item) (v w : PassRecord) (i : Item) → HasSentAll P G is v w → send_count (done_by w) i ≡ send_count (done_by v) i + count (same_item i) is
   count_after is v w i sent =
       ap (weigh (λ (x : SentItem). as_number (same_item i x.item))) sent.sends
       ∙ weigh-append (λ (x : SentItem). as_number (same_item i x.item)) v.sends (map (with_its_tile P G) is)
       ∙ ap (λ n. send_count (done_by v) i + n) (sent_count i is)
 
-  -- some of all these items were sent, and the others are left
-  pub record IsSentSoFar (all left : List Item) (v w : PassRecord) : Type 0 where
-    pub before : List Item
-    pub split : all ≡ before ++ left
-    pub sent : HasSentAll P G before v w
-
-  pub nothing_sent : (all : List Item) (v : PassRecord) → IsSentSoFar all all v v
-  nothing_sent all v = record {
-    before = [];
-    split = refl;
-    sent = record {
-      sends = sym (append-nil v.sends);
-      claims = refl;
-      stamps = refl;
-      handed = refl;
-      running = refl;
-      kept = record { names = refl; turns = refl; quiet = refl; halts = refl; credit = refl };
+  -- a look at a turn that is taken sends nothing
+  pub nothing_sent : (is : List Item) (v w : PassRecord) → IsStill v w → HasSentFrom P G is is v w
+  nothing_sent is v w still = record {
+    sent = [];
+    others = λ f. refl;
+    sends = record {
+      sends = still.done.sends ∙ sym (append-nil v.sends);
+      claims = still.done.claims;
+      stamps = still.done.stamps;
+      handed = still.done.handed;
+      running = still.running;
+      kept = still.kept;
     };
   }
 
-  pub one_sent_more : (all left : List Item) (i : Item) (v w x : PassRecord) → IsSentSoFar all (i ∷ left) v w → HasSentAll P G (i ∷ []) w x → IsSentSoFar all left v x
-  one_sent_more all left i v w x far one = record {
-    before = far.before ++ i ∷ [];
-    split = far.split ∙ sym (append_assoc far.before (i ∷ []) left);
-    sent = record {
-      sends = one.sends ∙ ap (λ l. l ++ map (with_its_tile P G) (i ∷ [])) far.sent.sends ∙ append_assoc v.sends (map (with_its_tile P G) far.before) (map (with_its_tile P G) (i ∷ []))
-          ∙ ap (λ l. v.sends ++ l) (sym (map-append (with_its_tile P G) far.before (i ∷ [])));
-      claims = one.claims ∙ far.sent.claims;
-      stamps = one.stamps ∙ far.sent.stamps;
-      handed = one.handed ∙ far.sent.handed;
-      running = one.running ∙ far.sent.running;
-      kept = kept_then far.sent.kept one.kept;
-    };
+  pub not_begun : (is : List Item) (v : PassRecord) → HasSentFrom P G is is v v
+  not_begun is v = nothing_sent is v v (record {
+    kept = record { names = refl; turns = refl; quiet = refl; halts = refl; credit = refl };
+    done = record { claims = refl; stamps = refl; handed = refl; sends = refl };
+    running = refl;
+  })
+
+  pub one_sent : (i : Item) (old new : List Item) (v w : PassRecord) → HasSameMembers old (i ∷ new) → HasSentAll P G (i ∷ []) v w → HasSentFrom P G old new v w
+  one_sent i old new v w same sends = record { sent = i ∷ []; others = same; sends = sends }
+
+  both_sends : (is js : List Item) (u v w : PassRecord) → HasSentAll P G is u v → HasSentAll P G js v w → HasSentAll P G (is ++ js) u w
+  both_sends is js u v w one two = record {
+    sends = two.sends ∙ ap (λ l. l ++ map (with_its_tile P G) js) one.sends ∙ append_assoc u.sends (map (with_its_tile P G) is) (map (with_its_tile P G) js)
+        ∙ ap (λ l. u.sends ++ l) (sym (map-append (with_its_tile P G) is js));
+    claims = two.claims ∙ one.claims;
+    stamps = two.stamps ∙ one.stamps;
+    handed = two.handed ∙ one.handed;
+    running = two.running ∙ one.running;
+    kept = kept_then one.kept two.kept;
   }
 
-  -- the items that are left are those of the task
-  pub sender_left : (t : Task) (all left : List Item) (i : Item) (v w : PassRecord) → MaySendAll P G t all v → IsSentSoFar all (i ∷ left) v w → sender i ≡ t
-  sender_left t all left i v w may far = item_sender P t i (may.are_items i (subst (λ l. IsIn i l) (sym far.split) (IsIn-append_right i far.before (i ∷ left) (inl refl))))
+  -- some items were sent, and then some of the others
+  pub sent_then : (xs ys zs : List Item) (u v w : PassRecord) → HasSentFrom P G xs ys u v → HasSentFrom P G ys zs v w → HasSentFrom P G xs zs u w
+  sent_then xs ys zs u v w one two = record {
+    sent = one.sent ++ two.sent;
+    others = λ f.
+        let first = one.others f in
+        let then = two.others f in
+        omega (arith, first, then, weigh-append f one.sent ys, weigh-append f two.sent zs, weigh-append f (one.sent ++ two.sent) zs, weigh-append f one.sent two.sent);
+    sends = both_sends one.sent two.sent u v w one.sends two.sends;
+  }
 
-  -- the next of the items that are left may be sent
-  pub next_left : (t : Task) (all left : List Item) (i : Item) (v w : PassRecord) → MaySendAll P G t all v → IsSentSoFar all (i ∷ left) v w → IsNext P G i (with_its_tile P G i).tile w
-  next_left t all left i v w may far =
-      let among : IsIn i all = subst (λ l. IsIn i l) (sym far.split) (IsIn-append_right i far.before (i ∷ left) (inl refl)) in
-      let by : sender i ≡ t = item_sender P t i (may.are_items i among) in
-      let none = not_among i far.before (λ h. HasNoRepeats-apart far.before (i ∷ left) (subst HasNoRepeats far.split may.once) i h (inl refl)) in
-      let counts = count_after far.before v w i far.sent in
-      let unsent = may.unsent i among in
+  -- other items beside them stay
+  pub sent_beside : (xs ys rest : List Item) (v w : PassRecord) → HasSentFrom P G xs ys v w → HasSentFrom P G (xs ++ rest) (ys ++ rest) v w
+  sent_beside xs ys rest v w far = record {
+    sent = far.sent;
+    others = λ f.
+        let these = far.others f in
+        omega (arith, these, weigh-append f xs rest, weigh-append f far.sent ys, weigh-append f far.sent (ys ++ rest), weigh-append f ys rest);
+    sends = far.sends;
+  }
+
+  -- the sends, without which items they are
+  pub some_sent : (old new : List Item) (v w : PassRecord) → HasSentFrom P G old new v w → HasSentSome v w
+  some_sent old new v w far = record {
+    more_sends = map (with_its_tile P G) far.sent;
+    names = far.sends.kept.names;
+    claims = far.sends.claims;
+    stamps = far.sends.stamps;
+    handed = far.sends.handed;
+    sends = far.sends.sends;
+  }
+
+  -- what may be sent one after another
+  pub its_sender : (t : Task) (is : List Item) (v : PassRecord) (i : Item) → MaySendAll P G t is v → IsIn i is → sender i ≡ t
+  its_sender t is v i may h = item_sender P t i (may.are_items i h)
+
+  pub is_next : (t : Task) (is : List Item) (v : PassRecord) (i : Item) → MaySendAll P G t is v → IsIn i is → IsNext P G i (with_its_tile P G i).tile v
+  is_next t is v i may h =
+      let by : sender i ≡ t = its_sender t is v i may h in
       record {
-        runs = far.sent.running ∙ may.runs ∙ ap (λ s. s ∷ []) (sym by);
-        is_item = subst (λ s. IsIn i (items P s)) (sym by) (may.are_items i among);
+        runs = may.runs ∙ ap (λ s. s ∷ []) (sym by);
+        is_item = subst (λ s. IsIn i (items P s)) (sym by) (may.are_items i h);
         outputs = subst (λ s. IsTrue (has_outputs (ended P G s))) (sym by) may.outputs;
-        unsent = counts ∙ omega (arith, none, unsent);
+        unsent = may.unsent i h;
         tile = refl;
       }
 
--- an edge is no write-back
-apart : (es : List Edge) (ws : List WriteBack) (i : Item) → IsIn i (map (λ (e : Edge). item.Edge e) es)
-    → IsIn i (map (λ (w : WriteBack). item.Write w) ws) → ⊥
-apart es ws (item.Edge e) edge write =
-    let w = from_map (λ (w : WriteBack). item.Write w) ws (item.Edge e) write in
-    absurd cc
-apart es ws (item.Write w) edge write =
-    let e = from_map (λ (e : Edge). item.Edge e) es (item.Write w) edge in
-    absurd cc
+  -- the items that are left may still be sent
+  pub may_rest : (t : Task) (old new : List Item) (v w : PassRecord) → MaySendAll P G t old v → HasSentFrom P G old new v w → MaySendAll P G t new w
+  may_rest t old new v w may far =
+      let among = was_among old far.sent new may.once far.others in
+      record {
+        runs = far.sends.running ∙ may.runs;
+        outputs = may.outputs;
+        are_items = λ i h. may.are_items i (among i h);
+        once = rest_once old far.sent new may.once far.others;
+        unsent = λ i h.
+            let none = none_sent old far.sent new may.once far.others i h in
+            let before = may.unsent i (among i h) in
+            count_after far.sent v w i far.sends ∙ omega (arith, none, before);
+      }
 
-positive : (n : ℕ) → 0 < n → nat_lt 0 n ≡ true
-positive n h = grind (arith, nat_tests)
-
-module _ (P : Plan) (G : Data) (con : IsConsistent P) (t : Task) (job : IsTask P t) where
-  -- what a task sends has no repeats
-  once : HasNoRepeats (edges_then_writes P t)
-  once =
-      HasNoRepeats-append (map (λ (e : Edge). item.Edge e) (out_edges P t))
-      (map (λ (w : WriteBack). item.Write w) (write_backs P t))
-      (HasNoRepeats-map (λ (e : Edge). item.Edge e) (out_edges P t) (once-out_edges P con t job) Edge-injective)
-      (HasNoRepeats-map (λ (w : WriteBack). item.Write w) (write_backs P t) (once-write_backs P con t job)
-      Write-injective) (apart (out_edges P t) (write_backs P t))
-
-  -- the items may be sent one after another
-  pub may_send : (v : PassRecord) → IsTrue (has_outputs (ended P G t)) → RunsUnsent P t v
-      → MaySendAll P G t (edges_then_writes P t) v
-  may_send v outputs runs = record {
-    runs = runs.runs;
-    outputs = outputs;
-    are_items = λ i h. (items-in_order P t i).1 h;
-    once = once;
-    unsent = λ i h. runs.unsent i ((items-in_order P t i).1 h);
+  -- the first of them alone
+  pub may_first : (t : Task) (is js : List Item) (v : PassRecord) → MaySendAll P G t (is ++ js) v → MaySendAll P G t is v
+  may_first t is js v may = record {
+    runs = may.runs;
+    outputs = may.outputs;
+    are_items = λ i h. may.are_items i (IsIn-append_left i is js h);
+    once = HasNoRepeats-left is js may.once;
+    unsent = λ i h. may.unsent i (IsIn-append_left i is js h);
   }
-
-  -- then all were sent
-  pub may_end : (v w : PassRecord) → IsTrue (has_outputs (ended P G t)) → RunsUnsent P t v
-      → HasSentAll P G (edges_then_writes P t) v w → MayEnd P G t w
-  may_end v w outputs runs sent = record {
-    runs = sent.running ∙ runs.runs;
-    outputs = outputs;
-    sent = λ i h.
-        let counts = count_after P G (edges_then_writes P t) v w i sent in
-        let some = is_among i (edges_then_writes P t) ((items-in_order P t i).0 h) in
-        positive (send_count (done_by w) i) (omega (arith, counts, some));
-  }
-
-  -- all that were sent are all
-  pub all_sent : (all : List Item) (v w : PassRecord) → IsSentSoFar P G all [] v w → HasSentAll P G all v w
-  all_sent all v w far =
-      subst (λ l. HasSentAll P G l v w) (sym (append-nil far.before) ∙ sym far.split) far.sent

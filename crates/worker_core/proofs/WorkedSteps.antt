@@ -45,7 +45,7 @@ pub record IsWorked (P : Plan) (G : Data) (lets : Task → Type 0) (keeps : Bool
   pub idle : w.running ≡ []
   pub gained : keeps ≡ true → new ≡ old ++ logged more
 
-module _ (P : Plan) (G : Data) (lets : Task → Type 0) (keeps : Bool) where
+module _ (P : Plan) (G : Data) (of : Task → ℕ) (lets : Task → Type 0) (keeps : Bool) where
   pub nothing_done : (v : PassRecord) (log : List (ℕ × Task)) → v.running ≡ [] → IsWorked P G lets keeps 0 v v log log
   nothing_done v log idle = record {
     more = [];
@@ -65,7 +65,7 @@ module _ (P : Plan) (G : Data) (lets : Task → Type 0) (keeps : Bool) where
   }
 
   -- one claim more, and some sends after it
-  claimed_more : (more : List StampedTask) (f : Found) (v w x y : PassRecord) (old mid new : List (ℕ × Task)) → HasClaimedMore more v w → (got : HasGotLogged P G keeps f w x mid new) → HasSentSome x y → HasClaimedMore (more ++ (f.task, got.got.added.stamp) ∷ []) v y
+  claimed_more : (more : List StampedTask) (f : Found) (v w x y : PassRecord) (old mid new : List (ℕ × Task)) → HasClaimedMore more v w → (got : HasGotLogged P G of keeps f w x mid new) → HasSentSome x y → HasClaimedMore (more ++ (f.task, got.got.added.stamp) ∷ []) v y
   claimed_more more f v w x y old mid new far got some = record {
     more_handed = far.more_handed ++ (f.task, f.arrivals) ∷ [];
     more_sends = far.more_sends ++ some.more_sends;
@@ -78,12 +78,12 @@ module _ (P : Plan) (G : Data) (lets : Task → Type 0) (keeps : Bool) where
     sends = some.sends ∙ ap (λ l. l ++ some.more_sends) (got.got.added.sends ∙ far.sends) ∙ append_assoc v.sends far.more_sends some.more_sends;
   }
 
-  gained_more : (more : List StampedTask) (f : Found) (w x : PassRecord) (old mid new : List (ℕ × Task)) → (keeps ≡ true → mid ≡ old ++ logged more) → (got : HasGotLogged P G keeps f w x mid new) → keeps ≡ true → new ≡ old ++ logged (more ++ (f.task, got.got.added.stamp) ∷ [])
+  gained_more : (more : List StampedTask) (f : Found) (w x : PassRecord) (old mid new : List (ℕ × Task)) → (keeps ≡ true → mid ≡ old ++ logged more) → (got : HasGotLogged P G of keeps f w x mid new) → keeps ≡ true → new ≡ old ++ logged (more ++ (f.task, got.got.added.stamp) ∷ [])
   gained_more more f w x old mid new far got k =
       got.noted k ∙ ap (λ l. l ++ (got.got.added.stamp, f.task) ∷ []) (far k) ∙ append_assoc old (logged more) ((got.got.added.stamp, f.task) ∷ [])
       ∙ ap (λ l. old ++ l) (sym (map-append (λ (c : StampedTask). (c.1, c.0)) more ((f.task, got.got.added.stamp) ∷ [])))
 
-  pub one_task_more : (ran : ℕ) (f : Found) (v w x y : PassRecord) (old mid new : List (ℕ × Task)) → IsWorked P G lets keeps ran v w old mid → HasGotLogged P G keeps f w x mid new → HasSentSome x y → HasRun P G f.task x y → lets f.task → IsWorked P G lets keeps (ran + 1) v y old new
+  pub one_task_more : (ran : ℕ) (f : Found) (v w x y : PassRecord) (old mid new : List (ℕ × Task)) → IsWorked P G lets keeps ran v w old mid → HasGotLogged P G of keeps f w x mid new → HasSentSome x y → HasRun P G f.task x y → lets f.task → IsWorked P G lets keeps (ran + 1) v y old new
   one_task_more ran f v w x y old mid new far got some run through =
       let sends : y.sends ≡ w.sends ++ some.more_sends = some.sends ∙ ap (λ l. l ++ some.more_sends) got.got.added.sends in
       let counted = length_push far.more (f.task, got.got.added.stamp) in
@@ -105,7 +105,7 @@ module _ (P : Plan) (G : Data) (lets : Task → Type 0) (keeps : Bool) where
       }
 
   -- a claim counts even if memory was refused after it
-  pub logged_claims : (ran : ℕ) (f : Found) (v w x y : PassRecord) (old mid new : List (ℕ × Task)) → IsWorked P G lets keeps ran v w old mid → HasGotLogged P G keeps f w x mid new → HasSentSome x y → HasLogged keeps v y old new
+  pub logged_claims : (ran : ℕ) (f : Found) (v w x y : PassRecord) (old mid new : List (ℕ × Task)) → IsWorked P G lets keeps ran v w old mid → HasGotLogged P G of keeps f w x mid new → HasSentSome x y → HasLogged keeps v y old new
   logged_claims ran f v w x y old mid new far got some = record {
     more = far.more ++ (f.task, got.got.added.stamp) ∷ [];
     claimed = claimed_more far.more f v w x y old mid new far.claimed got some;

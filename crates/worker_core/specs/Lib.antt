@@ -1,4 +1,5 @@
 pub mod Claiming
 pub mod Sending
 pub mod Starting
+pub mod Waiting
 pub mod Working

@@ -10,7 +10,7 @@ ghost use Rattle.worker_core.specs.Claiming.{SearchAnswers};
 use crate::post::Post;
 use crate::scans::Scans;
 use crossbeam_utils::Backoff;
-use dep_iter::{locals_of, task_locals};
+use dep_iter::{TaskAt, locals_of, task_locals};
 use dep_shard::Arrivals;
 use ptg_base::{MOST_LOCALS, TaskId};
 use range_space::Numbers;
@@ -18,12 +18,13 @@ use std::sync::Wait;
 use std::thread::Threads;
 use work_board::{Board, Claim, Scan};
 
-// A claimed task with its locals, and the tiles that came to it. A worker has one, which each search fills, so that
-// nothing large is moved from call to call.
+// A claimed task with its locals, the number of its shard, and the tiles that came to it. A worker has one, which each
+// search fills, so that nothing large is moved from call to call.
 #[derive(Drop)]
 pub(crate) struct Found {
     pub(crate) task: TaskId,
     pub(crate) locals: Numbers<MOST_LOCALS>,
+    pub(crate) shard: u32,
     pub(crate) arrivals: Arrivals,
 }
 
@@ -44,19 +45,22 @@ impl Found {
         Found {
             task: TaskId::new(0, &[]),
             locals: Numbers::new(),
+            shard: 0,
             arrivals: Arrivals::new(),
         }
     }
 }
 
-// Claims a task of the job, and waits for its turn as long as that takes. None if the task is gone.
+// Claims a task of this shard, and waits for the shard's turn as long as that takes. None if the task is gone.
 fn claim<R: Threads + Wait + Sync, B: Board, G>(
     post: &Post<R, B, G>,
     pass: &mut B::Pass,
+    shard: u32,
     t: &TaskId,
 ) -> Option<Arrivals>
     requires pass { B.is_pass post.now.board.now pass.old }
     requires task { IsTask (B.plan post.now.board.now) t.now }
+    requires shard { shard ≡ B.placement post.now.board.now t.now }
     requires idle { (B.shown pass.old).running ≡ [] }
     ensures pass { B.is_pass post.now.board.now pass.new }
     ensures gone { IfNone result (IsStill (B.shown pass.old) (B.shown pass.new)) }
@@ -66,7 +70,7 @@ fn claim<R: Threads + Wait + Sync, B: Board, G>(
 {
     let backoff = Backoff::new();
     for _ in post.rt.forever() {
-        match post.board.try_claim(pass, t) {
+        match post.board.try_claim(pass, shard, t) {
             Claim::Got(arrivals) => return Some(arrivals),
             Claim::Gone => return None,
             Claim::Busy => backoff.snooze(),
@@ -85,17 +89,23 @@ pub(crate) fn claim_id<R: Threads + Wait + Sync, B: Board, G>(
     requires pass { B.is_pass post.now.board.now pass.old }
     requires idle { (B.shown pass.old).running ≡ [] }
     ensures pass { B.is_pass post.now.board.now pass.new }
-    ensures looked { SearchAnswers (B.plan post.now.board.now) (B.job_data post.now.board.now) result found.new
-        (B.shown pass.old) (B.shown pass.new) }
+    ensures looked { SearchAnswers (B.plan post.now.board.now) (B.job_data post.now.board.now)
+        (B.placement post.now.board.now) result found.new (B.shown pass.old) (B.shown pass.new) }
 {
     let Some(locals) = task_locals(post.board.matched().plan(), &id) else {
         return Search::Nothing;
     };
-    let Some(arrivals) = claim(post, pass, &id) else {
+    let shard = post.board.shard_of(&TaskAt {
+        plan: post.board.matched().plan(),
+        task: &id,
+        locals: locals.as_slice(),
+    });
+    let Some(arrivals) = claim(post, pass, shard, &id) else {
         return Search::Nothing;
     };
     found.task = id;
     found.locals = locals;
+    found.shard = shard;
     found.arrivals = arrivals;
     Search::Task
 }
@@ -111,8 +121,8 @@ pub(crate) fn scan<R: Threads + Wait + Sync, B: Board, G>(
     requires pass { B.is_pass post.now.board.now pass.old }
     requires idle { (B.shown pass.old).running ≡ [] }
     ensures pass { B.is_pass post.now.board.now pass.new }
-    ensures looked { SearchAnswers (B.plan post.now.board.now) (B.job_data post.now.board.now) result found.new
-        (B.shown pass.old) (B.shown pass.new) }
+    ensures looked { SearchAnswers (B.plan post.now.board.now) (B.job_data post.now.board.now)
+        (B.placement post.now.board.now) result found.new (B.shown pass.old) (B.shown pass.new) }
 {
     let shards = post.board.shards();
     if shards == 0 {
@@ -124,7 +134,7 @@ pub(crate) fn scan<R: Threads + Wait + Sync, B: Board, G>(
     match post.board.try_scan(pass, scans.next) {
         Scan::Got(task, arrivals) => {
             scans.missed = 0;
-            fill(post, found, task, arrivals);
+            fill(post, found, scans.next, task, arrivals);
             Search::Task
         }
         Scan::Empty | Scan::Busy => {
@@ -146,14 +156,14 @@ pub(crate) fn scan_all<R: Threads + Wait + Sync, B: Board, G>(
     requires pass { B.is_pass post.now.board.now pass.old }
     requires idle { (B.shown pass.old).running ≡ [] }
     ensures pass { B.is_pass post.now.board.now pass.new }
-    ensures looked { SearchAnswers (B.plan post.now.board.now) (B.job_data post.now.board.now) result found.new
-        (B.shown pass.old) (B.shown pass.new) }
+    ensures looked { SearchAnswers (B.plan post.now.board.now) (B.job_data post.now.board.now)
+        (B.placement post.now.board.now) result found.new (B.shown pass.old) (B.shown pass.new) }
 {
     let shards = post.board.shards();
     for shard in 0..shards {
         match post.board.try_scan(pass, shard) {
             Scan::Got(task, arrivals) => {
-                fill(post, found, task, arrivals);
+                fill(post, found, shard, task, arrivals);
                 return Search::Task;
             }
             Scan::Empty => {}
@@ -167,15 +177,18 @@ pub(crate) fn scan_all<R: Threads + Wait + Sync, B: Board, G>(
 fn fill<R: Threads + Wait + Sync, B: Board, G>(
     post: &Post<R, B, G>,
     found: &mut Found,
+    shard: u32,
     task: TaskId,
     arrivals: Arrivals,
 )
     requires { IsTask (B.plan post.now.board.now) task }
     ensures task { found.new.task ≡ task }
     ensures locals { found.new.locals ≡ tasks.locals_of (B.plan post.now.board.now) task }
+    ensures shard { found.new.shard ≡ shard }
     ensures arrivals { found.new.arrivals ≡ arrivals }
 {
     found.locals = locals_of(post.board.matched().plan(), &task);
     found.task = task;
+    found.shard = shard;
     found.arrivals = arrivals;
 }

@@ -7,6 +7,7 @@ mod ending;
 mod gate;
 mod log;
 mod next;
+mod outbox;
 mod patience;
 mod post;
 mod running;
@@ -14,6 +15,7 @@ mod scans;
 mod sending;
 mod sleeping;
 mod stealing;
+mod waiting;
 mod worker;
 
 pub use gate::{Always, Gate};

@@ -25,8 +25,8 @@ pub(crate) fn see_quiet<R: Threads + Wait + Sync, B: Board, G>(
 ) -> Search
     requires { B.is_pass post.now.board.now pass.old }
     ensures pass { B.is_pass post.now.board.now pass.new }
-    ensures looked { (f : FoundTask) → SearchAnswers (B.plan post.now.board.now) (B.job_data post.now.board.now) result f
-        (B.shown pass.old) (B.shown pass.new) }
+    ensures looked { (f : FoundTask) → SearchAnswers (B.plan post.now.board.now) (B.job_data post.now.board.now)
+        (B.placement post.now.board.now) result f (B.shown pass.old) (B.shown pass.new) }
 {
     if post.board.see_quiet(pass) {
         return Search::Quiet;
@@ -48,8 +48,8 @@ fn look_once<R: Threads + Wait + Sync, B: Board, G>(
     requires idle { (B.shown pass.old).running ≡ [] }
     ensures pass { B.is_pass post.now.board.now pass.new }
     ensures hands { SameWorker hands.old hands.new }
-    ensures looked { SearchAnswers (B.plan post.now.board.now) (B.job_data post.now.board.now) result found.new
-        (B.shown pass.old) (B.shown pass.new) }
+    ensures looked { SearchAnswers (B.plan post.now.board.now) (B.job_data post.now.board.now)
+        (B.placement post.now.board.now) result found.new (B.shown pass.old) (B.shown pass.new) }
 {
     if let Some(id) = take_id(post.rt, hands) {
         *patience = Patience::new();
@@ -75,8 +75,8 @@ fn rest<R: Threads + Wait + Sync, B: Board, G>(
     requires pass { B.is_pass post.now.board.now pass.old }
     requires idle { (B.shown pass.old).running ≡ [] }
     ensures pass { B.is_pass post.now.board.now pass.new }
-    ensures looked { SearchAnswers (B.plan post.now.board.now) (B.job_data post.now.board.now) result found.new
-        (B.shown pass.old) (B.shown pass.new) }
+    ensures looked { SearchAnswers (B.plan post.now.board.now) (B.job_data post.now.board.now)
+        (B.placement post.now.board.now) result found.new (B.shown pass.old) (B.shown pass.new) }
 {
     if patience.is_over() {
         if let Some(events) = post.board.events() {
@@ -101,8 +101,8 @@ fn look_or_rest<R: Threads + Wait + Sync, B: Board, G>(
     requires idle { (B.shown pass.old).running ≡ [] }
     ensures pass { B.is_pass post.now.board.now pass.new }
     ensures hands { SameWorker hands.old hands.new }
-    ensures looked { SearchAnswers (B.plan post.now.board.now) (B.job_data post.now.board.now) result found.new
-        (B.shown pass.old) (B.shown pass.new) }
+    ensures looked { SearchAnswers (B.plan post.now.board.now) (B.job_data post.now.board.now)
+        (B.placement post.now.board.now) result found.new (B.shown pass.old) (B.shown pass.new) }
 {
     match look_once(post, pass, hands, scans, patience, found) {
         Search::Task => Search::Task,
@@ -124,8 +124,8 @@ pub(crate) fn next_task<R: Threads + Wait + Sync, B: Board, G>(
     ensures pass { B.is_pass post.now.board.now pass.new }
     ensures hands { SameWorker hands.old hands.new }
     ensures found { IfOk result (λ got.
-        GotOrQuiet (B.plan post.now.board.now) (B.job_data post.now.board.now) got found.new (B.shown pass.old)
-        (B.shown pass.new)) }
+        GotOrQuiet (B.plan post.now.board.now) (B.job_data post.now.board.now) (B.placement post.now.board.now) got
+        found.new (B.shown pass.old) (B.shown pass.new)) }
     ensures still { OnErr result (IsStill (B.shown pass.old) (B.shown pass.new)) }
     ensures halted { OnErr result (B.preloaded post.now.board.now ≡ false) }
 {

@@ -12,8 +12,9 @@ ghost use Rattle.worker_core.specs.Working.{HasRun};
 use crate::claiming::Found;
 use crate::ending::{end_one, trap_one};
 use crate::gate::Gate;
+use crate::outbox::Outbox;
 use crate::post::Post;
-use crate::sending::send_all;
+use crate::sending::{SendContext, send_all};
 use dep_iter::TaskAt;
 use dep_shard::Arrivals;
 use ptg_base::OutOfMemory;
@@ -24,6 +25,13 @@ use std::thread::Threads;
 use task_run::{Bench, Start};
 use term_core::Trap;
 use work_board::Board;
+
+// A task with its locals and the number of its shard.
+#[derive(Drop)]
+struct Placed<'a> {
+    at: TaskAt<'a>,
+    shard: u32,
+}
 
 // Runs the body of a task that the gate has let through, on the bench.
 fn run_body<R: Threads + Wait + Sync, B: Board, G: Gate>(
@@ -57,24 +65,33 @@ fn send_and_end<R: Threads + Wait + Sync, B: Board, G>(
     pass: &mut B::Pass,
     hands: &mut Hands,
     bench: &mut Bench,
-    at: &TaskAt,
+    placed: &Placed,
+    outbox: &mut Outbox,
 ) -> Result<(), OutOfMemory>
     requires pass { B.is_pass post.now.board.now pass.old }
-    requires plan { at.now.plan.now ≡ B.plan post.now.board.now }
-    requires tiles { HoldsOutputs (B.plan post.now.board.now) (B.job_data post.now.board.now) at.now.task.now
+    requires plan { placed.now.at.plan.now ≡ B.plan post.now.board.now }
+    requires shard { placed.now.shard ≡ B.placement post.now.board.now placed.now.at.task.now }
+    requires tiles { HoldsOutputs (B.plan post.now.board.now) (B.job_data post.now.board.now) placed.now.at.task.now
         bench.old }
-    requires unsent { RunsUnsent (B.plan post.now.board.now) at.now.task.now (B.shown pass.old) }
+    requires unsent { RunsUnsent (B.plan post.now.board.now) placed.now.at.task.now (B.shown pass.old) }
     ensures pass { B.is_pass post.now.board.now pass.new }
     ensures hands { SameWorker hands.old hands.new }
     ensures elems { bench.new.elems ≡ bench.old.elems }
     ensures some { HasSentSome (B.shown pass.old) (B.shown pass.new) }
     ensures run { OnOk result
-        (HasRun (B.plan post.now.board.now) (B.job_data post.now.board.now) at.now.task.now (B.shown pass.old)
+        (HasRun (B.plan post.now.board.now) (B.job_data post.now.board.now) placed.now.at.task.now (B.shown pass.old)
         (B.shown pass.new)) }
     ensures err { OnErr result (B.preloaded post.now.board.now ≡ false) }
 {
-    send_all(post, pass, hands, bench, at)?;
-    end_one(post, pass, at.task, bench.clear());
+    let context = SendContext {
+        rt: post.rt,
+        board: post.board,
+        bench: &*bench,
+        at: &placed.at,
+        shard: placed.shard,
+    };
+    send_all(&context, pass, hands, outbox)?;
+    end_one(post, pass, placed.shard, placed.at.task, bench.clear());
     Ok(())
 }
 
@@ -82,20 +99,21 @@ fn send_and_end<R: Threads + Wait + Sync, B: Board, G>(
 fn note_trap<R: Threads + Wait + Sync, B: Board, G>(
     post: &Post<R, B, G>,
     pass: &mut B::Pass,
-    at: &TaskAt,
+    placed: &Placed,
     cause: Trap,
 ) -> Result<(), OutOfMemory>
     requires pass { B.is_pass post.now.board.now pass.old }
-    requires task { MayTrap (B.plan post.now.board.now) (B.job_data post.now.board.now) at.now.task.now cause
+    requires task { MayTrap (B.plan post.now.board.now) (B.job_data post.now.board.now) placed.now.at.task.now cause
         (B.shown pass.old) }
+    requires shard { placed.now.shard ≡ B.placement post.now.board.now placed.now.at.task.now }
     ensures pass { B.is_pass post.now.board.now pass.new }
     ensures some { HasSentSome (B.shown pass.old) (B.shown pass.new) }
     ensures run { OnOk result
-        (HasRun (B.plan post.now.board.now) (B.job_data post.now.board.now) at.now.task.now (B.shown pass.old)
+        (HasRun (B.plan post.now.board.now) (B.job_data post.now.board.now) placed.now.at.task.now (B.shown pass.old)
         (B.shown pass.new)) }
     ensures err { OnErr result (B.preloaded post.now.board.now ≡ false) }
 {
-    trap_one(post, pass, at.task, cause)
+    trap_one(post, pass, placed.shard, placed.at.task, cause)
 }
 
 // Passes the gate and runs a claimed task: its body, then its sends and its end, or its trap. In any case the bench is
@@ -106,11 +124,12 @@ pub(crate) fn run_found<R: Threads + Wait + Sync, B: Board, G: Gate>(
     hands: &mut Hands,
     bench: &mut Bench,
     found: &mut Found,
+    outbox: &mut Outbox,
 ) -> Result<(), OutOfMemory>
     requires pass { B.is_pass post.now.board.now pass.old }
     requires bench { IsBenchOf (B.plan post.now.board.now) bench.old }
-    requires started { HasStarted (B.plan post.now.board.now) (B.job_data post.now.board.now) found.old
-        (B.shown pass.old) }
+    requires started { HasStarted (B.plan post.now.board.now) (B.job_data post.now.board.now)
+        (B.placement post.now.board.now) found.old (B.shown pass.old) }
     ensures pass { B.is_pass post.now.board.now pass.new }
     ensures hands { SameWorker hands.old hands.new }
     ensures bench { IsBenchOf (B.plan post.now.board.now) bench.new }
@@ -122,16 +141,19 @@ pub(crate) fn run_found<R: Threads + Wait + Sync, B: Board, G: Gate>(
     ensures err { OnErr result (B.preloaded post.now.board.now ≡ false) }
 {
     let arrivals = mem::replace(&mut found.arrivals, Arrivals::new());
-    let at = TaskAt {
-        plan: post.board.matched().plan(),
-        task: &found.task,
-        locals: found.locals.as_slice(),
+    let placed = Placed {
+        at: TaskAt {
+            plan: post.board.matched().plan(),
+            task: &found.task,
+            locals: found.locals.as_slice(),
+        },
+        shard: found.shard,
     };
     post.board.matched().plan_is_consistent();
     post.gate.before_body(post.rt, post.worker, &found.task);
-    let answer = match run_body(post, bench, &at, arrivals) {
-        Ok(()) => send_and_end(post, pass, hands, bench, &at),
-        Err(cause) => note_trap(post, pass, &at, cause),
+    let answer = match run_body(post, bench, &placed.at, arrivals) {
+        Ok(()) => send_and_end(post, pass, hands, bench, &placed, outbox),
+        Err(cause) => note_trap(post, pass, &placed, cause),
     };
     let _spent = bench.clear();
     answer

@@ -1,6 +1,6 @@
 //! Sends of the items of a task.
 
-ghost use Rattle.std.specs.Prelude.{◌≡◌, ◌∷◌, [], false, Ok, Some, OnOk, OnErr};
+ghost use Rattle.std.specs.Prelude.{◌≡◌, false, Ok, Some, IfOk, OnOk, OnErr};
 ghost use Rattle.std.specs.Option.{option_copied};
 ghost use Rattle.ready_deques.specs.Hands.{SameWorker};
 ghost use Rattle.dep_iter.specs.Items.{item_flow};
@@ -9,44 +9,51 @@ ghost use Rattle.flow_meaning.specs.Machine.{sender};
 ghost use Rattle.flow_meaning.specs.Sound.{with_its_tile};
 ghost use Rattle.task_run.specs.Bench.{HoldsOutputs};
 ghost use Rattle.work_board.specs.Records.{IsStill};
-ghost use Rattle.work_board.specs.Sends.{AddsSend, IsNext, MayEnd};
-ghost use Rattle.worker_core.specs.Sending.{HasSentAll, HasSentSome, RunsUnsent};
+ghost use Rattle.work_board.specs.Sends.{IsNext, MayEnd, shard_of_item};
+ghost use Rattle.worker_core.specs.Sending.{GoesToTask, HasSentSome, RunsUnsent, SentOrStill};
 
-use crate::post::Post;
+use crate::outbox::Outbox;
 use crate::sleeping::wake_one;
-use crossbeam_utils::Backoff;
+use crate::waiting::{WaitingItem, make_room, send_waiting};
 use dep_iter::TaskAt;
-use ptg_base::{Item, OutOfMemory, Tile};
+use ptg_base::{Item, MOST_LOCALS, OutOfMemory, Tile};
+use range_space::Numbers;
 use ready_deques::Hands;
 use std::sync::Wait;
 use std::thread::Threads;
 use task_run::Bench;
 use work_board::{Board, Sent};
 
-// Sends an item, and waits for its turn as long as that takes. Returns whether it was an edge that fired its target.
-fn send_one<R: Threads + Wait + Sync, B: Board, G>(
-    post: &Post<R, B, G>,
-    pass: &mut B::Pass,
+// What the sends of a task share: the runtime to wait with, the board, the bench with the task's outputs, the task and
+// the number of its shard.
+#[derive(Drop)]
+pub(crate) struct SendContext<'a, R, B> {
+    pub(crate) rt: &'a R,
+    pub(crate) board: &'a B,
+    pub(crate) bench: &'a Bench,
+    pub(crate) at: &'a TaskAt<'a>,
+    pub(crate) shard: u32,
+}
+
+// The number of the shard that handles an item of the task: for an edge that of its target, for a write-back that of
+// the task. The target's locals replace what `locals` holds, unless they are borrowed from the target.
+fn shard_for<R, B: Board>(
+    context: &SendContext<R, B>,
     item: &Item,
-    tile: Option<&Tile>,
-) -> Result<bool, OutOfMemory>
-    requires pass { B.is_pass post.now.board.now pass.old }
-    requires item { IsNext (B.plan post.now.board.now) (B.job_data post.now.board.now) item.now (option_copied tile)
-        (B.shown pass.old) }
-    ensures pass { B.is_pass post.now.board.now pass.new }
-    ensures sent { OnOk result (AddsSend item.now (option_copied tile.entry) (B.shown pass.old) (B.shown pass.new)) }
-    ensures still { OnErr result (IsStill (B.shown pass.old) (B.shown pass.new)) }
-    ensures err { OnErr result (B.preloaded post.now.board.now ≡ false) }
+    locals: &mut Numbers<MOST_LOCALS>,
+) -> u32
+    requires plan { context.now.at.now.plan.now ≡ B.plan context.now.board.now }
+    requires shard { context.now.shard ≡ B.placement context.now.board.now (sender item.now) }
+    requires target { GoesToTask (B.plan context.now.board.now) item.now }
+    ensures { result ≡ shard_of_item (B.placement context.now.board.now) item.now }
 {
-    let backoff = Backoff::new();
-    for _ in post.rt.forever() {
-        match post.board.try_send(pass, item, tile)? {
-            Sent::Fired => return Ok(true),
-            Sent::Waits | Sent::Kept => return Ok(false),
-            Sent::Busy => backoff.snooze(),
+    match item {
+        Item::Edge(edge) => {
+            let target = TaskAt::of(context.at.plan, &edge.to, locals);
+            context.board.shard_of(&target)
         }
+        Item::Write(_) => context.shard,
     }
-    unreachable!()
 }
 
 // Pushes the target of an edge that fired. An id that does not fit is dropped. If the worker kept an id already, it
@@ -73,58 +80,72 @@ fn tile_for<'a>(bench: &'a Bench, item: &Item) -> Option<&'a Tile>
     }
 }
 
-// Sends an item of the task on the bench. A target that fires becomes the worker's newest id; a scan finds one that
-// does not fit.
-fn send_item<R: Threads + Wait + Sync, B: Board, G>(
-    post: &Post<R, B, G>,
+// Tries once to send an item of the task on the bench, which this shard handles. Returns whether it was sent: false if
+// the shard's turn is taken. A target that fires becomes the worker's newest id; a scan finds one that does not fit.
+pub(crate) fn try_item<R, B: Board>(
+    context: &SendContext<R, B>,
     pass: &mut B::Pass,
     hands: &mut Hands,
-    bench: &Bench,
+    shard: u32,
     item: &Item,
-) -> Result<(), OutOfMemory>
-    requires pass { B.is_pass post.now.board.now pass.old }
-    requires tiles { HoldsOutputs (B.plan post.now.board.now) (B.job_data post.now.board.now) (sender item.now)
-        bench.now }
-    requires next { IsNext (B.plan post.now.board.now) (B.job_data post.now.board.now) item.now
-        (with_its_tile (B.plan post.now.board.now) (B.job_data post.now.board.now) item.now).tile
+) -> Result<bool, OutOfMemory>
+    requires pass { B.is_pass context.now.board.now pass.old }
+    requires tiles { HoldsOutputs (B.plan context.now.board.now) (B.job_data context.now.board.now) (sender item.now)
+        context.now.bench.now }
+    requires next { IsNext (B.plan context.now.board.now) (B.job_data context.now.board.now) item.now
+        (with_its_tile (B.plan context.now.board.now) (B.job_data context.now.board.now) item.now).tile
         (B.shown pass.old) }
-    ensures pass { B.is_pass post.now.board.now pass.new }
+    requires shard { shard ≡ shard_of_item (B.placement context.now.board.now) item.now }
+    ensures pass { B.is_pass context.now.board.now pass.new }
     ensures hands { SameWorker hands.old hands.new }
-    ensures sent { OnOk result
-        (HasSentAll (B.plan post.now.board.now) (B.job_data post.now.board.now) (item.now ∷ []) (B.shown pass.old)
+    ensures sent { IfOk result (λ went.
+        SentOrStill (B.plan context.now.board.now) (B.job_data context.now.board.now) went item.now (B.shown pass.old)
         (B.shown pass.new)) }
     ensures still { OnErr result (IsStill (B.shown pass.old) (B.shown pass.new)) }
-    ensures err { OnErr result (B.preloaded post.now.board.now ≡ false) }
+    ensures err { OnErr result (B.preloaded context.now.board.now ≡ false) }
 {
-    let tile = tile_for(bench, item);
-    if send_one(post, pass, item, tile)? {
-        push_target(post.board, hands, item);
+    let tile = tile_for(context.bench, item);
+    match context.board.try_send(pass, shard, item, tile)? {
+        Sent::Fired => {
+            push_target(context.board, hands, item);
+            Ok(true)
+        }
+        Sent::Waits | Sent::Kept => Ok(true),
+        Sent::Busy => Ok(false),
     }
-    Ok(())
 }
 
-// Sends all items of a task, each once: its edges before its write-backs.
-pub(crate) fn send_all<R: Threads + Wait + Sync, B: Board, G>(
-    post: &Post<R, B, G>,
+// Sends all items of a task, each once. An item whose shard's turn is taken waits while others are tried.
+pub(crate) fn send_all<R: Threads + Wait + Sync, B: Board>(
+    context: &SendContext<R, B>,
     pass: &mut B::Pass,
     hands: &mut Hands,
-    bench: &Bench,
-    at: &TaskAt,
+    outbox: &mut Outbox,
 ) -> Result<(), OutOfMemory>
-    requires pass { B.is_pass post.now.board.now pass.old }
-    requires plan { at.now.plan.now ≡ B.plan post.now.board.now }
-    requires tiles { HoldsOutputs (B.plan post.now.board.now) (B.job_data post.now.board.now) at.now.task.now
-        bench.now }
-    requires unsent { RunsUnsent (B.plan post.now.board.now) at.now.task.now (B.shown pass.old) }
-    ensures pass { B.is_pass post.now.board.now pass.new }
+    requires pass { B.is_pass context.now.board.now pass.old }
+    requires plan { context.now.at.now.plan.now ≡ B.plan context.now.board.now }
+    requires shard { context.now.shard ≡ B.placement context.now.board.now context.now.at.now.task.now }
+    requires tiles { HoldsOutputs (B.plan context.now.board.now) (B.job_data context.now.board.now)
+        context.now.at.now.task.now context.now.bench.now }
+    requires unsent { RunsUnsent (B.plan context.now.board.now) context.now.at.now.task.now (B.shown pass.old) }
+    ensures pass { B.is_pass context.now.board.now pass.new }
     ensures hands { SameWorker hands.old hands.new }
     ensures sent { OnOk result
-        (MayEnd (B.plan post.now.board.now) (B.job_data post.now.board.now) at.now.task.now (B.shown pass.new)) }
+        (MayEnd (B.plan context.now.board.now) (B.job_data context.now.board.now) context.now.at.now.task.now
+        (B.shown pass.new)) }
     ensures some { HasSentSome (B.shown pass.old) (B.shown pass.new) }
-    ensures err { OnErr result (B.preloaded post.now.board.now ≡ false) }
+    ensures err { OnErr result (B.preloaded context.now.board.now ≡ false) }
 {
-    for item in at.items() {
-        send_item(post, pass, hands, bench, &item)?;
+    // After a send that was out of memory, items of another task may be left.
+    outbox.waiting.clear();
+    for item in context.at.items() {
+        let shard = shard_for(context, &item, &mut outbox.locals);
+        if try_item(context, pass, hands, shard, &item)? {
+            continue;
+        }
+        make_room(context, pass, hands, &mut outbox.waiting)?;
+        outbox.waiting.push(WaitingItem { item, shard });
     }
+    send_waiting(context, pass, hands, &mut outbox.waiting)?;
     Ok(())
 }

@@ -22,8 +22,8 @@ fn look_at_all<R: Threads + Wait + Sync, B: Board, G>(
     requires pass { B.is_pass post.now.board.now pass.old }
     requires idle { (B.shown pass.old).running ≡ [] }
     ensures pass { B.is_pass post.now.board.now pass.new }
-    ensures looked { SearchAnswers (B.plan post.now.board.now) (B.job_data post.now.board.now) result found.new
-        (B.shown pass.old) (B.shown pass.new) }
+    ensures looked { SearchAnswers (B.plan post.now.board.now) (B.job_data post.now.board.now)
+        (B.placement post.now.board.now) result found.new (B.shown pass.old) (B.shown pass.new) }
 {
     match scan_all(post, pass, calm, found) {
         Search::Task => Search::Task,
@@ -43,8 +43,8 @@ pub(crate) fn sleep<R: Threads + Wait + Sync, B: Board, G>(
     requires pass { B.is_pass post.now.board.now pass.old }
     requires idle { (B.shown pass.old).running ≡ [] }
     ensures pass { B.is_pass post.now.board.now pass.new }
-    ensures looked { SearchAnswers (B.plan post.now.board.now) (B.job_data post.now.board.now) result found.new
-        (B.shown pass.old) (B.shown pass.new) }
+    ensures looked { SearchAnswers (B.plan post.now.board.now) (B.job_data post.now.board.now)
+        (B.placement post.now.board.now) result found.new (B.shown pass.old) (B.shown pass.new) }
 {
     let announced = events.prepare_wait();
     if post.board.halted(pass) {

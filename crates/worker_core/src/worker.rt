@@ -12,6 +12,7 @@ use crate::claiming::Found;
 use crate::gate::Gate;
 use crate::log::{Log, NoLog};
 use crate::next::next_task;
+use crate::outbox::Outbox;
 use crate::post::Post;
 use crate::running::run_found;
 use crate::scans::Scans;
@@ -44,8 +45,8 @@ fn claim_next<R: Threads + Wait + Sync, B: Board, G, L: Log>(
     ensures pass { B.is_pass post.now.board.now pass.new }
     ensures hands { SameWorker hands.old hands.new }
     ensures found { IfOk result (λ got.
-        GotLoggedOrQuiet (B.plan post.now.board.now) (B.job_data post.now.board.now) L.keeps got found.new
-        (B.shown pass.old) (B.shown pass.new) (L.entries log.old) (L.entries log.new)) }
+        GotLoggedOrQuiet (B.plan post.now.board.now) (B.job_data post.now.board.now) (B.placement post.now.board.now)
+        L.keeps got found.new (B.shown pass.old) (B.shown pass.new) (L.entries log.old) (L.entries log.new)) }
     ensures still { OnErr result
         (IsStill (B.shown pass.old) (B.shown pass.new) × (L.entries log.new ≡ L.entries log.old)) }
     ensures err { OnErr result (B.preloaded post.now.board.now ≡ false) }
@@ -83,10 +84,11 @@ fn run_all<R: Threads + Wait + Sync, B: Board, G: Gate, L: Log>(
 {
     let mut scans = Scans::new(post.worker);
     let mut found = Found::new();
+    let mut outbox = Outbox::new();
     for ran in 0..u64::MAX {
         let got = claim_next(post, pass, hands, log, &mut scans, &mut found)?;
         if got {
-            run_found(post, pass, hands, bench, &mut found)?;
+            run_found(post, pass, hands, bench, &mut found, &mut outbox)?;
         } else {
             return Ok(Worked { ran });
         }

@@ -18,7 +18,7 @@ pub returns-clause-found : goal.returns-clause-found
 returns-clause-found t c =
     let d = c.args.direction in
     let env = c.args.env.now in
-    let q = c.enter.result in
+    let q = c.enter.new.p in
     let new = c.next_target.new.p in
     let same = entered d env c.args.p.now q c.in_ok-flow.flow.now c.in_ok-flow.others.now c.in_default.ensures.found
     c.in_ok-flow.ensures.cases.0 c.enter.ensures.flow c.enter.ensures.next c.enter.ensures.flows

@@ -1,15 +1,12 @@
-use Rattle.std.proofs.Common.{◌≡◌, ◌≤◌}
-use Rattle.std.specs.BinaryHeap.{IsHeap, heap_items, heap_len, heap_capacity}
+use Rattle.std.specs.BinaryHeap.{IsHeap, heap_items, heap_len}
 use Rattle.dep_shard.specs.Queue.{HasEveryReady, order}
 use Rattle.dep_shard.proofs.queue.drop_stale.Given as goal
 
 abbrev pub invariant-loop-first : goal.invariant-loop-first
 invariant-loop-first l = record {
-  heap : IsHeap order (heap_items l.queue);
-  ready : HasEveryReady l.table.entries (heap_items l.queue);
-  len : heap_len l.queue ≤ heap_len l.initial.queue;
-  capacity : heap_capacity l.queue ≡ heap_capacity l.initial.queue;
+  heap : IsHeap order (heap_items l.heap);
+  ready : HasEveryReady l.table.entries (heap_items l.heap);
 }
 
 abbrev pub decreases-loop-first : goal.decreases-loop-first
-decreases-loop-first l = heap_len l.queue
+decreases-loop-first l = heap_len l.heap

@@ -41,6 +41,7 @@ loop-t-preserved c =
       then = λ u h. c.loop-t.invariant.then u (
           subst (WentOver P s u) (sym c.in-Some.ensures.steps)
           (went_then P s c.accept_next.new.tally u (c.in-Some.t ∷ []) c.next.new.self walk h));
+      same_plan = c.follow-form.ensures.plan ∙ c.loop-t.invariant.same_plan;
       roots = omega arith;
     }
 

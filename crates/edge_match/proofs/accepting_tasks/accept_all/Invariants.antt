@@ -12,5 +12,6 @@ invariant-loop-t l = record {
   is_finite : (goal.iterator-loop-t).is_finite l.t-iterator;
   among : (x : Task) → IsIn x l.t-iterator → IsIn x l.initial.t-iterator;
   then : (u : Tally) → WentOver l.plan l.tally u l.t-iterator → WentOver l.plan l.initial.tally u l.initial.t-iterator;
+  same_plan : l.form.plan.now ≡ l.plan;
   roots : l.count + root_total l.plan l.t-iterator ≡ root_total l.plan l.initial.t-iterator;
 }

@@ -1,6 +1,5 @@
-use Rattle.std.proofs.Common.{◌≡◌, ◌↔◌, IsTrue, ℕ, Some, sym, ◌∙◌, ap, subst}
+use Rattle.std.proofs.Common.{◌≡◌, Some, sym, ◌∙◌, ap}
 use Rattle.std.proofs.lemmas.Bool.{OnTrue_at, OnTrue_from, false≢true}
-use Rattle.ptg_base.specs.Lists.{IsIn}
 use Rattle.plan_core.specs.Kinds.{is_data, kind_of}
 use Rattle.dep_iter.specs.Edges.{in_edges_before}
 use Rattle.edge_match.proofs.TakenEdges.{kind_of-here, taken_one}
@@ -15,9 +14,8 @@ returns c =
     let e = c.args.edge.now in
     let before = in_edges_before P t at.number c.args.k in
     let here : kind_of P.classes e.to.class e.in_flow ≡ Some at.flow.now.kind = rw (c.requires.task, c.requires.flow) (kind_of-here P t at.number at.flow.now at.here) in
-    let found = subst (λ (n : ℕ). IsTrue c.has_edge_before.result ↔ IsIn e (in_edges_before P t n c.args.k)) c.requires.flow (c.has_edge_before.ensures P t at.task.now.are_locals (c.requires.task, rw c.requires.flow at.here)) in
     OnTrue_from _ _ (λ h. taken_one P before c.args.ins.now c.add.new.self e (is_data (Some at.flow.now.kind))
-    (c.has_other_end.ensures.0 c.if-not-has_other_end.false)
-    (λ k. false≢true (sym c.if-has_edge_before.false ∙ found.1 k))
+    c.if-not-is_sent.ensures
+    (λ k. false≢true (sym c.if-is_repeated.false ∙ c.is_repeated.ensures.1 k))
     (ap is_data here)
     (OnTrue_at h c.add.ensures.edges) (OnTrue_at h (rw c.is_data.ensures at c.add.ensures.data_edges)))

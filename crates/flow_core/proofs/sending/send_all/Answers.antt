@@ -1,6 +1,6 @@
 use Rattle.std.proofs.Common.{[], ◌∷◌, ap, ◌∙◌, subst}
 use Rattle.plan_core.specs.declared.plan.Plan.{Plan}
-use Rattle.dep_iter.specs.Items.{edges_then_writes}
+use Rattle.dep_iter.specs.Items.{items}
 use Rattle.flow_core.specs.OneThread.{HasDone}
 use Rattle.flow_core.proofs.OneThread.{IsSoFar, all_done, item_output, nothing_yet, one_more}
 use Rattle.flow_core.proofs.sending.send_all.Goals as goal
@@ -22,7 +22,7 @@ send_item-requires c =
     let r = c.args.runner.now.run in
     let s = c.loop-item.runner.run in
     let is = c.into_iter-item-iterator.ensures.into_iter_gives ∙ c.items-item-items.ensures
-    ∙ ap (λ (p : Plan). edges_then_writes p t) c.requires.plan in
+    ∙ ap (λ (p : Plan). items p t) c.requires.plan in
     let so_far = subst (λ l. IsSoFar P [] [] all l r s) c.in-Some.ensures.steps c.loop-item.invariant.so_far in
     record {
       output = item_output P t r s c.requires.outputs all c.next.new.self c.in-Some.item is so_far;
@@ -55,6 +55,6 @@ returns-clause-done c =
     let r = c.args.runner.now.run in
     let s = c.loop-item.runner.run in
     let is = c.into_iter-item-iterator.ensures.into_iter_gives ∙ c.items-item-items.ensures
-    ∙ ap (λ (p : Plan). edges_then_writes p c.args.at.now.task.now) c.requires.plan in
+    ∙ ap (λ (p : Plan). items p c.args.at.now.task.now) c.requires.plan in
     let so_far = subst (λ l. IsSoFar P [] [] all l r s) c.in-None.ensures.steps.0 c.loop-item.invariant.so_far in
     subst (λ l. HasDone P [] l r s) is (all_done P [] all r s so_far)

@@ -1,17 +1,8 @@
-use Rattle.std.proofs.Common.{◌≡◌, List, [], ◌∷◌, map, refl, ap, ◌∙◌, slice_get, Some, None}
+use Rattle.std.proofs.Common.{List, map, ap, ◌∙◌, slice_get}
 use Rattle.dep_iter.specs.declared.link.Link.{Link}
 use Rattle.dep_iter.specs.Links.{edge_of_link, link}
+use Rattle.dep_iter.proofs.Sending.{first_none, first_some}
 use Rattle.dep_iter.proofs.links.TargetLinks.first.Goals as goal
-
--- the first of the mapped items is the mapped first item
-first_some : {A B : Type 0} (h : A → B) (xs : List A) (x : A) → Some x ≡ slice_get xs 0
-    → Some (h x) ≡ slice_get (map h xs) 0
-first_some h [] x e = absurd cc
-first_some h (y ∷ ys) x e = let same : x ≡ y = cc in ap (λ z. Some (h z)) same
-
-first_none : {A B : Type 0} (h : A → B) (xs : List A) → None ≡ slice_get xs 0 → None ≡ slice_get (map h xs) 0
-first_none h [] e = refl
-first_none h (y ∷ ys) e = absurd cc
 
 pub returns-in-Some : goal.returns-in-Some
 returns-in-Some c =

@@ -1,11 +1,9 @@
-use Rattle.std.proofs.Common.{rules, arith, refl, ◌≡◌, ◌<◌, subst, ap, ◌∙◌, Some, slice_get, slice_index}
-use Rattle.std.specs.BinaryHeap.{heap_items}
+use Rattle.std.proofs.Common.{rules, arith, refl, ◌≡◌, ◌<◌, subst, ap, ◌∙◌, Some, slice_get}
 use Rattle.ptg_base.specs.Entry.{Entry}
 use Rattle.indexmap.specs.IndexMap.{set_value_at}
 use Rattle.dep_shard.specs.Content.{Content, IsReady, IsWaiting}
 use Rattle.dep_shard.proofs.QueueLemmas.{arrives_at, lands, fires, one_row, some_wait, updates_at}
 use Rattle.dep_shard.proofs.shard.Shard.land.Goals as goal
-use Rattle.list_lemmas.proofs.Options.{on_success}
 
 pub invariant_of-self : goal.invariant_of-self
 invariant_of-self c =
@@ -17,7 +15,7 @@ invariant_of-self c =
     let asked : slice_get es c.args.index ≡ Some (c.requires.waits.task, c.requires.waits.entry) = ap (λ (y : Content). slice_get y.entries c.args.index) c.self.view_is ∙ c.requires.waits.at in
     let waits : IsWaiting e = subst IsWaiting ((one_row es c.args.index _ _ _ _ asked at).1) c.requires.waits.waits in
     let up = updates_at es c.args.index t e f c.pair_mut-entry.ensures.distinct at in
-    lands es (set_value_at es c.args.index f) c.args.index t e f (heap_items c.self.inside.queue) _ _ _ c.self.invariant at refl up waits (omega (arith, c.if-arrived-goal.true, c.arrived.ensures, c.goal.ensures))
+    lands es (set_value_at es c.args.index f) c.args.index t e f c.self.inside.queue _ c.self.invariant at refl up waits (omega (arith, c.if-arrived-goal.true, c.arrived.ensures, c.goal.ensures))
 
 pub returns-then-arrived-goal-clause-entries : goal.returns-then-arrived-goal-clause-entries
 returns-then-arrived-goal-clause-entries c =
@@ -41,14 +39,7 @@ pub overflow_sub-self : goal.overflow_sub-self
 overflow_sub-self c =
     let es = c.self.inside.table.entries in
     let asked : slice_get es c.args.index ≡ Some (c.requires.waits.task, c.requires.waits.entry) = ap (λ (y : Content). slice_get y.entries c.args.index) c.self.view_is ∙ c.requires.waits.at in
-    some_wait es c.args.index c.requires.waits.task c.requires.waits.entry (heap_items c.self.inside.queue) _ _ _ c.self.invariant asked c.requires.waits.waits
-
-pub unwrap-requires : goal.unwrap-requires
-unwrap-requires c =
-    let es = c.self.inside.table.entries in
-    let asked : slice_get es c.args.index ≡ Some (c.requires.waits.task, c.requires.waits.entry) = ap (λ (y : Content). slice_get y.entries c.args.index) c.self.view_is ∙ c.requires.waits.at in
-    let positive : 0 < c.self.inside.waiting = some_wait es c.args.index c.requires.waits.task c.requires.waits.entry (heap_items c.self.inside.queue) _ _ _ c.self.invariant asked c.requires.waits.waits in
-    c.push.ensures.succeeds (omega (arith, positive, c.self.invariant.room))
+    some_wait es c.args.index c.requires.waits.task c.requires.waits.entry c.self.inside.queue _ c.self.invariant asked c.requires.waits.waits
 
 pub invariant_of-self-2 : goal.invariant_of-self-2
 invariant_of-self-2 c =
@@ -58,22 +49,9 @@ invariant_of-self-2 c =
     let f : Entry = c.add.new.self in
     let at : slice_get es c.args.index ≡ Some (t, e) = c.pair_mut-entry.ensures.value in
     let asked : slice_get es c.args.index ≡ Some (c.requires.waits.task, c.requires.waits.entry) = ap (λ (y : Content). slice_get y.entries c.args.index) c.self.view_is ∙ c.requires.waits.at in
-    let positive : 0 < c.self.inside.waiting = some_wait es c.args.index c.requires.waits.task c.requires.waits.entry (heap_items c.self.inside.queue) _ _ _ c.self.invariant asked c.requires.waits.waits in
+    let positive : 0 < c.self.inside.waiting = some_wait es c.args.index c.requires.waits.task c.requires.waits.entry c.self.inside.queue _ c.self.invariant asked c.requires.waits.waits in
     let waits : IsWaiting e = subst IsWaiting ((one_row es c.args.index _ _ _ _ asked at).1) c.requires.waits.waits in
     let up = updates_at es c.args.index t e f c.pair_mut-entry.ensures.distinct at in
     let ready : IsReady f = omega (arith, ap (λ (x : Entry). x.arrived) c.add.ensures, ap (λ (x : Entry). x.goal) c.add.ensures, waits, c.if-arrived-goal.false, c.arrived.ensures, c.goal.ensures) in
-    fires es (set_value_at es c.args.index f) c.args.index t e f _ (heap_items c.self.inside.queue) (heap_items c.push.new.self) _ _ _ _ _ _
-    c.self.invariant at refl up waits ready (on_success _ _ c.unwrap.ensures c.push.ensures.permutation) (on_success _ _ c.unwrap.ensures c.push.ensures.heap_order)
-    (search rules) c.copy.ensures (omega (arith, positive)) (omega (arith, positive, on_success _ _ c.unwrap.ensures c.push.ensures.len, c.self.invariant.room))
-
-pub returns-clause-spare : goal.returns-clause-spare
-returns-clause-spare c =
-    let es = c.self.inside.table.entries in
-    let asked : slice_get es c.args.index ≡ Some (c.requires.waits.task, c.requires.waits.entry) = ap (λ (y : Content). slice_get y.entries c.args.index) c.self.view_is ∙ c.requires.waits.at in
-    let positive : 0 < c.self.inside.waiting = some_wait es c.args.index c.requires.waits.task c.requires.waits.entry (heap_items c.self.inside.queue) _ _ _ c.self.invariant asked c.requires.waits.waits in
-    record {
-      entries = omega (arith, positive, on_success _ _ c.unwrap.ensures c.push.ensures.len, c.self.invariant.room, ap (λ (y : Content). y.spare.entries) c.self.view_is);
-      tiles = λ k. omega (arith, ap (λ (y : Content). slice_index y.spare.tiles k) c.self.view_is);
-      writes = omega (arith, ap (λ (y : Content). y.spare.writes) c.self.view_is);
-      traps = omega (arith, ap (λ (y : Content). y.spare.traps) c.self.view_is);
-    }
+    fires es (set_value_at es c.args.index f) c.args.index t e f c.self.inside.queue c.add-2.new.self _ _
+    c.self.invariant at refl up waits ready (search rules) (omega (arith, positive))

@@ -1,7 +1,6 @@
 use Rattle.std.proofs.Common.{rules, ◌≡◌, sym, subst, ap, Some, None, ◌∙◌, slice_get}
 use Rattle.ptg_base.specs.Entry.{Entry}
 use Rattle.ptg_base.specs.Task.{Task}
-use Rattle.std.specs.BinaryHeap.{heap_items}
 use Rattle.dep_shard.specs.Content.{Content, Entries, IsReady, Updates}
 use Rattle.dep_shard.proofs.QueueLemmas.{leaves, one_row}
 use Rattle.dep_shard.proofs.shard.Shard.take_at.Goals as goal
@@ -14,7 +13,7 @@ invariant_of-self-2 c =
     let at : slice_get es c.args.index ≡ Some (t, e) = sym c.in_ok-_task.ensures.entry in
     let asked : slice_get es c.args.index ≡ Some (c.requires.ready.task, c.requires.ready.entry) = ap (λ (y : Content). slice_get y.entries c.args.index) c.self.view_is ∙ c.requires.ready.at in
     let ready : IsReady e = subst IsReady ((one_row es c.args.index _ _ _ _ asked at).1) c.requires.ready.ready in
-    leaves es c.swap_remove_index.new.self.entries c.args.index t e (heap_items c.self.inside.queue) _ _ _
+    leaves es c.swap_remove_index.new.self.entries c.args.index t e c.self.inside.queue _
     c.self.invariant at c.in_ok-_task.ensures.entries c.in_ok-_task.ensures.updates ready
 
 pub returns-clause-some : goal.returns-clause-some
