@@ -18,7 +18,8 @@ run-then (stmt.For n lo hi turn) rest at = refl
 run-then (stmt.Trap w) rest at = refl
 
 -- the same for a statement within a list
-pub run-drop : (ss : List Stmt) (k : ℕ) (s : Stmt) → k < length ss → s ≡ get_or ss k s → (at : State) → run (statement_list (drop k ss)) at ≡ first_then (statement_meaning s) (run (statement_list (drop (k + 1) ss))) at
+pub run-drop : (ss : List Stmt) (k : ℕ) (s : Stmt) → k < length ss → s ≡ get_or ss k s → (at : State)
+    → run (statement_list (drop k ss)) at ≡ first_then (statement_meaning s) (run (statement_list (drop (k + 1) ss))) at
 run-drop ss k s below is at =
     ap (λ xs. run (statement_list xs) at) (drop_more ss k s below ∙ ap (λ x. x ∷ drop (k + 1) ss) (sym is)) ∙ run-then s (statement_list (drop (k + 1) ss)) at
 

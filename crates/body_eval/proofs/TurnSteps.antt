@@ -11,7 +11,8 @@ module _ (block : State → Result State Trap) (n : ℕ) (values : List ℤ) (r 
   pub turns-end : (s : State) → values ≡ [] → turns block n values s ≡ r → r ≡ Ok s
   turns-end s none h = sym h ∙ ap (λ vs. turns block n vs s) none
 
-  module _ (v : ℤ) (more : List ℤ) (slots : List ℤ) (tiles : List (Option (List ℤ))) (units : ℕ) (one : values ≡ v ∷ more) (h : turns block n values (state_with slots tiles units) ≡ r) where
+  module _ (v : ℤ) (more : List ℤ) (slots : List ℤ) (tiles : List (Option (List ℤ))) (units : ℕ)
+      (one : values ≡ v ∷ more) (h : turns block n values (state_with slots tiles units) ≡ r) where
     starts : r ≡ turns block n (v ∷ more) (state_with slots tiles units)
     starts = sym h ∙ ap (λ vs. turns block n vs (state_with slots tiles units)) one
 

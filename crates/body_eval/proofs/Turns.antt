@@ -1,5 +1,6 @@
 -- How the values of a loop continue from one to the next.
-use Rattle.std.proofs.Common.{◌≡◌, ℕ, suc, ℤ, pos, ◌+ℤ◌, ◌-ℤ◌, unsigned_abs, int_lt, true, false, List, [], ◌∷◌, refl, ap, sym, ◌∙◌, Option, Some, None, SomeIff, FitsSigned, w64, arith}
+use Rattle.std.proofs.Common.{◌≡◌, ℕ, suc, ℤ, pos, ◌+ℤ◌, ◌-ℤ◌, unsigned_abs, int_lt, true, false, List, [], ◌∷◌, refl}
+use Rattle.std.proofs.Common.{ap, sym, ◌∙◌, Option, Some, None, SomeIff, FitsSigned, w64, arith}
 use Rattle.std.proofs.lemmas.Int.{ints}
 use Rattle.body_eval.specs.Meaning.{upwards, turn_values}
 use Rattle.list_lemmas.proofs.Truth.{by_test}
@@ -38,7 +39,8 @@ fits_up : (v hi : ℤ) → FitsSigned w64 v → FitsSigned w64 hi → int_lt hi 
 fits_up v hi f g h k = grind (arith, ints)
 
 -- the next value, checked to fit 64 bits: one that does not fit is past hi
-pub values_checked : (v hi : ℤ) (next : Option ℤ) → FitsSigned w64 v → FitsSigned w64 hi → int_lt hi v ≡ false → SomeIff next (FitsSigned w64 (v +ℤ pos 1)) (v +ℤ pos 1) → turn_values v hi ≡ v ∷ values_left next hi
+pub values_checked : (v hi : ℤ) (next : Option ℤ) → FitsSigned w64 v → FitsSigned w64 hi → int_lt hi v ≡ false
+    → SomeIff next (FitsSigned w64 (v +ℤ pos 1)) (v +ℤ pos 1) → turn_values v hi ≡ v ∷ values_left next hi
 values_checked v hi (Some z) f g h k = values_next v hi h ∙ ap (λ w. v ∷ turn_values w hi) (sym k.1)
 values_checked v hi None f g h k =
     values_next v hi h ∙ ap (λ vs. v ∷ vs) (values_past (v +ℤ pos 1) hi (by_test (int_lt hi (v +ℤ pos 1)) (λ t. t) (λ t. absurd (k (fits_up v hi f g h t)))))

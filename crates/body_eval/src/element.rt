@@ -27,6 +27,7 @@ impl ReadElement for Tiles<'_> {
         Trap::from(fault)
     }
 
+    #[inline(always)]
     fn element(&self, flow: u8, at: i64) -> Result<i64, Trap>
         ensures { result ≡ element_value self.now.tiles.now flow at }
     {
@@ -45,6 +46,7 @@ impl ReadElement for Tiles<'_> {
 }
 
 /// Returns the value of an expression of a body, or the trap of its evaluation.
+#[inline(always)]
 pub(crate) fn value(e: &Expr, slots: &[i64], tiles: &[Option<Tile>]) -> Result<i64, Trap>
     ensures { result ≡ body_value slots.now tiles.now e.now }
 {
@@ -53,6 +55,7 @@ pub(crate) fn value(e: &Expr, slots: &[i64], tiles: &[Option<Tile>]) -> Result<i
 
 /// Writes a value to the element of the flow's tile at the index; traps if the flow is absent or the index is not in
 /// the tile.
+#[inline(always)]
 pub(crate) fn put(tiles: &mut [Option<Tile>], flow: u8, at: i64, v: i64) -> Result<(), Trap>
     ensures ok { OnOk result (put_element tiles.old flow at v ≡ Ok tiles.new) }
     ensures trap { IfErr result (λ cause. put_element tiles.old flow at v ≡ Err cause) }

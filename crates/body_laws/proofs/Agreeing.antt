@@ -1,5 +1,6 @@
 -- Judged by its tokens, the names of a whole body have the fault of its tree: statements.
-use Rattle.std.proofs.Common.{◌≡◌, ℕ, ◌+◌, ◌-◌, ◌<◌, ◌≤◌, Bool, true, false, List, [], ◌∷◌, ◌++◌, length, take, Ok, Err, refl, sym, ap, ◌∙◌, subst, append_assoc, arith}
+use Rattle.std.proofs.Common.{◌≡◌, ℕ, ◌+◌, ◌-◌, ◌<◌, ◌≤◌, Bool, true, false, List, [], ◌∷◌, ◌++◌, length, take, Ok, Err}
+use Rattle.std.proofs.Common.{refl, sym, ap, ◌∙◌, subst, append_assoc, arith}
 use Rattle.std.specs.Prelude.{Option, Some, None, slice_get}
 use Rattle.std.proofs.lemmas.List.{length-append, take_at}
 use Rattle.std.proofs.lemmas.Bool.{lt-ltb}
@@ -30,7 +31,9 @@ use Rattle.body_laws.proofs.Along.{along, along_append, after_after, after_same,
 use Rattle.body_laws.proofs.Alike.{Alike, names_append, fresh_alike, slot_alike, term_alike}
 use Rattle.body_laws.proofs.Declared as count
 use Rattle.body_laws.proofs.Judging.{NoIndex, no_index, Names, outer_judges}
-use Rattle.body_laws.proofs.Walking.{is_int, is_trap, silent_as, inside_as, silent, semicolon, begun, declared_name, trap_name, assigned_name, element_name, expression, Ready, Follows, first_step, known_step, walked}
+use Rattle.body_laws.proofs.Walking.{is_int, is_trap, silent_as, inside_as, silent, semicolon, begun, declared_name}
+use Rattle.body_laws.proofs.Walking.{trap_name, assigned_name, element_name, expression, Ready, Follows, first_step}
+use Rattle.body_laws.proofs.Walking.{known_step, walked}
 
 -- a fault alone is itself
 fault_again : (v : Resolved (Unit {0})) → fault_of v ≡ v
@@ -102,14 +105,19 @@ module _ (scope : Environment) where
           parts = mark.0.0 ∙ ap (λ (l : List Token). x ∷ l) (j.parts ∙ (ap (λ (l : List Token). j.word ++ l) stop.0.0 ∙ sym (append_assoc j.word (y ∷ []) r)));
           walks = λ st.
               silent scope x (j.word ++ y ∷ []) r st (silent_as terminal.Assign (terminal_of x) refl assign)
-              ∙ (expression scope h.1.0 inside.1.0 (y ∷ []) r (λ seen. fault_of (term_of scope seen inside.0.0.tree)) j stop.0.0 (with_previous (terminal_of x) st) (inside_as terminal.Assign (terminal_of x) refl assign)
-              ∙ after_same (fault_of (term_of scope st.bindings.seen inside.0.0.tree)) (λ _. along scope (with_previous j.ends (with_previous (terminal_of x) st)) (y ∷ []) r) (λ _. Ok (done st))
-              (λ _. semicolon scope y [] r (with_previous j.ends (with_previous (terminal_of x) st)) stop.0.1 ∙ ap (λ (m : TokenScan). Ok m) (done_after j.ends (terminal_of x) st)));
+              ∙ (expression scope h.1.0 inside.1.0 (y ∷ []) r (λ seen. fault_of (term_of scope seen inside.0.0.tree)) j
+              stop.0.0 (with_previous (terminal_of x) st) (inside_as terminal.Assign (terminal_of x) refl assign)
+              ∙ after_same (fault_of (term_of scope st.bindings.seen inside.0.0.tree))
+              (λ _. along scope (with_previous j.ends (with_previous (terminal_of x) st)) (y ∷ []) r)
+              (λ _. Ok (done st))
+              (λ _. semicolon scope y [] r (with_previous j.ends (with_previous (terminal_of x) st)) stop.0.1
+              ∙ ap (λ (m : TokenScan). Ok m) (done_after j.ends (terminal_of x) st)));
         })
 
     -- ---- declarations
 
-    pub declaration_walks : (s : List Token) (t : StmtTree) (o : Fault) (r : List Token) → Derives R declaration s t o r → Walks s r (count.declared t) (statement_of scope t)
+    pub declaration_walks : (s : List Token) (t : StmtTree) (o : Fault) (r : List Token) → Derives R declaration s t o r
+        → Walks s r (count.declared t) (statement_of scope t)
     unfolding declaration
     declaration_walks s t o r h =
         let whole = h.1.1 in
@@ -123,26 +131,35 @@ module _ (scope : Environment) where
         let e : ExprWithSpot = h.1.0.1.1 in
         let inside_is : h.1.0.1 ≡ h.0 = h.1.2 in
         let named_is : w ≡ h.1.0.1.0 = word.2 in
-        subst (λ (t : StmtTree). Walks s r (count.declared t) (statement_of scope t)) (ap (λ (n : Word). declare_of (n, e)) named_is ∙ (ap declare_of inside_is ∙ h.2))
+        subst (λ (t : StmtTree). Walks s r (count.declared t) (statement_of scope t))
+        (ap (λ (n : Word). declare_of (n, e)) named_is ∙ (ap declare_of inside_is ∙ h.2))
         (record {
           word = x ∷ (y ∷ v.word);
           parts = mark.0.0 ∙ ap (λ (l : List Token). x ∷ l) (word.1.0.0 ∙ ap (λ (l : List Token). y ∷ l) v.parts);
           follows = λ k st ready at_most.
               let st1 = with_previous (terminal_of x) st in
               let last_int : st1.previous ≡ Some terminal.Int = ap (λ (j : Terminal). Some j) (is_int (terminal_of x) mark.0.1) in
-              let along_is : along scope st (x ∷ (y ∷ v.word)) r ≡ and_then (require_fresh w st.bindings) (λ _. and_then (fault_of (term_of scope st.bindings.seen e.tree)) (λ _. Ok (done (begun scope y st1)))) =
+              let along_is : along scope st (x ∷ (y ∷ v.word)) r ≡ and_then (require_fresh w st.bindings)
+              (λ _. and_then (fault_of (term_of scope st.bindings.seen e.tree))
+              (λ _. Ok (done (begun scope y st1)))) =
               silent scope x (y ∷ v.word) r st (silent_as terminal.Int (terminal_of x) refl mark.0.1)
               ∙ (declared_name scope y v.word r st1 word.1.0.1 last_int
-              ∙ after_same (require_fresh w st.bindings) (λ _. along scope (begun scope y st1) v.word r) (λ _. and_then (fault_of (term_of scope st.bindings.seen e.tree)) (λ _. Ok (done (begun scope y st1)))) (λ _. v.walks (begun scope y st1))) in
+              ∙ after_same (require_fresh w st.bindings) (λ _. along scope (begun scope y st1) v.word r)
+              (λ _. and_then (fault_of (term_of scope st.bindings.seen e.tree))
+              (λ _. Ok (done (begun scope y st1)))) (λ _. v.walks (begun scope y st1))) in
               walked st.open_blocks (declare scope w e.tree k) _ _ along_is
               (known_step st.open_blocks (require_room w k) _ tt _ (room_is w k (omega (arith, at_most)))
-              (first_step st.open_blocks (require_fresh w k) _ (require_fresh w st.bindings) _ (fault_again (require_fresh w k) ∙ fresh_alike w k st.bindings ready.alike)
-              (λ _ _. first_step st.open_blocks (term_of scope k.seen e.tree) _ (fault_of (term_of scope st.bindings.seen e.tree)) _ (term_alike scope k.seen st.bindings.seen ready.alike.seen e.tree)
+              (first_step st.open_blocks (require_fresh w k) _ (require_fresh w st.bindings) _
+              (fault_again (require_fresh w k) ∙ fresh_alike w k st.bindings ready.alike)
+              (λ _ _. first_step st.open_blocks (term_of scope k.seen e.tree) _
+              (fault_of (term_of scope st.bindings.seen e.tree)) _
+              (term_alike scope k.seen st.bindings.seen ready.alike.seen e.tree)
               (λ z _. (
                 refl,
                 record {
                   alike = record {
-                    seen = names_append k.seen _ ∙ (ap (λ (l : List (List ℕ × Bool)). l ++ (y.text, false) ∷ []) ready.alike.seen ∙ sym (names_append st.bindings.seen _));
+                    seen = names_append k.seen _ ∙ (ap (λ (l : List (List ℕ × Bool)). l ++ (y.text, false) ∷ [])
+                        ready.alike.seen ∙ sym (names_append st.bindings.seen _));
                     outside = ready.alike.outside;
                   };
                   naming = refl;
@@ -153,7 +170,8 @@ module _ (scope : Environment) where
 
     -- ---- assignments
 
-    value_begins : (s : List Token) (t : ExprWithSpot) (o : Fault) (r : List Token) → Derives R value s t o r → (starts (is terminal.Assign) s ≡ true) × NoIndex s
+    value_begins : (s : List Token) (t : ExprWithSpot) (o : Fault) (r : List Token) → Derives R value s t o r
+        → (starts (is terminal.Assign) s ≡ true) × NoIndex s
     unfolding value
     value_begins s t o r h =
         let mark = h.1.3 in (
@@ -161,7 +179,8 @@ module _ (scope : Environment) where
           no_index (is terminal.Assign) s h.1.0 h.0.0 refl mark.0.0 mark.0.1,
         )
 
-    element_walks : (s : List Token) (t : ExprWithSpot) (o : Fault) (r : List Token) → Derives R element s t o r → Indexes s r t × (starts (is terminal.LeftBracket) s ≡ true)
+    element_walks : (s : List Token) (t : ExprWithSpot) (o : Fault) (r : List Token) → Derives R element s t o r
+        → Indexes s r t × (starts (is terminal.LeftBracket) s ≡ true)
     unfolding element
     element_walks s t o r h =
         let mark = h.1.3 in
@@ -176,13 +195,20 @@ module _ (scope : Environment) where
           subst (λ (t : ExprWithSpot). Indexes s r t) (same ∙ tree)
               (record {
                 word = x ∷ (j.word ++ y ∷ []);
-                parts = mark.0.0 ∙ ap (λ (l : List Token). x ∷ l) (j.parts ∙ (ap (λ (l : List Token). j.word ++ l) stop.0.0 ∙ sym (append_assoc j.word (y ∷ []) r)));
+                parts = mark.0.0 ∙ ap (λ (l : List Token). x ∷ l)
+                    (j.parts ∙ (ap (λ (l : List Token). j.word ++ l) stop.0.0 ∙ sym (append_assoc j.word (y ∷ []) r)));
                 ends = terminal_of y;
                 walks = λ st.
                     silent scope x (j.word ++ y ∷ []) r st (silent_as terminal.LeftBracket (terminal_of x) refl mark.0.1)
-                    ∙ (expression scope h.1.0 inside.1.0 (y ∷ []) r (λ seen. fault_of (term_of scope seen inside.0.0.tree)) j stop.0.0 (with_previous (terminal_of x) st) (inside_as terminal.LeftBracket (terminal_of x) refl mark.0.1)
-                    ∙ after_same (fault_of (term_of scope st.bindings.seen inside.0.0.tree)) (λ _. along scope (with_previous j.ends (with_previous (terminal_of x) st)) (y ∷ []) r) (λ _. Ok (with_previous (terminal_of y) st))
-                    (λ _. silent scope y [] r (with_previous j.ends (with_previous (terminal_of x) st)) (silent_as terminal.RightBracket (terminal_of y) refl stop.0.1)));
+                    ∙ (expression scope h.1.0 inside.1.0 (y ∷ []) r
+                    (λ seen. fault_of (term_of scope seen inside.0.0.tree)) j stop.0.0
+                    (with_previous (terminal_of x) st) (inside_as terminal.LeftBracket (terminal_of x) refl
+                    mark.0.1)
+                    ∙ after_same (fault_of (term_of scope st.bindings.seen inside.0.0.tree))
+                    (λ _. along scope (with_previous j.ends (with_previous (terminal_of x) st)) (y ∷ []) r)
+                    (λ _. Ok (with_previous (terminal_of y) st))
+                    (λ _. silent scope y [] r (with_previous j.ends (with_previous (terminal_of x) st))
+                    (silent_as terminal.RightBracket (terminal_of y) refl stop.0.1)));
               }),
           subst (λ (l : List Token). starts (is terminal.LeftBracket) l ≡ true) (sym mark.0.0) mark.0.1,
         )
@@ -190,11 +216,14 @@ module _ (scope : Environment) where
     settled : (st : TokenScan) → st.naming ≡ None → done st ≡ with_previous terminal.Semicolon st
     settled st e = rw e refl
 
-    pub assignment_walks : (s : List Token) (t : StmtTree) (o : Fault) (r : List Token) → Derives R assignment s t o r → Walks s r (count.declared t) (statement_of scope t)
+    pub assignment_walks : (s : List Token) (t : StmtTree) (o : Fault) (r : List Token) → Derives R assignment s t o r
+        → Walks s r (count.declared t) (statement_of scope t)
     unfolding assignment
     assignment_walks s t o r h = subst (λ (t : StmtTree). Walks s r (count.declared t) (statement_of scope t)) h.2 (by_index h.0.0 h.0.1.0 h.0.1.1 h.1)
       where
-        by_index : (w : Word) (i : Option ExprWithSpot) (e : ExprWithSpot) → Derives R (seq (name Body) (seq (opt element) value)) s (w, (i, e)) o r → Walks s r (count.declared (assign_of (w, (i, e)))) (statement_of scope (assign_of (w, (i, e))))
+        by_index : (w : Word) (i : Option ExprWithSpot) (e : ExprWithSpot)
+            → Derives R (seq (name Body) (seq (opt element) value)) s (w, (i, e)) o r
+            → Walks s r (count.declared (assign_of (w, (i, e)))) (statement_of scope (assign_of (w, (i, e))))
         by_index w None e h =
             let word = h.3 in
             let rest = h.4 in
@@ -209,13 +238,23 @@ module _ (scope : Environment) where
               parts = word.1.0.0 ∙ ap (λ (l : List Token). y ∷ l) (rest.3.0 ∙ v.parts);
               follows = λ k st ready at_most.
                   let st1 = with_previous (terminal_of y) st in
-                  let along_is : along scope st (y ∷ v.word) r ≡ and_then (fault_of (slot_of (word_of y) (meaning_of scope st.bindings.seen y.text))) (λ _. and_then (fault_of (term_of scope st.bindings.seen e.tree)) (λ _. Ok (with_previous terminal.Semicolon st1))) =
+                  let along_is : along scope st (y ∷ v.word) r ≡ and_then
+                  (fault_of (slot_of (word_of y) (meaning_of scope st.bindings.seen y.text)))
+                  (λ _. and_then (fault_of (term_of scope st.bindings.seen e.tree))
+                  (λ _. Ok (with_previous terminal.Semicolon st1))) =
                   assigned_name scope y v.word r st word.1.0.1 ready.begins no assign
-                  ∙ after_same (fault_of (slot_of (word_of y) (meaning_of scope st.bindings.seen y.text))) (λ _. along scope st1 v.word r) (λ _. and_then (fault_of (term_of scope st.bindings.seen e.tree)) (λ _. Ok (with_previous terminal.Semicolon st1)))
-                  (λ _. v.walks st1 ∙ ap (λ (m : TokenScan). and_then (fault_of (term_of scope st.bindings.seen e.tree)) (λ _. Ok m)) (settled st1 ready.naming)) in
+                  ∙ after_same (fault_of (slot_of (word_of y) (meaning_of scope st.bindings.seen y.text)))
+                  (λ _. along scope st1 v.word r) (λ _. and_then (fault_of (term_of scope st.bindings.seen e.tree))
+                  (λ _. Ok (with_previous terminal.Semicolon st1)))
+                  (λ _. v.walks st1 ∙ ap (λ (m : TokenScan). and_then (fault_of (term_of scope st.bindings.seen e.tree))
+                  (λ _. Ok m)) (settled st1 ready.naming)) in
                   walked st.open_blocks (set scope (word_of y) e.tree k) _ _ along_is
-                  (first_step st.open_blocks (slot_of (word_of y) (meaning_of scope k.seen y.text)) _ (fault_of (slot_of (word_of y) (meaning_of scope st.bindings.seen y.text))) _ (slot_alike scope k.seen st.bindings.seen ready.alike.seen (word_of y))
-                  (λ _ _. first_step st.open_blocks (term_of scope k.seen e.tree) _ (fault_of (term_of scope st.bindings.seen e.tree)) _ (term_alike scope k.seen st.bindings.seen ready.alike.seen e.tree)
+                  (first_step st.open_blocks (slot_of (word_of y) (meaning_of scope k.seen y.text)) _
+                  (fault_of (slot_of (word_of y) (meaning_of scope st.bindings.seen y.text))) _
+                  (slot_alike scope k.seen st.bindings.seen ready.alike.seen (word_of y))
+                  (λ _ _. first_step st.open_blocks (term_of scope k.seen e.tree) _
+                  (fault_of (term_of scope st.bindings.seen e.tree)) _
+                  (term_alike scope k.seen st.bindings.seen ready.alike.seen e.tree)
                   (λ _ _. (refl, record { alike = ready.alike; naming = ready.naming; begins = refl }))));
             })
         by_index w (Some i) e h =
@@ -226,27 +265,49 @@ module _ (scope : Environment) where
             let el = element_walks h.0 i rest.1 rest.0 rest.3 in
             let ix = el.0 in
             let bracket : starts (is terminal.LeftBracket) ((ix.word ++ v.word) ++ r) ≡ true =
-            subst (λ (l : List Token). starts (is terminal.LeftBracket) l ≡ true) (ix.parts ∙ (ap (λ (l : List Token). ix.word ++ l) v.parts ∙ sym (append_assoc ix.word v.word r))) el.1 in
+            subst (λ (l : List Token). starts (is terminal.LeftBracket) l ≡ true)
+            (ix.parts ∙ (ap (λ (l : List Token). ix.word ++ l) v.parts ∙ sym (append_assoc ix.word v.word r)))
+            el.1 in
             subst (λ (w : Word). Walks s r 0 (statement_of scope (stmt.Put w i.tree e.tree))) word.2
             (record {
               word = y ∷ (ix.word ++ v.word);
-              parts = word.1.0.0 ∙ ap (λ (l : List Token). y ∷ l) (ix.parts ∙ (ap (λ (l : List Token). ix.word ++ l) v.parts ∙ sym (append_assoc ix.word v.word r)));
+              parts = word.1.0.0 ∙ ap (λ (l : List Token). y ∷ l)
+                  (ix.parts ∙ (ap (λ (l : List Token). ix.word ++ l) v.parts ∙ sym (append_assoc ix.word v.word r)));
               follows = λ k st ready at_most.
                   let st1 = with_previous (terminal_of y) st in
-                  let after_index : along scope st1 (ix.word ++ v.word) r ≡ and_then (fault_of (term_of scope st.bindings.seen i.tree)) (λ _. and_then (fault_of (term_of scope st.bindings.seen e.tree)) (λ _. Ok (with_previous terminal.Semicolon st1))) =
+                  let after_index : along scope st1 (ix.word ++ v.word) r
+                  ≡ and_then (fault_of (term_of scope st.bindings.seen i.tree))
+                  (λ _. and_then (fault_of (term_of scope st.bindings.seen e.tree))
+                  (λ _. Ok (with_previous terminal.Semicolon st1))) =
                   along_append scope st1 ix.word v.word r
                   ∙ (ap (λ (l : List Token). and_then (along scope st1 ix.word l) (λ q. along scope q v.word r)) (sym v.parts)
                   ∙ (ap (λ (u : Resolved TokenScan). and_then u (λ q. along scope q v.word r)) (ix.walks st1)
                   ∙ (after_after (fault_of (term_of scope st.bindings.seen i.tree)) (λ _. Ok (with_previous ix.ends st1)) (λ q. along scope q v.word r)
-                  ∙ after_same (fault_of (term_of scope st.bindings.seen i.tree)) (λ _. along scope (with_previous ix.ends st1) v.word r) (λ _. and_then (fault_of (term_of scope st.bindings.seen e.tree)) (λ _. Ok (with_previous terminal.Semicolon st1)))
-                  (λ _. v.walks (with_previous ix.ends st1) ∙ ap (λ (m : TokenScan). and_then (fault_of (term_of scope st.bindings.seen e.tree)) (λ _. Ok m)) (settled (with_previous ix.ends st1) ready.naming))))) in
-                  let along_is : along scope st (y ∷ (ix.word ++ v.word)) r ≡ and_then (fault_of (written_flow scope (word_of y))) (λ _. and_then (fault_of (term_of scope st.bindings.seen i.tree)) (λ _. and_then (fault_of (term_of scope st.bindings.seen e.tree)) (λ _. Ok (with_previous terminal.Semicolon st1)))) =
+                  ∙ after_same (fault_of (term_of scope st.bindings.seen i.tree))
+                  (λ _. along scope (with_previous ix.ends st1) v.word r)
+                  (λ _. and_then (fault_of (term_of scope st.bindings.seen e.tree))
+                  (λ _. Ok (with_previous terminal.Semicolon st1)))
+                  (λ _. v.walks (with_previous ix.ends st1) ∙ ap
+                  (λ (m : TokenScan). and_then (fault_of (term_of scope st.bindings.seen e.tree)) (λ _. Ok m))
+                  (settled (with_previous ix.ends st1) ready.naming))))) in
+                  let along_is : along scope st (y ∷ (ix.word ++ v.word)) r
+                  ≡ and_then (fault_of (written_flow scope (word_of y)))
+                  (λ _. and_then (fault_of (term_of scope st.bindings.seen i.tree))
+                  (λ _. and_then (fault_of (term_of scope st.bindings.seen e.tree))
+                  (λ _. Ok (with_previous terminal.Semicolon st1)))) =
                   element_name scope y (ix.word ++ v.word) r st word.1.0.1 ready.begins bracket
-                  ∙ after_same (fault_of (written_flow scope (word_of y))) (λ _. along scope st1 (ix.word ++ v.word) r) (λ _. and_then (fault_of (term_of scope st.bindings.seen i.tree)) (λ _. and_then (fault_of (term_of scope st.bindings.seen e.tree)) (λ _. Ok (with_previous terminal.Semicolon st1)))) (λ _. after_index) in
+                  ∙ after_same (fault_of (written_flow scope (word_of y))) (λ _. along scope st1 (ix.word ++ v.word) r)
+                  (λ _. and_then (fault_of (term_of scope st.bindings.seen i.tree))
+                  (λ _. and_then (fault_of (term_of scope st.bindings.seen e.tree))
+                  (λ _. Ok (with_previous terminal.Semicolon st1)))) (λ _. after_index) in
                   walked st.open_blocks (put scope (word_of y) i.tree e.tree k) _ _ along_is
                   (first_step st.open_blocks (written_flow scope (word_of y)) _ (fault_of (written_flow scope (word_of y))) _ refl
-                  (λ _ _. first_step st.open_blocks (term_of scope k.seen i.tree) _ (fault_of (term_of scope st.bindings.seen i.tree)) _ (term_alike scope k.seen st.bindings.seen ready.alike.seen i.tree)
-                  (λ _ _. first_step st.open_blocks (term_of scope k.seen e.tree) _ (fault_of (term_of scope st.bindings.seen e.tree)) _ (term_alike scope k.seen st.bindings.seen ready.alike.seen e.tree)
+                  (λ _ _. first_step st.open_blocks (term_of scope k.seen i.tree) _
+                  (fault_of (term_of scope st.bindings.seen i.tree)) _
+                  (term_alike scope k.seen st.bindings.seen ready.alike.seen i.tree)
+                  (λ _ _. first_step st.open_blocks (term_of scope k.seen e.tree) _
+                  (fault_of (term_of scope st.bindings.seen e.tree)) _
+                  (term_alike scope k.seen st.bindings.seen ready.alike.seen e.tree)
                   (λ _ _. (refl, record { alike = ready.alike; naming = ready.naming; begins = refl })))));
             })
 
@@ -256,7 +317,8 @@ module _ (scope : Environment) where
     numbered_alike text k None m h = record { seen = h.seen; outside = h.outside }
     numbered_alike text k (Some n) m h = h
 
-    pub stop_walks : (s : List Token) (t : StmtTree) (o : Fault) (r : List Token) → Derives R trap_statement s t o r → Walks s r (count.declared t) (statement_of scope t)
+    pub stop_walks : (s : List Token) (t : StmtTree) (o : Fault) (r : List Token) → Derives R trap_statement s t o r
+        → Walks s r (count.declared t) (statement_of scope t)
     unfolding trap_statement
     stop_walks s t o r h =
         let whole = h.1.1 in
@@ -280,6 +342,14 @@ module _ (scope : Environment) where
               let along_is : along scope st (x ∷ (y ∷ z ∷ [])) r ≡ Ok (with_previous terminal.Semicolon st) =
               silent scope x (y ∷ z ∷ []) r st (silent_as terminal.Trap (terminal_of x) refl mark.0.1)
               ∙ (trap_name scope y (z ∷ []) r st1 word.1.0.1 last_trap
-              ∙ (semicolon scope z [] r (with_previous (terminal_of y) st1) last.0.1 ∙ ap (λ (m : TokenScan). Ok m) (settled (with_previous (terminal_of y) st1) ready.naming))) in
-              walked st.open_blocks (resolving.trap (word_of y) k) _ _ along_is (refl, record { alike = numbered_alike y.text k _ st.bindings ready.alike; naming = ready.naming; begins = refl });
+              ∙ (semicolon scope z [] r (with_previous (terminal_of y) st1) last.0.1
+              ∙ ap (λ (m : TokenScan). Ok m) (settled (with_previous (terminal_of y) st1) ready.naming))) in
+              walked st.open_blocks (resolving.trap (word_of y) k) _ _ along_is (
+                refl,
+                record {
+                  alike = numbered_alike y.text k _ st.bindings ready.alike;
+                  naming = ready.naming;
+                  begins = refl;
+                },
+              );
         })

@@ -48,7 +48,9 @@ names_length (v ∷ vs) = ap suc (names_length vs)
 names_reverse : (xs : List Variable) → names_of (reverse xs) ≡ reverse (names_of xs)
 names_reverse [] = refl
 names_reverse (v ∷ vs) =
-    ap names_of (reverse-append (v ∷ []) vs) ∙ (names_append (reverse vs) (v ∷ []) ∙ (ap (λ (l : List (List ℕ × Bool)). l ++ (v.name, v.is_loop_variable) ∷ []) (names_reverse vs) ∙ sym (reverse-append ((v.name, v.is_loop_variable) ∷ []) (names_of vs))))
+    ap names_of (reverse-append (v ∷ []) vs) ∙ (names_append (reverse vs) (v ∷ [])
+    ∙ (ap (λ (l : List (List ℕ × Bool)). l ++ (v.name, v.is_loop_variable) ∷ []) (names_reverse vs)
+    ∙ sym (reverse-append ((v.name, v.is_loop_variable) ∷ []) (names_of vs))))
 
 -- the same variables are seen, apart from their slots
 pub record Alike (k m : Bindings) : Type 0 where
@@ -77,19 +79,22 @@ last_alike : (name : List ℕ) (xs ys : List Variable) → names_of xs ≡ names
 last_alike name xs ys e =
     found_is name (reverse xs) ∙ (ap (first_of name) (names_reverse xs ∙ (ap reverse e ∙ sym (names_reverse ys))) ∙ sym (found_is name (reverse ys)))
 
-value_alike_by : (w : Word) (m : Meaning) (o p : Option Variable) → counts_of o ≡ counts_of p → fault_of (value_of w (variable_or o m)) ≡ fault_of (value_of w (variable_or p m))
+value_alike_by : (w : Word) (m : Meaning) (o p : Option Variable) → counts_of o ≡ counts_of p
+    → fault_of (value_of w (variable_or o m)) ≡ fault_of (value_of w (variable_or p m))
 value_alike_by w m None None e = refl
 value_alike_by w m None (Some v) e = absurd cc
 value_alike_by w m (Some v) None e = absurd cc
 value_alike_by w m (Some v) (Some u) e = go v.is_loop_variable u.is_loop_variable
   where
-    go : (a b : Bool) → fault_of (value_of w (cond a (meaning.LoopVariable v.slot) (meaning.Variable v.slot))) ≡ fault_of (value_of w (cond b (meaning.LoopVariable u.slot) (meaning.Variable u.slot)))
+    go : (a b : Bool) → fault_of (value_of w (cond a (meaning.LoopVariable v.slot) (meaning.Variable v.slot)))
+        ≡ fault_of (value_of w (cond b (meaning.LoopVariable u.slot) (meaning.Variable u.slot)))
     go true true = refl
     go true false = refl
     go false true = refl
     go false false = refl
 
-slot_alike_by : (w : Word) (m : Meaning) (o p : Option Variable) → counts_of o ≡ counts_of p → fault_of (slot_of w (variable_or o m)) ≡ fault_of (slot_of w (variable_or p m))
+slot_alike_by : (w : Word) (m : Meaning) (o p : Option Variable) → counts_of o ≡ counts_of p
+    → fault_of (slot_of w (variable_or o m)) ≡ fault_of (slot_of w (variable_or p m))
 slot_alike_by w m None None e = refl
 slot_alike_by w m None (Some v) e = absurd cc
 slot_alike_by w m (Some v) None e = absurd cc
@@ -98,7 +103,8 @@ slot_alike_by w m (Some v) (Some u) e = go v.is_loop_variable u.is_loop_variable
     some_is : v.is_loop_variable ≡ u.is_loop_variable
     some_is = cc
 
-    go : (a b : Bool) → a ≡ b → fault_of (slot_of w (cond a (meaning.LoopVariable v.slot) (meaning.Variable v.slot))) ≡ fault_of (slot_of w (cond b (meaning.LoopVariable u.slot) (meaning.Variable u.slot)))
+    go : (a b : Bool) → a ≡ b → fault_of (slot_of w (cond a (meaning.LoopVariable v.slot) (meaning.Variable v.slot)))
+        ≡ fault_of (slot_of w (cond b (meaning.LoopVariable u.slot) (meaning.Variable u.slot)))
     go true true h = refl
     go true false h = absurd cc
     go false true h = absurd cc
@@ -117,7 +123,9 @@ module _ (scope : Environment) (xs ys : List Variable) (e : names_of xs ≡ name
   pub term_alike : (x : Expression) → fault_of (term_of scope xs x) ≡ fault_of (term_of scope ys x)
   term_alike (Num z spot) = refl
   term_alike (Name w) = value_alike w
-  term_alike (Elem w at) = sym (elem_fault scope w at xs) ∙ (ap (λ (v : Resolved (Unit {0})). and_then (fault_of (read_flow scope w)) (λ _. v)) (term_alike at) ∙ elem_fault scope w at ys)
+  term_alike (Elem w at) = sym (elem_fault scope w at xs) ∙ (ap
+      (λ (v : Resolved (Unit {0})). and_then (fault_of (read_flow scope w)) (λ _. v)) (term_alike at)
+      ∙ elem_fault scope w at ys)
   term_alike (Unary o a spot) = sym (unary_fault scope o a spot xs) ∙ (term_alike a ∙ unary_fault scope o a spot ys)
   term_alike (Binary o a b) =
       sym (binary_fault scope o a b xs)
@@ -127,7 +135,8 @@ module _ (scope : Environment) (xs ys : List Variable) (e : names_of xs ≡ name
       sym (choose_fault scope c a b xs)
       ∙ (ap (λ (v : Resolved (Unit {0})). and_then v (λ _. and_then (fault_of (term_of scope xs a)) (λ _. fault_of (term_of scope xs b)))) (term_alike c)
       ∙ (ap (λ (v : Resolved (Unit {0})). and_then (fault_of (term_of scope ys c)) (λ _. and_then v (λ _. fault_of (term_of scope xs b)))) (term_alike a)
-      ∙ (ap (λ (v : Resolved (Unit {0})). and_then (fault_of (term_of scope ys c)) (λ _. and_then (fault_of (term_of scope ys a)) (λ _. v))) (term_alike b) ∙ choose_fault scope c a b ys)))
+      ∙ (ap (λ (v : Resolved (Unit {0})). and_then (fault_of (term_of scope ys c))
+      (λ _. and_then (fault_of (term_of scope ys a)) (λ _. v))) (term_alike b) ∙ choose_fault scope c a b ys)))
 
 -- ---- declarations
 
@@ -143,7 +152,8 @@ pub fresh_alike : (w : Word) (k m : Bindings) → Alike k m → require_fresh w 
 fresh_alike w k m h =
     ap (λ (b : Bool). by_any b)
     (any_is w.text (drop k.outside k.seen)
-    ∙ (ap (any_named w.text) (names_drop k.outside k.seen ∙ (ap (drop k.outside) h.seen ∙ (ap (λ (n : ℕ). drop n (names_of m.seen)) h.outside ∙ sym (names_drop m.outside m.seen))))
+    ∙ (ap (any_named w.text) (names_drop k.outside k.seen ∙ (ap (drop k.outside) h.seen
+    ∙ (ap (λ (n : ℕ). drop n (names_of m.seen)) h.outside ∙ sym (names_drop m.outside m.seen))))
     ∙ sym (any_is w.text (drop m.outside m.seen))))
   where
     by_any : Bool → Resolved (Unit {0})

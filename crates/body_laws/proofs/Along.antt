@@ -36,11 +36,14 @@ abbrev pub along : Environment → TokenScan → List Token → List Token → R
 along scope st [] r = Ok st
 along scope st (x ∷ w) r = and_then (judged scope st (x ∷ (w ++ r))) (λ _. along scope (after_token x st) w r)
 
-pub along_append : (scope : Environment) (st : TokenScan) (u v r : List Token) → along scope st (u ++ v) r ≡ and_then (along scope st u (v ++ r)) (λ m. along scope m v r)
+pub along_append : (scope : Environment) (st : TokenScan) (u v r : List Token)
+    → along scope st (u ++ v) r ≡ and_then (along scope st u (v ++ r)) (λ m. along scope m v r)
 along_append scope st [] v r = refl
 along_append scope st (x ∷ u) v r =
     ap (λ (l : List Token). and_then (judged scope st (x ∷ l)) (λ _. along scope (after_token x st) (u ++ v) r)) (append_assoc u v r)
-    ∙ (after_same (judged scope st (x ∷ (u ++ (v ++ r)))) (λ _. along scope (after_token x st) (u ++ v) r) (λ _. and_then (along scope (after_token x st) u (v ++ r)) (λ m. along scope m v r)) (λ _. along_append scope (after_token x st) u v r)
+    ∙ (after_same (judged scope st (x ∷ (u ++ (v ++ r)))) (λ _. along scope (after_token x st) (u ++ v) r)
+    (λ _. and_then (along scope (after_token x st) u (v ++ r)) (λ m. along scope m v r))
+    (λ _. along_append scope (after_token x st) u v r)
     ∙ sym (after_after (judged scope st (x ∷ (u ++ (v ++ r)))) (λ _. along scope (after_token x st) u (v ++ r)) (λ m. along scope m v r)))
 
 -- the same for a whole list
@@ -48,14 +51,16 @@ pub among_all : (scope : Environment) (st : TokenScan) (s : List Token) → judg
 among_all scope st [] = refl
 among_all scope st (x ∷ s) =
     ap (λ (l : List Token). and_then (judged scope st (x ∷ l)) (λ _. judged_among scope (after_token x st) (length s) s)) (sym (append-nil s))
-    ∙ (after_same (judged scope st (x ∷ (s ++ []))) (λ _. judged_among scope (after_token x st) (length s) s) (λ _. fault_of (along scope (after_token x st) s [])) (λ _. among_all scope (after_token x st) s)
+    ∙ (after_same (judged scope st (x ∷ (s ++ []))) (λ _. judged_among scope (after_token x st) (length s) s)
+    (λ _. fault_of (along scope (after_token x st) s [])) (λ _. among_all scope (after_token x st) s)
     ∙ sym (after_after (judged scope st (x ∷ (s ++ []))) (λ _. along scope (after_token x st) s []) (λ _. Ok tt)))
 
 -- ---- inside an expression
 
 -- a token after which no statement and no declaration begins
 abbrev pub is_plain : Terminal → Bool
-is_plain k = not (is terminal.Semicolon k || (is terminal.LeftBrace k || (is terminal.RightBrace k || (is terminal.Int k || (is terminal.For k || is terminal.Trap k)))))
+is_plain k = not (is terminal.Semicolon k || (is terminal.LeftBrace k ||
+    (is terminal.RightBrace k || (is terminal.Int k || (is terminal.For k || is terminal.Trap k)))))
 
 -- such a token that is no name either
 abbrev pub is_quiet : Terminal → Bool
@@ -69,7 +74,8 @@ is_inside (Some k) = is_plain k
 abbrev pub with_previous : Terminal → TokenScan → TokenScan
 with_previous k st = record st { previous = Some k }
 
-six_false : (a b c d e f : Bool) → not (a || (b || (c || (d || (e || f))))) ≡ true → (a ≡ false) × (b ≡ false) × (c ≡ false) × (d ≡ false) × (e ≡ false) × (f ≡ false)
+six_false : (a b c d e f : Bool) → not (a || (b || (c || (d || (e || f))))) ≡ true
+    → (a ≡ false) × (b ≡ false) × (c ≡ false) × (d ≡ false) × (e ≡ false) × (f ≡ false)
 six_false true b c d e f h = absurd cc
 six_false false true c d e f h = absurd cc
 six_false false false true d e f h = absurd cc
@@ -79,9 +85,12 @@ six_false false false false false false true h = absurd cc
 six_false false false false false false false h = (refl, refl, refl, refl, refl, refl)
 
 -- inside an expression, the token after a name decides its role
-inside_role : (last : Option Terminal) (s : List Token) → is_inside last ≡ true → role_of last s ≡ cond (starts (is terminal.LeftBracket) s) role.Element role.Value
+inside_role : (last : Option Terminal) (s : List Token) → is_inside last ≡ true
+    → role_of last s ≡ cond (starts (is terminal.LeftBracket) s) role.Element role.Value
 inside_role None s h = absurd cc
-inside_role (Some k) s h = let f = six_false (is terminal.Semicolon k) (is terminal.LeftBrace k) (is terminal.RightBrace k) (is terminal.Int k) (is terminal.For k) (is terminal.Trap k) h in rw (f.3, f.4, f.5, f.0, f.1, f.2) refl
+inside_role (Some k) s h = let f = six_false (is terminal.Semicolon k) (is terminal.LeftBrace k)
+    (is terminal.RightBrace k) (is terminal.Int k) (is terminal.For k) (is terminal.Trap k) h in rw
+    (f.3, f.4, f.5, f.0, f.1, f.2) refl
 
 -- a quiet token changes nothing
 quiet_terminal : (k : Terminal) (text : List ℕ) (st : TokenScan) → is_quiet k ≡ true → after_terminal k text st ≡ st
@@ -102,14 +111,20 @@ quiet_judged scope x s st h = rw (not-true (names Body (terminal_of x)) (and_par
 name_terminal : (k : Terminal) (text : List ℕ) (st : TokenScan) → names Body k ≡ true → is_inside st.previous ≡ true → after_terminal k text st ≡ st
 name_terminal terminal.Name text st h i = no_name st.previous i
   where
-    no_name : (last : Option Terminal) → is_inside last ≡ true → cond (previous_is terminal.Int last || previous_is terminal.For last) (record st { naming = Some text }) st ≡ st
+    no_name : (last : Option Terminal) → is_inside last ≡ true
+        → cond (previous_is terminal.Int last || previous_is terminal.For last) (record st { naming = Some text }) st
+        ≡ st
     no_name None i = absurd cc
-    no_name (Some k) i = let f = six_false (is terminal.Semicolon k) (is terminal.LeftBrace k) (is terminal.RightBrace k) (is terminal.Int k) (is terminal.For k) (is terminal.Trap k) i in rw (f.3, f.4) refl
+    no_name (Some k) i = let f = six_false (is terminal.Semicolon k) (is terminal.LeftBrace k)
+        (is terminal.RightBrace k) (is terminal.Int k) (is terminal.For k) (is terminal.Trap k) i in rw (f.3, f.4) refl
 name_terminal terminal.TypeWord text st h i = no_name st.previous i
   where
-    no_name : (last : Option Terminal) → is_inside last ≡ true → cond (previous_is terminal.Int last || previous_is terminal.For last) (record st { naming = Some text }) st ≡ st
+    no_name : (last : Option Terminal) → is_inside last ≡ true
+        → cond (previous_is terminal.Int last || previous_is terminal.For last) (record st { naming = Some text }) st
+        ≡ st
     no_name None i = absurd cc
-    no_name (Some k) i = let f = six_false (is terminal.Semicolon k) (is terminal.LeftBrace k) (is terminal.RightBrace k) (is terminal.Int k) (is terminal.For k) (is terminal.Trap k) i in rw (f.3, f.4) refl
+    no_name (Some k) i = let f = six_false (is terminal.Semicolon k) (is terminal.LeftBrace k)
+        (is terminal.RightBrace k) (is terminal.Int k) (is terminal.For k) (is terminal.Trap k) i in rw (f.3, f.4) refl
 name_terminal _ text st h i = absurd cc
 
 name_plain : (k : Terminal) → names Body k ≡ true → is_plain k ≡ true
@@ -133,7 +148,8 @@ abbrev pub faultless : List Variable → Resolved (Unit {0})
 faultless seen = Ok tt
 
 module _ (scope : Environment) where
-  pub same_verdict : (s r : List Token) (V U : List Variable → Resolved (Unit {0})) → ((seen : List Variable) → V seen ≡ U seen) → Judges scope s r V → Judges scope s r U
+  pub same_verdict : (s r : List Token) (V U : List Variable → Resolved (Unit {0}))
+      → ((seen : List Variable) → V seen ≡ U seen) → Judges scope s r V → Judges scope s r U
   same_verdict s r V U e j =
       record {
         word = j.word;
@@ -158,7 +174,8 @@ module _ (scope : Environment) where
       }
 
   -- one stretch, and then another
-  pub then_judges : (s m r : List Token) (V U : List Variable → Resolved (Unit {0})) → Judges scope s m V → Judges scope m r U → Judges scope s r (λ seen. and_then (V seen) (λ _. U seen))
+  pub then_judges : (s m r : List Token) (V U : List Variable → Resolved (Unit {0})) → Judges scope s m V
+      → Judges scope m r U → Judges scope s r (λ seen. and_then (V seen) (λ _. U seen))
   then_judges s m r V U a b =
       record {
         word = a.word ++ b.word;
@@ -170,7 +187,9 @@ module _ (scope : Environment) where
             ∙ (ap (λ (l : List Token). and_then (along scope st a.word l) (λ m. along scope m b.word r)) (sym b.parts)
             ∙ (ap (λ (v : Resolved TokenScan). and_then v (λ m. along scope m b.word r)) (a.judges st i)
             ∙ (after_after (V st.bindings.seen) (λ _. Ok (with_previous a.ends st)) (λ m. along scope m b.word r)
-            ∙ (after_same (V st.bindings.seen) (λ _. along scope (with_previous a.ends st) b.word r) (λ _. and_then (U st.bindings.seen) (λ _. Ok (with_previous b.ends st))) (λ _. b.judges (with_previous a.ends st) a.plain)
+            ∙ (after_same (V st.bindings.seen) (λ _. along scope (with_previous a.ends st) b.word r)
+            (λ _. and_then (U st.bindings.seen) (λ _. Ok (with_previous b.ends st)))
+            (λ _. b.judges (with_previous a.ends st) a.plain)
             ∙ sym (after_after (V st.bindings.seen) (λ _. U st.bindings.seen) (λ _. Ok (with_previous b.ends st)))))));
       }
 
@@ -179,14 +198,19 @@ module _ (scope : Environment) where
   nothing_after (Err e) = refl
 
   -- a quiet token before a stretch, and one after it
-  pub token_then : (s m r : List Token) (x : Token) (V : List Variable → Resolved (Unit {0})) → s ≡ x ∷ m → is_quiet (terminal_of x) ≡ true → Judges scope m r V → Judges scope s r V
-  token_then s m r x V e q j = same_verdict s r (λ seen. and_then (faultless seen) (λ _. V seen)) V (λ seen. refl) (then_judges s m r faultless V (quiet_judges s m x e q) j)
+  pub token_then : (s m r : List Token) (x : Token) (V : List Variable → Resolved (Unit {0})) → s ≡ x ∷ m
+      → is_quiet (terminal_of x) ≡ true → Judges scope m r V → Judges scope s r V
+  token_then s m r x V e q j = same_verdict s r (λ seen. and_then (faultless seen) (λ _. V seen)) V (λ seen. refl)
+      (then_judges s m r faultless V (quiet_judges s m x e q) j)
 
-  pub then_token : (s m r : List Token) (x : Token) (V : List Variable → Resolved (Unit {0})) → m ≡ x ∷ r → is_quiet (terminal_of x) ≡ true → Judges scope s m V → Judges scope s r V
-  then_token s m r x V e q j = same_verdict s r (λ seen. and_then (V seen) (λ _. faultless seen)) V (λ seen. nothing_after (V seen)) (then_judges s m r V faultless j (quiet_judges m r x e q))
+  pub then_token : (s m r : List Token) (x : Token) (V : List Variable → Resolved (Unit {0})) → m ≡ x ∷ r
+      → is_quiet (terminal_of x) ≡ true → Judges scope s m V → Judges scope s r V
+  then_token s m r x V e q j = same_verdict s r (λ seen. and_then (V seen) (λ _. faultless seen)) V
+      (λ seen. nothing_after (V seen)) (then_judges s m r V faultless j (quiet_judges m r x e q))
 
   -- a name that stands for a number, and one before an index
-  name_judges : (s r : List Token) (x : Token) (j : Role) (V : List Variable → Resolved (Unit {0})) → s ≡ x ∷ r → names Body (terminal_of x) ≡ true → cond (starts (is terminal.LeftBracket) r) role.Element role.Value ≡ j
+  name_judges : (s r : List Token) (x : Token) (j : Role) (V : List Variable → Resolved (Unit {0})) → s ≡ x ∷ r
+      → names Body (terminal_of x) ≡ true → cond (starts (is terminal.LeftBracket) r) role.Element role.Value ≡ j
       → ((st : TokenScan) → judged_as j scope st.bindings (word_of x) ≡ V st.bindings.seen) → Judges scope s r V
   name_judges s r x j V e n role_is verdict =
       record {
@@ -199,8 +223,11 @@ module _ (scope : Environment) where
             rw (judged_is, name_terminal (terminal_of x) x.text st n i) refl;
       }
 
-  pub value_judges : (s r : List Token) (x : Token) → s ≡ x ∷ r → names Body (terminal_of x) ≡ true → starts (is terminal.LeftBracket) r ≡ false → Judges scope s r (λ seen. fault_of (value_of (word_of x) (meaning_of scope seen x.text)))
+  pub value_judges : (s r : List Token) (x : Token) → s ≡ x ∷ r → names Body (terminal_of x) ≡ true
+      → starts (is terminal.LeftBracket) r ≡ false → Judges scope s r
+      (λ seen. fault_of (value_of (word_of x) (meaning_of scope seen x.text)))
   value_judges s r x e n b = name_judges s r x role.Value (λ seen. fault_of (value_of (word_of x) (meaning_of scope seen x.text))) e n (rw b refl) (λ st. refl)
 
-  pub element_judges : (s r : List Token) (x : Token) → s ≡ x ∷ r → names Body (terminal_of x) ≡ true → starts (is terminal.LeftBracket) r ≡ true → Judges scope s r (λ seen. fault_of (read_flow scope (word_of x)))
+  pub element_judges : (s r : List Token) (x : Token) → s ≡ x ∷ r → names Body (terminal_of x) ≡ true
+      → starts (is terminal.LeftBracket) r ≡ true → Judges scope s r (λ seen. fault_of (read_flow scope (word_of x)))
   element_judges s r x e n b = name_judges s r x role.Element (λ seen. fault_of (read_flow scope (word_of x))) e n (rw b refl) (λ st. refl)

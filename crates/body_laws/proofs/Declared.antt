@@ -1,5 +1,6 @@
 -- A text declares at least as many variables as its tree, so a tree declares at most as many as a text may.
-use Rattle.std.proofs.Common.{◌≡◌, ℕ, zero, suc, ◌+◌, ◌≤◌, ◌<◌, Bool, true, false, cond, List, [], ◌∷◌, ◌++◌, length, refl, sym, ap, ◌∙◌, subst, inl, inr, append_assoc, arith}
+use Rattle.std.proofs.Common.{◌≡◌, ℕ, zero, suc, ◌+◌, ◌≤◌, ◌<◌, Bool, true, false, cond, List, [], ◌∷◌, ◌++◌, length}
+use Rattle.std.proofs.Common.{refl, sym, ap, ◌∙◌, subst, inl, inr, append_assoc, arith}
 use Rattle.std.specs.Prelude.{◌&&◌, Option, Some, None, nat_lt, nat_le}
 use Rattle.std.proofs.lemmas.Bool.{ltb-false, or_right}
 use Rattle.std.proofs.lemmas.Bool.Decides.{nat_tests}
@@ -10,7 +11,9 @@ use Rattle.jdf_lex.specs.declared.terminal.Terminal.{Terminal}
 use Rattle.jdf_lex.specs.declared.terminal.Terminal.TheVariants as terminal
 use Rattle.grammar_core.specs.declared.code.Code.{Code}
 use Rattle.jdf_lex.specs.Codes.{TooManyVars}
-use Rattle.grammar_core.specs.Production.{seq, map, alt, opt, star, limited, Fault, Language, Many, Derives, DerivedWithin, Derived, IsText, cut_at, taken, one_of, checked, pick, after_token}
+use Rattle.grammar_core.specs.Production.{seq, map, alt, opt, star, limited, Fault, Language, Many, Derives}
+use Rattle.grammar_core.specs.Production.{DerivedWithin, Derived, IsText, cut_at, taken, one_of, checked, pick}
+use Rattle.grammar_core.specs.Production.{after_token}
 use Rattle.grammar_core.specs.LimitBy.{index_by}
 use Rattle.jdf_lex.specs.Terminals.{terminal_of, is, set}
 use Rattle.jdf_lex.specs.Sets as sets
@@ -20,7 +23,9 @@ use Rattle.jdf_tree.specs.declared.expression.ExprWithSpot.{ExprWithSpot}
 use Rattle.jdf_tree.specs.declared.expression.Word.{Word}
 use Rattle.jdf_tree.specs.declared.part.Part.TheVariants.{Body}
 use Rattle.jdf_tree.specs.BlockStatements.{then, statements_of}
-use Rattle.jdf_tree.specs.BodyGrammar.{block, value, declare_of, declaration, element, assign_of, assignment, if_of, condition, otherwise, choice, for_of, for_loop, trap_statement, statement, statements, block_rest, text, body}
+use Rattle.jdf_tree.specs.BodyGrammar.{block, value, declare_of, declaration, element, assign_of, assignment, if_of}
+use Rattle.jdf_tree.specs.BodyGrammar.{condition, otherwise, choice, for_of, for_loop, trap_statement, statement}
+use Rattle.jdf_tree.specs.BodyGrammar.{statements, block_rest, text, body}
 use Rattle.jdf_tree.specs.BodyLimits.{how_many, declares, is_too_many, variable_limit}
 use Rattle.jdf_tree.specs.ExpressionGrammar.{outer}
 use Rattle.jdf_tree.specs.Grammar.{productions}
@@ -80,7 +85,9 @@ one_spends : (q : ℕ → Bool) (s : List Token) (x : Token) (r : List Token) �
 one_spends q s x r e = let k = remaining_cons x r in omega (arith, k, ap remaining e)
 
 module _ (R : (n : Nonterminal) → Language (TreeOf n)) (H : (n : Nonterminal) → Spends (R n) (of_name n)) where
-  many_none : {A : Type 0} (full : ℕ → Option Code) (G : Language A) → Spends G (λ t. 0) → (i : ℕ) (ts : List A) (s : List Token) (o : Fault) (r : List Token) → Many full G i s ts o r → remaining r ≤ remaining s
+  many_none : {A : Type 0} (full : ℕ → Option Code) (G : Language A) → Spends G (λ t. 0)
+      → (i : ℕ) (ts : List A) (s : List Token) (o : Fault) (r : List Token) → Many full G i s ts o r
+      → remaining r ≤ remaining s
   many_none full G f i [] s o r h = omega (arith, ap remaining h.0)
   many_none full G f i (t ∷ ts) s o r h =
       let a = f s t h.1 h.0 h.3 in let b = many_none full G f (suc i) ts h.0 h.2 r h.4 in omega (arith, a, b)
@@ -99,10 +106,12 @@ module _ (R : (n : Nonterminal) → Language (TreeOf n)) (H : (n : Nonterminal) 
   none (after_token q n) s t o r h = let a = one_spends q s t.0 h.0 h.2.0 in let b = H n h.0 t.1 h.1 r h.3 in omega (arith, a, b)
   none (limited l c g) s t o r h = none g s t h.0 r h.1
 
-  both : {A B : Type 0} (g : Grammar A) (k : Grammar B) (f : A → ℕ) (e : B → ℕ) → Spends (Derives R g) f → Spends (Derives R k) e → Spends (Derives R (seq g k)) (λ x. f x.0 + e x.1)
+  both : {A B : Type 0} (g : Grammar A) (k : Grammar B) (f : A → ℕ) (e : B → ℕ) → Spends (Derives R g) f
+      → Spends (Derives R k) e → Spends (Derives R (seq g k)) (λ x. f x.0 + e x.1)
   both g k f e a b s t o r h = let x = a s t.0 h.1 h.0 h.3 in let y = b h.0 t.1 h.2 r h.4 in omega (arith, x, y)
 
-  mapped : {A B : Type 0} (v : A → B) (g : Grammar A) (f : A → ℕ) (e : B → ℕ) → Spends (Derives R g) f → ((a : A) → e (v a) ≤ f a) → Spends (Derives R (map v g)) e
+  mapped : {A B : Type 0} (v : A → B) (g : Grammar A) (f : A → ℕ) (e : B → ℕ) → Spends (Derives R g) f
+      → ((a : A) → e (v a) ≤ f a) → Spends (Derives R (map v g)) e
   mapped {B = B} v g f e a le s t o r h = let x = a s h.0 o r h.1 in let y = le h.0 in let same : e (v h.0) ≡ e t = ap e h.2 in omega (arith, x, y, same)
 
   either : {A : Type 0} (g k : Grammar A) (f : A → ℕ) → Spends (Derives R g) f → Spends (Derives R k) f → Spends (Derives R (alt g k)) f
@@ -112,7 +121,9 @@ module _ (R : (n : Nonterminal) → Language (TreeOf n)) (H : (n : Nonterminal) 
   perhaps g f a s None o r h = omega (arith, ap remaining h.0)
   perhaps g f a s (Some t) o r h = a s t o r h
 
-  many_spend : {A : Type 0} (full : ℕ → Option Code) (g : Grammar A) (f : A → ℕ) → Spends (Derives R g) f → (i : ℕ) (ts : List A) (s : List Token) (o : Fault) (r : List Token) → Many full (Derives R g) i s ts o r → weigh f ts + remaining r ≤ remaining s
+  many_spend : {A : Type 0} (full : ℕ → Option Code) (g : Grammar A) (f : A → ℕ) → Spends (Derives R g) f
+      → (i : ℕ) (ts : List A) (s : List Token) (o : Fault) (r : List Token) → Many full (Derives R g) i s ts o r
+      → weigh f ts + remaining r ≤ remaining s
   many_spend full g f a i [] s o r h = omega (arith, ap remaining h.0)
   many_spend full g f a i (t ∷ ts) s o r h = let x = a s t h.1 h.0 h.3 in let y = many_spend full g f a (suc i) ts h.0 h.2 r h.4 in omega (arith, x, y)
 
@@ -121,7 +132,8 @@ module _ (R : (n : Nonterminal) → Language (TreeOf n)) (H : (n : Nonterminal) 
   one_more = 1
 
   a_declaring : (k : Terminal) → ((j : Terminal) → is k j ≡ true → declares j ≡ true) → Spends (Derives R (word k)) (λ x. 1)
-  a_declaring k yes' s t o r h = let d = yes' (terminal_of t) h.0.1 in let e = remaining_cons t r in let one : cond (declares (terminal_of t)) 1 0 ≡ one_more = rw d refl in omega (arith, e, one, ap remaining h.0.0)
+  a_declaring k yes' s t o r h = let d = yes' (terminal_of t) h.0.1 in let e = remaining_cons t r in let one : cond
+      (declares (terminal_of t)) 1 0 ≡ one_more = rw d refl in omega (arith, e, one, ap remaining h.0.0)
 
   behind_word : {A : Type 0} (k : Terminal) (g : Grammar A) (f : A → ℕ) → Spends (Derives R g) f → Spends (Derives R (prefixed_by k g)) f
   behind_word k g f a = mapped (λ x. x.1) (seq (word k) g) (λ x. 0 + f x.1) f (both (word k) g (λ x. 0) f (none (word k)) a) (λ a. omega arith)
@@ -129,7 +141,9 @@ module _ (R : (n : Nonterminal) → Language (TreeOf n)) (H : (n : Nonterminal) 
   before_word : {A : Type 0} (k : Terminal) (g : Grammar A) (f : A → ℕ) → Spends (Derives R g) f → Spends (Derives R (suffixed_by k g)) f
   before_word k g f a = mapped (λ x. x.0) (seq g (word k)) (λ x. f x.0 + 0) f (both g (word k) f (λ x. 0) a (none (word k))) (λ a. omega arith)
 
-  declaring : {A : Type 0} (k : Terminal) (g : Grammar A) (f : A → ℕ) → ((j : Terminal) → is k j ≡ true → declares j ≡ true) → Spends (Derives R g) f → Spends (Derives R (prefixed_by k g)) (λ x. 1 + f x)
+  declaring : {A : Type 0} (k : Terminal) (g : Grammar A) (f : A → ℕ)
+      → ((j : Terminal) → is k j ≡ true → declares j ≡ true) → Spends (Derives R g) f
+      → Spends (Derives R (prefixed_by k g)) (λ x. 1 + f x)
   declaring k g f d a = mapped (λ x. x.1) (seq (word k) g) (λ x. 1 + f x.1) (λ x. 1 + f x) (both (word k) g (λ x. 1) f (a_declaring k d) a) (λ a. omega arith)
 
   -- ---- statements
@@ -150,7 +164,9 @@ module _ (R : (n : Nonterminal) → Language (TreeOf n)) (H : (n : Nonterminal) 
   declaration_spends : Spends (Derives R declaration) declared
   unfolding declaration
   declaration_spends =
-      mapped declare_of (prefixed_by terminal.Int (seq (name Body) value)) (λ x. 1 + 0) declared (declaring terminal.Int (seq (name Body) value) (λ x. 0) int_declares (none (seq (name Body) value))) (λ a. omega arith)
+      mapped declare_of (prefixed_by terminal.Int (seq (name Body) value)) (λ x. 1 + 0) declared
+      (declaring terminal.Int (seq (name Body) value) (λ x. 0) int_declares (none (seq (name Body) value)))
+      (λ a. omega arith)
 
   assignment_spends : Spends (Derives R assignment) declared
   unfolding assignment
@@ -185,21 +201,31 @@ module _ (R : (n : Nonterminal) → Language (TreeOf n)) (H : (n : Nonterminal) 
   for_loop_spends : Spends (Derives R for_loop) declared
   unfolding for_loop
   for_loop_spends =
-      mapped for_of (prefixed_by terminal.For (seq (name Body) (seq (prefixed_by terminal.Assign (outer Body)) (seq (prefixed_by terminal.Dots (outer Body)) block)))) (λ x. 1 + of_loop x) declared
-      (declaring terminal.For (seq (name Body) (seq (prefixed_by terminal.Assign (outer Body)) (seq (prefixed_by terminal.Dots (outer Body)) block))) of_loop for_declares
-      (both (name Body) (seq (prefixed_by terminal.Assign (outer Body)) (seq (prefixed_by terminal.Dots (outer Body)) block)) (λ x. 0) (λ x. 0 + (0 + declarations x.1.1)) (none (name Body))
-      (both (prefixed_by terminal.Assign (outer Body)) (seq (prefixed_by terminal.Dots (outer Body)) block) (λ x. 0) (λ x. 0 + declarations x.1) (none (prefixed_by terminal.Assign (outer Body)))
-      (both (prefixed_by terminal.Dots (outer Body)) block (λ x. 0) declarations (none (prefixed_by terminal.Dots (outer Body))) block_spends)))) (λ a. omega arith)
+      mapped for_of (prefixed_by terminal.For (seq (name Body)
+      (seq (prefixed_by terminal.Assign (outer Body)) (seq (prefixed_by terminal.Dots (outer Body)) block))))
+      (λ x. 1 + of_loop x) declared
+      (declaring terminal.For (seq (name Body) (seq (prefixed_by terminal.Assign (outer Body))
+      (seq (prefixed_by terminal.Dots (outer Body)) block))) of_loop for_declares
+      (both (name Body) (seq (prefixed_by terminal.Assign (outer Body))
+      (seq (prefixed_by terminal.Dots (outer Body)) block)) (λ x. 0) (λ x. 0 + (0 + declarations x.1.1))
+      (none (name Body))
+      (both (prefixed_by terminal.Assign (outer Body)) (seq (prefixed_by terminal.Dots (outer Body)) block) (λ x. 0)
+      (λ x. 0 + declarations x.1) (none (prefixed_by terminal.Assign (outer Body)))
+      (both (prefixed_by terminal.Dots (outer Body)) block (λ x. 0) declarations
+      (none (prefixed_by terminal.Dots (outer Body))) block_spends)))) (λ a. omega arith)
 
   stop_spends : Spends (Derives R trap_statement) declared
   unfolding trap_statement
-  stop_spends = mapped stmt.Trap (prefixed_by terminal.Trap (suffixed_by terminal.Semicolon (name Body))) (λ x. 0) declared (none (prefixed_by terminal.Trap (suffixed_by terminal.Semicolon (name Body)))) (λ a. omega arith)
+  stop_spends = mapped stmt.Trap (prefixed_by terminal.Trap (suffixed_by terminal.Semicolon (name Body))) (λ x. 0)
+      declared (none (prefixed_by terminal.Trap (suffixed_by terminal.Semicolon (name Body)))) (λ a. omega arith)
 
   statement_spends : Spends (Derives R statement) declared
   unfolding statement
   statement_spends =
       either declaration (alt choice (alt for_loop (alt trap_statement assignment))) declared declaration_spends
-      (either choice (alt for_loop (alt trap_statement assignment)) declared choice_spends (either for_loop (alt trap_statement assignment) declared for_loop_spends (either trap_statement assignment declared stop_spends assignment_spends)))
+      (either choice (alt for_loop (alt trap_statement assignment)) declared choice_spends
+      (either for_loop (alt trap_statement assignment) declared for_loop_spends
+      (either trap_statement assignment declared stop_spends assignment_spends)))
 
   statements_spend : Spends (Derives R statements) declarations
   unfolding statements
@@ -225,7 +251,8 @@ within_spends (suc k) (a_unary part) s t o r h = none (DerivedWithin productions
 within_spends (suc k) a_file s t o r h = none (DerivedWithin productions k) (within_spends k) (productions a_file) s t o r h
 within_spends (suc k) a_block s t o r h = block_rest_spends (DerivedWithin productions k) (within_spends k) s t o r h
 
-text_declares : (s : List Token) (t : Statements) (o : Fault) (r : List Token) → Derives (Derived productions) text s t o r → declarations t + remaining r ≤ remaining s
+text_declares : (s : List Token) (t : Statements) (o : Fault) (r : List Token)
+    → Derives (Derived productions) text s t o r → declarations t + remaining r ≤ remaining s
 text_declares s t o r h = text_spends (Derived productions) (λ n s t o r d. within_spends d.depth n s t o r d.derives) s t o r h
 
 -- ---- the limit
@@ -242,8 +269,10 @@ bounded_before (x ∷ s) front at_most h = go (declares (terminal_of x)) (nat_le
     along : remaining ((front ++ x ∷ []) ++ s) ≡ remaining (front ++ x ∷ s)
     along = ap remaining (append_assoc front (x ∷ []) s)
 
-    go : (d full : Bool) → declares (terminal_of x) ≡ d → nat_le 256 (remaining front) ≡ full → suc (length s) ≤ cond (d && full) 0 (suc (index_by is_too_many (front ++ x ∷ []) s))
-        → (remaining (front ++ x ∷ []) ≤ 256 → length s ≤ index_by is_too_many (front ++ x ∷ []) s → remaining ((front ++ x ∷ []) ++ s) ≤ 256) → remaining (front ++ x ∷ s) ≤ 256
+    go : (d full : Bool) → declares (terminal_of x) ≡ d → nat_le 256 (remaining front) ≡ full
+        → suc (length s) ≤ cond (d && full) 0 (suc (index_by is_too_many (front ++ x ∷ []) s))
+        → (remaining (front ++ x ∷ []) ≤ 256 → length s ≤ index_by is_too_many (front ++ x ∷ []) s
+        → remaining ((front ++ x ∷ []) ++ s) ≤ 256) → remaining (front ++ x ∷ s) ≤ 256
     go true true e f h later = absurd (omega arith)
     go true false e f h later =
         let room : remaining front < 256 = grind (arith, nat_tests) in

@@ -1,5 +1,6 @@
 -- More units change nothing but a trap for lack of units.
-use Rattle.std.proofs.Common.{◌≡◌, ◌≢◌, ℕ, zero, suc, ◌+◌, ℤ, Bool, true, false, if◌then◌else◌, List, [], ◌∷◌, ◌⊎◌, inl, inr, Option, Result, Ok, Err, refl, ap, sym, ◌∙◌, arith}
+use Rattle.std.proofs.Common.{◌≡◌, ◌≢◌, ℕ, zero, suc, ◌+◌, ℤ, Bool, true, false, if◌then◌else◌, List, [], ◌∷◌, ◌⊎◌, inl}
+use Rattle.std.proofs.Common.{inr, Option, Result, Ok, Err, refl, ap, sym, ◌∙◌, arith}
 use Rattle.term_core.specs.Term.{Term}
 use Rattle.term_core.specs.Arith.{holds}
 use Rattle.ptg_base.specs.Returns.{and_then}
@@ -40,7 +41,8 @@ module _ (m : ℕ) where
       elim (k s) [ inl h ↦ inl h | inr h ↦ inr (ap (λ x. and_then x rest) e ∙ h) ]
   outcome-rest (Err c) r' rest (inr e) k = inr (ap (λ x. and_then x rest) e)
 
-  outcome-spent_of : (slots : List ℤ) (tiles : List (Option (List ℤ))) (units : ℕ) → Outcome (spent (state_with slots tiles units)) (spent (state_with slots tiles (units + m)))
+  outcome-spent_of : (slots : List ℤ) (tiles : List (Option (List ℤ))) (units : ℕ)
+      → Outcome (spent (state_with slots tiles units)) (spent (state_with slots tiles (units + m)))
   outcome-spent_of slots tiles zero = inl refl
   outcome-spent_of slots tiles (suc n) =
       inr (spent_one slots tiles (suc n + m) (n + m) (omega arith) ∙ ap all_richer (sym (spent_one slots tiles (suc n) n (omega arith))))
@@ -59,7 +61,8 @@ module _ (m : ℕ) where
   keeps-put flow at e s =
       outcome-value (value_in s at) (λ i. and_then (value_in s e) (λ v. put flow i v s)) (λ i. and_then (value_in s e) (λ v. put flow i v (richer s)))
       (λ i. outcome-value (value_in s e) (λ v. put flow i v s) (λ v. put flow i v (richer s))
-      (λ v. outcome-value (put_element s.tiles flow i v) (λ tiles. Ok (record s { tiles = tiles })) (λ tiles. Ok (record (richer s) { tiles = tiles })) (λ tiles. inr refl)))
+      (λ v. outcome-value (put_element s.tiles flow i v) (λ tiles. Ok (record s { tiles = tiles }))
+      (λ tiles. Ok (record (richer s) { tiles = tiles })) (λ tiles. inr refl)))
 
   outcome-choice : (b : Bool) (p q p' q' : Result State Trap) → Outcome p p' → Outcome q q' → Outcome (if b then p else q) (if b then p' else q')
   outcome-choice true p q p' q' k l = k
@@ -77,7 +80,8 @@ module _ (m : ℕ) where
 
   keeps-for : (n : ℕ) (lo hi : Term) (block : State → Result State Trap) → Keeps block → Keeps (for_meaning n lo hi block)
   keeps-for n lo hi block k s =
-      outcome-value (value_in s lo) (λ a. and_then (value_in s hi) (λ b. turns block n (turn_values a b) s)) (λ a. and_then (value_in s hi) (λ b. turns block n (turn_values a b) (richer s)))
+      outcome-value (value_in s lo) (λ a. and_then (value_in s hi) (λ b. turns block n (turn_values a b) s))
+      (λ a. and_then (value_in s hi) (λ b. turns block n (turn_values a b) (richer s)))
       (λ a. outcome-value (value_in s hi) (λ b. turns block n (turn_values a b) s) (λ b. turns block n (turn_values a b) (richer s))
       (λ b. keeps-turns block n k (turn_values a b) s))
 
@@ -86,12 +90,14 @@ module _ (m : ℕ) where
   keeps-run (SetThen n e rest) s = keeps-first_then (set_meaning n e) (run rest) (keeps-set n e) (keeps-run rest) s
   keeps-run (PutThen flow at e rest) s = keeps-first_then (put_meaning flow at e) (run rest) (keeps-put flow at e) (keeps-run rest) s
   keeps-run (IfThen c first second rest) s =
-      keeps-first_then (if_meaning c (run first) (run second)) (run rest) (keeps-if c (run first) (run second) (keeps-run first) (keeps-run second)) (keeps-run rest) s
+      keeps-first_then (if_meaning c (run first) (run second)) (run rest)
+      (keeps-if c (run first) (run second) (keeps-run first) (keeps-run second)) (keeps-run rest) s
   keeps-run (ForThen n lo hi turn rest) s =
       keeps-first_then (for_meaning n lo hi (run turn)) (run rest) (keeps-for n lo hi (run turn) (keeps-run turn)) (keeps-run rest) s
   keeps-run (TrapThen w rest) s = keeps-first_then (λ t. Err (Word w)) (run rest) (λ t. inr refl) (keeps-run rest) s
 
-  tiles_richer : (r r' : Result State Trap) → Outcome r r' → and_then r (λ s. Ok s.tiles) ≢ Err Budget → and_then r' (λ s. Ok s.tiles) ≡ and_then r (λ s. Ok s.tiles)
+  tiles_richer : (r r' : Result State Trap) → Outcome r r' → and_then r (λ s. Ok s.tiles) ≢ Err Budget
+      → and_then r' (λ s. Ok s.tiles) ≡ and_then r (λ s. Ok s.tiles)
   tiles_richer r r' (inl e) want = absurd (want (ap (λ x. and_then x (λ s. Ok s.tiles)) e))
   tiles_richer (Ok s) r' (inr e) want = ap (λ x. and_then x (λ s. Ok s.tiles)) e
   tiles_richer (Err c) r' (inr e) want = ap (λ x. and_then x (λ s. Ok s.tiles)) e

@@ -44,23 +44,28 @@ in_second : (xs ys : List Link) (u : Task) → IsIn u (map far_of ys) → IsIn u
 in_second xs ys u h = rw (map-append far_of xs ys) (IsIn-append_right u (map far_of xs) (map far_of ys) h)
 
 -- a task in no link of the first list is in one of both lists if and only if it is in one of the second
-pub in_rest : (xs ys : List Link) (u : Task) (b : Bool) → (IsIn u (map far_of xs) → ⊥) → IsTrue b ↔ IsIn u (map far_of ys) → IsTrue b ↔ IsIn u (map far_of (xs ++ ys))
+pub in_rest : (xs ys : List Link) (u : Task) (b : Bool) → (IsIn u (map far_of xs) → ⊥)
+    → IsTrue b ↔ IsIn u (map far_of ys) → IsTrue b ↔ IsIn u (map far_of (xs ++ ys))
 in_rest xs ys u b none w = (
   λ q. in_second xs ys u (w.0 q),
   λ h. elim (parts xs ys u h) [ inl a ↦ absurd (none a) | inr k ↦ w.1 k ],
 )
 
 module _ (env : List ℤ) (n : ℕ) (u : Task) (d : DepPlan) (ds : List DepPlan) where
-  pub names-none : (first_only : Bool) (b : Bool) → held_target d env ≡ None → IsTrue b ↔ IsIn u (map far_of (flat_map (links_to env n) (held_targets first_only ds env)))
+  pub names-none : (first_only : Bool) (b : Bool) → held_target d env ≡ None
+      → IsTrue b ↔ IsIn u (map far_of (flat_map (links_to env n) (held_targets first_only ds env)))
       → IsTrue b ↔ IsIn u (map far_of (flat_map (links_to env n) (held_targets first_only (d ∷ ds) env)))
   names-none first_only b e w = rw (held-none first_only d ds env e) w
 
-  pub names-here : (first_only : Bool) (x : Target) → held_target d env ≡ Some x → IsIn u (map far_of (links_to env n x)) → IsIn u (map far_of (flat_map (links_to env n) (held_targets first_only (d ∷ ds) env)))
+  pub names-here : (first_only : Bool) (x : Target) → held_target d env ≡ Some x
+      → IsIn u (map far_of (links_to env n x)) → IsIn u (map far_of
+      (flat_map (links_to env n) (held_targets first_only (d ∷ ds) env)))
   names-here true x e h = rw (held-first d ds env x e) (in_first (links_to env n x) [] u h)
   names-here false x e h = rw (held-more d ds env x e) (in_first (links_to env n x) (flat_map (links_to env n) (held_targets false ds env)) u h)
 
   pub names-later : (first_only b : Bool) (x : Target) → first_only ≡ false → held_target d env ≡ Some x → (IsIn u (map far_of (links_to env n x)) → ⊥)
-      → IsTrue b ↔ IsIn u (map far_of (flat_map (links_to env n) (held_targets first_only ds env))) → IsTrue b ↔ IsIn u (map far_of (flat_map (links_to env n) (held_targets first_only (d ∷ ds) env)))
+      → IsTrue b ↔ IsIn u (map far_of (flat_map (links_to env n) (held_targets first_only ds env)))
+      → IsTrue b ↔ IsIn u (map far_of (flat_map (links_to env n) (held_targets first_only (d ∷ ds) env)))
   names-later true b x k e none w = absurd (false≢true (sym k))
   names-later false b x k e none w = rw (held-more d ds env x e) (in_rest (links_to env n x) (flat_map (links_to env n) (held_targets false ds env)) u b none w)
 
@@ -68,12 +73,16 @@ module _ (env : List ℤ) (n : ℕ) (u : Task) (d : DepPlan) (ds : List DepPlan)
 pub flow_first : (env : List ℤ) (n : ℕ) (f : FlowPlan) (fs : List FlowPlan) (u : Task) → IsIn u (map far_of (flat_map (links_to env n) (flow_ins env f)))
     → IsIn u (map far_of (all_links env (by_flow (flow_targets In env) n (f ∷ fs))))
 flow_first env n f fs u h =
-    rw (by_flow-links env (flow_targets In env) n f fs) (in_first (flat_map (links_to env n) (flow_ins env f)) (all_links env (by_flow (flow_targets In env) (suc n) fs)) u h)
+    rw (by_flow-links env (flow_targets In env) n f fs) (in_first (flat_map (links_to env n) (flow_ins env f))
+    (all_links env (by_flow (flow_targets In env) (suc n) fs)) u h)
 
-pub flow_rest : (env : List ℤ) (n : ℕ) (f : FlowPlan) (fs : List FlowPlan) (u : Task) (b : Bool) → (IsIn u (map far_of (flat_map (links_to env n) (flow_ins env f))) → ⊥)
-    → IsTrue b ↔ IsIn u (map far_of (all_links env (by_flow (flow_targets In env) (suc n) fs))) → IsTrue b ↔ IsIn u (map far_of (all_links env (by_flow (flow_targets In env) n (f ∷ fs))))
+pub flow_rest : (env : List ℤ) (n : ℕ) (f : FlowPlan) (fs : List FlowPlan) (u : Task) (b : Bool)
+    → (IsIn u (map far_of (flat_map (links_to env n) (flow_ins env f))) → ⊥)
+    → IsTrue b ↔ IsIn u (map far_of (all_links env (by_flow (flow_targets In env) (suc n) fs)))
+    → IsTrue b ↔ IsIn u (map far_of (all_links env (by_flow (flow_targets In env) n (f ∷ fs))))
 flow_rest env n f fs u b none w =
-    rw (by_flow-links env (flow_targets In env) n f fs) (in_rest (flat_map (links_to env n) (flow_ins env f)) (all_links env (by_flow (flow_targets In env) (suc n) fs)) u b none w)
+    rw (by_flow-links env (flow_targets In env) n f fs) (in_rest (flat_map (links_to env n) (flow_ins env f))
+    (all_links env (by_flow (flow_targets In env) (suc n) fs)) u b none w)
 
 -- the sources of the edges into a task are the tasks at the other ends of its links
 pub sources-links : (P : Plan) (t : Task) → map far_of (task_links P t In) ≡ sources P t

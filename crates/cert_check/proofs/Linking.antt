@@ -41,11 +41,22 @@ module _ (P : Plan) (ts front back : List Task) (first last : Task) (begins : ts
   pub cycle_closed : IsCycle P ts → IsTask P first × IsSourceOf P last first
   cycle_closed c =
       let a : c.first ≡ first = same_first c.first first c.begins.0 back (sym c.begins.1 ∙ begins) in
-      let z : c.last ≡ last = (same_from_push c.ends.0 front c.last last (sym c.ends.1 ∙ ends)).1 in
-      (chain_task P ts c.chain first (subst (IsIn first) (sym begins) (inl refl)), subst (λ u. IsSourceOf P last u) a (subst (λ u. IsSourceOf P u c.first) z c.closed))
+      let z : c.last ≡ last = (same_from_push c.ends.0 front c.last last (sym c.ends.1 ∙ ends)).1 in (
+        chain_task P ts c.chain first (subst (IsIn first) (sym begins) (inl refl)),
+        subst (λ u. IsSourceOf P last u) a
+            (subst (λ u. IsSourceOf P u c.first) z c.closed),
+      )
 
   pub cycle_is : IsTask P first × IsSourceOf P last first → IsChain P ts → HasNoRepeats ts → IsCycle P ts
-  cycle_is closed chain once = record { chain = chain; differ = once; first = first; begins = (back, begins); last = last; ends = (front, ends); closed = closed.1 }
+  cycle_is closed chain once = record {
+    chain = chain;
+    differ = once;
+    first = first;
+    begins = (back, begins);
+    last = last;
+    ends = (front, ends);
+    closed = closed.1;
+  }
 
   -- if one part fails, the tasks are no cycle
   pub no_link : (IsTask P first × IsSourceOf P last first → ⊥) → IsTrue false ↔ IsCycle P ts

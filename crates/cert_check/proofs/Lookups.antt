@@ -1,5 +1,7 @@
 -- What a binary search finds among rows in task order.
-use Rattle.std.proofs.Common.{◌≡◌, ℕ, ◌<◌, IsTrue, slice_index_or, Option, Some, None, MatchOption, take, drop, length, append_assoc, arith, ◌+◌, ◌↔◌, true, List, [], ◌∷◌, ◌++◌, refl, ap, sym, ◌∙◌, subst, inl, inr}
+use Rattle.std.proofs.Common.{◌≡◌, ℕ, ◌<◌, IsTrue, slice_index_or, Option, Some, None, MatchOption, take, drop, length}
+use Rattle.std.proofs.Common.{append_assoc, arith, ◌+◌, ◌↔◌, true, List, [], ◌∷◌, ◌++◌, refl, ap, sym, ◌∙◌, subst, inl}
+use Rattle.std.proofs.Common.{inr}
 use Rattle.std.specs.Prelude.{nat_le}
 use Rattle.std.proofs.lemmas.Bool.{leb-true, le-leb}
 use Rattle.std.proofs.lemmas.List.{append-nil, take-append-drop}
@@ -29,12 +31,14 @@ rising_left (r ∷ rs) row later up = (λ u i. up.0 u (in_left rs (row ∷ later
     in_left [] ys u i = absurd i
     in_left (x ∷ xs) ys u i = elim i [ inl e ↦ inl e | inr deep ↦ inr (in_left xs ys u deep) ]
 
-pub rising_right : (before : List (Task × ℕ)) (row : Task × ℕ) (later : List (Task × ℕ)) → IsRising (keys_of (before ++ row ∷ later)) → IsRising (keys_of (row ∷ later))
+pub rising_right : (before : List (Task × ℕ)) (row : Task × ℕ) (later : List (Task × ℕ))
+    → IsRising (keys_of (before ++ row ∷ later)) → IsRising (keys_of (row ∷ later))
 rising_right [] row later up = up
 rising_right (r ∷ rs) row later up = rising_right rs row later up.1
 
 -- the tasks of the rows before one are before its task
-before_all : (before : List (Task × ℕ)) (row : Task × ℕ) (later : List (Task × ℕ)) → IsRising (keys_of (before ++ row ∷ later)) → (u : Task) → IsIn u (keys_of before) → task_before u row.0 ≡ true
+before_all : (before : List (Task × ℕ)) (row : Task × ℕ) (later : List (Task × ℕ))
+    → IsRising (keys_of (before ++ row ∷ later)) → (u : Task) → IsIn u (keys_of before) → task_before u row.0 ≡ true
 before_all [] row later up u i = absurd i
 before_all (r ∷ rs) row later up u i = elim i [
   | inl e ↦ subst (λ v. task_before v row.0 ≡ true) (sym e) (up.0 row.0 (among rs row later))
@@ -83,7 +87,8 @@ module _ (before : List (Task × ℕ)) (row : Task × ℕ) (later : List (Task �
     λ e. IsIn-append_right (t, k) before (row ∷ later) (inl (λ i. (same i, e i))),
   )
 
-pub split_rows : (rows before after later : List (Task × ℕ)) (row : Task × ℕ) (n : ℕ) → before ≡ take n rows → after ≡ drop n rows → after ≡ row ∷ later → before ++ row ∷ later ≡ rows
+pub split_rows : (rows before after later : List (Task × ℕ)) (row : Task × ℕ) (n : ℕ) → before ≡ take n rows
+    → after ≡ drop n rows → after ≡ row ∷ later → before ++ row ∷ later ≡ rows
 split_rows rows before after later row n b a s = ap (λ l. l ++ row ∷ later) b ∙ ap (λ l. take n rows ++ l) (sym s ∙ a) ∙ take-append-drop n rows
 
 -- the level n is high enough for the source of each edge before those that are left
@@ -92,7 +97,8 @@ pub record AboveSoFar (levels : List (Task × ℕ)) (w n : ℕ) (all left : List
   pub split : all ≡ passed ++ left
   pub above : (e : Edge) → IsIn e passed → IsAboveSource levels w n e.from
 
-pub above_next : (levels : List (Task × ℕ)) (w n : ℕ) (all left : List Edge) (e : Edge) → AboveSoFar levels w n all (e ∷ left) → IsAboveSource levels w n e.from → AboveSoFar levels w n all left
+pub above_next : (levels : List (Task × ℕ)) (w n : ℕ) (all left : List Edge) (e : Edge)
+    → AboveSoFar levels w n all (e ∷ left) → IsAboveSource levels w n e.from → AboveSoFar levels w n all left
 above_next levels w n all left e a h = record {
   passed = a.passed ++ e ∷ [];
   split = a.split ∙ sym (append_assoc a.passed (e ∷ []) left);
@@ -102,14 +108,16 @@ above_next levels w n all left e a h = record {
   ];
 }
 
-pub above_end : (P : Plan) (t : Task) (levels : List (Task × ℕ)) (w n : ℕ) (all : List Edge) → all ≡ in_edges P t → AboveSoFar levels w n all [] → (s : Task) → IsSourceOf P s t → IsAboveSource levels w n s
+pub above_end : (P : Plan) (t : Task) (levels : List (Task × ℕ)) (w n : ℕ) (all : List Edge) → all ≡ in_edges P t
+    → AboveSoFar levels w n all [] → (s : Task) → IsSourceOf P s t → IsAboveSource levels w n s
 above_end P t levels w n all is a s link =
     let e = from_map (λ (d : Edge). d.from) (in_edges P t) s link in
     let these : in_edges P t ≡ a.passed = sym is ∙ a.split ∙ append-nil a.passed in
     subst (IsAboveSource levels w n) (sym e.2) (a.above e.0 (subst (IsIn e.0) these e.1))
 
 -- an edge that is left comes from a source
-pub above_source : (P : Plan) (t : Task) (levels : List (Task × ℕ)) (w n : ℕ) (all left : List Edge) (e : Edge) → all ≡ in_edges P t → AboveSoFar levels w n all (e ∷ left) → IsSourceOf P e.from t
+pub above_source : (P : Plan) (t : Task) (levels : List (Task × ℕ)) (w n : ℕ) (all left : List Edge) (e : Edge)
+    → all ≡ in_edges P t → AboveSoFar levels w n all (e ∷ left) → IsSourceOf P e.from t
 above_source P t levels w n all left e is a =
     IsIn-map (λ (d : Edge). d.from) (in_edges P t) e (subst (IsIn e) (sym a.split ∙ is) (IsIn-append_right e a.passed (e ∷ left) (inl refl)))
 
@@ -117,11 +125,13 @@ above_source P t levels w n all left e is a =
 abbrev pub LevelIs : List (Task × ℕ) → Task → Option ℕ → Type 0
 LevelIs rows t o = MatchOption o ((k : ℕ) → IsIn (t, k) rows → ⊥) (λ n. (k : ℕ) → IsIn (t, k) rows ↔ (k ≡ n))
 
-pub level_moves : (rows part : List (Task × ℕ)) (t : Task) (o : Option ℕ) → ((k : ℕ) → IsIn (t, k) rows ↔ IsIn (t, k) part) → LevelIs part t o → LevelIs rows t o
+pub level_moves : (rows part : List (Task × ℕ)) (t : Task) (o : Option ℕ)
+    → ((k : ℕ) → IsIn (t, k) rows ↔ IsIn (t, k) part) → LevelIs part t o → LevelIs rows t o
 level_moves rows part t None h l = λ k i. l k ((h k).0 i)
 level_moves rows part t (Some n) h l = λ k. (λ i. (l k).0 ((h k).0 i), λ e. (h k).1 ((l k).1 e))
 
-pub above_by : (levels : List (Task × ℕ)) (s : Task) (w n level a b d : ℕ) → a ≡ level → b ≡ w → d ≡ n → ((k : ℕ) → IsIn (s, k) levels ↔ (k ≡ level)) → IsTrue (nat_le (a + b) d) ↔ IsAboveSource levels w n s
+pub above_by : (levels : List (Task × ℕ)) (s : Task) (w n level a b d : ℕ) → a ≡ level → b ≡ w → d ≡ n
+    → ((k : ℕ) → IsIn (s, k) levels ↔ (k ≡ level)) → IsTrue (nat_le (a + b) d) ↔ IsAboveSource levels w n s
 above_by levels s w n level a b d p q r found = (
   λ e k i. let same = (found k).0 i in let most = leb-true (a + b) d e in omega (arith, same, most, p, q, r),
   λ h. let most = h level ((found level).1 refl) in le-leb (a + b) d (omega (arith, most, p, q, r)),

@@ -56,7 +56,8 @@ in_place P (t ∷ ts) up job = ((job t (inl refl), before_first t ts up.0), in_p
 
 module _ (P : Plan) where
   -- as many rows as there are tasks, each in place, are all tasks in task order
-  pub has_order : (rows : List (Task × ℕ)) → length rows ≡ length (all_tasks P) → (b : Bool) → IsTrue b ↔ AreInPlace P (keys_of rows) → IsTrue b ↔ HasTasksInOrder P rows
+  pub has_order : (rows : List (Task × ℕ)) → length rows ≡ length (all_tasks P) → (b : Bool)
+      → IsTrue b ↔ AreInPlace P (keys_of rows) → IsTrue b ↔ HasTasksInOrder P rows
   has_order rows many b h = (
     λ e.
         let placed = h.0 e in

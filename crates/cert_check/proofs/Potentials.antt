@@ -15,7 +15,8 @@ module _ (P : Plan) (ws : List ℕ) (levels : List (Task × ℕ)) (order : HasTa
   module _ (high : AreHighEnough P ws levels levels) where
     -- a chain weighs at most the greatest level, also together with a weight `below` for which the level of its first
     -- task leaves room
-    climb : (t : Task) (ts : List Task) (n below : ℕ) → IsChain P (t ∷ ts) → IsIn (t, n) levels → below + weight ws t ≤ n → below + chain_weight ws (t ∷ ts) ≤ greatest_level levels
+    climb : (t : Task) (ts : List Task) (n below : ℕ) → IsChain P (t ∷ ts) → IsIn (t, n) levels
+        → below + weight ws t ≤ n → below + chain_weight ws (t ∷ ts) ≤ greatest_level levels
     climb t [] n below c i h = omega (arith, h, at_most_greatest levels (t, n) i)
     climb t (u ∷ us) n below c i h =
         let row = row_of P ws levels order u c.2.0 in
@@ -32,7 +33,8 @@ module _ (P : Plan) (ws : List ℕ) (levels : List (Task × ℕ)) (order : HasTa
   pub rows_high : (chain : List Task) → ShowsHeaviest P ws chain levels → AreHighEnough P ws levels levels
   rows_high chain s row i = record { own = s.own row.0 row.1 i; above = λ t link k j. s.above t row.0 k row.1 j i link }
 
-  pub shows : (chain : List Task) → AreHighEnough P ws levels levels → IsChain P chain → chain_weight ws chain ≡ greatest_level levels → ShowsHeaviest P ws chain levels
+  pub shows : (chain : List Task) → AreHighEnough P ws levels levels → IsChain P chain
+      → chain_weight ws chain ≡ greatest_level levels → ShowsHeaviest P ws chain levels
   shows chain high c e = record {
     tasks = order;
     own = λ t n i. (high (t, n) i).own;
@@ -42,23 +44,28 @@ module _ (P : Plan) (ws : List ℕ) (levels : List (Task × ℕ)) (order : HasTa
   }
 
 -- what the checker returns, by what it has found
-pub not_ordered : (P : Plan) (ws : List ℕ) (chain : List Task) (levels : List (Task × ℕ)) → (HasTasksInOrder P levels → ⊥) → IsTrue false ↔ ShowsHeaviest P ws chain levels
+pub not_ordered : (P : Plan) (ws : List ℕ) (chain : List Task) (levels : List (Task × ℕ))
+    → (HasTasksInOrder P levels → ⊥) → IsTrue false ↔ ShowsHeaviest P ws chain levels
 not_ordered P ws chain levels h = (λ e. absurd (false≢true e), λ s. absurd (h s.tasks))
 
-pub not_high : (P : Plan) (ws : List ℕ) (chain : List Task) (levels : List (Task × ℕ)) → (AreHighEnough P ws levels levels → ⊥) → IsTrue false ↔ ShowsHeaviest P ws chain levels
+pub not_high : (P : Plan) (ws : List ℕ) (chain : List Task) (levels : List (Task × ℕ))
+    → (AreHighEnough P ws levels levels → ⊥) → IsTrue false ↔ ShowsHeaviest P ws chain levels
 not_high P ws chain levels h = (λ e. absurd (false≢true e), λ s. absurd (h (rows_high P ws levels s.tasks chain s)))
 
 pub not_chain : (P : Plan) (ws : List ℕ) (chain : List Task) (levels : List (Task × ℕ)) → (IsChain P chain → ⊥) → IsTrue false ↔ ShowsHeaviest P ws chain levels
 not_chain P ws chain levels h = (λ e. absurd (false≢true e), λ s. absurd (h s.is_chain))
 
-pub by_weight : (P : Plan) (ws : List ℕ) (chain : List Task) (levels : List (Task × ℕ)) → HasTasksInOrder P levels → AreHighEnough P ws levels levels → IsChain P chain
+pub by_weight : (P : Plan) (ws : List ℕ) (chain : List Task) (levels : List (Task × ℕ)) → HasTasksInOrder P levels
+    → AreHighEnough P ws levels levels → IsChain P chain
     → (b : Bool) → IsTrue b ↔ (chain_weight ws chain ≡ greatest_level levels) → IsTrue b ↔ ShowsHeaviest P ws chain levels
 by_weight P ws chain levels order high c b h = (λ e. shows P ws levels order chain high c (h.0 e), λ s. h.1 s.heaviest)
 
 -- then no chain is heavier
-pub none_heavier : (P : Plan) (ws : List ℕ) (chain : List Task) (levels : List (Task × ℕ)) → ShowsHeaviest P ws chain levels → (ts : List Task) → IsChain P ts → chain_weight ws ts ≤ chain_weight ws chain
+pub none_heavier : (P : Plan) (ws : List ℕ) (chain : List Task) (levels : List (Task × ℕ))
+    → ShowsHeaviest P ws chain levels → (ts : List Task) → IsChain P ts → chain_weight ws ts ≤ chain_weight ws chain
 none_heavier P ws chain levels s ts c = omega (arith, bounded P ws levels s.tasks (rows_high P ws levels s.tasks chain s) ts c, s.heaviest)
 
 -- a test of two numbers that are the weight of a chain and the greatest level
-pub weighs : (ws : List ℕ) (chain : List Task) (levels : List (Task × ℕ)) (a b : ℕ) → a ≡ chain_weight ws chain → b ≡ greatest_level levels → IsTrue (nat_eq a b) ↔ (chain_weight ws chain ≡ greatest_level levels)
+pub weighs : (ws : List ℕ) (chain : List Task) (levels : List (Task × ℕ)) (a b : ℕ) → a ≡ chain_weight ws chain
+    → b ≡ greatest_level levels → IsTrue (nat_eq a b) ↔ (chain_weight ws chain ≡ greatest_level levels)
 weighs ws chain levels a b p q = (λ e. sym p ∙ eqb-true a b e ∙ q, λ e. eq-eqb a b (p ∙ e ∙ sym q))

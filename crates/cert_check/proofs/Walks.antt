@@ -1,5 +1,6 @@
 -- A walk along a list that looks at all that is left, and what it shows of the whole list.
-use Rattle.std.proofs.Common.{◌≡◌, ℕ, zero, suc, ◌+◌, ◌<◌, ◌≤◌, ◌↔◌, true, false, List, [], ◌∷◌, length, drop, refl, ap, sym, ◌∙◌, subst, add-one, IsTrue, arith}
+use Rattle.std.proofs.Common.{◌≡◌, ℕ, zero, suc, ◌+◌, ◌<◌, ◌≤◌, ◌↔◌, true, false, List, [], ◌∷◌, length, drop, refl, ap}
+use Rattle.std.proofs.Common.{sym, ◌∙◌, subst, add-one, IsTrue, arith}
 use Rattle.std.proofs.lemmas.Bool.{false≢true}
 use Rattle.std.proofs.lemmas.List.{drop_all}
 
@@ -13,7 +14,8 @@ drop_next {A} xs k h = let p = by xs k h in (p.0, p.1 ∙ ap (λ n. p.0 ∷ drop
     by (x ∷ xs) (suc k) h = by xs k (omega arith)
 
 -- a property that a list has if and only if its tail has it and something more holds of the list
-module _ {A : Type 0} (Q R : List A → Type 0) (none : Q []) (split : (x : A) (xs : List A) → Q (x ∷ xs) → R (x ∷ xs) × Q xs) (join : (x : A) (xs : List A) → R (x ∷ xs) → Q xs → Q (x ∷ xs)) where
+module _ {A : Type 0} (Q R : List A → Type 0) (none : Q []) (split : (x : A) (xs : List A) → Q (x ∷ xs)
+    → R (x ∷ xs) × Q xs) (join : (x : A) (xs : List A) → R (x ∷ xs) → Q xs → Q (x ∷ xs)) where
   first_holds : (xs : List A) (k : ℕ) → k < length xs → Q (drop k xs) → R (drop k xs)
   first_holds xs k h q = let p = drop_next xs k h in subst R (sym p.1) (split p.0 (drop (k + 1) xs) (subst Q p.1 q)).0
 

@@ -22,7 +22,8 @@ use Rattle.chain_cert.proofs.Unique.{level_one}
 
 -- a chain that is traced back weighs the level of its end, and is a chain
 module _ (P : Plan) (con : IsConsistent P) (ws : List ℕ) where
-  traced : (t : Task) (n : ℕ) (ss done : List Task) → IsTracedBack P ws t ss → IsLevel P ws t n → IsChain P (t ∷ done) → IsChain P (turned ss (t ∷ done)) × (chain_weight ws (turned ss (t ∷ done)) ≡ n + chain_weight ws done)
+  traced : (t : Task) (n : ℕ) (ss done : List Task) → IsTracedBack P ws t ss → IsLevel P ws t n → IsChain P (t ∷ done)
+      → IsChain P (turned ss (t ∷ done)) × (chain_weight ws (turned ss (t ∷ done)) ≡ n + chain_weight ws done)
   traced t n [] done b l c = (c, omega (arith, level_one P ws t n (weight ws t) l b))
   traced t n (s ∷ ss) done b l c =
       let k = b.1.kind in
@@ -30,7 +31,9 @@ module _ (P : Plan) (con : IsConsistent P) (ws : List ℕ) where
       let p = traced s k.level ss (t ∷ done) b.2 k.source_level (source_task P con s t c.0 k.source, k.source, c) in
       (p.0, omega (arith, p.1, same))
 
-  pub printed_weighs : (chain : List Task) → IsPrintedChain P ws chain → IsChain P chain × ((levels : List (Task × ℕ)) → AreLevels P ws levels → chain_weight ws chain ≡ greatest_level levels)
+  pub printed_weighs : (chain : List Task) → IsPrintedChain P ws chain
+      → IsChain P chain × ((levels : List (Task × ℕ)) → AreLevels P ws levels
+      → chain_weight ws chain ≡ greatest_level levels)
   printed_weighs chain p = by p.back p.is_back p.turned
     where
       none_greatest : (levels : List (Task × ℕ)) → AreLevels P ws levels → all_tasks P ≡ [] → greatest_level levels ≡ 0
@@ -41,7 +44,9 @@ module _ (P : Plan) (con : IsConsistent P) (ws : List ℕ) where
       greatest_at [] n h = omega arith
       greatest_at (r ∷ rs) n h = omega (arith, h r (inl refl), greatest_at rs n (λ row i. h row (inr i)))
 
-      by : (back : List Task) → IsChainBack P ws back → chain ≡ reverse back → IsChain P chain × ((levels : List (Task × ℕ)) → AreLevels P ws levels → chain_weight ws chain ≡ greatest_level levels)
+      by : (back : List Task) → IsChainBack P ws back → chain ≡ reverse back
+          → IsChain P chain × ((levels : List (Task × ℕ)) → AreLevels P ws levels
+          → chain_weight ws chain ≡ greatest_level levels)
       by [] none is = (subst (IsChain P) (sym is) tt, λ levels a. ap (chain_weight ws) is ∙ sym (none_greatest levels a none))
       by (t ∷ ts) b is =
           let last = b.0.kind in
@@ -52,7 +57,8 @@ module _ (P : Plan) (con : IsConsistent P) (ws : List ℕ) where
                 let row = row_of P ws levels a.tasks t last.task in
                 let is_level = level_one P ws t row.0 last.level (a.each t row.0 row.1) last.is_level in
                 let over = at_most_greatest levels (t, row.0) row.1 in
-                let under = greatest_at levels last.level (λ r i. last.greatest r.0 r.1 ((order_task P levels a.tasks r.0).0 (in_rows levels r i)) (a.each r.0 r.1 i)) in
+                let under = greatest_at levels last.level (λ r i. last.greatest r.0 r.1
+                ((order_task P levels a.tasks r.0).0 (in_rows levels r i)) (a.each r.0 r.1 i)) in
                 omega (arith, ap (chain_weight ws) same, q.1, is_level, over, under),
           )
         where

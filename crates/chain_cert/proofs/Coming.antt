@@ -43,8 +43,16 @@ may_come P order es e rest h =
 pub come_next : (P : Plan) (order : List Task) (es : List Edge) (e : Edge) → HaveCome P order es → MayCome P es order e → HaveCome P order (es ++ e ∷ [])
 come_next P order es e h may = record {
   once = HasNoRepeats-append es (e ∷ []) h.once ((λ i. i), tt) (λ d i j. elim j [ inl q ↦ may.new (subst (λ x. IsIn x es) q i) | inr never ↦ never ]);
-  from = λ d i. elim (from_append d es (e ∷ []) i) [ inl old ↦ h.from d old | inr new ↦ elim new [ inl q ↦ subst (λ (x : Edge). IsIn x.from order) (sym q) may.from | inr never ↦ absurd never ] ];
-  out = λ d i. elim (from_append d es (e ∷ []) i) [ inl old ↦ h.out d old | inr new ↦ elim new [ inl q ↦ subst (λ (x : Edge). IsIn x (out_edges P x.from)) (sym q) may.out | inr never ↦ absurd never ] ];
+  from = λ d i. elim (from_append d es (e ∷ []) i) [
+    | inl old ↦ h.from d old
+    | inr new ↦ elim new
+        [ inl q ↦ subst (λ (x : Edge). IsIn x.from order) (sym q) may.from | inr never ↦ absurd never ]
+  ];
+  out = λ d i. elim (from_append d es (e ∷ []) i) [
+    | inl old ↦ h.out d old
+    | inr new ↦ elim new
+        [ inl q ↦ subst (λ (x : Edge). IsIn x (out_edges P x.from)) (sym q) may.out | inr never ↦ absurd never ]
+  ];
 }
 
 pub to_push : (t : Task) (es : List Edge) (e : Edge) → edge_count_to t (es ++ e ∷ []) ≡ edge_count_to t es + as_number (same_task t e.to)
@@ -72,13 +80,16 @@ module _ (P : Plan) (con : IsConsistent P) where
     -- no more have come to a task than go into it
     pub to_at_most : edge_count_to t came ≤ goal P t
     to_at_most =
-        let few = no_longer (filter (λ (d : Edge). same_task t d.to) came) (in_edges P t) (HasNoRepeats-filter (λ (d : Edge). same_task t d.to) came h.once) these_in in
+        let few = no_longer (filter (λ (d : Edge). same_task t d.to) came) (in_edges P t)
+        (HasNoRepeats-filter (λ (d : Edge). same_task t d.to) came h.once) these_in in
         omega (arith, few, length-filter (λ (d : Edge). same_task t d.to) came)
 
     -- if as many have come as go into it, all have
     pub all_came : goal P t ≤ edge_count_to t came → (e : Edge) → IsIn e (in_edges P t) → IsIn e came
     all_came enough e i =
-        let j = onto (filter (λ (d : Edge). same_task t d.to) came) (in_edges P t) (HasNoRepeats-filter (λ (d : Edge). same_task t d.to) came h.once) these_in (omega (arith, enough, length-filter (λ (d : Edge). same_task t d.to) came)) e i in
+        let j = onto (filter (λ (d : Edge). same_task t d.to) came) (in_edges P t)
+        (HasNoRepeats-filter (λ (d : Edge). same_task t d.to) came h.once) these_in
+        (omega (arith, enough, length-filter (λ (d : Edge). same_task t d.to) came)) e i in
         ((IsIn-filter (λ (d : Edge). same_task t d.to) came e).0 j).0
 
     -- and the other way round

@@ -17,7 +17,8 @@ module _ (P : Plan) (G : Data) where
   unfolding answer
   some_trap h none = by (length (ran P G) == length (all_tasks P)) (subst (λ rows. is_trapped (answer_by P G rows) ≡ true) none h)
     where
-      by : (b : Bool) → is_trapped (cond b (Complete (length (all_tasks P)) (final_data P G)) (Stalled (length (ran P G)) (length (all_tasks P)) (waiting P G))) ≡ true → ⊥
+      by : (b : Bool) → is_trapped (cond b (Complete (length (all_tasks P)) (final_data P G))
+          (Stalled (length (ran P G)) (length (all_tasks P)) (waiting P G))) ≡ true → ⊥
       by true k = false≢true k
       by false k = false≢true k
 

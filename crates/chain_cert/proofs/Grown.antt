@@ -1,5 +1,7 @@
 -- How an order grows by edges, and where it ends.
-use Rattle.std.proofs.Common.{◌≡◌, ℕ, zero, suc, ◌+◌, length-append, ◌<◌, ◌≤◌, ◌↔◌, ◌==◌, false, List, [], ◌∷◌, ◌++◌, length, take, slice_get, refl, ap, sym, ◌∙◌, subst, append_assoc, inl, inr, Some, arith, eq-eqb, add-one}
+use Rattle.std.proofs.Common.{◌≡◌, ℕ, zero, suc, ◌+◌, length-append, ◌<◌, ◌≤◌, ◌↔◌, ◌==◌, false, List, [], ◌∷◌, ◌++◌}
+use Rattle.std.proofs.Common.{length, take, slice_get, refl, ap, sym, ◌∙◌, subst, append_assoc, inl, inr, Some, arith}
+use Rattle.std.proofs.Common.{eq-eqb, add-one}
 use Rattle.std.proofs.lemmas.Bool.{eqb-true}
 use Rattle.std.proofs.lemmas.List.{append-nil, take-append-le, nil_from_length}
 use Rattle.ptg_base.specs.Lists.{HasNoRepeats, IsIn}
@@ -41,19 +43,23 @@ grows_not P order table = record {
 }
 
 -- some edges come, and then others
-pub grows_then : (P : Plan) (es fs : List Edge) (a b c : List Task) (x y z : List (Task × ℕ)) → GrowsBy P es a x b y → GrowsBy P fs b y c z → GrowsBy P (es ++ fs) a x c z
+pub grows_then : (P : Plan) (es fs : List Edge) (a b c : List Task) (x y z : List (Task × ℕ)) → GrowsBy P es a x b y
+    → GrowsBy P fs b y c z → GrowsBy P (es ++ fs) a x c z
 grows_then P es fs a b c x y z g h = record {
   more = g.more ++ h.more;
   extends = h.extends ∙ ap (λ l. l ++ h.more) g.extends ∙ append_assoc a g.more h.more;
   grown = λ came old all.
       let all_of : HaveCome P a ((came ++ es) ++ fs) = subst (HaveCome P a) (sym (append_assoc came es fs)) all in
-      let then = h.grown (came ++ es) (g.grown came old (come_first P a (came ++ es) fs all_of)) (subst (λ l. HaveCome P l ((came ++ es) ++ fs)) (sym g.extends) (come_longer P a g.more ((came ++ es) ++ fs) all_of)) in
+      let then = h.grown (came ++ es) (g.grown came old (come_first P a (came ++ es) fs all_of))
+      (subst (λ l. HaveCome P l ((came ++ es) ++ fs)) (sym g.extends)
+      (come_longer P a g.more ((came ++ es) ++ fs) all_of)) in
       subst (λ l. HasGrown P l c z) (append_assoc came es fs) then;
 }
 
 module _ (P : Plan) (con : IsConsistent P) where
   -- a task to which an edge may come lacks at least one
-  pub lacks : (came : List Edge) (order : List Task) (table : List (Task × ℕ)) (e : Edge) → HasGrown P came order table → MayCome P came order e → IsTask P e.to × (0 < lacking P table e.to)
+  pub lacks : (came : List Edge) (order : List Task) (table : List (Task × ℕ)) (e : Edge) → HasGrown P came order table
+      → MayCome P came order e → IsTask P e.to × (0 < lacking P table e.to)
   lacks came order table e g may =
       let job = legal_tasks P [] order g.legal e.from may.from in
       let to = (con.connected e.from job).to_tasks e may.out in
@@ -95,8 +101,11 @@ module _ (P : Plan) (con : IsConsistent P) where
         ready = λ u job.
             by_test (same_task u e.to)
             (λ k.
-            let same : u ≡ e.to = (same_task-decides u e.to).0 k in
-            (λ _. ap (lacking P new) same ∙ own ∙ none, λ _. subst (λ v. IsIn v (order ++ e.to ∷ [])) (sym same) (IsIn-append_right e.to order (e.to ∷ []) (inl refl))))
+            let same : u ≡ e.to = (same_task-decides u e.to).0 k in (
+              λ _. ap (lacking P new) same ∙ own ∙ none,
+              λ _. subst (λ v. IsIn v (order ++ e.to ∷ [])) (sym same)
+                  (IsIn-append_right e.to order (e.to ∷ []) (inl refl)),
+            ))
             (λ k. (
               λ i. elim (from_append u order (e.to ∷ []) i) [
                 | inl old ↦ other u k ∙ (g.ready u job).0 old
@@ -127,22 +136,31 @@ module _ (P : Plan) (con : IsConsistent P) where
     grows_same some = record { more = []; extends = sym (append-nil order); grown = λ came g all. grown_same came g all some }
 
   -- all edges out of the next task may come
-  pub next_come : (came : List Edge) (order : List Task) (table : List (Task × ℕ)) (t : Task) → HasGrown P came order table → IsNext P came order t → HaveCome P order (came ++ out_edges P t)
+  pub next_come : (came : List Edge) (order : List Task) (table : List (Task × ℕ)) (t : Task)
+      → HasGrown P came order table → IsNext P came order t → HaveCome P order (came ++ out_edges P t)
   next_come came order table t g next =
       let job = legal_tasks P [] order g.legal t next.member in
       let from : (e : Edge) → IsIn e (out_edges P t) → e.from ≡ t = λ e i. out_edge_from P t e i in
       record {
         once = HasNoRepeats-append came (out_edges P t) g.edges.once (once-out_edges P con t job) (λ e i j. next.new e i (from e j));
-        from = λ e i. elim (from_append e came (out_edges P t) i) [ inl old ↦ g.edges.from e old | inr here ↦ subst (λ s. IsIn s order) (sym (from e here)) next.member ];
-        out = λ e i. elim (from_append e came (out_edges P t) i) [ inl old ↦ g.edges.out e old | inr here ↦ subst (λ s. IsIn e (out_edges P s)) (sym (from e here)) here ];
+        from = λ e i. elim (from_append e came (out_edges P t) i)
+            [ inl old ↦ g.edges.from e old | inr here ↦ subst (λ s. IsIn s order) (sym (from e here)) next.member ];
+        out = λ e i. elim (from_append e came (out_edges P t) i)
+            [ inl old ↦ g.edges.out e old | inr here ↦ subst (λ s. IsIn e (out_edges P s)) (sym (from e here)) here ];
       }
 
   -- a task that no edge goes into may follow any tasks but itself
-  legal_roots : (before ts : List Task) → HasNoRepeats ts → ((t : Task) → IsIn t ts → IsTask P t × (goal P t ≡ 0) × (IsIn t before → ⊥)) → IsLegalAfter P before ts
+  legal_roots : (before ts : List Task) → HasNoRepeats ts → ((t : Task) → IsIn t ts
+      → IsTask P t × (goal P t ≡ 0) × (IsIn t before → ⊥)) → IsLegalAfter P before ts
   legal_roots before [] once h = tt
   legal_roots before (t ∷ ts) once h =
       let here = h t (inl refl) in
-      let may : MayFollow P before t = record { task = here.0; first_time = here.2; after_sources = λ e i. absurd (subst (IsIn e) (nil_from_length (in_edges P t) here.1) i) } in (
+      let may : MayFollow P before t = record {
+        task = here.0;
+        first_time = here.2;
+        after_sources = λ e i. absurd
+            (subst (IsIn e) (nil_from_length (in_edges P t) here.1) i);
+      } in (
         may,
         legal_roots (before ++ t ∷ []) ts once.1 (λ u i.
             let there = h u (inr i) in (
@@ -171,7 +189,8 @@ module _ (P : Plan) (con : IsConsistent P) where
   })
 
   -- a list, split before and after the element at an index
-  take_split : {A : Type 0} (n : ℕ) (xs : List A) (x : A) → slice_get xs n ≡ Some x → (rest : List A) × (xs ≡ take n xs ++ x ∷ rest) × (take (n + 1) xs ≡ take n xs ++ x ∷ [])
+  take_split : {A : Type 0} (n : ℕ) (xs : List A) (x : A) → slice_get xs n ≡ Some x
+      → (rest : List A) × (xs ≡ take n xs ++ x ∷ rest) × (take (n + 1) xs ≡ take n xs ++ x ∷ [])
   take_split n [] x h = absurd cc
   take_split zero (y ∷ ys) x h = let e : y ≡ x = cc in (ys, ap (λ z. z ∷ ys) e, ap (λ z. z ∷ []) e)
   take_split (suc n) (y ∷ ys) x h =
@@ -182,7 +201,9 @@ module _ (P : Plan) (con : IsConsistent P) where
   take_longer n xs ys h = take-append-le n xs ys h
 
   -- the task at an index is next, once those before it have passed
-  pub is_next : (n : ℕ) (order : List Task) (table : List (Task × ℕ)) (t : Task) → HasGrown P (edges_of P (take n order)) order table → slice_get order n ≡ Some t → IsNext P (edges_of P (take n order)) order t
+  pub is_next : (n : ℕ) (order : List Task) (table : List (Task × ℕ)) (t : Task)
+      → HasGrown P (edges_of P (take n order)) order table → slice_get order n ≡ Some t
+      → IsNext P (edges_of P (take n order)) order t
   is_next n order table t g at =
       let p = take_split n order t at in
       let once = legal_once P [] order g.legal in
@@ -195,7 +216,8 @@ module _ (P : Plan) (con : IsConsistent P) where
       }
 
   -- and then one more has passed
-  pub passed : (n : ℕ) (order new : List Task) (table new_table : List (Task × ℕ)) (t : Task) → HasGrown P (edges_of P (take n order)) order table → slice_get order n ≡ Some t
+  pub passed : (n : ℕ) (order new : List Task) (table new_table : List (Task × ℕ)) (t : Task)
+      → HasGrown P (edges_of P (take n order)) order table → slice_get order n ≡ Some t
       → GrowsBy P (out_edges P t) order table new new_table → HasGrown P (edges_of P (take (n + 1) new)) new new_table
   passed n order new table new_table t g at grows =
       let next = is_next n order table t g at in
@@ -221,7 +243,8 @@ module _ (P : Plan) (con : IsConsistent P) where
   greatest order table g = record {
     legal = g.legal;
     greatest = λ t may.
-        let all : (e : Edge) → IsIn e (in_edges P t) → IsIn e (edges_of P order) = λ e i. IsIn-flat_map (out_edges P) order e.from e (may.after_sources e i) (comes_from P con t may.task e i) in
+        let all : (e : Edge) → IsIn e (in_edges P t) → IsIn e (edges_of P order) = λ e i. IsIn-flat_map (out_edges P)
+        order e.from e (may.after_sources e i) (comes_from P con t may.task e i) in
         let enough = as_many P con order g.legal (edges_of P order) g.edges t may.task all in
         may.first_time ((g.ready t may.task).1 (omega (arith, enough, g.counts t may.task)));
   }

@@ -1,5 +1,6 @@
 -- The least of some tasks, and the heaviest row.
-use Rattle.std.proofs.Common.{◌≡◌, ℕ, ◌<◌, Bool, true, false, List, [], ◌∷◌, ◌++◌, cond, refl, ap, sym, ◌∙◌, subst, append_assoc, ◌⊎◌, inl, inr, Option, Some, None, arith}
+use Rattle.std.proofs.Common.{◌≡◌, ℕ, ◌<◌, Bool, true, false, List, [], ◌∷◌, ◌++◌, cond, refl, ap, sym, ◌∙◌, subst}
+use Rattle.std.proofs.Common.{append_assoc, ◌⊎◌, inl, inr, Option, Some, None, arith}
 use Rattle.std.specs.Prelude.{nat_le}
 use Rattle.std.specs.List.{filter, fold, reduce}
 use Rattle.std.specs.Ordering.{min_by_ordering}
@@ -81,7 +82,8 @@ module _ (test : Task → Bool) where
     where
       pick : (o : Ordering) → task_cmp a t ≡ o → IsLeastWhere test (seen ++ t ∷ []) (Some (min_by_ordering o a t))
       pick Less e = least_old test seen t a (false_from_ne_true (task_before t a) (not_both a t ((task_cmp-compares a t).before.0 e))) h
-      pick Equal e = least_old test seen t a (false_from_ne_true (task_before t a) (λ b. not_itself a (subst (λ u. task_before u a ≡ true) (sym ((task_cmp-compares a t).same.0 e)) b))) h
+      pick Equal e = least_old test seen t a (false_from_ne_true (task_before t a)
+          (λ b. not_itself a (subst (λ u. task_before u a ≡ true) (sym ((task_cmp-compares a t).same.0 e)) b))) h
       pick Greater e = least_new test seen t a passes ((task_cmp-compares a t).after.0 e) h
 
   least_after : (seen ts : List Task) (o : Option Task) → IsLeastWhere test seen o → IsLeastWhere test (seen ++ ts) (picks o (filter test ts))
@@ -91,8 +93,11 @@ module _ (test : Task → Bool) where
       let others = filter test ts in
       subst (λ l. IsLeastWhere test l (picks o (filter test (t ∷ ts)))) (append_assoc seen (t ∷ []) ts)
       (by_test (test t)
-      (λ k. subst (IsLeastWhere test ((seen ++ t ∷ []) ++ ts)) (picks_next o t others ∙ ap (λ b. picks o (cond b (t ∷ others) others)) (sym k)) (least_after (seen ++ t ∷ []) ts (next o t) (least_next seen t o k h)))
-      (λ k. subst (IsLeastWhere test ((seen ++ t ∷ []) ++ ts)) (ap (λ b. picks o (cond b (t ∷ others) others)) (sym k)) (least_after (seen ++ t ∷ []) ts o (least_skips test seen t o k h))))
+      (λ k. subst (IsLeastWhere test ((seen ++ t ∷ []) ++ ts))
+      (picks_next o t others ∙ ap (λ b. picks o (cond b (t ∷ others) others)) (sym k))
+      (least_after (seen ++ t ∷ []) ts (next o t) (least_next seen t o k h)))
+      (λ k. subst (IsLeastWhere test ((seen ++ t ∷ []) ++ ts)) (ap (λ b. picks o (cond b (t ∷ others) others)) (sym k))
+      (least_after (seen ++ t ∷ []) ts o (least_skips test seen t o k h))))
 
   pub least_where : (ts : List Task) (o : Option Task) → o ≡ reduce lesser (filter test ts) → IsLeastWhere test ts o
   least_where ts o is = subst (IsLeastWhere test ts) (sym is) (least_after [] ts None (λ u i. absurd i))
@@ -104,11 +109,16 @@ module _ (rows : List (Task × ℕ)) (row : Task × ℕ) where
     IsIn-append_right row rows (row ∷ []) (inl refl),
     λ r i. elim (from_push r rows row i) [
       | inl old ↦ absurd (subst (IsIn r) none old)
-      | inr e ↦ (omega (arith, ap (λ (x : Task × ℕ). x.1) e), λ _. false_from_ne_true (task_before r.0 row.0) (λ b. not_itself row.0 (subst (λ (x : Task × ℕ). task_before x.0 row.0 ≡ true) e b)))
+      | inr e ↦ (
+        omega (arith, ap (λ (x : Task × ℕ). x.1) e),
+        λ _. false_from_ne_true (task_before r.0 row.0)
+            (λ b. not_itself row.0 (subst (λ (x : Task × ℕ). task_before x.0 row.0 ≡ true) e b)),
+      )
     ],
   )
 
-  pub heaviest_new : (best : Task × ℕ) → (best.1 < row.1) ⊎ ((row.1 ≡ best.1) × (task_before row.0 best.0 ≡ true)) → IsHeaviestRow rows (Some best) → IsHeaviestRow (rows ++ row ∷ []) (Some row)
+  pub heaviest_new : (best : Task × ℕ) → (best.1 < row.1) ⊎ ((row.1 ≡ best.1) × (task_before row.0 best.0 ≡ true))
+      → IsHeaviestRow rows (Some best) → IsHeaviestRow (rows ++ row ∷ []) (Some row)
   heaviest_new best more h = (
     IsIn-append_right row rows (row ∷ []) (inl refl),
     λ r i. elim (from_push r rows row i) [
@@ -116,13 +126,22 @@ module _ (rows : List (Task × ℕ)) (row : Task × ℕ) where
           let o = h.1 r old in
           elim more [
             | inl lt ↦ (omega (arith, o.0, lt), λ e. absurd (omega (arith, e, o.0, lt)))
-            | inr p ↦ (omega (arith, o.0, p.0), λ e. false_from_ne_true (task_before r.0 row.0) (λ b. false≢true (sym (o.1 (omega (arith, e, p.0))) ∙ before_trans r.0 row.0 best.0 b p.1)))
+            | inr p ↦ (
+              omega (arith, o.0, p.0),
+              λ e. false_from_ne_true (task_before r.0 row.0)
+                  (λ b. false≢true (sym (o.1 (omega (arith, e, p.0))) ∙ before_trans r.0 row.0 best.0 b p.1)),
+            )
           ]
-      | inr e ↦ (omega (arith, ap (λ (x : Task × ℕ). x.1) e), λ _. false_from_ne_true (task_before r.0 row.0) (λ b. not_itself row.0 (subst (λ (x : Task × ℕ). task_before x.0 row.0 ≡ true) e b)))
+      | inr e ↦ (
+        omega (arith, ap (λ (x : Task × ℕ). x.1) e),
+        λ _. false_from_ne_true (task_before r.0 row.0)
+            (λ b. not_itself row.0 (subst (λ (x : Task × ℕ). task_before x.0 row.0 ≡ true) e b)),
+      )
     ],
   )
 
-  pub heaviest_old : (best : Task × ℕ) → ((best.1 < row.1) ⊎ ((row.1 ≡ best.1) × (task_before row.0 best.0 ≡ true)) → ⊥) → IsHeaviestRow rows (Some best) → IsHeaviestRow (rows ++ row ∷ []) (Some best)
+  pub heaviest_old : (best : Task × ℕ) → ((best.1 < row.1) ⊎ ((row.1 ≡ best.1) × (task_before row.0 best.0 ≡ true)) → ⊥)
+      → IsHeaviestRow rows (Some best) → IsHeaviestRow (rows ++ row ∷ []) (Some best)
   heaviest_old best less h = (
     IsIn-append_left best rows (row ∷ []) h.0,
     λ r i. elim (from_push r rows row i) [

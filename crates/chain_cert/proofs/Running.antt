@@ -1,5 +1,6 @@
 -- If no task traps, a greatest legal order has the tasks that run.
-use Rattle.std.proofs.Common.{◌≡◌, ℕ, zero, suc, ◌↔◌, Bool, true, false, cond, List, [], ◌∷◌, ◌++◌, length, refl, sym, subst, inl, inr, Option, Some, None, Ok, Err, is_some}
+use Rattle.std.proofs.Common.{◌≡◌, ℕ, zero, suc, ◌↔◌, Bool, true, false, cond, List, [], ◌∷◌, ◌++◌, length, refl, sym}
+use Rattle.std.proofs.Common.{subst, inl, inr, Option, Some, None, Ok, Err, is_some}
 use Rattle.std.proofs.lemmas.Bool.{false≢true}
 use Rattle.std.specs.List.{flat_map}
 use Rattle.ptg_base.specs.Lists.{IsIn}
@@ -50,10 +51,13 @@ module _ (P : Plan) (G : Data) (con : IsConsistent P) (calm : trapped P G ≡ []
       by (Some (Err cause)) is h =
           let row : TrapRow = record { task = t; cause = cause } in
           let here : IsIn row (trap_rows t (ended P G t)) = subst (λ o. IsIn row (trap_rows t o)) (sym is) (inl refl) in
-          absurd (not_empty (flat_map (λ u. trap_rows u (ended P G u)) (all_tasks P)) row (IsIn-flat_map (λ u. trap_rows u (ended P G u)) (all_tasks P) t row ((listed P t).0 job) here) calm)
+          absurd (not_empty (flat_map (λ u. trap_rows u (ended P G u)) (all_tasks P)) row
+          (IsIn-flat_map (λ u. trap_rows u (ended P G u)) (all_tasks P) t row ((listed P t).0 job) here) calm)
 
   -- each member of a legal order ends
-  pub legal_ends : (before ts : List Task) → IsLegalAfter P before ts → ((t : Task) → IsIn t before → is_some (ended P G t) ≡ true) → (t : Task) → IsIn t ts → is_some (ended P G t) ≡ true
+  pub legal_ends : (before ts : List Task) → IsLegalAfter P before ts
+      → ((t : Task) → IsIn t before → is_some (ended P G t) ≡ true) → (t : Task) → IsIn t ts
+      → is_some (ended P G t) ≡ true
   legal_ends before [] l had t i = absurd i
   legal_ends before (u ∷ us) l had t i =
       let here = ends_after P G con u l.0.task (λ e j. all_outputs e.from (source_is_task P con u l.0.task e j) (had e.from (l.0.after_sources e j))) in

@@ -1,5 +1,7 @@
 -- The level of a task follows from those of its sources, and tables keep levels along an order.
-use Rattle.std.proofs.Common.{◌≡◌, ℕ, zero, suc, ◌+◌, ◌*◌, ◌<◌, ◌≤◌, cond, List, [], ◌∷◌, ◌++◌, length, take, slice_index, slice_index_or, refl, ap, sym, ◌∙◌, subst, append_assoc, ◌⊎◌, inl, inr, Option, Some, None, arith, length-append}
+use Rattle.std.proofs.Common.{◌≡◌, ℕ, zero, suc, ◌+◌, ◌*◌, ◌<◌, ◌≤◌, cond, List, [], ◌∷◌, ◌++◌, length, take}
+use Rattle.std.proofs.Common.{slice_index, slice_index_or, refl, ap, sym, ◌∙◌, subst, append_assoc, ◌⊎◌, inl, inr}
+use Rattle.std.proofs.Common.{Option, Some, None, arith, length-append}
 use Rattle.std.specs.Prelude.{nat_le, unwrap_or}
 use Rattle.std.specs.Map.{lookup}
 use Rattle.std.proofs.lemmas.Bool.{false≢true, leb-false, leb-true}
@@ -51,7 +53,8 @@ comes_to P t ts c e = elim (last_or_none e.0) [
 
 module _ (P : Plan) (ws : List ℕ) (t : Task) (job : IsTask P t) where
   -- a heaviest chain to a source, with the task at its end
-  pub longer : (s : Task) (k : ℕ) → IsSourceOf P s t → IsLevel P ws s k → (ts : List Task) × IsChain P ts × EndsWith t ts × (chain_weight ws ts ≡ k + weight ws t)
+  pub longer : (s : Task) (k : ℕ) → IsSourceOf P s t → IsLevel P ws s k
+      → (ts : List Task) × IsChain P ts × EndsWith t ts × (chain_weight ws ts ≡ k + weight ws t)
   longer s k link l =
       let is : l.chain ≡ l.ends.0 ++ s ∷ [] = l.ends.1 in
       let chain = chain_push P l.ends.0 s t (subst (IsChain P) is l.is_chain) job link in (
@@ -62,7 +65,8 @@ module _ (P : Plan) (ws : List ℕ) (t : Task) (job : IsTask P t) where
       )
 
   -- the level of a task is its weight plus the greatest level of its sources
-  pub level_from : (m : ℕ) → ((s : Task) → IsSourceOf P s t → (k : ℕ) × IsLevel P ws s k × (k ≤ m)) → (m ≡ 0) ⊎ ((s : Task) × IsSourceOf P s t × IsLevel P ws s m) → IsLevel P ws t (weight ws t + m)
+  pub level_from : (m : ℕ) → ((s : Task) → IsSourceOf P s t → (k : ℕ) × IsLevel P ws s k × (k ≤ m))
+      → (m ≡ 0) ⊎ ((s : Task) × IsSourceOf P s t × IsLevel P ws s m) → IsLevel P ws t (weight ws t + m)
   level_from m below reached = elim reached [
     | inl none ↦ record { chain = t ∷ []; is_chain = (job, tt, tt); ends = ([], refl); reached = omega (arith, none); most = most }
     | inr p ↦
@@ -88,7 +92,8 @@ at_most_among table (u ∷ us) t i = elim i [
   | inr later ↦ omega (arith, at_most_among table us t later)
 ]
 
-pub among_reached : (table : List (Task × ℕ)) (ts : List Task) → (greatest_among table ts ≡ 0) ⊎ ((t : Task) × IsIn t ts × (number_for table t ≡ greatest_among table ts))
+pub among_reached : (table : List (Task × ℕ)) (ts : List Task)
+    → (greatest_among table ts ≡ 0) ⊎ ((t : Task) × IsIn t ts × (number_for table t ≡ greatest_among table ts))
 among_reached table [] = inl refl
 among_reached table (u ∷ us) =
     by_test (nat_le (greatest_among table us) (number_for table u))
@@ -133,17 +138,27 @@ module _ (P : Plan) (ws : List ℕ) (ts : List Task) (table : List (Task × ℕ)
       ])
 
 -- a table after the next task was entered
-pub noted : (P : Plan) (ws : List ℕ) (before : List Task) (table new : List (Task × ℕ)) (t key : Task) (level : ℕ) → key ≡ t → level ≡ weight ws t + greatest_among table (sources P t) → weight ws t ≤ 1000000
-    → IsNextTask P ws before table t → ((u : Task) → lookup (same_task u) new ≡ cond (same_task key u) (Some level) (lookup (same_task u) table)) → HasLevels P ws (before ++ t ∷ []) new
+pub noted : (P : Plan) (ws : List ℕ) (before : List Task) (table new : List (Task × ℕ)) (t key : Task) (level : ℕ)
+    → key ≡ t → level ≡ weight ws t + greatest_among table (sources P t) → weight ws t ≤ 1000000
+    → IsNextTask P ws before table t → ((u : Task) → lookup (same_task u) new
+    ≡ cond (same_task key u) (Some level) (lookup (same_task u) table)) → HasLevels P ws (before ++ t ∷ []) new
 noted P ws before table new t key level same is light next up u =
     by_test (same_task key u)
     (λ k.
     let at : lookup (same_task u) new ≡ Some level = up u ∙ ap (λ b. cond b (Some level) (lookup (same_task u) table)) k in
     let one : t ≡ u = sym same ∙ (same_task-decides key u).0 k in
     let here : IsIn u (before ++ t ∷ []) = IsIn-append_right u before (t ∷ []) (inl (sym one)) in
-    let right : IsLevel P ws u level = subst (λ v. IsLevel P ws v level) one (subst (IsLevel P ws t) (sym is) (next_level P ws before table next.levels t next.follows)) in
+    let right : IsLevel P ws u level = subst (λ v. IsLevel P ws v level) one
+    (subst (IsLevel P ws t) (sym is) (next_level P ws before table next.levels t next.follows)) in
     let few : level ≤ 1000000 * length (before ++ t ∷ []) =
-    omega (arith, is, light, among_bounded table (1000000 * length before) (bounded P ws before table next.levels) (sources P t), length-append before (t ∷ [])) in
+    omega (
+      arith,
+      is,
+      light,
+      among_bounded table (1000000 * length before) (bounded P ws before table next.levels)
+          (sources P t),
+      length-append before (t ∷ []),
+    ) in
     subst (IsLevelAmong P ws (before ++ t ∷ []) u) (sym at) (here, right, few))
     (λ k.
     let at : lookup (same_task u) new ≡ lookup (same_task u) table = up u ∙ ap (λ b. cond b (Some level) (lookup (same_task u) table)) k in
@@ -159,10 +174,12 @@ pub none_noted : (P : Plan) (ws : List ℕ) → HasLevels P ws [] []
 none_noted P ws t = λ i. i
 
 -- each task of a legal order may follow those before it
-pub follows_at : (P : Plan) (before ts : List Task) → IsLegalAfter P before ts → (k : ℕ) (t : Task) → k < length ts → t ≡ slice_index_or ts k t → MayFollow P (before ++ take k ts) t
+pub follows_at : (P : Plan) (before ts : List Task) → IsLegalAfter P before ts → (k : ℕ) (t : Task) → k < length ts
+    → t ≡ slice_index_or ts k t → MayFollow P (before ++ take k ts) t
 follows_at P before [] l k t h e = absurd (omega arith)
 follows_at P before (u ∷ us) l zero t h e = subst (λ b. MayFollow P b t) (sym (append-nil before)) (subst (MayFollow P before) (sym e) l.0)
-follows_at P before (u ∷ us) l (suc k) t h e = subst (λ b. MayFollow P b t) (append_assoc before (u ∷ []) (take k us)) (follows_at P (before ++ u ∷ []) us l.1 k t (omega arith) e)
+follows_at P before (u ∷ us) l (suc k) t h e = subst (λ b. MayFollow P b t) (append_assoc before (u ∷ []) (take k us))
+    (follows_at P (before ++ u ∷ []) us l.1 k t (omega arith) e)
 
 -- no task weighs more than 1,000,000
 pub light : (ws : List ℕ) (t : Task) → AreWeights ws → weight ws t ≤ 1000000

@@ -1,5 +1,6 @@
 -- The printed chain, built from its end back.
-use Rattle.std.proofs.Common.{◌≡◌, ℕ, ◌+◌, ◌<◌, ◌≤◌, true, List, [], ◌∷◌, ◌++◌, length, reverse, refl, ap, sym, ◌∙◌, subst, append_assoc, inl, inr, Option, Some, None, MatchOption, IsSomeAnd, arith}
+use Rattle.std.proofs.Common.{◌≡◌, ℕ, ◌+◌, ◌<◌, ◌≤◌, true, List, [], ◌∷◌, ◌++◌, length, reverse, refl, ap, sym, ◌∙◌}
+use Rattle.std.proofs.Common.{subst, append_assoc, inl, inr, Option, Some, None, MatchOption, IsSomeAnd, arith}
 use Rattle.std.specs.Prelude.{unwrap_or}
 use Rattle.std.specs.Map.{lookup, keys_of}
 use Rattle.std.proofs.lemmas.Bool.{eq-eqb, eqb-true, false≢true}
@@ -76,7 +77,8 @@ module _ (P : Plan) (con : IsConsistent P) (ws : List ℕ) (table : List (Task �
   pub step_ends : number_for table t ≡ weight ws t → StepBack None
   step_ends e = subst (IsLevel P ws t) e here
 
-  pub step_by : (number_for table t ≡ weight ws t → ⊥) → (o : Option Task) → IsLeastWhere (is_heaviest_source table (weight ws t) (number_for table t)) (sources P t) o → StepBack o
+  pub step_by : (number_for table t ≡ weight ws t → ⊥) → (o : Option Task)
+      → IsLeastWhere (is_heaviest_source table (weight ws t) (number_for table t)) (sources P t) o → StepBack o
   step_by more None l =
       let p = by_source more in
       absurd (false≢true (sym (l p.0 p.1) ∙ eq-eqb (number_for table p.0 + weight ws t) (number_for table t) p.2))
@@ -126,7 +128,8 @@ chain_right P [] b c = c
 chain_right P (x ∷ a) b c = chain_right P a b c.2
 
 -- a chain up to a task in it: it is a chain, and its last task is a source of that task
-chain_until : (P : Plan) (t : Task) (a : List Task) (u : Task) (more : List Task) → IsChain P (t ∷ (a ++ u ∷ more)) → IsChain P (t ∷ a) × ((last : Task) × ((front : List Task) × (t ∷ a ≡ front ++ last ∷ [])) × IsSourceOf P last u)
+chain_until : (P : Plan) (t : Task) (a : List Task) (u : Task) (more : List Task) → IsChain P (t ∷ (a ++ u ∷ more))
+    → IsChain P (t ∷ a) × ((last : Task) × ((front : List Task) × (t ∷ a ≡ front ++ last ∷ [])) × IsSourceOf P last u)
 chain_until P t [] u more c = ((c.0, tt, tt), (t, ([], refl), c.1))
 chain_until P t (x ∷ a) u more c =
     let p = chain_until P x a u more c.2 in
@@ -178,13 +181,16 @@ module _ (P : Plan) (ws : List ℕ) where
       by (u ∷ us) l = (subst (IsLeast (HasGreatestLevel P ws)) (sym l.0) last, subst (λ v. IsTracedBack P ws v us) (sym l.0) l.1)
 
   pub trace_next : (con : IsConsistent P) (back : List Task) (t : Task) (o : Option Task) → IsTracing P ws back (Some t)
-      → MatchOption o (IsLevel P ws t (weight ws t)) (λ s. (IsLevel P ws t (weight ws t) → ⊥) × IsLeast (IsHeaviestSource P ws t) s) → IsTracing P ws (back ++ t ∷ []) o
+      → MatchOption o (IsLevel P ws t (weight ws t)) (λ s. (IsLevel P ws t (weight ws t) → ⊥)
+      × IsLeast (IsHeaviestSource P ws t) s) → IsTracing P ws (back ++ t ∷ []) o
   trace_next con back t o w step = record {
     so_far = λ rest l. subst (IsChainBack P ws) (sym (append_assoc back (t ∷ []) rest)) (w.so_far (t ∷ rest) (refl, by o step rest l));
     chain = chain_by o step;
   }
     where
-      by : (o : Option Task) → MatchOption o (IsLevel P ws t (weight ws t)) (λ s. (IsLevel P ws t (weight ws t) → ⊥) × IsLeast (IsHeaviestSource P ws t) s) → (rest : List Task) → LeadsOn P ws o rest → IsTracedBack P ws t rest
+      by : (o : Option Task) → MatchOption o (IsLevel P ws t (weight ws t))
+          (λ s. (IsLevel P ws t (weight ws t) → ⊥) × IsLeast (IsHeaviestSource P ws t) s) → (rest : List Task)
+          → LeadsOn P ws o rest → IsTracedBack P ws t rest
       by None own rest e = subst (IsTracedBack P ws t) (sym e) own
       by (Some s) p [] l = absurd l
       by (Some s) p (u ∷ us) l = (p.0, subst (IsLeast (IsHeaviestSource P ws t)) (sym l.0) p.1, subst (λ v. IsTracedBack P ws v us) (sym l.0) l.1)
@@ -192,7 +198,9 @@ module _ (P : Plan) (ws : List ℕ) where
       turned : reverse (back ++ t ∷ []) ≡ t ∷ reverse back
       turned = reverse-append back (t ∷ [])
 
-      chain_by : (o : Option Task) → MatchOption o (IsLevel P ws t (weight ws t)) (λ s. (IsLevel P ws t (weight ws t) → ⊥) × IsLeast (IsHeaviestSource P ws t) s) → IsChainWith P o (reverse (back ++ t ∷ []))
+      chain_by : (o : Option Task) → MatchOption o (IsLevel P ws t (weight ws t))
+          (λ s. (IsLevel P ws t (weight ws t) → ⊥) × IsLeast (IsHeaviestSource P ws t) s)
+          → IsChainWith P o (reverse (back ++ t ∷ []))
       chain_by None own = tt
       chain_by (Some s) p =
           let link = p.1.kind.source in

@@ -43,7 +43,8 @@ module _ (P : Plan) (con : IsConsistent P) where
   last_of t (s ∷ ss) = last_of s ss
 
   -- a task in the middle of a walk is one of the job, and the walk after it is one from there
-  middle : (R : List Task) (t : Task) (xs : List Task) (u : Task) (ys : List Task) → IsTask P t → IsWalkedBack P R t (xs ++ u ∷ ys) → IsTask P u × IsWalkedBack P R u ys
+  middle : (R : List Task) (t : Task) (xs : List Task) (u : Task) (ys : List Task) → IsTask P t
+      → IsWalkedBack P R t (xs ++ u ∷ ys) → IsTask P u × IsWalkedBack P R u ys
   middle R t [] u ys job w = (source_task u t job w.0.kind.source, w.1)
   middle R t (x ∷ xs) u ys job w = middle R x xs u ys (source_task x t job w.0.kind.source) w.1
 
@@ -77,7 +78,8 @@ turned_is [] done = refl
 turned_is (t ∷ ts) done = turned_is ts (t ∷ done) ∙ sym (append_assoc (reverse ts) (t ∷ []) done) ∙ ap (λ l. l ++ done) (sym (reverse-append (t ∷ []) ts))
 
 -- if each task is a source of the one before it, and the first a source of the last, the reversed tasks are a cycle
-pub loop_is_cycle : (P : Plan) (con : IsConsistent P) (t : Task) (ss : List Task) → IsTask P t → IsBackFrom P con t ss → IsSourceOf P t (last_of P con t ss) → HasNoRepeats (t ∷ ss) → IsCycle P (turned ss (t ∷ []))
+pub loop_is_cycle : (P : Plan) (con : IsConsistent P) (t : Task) (ss : List Task) → IsTask P t → IsBackFrom P con t ss
+    → IsSourceOf P t (last_of P con t ss) → HasNoRepeats (t ∷ ss) → IsCycle P (turned ss (t ∷ []))
 loop_is_cycle P con t ss job steps closed once = record {
   chain = back_chain P con t ss [] steps (job, tt, tt);
   differ = turned_once ss (t ∷ []) once.1 ((λ i. i), tt) (λ x i j. elim j [ inl e ↦ once.0 (subst (λ u. IsIn u ss) e i) | inr never ↦ never ]);
@@ -95,4 +97,5 @@ printed_is_cycle P con R c p =
     let is : c ≡ turned p.between (t ∷ []) = p.turned ∙ sym (append-nil (reverse (t ∷ p.between))) ∙ sym (turned_is (t ∷ p.between) []) in
     let walk = from_start P con R p.before (p.between ++ t ∷ []) t (subst (IsWalkBack P R) (append_assoc p.before (t ∷ p.between) (t ∷ [])) p.walk) in
     let steps = ends_at P con R t p.between t walk.1 in
-    subst (IsCycle P) (sym is) (loop_is_cycle P con t p.between walk.0 (walked_back P con R t p.between steps.0) steps.1 (HasNoRepeats-right p.before (t ∷ p.between) p.once))
+    subst (IsCycle P) (sym is) (loop_is_cycle P con t p.between walk.0 (walked_back P con R t p.between steps.0) steps.1
+    (HasNoRepeats-right p.before (t ∷ p.between) p.once))

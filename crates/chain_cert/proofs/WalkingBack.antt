@@ -1,5 +1,7 @@
 -- The printed cycle, by a walk back over the tasks that are left.
-use Rattle.std.proofs.Common.{◌≡◌, ℕ, suc, ◌<◌, ◌↔◌, true, false, cond, not, List, [], ◌∷◌, ◌++◌, length, drop, take, find, slice_get, reverse, refl, ap, sym, ◌∙◌, subst, inl, inr, Option, Some, None, is_some, MatchOption, IfSome, arith, length-append}
+use Rattle.std.proofs.Common.{◌≡◌, ℕ, suc, ◌<◌, ◌↔◌, true, false, cond, not, List, [], ◌∷◌, ◌++◌, length, drop, take}
+use Rattle.std.proofs.Common.{find, slice_get, reverse, refl, ap, sym, ◌∙◌, subst, inl, inr, Option, Some, None}
+use Rattle.std.proofs.Common.{is_some, MatchOption, IfSome, arith, length-append}
 use Rattle.std.specs.List.{list_any}
 use Rattle.std.specs.Map.{lookup}
 use Rattle.std.proofs.lemmas.Bool.{false≢true, false_from_ne_true}
@@ -28,11 +30,13 @@ use Rattle.chain_cert.specs.Printed.{IsLeast, IsPrintedCycle, IsSourceLeft, IsTa
 use Rattle.chain_cert.proofs.Turning.{source_task}
 
 -- a walk with one more step
-walked_push : (P : Plan) (R : List Task) (t : Task) (ss : List Task) (u v : Task) → IsWalkedBack P R t (ss ++ u ∷ []) → IsLeast (IsSourceLeft P R u) v → IsWalkedBack P R t ((ss ++ u ∷ []) ++ v ∷ [])
+walked_push : (P : Plan) (R : List Task) (t : Task) (ss : List Task) (u v : Task) → IsWalkedBack P R t (ss ++ u ∷ [])
+    → IsLeast (IsSourceLeft P R u) v → IsWalkedBack P R t ((ss ++ u ∷ []) ++ v ∷ [])
 walked_push P R t [] u v w step = (w.0, (step, tt))
 walked_push P R t (s ∷ ss) u v w step = (w.0, walked_push P R s ss u v w.1 step)
 
-walk_push : (P : Plan) (R : List Task) (ts : List Task) (u v : Task) → IsWalkBack P R (ts ++ u ∷ []) → IsLeast (IsSourceLeft P R u) v → IsWalkBack P R ((ts ++ u ∷ []) ++ v ∷ [])
+walk_push : (P : Plan) (R : List Task) (ts : List Task) (u v : Task) → IsWalkBack P R (ts ++ u ∷ [])
+    → IsLeast (IsSourceLeft P R u) v → IsWalkBack P R ((ts ++ u ∷ []) ++ v ∷ [])
 walk_push P R [] u v w step = (w.0, (step, tt))
 walk_push P R (t ∷ ts) u v w step = (w.0, walked_push P R t ts u v w.1 step)
 
@@ -68,7 +72,8 @@ module _ (P : Plan) (order : List Task) (table : List (Task × ℕ)) (l : LacksT
       none_all : ((t : Task) → IsIn t (all_tasks P) → IsIn t order) → ⊥
       none_all all = absurd (omega (arith, l.some_left, no_longer (all_tasks P) order (once-all_tasks P) all))
 
-      by : (ts : List Task) → ((t : Task) → IsIn t ts → IsTask P t) → (((t : Task) → IsIn t ts → IsIn t order) → ⊥) → (t : Task) × IsTask P t × (IsIn t order → ⊥)
+      by : (ts : List Task) → ((t : Task) → IsIn t ts → IsTask P t) → (((t : Task) → IsIn t ts → IsIn t order) → ⊥)
+          → (t : Task) × IsTask P t × (IsIn t order → ⊥)
       by [] job not_all = absurd (not_all (λ t i. absurd i))
       by (t ∷ ts) job not_all = elim (member_or_not t order) [
         | inr out ↦ (t, job t (inl refl), out)
@@ -87,7 +92,9 @@ module _ (P : Plan) (order : List Task) (table : List (Task × ℕ)) (l : LacksT
   )
 
   -- and continues with the least source that is left
-  pub walk_next : IsConsistent P → (met : List Task) (t : Task) (o : Option Task) → IsWalkBack P order (met ++ t ∷ []) → IsLeastWhere (is_left table) (sources P t) o → MatchOption o ⊥ (λ s. IsWalkBack P order ((met ++ t ∷ []) ++ s ∷ []))
+  pub walk_next : IsConsistent P → (met : List Task) (t : Task) (o : Option Task) → IsWalkBack P order (met ++ t ∷ [])
+      → IsLeastWhere (is_left table) (sources P t) o → MatchOption o ⊥
+      (λ s. IsWalkBack P order ((met ++ t ∷ []) ++ s ∷ []))
   walk_next con met t None w h =
       let k = walk_left P con order (met ++ t ∷ []) w t (IsIn-append_right t met (t ∷ []) (inl refl)) in
       let p = from_outside P order l.greatest t k.task k.left in
@@ -107,16 +114,19 @@ pub record IsWalking (P : Plan) (R met : List Task) (next : Option Task) : Type 
 
 -- keys with one more that is new
 pub met_push : (t : Task) (ks : List Task) → list_any (same_task t) ks ≡ false → HasNoRepeats ks → HasNoRepeats (ks ++ t ∷ [])
-met_push t ks e once = HasNoRepeats-append ks (t ∷ []) once ((λ i. i), tt) (λ x i j. elim j [ inl q ↦ none_member t ks e (subst (λ u. IsIn u ks) q i) | inr never ↦ never ])
+met_push t ks e once = HasNoRepeats-append ks (t ∷ []) once ((λ i. i), tt)
+    (λ x i j. elim j [ inl q ↦ none_member t ks e (subst (λ u. IsIn u ks) q i) | inr never ↦ never ])
 
 -- there is room for one more task
-pub walk_room : (P : Plan) → IsConsistent P → (R met : List Task) (t : Task) → list_any (same_task t) met ≡ false → IsWalking P R met (Some t) → length met < length (all_tasks P)
+pub walk_room : (P : Plan) → IsConsistent P → (R met : List Task) (t : Task) → list_any (same_task t) met ≡ false
+    → IsWalking P R met (Some t) → length met < length (all_tasks P)
 walk_room P con R met t new w =
     let few = no_longer (met ++ t ∷ []) (all_tasks P) (met_push t met new w.once) (λ u i. (listed P u).0 (walk_left P con R (met ++ t ∷ []) w.walk u i).task) in
     omega (arith, few, length-append met (t ∷ []))
 
 -- a task that occurs again closes the cycle
-pub closes : (P : Plan) (R met : List Task) (t u : Task) (at : ℕ) (cycle : List Task) → slice_get met at ≡ Some u → u ≡ t → IsWalking P R met (Some t) → cycle ≡ reverse (drop at met) → IsPrintedCycle P R cycle
+pub closes : (P : Plan) (R met : List Task) (t u : Task) (at : ℕ) (cycle : List Task) → slice_get met at ≡ Some u
+    → u ≡ t → IsWalking P R met (Some t) → cycle ≡ reverse (drop at met) → IsPrintedCycle P R cycle
 closes P R met t u at cycle here same w is =
     let from : drop at met ≡ t ∷ drop (suc at) met = drop_from met at u here ∙ ap (λ v. v ∷ drop (suc at) met) same in
     let split : met ≡ take at met ++ t ∷ drop (suc at) met = sym (take-append-drop at met) ∙ ap (λ l. take at met ++ l) from in
@@ -165,14 +175,17 @@ pub inserted_keys : (t : Task) (ks new : List Task) → list_any (same_task t) k
 inserted_keys t ks new e is = is ∙ ap (λ b. cond b ks (ks ++ t ∷ [])) e
 
 -- a walk with one more task met
-pub walk_on : (P : Plan) (R met new : List Task) (t : Task) (o : Option Task) → list_any (same_task t) met ≡ false → new ≡ met ++ t ∷ [] → IsWalking P R met (Some t) → MatchOption o ⊥ (λ s. IsWalkBack P R ((met ++ t ∷ []) ++ s ∷ [])) → IsWalking P R new o
+pub walk_on : (P : Plan) (R met new : List Task) (t : Task) (o : Option Task) → list_any (same_task t) met ≡ false
+    → new ≡ met ++ t ∷ [] → IsWalking P R met (Some t) → MatchOption o ⊥
+    (λ s. IsWalkBack P R ((met ++ t ∷ []) ++ s ∷ [])) → IsWalking P R new o
 walk_on P R met new t o unmet is w next = record {
   once = subst HasNoRepeats (sym is) (met_push t met unmet w.once);
   walk = subst (λ l. MatchOption o ⊥ (λ s. IsWalkBack P R (l ++ s ∷ []))) (sym is) next;
 }
 
 -- a table of the levels of a greatest legal order, if a task is outside
-pub lacks : (P : Plan) (ws : List ℕ) (order : List Task) (table : List (Task × ℕ)) → IsGreatestOrder P order → HasLevels P ws order table → length order < length (all_tasks P) → LacksTasks P order table
+pub lacks : (P : Plan) (ws : List ℕ) (order : List Task) (table : List (Task × ℕ)) → IsGreatestOrder P order
+    → HasLevels P ws order table → length order < length (all_tasks P) → LacksTasks P order table
 lacks P ws order table g h left = record {
   greatest = g;
   members = λ t. by t (lookup (same_task t) table) (h t);

@@ -1,5 +1,6 @@
 -- A legal order of all tasks: the job has no cycle, and the rows of the levels are in task order.
-use Rattle.std.proofs.Common.{◌≡◌, ℕ, ◌<◌, ◌≤◌, List, [], ◌∷◌, ◌++◌, length, take, slice_index_or, refl, ap, sym, ◌∙◌, subst, inl, inr, Option, Some, None, IsSomeAnd, arith}
+use Rattle.std.proofs.Common.{◌≡◌, ℕ, ◌<◌, ◌≤◌, List, [], ◌∷◌, ◌++◌, length, take, slice_index_or, refl, ap, sym, ◌∙◌}
+use Rattle.std.proofs.Common.{subst, inl, inr, Option, Some, None, IsSomeAnd, arith}
 use Rattle.std.specs.Map.{lookup, keys_of}
 use Rattle.std.proofs.lemmas.List.{length-take}
 use Rattle.ptg_base.specs.Lists.{HasNoRepeats, IsIn}
@@ -28,7 +29,8 @@ use Rattle.chain_cert.proofs.TaskSorting.{in_order, one_rising, rising_order, so
 use Rattle.flow_meaning.specs.Numbers.{number_for}
 
 -- a legal order has no task of a cycle
-none_of_cycle : (P : Plan) (before ts c : List Task) → IsLegalAfter P before ts → IsCycle P c → ((t : Task) → IsIn t before → IsIn t c → ⊥) → (t : Task) → IsIn t ts → IsIn t c → ⊥
+none_of_cycle : (P : Plan) (before ts c : List Task) → IsLegalAfter P before ts → IsCycle P c
+    → ((t : Task) → IsIn t before → IsIn t c → ⊥) → (t : Task) → IsIn t ts → IsIn t c → ⊥
 none_of_cycle P before [] c l cycle other t i j = i
 none_of_cycle P before (u ∷ us) c l cycle other t i j =
     let first : IsIn u c → ⊥ = λ k.
@@ -63,7 +65,8 @@ module _ (P : Plan) (order : List Task) (legal : IsLegalOrder P order) where
   order_at_most = no_longer order (all_tasks P) order_once order_among
 
   -- the next task of the order may follow those that a table has
-  pub next_task : IsConsistent P → (ws : List ℕ) (i : ℕ) (t : Task) (table : List (Task × ℕ)) → i < length order → t ≡ slice_index_or order i t → HasLevels P ws (take i order) table → IsNextTask P ws (take i order) table t
+  pub next_task : IsConsistent P → (ws : List ℕ) (i : ℕ) (t : Task) (table : List (Task × ℕ)) → i < length order
+      → t ≡ slice_index_or order i t → HasLevels P ws (take i order) table → IsNextTask P ws (take i order) table t
   next_task con ws i t table lt is h = record {
     levels = h;
     follows = follows_at P [] order legal i t lt is;
@@ -100,5 +103,6 @@ module _ (P : Plan) (order : List Task) (legal : IsLegalOrder P order) where
             let p = from_map (λ (u : Task). (u, number_for table u)) (in_task_order (λ u. u) order) (t, n) (subst (IsIn (t, n)) is i) in
             let task : t ≡ p.0 = ap (λ (r : Task × ℕ). r.0) p.2 in
             let level : n ≡ number_for table p.0 = ap (λ (r : Task × ℕ). r.1) p.2 in
-            subst (IsLevel P ws t) (sym level) (subst (λ u. IsLevel P ws u (number_for table p.0)) (sym task) (found P ws order table h p.0 ((in_order p.0 order).0 p.1)));
+            subst (IsLevel P ws t) (sym level) (subst (λ u. IsLevel P ws u (number_for table p.0)) (sym task)
+            (found P ws order table h p.0 ((in_order p.0 order).0 p.1)));
       }

@@ -1,5 +1,6 @@
 -- The printed chain and the printed cycle exist, each found from its end back.
-use Rattle.std.proofs.Common.{ℕ, zero, suc, ◌+◌, ◌<◌, ◌≤◌, ◌⊎◌, inl, inr, List, [], ◌∷◌, ◌++◌, length, reverse, refl, ap, sym, subst, ◌∙◌, Option, Some, None, MatchOption, arith, length-append}
+use Rattle.std.proofs.Common.{ℕ, zero, suc, ◌+◌, ◌<◌, ◌≤◌, ◌⊎◌, inl, inr, List, [], ◌∷◌, ◌++◌, length, reverse, refl}
+use Rattle.std.proofs.Common.{ap, sym, subst, ◌∙◌, Option, Some, None, MatchOption, arith, length-append}
 use Rattle.std.specs.Prelude.{◌==◌}
 use Rattle.std.proofs.lemmas.Bool.{false≢true, eqb-true, eq-eqb}
 use Rattle.ptg_base.specs.Lists.{HasNoRepeats, IsIn}
@@ -23,7 +24,8 @@ use Rattle.chain_cert.proofs.WalkingBack.{IsWalking, walk_left, walk_next, walk_
 use Rattle.chain_exists.proofs.Rows.{heaviest_of, least_of}
 use Rattle.flow_meaning.specs.Numbers.{number_for}
 
-module _ (P : Plan) (con : IsConsistent P) (ws : List ℕ) (none : HasNoCycle P) (rows : List (Task × ℕ)) (levels : AreLevels P ws rows) (all : HasAllLevels P ws rows) where
+module _ (P : Plan) (con : IsConsistent P) (ws : List ℕ) (none : HasNoCycle P) (rows : List (Task × ℕ))
+    (levels : AreLevels P ws rows) (all : HasAllLevels P ws rows) where
   step_back : (t : Task) (job : IsTask P t) → (o : Option Task) × StepBack P con ws rows all t job o
   step_back t job =
       by_test (number_for rows t == weight ws t)
@@ -81,11 +83,14 @@ module _ (P : Plan) (con : IsConsistent P) (order : List Task) (table : List (Ta
         inr (omega (arith, few, length-append met (t ∷ [])), on once next.0 (walk_next P order table lacks con met t next.0 w.walk next.1))
   ]
     where
-      on : HasNoRepeats (met ++ t ∷ []) → (o : Option Task) → MatchOption o ⊥ (λ s. IsWalkBack P order ((met ++ t ∷ []) ++ s ∷ [])) → (s : Task) × IsWalking P order (met ++ t ∷ []) (Some s)
+      on : HasNoRepeats (met ++ t ∷ []) → (o : Option Task) → MatchOption o ⊥
+          (λ s. IsWalkBack P order ((met ++ t ∷ []) ++ s ∷ []))
+          → (s : Task) × IsWalking P order (met ++ t ∷ []) (Some s)
       on once None h = absurd h
       on once (Some s) h = (s, record { once = once; walk = h })
 
-  walk : (n : ℕ) (met : List Task) (t : Task) → IsWalking P order met (Some t) → length (all_tasks P) ≤ length met + n → (c : List Task) × IsPrintedCycle P order c
+  walk : (n : ℕ) (met : List Task) (t : Task) → IsWalking P order met (Some t) → length (all_tasks P) ≤ length met + n
+      → (c : List Task) × IsPrintedCycle P order c
   walk zero met t w many = elim (step met t w) [ inl p ↦ p | inr q ↦ absurd (omega (arith, many, q.0)) ]
   walk (suc n) met t w many = elim (step met t w) [
     | inl p ↦ p

@@ -1,5 +1,6 @@
 -- A job is complete if and only if it has no cycle and no task traps.
-use Rattle.std.proofs.Common.{◌≡◌, ℕ, zero, suc, ◌≤◌, ◌↔◌, ◌==◌, Bool, true, false, cond, List, [], ◌∷◌, ◌++◌, length, refl, ap, sym, ◌∙◌, subst, ◌⊎◌, inl, inr, None, is_some, arith, eqb-true, eq-eqb}
+use Rattle.std.proofs.Common.{◌≡◌, ℕ, zero, suc, ◌≤◌, ◌↔◌, ◌==◌, Bool, true, false, cond, List, [], ◌∷◌, ◌++◌, length}
+use Rattle.std.proofs.Common.{refl, ap, sym, ◌∙◌, subst, ◌⊎◌, inl, inr, None, is_some, arith, eqb-true, eq-eqb}
 use Rattle.std.proofs.lemmas.Bool.{false≢true}
 use Rattle.std.specs.Prelude.{option_map}
 use Rattle.ptg_base.specs.Lists.{HasNoRepeats, IsIn}
@@ -49,7 +50,8 @@ module _ (P : Plan) (con : IsConsistent P) where
   loops : (t : Task) (ss : List Task) → IsTask P t → IsBackFrom P con t ss → Repeats (t ∷ ss) → (c : List Task) × IsCycle P c
   loops t ss job b r = by r.before r.split
     where
-      found : (u : Task) (more : List Task) → IsTask P u → IsBackFrom P con u (r.between ++ u ∷ more) → HasNoRepeats (u ∷ r.between) → (c : List Task) × IsCycle P c
+      found : (u : Task) (more : List Task) → IsTask P u → IsBackFrom P con u (r.between ++ u ∷ more)
+          → HasNoRepeats (u ∷ r.between) → (c : List Task) × IsCycle P c
       found u more there steps once =
           let p = back_left u r.between more u steps in
           (turned r.between (u ∷ []), loop_is_cycle P con u r.between there p.0 p.1 once)
@@ -58,7 +60,9 @@ module _ (P : Plan) (con : IsConsistent P) where
       by [] e =
           let head : t ≡ r.twice = cc in
           let tail : ss ≡ r.between ++ r.twice ∷ r.after = cc in
-          found r.twice r.after (subst (IsTask P) head job) (subst (λ u. IsBackFrom P con u (r.between ++ r.twice ∷ r.after)) head (subst (IsBackFrom P con t) tail b)) r.once
+          found r.twice r.after (subst (IsTask P) head job) (subst
+          (λ u. IsBackFrom P con u (r.between ++ r.twice ∷ r.after)) head (subst (IsBackFrom P con t) tail b))
+          r.once
       by (x ∷ xs) e =
           let tail : ss ≡ xs ++ r.twice ∷ (r.between ++ r.twice ∷ r.after) = cc in
           let p = back_at t xs r.twice (r.between ++ r.twice ∷ r.after) job (subst (IsBackFrom P con t) tail b) in
@@ -86,7 +90,8 @@ module _ (P : Plan) (con : IsConsistent P) where
         ∙ ap (λ o. option_map (λ (c : ClassPlan). body_meaning c.body (locals_of P t) (starting_tiles P G (source_tile (ended P G)) t)) o) h.class_is)
 
     -- one of the edges comes from a task that does not end, or all come from tasks that do
-    some_left : (es : List Edge) → ((e : Edge) × IsIn e es × (is_some (ended P G e.from) ≡ false)) ⊎ ((e : Edge) → IsIn e es → is_some (ended P G e.from) ≡ true)
+    some_left : (es : List Edge) → ((e : Edge) × IsIn e es × (is_some (ended P G e.from) ≡ false))
+        ⊎ ((e : Edge) → IsIn e es → is_some (ended P G e.from) ≡ true)
     some_left [] = inr (λ e i. absurd i)
     some_left (d ∷ ds) =
         by_test (is_some (ended P G d.from))
@@ -124,10 +129,15 @@ module _ (P : Plan) (con : IsConsistent P) where
     unfolding answer
     by_count calm = (
       λ h. by (length (ran P G) == length (all_tasks P)) refl (subst (λ l. IsComplete (answer_by P G l)) calm h),
-      λ e. subst (λ l. IsComplete (answer_by P G l)) (sym calm) (subst (λ b. IsComplete (cond b (Complete (length (all_tasks P)) (final_data P G)) (Stalled (length (ran P G)) (length (all_tasks P)) (waiting P G)))) (sym (eq-eqb (length (ran P G)) (length (all_tasks P)) e)) tt),
+      λ e. subst (λ l. IsComplete (answer_by P G l)) (sym calm)
+          (subst (λ b. IsComplete (cond b (Complete (length (all_tasks P)) (final_data P G))
+          (Stalled (length (ran P G)) (length (all_tasks P)) (waiting P G))))
+          (sym (eq-eqb (length (ran P G)) (length (all_tasks P)) e)) tt),
     )
       where
-        by : (b : Bool) → (length (ran P G) == length (all_tasks P)) ≡ b → IsComplete (cond b (Complete (length (all_tasks P)) (final_data P G)) (Stalled (length (ran P G)) (length (all_tasks P)) (waiting P G))) → length (ran P G) ≡ length (all_tasks P)
+        by : (b : Bool) → (length (ran P G) == length (all_tasks P)) ≡ b
+            → IsComplete (cond b (Complete (length (all_tasks P)) (final_data P G))
+            (Stalled (length (ran P G)) (length (all_tasks P)) (waiting P G))) → length (ran P G) ≡ length (all_tasks P)
         by true k h = eqb-true (length (ran P G)) (length (all_tasks P)) k
         by false k h = absurd h
 
@@ -151,7 +161,8 @@ module _ (P : Plan) (con : IsConsistent P) where
             calm,
             λ c cycle.
                 let in_cycle : IsIn cycle.first c = subst (IsIn cycle.first) (sym cycle.begins.1) (inl refl) in
-                let ends = all_pass (λ t. is_some (ended P G t)) (all_tasks P) (omega (arith, many, ran_count)) cycle.first ((listed P cycle.first).0 (chain_task P c cycle.chain cycle.first in_cycle)) in
+                let ends = all_pass (λ t. is_some (ended P G t)) (all_tasks P) (omega (arith, many, ran_count))
+                cycle.first ((listed P cycle.first).0 (chain_task P c cycle.chain cycle.first in_cycle)) in
                 false≢true (sym (ap is_some (never_ends P G c cycle cycle.first in_cycle)) ∙ ends),
           ),
       λ p. (by_count p.0).1 (ran_count ∙ count-all (λ t. is_some (ended P G t)) (all_tasks P) (all_end G p.0 p.1)),

@@ -26,7 +26,9 @@ module _ (P : Plan) (G : Data) (ts : List Task) (c : IsCycle P ts) where
       let e = from_map (λ (d : Edge). d.from) (in_edges P t) p.0 p.2 in
       let lost : ended_within P G n e.0.from ≡ None = ap (ended_within P G n) (sym e.2) ∙ not_within n p.0 p.1 in
       let fails : has_all_sources P (ended_within P G n) t ≡ false =
-      false_from_ne_true (has_all_sources P (ended_within P G n) t) (λ all. no_outputs (ended_within P G n e.0.from) lost (member_passes (λ (d : Edge). has_outputs (ended_within P G n d.from)) (in_edges P t) all e.0 e.1)) in
+      false_from_ne_true (has_all_sources P (ended_within P G n) t)
+      (λ all. no_outputs (ended_within P G n e.0.from) lost
+      (member_passes (λ (d : Edge). has_outputs (ended_within P G n d.from)) (in_edges P t) all e.0 e.1)) in
       ap (λ b. cond b (ended_on P G (source_tile (ended_within P G n)) t) None) fails
 
   pub never_ends : (t : Task) → IsIn t ts → ended P G t ≡ None

@@ -41,7 +41,11 @@ module _ (P : Plan) (con : IsConsistent P) (order : List Task) (g : IsGreatestOr
         let rows = level_rows P ws order (levels_in P ws order g.legal) in
         let once = legal_once P [] order g.legal in
         let few : length (t ∷ order) ≤ length (all_tasks P) =
-        no_longer (t ∷ order) (all_tasks P) (out, once) (λ u j. elim j [ inl e ↦ subst (λ v. IsIn v (all_tasks P)) (sym e) i | inr later ↦ (listed P u).0 (legal_tasks P [] order g.legal u later) ]) in
+        no_longer (t ∷ order) (all_tasks P) (out, once) (λ u j. elim j [
+          | inl e ↦ subst (λ v. IsIn v (all_tasks P)) (sym e) i
+          | inr later ↦ (listed P u).0
+              (legal_tasks P [] order g.legal u later)
+        ]) in
         let lacks : LacksTasks P order rows.0 = record {
           greatest = g;
           members = λ u. (

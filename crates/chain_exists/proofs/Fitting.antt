@@ -24,7 +24,8 @@ module _ (P : Plan) (G : Data) where
   unfolding answer
   not_calm rows e calm = by (length (ran P G) == length (all_tasks P)) (sym (ap (answer_by P G) calm) ∙ e)
     where
-      by : (b : Bool) → cond b (outcomes.Complete (length (all_tasks P)) (final_data P G)) (outcomes.Stalled (length (ran P G)) (length (all_tasks P)) (waiting P G)) ≡ outcomes.Trapped rows → ⊥
+      by : (b : Bool) → cond b (outcomes.Complete (length (all_tasks P)) (final_data P G))
+          (outcomes.Stalled (length (ran P G)) (length (all_tasks P)) (waiting P G)) ≡ outcomes.Trapped rows → ⊥
       by true q = cc
       by false q = cc
 

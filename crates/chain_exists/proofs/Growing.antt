@@ -27,10 +27,11 @@ module _ (P : Plan) where
   bars_or_may : (before : List Task) (t : Task) → IsIn t (all_tasks P) → (MayFollow P before t → ⊥) ⊎ MayFollow P before t
   bars_or_may before t i = elim (member_or_not t before) [
     | inl old ↦ inl (λ m. m.first_time old)
-    | inr new ↦ elim (all_or_one (λ (e : Edge). IsIn e.from before) (λ (e : Edge). IsIn e.from before → ⊥) (in_edges P t) (λ e j. member_or_not e.from before)) [
-      | inl all ↦ inr (record { task = (listed P t).1 i; first_time = new; after_sources = all })
-      | inr p ↦ inl (λ m. p.2 (m.after_sources p.0 p.1))
-    ]
+    | inr new ↦ elim (all_or_one (λ (e : Edge). IsIn e.from before) (λ (e : Edge). IsIn e.from before → ⊥)
+        (in_edges P t) (λ e j. member_or_not e.from before)) [
+          | inl all ↦ inr (record { task = (listed P t).1 i; first_time = new; after_sources = all })
+          | inr p ↦ inl (λ m. p.2 (m.after_sources p.0 p.1))
+        ]
   ]
 
   -- a legal order after which no task may follow is a greatest one

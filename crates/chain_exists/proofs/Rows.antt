@@ -1,5 +1,6 @@
 -- Rows of tasks with numbers: those of levels, the heaviest of them, and the least task that passes a test.
-use Rattle.std.proofs.Common.{◌≡◌, ℕ, ◌↔◌, cond, Bool, true, List, [], ◌∷◌, ◌++◌, refl, ap, sym, ◌∙◌, subst, append_assoc, inl, inr, Option, Some, None, IsSomeAnd, is_some, arith}
+use Rattle.std.proofs.Common.{◌≡◌, ℕ, ◌↔◌, cond, Bool, true, List, [], ◌∷◌, ◌++◌, refl, ap, sym, ◌∙◌, subst}
+use Rattle.std.proofs.Common.{append_assoc, inl, inr, Option, Some, None, IsSomeAnd, is_some, arith}
 use Rattle.std.specs.Prelude.{◌==◌, nat_lt}
 use Rattle.std.specs.Map.{lookup, keys_of}
 use Rattle.std.proofs.lemmas.Bool.{false≢true, eqb-true, eq-eqb, ltb-true, ltb-false}
@@ -21,7 +22,8 @@ pub record HasLevelRows (P : Plan) (ws : List ℕ) (ts : List Task) (rows : List
   pub each : (t : Task) (n : ℕ) → IsIn (t, n) rows → IsLevel P ws t n
   pub found : (t : Task) → IsIn t ts → IsSomeAnd (lookup (same_task t) rows) (IsLevel P ws t)
 
-pub level_rows : (P : Plan) (ws : List ℕ) (ts : List Task) → ((t : Task) → IsIn t ts → (n : ℕ) × IsLevel P ws t n) → (rows : List (Task × ℕ)) × HasLevelRows P ws ts rows
+pub level_rows : (P : Plan) (ws : List ℕ) (ts : List Task) → ((t : Task) → IsIn t ts → (n : ℕ) × IsLevel P ws t n)
+    → (rows : List (Task × ℕ)) × HasLevelRows P ws ts rows
 level_rows P ws [] had = ([], record { tasks = refl; each = λ t n i. absurd i; found = λ t i. absurd i })
 level_rows P ws (u ∷ us) had =
     let here = had u (inl refl) in
@@ -40,7 +42,8 @@ level_rows P ws (u ∷ us) had =
             by_test (same_task t u)
             (λ k.
             let one : t ≡ u = (same_task-decides t u).0 k in
-            subst (λ o. IsSomeAnd o (IsLevel P ws t)) (sym (ap (λ b. cond b (Some here.0) (lookup (same_task t) rest.0)) k)) (subst (λ v. IsLevel P ws v here.0) (sym one) here.1))
+            subst (λ o. IsSomeAnd o (IsLevel P ws t)) (sym (ap (λ b. cond b (Some here.0) (lookup (same_task t) rest.0))
+            k)) (subst (λ v. IsLevel P ws v here.0) (sym one) here.1))
             (λ k.
             let later : IsIn t us = elim i [ inl e ↦ absurd (false≢true (sym k ∙ (same_task-decides t u).1 e)) | inr l ↦ l ] in
             subst (λ o. IsSomeAnd o (IsLevel P ws t)) (sym (ap (λ b. cond b (Some here.0) (lookup (same_task t) rest.0)) k)) (rest.1.found t later));
@@ -57,7 +60,8 @@ rows_have (r ∷ rs) t =
       λ _. inl ((same_task-decides t r.0).0 k),
     ))
     (λ k.
-    let at : is_some (lookup (same_task t) (r ∷ rs)) ≡ is_some (lookup (same_task t) rs) = ap (λ b. is_some (cond b (Some r.1) (lookup (same_task t) rs))) k in (
+    let at : is_some (lookup (same_task t) (r ∷ rs)) ≡ is_some (lookup (same_task t) rs) = ap
+    (λ b. is_some (cond b (Some r.1) (lookup (same_task t) rs))) k in (
       λ i. elim i [
         | inl e ↦ absurd (false≢true (sym k ∙ (same_task-decides t r.0).1 e))
         | inr later ↦ at ∙ (rows_have rs t).0 later
@@ -87,7 +91,8 @@ module _ (test : Task → Bool) where
 
 -- ---- the heaviest row
 
-heaviest_with : (rows : List (Task × ℕ)) (row : Task × ℕ) (o : Option (Task × ℕ)) → IsHeaviestRow rows o → (p : Option (Task × ℕ)) × IsHeaviestRow (rows ++ row ∷ []) p
+heaviest_with : (rows : List (Task × ℕ)) (row : Task × ℕ) (o : Option (Task × ℕ)) → IsHeaviestRow rows o
+    → (p : Option (Task × ℕ)) × IsHeaviestRow (rows ++ row ∷ []) p
 heaviest_with rows row None h = (Some row, heaviest_first rows row h)
 heaviest_with rows row (Some best) h =
     by_test (nat_lt best.1 row.1)
@@ -98,7 +103,11 @@ heaviest_with rows row (Some best) h =
     (λ e. by_test (task_before row.0 best.0)
     (λ less. (Some row, heaviest_new rows row best (inr (eqb-true row.1 best.1 e, less)) h))
     (λ more. (Some best, heaviest_old rows row best (λ w. elim w [ inl lt ↦ absurd (omega (arith, lt, low)) | inr q ↦ false≢true (sym more ∙ q.1) ]) h)))
-    (λ e. (Some best, heaviest_old rows row best (λ w. elim w [ inl lt ↦ absurd (omega (arith, lt, low)) | inr q ↦ false≢true (sym e ∙ eq-eqb row.1 best.1 q.0) ]) h)))
+    (λ e. (
+      Some best,
+      heaviest_old rows row best (λ w. elim w
+          [ inl lt ↦ absurd (omega (arith, lt, low)) | inr q ↦ false≢true (sym e ∙ eq-eqb row.1 best.1 q.0) ]) h,
+    )))
 
 heaviest_on : (done rest : List (Task × ℕ)) (o : Option (Task × ℕ)) → IsHeaviestRow done o → (p : Option (Task × ℕ)) × IsHeaviestRow (done ++ rest) p
 heaviest_on done [] o h = (o, subst (λ l. IsHeaviestRow l o) (sym (append-nil done)) h)

@@ -17,7 +17,8 @@ use Rattle.chain_cert.specs.declared.certificate.Certificate.{Certificate}
 use Rattle.chain_cert.specs.declared.certificate.Certificate.TheVariants.{Chain, Cycle, Trapped}
 use Rattle.chain_cert.specs.Certificates.{AreLevels, IsCertificate}
 use Rattle.chain_cert.specs.Levels.{IsLevel}
-use Rattle.chain_cert.specs.Printed.{IsChainBack, IsHeaviestSource, HasGreatestLevel, IsLeast, IsPrintedChain, IsPrintedCycle, IsSourceLeft, IsTaskLeft, IsTracedBack, IsWalkBack, IsWalkedBack}
+use Rattle.chain_cert.specs.Printed.{IsChainBack, IsHeaviestSource, HasGreatestLevel, IsLeast, IsPrintedChain}
+use Rattle.chain_cert.specs.Printed.{IsPrintedCycle, IsSourceLeft, IsTaskLeft, IsTracedBack, IsWalkBack, IsWalkedBack}
 use Rattle.chain_cert.proofs.TaskSorting.{Before, Same, After, ordered}
 use Rattle.chain_cert.proofs.Turning.{printed_is_cycle}
 use Rattle.chain_cert.proofs.Unique.{level_one, last_or_none}
@@ -55,7 +56,9 @@ module _ (P : Plan) (ws : List ℕ) where
   pub chain_one : (c d : List Task) → IsPrintedChain P ws c → IsPrintedChain P ws d → c ≡ d
   chain_one c d a b = a.turned ∙ ap reverse (back_one a.back b.back a.is_back b.is_back) ∙ sym b.turned
 
-  rows_one : (xs ys : List (Task × ℕ)) → keys_of xs ≡ keys_of ys → ((t : Task) (n : ℕ) → IsIn (t, n) xs → IsLevel P ws t n) → ((t : Task) (n : ℕ) → IsIn (t, n) ys → IsLevel P ws t n) → xs ≡ ys
+  rows_one : (xs ys : List (Task × ℕ)) → keys_of xs ≡ keys_of ys
+      → ((t : Task) (n : ℕ) → IsIn (t, n) xs → IsLevel P ws t n)
+      → ((t : Task) (n : ℕ) → IsIn (t, n) ys → IsLevel P ws t n) → xs ≡ ys
   rows_one [] [] e a b = refl
   rows_one [] (y ∷ ys) e a b = absurd cc
   rows_one (x ∷ xs) [] e a b = absurd cc

@@ -20,15 +20,18 @@ pub no_nil : {A : Type 0} (fs : List JdfFault) (spot : Spot) (code : JdfCode) �
 no_nil fs spot code h = let e = rest_nil fs (fault spot code ∷ []) h in absurd cc
 
 -- two parts, each with its faults
-pub both_there : {A B C : Type 0} (f : A → B → C) (o : Option A) (p : Option B) (fs gs : List JdfFault) → (fs ≡ [] → IsSome o) → (gs ≡ [] → IsSome p) → fs ++ gs ≡ [] → IsSome (both f o p)
+pub both_there : {A B C : Type 0} (f : A → B → C) (o : Option A) (p : Option B) (fs gs : List JdfFault)
+    → (fs ≡ [] → IsSome o) → (gs ≡ [] → IsSome p) → fs ++ gs ≡ [] → IsSome (both f o p)
 both_there f o p fs gs h k e = some_both f o p (h (first_nil fs gs e)) (k (rest_nil fs gs e))
 
 -- the parts of the elements of a list
-pub each_there : {A B : Type 0} (f : A → Option B) (g : A → List JdfFault) → ((a : A) → g a ≡ [] → IsSome (f a)) → (xs : List A) → flat_map g xs ≡ [] → IsSome (each f xs)
+pub each_there : {A B : Type 0} (f : A → Option B) (g : A → List JdfFault) → ((a : A) → g a ≡ [] → IsSome (f a))
+    → (xs : List A) → flat_map g xs ≡ [] → IsSome (each f xs)
 each_there f g h [] e = refl
 each_there f g h (x ∷ xs) e = both_there (λ y ys. y ∷ ys) (f x) (each f xs) (g x) (flat_map g xs) (h x) (each_there f g h xs) e
 
 -- an optional part
-pub maybe_there : {A B : Type 0} (f : A → Option B) (g : Option A → List JdfFault) → ((a : A) → g (Some a) ≡ [] → IsSome (f a)) → (o : Option A) → g o ≡ [] → IsSome (each_option f o)
+pub maybe_there : {A B : Type 0} (f : A → Option B) (g : Option A → List JdfFault)
+    → ((a : A) → g (Some a) ≡ [] → IsSome (f a)) → (o : Option A) → g o ≡ [] → IsSome (each_option f o)
 maybe_there f g h None e = refl
 maybe_there f g h (Some a) e = IsSome-option_map (λ b. Some b) (f a) (h a e)

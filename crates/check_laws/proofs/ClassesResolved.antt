@@ -29,7 +29,8 @@ use Rattle.check_laws.proofs.Readings.{bodies_read}
 
 flows_there : (job : Job) (seen : List DefTree) (flows : List FlowTree) → flows_faults job seen flows ≡ [] → IsSome (flows_of job seen flows)
 flows_there job seen flows h =
-    each_there (flow_plan job seen) (flow_faults job seen) (flow_is_there job seen) flows (first_nil (flat_map (flow_faults job seen) flows) (repeats (λ (f : FlowTree). f.name) NameTwice flows) h)
+    each_there (flow_plan job seen) (flow_faults job seen) (flow_is_there job seen) flows
+    (first_nil (flat_map (flow_faults job seen) flows) (repeats (λ (f : FlowTree). f.name) NameTwice flows) h)
 
 head_there : (job : Job) (class : ClassTree) → head_faults job class ≡ [] → IsSome (head_of job class)
 head_there job class h =
@@ -42,7 +43,8 @@ head_there job class h =
     let bad_flows = flows_faults job class.defs class.flows in
     let bad_priority = option_faults job class.defs class.priority in
     both_there head_from (both (λ x y. (x, y)) space element) (both (λ x y. (x, y)) flows priority) (bad_space ++ bad_element) (bad_flows ++ bad_priority)
-    (both_there (λ x y. (x, y)) space element bad_space bad_element (space_there job class.params class.defs) (element_there job class.defs class.affinity class.affinity_args))
+    (both_there (λ x y. (x, y)) space element bad_space bad_element (space_there job class.params class.defs)
+    (element_there job class.defs class.affinity class.affinity_args))
     (both_there (λ x y. (x, y)) flows priority bad_flows bad_priority (flows_there job class.defs class.flows) (option_there job class.defs class.priority)) h
 
 body_there : (b : BodyResult) → resolved_faults b ≡ [] → IsSome (result_ok b)
@@ -50,19 +52,25 @@ body_there (Ok x) h = refl
 body_there (Err f) h = absurd cc
 
 pub class_there : (job : Job) (class : ClassTree) (b : BodyResult) → class_faults job class b ≡ [] → IsSome (class_plan job class b)
-class_there job class b h = both_there (class_from class) (head_of job class) (result_ok b) (head_faults job class) (resolved_faults b) (head_there job class) (body_there b) h
+class_there job class b h = both_there (class_from class) (head_of job class) (result_ok b) (head_faults job class)
+    (resolved_faults b) (head_there job class) (body_there b) h
 
-classes_there : (job : Job) (classes : List ClassTree) (bodies : List BodyResult) → ReadBodies job classes bodies → classes_faults job classes bodies ≡ [] → IsSome (classes_plan job classes bodies)
+classes_there : (job : Job) (classes : List ClassTree) (bodies : List BodyResult) → ReadBodies job classes bodies
+    → classes_faults job classes bodies ≡ [] → IsSome (classes_plan job classes bodies)
 classes_there job [] bodies read h = refl
 classes_there job (c ∷ classes) [] read h = absurd read
 classes_there job (c ∷ classes) (b ∷ bodies) read h =
-    both_there plan_first (class_plan job c b) (classes_plan job classes bodies) (class_faults job c b) (classes_faults job classes bodies) (class_there job c b) (classes_there job classes bodies read.1) h
+    both_there plan_first (class_plan job c b) (classes_plan job classes bodies) (class_faults job c b)
+    (classes_faults job classes bodies) (class_there job c b) (classes_there job classes bodies read.1) h
 
 -- ---- the job
 
-resolved_there : (job : Job) (bodies : List BodyResult) → ReadBodies job job.jdf.classes bodies → faults_of job bodies ≡ [] → (x : Plans) × AreResolved job x.0 x.1
+resolved_there : (job : Job) (bodies : List BodyResult) → ReadBodies job job.jdf.classes bodies
+    → faults_of job bodies ≡ [] → (x : Plans) × AreResolved job x.0 x.1
 resolved_there job bodies read h =
-    let classes = some_value (classes_plan job job.jdf.classes bodies) (classes_there job job.jdf.classes bodies read (first_nil (classes_faults job job.jdf.classes bodies) (names_faults job) h)) in
+    let classes = some_value (classes_plan job job.jdf.classes bodies)
+    (classes_there job job.jdf.classes bodies read (first_nil (classes_faults job job.jdf.classes bodies)
+    (names_faults job) h)) in
     (classes.0, record { bodies = bodies; read = read; no_fault = h; plans = classes.1 })
 
 -- a job has a plan, or a first fault

@@ -35,7 +35,8 @@ pub none_is_before : (faults : List JdfFault) (f g : JdfFault) → first_fault f
 none_is_before [] f g e i = absurd i
 none_is_before (x ∷ faults) f g e i = go (first_fault faults) (λ y. none_is_before faults y g) (first_none faults) e
   where
-    go : (o : Option JdfFault) → ((y : JdfFault) → o ≡ Some y → IsIn g faults → is_before g y ≡ false) → (o ≡ None → faults ≡ []) → earlier_of (Some x) o ≡ Some f → is_before g f ≡ false
+    go : (o : Option JdfFault) → ((y : JdfFault) → o ≡ Some y → IsIn g faults → is_before g y ≡ false)
+        → (o ≡ None → faults ≡ []) → earlier_of (Some x) o ≡ Some f → is_before g f ≡ false
     go None later empty e =
         elim i [
           | inl s ↦ subst (λ y. is_before g y ≡ false) (same_Some x f e) (subst (λ y. is_before y x ≡ false) (sym s) (before-irrefl x))

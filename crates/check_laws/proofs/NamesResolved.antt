@@ -10,8 +10,10 @@ use Rattle.type_rules.specs.Faults.{fault_if}
 use Rattle.type_rules.specs.Returns.{both, each}
 use Rattle.type_rules.specs.Names.{Job, local_named}
 use Rattle.type_rules.specs.Expressions.{expression_faults, term_of, option_faults, option_term}
-use Rattle.type_rules.specs.Arguments.{argument_faults, range_of, argument_of, index_faults, index_of, arguments_faults, arguments_of, indices_faults, indices_of}
-use Rattle.type_rules.specs.Definitions.{is_ranged_local, definition_faults, definitions_faults, definition_of, definitions_of, parameter_faults, parameter_of, space_faults, space_of}
+use Rattle.type_rules.specs.Arguments.{argument_faults, range_of, argument_of, index_faults, index_of, arguments_faults}
+use Rattle.type_rules.specs.Arguments.{arguments_of, indices_faults, indices_of}
+use Rattle.type_rules.specs.Definitions.{is_ranged_local, definition_faults, definitions_faults, definition_of}
+use Rattle.type_rules.specs.Definitions.{definitions_of, parameter_faults, parameter_of, space_faults, space_of}
 use Rattle.type_rules.specs.Repeats.{repeats}
 use Rattle.list_lemmas.proofs.Joins.{first_nil, rest_nil}
 use Rattle.list_lemmas.proofs.Options.{IsSome-option_map}
@@ -28,10 +30,15 @@ option_there job seen e h = maybe_there (term_of job seen) (option_faults job se
 
 -- ---- arguments
 
-range_there : (job : Job) (seen : List DefTree) (lo hi : Expression) (step : Option Expression) → expression_faults job seen lo ++ (expression_faults job seen hi ++ option_faults job seen step) ≡ [] → IsSome (range_of job seen lo hi step)
+range_there : (job : Job) (seen : List DefTree) (lo hi : Expression) (step : Option Expression)
+    → expression_faults job seen lo ++ (expression_faults job seen hi ++ option_faults job seen step) ≡ []
+    → IsSome (range_of job seen lo hi step)
 range_there job seen lo hi step h =
-    both_there range_from (term_of job seen lo) (both (λ x y. (x, y)) (term_of job seen hi) (option_term job seen step)) (expression_faults job seen lo) (expression_faults job seen hi ++ option_faults job seen step) (term_there job seen lo)
-    (both_there (λ x y. (x, y)) (term_of job seen hi) (option_term job seen step) (expression_faults job seen hi) (option_faults job seen step) (term_there job seen hi) (option_there job seen step)) h
+    both_there range_from (term_of job seen lo) (both (λ x y. (x, y)) (term_of job seen hi) (option_term job seen step))
+    (expression_faults job seen lo) (expression_faults job seen hi ++ option_faults job seen step)
+    (term_there job seen lo)
+    (both_there (λ x y. (x, y)) (term_of job seen hi) (option_term job seen step) (expression_faults job seen hi)
+    (option_faults job seen step) (term_there job seen hi) (option_there job seen step)) h
 
 argument_there : (job : Job) (seen : List DefTree) (arg : ArgTree) → argument_faults job seen arg ≡ [] → IsSome (argument_of job seen arg)
 argument_there job seen (tree.One e) h = IsSome-option_map plan.One (term_of job seen e) (term_there job seen e h)
@@ -53,10 +60,12 @@ definition_there : (job : Job) (before : List DefTree) (value : ArgTree) → arg
 definition_there job before (tree.One e) h = IsSome-option_map def.Value (term_of job before e) (term_there job before e h)
 definition_there job before (tree.Span spot lo hi step) h = IsSome-option_map def.Span (range_of job before lo hi step) (range_there job before lo hi step h)
 
-definitions_there : (job : Job) (params : List Word) (before defs : List DefTree) → definitions_faults job params before defs ≡ [] → IsSome (definitions_of job before defs)
+definitions_there : (job : Job) (params : List Word) (before defs : List DefTree)
+    → definitions_faults job params before defs ≡ [] → IsSome (definitions_of job before defs)
 definitions_there job params before [] h = refl
 definitions_there job params before (d ∷ defs) h =
-    both_there (λ x xs. x ∷ xs) (definition_of job before d.value) (definitions_of job (before ++ d ∷ []) defs) (definition_faults job params before d) (definitions_faults job params (before ++ d ∷ []) defs)
+    both_there (λ x xs. x ∷ xs) (definition_of job before d.value) (definitions_of job (before ++ d ∷ []) defs)
+    (definition_faults job params before d) (definitions_faults job params (before ++ d ∷ []) defs)
     (λ e. definition_there job before d.value (first_nil (argument_faults job before d.value) (fault_if (is_ranged_local params d) d.name.spot RangedLocal) e))
     (definitions_there job params (before ++ d ∷ []) defs) h
 
@@ -68,4 +77,5 @@ space_there job params defs h =
     let names = repeats (λ (w : Word). w) NameTwice params in
     some_both space_from (definitions_of job [] defs) (each (parameter_of defs) params)
     (definitions_there job params [] defs (first_nil defined locals (first_nil (defined ++ locals) (given ++ names) h)))
-    (each_there (parameter_of defs) (parameter_faults defs) (λ w. not_none (local_named defs w.text) w.spot ParamUndefined) params (first_nil given names (rest_nil (defined ++ locals) (given ++ names) h)))
+    (each_there (parameter_of defs) (parameter_faults defs) (λ w. not_none (local_named defs w.text) w.spot
+    ParamUndefined) params (first_nil given names (rest_nil (defined ++ locals) (given ++ names) h)))

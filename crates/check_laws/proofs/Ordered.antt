@@ -2,13 +2,21 @@
 use Rattle.std.proofs.Common.{◌≡◌, ℕ, Bool, true, false, List, [], ◌∷◌, arith, refl, sym, ◌∙◌, ap, inl, inr}
 use Rattle.std.specs.Prelude.{Some, nat_lt, slice_get}
 use Rattle.std.proofs.lemmas.Bool.{cases_order, ltb-false}
-use Rattle.type_rules.specs.TreesAndFaults.{JdfCode, JdfFault, TooLong, NotUtf8, Unclosed, TooManyTokens, Syntax, Truncated, BadNumber, ExprTooLong, TooManyClasses, TooManyParams, TooManyLocals, TooManyFlows, TooManyDeps, TooDeep, TooManyVars, NameTwice, LocalTwice, ParamUndefined, RangedLocal, UnknownName, WrongKind, NoSuchFlow, Arity, CtlMixed, WriteInput, NewSent, RangeInDataInput, RangeInPlace, Datatype, MixedTypes, TypeDiffers, ReadAssigned, NotAssignable}
+use Rattle.type_rules.specs.TreesAndFaults.{JdfCode, JdfFault, TooLong, NotUtf8, Unclosed, TooManyTokens, Syntax}
+use Rattle.type_rules.specs.TreesAndFaults.{Truncated, BadNumber, ExprTooLong, TooManyClasses, TooManyParams}
+use Rattle.type_rules.specs.TreesAndFaults.{TooManyLocals, TooManyFlows, TooManyDeps, TooDeep, TooManyVars, NameTwice}
+use Rattle.type_rules.specs.TreesAndFaults.{LocalTwice, ParamUndefined, RangedLocal, UnknownName, WrongKind, NoSuchFlow}
+use Rattle.type_rules.specs.TreesAndFaults.{Arity, CtlMixed, WriteInput, NewSent, RangeInDataInput, RangeInPlace}
+use Rattle.type_rules.specs.TreesAndFaults.{Datatype, MixedTypes, TypeDiffers, ReadAssigned, NotAssignable}
 use Rattle.type_rules.specs.Faults.{code_number, is_before}
 use Rattle.type_rules.proofs.Order.{lex, lex-less, lex-same}
 
 -- all codes, each at the index that is its number
 abbrev codes_by_number : List JdfCode
-codes_by_number = TooLong ∷ NotUtf8 ∷ Unclosed ∷ TooManyTokens ∷ Syntax ∷ Truncated ∷ BadNumber ∷ ExprTooLong ∷ TooManyClasses ∷ TooManyParams ∷ TooManyLocals ∷ TooManyFlows ∷ TooManyDeps ∷ TooDeep ∷ TooManyVars ∷ NameTwice ∷ LocalTwice ∷ ParamUndefined ∷ RangedLocal ∷ UnknownName ∷ WrongKind ∷ NoSuchFlow ∷ Arity ∷ CtlMixed ∷ WriteInput ∷ NewSent ∷ RangeInDataInput ∷ RangeInPlace ∷ Datatype ∷ MixedTypes ∷ TypeDiffers ∷ ReadAssigned ∷ NotAssignable ∷ []
+codes_by_number = TooLong ∷ NotUtf8 ∷ Unclosed ∷ TooManyTokens ∷ Syntax ∷ Truncated ∷ BadNumber ∷ ExprTooLong ∷
+    TooManyClasses ∷ TooManyParams ∷ TooManyLocals ∷ TooManyFlows ∷ TooManyDeps ∷ TooDeep ∷ TooManyVars ∷ NameTwice ∷
+    LocalTwice ∷ ParamUndefined ∷ RangedLocal ∷ UnknownName ∷ WrongKind ∷ NoSuchFlow ∷ Arity ∷ CtlMixed ∷ WriteInput ∷
+    NewSent ∷ RangeInDataInput ∷ RangeInPlace ∷ Datatype ∷ MixedTypes ∷ TypeDiffers ∷ ReadAssigned ∷ NotAssignable ∷ []
 
 at_code_number : (c : JdfCode) → slice_get codes_by_number (code_number c) ≡ Some c
 at_code_number TooLong = refl

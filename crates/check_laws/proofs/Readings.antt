@@ -36,7 +36,8 @@ tokens_read tokens = go (whole productions body tokens) refl
     go (Err n) e = inr (length tokens - n.left, n.code, faulty tokens n.left n.code e)
 
 -- the names of a tree are resolved, or have a first fault
-by_tree : (scope : Environment) (class : ClassTree) (tree : Statements) → IsText productions body class.body tree None → (b : BodyResult) × ReadsAs scope class b
+by_tree : (scope : Environment) (class : ClassTree) (tree : Statements) → IsText productions body class.body tree None
+    → (b : BodyResult) × ReadsAs scope class b
 by_tree scope class tree text = go (body_of scope tree) refl
   where
     go : (r : Resolved (Body × List (List ℕ))) → body_of scope tree ≡ r → (b : BodyResult) × ReadsAs scope class b
@@ -48,7 +49,8 @@ no_body : (r : Resolved (Unit {0})) (f : JdfFault) (u : Unit {0}) → and_then r
 no_body (Ok x) f u e = absurd cc
 no_body (Err g) f u e = absurd cc
 
-by_fault : (scope : Environment) (class : ClassTree) (index : ℕ) (code : Code) → IsFirstFault productions body class.body index code → (b : BodyResult) × ReadsAs scope class b
+by_fault : (scope : Environment) (class : ClassTree) (index : ℕ) (code : Code)
+    → IsFirstFault productions body class.body index code → (b : BodyResult) × ReadsAs scope class b
 by_fault scope class index code broken = go (broken_fault scope class.body class.finish index code) refl
   where
     go : (r : Resolved (Unit {0})) → broken_fault scope class.body class.finish index code ≡ r → (b : BodyResult) × ReadsAs scope class b
@@ -77,7 +79,8 @@ body_read job class within =
     (read.0, record { scope = scope; means = record { locals = refl; integer = λ name. refl; is_collection = λ name. refl; flows = refl }; reads = read.1 })
 
 -- the bodies of some classes
-pub bodies_read : (job : Job) (classes : List ClassTree) → AllByRecursion IsClassWithinLimits classes → (bodies : List BodyResult) × ReadBodies job classes bodies
+pub bodies_read : (job : Job) (classes : List ClassTree) → AllByRecursion IsClassWithinLimits classes
+    → (bodies : List BodyResult) × ReadBodies job classes bodies
 bodies_read job [] within = ([], tt)
 bodies_read job (c ∷ classes) within =
     let first = body_read job c within.0 in

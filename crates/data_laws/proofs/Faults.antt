@@ -56,10 +56,17 @@ later_fault row d (fields ∷ records) fault is =
     })
 
 -- the data before a fault are those of the records before it
-fault_after : (first : Record) (records : List Record) (fields : Record) (code : DataCode) (draft : Draft) → all_records (first ∷ records) ≡ Ok draft → later_record draft fields ≡ Err code → HasFaultAfter (first ∷ records) fields code
+fault_after : (first : Record) (records : List Record) (fields : Record) (code : DataCode) (draft : Draft)
+    → all_records (first ∷ records) ≡ Ok draft → later_record draft fields ≡ Err code
+    → HasFaultAfter (first ∷ records) fields code
 fault_after first records fields code draft is has =
-    let read = are_read first records draft is in
-    (read.elems, read.is_first, read.none_fits, fault_has_code (data_of_records read.elems records) fields code (ap (λ (d : Draft). later_record d fields) (sym read.is) ∙ has))
+    let read = are_read first records draft is in (
+      read.elems,
+      read.is_first,
+      read.none_fits,
+      fault_has_code (data_of_records read.elems records) fields code
+          (ap (λ (d : Draft). later_record d fields) (sym read.is) ∙ has),
+    )
 
 at_first : (first : Record) (records : List Record) (fault : DataFault) → all_records (first ∷ records) ≡ Err fault → IsFirstFault (first ∷ records) fault
 at_first first records fault is =
@@ -79,7 +86,14 @@ at_first first records fault is =
     (λ code h.
     let same = same_Err (record { row = 1; code = code }) fault (rw h at is) in
     let n : 1 ≡ fault.row = ap (λ (f : DataFault). f.row) same in
-    record { before = []; fields = first; after = records; here = refl; number = omega arith; has = fault_at_start_has_code first fault.code (h ∙ ap (λ (f : DataFault). Err f.code) same) })
+    record {
+      before = [];
+      fields = first;
+      after = records;
+      here = refl;
+      number = omega arith;
+      has = fault_at_start_has_code first fault.code (h ∙ ap (λ (f : DataFault). Err f.code) same);
+    })
 
 no_data : (n : ℕ) (r : Result Draft DataFault) (fault : DataFault) → as_data n r ≡ Err fault → r ≡ Err fault
 no_data n (Ok d) fault is = absurd cc
@@ -94,7 +108,8 @@ fault_is_first text fault is = in_records (records_of text) fault (no_data (leng
 
 -- ---- the converse
 
-later_is_fault : (row : ℕ) (d draft : Draft) (before after : List Record) (fields : Record) (code : DataCode) → later_records row d before ≡ Ok draft → later_record draft fields ≡ Err code
+later_is_fault : (row : ℕ) (d draft : Draft) (before after : List Record) (fields : Record) (code : DataCode)
+    → later_records row d before ≡ Ok draft → later_record draft fields ≡ Err code
     → later_records row d (before ++ fields ∷ after) ≡ Err (record { row = row + length before; code = code })
 later_is_fault row d draft [] after fields code is has =
     let same : d ≡ draft = same_Ok d draft is in
@@ -108,13 +123,15 @@ later_is_fault row d draft (r ∷ before) after fields code is has =
     ∙ ap (λ n. Err (record { row = n; code = code })) (let n : row + 1 + length before ≡ row + length (r ∷ before) = omega arith in n))
     (λ code h. let s = rw h at is in no_value s)
 
-records_are_fault : (before after : List Record) (fields : Record) (code : DataCode) → HasFaultAfter before fields code → all_records (before ++ fields ∷ after) ≡ Err (record { row = length before + 1; code = code })
+records_are_fault : (before after : List Record) (fields : Record) (code : DataCode) → HasFaultAfter before fields code
+    → all_records (before ++ fields ∷ after) ≡ Err (record { row = length before + 1; code = code })
 records_are_fault [] after fields code has = ap (λ r. then_at 1 r (λ e. later_records 2 (begun e) after)) (code_is_fault_at_start fields code has)
 records_are_fault (first ∷ before) after fields code has =
     let is = read_all first before has.0 has.1 has.2 in
     by_result (first_record first)
     (λ elements h.
-    let more = later_is_fault 2 (begun elements) (data_of_records has.0 before) before after fields code (rw h at is) (code_is_fault (data_of_records has.0 before) fields code has.3) in
+    let more = later_is_fault 2 (begun elements) (data_of_records has.0 before) before after fields code (rw h at is)
+    (code_is_fault (data_of_records has.0 before) fields code has.3) in
     ap (λ x. then_at 1 x (λ e. later_records 2 (begun e) (before ++ fields ∷ after))) h ∙ more
     ∙ ap (λ n. Err (record { row = n; code = code })) (let n : 2 + length before ≡ length (first ∷ before) + 1 = omega arith in n))
     (λ code h. let s = rw h at is in no_value s)

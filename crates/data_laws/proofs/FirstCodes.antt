@@ -10,7 +10,8 @@ use Rattle.coll_data.specs.declared.fault.DataCode.{DataCode}
 use Rattle.coll_data.specs.declared.fault.DataCode.TheVariants.{BadName, NameTwice, UnknownType, BadNumber, TooManyTiles, TooManyElements}
 use Rattle.data_read.specs.Fields.{field, is_name, whole, begins}
 use Rattle.data_read.specs.Draft.{Draft, coll_named, is_new, slot_at, type_named}
-use Rattle.data_read.specs.Records.{coll_of, coll_record, collof_record, column, columns, element_count, first_record, first_value, int_record, later_record, numbers, shape_of, tile_record, type_record}
+use Rattle.data_read.specs.Records.{coll_of, coll_record, collof_record, column, columns, element_count, first_record}
+use Rattle.data_read.specs.Records.{first_value, int_record, later_record, numbers, shape_of, tile_record, type_record}
 use Rattle.data_laws.specs.WholeRecords.{Record}
 use Rattle.data_laws.specs.Codes.{all_codes, both_pass, first_code, first_code_at_start}
 use Rattle.data_read.proofs.Choices.{by_option}

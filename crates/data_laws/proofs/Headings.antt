@@ -1,5 +1,6 @@
 -- The headings of collections, and the tiles of one of them, when one more record follows.
-use Rattle.std.proofs.Common.{◌≡◌, ℕ, ◌+◌, ℤ, Bool, true, false, ◌||◌, List, [], ◌∷◌, ◌++◌, map, slice_get, replicate, bytes_eq, codes, Option, Some, None, option_map, refl, sym, ◌∙◌, ap, subst, inl, inr}
+use Rattle.std.proofs.Common.{◌≡◌, ℕ, ◌+◌, ℤ, Bool, true, false, ◌||◌, List, [], ◌∷◌, ◌++◌, map, slice_get, replicate}
+use Rattle.std.proofs.Common.{bytes_eq, codes, Option, Some, None, option_map, refl, sym, ◌∙◌, ap, subst, inl, inr}
 use Rattle.std.specs.List.{AllByRecursion, list_any, range_with_len}
 use Rattle.std.specs.Cmp.Lexicographic.{bytes_decides}
 use Rattle.std.proofs.lemmas.Bool.{false≢true, false_from_ne_true, or_from, or_parts}
@@ -43,13 +44,15 @@ apart_push (g ∷ gs) h all none =
 -- no collection has the name
 pub no_name : (records : List Record) (name : List ℕ) (hs : List Heading) → coll_index name (map (with_tiles records) hs) ≡ None → has_name name hs ≡ false
 no_name records name [] none = refl
-no_name records name (h ∷ hs) none = elim (chosen (bytes_eq name h.name) (Some 0) (option_map (λ n. n + 1) (coll_index name (map (with_tiles records) hs))) None none) [
-  | inl here ↦ absurd (let never : ◌≡◌ {A = Option ℕ} (Some 0) None = here.1 in cc)
-  | inr later ↦ rw later.0 (no_name records name hs (none_from_option_map (λ (n : ℕ). n + 1) (coll_index name (map (with_tiles records) hs)) later.1))
-]
+no_name records name (h ∷ hs) none = elim (chosen (bytes_eq name h.name) (Some 0)
+    (option_map (λ n. n + 1) (coll_index name (map (with_tiles records) hs))) None none) [
+      | inl here ↦ absurd (let never : ◌≡◌ {A = Option ℕ} (Some 0) None = here.1 in cc)
+      | inr later ↦ rw later.0 (no_name records name hs (none_from_option_map (λ (n : ℕ). n + 1) (coll_index name (map (with_tiles records) hs)) later.1))
+    ]
 
 -- some collection has the name
-pub some_name : (records : List Record) (name : List ℕ) (hs : List Heading) (at : ℕ) → coll_index name (map (with_tiles records) hs) ≡ Some at → has_name name hs ≡ true
+pub some_name : (records : List Record) (name : List ℕ) (hs : List Heading) (at : ℕ)
+    → coll_index name (map (with_tiles records) hs) ≡ Some at → has_name name hs ≡ true
 some_name records name [] at is = absurd cc
 some_name records name (h ∷ hs) at is =
     by_test (bytes_eq name h.name)
@@ -65,21 +68,24 @@ some_name records name (h ∷ hs) at is =
 abbrev pub HasKnownType : List (List ℕ × ℕ) → Record → Type 0
 HasKnownType types fields = declares fields ≡ true → (known : ℕ × ℕ) × (type_among (type_name_in fields) 0 types ≡ Some known)
 
-pub type_kept : (name : List ℕ) (number : ℕ) (types : List (List ℕ × ℕ)) (t : List ℕ × ℕ) (known : ℕ × ℕ) → type_among name number types ≡ Some known → type_among name number (types ++ t ∷ []) ≡ Some known
+pub type_kept : (name : List ℕ) (number : ℕ) (types : List (List ℕ × ℕ)) (t : List ℕ × ℕ) (known : ℕ × ℕ)
+    → type_among name number types ≡ Some known → type_among name number (types ++ t ∷ []) ≡ Some known
 type_kept name number [] t known is = absurd cc
 type_kept name number (u ∷ us) t known is =
     by_test (bytes_eq name u.0)
     (λ here. rw here (rw here at is))
     (λ other. rw other (type_kept name (number + 1) us t known (rw other at is)))
 
-pub heading_kept : (types : List (List ℕ × ℕ)) (t : List ℕ × ℕ) (fields : Record) → HasKnownType types fields → heading_in (types ++ t ∷ []) fields ≡ heading_in types fields
+pub heading_kept : (types : List (List ℕ × ℕ)) (t : List ℕ × ℕ) (fields : Record) → HasKnownType types fields
+    → heading_in (types ++ t ∷ []) fields ≡ heading_in types fields
 heading_kept types t fields known =
     by_test (declares fields)
     (λ h.
     let found = known h in
     let is : type_among (type_name_in fields) 0 types ≡ Some found.0 = found.1 in
     let more = type_kept (type_name_in fields) 0 types t found.0 is in
-    let same : heading_at (type_among (type_name_in fields) 0 (types ++ t ∷ [])) fields (name_at fields) ≡ heading_at (type_among (type_name_in fields) 0 types) fields (name_at fields) =
+    let same : heading_at (type_among (type_name_in fields) 0 (types ++ t ∷ [])) fields (name_at fields)
+    ≡ heading_at (type_among (type_name_in fields) 0 types) fields (name_at fields) =
     ap (λ o. heading_at o fields (name_at fields)) (more ∙ sym is) in
     rw h same)
     (λ h. rw h refl)
@@ -94,7 +100,8 @@ abbrev pub places : Heading → List ℕ
 places h = range_with_len 0 (tile_count h.shape.0 h.shape.1)
 
 -- a record of no tile of a collection changes none of its tiles
-pub tiles_kept : (records : List Record) (fields : Record) (h : Heading) → ((k : ℕ) → tile_in h k fields ≡ None) → with_tiles (records ++ fields ∷ []) h ≡ with_tiles records h
+pub tiles_kept : (records : List Record) (fields : Record) (h : Heading) → ((k : ℕ) → tile_in h k fields ≡ None)
+    → with_tiles (records ++ fields ∷ []) h ≡ with_tiles records h
 tiles_kept records fields h none =
     ap (tiled h)
     (range_same (given_tile h records) (given_tile h (records ++ fields ∷ [])) 0 (tile_count h.shape.0 h.shape.1)
@@ -111,7 +118,8 @@ other_tile fields h other k =
     (λ none. rw none refl)
 
 -- a record of no tile changes no collection
-pub colls_kept : (records : List Record) (fields : Record) (hs : List Heading) → begins (codes "tile") fields ≡ false → map (with_tiles (records ++ fields ∷ [])) hs ≡ map (with_tiles records) hs
+pub colls_kept : (records : List Record) (fields : Record) (hs : List Heading) → begins (codes "tile") fields ≡ false
+    → map (with_tiles (records ++ fields ∷ [])) hs ≡ map (with_tiles records) hs
 colls_kept records fields hs other =
     map_same (with_tiles (records ++ fields ∷ [])) (with_tiles records) hs
     (all_of (λ (h : Heading). with_tiles (records ++ fields ∷ []) h ≡ with_tiles records h) hs (λ h. tiles_kept records fields h (no_tile fields other h)))
@@ -129,12 +137,14 @@ not_of hs h fields new known k =
     other_tile fields h other k)
     (λ none. no_tile fields none h k)
 
-all_not_of : (hs : List Heading) (h : Heading) (records : List Record) → has_name h.name hs ≡ false → AllByRecursion (IsOfKnown hs) records → (k : ℕ) → AllByRecursion (λ fields. tile_in h k fields ≡ None) records
+all_not_of : (hs : List Heading) (h : Heading) (records : List Record) → has_name h.name hs ≡ false
+    → AllByRecursion (IsOfKnown hs) records → (k : ℕ) → AllByRecursion (λ fields. tile_in h k fields ≡ None) records
 all_not_of hs h [] new known k = tt
 all_not_of hs h (fields ∷ records) new known k = (not_of hs h fields new known.0 k, all_not_of hs h records new known.1 k)
 
 -- a collection with a new name has no tile yet
-pub new_coll : (records : List Record) (fields : Record) (hs : List Heading) (h : Heading) → begins (codes "tile") fields ≡ false → has_name h.name hs ≡ false → AllByRecursion (IsOfKnown hs) records
+pub new_coll : (records : List Record) (fields : Record) (hs : List Heading) (h : Heading)
+    → begins (codes "tile") fields ≡ false → has_name h.name hs ≡ false → AllByRecursion (IsOfKnown hs) records
     → with_tiles (records ++ fields ∷ []) h ≡ tiled h (replicate (tile_count h.shape.0 h.shape.1) None)
 new_coll records fields hs h other new known =
     tiles_kept records fields h (no_tile fields other h)

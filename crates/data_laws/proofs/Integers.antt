@@ -1,5 +1,6 @@
 -- The integers of data have 64 bits.
-use Rattle.std.proofs.Common.{◌≡◌, ℕ, zero, suc, ◌+◌, ◌≤◌, ◌==◌, ℤ, pos, true, cond, List, [], ◌∷◌, Option, Some, None, option_map, codes, refl, ap, sym, subst, arith, inl, inr}
+use Rattle.std.proofs.Common.{◌≡◌, ℕ, zero, suc, ◌+◌, ◌≤◌, ◌==◌, ℤ, pos, true, cond, List, [], ◌∷◌, Option, Some, None}
+use Rattle.std.proofs.Common.{option_map, codes, refl, ap, sym, subst, arith, inl, inr}
 use Rattle.std.specs.Prelude.{neg_ℤ, nat_le, Ok}
 use Rattle.std.specs.List.{list_all}
 use Rattle.std.proofs.lemmas.Bool.{and_parts, leb-true, lt-ltb}

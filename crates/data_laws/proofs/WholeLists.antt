@@ -1,5 +1,6 @@
 -- Lists made element by element, with one element more or one element changed.
-use Rattle.std.proofs.Common.{◌≡◌, ℕ, zero, suc, ◌+◌, ◌<◌, ◌≤◌, Bool, false, List, [], ◌∷◌, ◌++◌, map, set, replicate, Option, Some, None, refl, sym, ◌∙◌, ap, arith}
+use Rattle.std.proofs.Common.{◌≡◌, ℕ, zero, suc, ◌+◌, ◌<◌, ◌≤◌, Bool, false, List, [], ◌∷◌, ◌++◌, map, set, replicate}
+use Rattle.std.proofs.Common.{Option, Some, None, refl, sym, ◌∙◌, ap, arith}
 use Rattle.std.specs.List.{AllByRecursion, cons_option, filter_map, list_any, range_with_len}
 use Rattle.std.proofs.lemmas.Bool.{or_parts}
 use Rattle.std.proofs.lemmas.List.{append-nil}
@@ -52,7 +53,8 @@ range_constant f x a (suc n) same =
     let rest = range_constant f x (a + 1) n same in
     λ i. first i ∷ rest i
 
-pub range_set : {X : Type 0} (f g : ℕ → X) (a n i : ℕ) (v : X) → i < n → g (a + i) ≡ v → ((k : ℕ) → (k ≡ a + i → ⊥) → g k ≡ f k) → map g (range_with_len a n) ≡ set (map f (range_with_len a n)) i v
+pub range_set : {X : Type 0} (f g : ℕ → X) (a n i : ℕ) (v : X) → i < n → g (a + i) ≡ v
+    → ((k : ℕ) → (k ≡ a + i → ⊥) → g k ≡ f k) → map g (range_with_len a n) ≡ set (map f (range_with_len a n)) i v
 range_set f g a zero i v within is other = absurd (omega arith)
 range_set f g a (suc n) zero v within is other =
     let here : a ≡ a + 0 = omega arith in

@@ -1,5 +1,7 @@
 -- Which links belong to targets, and to tasks.
-use Rattle.std.proofs.Common.{Option, ◌≡◌, ◌↔◌, ℕ, zero, suc, ◌+◌, ℤ, Bool, true, false, List, [], ◌∷◌, ◌++◌, take, map, refl, ap, sym, ◌∙◌, subst, add-zero, Some, None, slice_get, IsSomeAnd, IsTrue, inl, inr, arith}
+use Rattle.std.proofs.Common.{Option, ◌≡◌, ◌↔◌, ℕ, zero, suc, ◌+◌, ℤ, Bool, true, false, List, [], ◌∷◌, ◌++◌, take, map}
+use Rattle.std.proofs.Common.{refl, ap, sym, ◌∙◌, subst, add-zero, Some, None, slice_get, IsSomeAnd, IsTrue, inl, inr}
+use Rattle.std.proofs.Common.{arith}
 use Rattle.std.proofs.lemmas.Bool.{false≢true}
 use Rattle.std.specs.List.{flat_map}
 use Rattle.std.specs.Option.{option_map_or}
@@ -50,10 +52,13 @@ not_product ws wss h =
 pub to_links : (n class flow : ℕ) (ps : List ℤ) (cs : List (List ℤ)) → IsIn ps cs → IsIn (link n class flow ps) (map (link n class flow) cs)
 to_links n class flow ps cs h = IsIn-map (link n class flow) cs ps h
 
-pub to_links_of : (n class flow : ℕ) (far : Task) (far_flow : ℕ) (cs : List (List ℤ)) → class ≡ far.class → flow ≡ far_flow → IsIn far.params cs → IsIn (record { near = n; far = far; far_flow = far_flow }) (map (link n class flow) cs)
+pub to_links_of : (n class flow : ℕ) (far : Task) (far_flow : ℕ) (cs : List (List ℤ)) → class ≡ far.class
+    → flow ≡ far_flow → IsIn far.params cs → IsIn (record { near = n; far = far; far_flow = far_flow })
+    (map (link n class flow) cs)
 to_links_of n class flow far far_flow cs e f h = rw (e, f) (to_links n far.class far_flow far.params cs h)
 
-pub from_links : (n class flow : ℕ) (cs : List (List ℤ)) (l : Link) → IsIn l (map (link n class flow) cs) → (l.far.class ≡ class) × (l.far_flow ≡ flow) × IsIn l.far.params cs × (l.near ≡ n)
+pub from_links : (n class flow : ℕ) (cs : List (List ℤ)) (l : Link) → IsIn l (map (link n class flow) cs)
+    → (l.far.class ≡ class) × (l.far_flow ≡ flow) × IsIn l.far.params cs × (l.near ≡ n)
 from_links n class flow cs l h =
     let p = from_map (link n class flow) cs l h in
     (ap (λ (l : Link). l.far.class) p.2, ap (λ (l : Link). l.far_flow) p.2, rw (ap (λ (l : Link). l.far.params) p.2) p.1, ap (λ (l : Link). l.near) p.2)
@@ -73,21 +78,25 @@ flat_map-numbered env n [] = refl
 flat_map-numbered env n (x ∷ xs) = ap (λ l. links_to env n x ++ l) (flat_map-numbered env n xs)
 
 -- a target that is listed with the number of a flow is a target of that flow
-pub from_by_flow : (g : FlowPlan → List Target) (n : ℕ) (fs : List FlowPlan) (a : ℕ × Target) → IsIn a (by_flow g n fs) → (k : ℕ) × (f : FlowPlan) × (slice_get fs k ≡ Some f) × (a.0 ≡ n + k) × IsIn a.1 (g f)
+pub from_by_flow : (g : FlowPlan → List Target) (n : ℕ) (fs : List FlowPlan) (a : ℕ × Target) → IsIn a (by_flow g n fs)
+    → (k : ℕ) × (f : FlowPlan) × (slice_get fs k ≡ Some f) × (a.0 ≡ n + k) × IsIn a.1 (g f)
 from_by_flow g n [] a i = absurd i
 from_by_flow g n (f ∷ fs) a i = elim (from_append a (map (λ x. (n, x)) (g f)) (by_flow g (suc n) fs) i) [
-  | inl here ↦ let p = from_map (λ x. (n, x)) (g f) a here in (0, f, refl, omega (arith, ap (λ b. b.0) p.2), subst (λ x. IsIn x (g f)) (sym (ap (λ b. b.1) p.2)) p.1)
+  | inl here ↦ let p = from_map (λ x. (n, x)) (g f) a here in
+      (0, f, refl, omega (arith, ap (λ b. b.0) p.2), subst (λ x. IsIn x (g f)) (sym (ap (λ b. b.1) p.2)) p.1)
   | inr later ↦ let p = from_by_flow g (suc n) fs a later in (suc p.0, p.1, p.2, omega (arith, p.3), p.4)
 ]
 
 module _ (env : List ℤ) (g : FlowPlan → List Target) where
-  pub by_flow-links : (n : ℕ) (f : FlowPlan) (fs : List FlowPlan) → all_links env (by_flow g n (f ∷ fs)) ≡ flat_map (links_to env n) (g f) ++ all_links env (by_flow g (suc n) fs)
+  pub by_flow-links : (n : ℕ) (f : FlowPlan) (fs : List FlowPlan)
+      → all_links env (by_flow g n (f ∷ fs)) ≡ flat_map (links_to env n) (g f) ++ all_links env (by_flow g (suc n) fs)
   by_flow-links n f fs =
       flat_map-append (λ (a : ℕ × Target). links_to env a.0 a.1) (map (λ x. (n, x)) (g f)) (by_flow g (suc n) fs)
       ∙ ap (λ l. l ++ all_links env (by_flow g (suc n) fs)) (flat_map-numbered env n (g f))
 
   -- a link of the flows' targets is a link of one flow's targets
-  from_flows : (n : ℕ) (fs : List FlowPlan) (l : Link) → IsIn l (all_links env (by_flow g n fs)) → (i : ℕ) × (l.near ≡ n + i) × IsSomeAnd (slice_get fs i) (λ f. IsIn l (flat_map (links_to env l.near) (g f)))
+  from_flows : (n : ℕ) (fs : List FlowPlan) (l : Link) → IsIn l (all_links env (by_flow g n fs))
+      → (i : ℕ) × (l.near ≡ n + i) × IsSomeAnd (slice_get fs i) (λ f. IsIn l (flat_map (links_to env l.near) (g f)))
   from_flows n [] l h = absurd h
   from_flows n (f ∷ fs) l h =
       elim (from_append l (flat_map (links_to env n) (g f)) (all_links env (by_flow g (suc n) fs)) (rw (by_flow-links n f fs) at h)) [
@@ -97,7 +106,9 @@ module _ (env : List ℤ) (g : FlowPlan → List Target) where
         | inr b ↦ let p = from_flows (suc n) fs l b in (suc p.0, (let e = p.1 in omega arith), p.2)
       ]
 
-  to_flows : (n : ℕ) (fs : List FlowPlan) (l : Link) (i : ℕ) → IsSomeAnd (slice_get fs i) (λ f. IsIn l (flat_map (links_to env (n + i)) (g f))) → IsIn l (all_links env (by_flow g n fs))
+  to_flows : (n : ℕ) (fs : List FlowPlan) (l : Link) (i : ℕ)
+      → IsSomeAnd (slice_get fs i) (λ f. IsIn l (flat_map (links_to env (n + i)) (g f)))
+      → IsIn l (all_links env (by_flow g n fs))
   to_flows n [] l i h = absurd h
   to_flows n (f ∷ fs) l zero h =
       let k = subst (λ m. IsIn l (flat_map (links_to env m) (g f))) (add-zero n) h in
@@ -130,51 +141,68 @@ pub to_edges_out : (t : Task) (ls : List Link) (e : Edge) → e.from ≡ t → I
 to_edges_out t ls e q h = subst (λ u. IsIn e (map (edge_of_link Out u) ls)) q (IsIn-map (edge_of_link Out e.from) ls (link_out e) h)
 
 -- a link of a task is one of the flow with the link's number
-pub from_task : (P : Plan) (t : Task) (way : Direction) (l : Link) → IsIn l (task_links P t way) → IsSomeAnd (slice_get (flows_of P t) l.near) (λ f. IsIn l (flat_map (links_to (locals_of P t) l.near) (flow_targets way (locals_of P t) f)))
+pub from_task : (P : Plan) (t : Task) (way : Direction) (l : Link) → IsIn l (task_links P t way)
+    → IsSomeAnd (slice_get (flows_of P t) l.near) (λ f. IsIn l
+    (flat_map (links_to (locals_of P t) l.near) (flow_targets way (locals_of P t) f)))
 from_task P t way l h =
     let env = locals_of P t in
     let p = from_flows env (flow_targets way env) 0 (flows_of P t) l h in
     let e : p.0 ≡ l.near = let k = p.1 in omega arith in
     subst (λ i. IsSomeAnd (slice_get (flows_of P t) i) (λ f. IsIn l (flat_map (links_to env l.near) (flow_targets way env f)))) e p.2
 
-pub to_task : (P : Plan) (t : Task) (way : Direction) (l : Link) → IsSomeAnd (slice_get (flows_of P t) l.near) (λ f. IsIn l (flat_map (links_to (locals_of P t) l.near) (flow_targets way (locals_of P t) f))) → IsIn l (task_links P t way)
+pub to_task : (P : Plan) (t : Task) (way : Direction) (l : Link)
+    → IsSomeAnd (slice_get (flows_of P t) l.near) (λ f. IsIn l
+    (flat_map (links_to (locals_of P t) l.near) (flow_targets way (locals_of P t) f))) → IsIn l (task_links P t way)
 to_task P t way l h =
     let env = locals_of P t in
-    to_flows env (flow_targets way env) 0 (flows_of P t) l l.near (subst (λ m. IsSomeAnd (slice_get (flows_of P t) l.near) (λ f. IsIn l (flat_map (links_to env m) (flow_targets way env f)))) (omega arith) h)
+    to_flows env (flow_targets way env) 0 (flows_of P t) l l.near
+    (subst (λ m. IsSomeAnd (slice_get (flows_of P t) l.near)
+    (λ f. IsIn l (flat_map (links_to env m) (flow_targets way env f)))) (omega arith) h)
 
 -- an edge is one into a task if and only if its link is one of the flow that it goes into
-pub in_edge_is : (P : Plan) (t : Task) (e : Edge) → IsIn e (in_edges P t) ↔ ((e.to ≡ t) × IsSomeAnd (slice_get (flows_of P t) e.in_flow) (λ f. IsIn (link_in e) (flat_map (links_to (locals_of P t) e.in_flow) (flow_targets In (locals_of P t) f))))
+pub in_edge_is : (P : Plan) (t : Task) (e : Edge) → IsIn e (in_edges P t) ↔
+    ((e.to ≡ t) × IsSomeAnd (slice_get (flows_of P t) e.in_flow)
+    (λ f. IsIn (link_in e) (flat_map (links_to (locals_of P t) e.in_flow) (flow_targets In (locals_of P t) f))))
 in_edge_is P t e = (
   λ h. let p = from_edges_in t (task_links P t In) e (rw (sym (in_edges-links P t)) at h) in (p.0, from_task P t In (link_in e) p.1),
   λ h. rw (sym (in_edges-links P t)) (to_edges_in t (task_links P t In) e h.0 (to_task P t In (link_in e) h.1)),
 )
 
-pub out_edge_is : (P : Plan) (t : Task) (e : Edge) → IsIn e (out_edges P t) ↔ ((e.from ≡ t) × IsSomeAnd (slice_get (flows_of P t) e.out_flow) (λ f. IsIn (link_out e) (flat_map (links_to (locals_of P t) e.out_flow) (flow_targets Out (locals_of P t) f))))
+pub out_edge_is : (P : Plan) (t : Task) (e : Edge) → IsIn e (out_edges P t) ↔
+    ((e.from ≡ t) × IsSomeAnd (slice_get (flows_of P t) e.out_flow)
+    (λ f. IsIn (link_out e) (flat_map (links_to (locals_of P t) e.out_flow) (flow_targets Out (locals_of P t) f))))
 out_edge_is P t e = (
   λ h. let p = from_edges_out t (task_links P t Out) e (rw (sym (out_edges-links P t)) at h) in (p.0, from_task P t Out (link_out e) p.1),
   λ h. rw (sym (out_edges-links P t)) (to_edges_out t (task_links P t Out) e h.0 (to_task P t Out (link_out e) h.1)),
 )
 
 -- the active targets of dependences, by whether the first dependence holds
-pub held-none : (first_only : Bool) (d : DepPlan) (ds : List DepPlan) (env : List ℤ) → held_target d env ≡ None → held_targets first_only (d ∷ ds) env ≡ held_targets first_only ds env
+pub held-none : (first_only : Bool) (d : DepPlan) (ds : List DepPlan) (env : List ℤ) → held_target d env ≡ None
+    → held_targets first_only (d ∷ ds) env ≡ held_targets first_only ds env
 held-none first_only d ds env e = ap (λ o. held_then first_only o (held_targets first_only ds env)) e
 
 pub held-first : (d : DepPlan) (ds : List DepPlan) (env : List ℤ) (x : Target) → held_target d env ≡ Some x → held_targets true (d ∷ ds) env ≡ x ∷ []
 held-first d ds env x e = ap (λ o. held_then true o (held_targets true ds env)) e
 
-pub held-more : (d : DepPlan) (ds : List DepPlan) (env : List ℤ) (x : Target) → held_target d env ≡ Some x → held_targets false (d ∷ ds) env ≡ x ∷ held_targets false ds env
+pub held-more : (d : DepPlan) (ds : List DepPlan) (env : List ℤ) (x : Target) → held_target d env ≡ Some x
+    → held_targets false (d ∷ ds) env ≡ x ∷ held_targets false ds env
 held-more d ds env x e = ap (λ o. held_then false o (held_targets false ds env)) e
 
 -- whether a flow's active targets stand for a link, by its first dependence
 module _ (env : List ℤ) (n : ℕ) (l : Link) (d : DepPlan) (ds : List DepPlan) where
-  pub any-none : (first_only : Bool) (b : Bool) → held_target d env ≡ None → IsTrue b ↔ IsIn l (flat_map (links_to env n) (held_targets first_only ds env)) → IsTrue b ↔ IsIn l (flat_map (links_to env n) (held_targets first_only (d ∷ ds) env))
+  pub any-none : (first_only : Bool) (b : Bool) → held_target d env ≡ None
+      → IsTrue b ↔ IsIn l (flat_map (links_to env n) (held_targets first_only ds env))
+      → IsTrue b ↔ IsIn l (flat_map (links_to env n) (held_targets first_only (d ∷ ds) env))
   any-none first_only b e w = rw (held-none first_only d ds env e) w
 
-  pub any-here : (first_only : Bool) (x : Target) → held_target d env ≡ Some x → IsIn l (links_to env n x) → IsIn l (flat_map (links_to env n) (held_targets first_only (d ∷ ds) env))
+  pub any-here : (first_only : Bool) (x : Target) → held_target d env ≡ Some x → IsIn l (links_to env n x)
+      → IsIn l (flat_map (links_to env n) (held_targets first_only (d ∷ ds) env))
   any-here true x e h = rw (held-first d ds env x e) (IsIn-append_left l (links_to env n x) [] h)
   any-here false x e h = rw (held-more d ds env x e) (IsIn-append_left l (links_to env n x) (flat_map (links_to env n) (held_targets false ds env)) h)
 
-  pub any-later : (first_only b : Bool) (x : Target) → first_only ≡ false → held_target d env ≡ Some x → (IsIn l (links_to env n x) → ⊥) → IsTrue b ↔ IsIn l (flat_map (links_to env n) (held_targets first_only ds env)) → IsTrue b ↔ IsIn l (flat_map (links_to env n) (held_targets first_only (d ∷ ds) env))
+  pub any-later : (first_only b : Bool) (x : Target) → first_only ≡ false → held_target d env ≡ Some x
+      → (IsIn l (links_to env n x) → ⊥) → IsTrue b ↔ IsIn l (flat_map (links_to env n) (held_targets first_only ds env))
+      → IsTrue b ↔ IsIn l (flat_map (links_to env n) (held_targets first_only (d ∷ ds) env))
   any-later true b x k e not_here w = absurd (false≢true (sym k))
   any-later false b x k e not_here w =
       rw (held-more d ds env x e) (

@@ -15,6 +15,7 @@ pub held_of : (way : Direction) (env : List ℤ) (f : FlowPlan) → held_targets
 held_of In env f = refl
 held_of Out env f = refl
 
-pub fit_of : (P : Plan) (way : Direction) (f : FlowPlan) → IsTrue (dependences_fit P f.ins && dependences_fit P f.outs) → IsTrue (dependences_fit P (dependences way f))
+pub fit_of : (P : Plan) (way : Direction) (f : FlowPlan) → IsTrue (dependences_fit P f.ins && dependences_fit P f.outs)
+    → IsTrue (dependences_fit P (dependences way f))
 fit_of P In f h = (and_parts (dependences_fit P f.ins) (dependences_fit P f.outs) h).0
 fit_of P Out f h = (and_parts (dependences_fit P f.ins) (dependences_fit P f.outs) h).1

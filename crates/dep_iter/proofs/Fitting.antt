@@ -33,27 +33,35 @@ module _ (P : Plan) (locals : ℕ) where
   fits-exists New h = refl
   fits-exists Null h = refl
 
-  second_fits : (passes : Target → Bool) → ((x : Target) → passes x ≡ true → fits P x ≡ true) → (guard : Option Term) (o : Option Target) → is_second passes guard o ≡ true → option_map_or (fits P) o true ≡ true
+  second_fits : (passes : Target → Bool) → ((x : Target) → passes x ≡ true → fits P x ≡ true)
+      → (guard : Option Term) (o : Option Target) → is_second passes guard o ≡ true
+      → option_map_or (fits P) o true ≡ true
   second_fits passes f guard None h = refl
   second_fits passes f guard (Some x) h = f x (second_so _ _ h)
 
-  fits-dependence : (passes : Target → Bool) → ((x : Target) → passes x ≡ true → fits P x ≡ true) → (d : DepPlan) → is_dependence locals passes d ≡ true → dependence_fits P d ≡ true
+  fits-dependence : (passes : Target → Bool) → ((x : Target) → passes x ≡ true → fits P x ≡ true) → (d : DepPlan)
+      → is_dependence locals passes d ≡ true → dependence_fits P d ≡ true
   fits-dependence passes f d h = and_from _ _ (f d.yes (second_so _ _ (first_so _ _ h))) (second_fits passes f d.guard d.no (second_so _ _ h))
 
-  fits-flow : (types : ℕ) (f : FlowPlan) → is_flow P.classes P.spaces P.colls types locals f ≡ true → (dependences_fit P f.ins && dependences_fit P f.outs) ≡ true
+  fits-flow : (types : ℕ) (f : FlowPlan) → is_flow P.classes P.spaces P.colls types locals f ≡ true
+      → (dependences_fit P f.ins && dependences_fit P f.outs) ≡ true
   fits-flow types f h =
       let ins = second_so _ _ (first_so _ _ h) in
       let outs = second_so _ _ h in
       let source = is_source P.classes P.spaces P.colls locals f in
       let destination = is_destination P.classes P.spaces P.colls locals f in
       and_from _ _
-      (list_all-weaker (is_dependence locals source) (dependence_fits P) (fits-dependence source (λ x k. fits-exists x (first_so _ _ (first_so _ _ k)))) f.ins ins)
-      (list_all-weaker (is_dependence locals destination) (dependence_fits P) (fits-dependence destination (λ x k. fits-exists x (first_so _ _ (first_so _ _ k)))) f.outs outs)
+      (list_all-weaker (is_dependence locals source) (dependence_fits P)
+      (fits-dependence source (λ x k. fits-exists x (first_so _ _ (first_so _ _ k)))) f.ins ins)
+      (list_all-weaker (is_dependence locals destination) (dependence_fits P)
+      (fits-dependence destination (λ x k. fits-exists x (first_so _ _ (first_so _ _ k)))) f.outs outs)
 
 -- the flows of a class of a well made plan
 pub fits-class : (P : Plan) (types : ℕ) (s : ClassSpace) (c : ClassPlan) → IsWellClass P.classes P.spaces P.colls types s c → IsTrue (flows_fit P c.flows)
 fits-class P types s c w =
-    list_all-weaker (is_flow P.classes P.spaces P.colls types (length s.defs)) (λ (f : FlowPlan). dependences_fit P f.ins && dependences_fit P f.outs) (fits-flow P (length s.defs) types) c.flows w.flows
+    list_all-weaker (is_flow P.classes P.spaces P.colls types (length s.defs))
+    (λ (f : FlowPlan). dependences_fit P f.ins && dependences_fit P f.outs) (fits-flow P (length s.defs) types)
+    c.flows w.flows
 
 -- a search finds an element if one passes the test
 find-found : {A : Type 0} (test : A → Bool) (xs : List A) (x : A) → IsIn x xs → test x ≡ true → (y : A) × (find test xs ≡ Some y) × IsIn y xs × (test y ≡ true)
@@ -67,7 +75,8 @@ find-found test (z ∷ xs) x w h =
     ])
 
 -- if a list of locals of a task is its only one, it is the task's locals
-pub locals_with-only : (s : ClassSpace) (params locals : List ℤ) → IsLocalsOf s params locals → ((others : List ℤ) → IsLocalsOf s params others → locals ≡ others) → locals_with s params ≡ locals
+pub locals_with-only : (s : ClassSpace) (params locals : List ℤ) → IsLocalsOf s params locals
+    → ((others : List ℤ) → IsLocalsOf s params others → locals ≡ others) → locals_with s params ≡ locals
 unfolding locals_with
 locals_with-only s params locals w only =
     let test = λ (l : List ℤ). pointwise int_eq (params_of s.params l) params in

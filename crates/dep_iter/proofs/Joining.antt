@@ -24,11 +24,14 @@ edges_into-links t env n (target.Element coll indices) = refl
 edges_into-links t env n target.New = refl
 edges_into-links t env n target.Null = refl
 
-edges_among : (t : Task) (n class flow : ℕ) (cs : List (List ℤ)) → filter_map edge_of (map (λ params. item.Edge (edge t n (task class params) flow)) cs) ≡ map (edge_of_link Out t) (map (link n class flow) cs)
+edges_among : (t : Task) (n class flow : ℕ) (cs : List (List ℤ))
+    → filter_map edge_of (map (λ params. item.Edge (edge t n (task class params) flow)) cs)
+    ≡ map (edge_of_link Out t) (map (link n class flow) cs)
 edges_among t n class flow [] = refl
 edges_among t n class flow (c ∷ cs) = ap (λ l. edge t n (task class c) flow ∷ l) (edges_among t n class flow cs)
 
-no_writes_among : (t : Task) (n class flow : ℕ) (cs : List (List ℤ)) → filter_map write_of (map (λ params. item.Edge (edge t n (task class params) flow)) cs) ≡ []
+no_writes_among : (t : Task) (n class flow : ℕ) (cs : List (List ℤ))
+    → filter_map write_of (map (λ params. item.Edge (edge t n (task class params) flow)) cs) ≡ []
 no_writes_among t n class flow [] = refl
 no_writes_among t n class flow (c ∷ cs) = no_writes_among t n class flow cs
 
@@ -49,14 +52,16 @@ unfolding in_edges
 in_edges-links P t =
     let env = locals_of P t in
     map-flat_map (edge_of_link In t) (λ (a : ℕ × Target). links_to env a.0 a.1) (active_ins P t)
-    ∙ flat_map-same (λ (a : ℕ × Target). map (edge_of_link In t) (links_to env a.0 a.1)) (λ a. edges_into t env a.0 a.1) (λ a. sym (edges_into-links t env a.0 a.1)) (active_ins P t)
+    ∙ flat_map-same (λ (a : ℕ × Target). map (edge_of_link In t) (links_to env a.0 a.1)) (λ a. edges_into t env a.0 a.1)
+    (λ a. sym (edges_into-links t env a.0 a.1)) (active_ins P t)
 
 pub out_edges-links : (P : Plan) (t : Task) → map (edge_of_link Out t) (task_links P t Out) ≡ out_edges P t
 unfolding items
 out_edges-links P t =
     let env = locals_of P t in
     map-flat_map (edge_of_link Out t) (λ (a : ℕ × Target). links_to env a.0 a.1) (active_outs P t)
-    ∙ flat_map-same (λ (a : ℕ × Target). map (edge_of_link Out t) (links_to env a.0 a.1)) (λ a. filter_map edge_of (items_to t env a.0 a.1)) (λ a. sym (items_to-links t env a.0 a.1)) (active_outs P t)
+    ∙ flat_map-same (λ (a : ℕ × Target). map (edge_of_link Out t) (links_to env a.0 a.1))
+    (λ a. filter_map edge_of (items_to t env a.0 a.1)) (λ a. sym (items_to-links t env a.0 a.1)) (active_outs P t)
     ∙ sym (filter_map-flat_map edge_of (λ (a : ℕ × Target). items_to t env a.0 a.1) (active_outs P t))
 
 pub edges_of-links : (d : Direction) (P : Plan) (t : Task)
@@ -68,15 +73,19 @@ pub write_backs-targets : (P : Plan) (t : Task) → all_writes_to t (locals_of P
 unfolding items
 write_backs-targets P t =
     let env = locals_of P t in
-    flat_map-same (λ (a : ℕ × Target). writes_to t env a.0 a.1) (λ a. filter_map write_of (items_to t env a.0 a.1)) (λ a. sym (items_to-writes t env a.0 a.1)) (active_outs P t)
+    flat_map-same (λ (a : ℕ × Target). writes_to t env a.0 a.1) (λ a. filter_map write_of (items_to t env a.0 a.1))
+    (λ a. sym (items_to-writes t env a.0 a.1)) (active_outs P t)
     ∙ sym (filter_map-flat_map write_of (λ (a : ℕ × Target). items_to t env a.0 a.1) (active_outs P t))
 
 -- the edges that the targets of one flow stand for, in either direction, are their links as edges
-pub edges_into-among : (t : Task) (env : List ℤ) (n : ℕ) (xs : List Target) → flat_map (edges_into t env n) xs ≡ map (edge_of_link In t) (flat_map (links_to env n) xs)
+pub edges_into-among : (t : Task) (env : List ℤ) (n : ℕ) (xs : List Target)
+    → flat_map (edges_into t env n) xs ≡ map (edge_of_link In t) (flat_map (links_to env n) xs)
 edges_into-among t env n xs =
-    flat_map-same (edges_into t env n) (λ x. map (edge_of_link In t) (links_to env n x)) (edges_into-links t env n) xs ∙ sym (map-flat_map (edge_of_link In t) (links_to env n) xs)
+    flat_map-same (edges_into t env n) (λ x. map (edge_of_link In t) (links_to env n x)) (edges_into-links t env n) xs
+    ∙ sym (map-flat_map (edge_of_link In t) (links_to env n) xs)
 
-pub items_to-among : (t : Task) (env : List ℤ) (n : ℕ) (xs : List Target) → filter_map edge_of (flat_map (items_to t env n) xs) ≡ map (edge_of_link Out t) (flat_map (links_to env n) xs)
+pub items_to-among : (t : Task) (env : List ℤ) (n : ℕ) (xs : List Target)
+    → filter_map edge_of (flat_map (items_to t env n) xs) ≡ map (edge_of_link Out t) (flat_map (links_to env n) xs)
 items_to-among t env n xs =
     filter_map-flat_map edge_of (items_to t env n) xs
     ∙ flat_map-same (λ x. filter_map edge_of (items_to t env n x)) (λ x. map (edge_of_link Out t) (links_to env n x)) (items_to-links t env n) xs

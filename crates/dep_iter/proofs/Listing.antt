@@ -1,5 +1,6 @@
 -- The tasks of a job as one list.
-use Rattle.std.proofs.Common.{◌≡◌, ◌↔◌, ℕ, zero, suc, ◌+◌, ℤ, List, [], ◌∷◌, length, map, refl, ap, sym, ◌∙◌, subst, add-zero, slice_get, IsSomeAnd, inl, inr, length-append, arith}
+use Rattle.std.proofs.Common.{◌≡◌, ◌↔◌, ℕ, zero, suc, ◌+◌, ℤ, List, [], ◌∷◌, length, map, refl, ap, sym, ◌∙◌, subst}
+use Rattle.std.proofs.Common.{add-zero, slice_get, IsSomeAnd, inl, inr, length-append, arith}
 use Rattle.std.proofs.lemmas.List.{length-map}
 use Rattle.ptg_base.specs.Lists.{IsIn}
 use Rattle.ptg_base.specs.Task.{Task}
@@ -10,15 +11,20 @@ use Rattle.list_lemmas.proofs.Members.{IsIn-append_left, IsIn-append_right, IsIn
 use Rattle.plan_core.specs.declared.plan.Plan.{Plan}
 use Rattle.dep_iter.specs.Tasks.{IsTask, all_tasks, task, tasks_from}
 
-to_listed : (n : ℕ) (ss : List ClassSpace) (i : ℕ) (ps : List ℤ) → IsSomeAnd (slice_get ss i) (λ s. IsIn ps (tasks s)) → IsIn (task (n + i) ps) (tasks_from n ss)
+to_listed : (n : ℕ) (ss : List ClassSpace) (i : ℕ) (ps : List ℤ) → IsSomeAnd (slice_get ss i) (λ s. IsIn ps (tasks s))
+    → IsIn (task (n + i) ps) (tasks_from n ss)
 to_listed n [] i ps h = absurd h
 to_listed n (s ∷ ss) zero ps h =
-    subst (λ m. IsIn (task m ps) (tasks_from n (s ∷ ss))) (sym (add-zero n)) (IsIn-append_left (task n ps) (map (task n) (tasks s)) (tasks_from (suc n) ss) (IsIn-map (task n) (tasks s) ps h))
+    subst (λ m. IsIn (task m ps) (tasks_from n (s ∷ ss))) (sym (add-zero n))
+    (IsIn-append_left (task n ps) (map (task n) (tasks s)) (tasks_from (suc n) ss)
+    (IsIn-map (task n) (tasks s) ps h))
 to_listed n (s ∷ ss) (suc i) ps h =
     let e : suc n + i ≡ n + suc i = omega arith in
-    IsIn-append_right (task (n + suc i) ps) (map (task n) (tasks s)) (tasks_from (suc n) ss) (subst (λ m. IsIn (task m ps) (tasks_from (suc n) ss)) e (to_listed (suc n) ss i ps h))
+    IsIn-append_right (task (n + suc i) ps) (map (task n) (tasks s)) (tasks_from (suc n) ss)
+    (subst (λ m. IsIn (task m ps) (tasks_from (suc n) ss)) e (to_listed (suc n) ss i ps h))
 
-from_listed : (n : ℕ) (ss : List ClassSpace) (t : Task) → IsIn t (tasks_from n ss) → (i : ℕ) × (t.class ≡ n + i) × IsSomeAnd (slice_get ss i) (λ s. IsIn t.params (tasks s))
+from_listed : (n : ℕ) (ss : List ClassSpace) (t : Task) → IsIn t (tasks_from n ss)
+    → (i : ℕ) × (t.class ≡ n + i) × IsSomeAnd (slice_get ss i) (λ s. IsIn t.params (tasks s))
 from_listed n [] t h = absurd h
 from_listed n (s ∷ ss) t h =
     elim (from_append t (map (task n) (tasks s)) (tasks_from (suc n) ss) h) [
@@ -40,4 +46,6 @@ listed P t = (
 pub length-tasks_from : (n : ℕ) (ss : List ClassSpace) → length (tasks_from n ss) ≡ task_total ss
 length-tasks_from n [] = refl
 length-tasks_from n (s ∷ ss) =
-    length-append (map (task n) (tasks s)) (tasks_from (suc n) ss) ∙ ap (λ k. k + length (tasks_from (suc n) ss)) (length-map (tasks s) (task n)) ∙ ap (λ k. length (tasks s) + k) (length-tasks_from (suc n) ss)
+    length-append (map (task n) (tasks s)) (tasks_from (suc n) ss)
+    ∙ ap (λ k. k + length (tasks_from (suc n) ss)) (length-map (tasks s) (task n))
+    ∙ ap (λ k. length (tasks s) + k) (length-tasks_from (suc n) ss)

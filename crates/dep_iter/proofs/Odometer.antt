@@ -1,5 +1,6 @@
 -- How the combinations of values of progressions follow one another.
-use Rattle.std.proofs.Common.{◌≡◌, suc, length, ℤ, pos, ◌+ℤ◌, Bool, true, false, List, [], ◌∷◌, ◌++◌, map, refl, ap, sym, ◌∙◌, Option, Some, None, Result, Ok, Err, IsErr, is_ok, MatchOption}
+use Rattle.std.proofs.Common.{◌≡◌, suc, length, ℤ, pos, ◌+ℤ◌, Bool, true, false, List, [], ◌∷◌, ◌++◌, map, refl, ap}
+use Rattle.std.proofs.Common.{sym, ◌∙◌, Option, Some, None, Result, Ok, Err, IsErr, is_ok, MatchOption}
 use Rattle.std.proofs.lemmas.Bool.{false≢true}
 use Rattle.std.specs.List.{AllByRecursion, flat_map}
 use Rattle.range_space.specs.declared.fault.SpanFault.{SpanFault}
@@ -93,7 +94,8 @@ begun-ended ends u (ws ∷ wss) =
     ∙ (ap (λ l. l ++ map (λ zs. u ∷ zs) (flat_map (ended ends) wss)) (ended-cons ends u ws) ∙ ap (λ l. ended ends (u ∷ ws) ++ l) (begun-ended ends u wss))
 
 -- the same for each of several values
-all-ended : (ends us : List ℤ) (wss : List (List ℤ)) → flat_map (λ u. map (λ zs. u ∷ zs) (flat_map (ended ends) wss)) us ≡ flat_map (ended ends) (flat_map (λ u. map (λ ws. u ∷ ws) wss) us)
+all-ended : (ends us : List ℤ) (wss : List (List ℤ)) → flat_map (λ u. map (λ zs. u ∷ zs) (flat_map (ended ends) wss)) us
+    ≡ flat_map (ended ends) (flat_map (λ u. map (λ ws. u ∷ ws) wss) us)
 all-ended ends [] wss = refl
 all-ended ends (u ∷ us) wss =
     ap (λ l. l ++ flat_map (λ u. map (λ zs. u ∷ zs) (flat_map (ended ends) wss)) us) (begun-ended ends u wss)
@@ -150,14 +152,19 @@ module _ (s : Steps) (v : ℤ) where
       ∙ sym (product_after-end ss vs s v each)))
 
   -- the values before the last one advance, and the last one begins anew
-  pub carried : (ss : List Steps) (vs new : List ℤ) (more : Bool) → HasOneEach ss vs → HasOneEach ss new → HasFirst s → is_within s.hi s.step (v +ℤ s.step) ≡ false
-      → combinations_left more ss new ≡ product_after ss vs → combinations_left more (ss ++ s ∷ []) (new ++ s.lo ∷ []) ≡ product_after (ss ++ s ∷ []) (vs ++ v ∷ [])
+  pub carried : (ss : List Steps) (vs new : List ℤ) (more : Bool) → HasOneEach ss vs → HasOneEach ss new → HasFirst s
+      → is_within s.hi s.step (v +ℤ s.step) ≡ false
+      → combinations_left more ss new ≡ product_after ss vs → combinations_left more (ss ++ s ∷ []) (new ++ s.lo ∷ [])
+      ≡ product_after (ss ++ s ∷ []) (vs ++ v ∷ [])
   carried ss vs new more each after first past left = again more left ∙ sym (product_after-end ss vs s v each ∙ none)
     where
-      none : ended (values (v +ℤ s.step) s.hi s.step) vs ++ flat_map (ended (steps_values s)) (product_after ss vs) ≡ flat_map (ended (steps_values s)) (product_after ss vs)
+      none : ended (values (v +ℤ s.step) s.hi s.step) vs ++ flat_map (ended (steps_values s)) (product_after ss vs)
+          ≡ flat_map (ended (steps_values s)) (product_after ss vs)
       none = ap (λ (l : List ℤ). ended l vs ++ flat_map (ended (steps_values s)) (product_after ss vs)) (values_past s.hi s.step (v +ℤ s.step) past)
 
-      again : (b : Bool) → combinations_left b ss new ≡ product_after ss vs → combinations_left b (ss ++ s ∷ []) (new ++ s.lo ∷ []) ≡ flat_map (ended (steps_values s)) (product_after ss vs)
+      again : (b : Bool) → combinations_left b ss new ≡ product_after ss vs
+          → combinations_left b (ss ++ s ∷ []) (new ++ s.lo ∷ []) ≡ flat_map (ended (steps_values s))
+          (product_after ss vs)
       again false e = ap (flat_map (ended (steps_values s))) e
       again true e =
           ap (λ (l : List (List ℤ)). (new ++ s.lo ∷ []) ∷ l) (product_after-end ss new s s.lo after)

@@ -31,7 +31,9 @@ class_from n (s ∷ ss) t h = elim (from_append t (map (task n) (tasks s)) (task
 once-tasks_from : (n : ℕ) (ss : List ClassSpace) → ((k : ℕ) (s : ClassSpace) → slice_get ss k ≡ Some s → IsWellSpace s) → HasNoRepeats (tasks_from n ss)
 once-tasks_from n [] well = tt
 once-tasks_from n (s ∷ ss) well =
-    HasNoRepeats-append (map (task n) (tasks s)) (tasks_from (suc n) ss) (HasNoRepeats-map (task n) (tasks s) (distinct_tasks s (well 0 s refl)) (λ x y e. ap (λ (t : Task). t.params) e)) (once-tasks_from (suc n) ss (λ k z h. well (suc k) z h)) (λ t h k.
+    HasNoRepeats-append (map (task n) (tasks s)) (tasks_from (suc n) ss)
+    (HasNoRepeats-map (task n) (tasks s) (distinct_tasks s (well 0 s refl))
+    (λ x y e. ap (λ (t : Task). t.params) e)) (once-tasks_from (suc n) ss (λ k z h. well (suc k) z h)) (λ t h k.
     let p = from_map (task n) (tasks s) t h in
     let e : t.class ≡ n = ap (λ (t : Task). t.class) p.2 in
     let b = class_from (suc n) ss t k in
@@ -56,7 +58,9 @@ module _ (P : Plan) (con : IsConsistent P) (t : Task) (job : IsTask P t) where
   once-out_edges = HasNoRepeats-part (out_edges P) (all_tasks P) con.no_out_edge_twice t ((listed P t).0 job)
 
   pub once-write_backs : HasNoRepeats (write_backs P t)
-  once-write_backs = HasNoRepeats-part (write_backs P) (all_tasks P) (HasNoRepeats-from_map (λ (w : WriteBack). w.place) (flat_map (write_backs P) (all_tasks P)) con.written_once) t ((listed P t).0 job)
+  once-write_backs = HasNoRepeats-part (write_backs P) (all_tasks P)
+      (HasNoRepeats-from_map (λ (w : WriteBack). w.place) (flat_map (write_backs P) (all_tasks P)) con.written_once) t
+      ((listed P t).0 job)
 
   -- no item is sent twice
   pub once-items : HasNoRepeats (items P t)

@@ -1,5 +1,6 @@
 -- The locals of the tasks of a class whose definitions are its parameters.
-use Rattle.std.proofs.Common.{◌≡◌, ℕ, suc, ℤ, pos, List, [], ◌∷◌, ◌++◌, length, slice_index_or, true, refl, ap, sym, ◌∙◌, append_assoc, length-append, Some, slice_get, arith}
+use Rattle.std.proofs.Common.{◌≡◌, ℕ, suc, ℤ, pos, List, [], ◌∷◌, ◌++◌, length, slice_index_or, true, refl, ap, sym}
+use Rattle.std.proofs.Common.{◌∙◌, append_assoc, length-append, Some, slice_get, arith}
 use Rattle.std.proofs.lemmas.Bool.{eqb-true}
 use Rattle.std.specs.Cmp.{first_so, second_so}
 use Rattle.ptg_base.specs.Lists.{IsIn}

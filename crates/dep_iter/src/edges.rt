@@ -84,15 +84,6 @@ pub fn in_edges<'a>(plan: &'a Plan, t: &TaskId) -> InEdges<'a>
     task_edges(plan, t, Locals::Own(locals_of(plan, t)), Direction::In)
 }
 
-/// The edges into a task, given its locals.
-pub fn in_edges_under<'a>(plan: &'a Plan, t: &TaskId, env: &'a [i64]) -> InEdges<'a>
-    requires task { IsTask plan.now t.now }
-    requires locals { env.now ≡ tasks.locals_of plan.now t.now }
-    ensures { result ≡ edges.in_edges plan.now t.now }
-{
-    task_edges(plan, t, Locals::Lent(env), Direction::In)
-}
-
 /// The edges out of a task, by flow and dependence in the text's order; in a broadcast, the first argument is
 /// outermost. They are evaluated lazily.
 pub fn out_edges<'a>(plan: &'a Plan, t: &TaskId) -> OutEdges<'a>
@@ -100,15 +91,6 @@ pub fn out_edges<'a>(plan: &'a Plan, t: &TaskId) -> OutEdges<'a>
     ensures { result ≡ items.out_edges plan.now t.now }
 {
     task_edges(plan, t, Locals::Own(locals_of(plan, t)), Direction::Out)
-}
-
-/// The edges out of a task, given its locals.
-pub fn out_edges_under<'a>(plan: &'a Plan, t: &TaskId, env: &'a [i64]) -> OutEdges<'a>
-    requires task { IsTask plan.now t.now }
-    requires locals { env.now ≡ tasks.locals_of plan.now t.now }
-    ensures { result ≡ items.out_edges plan.now t.now }
-{
-    task_edges(plan, t, Locals::Lent(env), Direction::Out)
 }
 
 impl<'a> TaskAt<'a> {

@@ -3,7 +3,6 @@
 ghost use Rattle.std.specs.Prelude.{◌≡◌, ◌<◌, ◌^◌, pos};
 ghost use Rattle.ptg_base.specs.Places.{number_in};
 ghost use Rattle.plan_core.specs.Place.{HasPlace, IsColumn};
-ghost use Rattle.dep_iter.specs.Tasks as tasks;
 ghost use Rattle.dep_iter.specs.Tasks.{IsTask};
 ghost use Rattle.dep_iter.specs.Hints as hints;
 
@@ -43,20 +42,6 @@ pub fn affinity(plan: &Plan, t: &TaskId) -> Place
     ensures { result ≡ hints.affinity plan.now t.now }
 {
     TaskAt::of(plan, t, &mut Numbers::new()).affinity()
-}
-
-/// The place of the affinity of a task, given its locals.
-pub fn affinity_under(plan: &Plan, t: &TaskId, env: &[i64]) -> Place
-    requires task { IsTask plan.now t.now }
-    requires locals { env.now ≡ tasks.locals_of plan.now t.now }
-    ensures { result ≡ hints.affinity plan.now t.now }
-{
-    let at = TaskAt {
-        plan,
-        task: t,
-        locals: env,
-    };
-    at.affinity()
 }
 
 // The index of a place by its row and column, in a collection with this many columns.
@@ -104,18 +89,4 @@ pub fn priority(plan: &Plan, t: &TaskId) -> i64
     ensures { result ≡ hints.priority plan.now t.now }
 {
     TaskAt::of(plan, t, &mut Numbers::new()).priority()
-}
-
-/// The priority of a task, given its locals.
-pub fn priority_under(plan: &Plan, t: &TaskId, env: &[i64]) -> i64
-    requires task { IsTask plan.now t.now }
-    requires locals { env.now ≡ tasks.locals_of plan.now t.now }
-    ensures { result ≡ hints.priority plan.now t.now }
-{
-    let at = TaskAt {
-        plan,
-        task: t,
-        locals: env,
-    };
-    at.priority()
 }

@@ -33,12 +33,10 @@ mod writes;
 
 pub use combining::Combinations;
 pub use counts::Counts;
-pub use edges::{
-    InEdges, OutEdges, TaskEdges, in_edges, in_edges_under, out_edges, out_edges_under,
-};
+pub use edges::{InEdges, OutEdges, TaskEdges, in_edges, out_edges};
 pub use ends::has_other_end;
 pub use guard::{guard_value, held_target, target_by};
-pub use hints::{affinity, affinity_under, place_number, priority, priority_under};
+pub use hints::{affinity, place_number, priority};
 pub use laws::{
     a_task_has_no_more_edges_than_the_job, all_tasks_are_listed, edges_are_links,
     edges_of_a_dependence_differ,
@@ -52,10 +50,10 @@ pub use place::place_of;
 pub use position::Position;
 pub use single::push_only;
 pub use source::Source;
-pub use task::{fill_locals, find_locals, flows_of, is_task, locals_of, task_locals};
+pub use task::{fill_locals, find_locals, flows_of, is_task, locals_of};
 pub use task_at::TaskAt;
 pub use task_items::TaskItems;
 pub use task_walk::{Tasks, all_tasks};
 pub use tile_source::data_source;
 pub use well::{IllTask, has_arguments, well_task};
-pub use writes::{WriteBacks, write_backs, write_backs_under};
+pub use writes::{WriteBacks, write_backs};

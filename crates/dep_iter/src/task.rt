@@ -126,19 +126,6 @@ pub fn find_locals(plan: &Plan, t: &TaskId, locals: &mut Numbers<MOST_LOCALS>) -
     range_space::find_locals(space, t.params(), locals)
 }
 
-/// The locals of a task, or None if the job has no such task. The calls named `.._under` evaluate on them.
-pub fn task_locals(plan: &Plan, t: &TaskId) -> Option<Numbers<MOST_LOCALS>>
-    ensures { MatchOption result (IsTask plan.now t.now → ⊥)
-        (λ locals. IsTask plan.now t.now × (locals ≡ tasks.locals_of plan.now t.now)) }
-{
-    let mut locals = Numbers::new();
-    if find_locals(plan, t, &mut locals) {
-        Some(locals)
-    } else {
-        None
-    }
-}
-
 /// The flows of the class of a task.
 pub fn flows_of<'a>(plan: &'a Plan, t: &TaskId) -> &'a [FlowPlan]
     requires { IsTask plan.now t.now }

@@ -59,15 +59,6 @@ pub fn write_backs<'a>(plan: &'a Plan, t: &TaskId) -> WriteBacks<'a>
     task_writes(plan, t, Locals::Own(locals_of(plan, t)))
 }
 
-/// The write-backs of a task, given its locals.
-pub fn write_backs_under<'a>(plan: &'a Plan, t: &TaskId, env: &'a [i64]) -> WriteBacks<'a>
-    requires task { IsTask plan.now t.now }
-    requires locals { env.now ≡ tasks.locals_of plan.now t.now }
-    ensures { result ≡ items.write_backs plan.now t.now }
-{
-    task_writes(plan, t, Locals::Lent(env))
-}
-
 impl<'a> TaskAt<'a> {
     /// The write-backs of the task, in the order of `write_backs`.
     pub fn write_backs(&self) -> WriteBacks<'a>

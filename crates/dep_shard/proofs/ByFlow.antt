@@ -26,7 +26,8 @@ comes_first m x n (None ∷ slots) h = comes_first m x (n + 1) slots (omega arit
 comes_first m x n (Some t ∷ slots) h = before m x (n, t) (tiles_by_flow (n + 1) slots) h
 
 -- a tile that is put into the array
-pub tiles_by_flow-set : (n : ℕ) (slots : List (Option (List ℤ))) (f : ℕ) (x : List ℤ) (m : ℕ) → m ≡ n + f → f < length slots → tiles_by_flow n (slice_set slots f (Some x)) ≡ with_tile m x (tiles_by_flow n slots)
+pub tiles_by_flow-set : (n : ℕ) (slots : List (Option (List ℤ))) (f : ℕ) (x : List ℤ) (m : ℕ) → m ≡ n + f
+    → f < length slots → tiles_by_flow n (slice_set slots f (Some x)) ≡ with_tile m x (tiles_by_flow n slots)
 tiles_by_flow-set n [] f x m e h = absurd (omega (arith, h))
 tiles_by_flow-set n (None ∷ slots) zero x m e h =
     let is : m ≡ n = omega (arith, e) in
@@ -47,7 +48,8 @@ no_tile m n (Some t ∷ slots) h =
     ap (λ b. cond b (Some t) (tile_of (tiles_by_flow (n + 1) slots) m)) (ne_eqb m n (λ e. omega (arith, e, h))) ∙ no_tile m (n + 1) slots (omega arith)
 
 -- the tile of a flow is the one at its place
-pub tile_of-tiles_by_flow : (n : ℕ) (slots : List (Option (List ℤ))) (f : ℕ) (d : Option (List ℤ)) (m : ℕ) → m ≡ n + f → f < length slots → tile_of (tiles_by_flow n slots) m ≡ slice_index_or slots f d
+pub tile_of-tiles_by_flow : (n : ℕ) (slots : List (Option (List ℤ))) (f : ℕ) (d : Option (List ℤ)) (m : ℕ) → m ≡ n + f
+    → f < length slots → tile_of (tiles_by_flow n slots) m ≡ slice_index_or slots f d
 tile_of-tiles_by_flow n [] f d m e h = absurd (omega (arith, h))
 tile_of-tiles_by_flow n (None ∷ slots) zero d m e h = no_tile m (n + 1) slots (omega (arith, e))
 tile_of-tiles_by_flow n (Some t ∷ slots) zero d m e h =
@@ -62,22 +64,26 @@ none_goes : (m n : ℕ) (slots : List (Option (List ℤ))) → m < n → without
 none_goes m n [] h = refl
 none_goes m n (None ∷ slots) h = none_goes m (n + 1) slots (omega arith)
 none_goes m n (Some t ∷ slots) h =
-    ap (λ b. if not b then (n, t) ∷ without_tile m (tiles_by_flow (n + 1) slots) else without_tile m (tiles_by_flow (n + 1) slots)) (ne_eqb m n (λ e. omega (arith, e, h)))
+    ap (λ b. if not b then (n, t) ∷ without_tile m (tiles_by_flow (n + 1) slots) else without_tile m
+    (tiles_by_flow (n + 1) slots)) (ne_eqb m n (λ e. omega (arith, e, h)))
     ∙ ap (λ ts. (n, t) ∷ ts) (none_goes m (n + 1) slots (omega arith))
 
 -- a tile that is taken out of the array
-pub tiles_by_flow-clear : (n : ℕ) (slots : List (Option (List ℤ))) (f : ℕ) (w : Option (List ℤ)) (m : ℕ) → w ≡ None → m ≡ n + f → f < length slots → tiles_by_flow n (slice_set slots f w) ≡ without_tile m (tiles_by_flow n slots)
+pub tiles_by_flow-clear : (n : ℕ) (slots : List (Option (List ℤ))) (f : ℕ) (w : Option (List ℤ)) (m : ℕ) → w ≡ None
+    → m ≡ n + f → f < length slots → tiles_by_flow n (slice_set slots f w) ≡ without_tile m (tiles_by_flow n slots)
 tiles_by_flow-clear n [] f w m none e h = absurd (omega (arith, h))
 tiles_by_flow-clear n (None ∷ slots) zero w m none e h =
     ap (λ v. tiles_by_flow n (v ∷ slots)) none ∙ sym (none_goes m (n + 1) slots (omega (arith, e)))
 tiles_by_flow-clear n (Some t ∷ slots) zero w m none e h =
     ap (λ v. tiles_by_flow n (v ∷ slots)) none
-    ∙ sym (ap (λ b. if not b then (n, t) ∷ without_tile m (tiles_by_flow (n + 1) slots) else without_tile m (tiles_by_flow (n + 1) slots)) (eq-eqb m n (omega (arith, e)))
+    ∙ sym (ap (λ b. if not b then (n, t) ∷ without_tile m (tiles_by_flow (n + 1) slots) else without_tile m
+    (tiles_by_flow (n + 1) slots)) (eq-eqb m n (omega (arith, e)))
     ∙ none_goes m (n + 1) slots (omega (arith, e)))
 tiles_by_flow-clear n (None ∷ slots) (suc f) w m none e h = tiles_by_flow-clear (n + 1) slots f w m none (omega (arith, e)) (omega (arith, h))
 tiles_by_flow-clear n (Some t ∷ slots) (suc f) w m none e h =
     ap (λ ts. (n, t) ∷ ts) (tiles_by_flow-clear (n + 1) slots f w m none (omega (arith, e)) (omega (arith, h)))
-    ∙ sym (ap (λ b. if not b then (n, t) ∷ without_tile m (tiles_by_flow (n + 1) slots) else without_tile m (tiles_by_flow (n + 1) slots)) (ne_eqb m n (λ is. omega (arith, e, is))))
+    ∙ sym (ap (λ b. if not b then (n, t) ∷ without_tile m (tiles_by_flow (n + 1) slots) else without_tile m
+    (tiles_by_flow (n + 1) slots)) (ne_eqb m n (λ is. omega (arith, e, is))))
 
 -- an array of eight places has its tiles in flow order
 rises : (least n : ℕ) (slots : List (Option (List ℤ))) → least ≤ n → n + length slots ≤ 8 → RiseFrom least (tiles_by_flow n slots)

@@ -1,5 +1,6 @@
 -- Live and stale candidates.
-use Rattle.std.specs.Prelude.{◌≡◌, ◌<◌, ℤ, Bool, true, false, ◌&&◌, ◌||◌, nat_eq, List, [], ◌∷◌, length, Option, Some, None, IsTrue, IfSome, IfNone, slice_index_or}
+use Rattle.std.specs.Prelude.{◌≡◌, ◌<◌, ℤ, Bool, true, false, ◌&&◌, ◌||◌, nat_eq, List, [], ◌∷◌, length, Option, Some}
+use Rattle.std.specs.Prelude.{None, IsTrue, IfSome, IfNone, slice_index_or}
 use Rattle.std.proofs.Common.{refl, sym, ap, ◌∙◌, true≢false, arith, subst}
 use Rattle.std.specs.List.{list_any, AllByRecursion}
 use Rattle.std.specs.List.Sorted.{IsPermutation}
@@ -72,7 +73,8 @@ or_second true b h f = absurd (true≢false f)
 or_second false b h f = h
 
 -- A stale candidate may go.
-pub dropped : (es : Entries) (x : Candidate) (rs ss : List Candidate) → is_live es x.0 x.1.0 ≡ false → IsPermutation rs (x ∷ ss) → HasEveryReady es rs → HasEveryReady es ss
+pub dropped : (es : Entries) (x : Candidate) (rs ss : List Candidate) → is_live es x.0 x.1.0 ≡ false
+    → IsPermutation rs (x ∷ ss) → HasEveryReady es rs → HasEveryReady es ss
 dropped es x rs ss dead moves q t p lives =
     let same : list_any (is_candidate p t) rs ≡ list_any (is_candidate p t) (x ∷ ss) = list_any-IsPermutation (is_candidate p t) rs (x ∷ ss) moves in
     or_second (is_candidate p t x) (list_any (is_candidate p t) ss) (sym same ∙ q t p lives) (stale es x p t dead lives)
@@ -84,7 +86,9 @@ pub record Pops (rs ss : List Candidate) (r : Option Candidate) : Type 0 where
   pub heap : IfSome r (λ y. PopsGreatest order rs y ss)
   pub none : IfNone r ⊥
 
-pub popped : (es : Entries) (x : Candidate) (rs ss : List Candidate) (r : Option Candidate) → Pops rs ss r → x ≡ slice_index_or rs 0 x → IsHeap order rs → HasEveryReady es rs → is_live es x.0 x.1.0 ≡ false → IsHeap order ss × HasEveryReady es ss
+pub popped : (es : Entries) (x : Candidate) (rs ss : List Candidate) (r : Option Candidate) → Pops rs ss r
+    → x ≡ slice_index_or rs 0 x → IsHeap order rs → HasEveryReady es rs → is_live es x.0 x.1.0 ≡ false
+    → IsHeap order ss × HasEveryReady es ss
 popped es x rs ss None p first heap q dead = absurd p.none
 popped es x [] ss (Some y) p first heap q dead = absurd (omega (arith, length_permutation [] (y ∷ ss) p.moves))
 popped es x (h ∷ hs) ss (Some y) p first heap q dead =
@@ -92,18 +96,22 @@ popped es x (h ∷ hs) ss (Some y) p first heap q dead =
     ((p.heap heap).0, dropped es x (h ∷ hs) ss dead (subst (λ (z : Candidate). IsPermutation (h ∷ hs) (z ∷ ss)) same p.moves) q)
 
 -- the greatest candidate is not below that of a live task
-not_above : (x : Candidate) (p : ℤ) (t : Task) (rs : List Candidate) → AllByRecursion (λ y. is_lt (order x y) ≡ false) rs → list_any (is_candidate p t) rs ≡ true → is_lt (priority_cmp (x.0, x.1.0) (p, t)) ≡ false
+not_above : (x : Candidate) (p : ℤ) (t : Task) (rs : List Candidate)
+    → AllByRecursion (λ y. is_lt (order x y) ≡ false) rs → list_any (is_candidate p t) rs ≡ true
+    → is_lt (priority_cmp (x.0, x.1.0) (p, t)) ≡ false
 not_above x p t [] all h = absurd (true≢false (sym h))
 not_above x p t (y ∷ ys) all h = by (not_above x p t ys all.1) (is_candidate p t y) refl
   where
-    by : (list_any (is_candidate p t) ys ≡ true → is_lt (priority_cmp (x.0, x.1.0) (p, t)) ≡ false) → (b : Bool) → is_candidate p t y ≡ b → is_lt (priority_cmp (x.0, x.1.0) (p, t)) ≡ false
+    by : (list_any (is_candidate p t) ys ≡ true → is_lt (priority_cmp (x.0, x.1.0) (p, t)) ≡ false) → (b : Bool)
+        → is_candidate p t y ≡ b → is_lt (priority_cmp (x.0, x.1.0) (p, t)) ≡ false
     by rest true e =
         let m = candidate_means p t y e in
         (λ i. is_lt (priority_cmp (x.0, x.1.0) (m.0 i, m.1 i))) ∙ all.0
     by rest false e = rest (or_second (is_candidate p t y) (list_any (is_candidate p t) ys) h e)
 
 -- If the greatest candidate is live, its task is the best.
-pub best_from : (es : Entries) (x : Candidate) (rs : List Candidate) → HasEveryReady es rs → AllByRecursion (λ y. is_lt (order x y) ≡ false) rs → is_live es x.0 x.1.0 ≡ true → IsBest es x.1.0
+pub best_from : (es : Entries) (x : Candidate) (rs : List Candidate) → HasEveryReady es rs
+    → AllByRecursion (λ y. is_lt (order x y) ≡ false) rs → is_live es x.0 x.1.0 ≡ true → IsBest es x.1.0
 best_from es x rs q all h = at (lives es x.0 x.1.0 h)
   where
     at : Lives es x.0 x.1.0 → IsBest es x.1.0
@@ -121,6 +129,7 @@ pub none_from : (es : Entries) (rs : List Candidate) → length rs ≡ 0 → Has
 none_from es [] l q t e is ready = true≢false (sym (q t e.priority (live_from es t e is ready)))
 none_from es (r ∷ rs) l q t e is ready = omega (arith, l)
 
-pub live_front : (es : Entries) (x : Candidate) (cs : List Candidate) → HasLiveFront es cs → x ≡ slice_index_or cs 0 x → 0 < length cs → is_live es x.0 x.1.0 ≡ true
+pub live_front : (es : Entries) (x : Candidate) (cs : List Candidate) → HasLiveFront es cs → x ≡ slice_index_or cs 0 x
+    → 0 < length cs → is_live es x.0 x.1.0 ≡ true
 live_front es x [] front first some = absurd (omega (arith, some))
 live_front es x (c ∷ rest) front first some = (λ i. is_live es (first i).0 (first i).1.0) ∙ front c rest refl

@@ -1,5 +1,6 @@
 -- The queue and its room, as entries come and go.
-use Rattle.std.specs.Prelude.{◌≡◌, ◌↔◌, ℕ, ◌+◌, ◌<◌, ◌≤◌, ℤ, Bool, true, false, ◌&&◌, ◌||◌, cond, nat_eq, List, [], ◌∷◌, ◌++◌, length, slice_get, swap_remove, Option, Some, None, IfNone, IfSome, position}
+use Rattle.std.specs.Prelude.{◌≡◌, ◌↔◌, ℕ, ◌+◌, ◌<◌, ◌≤◌, ℤ, Bool, true, false, ◌&&◌, ◌||◌, cond, nat_eq, List, [], ◌∷◌}
+use Rattle.std.specs.Prelude.{◌++◌, length, slice_get, swap_remove, Option, Some, None, IfNone, IfSome, position}
 use Rattle.std.proofs.Common.{zero, suc, refl, sym, ap, ◌∙◌, true≢false, arith, subst}
 use Rattle.std.specs.List.{list_any}
 use Rattle.std.specs.Cmp.{first_so, second_so, unsigned_Decides, signed_Decides}
@@ -8,7 +9,8 @@ use Rattle.ptg_base.specs.Task.{Task}
 use Rattle.ptg_base.specs.TaskComparing.{same_task}
 use Rattle.list_lemmas.proofs.Places.{slice_get_there}
 use Rattle.dep_shard.specs.Content.{Entries, Content, entry_in, IsReady, IsWaiting, HasNoReady, IsEntryAt, ArrivesAt, Updates, with_arrival}
-use Rattle.dep_shard.specs.Queue.{Candidate, QueueContent, Serves, Adds, is_candidate, is_ready_at, HasEveryReady, HaveAtMostGoal, is_waiting, count_waiting, IsQueueOf}
+use Rattle.dep_shard.specs.Queue.{Candidate, QueueContent, Serves, Adds, is_candidate, is_ready_at, HasEveryReady}
+use Rattle.dep_shard.specs.Queue.{HaveAtMostGoal, is_waiting, count_waiting, IsQueueOf}
 use Rattle.dep_shard.proofs.Candidates.{same_means, same_self}
 use Rattle.dep_shard.proofs.Waiting.{count_waiting-push, count_waiting-set_at, count_waiting-swap_remove_at, all_wait, count_all}
 use Rattle.std.proofs.lemmas.Bool.Decides.{nat_tests}
@@ -31,7 +33,9 @@ none_waits : (e : Entry) → IsReady e → as_number (is_waiting e) ≡ 0
 none_waits e ready = grind (arith, nat_tests)
 
 -- One entry changes. If the new one is ready, the queue has it.
-pub changed : (es fs : Entries) (t : Task) (w : Option Entry) (rs : List Candidate) → Updates es fs t w → ((p : ℤ) → is_ready_at p w ≡ true → list_any (is_candidate p t) rs ≡ true) → HasEveryReady es rs → HasEveryReady fs rs
+pub changed : (es fs : Entries) (t : Task) (w : Option Entry) (rs : List Candidate) → Updates es fs t w
+    → ((p : ℤ) → is_ready_at p w ≡ true → list_any (is_candidate p t) rs ≡ true) → HasEveryReady es rs
+    → HasEveryReady fs rs
 changed es fs t w rs up has q u p h = by (same_task t u) refl
   where
     by : (b : Bool) → same_task t u ≡ b → list_any (is_candidate p u) rs ≡ true
@@ -56,7 +60,9 @@ or_second_so false b h = h
 -- An entry changes or comes, and its candidate comes to the queue.
 pub comes : (es fs : Entries) (t : Task) (e : Entry) (q r : QueueContent) → Serves es q → Updates es fs t (Some e) → Adds q r e.priority t → Serves fs r
 comes es fs t e q r serves up adds on =
-    changed es fs t (Some e) r.candidates up here (λ u p h. (adds on).1 p u ∙ or_second_so (int_eq p e.priority && same_task u t) (list_any (is_candidate p u) q.candidates) (serves (adds on).0 u p h))
+    changed es fs t (Some e) r.candidates up here (λ u p h. (adds on).1 p u
+    ∙ or_second_so (int_eq p e.priority && same_task u t) (list_any (is_candidate p u) q.candidates)
+    (serves (adds on).0 u p h))
   where
     here : (p : ℤ) → is_ready_at p (Some e) ≡ true → list_any (is_candidate p t) r.candidates ≡ true
     here p h =
@@ -84,7 +90,8 @@ forgets es q r waiting k same = record {
 }
 
 -- One entry changes. If the new one has received no more edges than it waits for, the same holds for every entry.
-at_most_after : (es fs : Entries) (t : Task) (w : Option Entry) → Updates es fs t w → ((e : Entry) → w ≡ Some e → e.arrived ≤ e.goal) → HaveAtMostGoal es → HaveAtMostGoal fs
+at_most_after : (es fs : Entries) (t : Task) (w : Option Entry) → Updates es fs t w
+    → ((e : Entry) → w ≡ Some e → e.arrived ≤ e.goal) → HaveAtMostGoal es → HaveAtMostGoal fs
 at_most_after es fs t w up new all u e is = by (same_task t u) refl
   where
     by : (b : Bool) → same_task t u ≡ b → e.arrived ≤ e.goal
@@ -149,7 +156,8 @@ fires es fs i t e f q r waiting waiting' k is set up waits_e ready_f adds less =
 }
 
 -- If an entry waits, at least one is counted.
-pub some_wait : (es : Entries) (i : ℕ) (t : Task) (e : Entry) (q : QueueContent) (waiting : ℕ) → IsQueueOf es q waiting → slice_get es i ≡ Some (t, e) → IsWaiting e → 0 < waiting
+pub some_wait : (es : Entries) (i : ℕ) (t : Task) (e : Entry) (q : QueueContent) (waiting : ℕ) → IsQueueOf es q waiting
+    → slice_get es i ≡ Some (t, e) → IsWaiting e → 0 < waiting
 some_wait es i t e q waiting k is waits_e = omega (arith, k.counted, count_waiting-swap_remove_at es i t e is, one_waits e waits_e)
 
 pub updates_twice : (es fs gs : Entries) (t : Task) (v w : Option Entry) → Updates es fs t v → Updates fs gs t w → Updates es gs t w
@@ -168,7 +176,8 @@ pub task_equivalence : IsEquivalence same_task
 task_equivalence = decided same_task same_task-decides
 
 -- a write at an index gives its task the new entry
-pub updates_at : (es : Entries) (i : ℕ) (t : Task) (e f : Entry) → IsDistinct same_task (keys_of es) → slice_get es i ≡ Some (t, e) → Updates es (set_value_at es i f) t (Some f)
+pub updates_at : (es : Entries) (i : ℕ) (t : Task) (e f : Entry) → IsDistinct same_task (keys_of es)
+    → slice_get es i ≡ Some (t, e) → Updates es (set_value_at es i f) t (Some f)
 updates_at es i t e f distinct at = (updates-with_value_at (hash_map es es 0) i f task_equivalence distinct t e at).0
 
 value_of : (es : Entries) (i : ℕ) (t : Task) (e : Entry) → slice_get es i ≡ Some (t, e) → slice_get (values_of es) i ≡ Some e
@@ -181,7 +190,8 @@ value_of (x ∷ xs) (suc i) t e is = value_of xs i t e is
 -- a look-up of a task finds the entry that stands with it in the list
 pub looked_up : (es : Entries) (i : ℕ) (t : Task) (e : Entry) → IsDistinct same_task (keys_of es) → slice_get es i ≡ Some (t, e) → entry_in es t ≡ Some e
 looked_up es i t e distinct is =
-    (Found-position (same_task t) es i (index-first (same_task t) es i (own_first same_task task_equivalence es i t e distinct is))).value ∙ value_of es i t e is
+    (Found-position (same_task t) es i (index-first (same_task t) es i
+    (own_first same_task task_equivalence es i t e distinct is))).value ∙ value_of es i t e is
 
 -- All entries wait if and only if none is ready.
 pub calm : (es : Entries) (q : QueueContent) (waiting : ℕ) → IsQueueOf es q waiting → IsDistinct same_task (keys_of es) → (waiting ≡ length es) ↔ HasNoReady es
@@ -194,11 +204,14 @@ calm es q waiting k distinct = (
     below e most never = omega (arith, most, never)
 
 -- An entry comes at the end of the list, and then an edge comes to it.
-pub comes_first : (old es mid fs : Entries) (t : Task) (d e : Entry) (i flow : ℕ) (x tile : Option (List ℤ)) → es ≡ old → d ≡ e → x ≡ tile → Updates es mid t (Some d) → slice_get mid i ≡ Some (t, d) → ArrivesAt mid fs i flow x → Updates old fs t (Some (with_arrival e flow tile))
+pub comes_first : (old es mid fs : Entries) (t : Task) (d e : Entry) (i flow : ℕ) (x tile : Option (List ℤ)) → es ≡ old
+    → d ≡ e → x ≡ tile → Updates es mid t (Some d) → slice_get mid i ≡ Some (t, d) → ArrivesAt mid fs i flow x
+    → Updates old fs t (Some (with_arrival e flow tile))
 comes_first old es mid fs t d e i flow x tile same made brought one at two =
     let entered : Updates old mid t (Some d) = subst (λ (gs : Entries). Updates gs mid t (Some d)) same one in
     let both : Updates old fs t (Some (with_arrival d flow x)) = updates_twice old mid fs t (Some d) (Some (with_arrival d flow x)) entered (two t d at) in
-    subst (λ (y : Option (List ℤ)). Updates old fs t (Some (with_arrival e flow y))) brought (subst (λ (f : Entry). Updates old fs t (Some (with_arrival f flow x))) made both)
+    subst (λ (y : Option (List ℤ)). Updates old fs t (Some (with_arrival e flow y))) brought
+    (subst (λ (f : Entry). Updates old fs t (Some (with_arrival f flow x))) made both)
 
 -- one more entry at the end
 pub at_end : (es : Entries) (x : Task × Entry) (n : ℕ) → n ≡ length es → slice_get (es ++ x ∷ []) n ≡ Some x
@@ -217,11 +230,16 @@ one_row es i t u e f one other =
     (ap (λ (x : Task × Entry). x.0) same, ap (λ (x : Task × Entry). x.1) same)
 
 -- an edge that came to the entry at an index
-pub arrives_at : (old es fs : Entries) (i : ℕ) (t : Task) (e f : Entry) (flow : ℕ) (tile : Option (List ℤ)) → es ≡ old → slice_get es i ≡ Some (t, e) → f ≡ with_arrival e flow tile → Updates es fs t (Some f) → ArrivesAt old fs i flow tile
+pub arrives_at : (old es fs : Entries) (i : ℕ) (t : Task) (e f : Entry) (flow : ℕ) (tile : Option (List ℤ)) → es ≡ old
+    → slice_get es i ≡ Some (t, e) → f ≡ with_arrival e flow tile → Updates es fs t (Some f)
+    → ArrivesAt old fs i flow tile
 arrives_at old es fs i t e f flow tile same at is up u g asked =
     let one = one_row es i t u e g at (ap (λ (xs : Entries). slice_get xs i) same ∙ asked) in
-    let here : Updates old fs t (Some (with_arrival e flow tile)) = subst (λ (xs : Entries). Updates xs fs t (Some (with_arrival e flow tile))) same (subst (λ (x : Entry). Updates es fs t (Some x)) is up) in
-    subst (λ (v : Task). Updates old fs v (Some (with_arrival g flow tile))) one.0 (subst (λ (x : Entry). Updates old fs t (Some (with_arrival x flow tile))) one.1 here)
+    let here : Updates old fs t (Some (with_arrival e flow tile)) = subst
+    (λ (xs : Entries). Updates xs fs t (Some (with_arrival e flow tile))) same
+    (subst (λ (x : Entry). Updates es fs t (Some x)) is up) in
+    subst (λ (v : Task). Updates old fs v (Some (with_arrival g flow tile))) one.0
+    (subst (λ (x : Entry). Updates old fs t (Some (with_arrival x flow tile))) one.1 here)
 
 key_of : (es : Entries) (i : ℕ) (t : Task) (e : Entry) → slice_get es i ≡ Some (t, e) → slice_get (keys_of es) i ≡ Some t
 key_of [] i t e is = absurd cc

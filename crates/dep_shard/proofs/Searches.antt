@@ -1,5 +1,6 @@
 -- Walks over all entries, which list the candidates or find the best one.
-use Rattle.std.specs.Prelude.{◌≡◌, ℕ, ◌+◌, ◌<◌, ℤ, Bool, true, false, ◌&&◌, ◌||◌, cond, nat_eq, List, [], ◌∷◌, length, slice_get, Option, Some, None, Result, Ok, Err, OnOk}
+use Rattle.std.specs.Prelude.{◌≡◌, ℕ, ◌+◌, ◌<◌, ℤ, Bool, true, false, ◌&&◌, ◌||◌, cond, nat_eq, List, [], ◌∷◌, length}
+use Rattle.std.specs.Prelude.{slice_get, Option, Some, None, Result, Ok, Err, OnOk}
 use Rattle.std.specs.Result.{is_err}
 use Rattle.std.proofs.Common.{suc, refl, sym, ap, ◌∙◌, true≢false, arith, subst}
 use Rattle.std.specs.Map.{keys_of}
@@ -42,7 +43,8 @@ row_of (x ∷ xs) t e is = by (row_of xs t e) (same_task t x.0) refl
         record { index = suc next.index; at = next.at; within = omega (arith, next.within) }
 
 -- a ready entry is a candidate at its index
-candidate_from : (es : Entries) (i : ℕ) (t : Task) (e : Entry) → slice_get es i ≡ Some (t, e) → IsReady e → candidate_at es i ≡ Some (e.priority, record { 0 = t })
+candidate_from : (es : Entries) (i : ℕ) (t : Task) (e : Entry) → slice_get es i ≡ Some (t, e) → IsReady e
+    → candidate_at es i ≡ Some (e.priority, record { 0 = t })
 candidate_from es i t e at ready =
     let test : nat_eq e.arrived e.goal ≡ true = (unsigned_Decides e.arrived e.goal).1 ready in
     ap candidate_of at ∙ ap (λ b. cond b (Some (e.priority, record { 0 = t })) None) test
@@ -57,7 +59,8 @@ record Has (es : Entries) (i : ℕ) (c : Candidate) : Type 0 where
 has : (es : Entries) (i : ℕ) (c : Candidate) → candidate_at es i ≡ Some c → Has es i c
 has es i c is = by (slice_get es i) refl is
   where
-    at_row : (t : Task) (e : Entry) → slice_get es i ≡ Some (t, e) → (b : Bool) → nat_eq e.arrived e.goal ≡ b → cond b (Some (e.priority, record { 0 = t })) None ≡ Some c → Has es i c
+    at_row : (t : Task) (e : Entry) → slice_get es i ≡ Some (t, e) → (b : Bool) → nat_eq e.arrived e.goal ≡ b
+        → cond b (Some (e.priority, record { 0 = t })) None ≡ Some c → Has es i c
     at_row t e row true test k =
         let made : Candidate = (e.priority, record { 0 = t }) in
         let same : Some made ≡ Some c = k in
@@ -93,7 +96,8 @@ or_second_so true b h = refl
 or_second_so false b h = h
 
 -- the next index has a candidate, which is pushed
-pub lists_some : (es : Entries) (n : ℕ) (x : Candidate) (cs ds : List Candidate) → HasReadyBelow es n cs → Some x ≡ candidate_at es n → IsPermutation (x ∷ cs) ds → HasReadyBelow es (n + 1) ds
+pub lists_some : (es : Entries) (n : ℕ) (x : Candidate) (cs ds : List Candidate) → HasReadyBelow es n cs
+    → Some x ≡ candidate_at es n → IsPermutation (x ∷ cs) ds → HasReadyBelow es (n + 1) ds
 lists_some es n x cs ds below is moves j c less at =
     sym (list_any-IsPermutation (is_candidate c.0 c.1.0) (x ∷ cs) ds moves) ∙ by (nat_eq j n) refl
   where
@@ -123,7 +127,9 @@ pub lists_all : (es : Entries) (n : ℕ) (cs : List Candidate) → n ≡ length 
 lists_all es n cs all below t p live =
     let v = lives es p t live in
     let row = row_of es t v.entry v.is in
-    subst (λ (q : ℤ). list_any (is_candidate q t) cs ≡ true) v.priority (below row.index (v.entry.priority, record { 0 = t }) (omega (arith, row.within, all)) (candidate_from es row.index t v.entry row.at v.ready))
+    subst (λ (q : ℤ). list_any (is_candidate q t) cs ≡ true) v.priority
+    (below row.index (v.entry.priority, record { 0 = t }) (omega (arith, row.within, all))
+    (candidate_from es row.index t v.entry row.at v.ready))
 
 -- how candidates are ordered is a total order
 order_total : IsTotalOrder order
@@ -143,7 +149,8 @@ pub record IsBestBelow (es : Entries) (n : ℕ) (best : Option Candidate) : Type
 pub begins_walk : (es : Entries) → IsBestBelow es 0 None
 begins_walk es = record { known = λ c is. absurd cc; above = λ j below. absurd (omega (arith, below)) }
 
-pub goes_on : (es : Entries) (n : ℕ) (best : Option Candidate) → IsBestBelow es n best → IsBestBelow es (n + 1) (ord_max (option_cmp order) best (candidate_at es n))
+pub goes_on : (es : Entries) (n : ℕ) (best : Option Candidate) → IsBestBelow es n best
+    → IsBestBelow es (n + 1) (ord_max (option_cmp order) best (candidate_at es n))
 goes_on es n best k = by (is_lt (option_cmp order (candidate_at es n) best)) refl
   where
     by : (b : Bool) → is_lt (option_cmp order (candidate_at es n) best) ≡ b → IsBestBelow es (n + 1) (cond b best (candidate_at es n))
@@ -153,7 +160,8 @@ goes_on es n best k = by (is_lt (option_cmp order (candidate_at es n) best)) ref
     }
       where
         next : (j : ℕ) → j < n + 1 → (b : Bool) → nat_eq j n ≡ b → is_lt (option_cmp order best (candidate_at es j)) ≡ false
-        next j less true e = (λ i. is_lt (option_cmp order best (candidate_at es ((unsigned_Decides j n).0 e i)))) ∙ candidate_ranks.one_way (candidate_at es n) best h
+        next j less true e = (λ i. is_lt (option_cmp order best (candidate_at es ((unsigned_Decides j n).0 e i))))
+            ∙ candidate_ranks.one_way (candidate_at es n) best h
         next j less false e = k.above j (before j n less e)
     by false h = record {
       known = λ c is. (n, is);
@@ -161,14 +169,17 @@ goes_on es n best k = by (is_lt (option_cmp order (candidate_at es n) best)) ref
     }
       where
         next : (j : ℕ) → j < n + 1 → (b : Bool) → nat_eq j n ≡ b → is_lt (option_cmp order (candidate_at es n) (candidate_at es j)) ≡ false
-        next j less true e = (λ i. is_lt (option_cmp order (candidate_at es n) (candidate_at es ((unsigned_Decides j n).0 e i)))) ∙ ap is_lt (tied_itself option_order_total (candidate_at es n))
+        next j less true e = (λ i. is_lt (option_cmp order (candidate_at es n)
+            (candidate_at es ((unsigned_Decides j n).0 e i))))
+            ∙ ap is_lt (tied_itself option_order_total (candidate_at es n))
         next j less false e = candidate_ranks.chain (candidate_at es n) best (candidate_at es j) h (k.above j (before j n less e))
 
 -- If the walk found nothing, no entry is ready.
 pub walk_none : (es : Entries) (n : ℕ) → n ≡ length es → IsBestBelow es n None → HasNoReady es
 walk_none es n all k t e is ready =
     let row = row_of es t e is in
-    true≢false ((λ i. is_lt (option_cmp order None (sym (candidate_from es row.index t e row.at ready) i))) ∙ k.above row.index (omega (arith, row.within, all)))
+    true≢false ((λ i. is_lt (option_cmp order None (sym (candidate_from es row.index t e row.at ready) i)))
+    ∙ k.above row.index (omega (arith, row.within, all)))
 
 -- What the walk found is the best.
 pub walk_some : (es : Entries) (n : ℕ) (c : Candidate) → n ≡ length es → IsDistinct same_task (keys_of es) → IsBestBelow es n (Some c) → IsBest es c.1.0

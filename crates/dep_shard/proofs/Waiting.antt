@@ -15,7 +15,8 @@ use Rattle.list_lemmas.specs.Counting.{as_number}
 pub count_waiting-push : (es : Entries) (t : Task) (e : Entry) → count_waiting (es ++ (t, e) ∷ []) ≡ count_waiting es + as_number (is_waiting e)
 count_waiting-push es t e = weigh-push (λ (x : Task × Entry). as_number (is_waiting x.1)) es (t, e)
 
-pub count_waiting-set_at : (es : Entries) (i : ℕ) (t : Task) (e f : Entry) → slice_get es i ≡ Some (t, e) → count_waiting (set_value_at es i f) + as_number (is_waiting e) ≡ count_waiting es + as_number (is_waiting f)
+pub count_waiting-set_at : (es : Entries) (i : ℕ) (t : Task) (e f : Entry) → slice_get es i ≡ Some (t, e)
+    → count_waiting (set_value_at es i f) + as_number (is_waiting e) ≡ count_waiting es + as_number (is_waiting f)
 count_waiting-set_at [] i t e f is = cc
 count_waiting-set_at (x ∷ xs) zero t e f is =
     let one : x ≡ (t, e) = cc in
@@ -28,7 +29,8 @@ row_at [] i d row h = absurd cc
 row_at (x ∷ xs) zero d row h = let one : x ≡ row = cc in (one, omega arith)
 row_at (x ∷ xs) (suc i) d row h = let next = row_at xs i d row h in (next.0, omega (arith, next.1))
 
-pub count_waiting-swap_remove_at : (es : Entries) (i : ℕ) (t : Task) (e : Entry) → slice_get es i ≡ Some (t, e) → count_waiting (swap_remove es i (t, e)) + as_number (is_waiting e) ≡ count_waiting es
+pub count_waiting-swap_remove_at : (es : Entries) (i : ℕ) (t : Task) (e : Entry) → slice_get es i ≡ Some (t, e)
+    → count_waiting (swap_remove es i (t, e)) + as_number (is_waiting e) ≡ count_waiting es
 count_waiting-swap_remove_at es i t e is =
     let f = λ (x : Task × Entry). as_number (is_waiting x.1) in
     let there = row_at es i (t, e) (t, e) is in

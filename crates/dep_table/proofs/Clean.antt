@@ -30,15 +30,19 @@ still_clean v w k c = record {
 }
 
 -- a pass after a step that keeps these, and the number of its names
-pub still_pass : (table : TableId) (p q : PassView) → IsPassOf table p → q.table ≡ p.table → q.me.1 ≡ p.me.1 → q.stamp ≡ p.stamp → length (shown q).names ≡ 1 → KeepsClean (shown p) (shown q) → IsPassOf table q
+pub still_pass : (table : TableId) (p q : PassView) → IsPassOf table p → q.table ≡ p.table → q.me.1 ≡ p.me.1
+    → q.stamp ≡ p.stamp → length (shown q).names ≡ 1 → KeepsClean (shown p) (shown q) → IsPassOf table q
 still_pass table p q h of slots stamp names k = record {
   of = of ∙ h.of;
   clean = record { no_shard = slots ∙ h.clean.no_shard; clean = still_clean (shown p) (shown q) k h.clean.clean; one_name = names };
-  stamp = λ t runs. let s = h.stamp t (sym k.running ∙ runs) in record { earlier = s.earlier; is_last = k.stamps ∙ (s.is_last ∙ ap (λ n. s.earlier ++ (t, n) ∷ []) (sym stamp)) };
+  stamp = λ t runs. let s = h.stamp t (sym k.running ∙ runs) in record
+      { earlier = s.earlier; is_last = k.stamps ∙ (s.is_last ∙ ap (λ n. s.earlier ++ (t, n) ∷ []) (sym stamp)) };
 }
 
 -- the same from what a step says of the seat: `i` is the pass before the step, taken apart
-pub after_step : (table : TableId) (p i q : PassView) (w : PassRecord) → IsPassOf table p → i ≡ p → q.table ≡ i.table → q.stamp ≡ i.stamp → q.me ≡ (w, i.me.1) → length w.names ≡ length (shown i).names → KeepsClean (shown i) w → IsPassOf table q
+pub after_step : (table : TableId) (p i q : PassView) (w : PassRecord) → IsPassOf table p → i ≡ p → q.table ≡ i.table
+    → q.stamp ≡ i.stamp → q.me ≡ (w, i.me.1) → length w.names ≡ length (shown i).names → KeepsClean (shown i) w
+    → IsPassOf table q
 after_step table p i q w h is of stamp me names k =
     let h' : IsPassOf table i = subst (IsPassOf table) (sym is) h in
     let me0 : shown q ≡ w = ap (λ (m : Seated). m.0) me in
@@ -65,11 +69,17 @@ pub no_own_credit : (table : TableId) (p i : PassView) → IsPassOf table p → 
 no_own_credit table p i h is = ap (λ (q : PassView). (shown q).credit) is ∙ h.clean.clean.no_credit
 
 -- in its one look the pass found that a word was not 0
-pub found_busy : (p i : PassView) (n : Seated) (word : Word) (r : ℕ) → i ≡ p → n ≡ (with_look i.me.0 word r, i.me.1) → (r ≡ 0 → ⊥) → FoundBusy word (shown p) n.0
-found_busy p i n word r is me held = subst (λ (m : Seated). FoundBusy word (shown p) m.0) (sym me) (subst (λ (v : PassRecord). FoundBusy word v (with_look i.me.0 word r)) (ap shown is) (record {
-  word = refl;
-  taken = held;
-  looks = refl;
-  last = refl;
-  still = record { kept = record { names = refl; turns = refl; quiet = refl; halts = refl; credit = refl }; done = record { claims = refl; stamps = refl; handed = refl; sends = refl }; running = refl };
-}))
+pub found_busy : (p i : PassView) (n : Seated) (word : Word) (r : ℕ) → i ≡ p → n ≡ (with_look i.me.0 word r, i.me.1)
+    → (r ≡ 0 → ⊥) → FoundBusy word (shown p) n.0
+found_busy p i n word r is me held = subst (λ (m : Seated). FoundBusy word (shown p) m.0) (sym me)
+    (subst (λ (v : PassRecord). FoundBusy word v (with_look i.me.0 word r)) (ap shown is) (record {
+      word = refl;
+      taken = held;
+      looks = refl;
+      last = refl;
+      still = record {
+        kept = record { names = refl; turns = refl; quiet = refl; halts = refl; credit = refl };
+        done = record { claims = refl; stamps = refl; handed = refl; sends = refl };
+        running = refl;
+      };
+    }))

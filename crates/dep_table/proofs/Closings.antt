@@ -36,7 +36,8 @@ use Rattle.dep_table.proofs.Quiets.{calm_closed}
 use Rattle.dep_table.proofs.StampOrders.{stamp_order}
 
 -- two lists at the end, or the two as one
-joined_two : {A : Type 0} (f : PassRecord → List A) (l : List PassRecord) (v w b : PassRecord) → f b ≡ f v ++ f w → flat_map f ((l ++ v ∷ []) ++ w ∷ []) ≡ flat_map f (l ++ b ∷ [])
+joined_two : {A : Type 0} (f : PassRecord → List A) (l : List PassRecord) (v w b : PassRecord) → f b ≡ f v ++ f w
+    → flat_map f ((l ++ v ∷ []) ++ w ∷ []) ≡ flat_map f (l ++ b ∷ [])
 joined_two f [] v w b e = ap (λ x. f v ++ x) (append-nil (f w)) ∙ (sym e ∙ sym (append-nil (f b)))
 joined_two f (u ∷ l) v w b e = ap (λ x. f u ++ x) (joined_two f l v w b e)
 
@@ -110,7 +111,9 @@ joined_first table ps left p is a =
     }
 
 -- one pass more
-pub joined_next : (table : TableId) (ps before left : List PassView) (p last new : PassView) → before ≡ left ++ p ∷ [] → new.table ≡ p.table → new.me ≡ (both (shown p) (shown last), p.me.1) → IsJoinedSoFar table ps before last → IsJoinedSoFar table ps left new
+pub joined_next : (table : TableId) (ps before left : List PassView) (p last new : PassView) → before ≡ left ++ p ∷ []
+    → new.table ≡ p.table → new.me ≡ (both (shown p) (shown last), p.me.1) → IsJoinedSoFar table ps before last
+    → IsJoinedSoFar table ps left new
 joined_next table ps before left p last new is of me a =
     let w = a.each p (subst (IsIn p) (sym is) (IsIn-append_right p left (p ∷ []) (inl refl))) in
     let now : shown new ≡ both (shown p) (shown last) = ap (λ (m : PassRecord × List (ℕ × Content)). m.0) me in
@@ -120,17 +123,21 @@ joined_next table ps before left p last new is of me a =
       no_shard = ap (λ (m : PassRecord × List (ℕ × Content)). m.1) me ∙ w.clean.no_shard;
       no_turn = ap (λ (v : PassRecord). v.turns) now ∙ (ap (λ l. l ++ (shown last).turns) w.clean.clean.no_turn ∙ a.no_turn);
       each = λ q i. a.each q (subst (IsIn q) (sym is) (IsIn-append_left q left (p ∷ []) i));
-      all = subst (λ v. AreAll (v ∷ map shown left)) (sym now) (join_all (shown p) (shown last) (map shown left) (order_all (shown last ∷ map shown before) (shown p ∷ shown last ∷ map shown left) swap a.all));
+      all = subst (λ v. AreAll (v ∷ map shown left)) (sym now)
+          (join_all (shown p) (shown last) (map shown left) (order_all (shown last ∷ map shown before)
+          (shown p ∷ shown last ∷ map shown left) swap a.all));
       did = ap (λ v. joined (map shown left ++ v ∷ [])) now
           ∙ (sym (both_joined (map shown left) (shown p) (shown last))
-          ∙ (ap (λ l. joined (l ++ shown last ∷ [])) (sym (map-append shown left (p ∷ []))) ∙ (ap (λ l. joined (map shown l ++ shown last ∷ [])) (sym is) ∙ a.did)));
+          ∙ (ap (λ l. joined (l ++ shown last ∷ [])) (sym (map-append shown left (p ∷ [])))
+          ∙ (ap (λ l. joined (map shown l ++ shown last ∷ [])) (sym is) ∙ a.did)));
       handed = ap (λ v. joined_handed (map shown left ++ v ∷ [])) now
           ∙ (sym (both_handed (map shown left) (shown p) (shown last))
           ∙ (ap (λ l. joined_handed (l ++ shown last ∷ [])) (sym (map-append shown left (p ∷ [])))
           ∙ (ap (λ l. joined_handed (map shown l ++ shown last ∷ [])) (sym is) ∙ a.handed)));
       drew = ap (λ v. joined_stamps (map shown left ++ v ∷ [])) now
           ∙ (sym (both_drew (map shown left) (shown p) (shown last))
-          ∙ (ap (λ l. joined_stamps (l ++ shown last ∷ [])) (sym (map-append shown left (p ∷ []))) ∙ (ap (λ l. joined_stamps (map shown l ++ shown last ∷ [])) (sym is) ∙ a.drew)));
+          ∙ (ap (λ l. joined_stamps (l ++ shown last ∷ [])) (sym (map-append shown left (p ∷ [])))
+          ∙ (ap (λ l. joined_stamps (map shown l ++ shown last ∷ [])) (sym is) ∙ a.drew)));
       stamped = subst HasStamps (sym now) (both_stamped (shown p) (shown last) w.clean.clean.stamped a.stamped);
       quiet = λ q i k. elim (a.quiet q i k) [
         | inl there ↦ elim (left_or_last q left p k (subst (IsIn q) is there)) [
@@ -154,7 +161,8 @@ same_get [] k y z e h = absurd (some-ne-none z (sym h))
 same_get (x ∷ xs) zero y z e h = let q : x ≡ y = cc in sym (some-injective x z h) ∙ q
 same_get (x ∷ xs) (suc k) y z e h = same_get xs k y z e h
 
-pub joined_quiet : (table : TableId) (ps left : List PassView) (last : PassView) → left ≡ [] → IsJoinedSoFar table ps left last → (p : PassView) → IsIn p ps → (shown p).quiet ≡ true → (shown last).quiet ≡ true
+pub joined_quiet : (table : TableId) (ps left : List PassView) (last : PassView) → left ≡ []
+    → IsJoinedSoFar table ps left last → (p : PassView) → IsIn p ps → (shown p).quiet ≡ true → (shown last).quiet ≡ true
 joined_quiet table ps left last none a p i k = elim (a.quiet p i k) [
   | inl there ↦ let never : IsIn p [] = subst (IsIn p) none there in absurd never
   | inr is ↦ is
@@ -203,5 +211,6 @@ closes_quiet j v vs ys all none did handed f q =
     calm_closed j vs ys (closes j v vs ys all none did handed f) (p.quieted.calm f.id v f.mine q)
 
 -- a pass that is taken is a clean one
-pub taken_pass : (table : TableId) (ps before left : List PassView) (p last : PassView) → before ≡ left ++ p ∷ [] → IsJoinedSoFar table ps before last → IsPassOf table p
+pub taken_pass : (table : TableId) (ps before left : List PassView) (p last : PassView) → before ≡ left ++ p ∷ []
+    → IsJoinedSoFar table ps before last → IsPassOf table p
 taken_pass table ps before left p last is a = a.each p (subst (IsIn p) (sym is) (IsIn-append_right p left (p ∷ []) (inl refl)))

@@ -36,22 +36,47 @@ module _ (t : Turn) (v : PassRecord) (y z : Content) (h : IsTurnOf t v y z) (u :
   pub end_running : shard_of (job_of t.table.now).matched (job_of t.table.now).shards u ≡ t.shard → (d : Content) → d ≡ z → 0 < d.running
   end_running at d is =
       let j = job_of t.table.now in
-      omega (arith, ap (λ (c : Content). c.running) is, h.same.running, some_runs j.matched j.given (shard_of j.matched j.shards) t.shard (joined h.seen.table.views) y (seen_share j t.shard v y h.seen) u at (seen_runs j t.shard v y h.seen u runs))
+      omega (
+        arith,
+        ap (λ (c : Content). c.running) is,
+        h.same.running,
+        some_runs j.matched j.given
+            (shard_of j.matched j.shards) t.shard (joined h.seen.table.views) y (seen_share j t.shard v y h.seen) u at
+            (seen_runs j t.shard v y h.seen u runs),
+      )
 
   pub end_bound : shard_of (job_of t.table.now).matched (job_of t.table.now).shards u ≡ t.shard → (d : Content) → d ≡ z → d.ended < 1000000
   end_bound at d is =
       let j = job_of t.table.now in
       let r = joined_parts j h.seen.table h.seen.rule in
-      omega (arith, end_running at d is, ap (λ (c : Content). c.running) is, ap (λ (c : Content). c.ended) is, h.same.running, h.same.ended, numbers_at_most j.matched j.given (shard_of j.matched j.shards) t.shard (joined h.seen.table.views) y (seen_share j t.shard v y h.seen) r.consistent r.sound)
+      omega (
+        arith,
+        end_running at d is,
+        ap (λ (c : Content). c.running) is,
+        ap (λ (c : Content). c.ended) is,
+        h.same.running,
+        h.same.ended,
+        numbers_at_most j.matched j.given (shard_of j.matched j.shards) t.shard
+            (joined h.seen.table.views) y (seen_share j t.shard v y h.seen) r.consistent r.sound,
+      )
 
   stamped : 0 < own_stamps v u
-  stamped = let s = h.stamp u runs in omega (arith, ap (λ l. weigh (λ (x : StampedTask). as_number (same_task u x.0)) l) s.is_last, weigh-push (λ (x : StampedTask). as_number (same_task u x.0)) s.earlier (u, t.pass.now.stamp), ap as_number ((same_task-decides u u).1 refl))
+  stamped = let s = h.stamp u runs in omega (
+    arith,
+    ap (λ l. weigh (λ (x : StampedTask). as_number (same_task u x.0)) l)
+        s.is_last,
+    weigh-push (λ (x : StampedTask). as_number (same_task u x.0)) s.earlier (u, t.pass.now.stamp),
+    ap
+        as_number ((same_task-decides u u).1 refl),
+  )
 
   module _ (i : PassView) (is : i ≡ t.pass.now) where
     me0 : i.me.0 ≡ with_turn v t.shard y
     me0 = ap (λ (p : PassView). p.me.0) is ∙ ap (λ (m : Seated). m.0) h.me
 
-    pub ends_task : shard_of (job_of t.table.now).matched (job_of t.table.now).shards u ≡ t.shard → MayEnd (job_of t.table.now).matched (job_of t.table.now).given u i.me.0 → (d w : Content) → d ≡ z → Ends d w → KeepsEntriesAndWritten d w → w.trapped ≡ d.trapped → Uses d.spare w.spare 0 None 0 0
+    pub ends_task : shard_of (job_of t.table.now).matched (job_of t.table.now).shards u ≡ t.shard
+        → MayEnd (job_of t.table.now).matched (job_of t.table.now).given u i.me.0 → (d w : Content) → d ≡ z → Ends d w
+        → KeepsEntriesAndWritten d w → w.trapped ≡ d.trapped → Uses d.spare w.spare 0 None 0 0
         → MayGiveEnd (job_of t.table.now) t.shard (i.me.0, (t.shard, w) ∷ rest i.me.1)
     ends_task at may d w same ends kept trapped spares = record {
       task = u;
@@ -67,15 +92,32 @@ module _ (t : Turn) (v : PassRecord) (y z : Content) (h : IsTurnOf t v y z) (u :
           credit = ap (λ (p : PassRecord). p.credit) me0 ∙ h.clean.no_credit;
         };
         may = may;
-        ends = record { running = omega (arith, ends.running, ap (λ (c : Content). c.running) same, h.same.running); ended = omega (arith, ends.ended, ap (λ (c : Content). c.ended) same, h.same.ended) };
-        kept = record { entries = kept.entries ∙ (ap (λ (c : Content). c.entries) same ∙ h.same.entries); written = kept.written ∙ (ap (λ (c : Content). c.written) same ∙ h.same.written); elems = kept.elems ∙ (ap (λ (c : Content). c.elems) same ∙ h.same.elems) };
+        ends = record {
+          running = omega (arith, ends.running, ap (λ (c : Content). c.running) same, h.same.running);
+          ended = omega (arith, ends.ended, ap (λ (c : Content). c.ended) same, h.same.ended);
+        };
+        kept = record {
+          entries = kept.entries ∙ (ap (λ (c : Content). c.entries) same ∙ h.same.entries);
+          written = kept.written ∙ (ap (λ (c : Content). c.written) same ∙ h.same.written);
+          elems = kept.elems
+              ∙ (ap (λ (c : Content). c.elems) same ∙ h.same.elems);
+        };
         trapped = trapped ∙ (ap (λ (c : Content). c.trapped) same ∙ h.same.trapped);
         spares = let used = subst (λ (c : Content). Uses c.spare w.spare 0 None 0 0) same spares in
-            record { entries = omega (arith, h.spares.entries, used.entries); tiles = λ k. omega (arith, h.spares.tiles k, used.tiles k); writes = omega (arith, h.spares.writes, used.writes); traps = omega (arith, h.spares.traps, used.traps) };
+            record {
+              entries = omega (arith, h.spares.entries, used.entries);
+              tiles = λ k. omega
+                  (arith, h.spares.tiles k, used.tiles k);
+              writes = omega (arith, h.spares.writes, used.writes);
+              traps = omega (arith, h.spares.traps, used.traps);
+            };
       });
     }
 
-    pub traps_task : (cause : Trap) → shard_of (job_of t.table.now).matched (job_of t.table.now).shards u ≡ t.shard → MayTrap (job_of t.table.now).matched (job_of t.table.now).given u cause i.me.0 → (d w : Content) → d ≡ z → Ends d w → KeepsEntriesAndWritten d w → w.trapped ≡ d.trapped ++ (u, cause) ∷ [] → Uses d.spare w.spare 0 None 0 1
+    pub traps_task : (cause : Trap) → shard_of (job_of t.table.now).matched (job_of t.table.now).shards u ≡ t.shard
+        → MayTrap (job_of t.table.now).matched (job_of t.table.now).given u cause i.me.0 → (d w : Content) → d ≡ z
+        → Ends d w → KeepsEntriesAndWritten d w → w.trapped ≡ d.trapped ++ (u, cause) ∷ []
+        → Uses d.spare w.spare 0 None 0 1
         → MayGiveEnd (job_of t.table.now) t.shard (i.me.0, (t.shard, w) ∷ rest i.me.1)
     traps_task cause at may d w same ends kept trapped spares = record {
       task = u;
@@ -92,11 +134,25 @@ module _ (t : Turn) (v : PassRecord) (y z : Content) (h : IsTurnOf t v y z) (u :
           credit = ap (λ (p : PassRecord). p.credit) me0 ∙ h.clean.no_credit;
         };
         may = may;
-        ends = record { running = omega (arith, ends.running, ap (λ (c : Content). c.running) same, h.same.running); ended = omega (arith, ends.ended, ap (λ (c : Content). c.ended) same, h.same.ended) };
-        kept = record { entries = kept.entries ∙ (ap (λ (c : Content). c.entries) same ∙ h.same.entries); written = kept.written ∙ (ap (λ (c : Content). c.written) same ∙ h.same.written); elems = kept.elems ∙ (ap (λ (c : Content). c.elems) same ∙ h.same.elems) };
+        ends = record {
+          running = omega (arith, ends.running, ap (λ (c : Content). c.running) same, h.same.running);
+          ended = omega (arith, ends.ended, ap (λ (c : Content). c.ended) same, h.same.ended);
+        };
+        kept = record {
+          entries = kept.entries ∙ (ap (λ (c : Content). c.entries) same ∙ h.same.entries);
+          written = kept.written ∙ (ap (λ (c : Content). c.written) same ∙ h.same.written);
+          elems = kept.elems
+              ∙ (ap (λ (c : Content). c.elems) same ∙ h.same.elems);
+        };
         trapped = trapped ∙ ap (λ l. l ++ (u, cause) ∷ []) (ap (λ (c : Content). c.trapped) same ∙ h.same.trapped);
         spares = let used = subst (λ (c : Content). Uses c.spare w.spare 0 None 0 1) same spares in
-            record { entries = omega (arith, h.spares.entries, used.entries); tiles = λ k. omega (arith, h.spares.tiles k, used.tiles k); writes = omega (arith, h.spares.writes, used.writes); traps = omega (arith, h.spares.traps, used.traps) };
+            record {
+              entries = omega (arith, h.spares.entries, used.entries);
+              tiles = λ k. omega
+                  (arith, h.spares.tiles k, used.tiles k);
+              writes = omega (arith, h.spares.writes, used.writes);
+              traps = omega (arith, h.spares.traps, used.traps);
+            };
       });
     }
 
@@ -136,11 +192,21 @@ module _ (t : Turn) (v : PassRecord) (y z : Content) (h : IsTurnOf t v y z) (u :
       end_last = ap (λ (p : PassRecord). p.last) is_final
 
 -- a preloaded shard has a row for a task that runs
-pub trap_spare : (t : Turn) (v : PassRecord) (y z : Content) → IsTurnOf t v y z → (u : Task) → v.running ≡ u ∷ [] → shard_of (job_of t.table.now).matched (job_of t.table.now).shards u ≡ t.shard → (job_of t.table.now).preloaded ≡ true → (d : Content) → d ≡ z → 0 < d.spare.traps
+pub trap_spare : (t : Turn) (v : PassRecord) (y z : Content) → IsTurnOf t v y z → (u : Task) → v.running ≡ u ∷ []
+    → shard_of (job_of t.table.now).matched (job_of t.table.now).shards u ≡ t.shard
+    → (job_of t.table.now).preloaded ≡ true → (d : Content) → d ≡ z → 0 < d.spare.traps
 trap_spare t v y z h u runs at pre d is =
     let j = job_of t.table.now in
     let r = joined_parts j h.seen.table h.seen.rule in
     let sound = sound_moment j h.seen.table (joined h.seen.table.views) r in
     let own = seen_runs j t.shard v y h.seen u runs in
     let claimed : 0 < claim_count (joined h.seen.table.views).state u = omega (arith, own, sound.claimed u) in
-    omega (arith, ap (λ (c : Content). c.spare.traps) is, h.spares.traps, spare-trap j.matched (shard_of j.matched j.shards) t.shard (joined h.seen.table.views) u (r.sound.claimed_have_all u (claim_member (joined h.seen.table.views).state u claimed)).task at claimed (omega (arith, own, sound.claimed u, r.sound.claimed_once u)) y (seen_reserve j t.shard v y h.seen pre))
+    omega (
+      arith,
+      ap (λ (c : Content). c.spare.traps) is,
+      h.spares.traps,
+      spare-trap j.matched
+          (shard_of j.matched j.shards) t.shard (joined h.seen.table.views) u
+          (r.sound.claimed_have_all u (claim_member (joined h.seen.table.views).state u claimed)).task at claimed
+          (omega (arith, own, sound.claimed u, r.sound.claimed_once u)) y (seen_reserve j t.shard v y h.seen pre),
+    )

@@ -85,16 +85,31 @@ module _ (P : Plan) where
 
   -- no item of a consistent job occurs twice
   items_once : IsConsistent P → (i : Item) → count (same_item i) (all_items P) ≤ 1
-  items_once con (item.Edge e) = omega (arith, edges_of e (all_tasks P), count-once same_edge (λ a b k. (same_edge-decides a b).0 k) (all_out P) con.no_out_edge_twice e)
+  items_once con (item.Edge e) = omega (
+    arith,
+    edges_of e (all_tasks P),
+    count-once same_edge
+        (λ a b k. (same_edge-decides a b).0 k) (all_out P) con.no_out_edge_twice e,
+  )
   items_once con (item.Write w) =
-      omega (arith, writes_of w (all_tasks P), count-once same_write one_write (all_writes P) (HasNoRepeats-from_map (λ (v : WriteBack). v.place) (all_writes P) con.written_once) w)
+      omega (
+        arith,
+        writes_of w (all_tasks P),
+        count-once same_write one_write (all_writes P)
+            (HasNoRepeats-from_map (λ (v : WriteBack). v.place) (all_writes P) con.written_once) w,
+      )
 
   module _ (G : Data) where
     -- what is sent is at most the items
     sent_among : (x : SentItem) (is : List Item) → count (same_sent_item x) (map (with_its_tile P G) is) ≤ count (same_item x.item) is
     sent_among x [] = omega arith
     sent_among x (i ∷ is) =
-        omega (arith, sent_among x is, one_le (same_sent_item x (with_its_tile P G i)) (same_item x.item i) (λ k. first_so (same_item x.item i) (same_tile x.tile (with_its_tile P G i).tile) k))
+        omega (
+          arith,
+          sent_among x is,
+          one_le (same_sent_item x (with_its_tile P G i)) (same_item x.item i)
+              (λ k. first_so (same_item x.item i) (same_tile x.tile (with_its_tile P G i).tile) k),
+        )
 
     by_among : (x : SentItem) (t : Task) → count (same_sent_item x) (sent_by P G t) ≤ count (same_item x.item) (items P t)
     by_among x t =
@@ -151,7 +166,9 @@ module _ (P : Plan) where
       sent_there : (x : SentItem) → IsIn x S.sends → IsIn x (all_sent P G)
       sent_there x h =
           let o = sound.sent_are_outputs x h in
-          subst (λ y. IsIn y (all_sent P G)) (sym (its_tile x h)) (among_sent (sender x.item) x.item (sound.claimed_have_all (sender x.item) o.claimed).task o.is_item o.outputs)
+          subst (λ y. IsIn y (all_sent P G)) (sym (its_tile x h))
+          (among_sent (sender x.item) x.item (sound.claimed_have_all (sender x.item) o.claimed).task o.is_item
+          o.outputs)
 
       sent_back : (x : SentItem) → IsIn x (all_sent P G) → IsIn x S.sends
       sent_back x h =
@@ -162,7 +179,12 @@ module _ (P : Plan) where
 
       at_most_once : (x : SentItem) → count (same_sent_item x) S.sends ≤ 1
       at_most_once x =
-          omega (arith, sound.sent_once x.item, count-le (same_sent_item x) (λ (y : SentItem). same_item x.item y.item) S.sends (λ y i k. first_so (same_item x.item y.item) (same_tile x.tile y.tile) k))
+          omega (
+            arith,
+            sound.sent_once x.item,
+            count-le (same_sent_item x) (λ (y : SentItem). same_item x.item y.item)
+                S.sends (λ y i k. first_so (same_item x.item y.item) (same_tile x.tile y.tile) k),
+          )
 
       same_times : (x : SentItem) → count (same_sent_item x) S.sends ≡ count (same_sent_item x) (all_sent P G)
       same_times x =
@@ -187,5 +209,7 @@ module _ (P : Plan) where
       }
 
 -- so it is with the passes of a table that was closed after the run had ended
-pub closed_meaning : (j : TableJob) (vs : List PassRecord) (ys : List Content) → IsClosedAt j vs ys → HaveNoWork ys → HasTheMeaning j.matched j.given (joined vs).state
-closed_meaning j vs ys c none = quiescent_meaning j.matched j.given c.consistent (joined vs).state c.sound (closed_quiescent j vs ys c (closed_calm j vs ys c none))
+pub closed_meaning : (j : TableJob) (vs : List PassRecord) (ys : List Content) → IsClosedAt j vs ys → HaveNoWork ys
+    → HasTheMeaning j.matched j.given (joined vs).state
+closed_meaning j vs ys c none = quiescent_meaning j.matched j.given c.consistent (joined vs).state c.sound
+    (closed_quiescent j vs ys c (closed_calm j vs ys c none))

@@ -1,5 +1,7 @@
 -- The tiles that come to a task by edges, counted flow by flow.
-use Rattle.std.proofs.Common.{◌≡◌, ◌≢◌, ℕ, suc, ◌+◌, ◌-◌, ◌<◌, ◌==◌, nat_lt, ℤ, Bool, true, false, cond, ◌&&◌, List, [], ◌∷◌, length, refl, ap, sym, ◌∙◌, subst, add-zero, Option, Some, None, slice_get, inl, inr, arith, eqb-true, eq-eqb, ne_eqb, lt-ltb, le-ltb}
+use Rattle.std.proofs.Common.{◌≡◌, ◌≢◌, ℕ, suc, ◌+◌, ◌-◌, ◌<◌, ◌==◌, nat_lt, ℤ, Bool, true, false, cond, ◌&&◌, List, []}
+use Rattle.std.proofs.Common.{◌∷◌, length, refl, ap, sym, ◌∙◌, subst, add-zero, Option, Some, None, slice_get, inl, inr}
+use Rattle.std.proofs.Common.{arith, eqb-true, eq-eqb, ne_eqb, lt-ltb, le-ltb}
 use Rattle.std.proofs.lemmas.Bool.{cases_eq, cases_lt}
 use Rattle.ptg_base.specs.Lists.{HasNoRepeats, IsIn}
 use Rattle.ptg_base.specs.Task.{Task}
@@ -33,7 +35,8 @@ none_where true h = absurd (h refl)
 none_where false h = refl
 
 -- in a list without repeats, a test that one member alone meets counts one
-count-once : {A : Type 0} (test : A → Bool) (xs : List A) (x : A) → HasNoRepeats xs → IsIn x xs → test x ≡ true → ((y : A) → IsIn y xs → test y ≡ true → y ≡ x) → count test xs ≡ 1
+count-once : {A : Type 0} (test : A → Bool) (xs : List A) (x : A) → HasNoRepeats xs → IsIn x xs → test x ≡ true
+    → ((y : A) → IsIn y xs → test y ≡ true → y ≡ x) → count test xs ≡ 1
 count-once test [] x once i passes only = absurd i
 count-once test (y ∷ ys) x once i passes only = elim i [
   | inl e ↦
@@ -83,7 +86,9 @@ same_either true m = refl
 same_either false m = refl
 
 -- one tile comes for each of the edges into a data flow of this type
-weighed : (o : Bool) (type : Bool) (n : ℕ) (xs : List Edge) (some : Bool) → (o ≡ true → count (into n) xs ≡ as_number some) → weigh (λ (e : Edge). cond (e.in_flow == n) (cond o (as_number type) 0) 0) xs ≡ as_number ((o && some) && type)
+weighed : (o : Bool) (type : Bool) (n : ℕ) (xs : List Edge) (some : Bool)
+    → (o ≡ true → count (into n) xs ≡ as_number some) → weigh
+    (λ (e : Edge). cond (e.in_flow == n) (cond o (as_number type) 0) 0) xs ≡ as_number ((o && some) && type)
 weighed true true n xs some h = h refl ∙ by some
   where
     by : (b : Bool) → as_number b ≡ as_number (b && true)
@@ -116,7 +121,8 @@ module _ (P : Plan) (con : IsConsistent P) (t : Task) (job : IsTask P t) where
     one_comes d is =
         let well = (con.connected t job).well in
         let distinct = HasNoRepeats-part (in_edges P) (all_tasks P) con.no_in_edge_twice t ((listed P t).0 job) in
-        count-once (into n) (in_edges P t) d distinct (source_in P t job well n f here carries d is) (eq-eqb d.in_flow n (source_at_flow P t job well n f here carries d is))
+        count-once (into n) (in_edges P t) d distinct (source_in P t job well n f here carries d is)
+        (eq-eqb d.in_flow n (source_at_flow P t job well n f here carries d is))
         (λ e i at. same_edge e d (sym (comes_from e i at) ∙ is))
 
     by_targets : (xs : List Target) → data_source P t n ≡ source_among t (locals_of P t) n xs → count (into n) (in_edges P t) ≡ as_number (begins_with_edge xs)
@@ -138,11 +144,13 @@ module _ (P : Plan) (con : IsConsistent P) (t : Task) (job : IsTask P t) where
     by_edge =
         weigh-filter (is_data_edge P) (λ (e : Edge). as_number (is_edge_of_type P d e)) (in_edges P t)
         ∙ weigh-same (from_flow tiles_at 0) (λ e. cond (is_data_edge P e) (as_number (is_edge_of_type P d e)) 0) (in_edges P t)
-        (λ e i. ap (λ (o : Option FlowPlan). carried o d) (ap (λ (u : Task). flow_of P.classes u.class e.in_flow) (in_edge_to P t e i) ∙ sym (flow_is P t e.in_flow))
+        (λ e i. ap (λ (o : Option FlowPlan). carried o d) (ap (λ (u : Task). flow_of P.classes u.class e.in_flow)
+        (in_edge_to P t e i) ∙ sym (flow_is P t e.in_flow))
         ∙ sym (ap (λ b. cond b 0 (tiles_at e.in_flow)) (le-ltb e.in_flow 0 (omega arith))))
 
     -- those of flows from the nth on
-    from_on : (n : ℕ) (fs : List FlowPlan) → ((i : ℕ) → slice_get (flows_of P t) (n + i) ≡ slice_get fs i) → weigh (from_flow tiles_at n) (in_edges P t) ≡ flows_tiles (locals_of P t) fs d
+    from_on : (n : ℕ) (fs : List FlowPlan) → ((i : ℕ) → slice_get (flows_of P t) (n + i) ≡ slice_get fs i)
+        → weigh (from_flow tiles_at n) (in_edges P t) ≡ flows_tiles (locals_of P t) fs d
     from_on n [] at = weigh-zero (from_flow tiles_at n) (in_edges P t) (λ e i. elim (cases_lt e.in_flow n) [
       | inl lt ↦ ap (λ b. cond b 0 (tiles_at e.in_flow)) (lt-ltb e.in_flow n lt)
       | inr ge ↦

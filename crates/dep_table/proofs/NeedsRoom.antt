@@ -30,12 +30,22 @@ module _ (P : Plan) where
   writes_at_most : (ts : List Task) → length (writes_of P ts) ≤ length (flat_map (items P) ts)
   writes_at_most [] = omega arith
   writes_at_most (t ∷ ts) =
-      omega (arith, writes-fewer (items P t), length-append (write_backs P t) (writes_of P ts), length-append (items P t) (flat_map (items P) ts), writes_at_most ts)
+      omega (
+        arith,
+        writes-fewer (items P t),
+        length-append (write_backs P t) (writes_of P ts),
+        length-append
+            (items P t) (flat_map (items P) ts),
+        writes_at_most ts,
+      )
 
   -- the tiles of edges into two lists of tasks, and of their write-backs
-  edges_both : (ts us : List Task) (d : ℕ) → edge_tiles P (flat_map (in_edges P) (ts ++ us)) d ≡ edge_tiles P (flat_map (in_edges P) ts) d + edge_tiles P (flat_map (in_edges P) us) d
+  edges_both : (ts us : List Task) (d : ℕ) → edge_tiles P (flat_map (in_edges P) (ts ++ us)) d
+      ≡ edge_tiles P (flat_map (in_edges P) ts) d + edge_tiles P (flat_map (in_edges P) us) d
   edges_both ts us d =
-      ap (λ l. edge_tiles P l d) (flat_map-append (in_edges P) ts us) ∙ count-filter_append (is_edge_of_type P d) (is_data_edge P) (flat_map (in_edges P) ts) (flat_map (in_edges P) us)
+      ap (λ l. edge_tiles P l d) (flat_map-append (in_edges P) ts us)
+      ∙ count-filter_append (is_edge_of_type P d) (is_data_edge P) (flat_map (in_edges P) ts)
+      (flat_map (in_edges P) us)
 
   writes_both : (ts us : List Task) (d : ℕ) → write_tiles P (writes_of P (ts ++ us)) d ≡ write_tiles P (writes_of P ts) d + write_tiles P (writes_of P us) d
   writes_both ts us d = ap (λ l. write_tiles P l d) (flat_map-append (write_backs P) ts us) ∙ weigh-append _ (writes_of P ts) (writes_of P us)
@@ -75,7 +85,8 @@ module _ (P : Plan) where
     traps = omega (arith, r.traps, a.traps);
   }
 
-  pub room_task : (t : Task) (k : ℕ) (old new : List Needs) (rest : List Task) → k < length old → AddsTaskAt P t k old new → CanCountEach P (t ∷ rest) old → CanCountEach P rest new
+  pub room_task : (t : Task) (k : ℕ) (old new : List Needs) (rest : List Task) → k < length old
+      → AddsTaskAt P t k old new → CanCountEach P (t ∷ rest) old → CanCountEach P rest new
   room_task t k old new rest near a r i n at =
       let m = slice_get_there old k near in
       elim (cases_eq i k) [

@@ -1,5 +1,6 @@
 -- Needs over a walk through all tasks, and the spares of a shard that has what it needs.
-use Rattle.std.proofs.Common.{◌≡◌, ℕ, ◌+◌, ◌<◌, ◌≤◌, List, [], ◌∷◌, ◌++◌, length, refl, ap, sym, ◌∙◌, subst, Some, slice_get, slice_index, inl, inr, arith, length-append}
+use Rattle.std.proofs.Common.{◌≡◌, ℕ, ◌+◌, ◌<◌, ◌≤◌, List, [], ◌∷◌, ◌++◌, length, refl, ap, sym, ◌∙◌, subst, Some}
+use Rattle.std.proofs.Common.{slice_get, slice_index, inl, inr, arith, length-append}
 use Rattle.std.proofs.lemmas.Bool.{cases_eq}
 use Rattle.ptg_base.specs.Task.{Task}
 use Rattle.ptg_base.specs.declared.edge.WriteBack.{WriteBack}
@@ -10,7 +11,8 @@ use Rattle.shard_meaning.specs.Opening.{HasOpeningReserve, IsOpeningShard}
 use Rattle.shard_meaning.specs.Share.{Placement}
 use Rattle.shard_meaning.specs.Placing.{shard_of}
 use Rattle.dep_table.specs.declared.needs.Needs.{Needs}
-use Rattle.dep_table.specs.Needs.{AddsNeeds, AddsTaskAt, AddsTiles, AreNeedsOf, AreNoNeeds, AreReserved, FitShards, IsNeedOf, IsNoNeed, IsReservedFor, ReservesAt, write_tiles}
+use Rattle.dep_table.specs.Needs.{AddsNeeds, AddsTaskAt, AddsTiles, AreNeedsOf, AreNoNeeds, AreReserved, FitShards}
+use Rattle.dep_table.specs.Needs.{IsNeedOf, IsNoNeed, IsReservedFor, ReservesAt, write_tiles}
 use Rattle.shard_calls.specs.Opened.{AreOpeningShards}
 use Rattle.dep_table.specs.Opened.{HaveOpeningReserve}
 use Rattle.dep_table.proofs.NeedsCounts.{need_other, need_own}
@@ -47,7 +49,8 @@ module _ (P : Plan) (of : Placement) where
   }
 
   -- a shard with spares for what it needs has those that it opens with
-  pub enough : (k : ℕ) (n : Needs) (z : Content) → IsNeedOf P of k (all_tasks P) n → HasSpares z.spare n.entries n.tiles.items n.writes n.traps → HasOpeningReserve P of k z
+  pub enough : (k : ℕ) (n : Needs) (z : Content) → IsNeedOf P of k (all_tasks P) n
+      → HasSpares z.spare n.entries n.tiles.items n.writes n.traps → HasOpeningReserve P of k z
   enough k n z w s = record {
     entries = omega (arith, w.entries, s.entries);
     tiles = λ d. omega (arith, w.tiles d, s.tiles d);
@@ -68,7 +71,8 @@ module _ (P : Plan) (of : Placement) where
   }
 
 -- one shard more, which needs nothing yet
-pub none_more : (shards types : ℕ) (ns : List Needs) (n : Needs) (new : List Needs) → AreNoNeeds shards types ns → IsNoNeed types n → new ≡ ns ++ n ∷ [] → AreNoNeeds (shards + 1) types new
+pub none_more : (shards types : ℕ) (ns : List Needs) (n : Needs) (new : List Needs) → AreNoNeeds shards types ns
+    → IsNoNeed types n → new ≡ ns ++ n ∷ [] → AreNoNeeds (shards + 1) types new
 none_more shards types ns n new w none is = subst (AreNoNeeds (shards + 1) types) (sym is) (record {
   count = omega (arith, w.count, length-append ns (n ∷ []));
   each = λ k m at. elim (slice_get_push ns n k m at) [ inl before ↦ w.each k m before | inr same ↦ subst (IsNoNeed types) same none ];
@@ -77,10 +81,13 @@ none_more shards types ns n new w none is = subst (AreNoNeeds (shards + 1) types
 -- the shards before this one have the spares that they need
 pub record AreReservedBefore (counter : ℕ) (ns : List Needs) (old new : List Content) : Type 0 where
   pub count : length new ≡ length old
-  pub before : (k : ℕ) (n : Needs) (y z : Content) → k < counter → slice_get ns k ≡ Some n → slice_get old k ≡ Some y → slice_get new k ≡ Some z → IsReservedFor n y z
+  pub before : (k : ℕ) (n : Needs) (y z : Content) → k < counter → slice_get ns k ≡ Some n → slice_get old k ≡ Some y
+      → slice_get new k ≡ Some z → IsReservedFor n y z
   pub later : (k : ℕ) → counter ≤ k → slice_get new k ≡ slice_get old k
 
-pub reserved_more : (counter : ℕ) (ns : List Needs) (n : Needs) (old mid new : List Content) → AreReservedBefore counter ns old mid → slice_get ns counter ≡ Some n → ReservesAt counter n mid new → AreReservedBefore (counter + 1) ns old new
+pub reserved_more : (counter : ℕ) (ns : List Needs) (n : Needs) (old mid new : List Content)
+    → AreReservedBefore counter ns old mid → slice_get ns counter ≡ Some n → ReservesAt counter n mid new
+    → AreReservedBefore (counter + 1) ns old new
 reserved_more counter ns n old mid new w at r = record {
   count = r.count ∙ w.count;
   before = λ k m y z lt is from to. elim (cases_eq k counter) [
@@ -96,12 +103,19 @@ reserved_more counter ns n old mid new w at r = record {
     some_is : (a b : Needs) → Some a ≡ Some b → a ≡ b
     some_is a b e = cc
 
-pub all_reserved : (counter : ℕ) (ns : List Needs) (old new : List Content) → length ns ≤ counter → AreReservedBefore counter ns old new → AreReserved ns old new
-all_reserved counter ns old new past w = record { count = w.count; each = λ k n y z is from to. w.before k n y z (omega (arith, past, slice_get_within ns k n is)) is from to }
+pub all_reserved : (counter : ℕ) (ns : List Needs) (old new : List Content) → length ns ≤ counter
+    → AreReservedBefore counter ns old new → AreReserved ns old new
+all_reserved counter ns old new past w = record {
+  count = w.count;
+  each = λ k n y z is from to. w.before k n y z
+      (omega (arith, past, slice_get_within ns k n is)) is from to;
+}
 
 module _ (P : Plan) (n : ℕ) where
   -- one task more is counted
-  pub needs_more : (t : Task) (rest : List Task) (old new : List Needs) → length old ≡ n → AddsNeeds P (shard_of P (length old)) t old new → IsSoFar P (λ ts. AreNeedsOf P (shard_of P n) ts old) (t ∷ rest) → IsSoFar P (λ ts. AreNeedsOf P (shard_of P n) ts new) rest
+  pub needs_more : (t : Task) (rest : List Task) (old new : List Needs) → length old ≡ n
+      → AddsNeeds P (shard_of P (length old)) t old new → IsSoFar P (λ ts. AreNeedsOf P (shard_of P n) ts old)
+      (t ∷ rest) → IsSoFar P (λ ts. AreNeedsOf P (shard_of P n) ts new) rest
   needs_more t rest old new count adds w =
       let here = subst (λ m. AddsNeeds P (shard_of P m) t old new) count adds in
       one_more P (λ ts. AreNeedsOf P (shard_of P n) ts old) (λ ts. AreNeedsOf P (shard_of P n) ts new) t rest here.needs w
@@ -138,7 +152,8 @@ pub record AreLeft (tiles_left tiles_all : ℕ → ℕ) (left all : ℕ) (old ne
 pub all_left : (f : ℕ → ℕ) (n : ℕ) (a : Needs) → AreLeft f f n n a a
 all_left f n a = record { entries = refl; types = refl; tiles = λ d. refl; writes = refl; traps = refl }
 
-less_left : (f g all : ℕ → ℕ) (h : ℕ → ℕ) (m n left total : ℕ) (a b c : Needs) → AreLeft f all left total a b → AddsTiles g m b c → ((d : ℕ) → f d ≡ g d + h d) → left ≡ m + n → AreLeft h all n total a c
+less_left : (f g all : ℕ → ℕ) (h : ℕ → ℕ) (m n left total : ℕ) (a b c : Needs) → AreLeft f all left total a b
+    → AddsTiles g m b c → ((d : ℕ) → f d ≡ g d + h d) → left ≡ m + n → AreLeft h all n total a c
 less_left f g all h m n left total a b c w add tiles writes = record {
   entries = add.entries ∙ w.entries;
   types = add.types ∙ w.types;
@@ -160,9 +175,11 @@ module _ (P : Plan) where
   abbrev pub WritesLeft : List WriteBack → List WriteBack → Needs → Needs → Type 0
   WritesLeft left all old new = AreLeft (write_tiles P left) (write_tiles P all) (length left) (length all) old new
 
-  pub write_less : (all left : List WriteBack) (e : WriteBack) (a b c : Needs) → WritesLeft (e ∷ left) all a b → AddsTiles (write_tiles P (e ∷ [])) 1 b c → WritesLeft left all a c
+  pub write_less : (all left : List WriteBack) (e : WriteBack) (a b c : Needs) → WritesLeft (e ∷ left) all a b
+      → AddsTiles (write_tiles P (e ∷ [])) 1 b c → WritesLeft left all a c
   write_less all left e a b c w add =
-      less_left (write_tiles P (e ∷ left)) (write_tiles P (e ∷ [])) (write_tiles P all) (write_tiles P left) 1 (length left) (length (e ∷ left)) (length all) a b c w add
+      less_left (write_tiles P (e ∷ left)) (write_tiles P (e ∷ [])) (write_tiles P all) (write_tiles P left) 1
+      (length left) (length (e ∷ left)) (length all) a b c w add
       (λ d. omega arith) (omega arith)
 
   pub no_write : (all : List WriteBack) (a b : Needs) → WritesLeft [] all a b → AddsTiles (write_tiles P all) (length all) a b

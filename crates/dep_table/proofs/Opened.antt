@@ -36,7 +36,9 @@ ready_at_opening : (P : Plan) → length (ready_tasks P opening_state) ≡ lengt
 unfolding ready_tasks
 ready_at_opening P = λ i. length (filter (λ t. ready_first P t i) (all_tasks P))
 
-pub opened : (j : TableJob) (words : List ℕ) (ys : List Content) → IsConsistent j.matched → 0 < j.shards → j.shards ≤ 256 → AreOpeningWords j.shards (length (roots j.matched)) words → AreOpeningShards j.matched j.shards ys
+pub opened : (j : TableJob) (words : List ℕ) (ys : List Content) → IsConsistent j.matched → 0 < j.shards
+    → j.shards ≤ 256 → AreOpeningWords j.shards (length (roots j.matched)) words
+    → AreOpeningShards j.matched j.shards ys
     → (j.preloaded ≡ true → HaveOpeningReserve j.matched j.shards ys) → IsOpening j words ys
 opened j words ys consistent least few w shards spares = record {
   consistent = consistent;

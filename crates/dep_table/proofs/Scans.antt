@@ -48,9 +48,12 @@ looked_turn t u v y z w h table shard of stamp me same spares = record {
 }
 
 -- the same turn, lent to a call
-pub relent : (t u : Turn) (v : PassRecord) (y z : Content) → u.table.now ≡ t.table.now → u.shard ≡ t.shard → u.pass.now ≡ t.pass.now → IsTurnOf t v y z → IsTurnOf u v y z
-relent t u v y z table shard pass h = looked_turn t u v y z z h table shard (ap (λ (p : PassView). p.table) pass) (ap (λ (p : PassView). p.stamp) pass) (ap (λ (p : PassView). p.me) pass ∙ (λ i. (t.pass.now.me.0, (h.me i).1)))
-    (record { entries = refl; written = refl; trapped = refl; running = refl; ended = refl; elems = refl }) (record { entries = omega arith; tiles = λ d. omega arith; writes = omega arith; traps = omega arith })
+pub relent : (t u : Turn) (v : PassRecord) (y z : Content) → u.table.now ≡ t.table.now → u.shard ≡ t.shard
+    → u.pass.now ≡ t.pass.now → IsTurnOf t v y z → IsTurnOf u v y z
+relent t u v y z table shard pass h = looked_turn t u v y z z h table shard (ap (λ (p : PassView). p.table) pass)
+    (ap (λ (p : PassView). p.stamp) pass) (ap (λ (p : PassView). p.me) pass ∙ (λ i. (t.pass.now.me.0, (h.me i).1)))
+    (record { entries = refl; written = refl; trapped = refl; running = refl; ended = refl; elems = refl })
+    (record { entries = omega arith; tiles = λ d. omega arith; writes = omega arith; traps = omega arith })
 
 -- no task of the shard is ready
 abbrev pub NoneReady : Turn → Type 0
@@ -61,7 +64,8 @@ pub none_was : (t : Turn) (v : PassRecord) (y z : Content) → IsTurnOf t v y z 
 none_was t v y z h = subst HasNoReady h.same.entries
 
 -- the best task of a shard is one of the shard's
-pub best_at : (t : Turn) (v : PassRecord) (y z : Content) → IsTurnOf t v y z → (x : Task) → IsBest y.entries x → shard_of (job_of t.table.now).matched (job_of t.table.now).shards x ≡ t.shard
+pub best_at : (t : Turn) (v : PassRecord) (y z : Content) → IsTurnOf t v y z → (x : Task) → IsBest y.entries x
+    → shard_of (job_of t.table.now).matched (job_of t.table.now).shards x ≡ t.shard
 best_at t v y z h x best = ((seen_share (job_of t.table.now) t.shard v y h.seen).only x best.entry best.is).1
 
 abbrev shard_in : Content → List (ℕ × Content) → Content
@@ -73,17 +77,30 @@ same_shard : (k : ℕ) (a b : Content) (l : List (ℕ × Content)) → l ≡ (k,
 same_shard k a b l p q = ap (shard_in a) (sym p ∙ q)
 
 -- if the shard had y, a claim of its best task is a claim of the best, and is not refused
-pub best_claimed : (P : Plan) (G : Data) (k : ℕ) (x : Task) (tiles : List FlowTile) (v w : PassRecord) (y : Content) → w.last ≡ (k, y) ∷ [] → IsBest y.entries x → HasClaimed P G k x tiles v w → HasClaimedBest P G k x tiles v w
-best_claimed P G k x tiles v w y last best c = record { claimed = c; best = subst (λ (s : Content). IsBest s.entries x) (same_shard k y c.shard w.last last c.took.last) best }
+pub best_claimed : (P : Plan) (G : Data) (k : ℕ) (x : Task) (tiles : List FlowTile) (v w : PassRecord) (y : Content)
+    → w.last ≡ (k, y) ∷ [] → IsBest y.entries x → HasClaimed P G k x tiles v w → HasClaimedBest P G k x tiles v w
+best_claimed P G k x tiles v w y last best c = record {
+  claimed = c;
+  best = subst (λ (s : Content). IsBest s.entries x)
+      (same_shard k y c.shard w.last last c.took.last) best;
+}
 
 pub best_goes : (k : ℕ) (x : Task) (v w : PassRecord) (y : Content) → w.last ≡ (k, y) ∷ [] → IsBest y.entries x → FoundGone k x v w → ⊥
-best_goes k x v w y last best gone = gone.gone best.entry (ap (λ (s : Content). entry_in s.entries x) (same_shard k gone.shard y w.last gone.took.last last) ∙ best.is) best.ready
+best_goes k x v w y last best gone = gone.gone best.entry (ap (λ (s : Content). entry_in s.entries x)
+    (same_shard k gone.shard y w.last gone.took.last last) ∙ best.is) best.ready
 
 pub none_ready : (k : ℕ) (v w : PassRecord) (y : Content) → w.last ≡ (k, y) ∷ [] → HasNoReady y.entries → OnlyTook k v w → FoundNoReady k v w
-none_ready k v w y last none o = record { shard = o.shard; took = o.took; empty = subst (λ (s : Content). HasNoReady s.entries) (same_shard k y o.shard w.last last o.took.last) none; still = o.still }
+none_ready k v w y last none o = record {
+  shard = o.shard;
+  took = o.took;
+  empty = subst
+      (λ (s : Content). HasNoReady s.entries) (same_shard k y o.shard w.last last o.took.last) none;
+  still = o.still;
+}
 
 -- the same under another name of the table or of the shard
-pub placed_at : (b c : DepTable) → b ≡ c → (k n : ℕ) → k ≡ n → (x : Task) → shard_of (job_of b).matched (job_of b).shards x ≡ k → shard_of (job_of c).matched (job_of c).shards x ≡ n
+pub placed_at : (b c : DepTable) → b ≡ c → (k n : ℕ) → k ≡ n → (x : Task)
+    → shard_of (job_of b).matched (job_of b).shards x ≡ k → shard_of (job_of c).matched (job_of c).shards x ≡ n
 placed_at b c e k n f x h = ap (λ (d : DepTable). shard_of (job_of d).matched (job_of d).shards x) (sym e) ∙ (h ∙ f)
 
 pub none_at : (k n : ℕ) → k ≡ n → (v w : PassRecord) → FoundNoReady k v w → FoundNoReady n v w

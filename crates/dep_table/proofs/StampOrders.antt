@@ -31,7 +31,8 @@ use Rattle.dep_table.specs.StampOrders.{AreInStampOrder, IsClaimOrder, number_of
 use Rattle.work_board.specs.Stamps.{StampedTask}
 
 -- in a list by rising stamps, a stamp below another comes before it
-earlier : (before after : List StampedTask) (x y : StampedTask) → IsNonDecreasingBy number_of (before ++ x ∷ after) → IsIn y (before ++ x ∷ after) → y.1 < x.1 → IsIn y before
+earlier : (before after : List StampedTask) (x y : StampedTask) → IsNonDecreasingBy number_of (before ++ x ∷ after)
+    → IsIn y (before ++ x ∷ after) → y.1 < x.1 → IsIn y before
 earlier [] after x y rise among low = elim among [
   | inl e ↦ absurd (omega (arith, ap number_of e))
   | inr i ↦
@@ -45,7 +46,8 @@ earlier (b ∷ before) after x y rise among low = elim among [
 
 -- the stamps are those of the claims of a sound moment, each with its own
 module _ (P : Plan) (G : Data) (R : Moment) (stamps : List StampedTask) (word : ℕ) (sound : IsSoundState P G R.state) (drawn : AreStamps P R stamps word)
-    (mine : (t : Task) → count (λ (x : StampedTask). same_task t x.0) stamps ≤ claim_count R.state t) (stamped : (t : Task) → IsIn t R.state.claims → (s : ℕ) × IsIn (t, s) stamps) where
+    (mine : (t : Task) → count (λ (x : StampedTask). same_task t x.0) stamps ≤ claim_count R.state t)
+    (stamped : (t : Task) → IsIn t R.state.claims → (s : ℕ) × IsIn (t, s) stamps) where
   -- each claim has one stamp
   one_each : (t : Task) → count (λ (x : StampedTask). same_task t x.0) stamps ≡ claim_count R.state t
   one_each t = dite (ℕ_discrete (claim_count R.state t) 0)
@@ -73,7 +75,12 @@ module _ (P : Plan) (G : Data) (R : Moment) (stamps : List StampedTask) (word : 
     as_often t = omega (arith, count-map (same_task t) (λ (x : StampedTask). x.0) ordered, same (λ (x : StampedTask). as_number (same_task t x.0)), one_each t)
 
     claimed : (x : StampedTask) → IsIn x ordered → IsIn x.0 R.state.claims
-    claimed x i = claim_member R.state x.0 (omega (arith, one_each x.0, count-some (λ (y : StampedTask). same_task x.0 y.0) stamps x (back x i) ((same_task-decides x.0 x.0).1 refl)))
+    claimed x i = claim_member R.state x.0 (omega (
+      arith,
+      one_each x.0,
+      count-some
+          (λ (y : StampedTask). same_task x.0 y.0) stamps x (back x i) ((same_task-decides x.0 x.0).1 refl),
+    ))
 
     may_follow : (before after : List StampedTask) (x : StampedTask) → ordered ≡ before ++ x ∷ after → MayFollow P (keys_of before) x.0
     may_follow before after x is =
@@ -94,15 +101,21 @@ module _ (P : Plan) (G : Data) (R : Moment) (stamps : List StampedTask) (word : 
           after_sources = λ e among.
               let to : e.to ≡ x.0 = in_edge_to P x.0 e among in
               let s = source_stamped x.0 (claimed x here) e among in
-              let low : s.0 < x.1 = drawn.above_sources e s.0 x.1 (subst (λ (t : Task). IsIn e (in_edges P t)) (sym to) among) s.1 (subst (λ (t : Task). IsIn (t, x.1) stamps) (sym to) (back x here)) in
-              IsIn-map (λ (y : StampedTask). y.0) before (e.from, s.0) (earlier before after x (e.from, s.0) (subst (IsNonDecreasingBy number_of) is rise) (subst (IsIn (e.from, s.0)) is (into (e.from, s.0) s.1)) low);
+              let low : s.0 < x.1 = drawn.above_sources e s.0 x.1
+              (subst (λ (t : Task). IsIn e (in_edges P t)) (sym to) among) s.1
+              (subst (λ (t : Task). IsIn (t, x.1) stamps) (sym to) (back x here)) in
+              IsIn-map (λ (y : StampedTask). y.0) before (e.from, s.0)
+              (earlier before after x (e.from, s.0) (subst (IsNonDecreasingBy number_of) is rise)
+              (subst (IsIn (e.from, s.0)) is (into (e.from, s.0) s.1)) low);
         }
 
     legal_after : (before after : List StampedTask) → ordered ≡ before ++ after → IsLegalAfter P (keys_of before) (keys_of after)
     legal_after before [] is = tt
     legal_after before (x ∷ after) is = (
       may_follow before after x is,
-      subst (λ (l : List Task). IsLegalAfter P l (keys_of after)) (map-append (λ (y : StampedTask). y.0) before (x ∷ [])) (legal_after (before ++ x ∷ []) after (is ∙ sym (append_assoc before (x ∷ []) after))),
+      subst (λ (l : List Task). IsLegalAfter P l (keys_of after))
+          (map-append (λ (y : StampedTask). y.0) before (x ∷ []))
+          (legal_after (before ++ x ∷ []) after (is ∙ sym (append_assoc before (x ∷ []) after))),
     )
 
     pub in_order : IsClaimOrder P R.state (keys_of ordered)

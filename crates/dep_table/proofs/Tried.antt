@@ -19,11 +19,15 @@ use Rattle.dep_table.specs.Turns.{IsTurnOf}
 
 -- what is said of the turn's table and shard is true of these
 module _ (b c : DepTable) (e : b ≡ c) (k n : ℕ) (f : k ≡ n) (v w : PassRecord) where
-  pub claimed_at : (x : Task) (tiles : List FlowTile) → HasClaimed (job_of b).matched (job_of b).given k x tiles v w → HasClaimed (job_of c).matched (job_of c).given n x tiles v w
-  claimed_at x tiles h = subst (λ m. HasClaimed (job_of c).matched (job_of c).given m x tiles v w) f (subst (λ d. HasClaimed (job_of d).matched (job_of d).given k x tiles v w) e h)
+  pub claimed_at : (x : Task) (tiles : List FlowTile) → HasClaimed (job_of b).matched (job_of b).given k x tiles v w
+      → HasClaimed (job_of c).matched (job_of c).given n x tiles v w
+  claimed_at x tiles h = subst (λ m. HasClaimed (job_of c).matched (job_of c).given m x tiles v w) f
+      (subst (λ d. HasClaimed (job_of d).matched (job_of d).given k x tiles v w) e h)
 
-  pub best_claimed_at : (x : Task) (tiles : List FlowTile) → HasClaimedBest (job_of b).matched (job_of b).given k x tiles v w → HasClaimedBest (job_of c).matched (job_of c).given n x tiles v w
-  best_claimed_at x tiles h = subst (λ m. HasClaimedBest (job_of c).matched (job_of c).given m x tiles v w) f (subst (λ d. HasClaimedBest (job_of d).matched (job_of d).given k x tiles v w) e h)
+  pub best_claimed_at : (x : Task) (tiles : List FlowTile) → HasClaimedBest (job_of b).matched (job_of b).given k x
+      tiles v w → HasClaimedBest (job_of c).matched (job_of c).given n x tiles v w
+  best_claimed_at x tiles h = subst (λ m. HasClaimedBest (job_of c).matched (job_of c).given m x tiles v w) f
+      (subst (λ d. HasClaimedBest (job_of d).matched (job_of d).given k x tiles v w) e h)
 
   pub sent_at : (i : Item) (tile : Option (List ℤ)) (a : Sent) → HasSent (job_of b).matched k i tile a v w → HasSent (job_of c).matched n i tile a v w
   sent_at i tile a h = subst (λ m. HasSent (job_of c).matched m i tile a v w) f (subst (λ d. HasSent (job_of d).matched k i tile a v w) e h)
@@ -49,7 +53,9 @@ sent_as P k (item.Write x) tile answer.Busy v w h = absurd h.answer
 
 -- what the result of a send says, also if it is out of memory
 module _ (t : Turn) (v : PassRecord) (y z : Content) (h : IsTurnOf t v y z) (b c : DepTable) (e : b ≡ c) (k n : ℕ) (f : k ≡ n) (w : PassRecord) where
-  pub sent_in : {E : Type 0} (i : Item) (tile : Option (List ℤ)) (r : Result Sent E) → IfOk r (λ a. (u : PassRecord) → (x x' : Content) → IsTurnOf t u x x' → HasSent (job_of b).matched k i tile a u w)
+  pub sent_in : {E : Type 0} (i : Item) (tile : Option (List ℤ)) (r : Result Sent E)
+      → IfOk r (λ a. (u : PassRecord) → (x x' : Content) → IsTurnOf t u x x'
+      → HasSent (job_of b).matched k i tile a u w)
       → IfOk r (λ a. SendAnswers (job_of c).matched n i tile a v w)
   sent_in i tile (Ok a) s = sent_as (job_of c).matched n i tile a v w (sent_at b c e k n f v w i tile a (s v y z h))
   sent_in i tile (Err x) s = s

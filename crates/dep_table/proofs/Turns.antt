@@ -15,7 +15,8 @@ use Rattle.dep_table.specs.Turns.{IsTurn, IsTurnOf}
 use Rattle.dep_table.specs.Views.{PassView, shown}
 
 -- a turn has just been taken by the clean pass p, which is i
-pub taken_turn : (t : Turn) (p i : PassView) (y : Content) → IsPassOf (id_of t.table.now) p → i ≡ p → t.pass.now.table ≡ i.table → t.pass.now.stamp ≡ i.stamp → t.shard < (job_of t.table.now).shards
+pub taken_turn : (t : Turn) (p i : PassView) (y : Content) → IsPassOf (id_of t.table.now) p → i ≡ p
+    → t.pass.now.table ≡ i.table → t.pass.now.stamp ≡ i.stamp → t.shard < (job_of t.table.now).shards
     → t.pass.now.me ≡ (with_turn i.me.0 t.shard y, (t.shard, y) ∷ i.me.1) → WasSeen (job_of t.table.now) t.shard i.me.0 y → IsTurnOf t (shown p) y y
 taken_turn t p i y h is of stamp within me seen = record {
   of = of ∙ (ap (λ (q : PassView). q.table) is ∙ h.of);
@@ -42,7 +43,8 @@ pub leaves_turn : (t : Turn) (i : PassView) → IsTurn t → i ≡ t.pass.now �
 leaves_turn t i h is = record { before = h.1; after = h.2; turn = has_turn t h.0 h.1 h.2 i h.3 is; same = h.3.same; spares = h.3.spares }
 
 -- the record of a pass that gave its turn back, and did nothing else
-module _ (t : Turn) (v : PassRecord) (y z : Content) (h : IsTurnOf t v y z) (i q : PassView) (is : i ≡ t.pass.now) (of : q.table ≡ i.table) (stamp : q.stamp ≡ i.stamp) (me : q.me ≡ (turn_left i.me.0, rest i.me.1)) where
+module _ (t : Turn) (v : PassRecord) (y z : Content) (h : IsTurnOf t v y z) (i q : PassView) (is : i ≡ t.pass.now)
+    (of : q.table ≡ i.table) (stamp : q.stamp ≡ i.stamp) (me : q.me ≡ (turn_left i.me.0, rest i.me.1)) where
   left_me : q.me ≡ (turn_left (with_turn v t.shard y), [])
   left_me = me ∙ (λ k. let m = (ap (λ (p : PassView). p.me) is ∙ h.me) k in (turn_left m.0, rest m.1))
 
@@ -51,7 +53,8 @@ module _ (t : Turn) (v : PassRecord) (y z : Content) (h : IsTurnOf t v y z) (i q
     of = of ∙ (ap (λ (p : PassView). p.table) is ∙ h.of);
     clean = record {
       no_shard = ap (λ (m : Seated). m.1) left_me;
-      clean = subst (λ (m : Seated). IsClean m.0) (sym left_me) (record { no_turn = h.clean.no_turn; no_credit = h.clean.no_credit; stamped = h.clean.stamped });
+      clean = subst (λ (m : Seated). IsClean m.0) (sym left_me)
+          (record { no_turn = h.clean.no_turn; no_credit = h.clean.no_credit; stamped = h.clean.stamped });
       one_name = ap (λ (m : Seated). length m.0.names) left_me ∙ h.one_name;
     };
     stamp = λ u runs. let s = h.stamp u (sym (ap (λ (m : Seated). m.0.running) left_me) ∙ runs) in record {
@@ -64,7 +67,11 @@ module _ (t : Turn) (v : PassRecord) (y z : Content) (h : IsTurnOf t v y z) (i q
   only_took = subst (λ (m : Seated). OnlyTook t.shard v m.0) (sym left_me) (record {
     shard = y;
     took = record { look = refl; looks = refl; last = refl };
-    still = record { kept = record { names = refl; turns = refl; quiet = refl; halts = refl; credit = refl }; done = record { claims = refl; stamps = refl; handed = refl; sends = refl }; running = refl };
+    still = record {
+      kept = record { names = refl; turns = refl; quiet = refl; halts = refl; credit = refl };
+      done = record { claims = refl; stamps = refl; handed = refl; sends = refl };
+      running = refl;
+    };
   })
 
   pub left_last : (shown q).last ≡ (t.shard, y) ∷ []

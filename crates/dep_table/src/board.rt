@@ -59,7 +59,7 @@ impl Board for DepTable {
     }
 
     fn shard_of(&self, at: &TaskAt) -> u32 {
-        self.shard_under(at)
+        self.shard_at(at)
     }
 
     fn try_claim(&self, pass: &mut Pass, shard: u32, t: &TaskId) -> Claim {

@@ -11,6 +11,7 @@ ghost use Rattle.dep_table.specs.Views.{shown};
 
 use crate::pass::Pass;
 use crate::table::DepTable;
+use std::marker::Brand;
 
 impl DepTable {
     /// Splits a new pass off a pass. The new one has a new name and has done nothing.
@@ -42,7 +43,7 @@ impl DepTable {
         ensures halted { HaltAnswers result (shown pass.old) (shown pass.new) }
         ensures preloaded { (job_of self.now).preloaded ≡ true → result ≡ false }
     {
-        self.words.read_halt(&mut pass.seat) != 0
+        self.words.read_halt::<Brand>(&mut pass.seat) != 0
     }
 
     /// Whether the live word was 0, at one look: then no task is ready or runs, from that look on.
@@ -52,7 +53,7 @@ impl DepTable {
         ensures quiet { QuietAnswers result (shown pass.old) (shown pass.new) }
         ensures rule { IsTrue result → WasPass (job_of self.now) (shown pass.new) }
     {
-        self.words.read_live(&mut pass.seat) == 0
+        self.words.read_live::<Brand>(&mut pass.seat) == 0
     }
 
     /// The stamp of the task that the pass runs.

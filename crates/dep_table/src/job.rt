@@ -9,7 +9,8 @@ use crate::table::DepTable;
 use coll_data::Given;
 use dep_iter::{Matched, TaskAt};
 use ptg_base::TaskId;
-use shard_calls::{shard_at, shard_under};
+use range_space::Numbers;
+use shard_calls::shard_at;
 
 impl DepTable {
     /// The plan of the job.
@@ -46,15 +47,17 @@ impl DepTable {
         ensures number { result ≡ placement_of (job_of self.now) t.now }
         ensures within { result < (job_of self.now).shards }
     {
-        shard_at(&self.job.matched, self.job.shards as usize, t) as u32
+        let plan = self.job.matched.plan();
+        self.shard_at(&TaskAt::of(plan, t, &mut Numbers::new()))
     }
 
-    // The number of the shard of a task, by its locals.
-    pub(crate) fn shard_under(&self, at: &TaskAt) -> u32
+    // The number of the shard of a task with its locals.
+    pub(crate) fn shard_at(&self, at: &TaskAt) -> u32
         requires { at.now.plan.now ≡ (job_of self.now).matched }
-        ensures { result ≡ placement_of (job_of self.now) at.now.task.now }
+        ensures number { result ≡ placement_of (job_of self.now) at.now.task.now }
+        ensures within { result < (job_of self.now).shards }
     {
-        let shards = self.job.shards as usize;
-        shard_under(&self.job.matched, shards, at.task, at.locals) as u32
+        self.job.matched.plan_is_consistent();
+        shard_at(at, self.job.shards as usize) as u32
     }
 }

@@ -4,16 +4,16 @@ ghost use Rattle.std.specs.Prelude.{◌≡◌, ◌+◌, ◌<◌, ◌==◌, ◌^�
 ghost use Rattle.ptg_base.specs.Lists.{IsIn};
 ghost use Rattle.plan_core.specs.declared.flow.FlowPlan.{FlowPlan as FlowPlanValue};
 ghost use Rattle.dep_iter.specs.Active.{held_targets};
+ghost use Rattle.dep_iter.specs.Consistent.{IsConsistent};
 ghost use Rattle.dep_iter.specs.Edges as edges;
 ghost use Rattle.dep_iter.specs.Items as items;
-ghost use Rattle.dep_iter.specs.Tasks as tasks;
 ghost use Rattle.dep_iter.specs.Tasks.{IsTask};
 ghost use Rattle.list_lemmas.specs.Counting.{as_number};
 ghost use Rattle.dep_table.specs.Needs as needs;
 ghost use Rattle.dep_table.specs.Needs.{AddsTask, AddsTiles, CanCount, IsNoNeed, edge_tiles, flow_tiles, flows_tiles, write_tiles};
 
-use dep_iter::{Matched, flows_of, held_target, write_backs_under};
-use goal_count::goal_under;
+use dep_iter::{TaskAt, held_target};
+use goal_count::goal_of;
 use plan_core::{DepPlan, FlowPlan, Plan, Target};
 use ptg_base::{OutOfMemory, TaskId, WriteBack};
 use shard_calls::flow_at;
@@ -111,16 +111,17 @@ impl Needs {
         self.add_flows(others, env);
     }
 
-    // Adds the tiles of the edges into a task with these locals, without a walk over the edges.
-    fn add_edges(&mut self, m: &Matched, t: &TaskId, env: &[i64])
-        requires task { IsTask m.now t.now }
-        requires locals { env.now ≡ tasks.locals_of m.now t.now }
-        requires types { length self.old.tiles.items ≡ length m.now.elems }
+    // Adds the tiles of the edges into a task of a consistent plan, without a walk over the edges.
+    fn add_edges(&mut self, at: &TaskAt)
+        requires plan { IsConsistent at.now.plan.now }
+        requires types { length self.old.tiles.items ≡ length at.now.plan.now.elems }
         requires room { (d : ℕ)
-            → slice_index self.old.tiles.items d + edge_tiles m.now (edges.in_edges m.now t.now) d < 2 ^ 64 }
-        ensures { AddsTiles (edge_tiles m.now (edges.in_edges m.now t.now)) 0 self.old self.new }
+            → slice_index self.old.tiles.items d
+            + edge_tiles at.now.plan.now (edges.in_edges at.now.plan.now at.now.task.now) d < 2 ^ 64 }
+        ensures { AddsTiles (edge_tiles at.now.plan.now (edges.in_edges at.now.plan.now at.now.task.now)) 0 self.old
+            self.new }
     {
-        self.add_flows(flows_of(m.plan(), t), env);
+        self.add_flows(at.flows(), at.locals);
     }
 
     // Adds the place and the tile of a write-back of a task.
@@ -139,35 +140,33 @@ impl Needs {
         }
     }
 
-    // Adds the places and the tiles of the write-backs of a task with these locals.
-    fn add_writes(&mut self, plan: &Plan, t: &TaskId, env: &[i64])
-        requires task { IsTask plan.now t.now }
-        requires locals { env.now ≡ tasks.locals_of plan.now t.now }
-        requires types { length self.old.tiles.items ≡ length plan.now.elems }
+    // Adds the places and the tiles of the write-backs of a task.
+    fn add_writes(&mut self, at: &TaskAt)
+        requires types { length self.old.tiles.items ≡ length at.now.plan.now.elems }
         requires tiles { (d : ℕ)
-            → slice_index self.old.tiles.items d + write_tiles plan.now (items.write_backs plan.now t.now) d < 2 ^ 64 }
-        requires places { self.old.writes + length (items.write_backs plan.now t.now) < 2 ^ 64 }
-        ensures { AddsTiles (write_tiles plan.now (items.write_backs plan.now t.now))
-            (length (items.write_backs plan.now t.now)) self.old self.new }
+            → slice_index self.old.tiles.items d
+            + write_tiles at.now.plan.now (items.write_backs at.now.plan.now at.now.task.now) d < 2 ^ 64 }
+        requires places { self.old.writes + length (items.write_backs at.now.plan.now at.now.task.now) < 2 ^ 64 }
+        ensures { AddsTiles (write_tiles at.now.plan.now (items.write_backs at.now.plan.now at.now.task.now))
+            (length (items.write_backs at.now.plan.now at.now.task.now)) self.old self.new }
     {
-        for write in write_backs_under(plan, t, env) {
-            self.add_write(plan, t, &write);
+        for write in at.write_backs() {
+            self.add_write(at.plan, at.task, &write);
         }
     }
 
-    // Adds all that a task with these locals needs in its shard.
-    pub(crate) fn add_task(&mut self, m: &Matched, t: &TaskId, env: &[i64])
-        requires task { IsTask m.now t.now }
-        requires locals { env.now ≡ tasks.locals_of m.now t.now }
-        requires types { length self.old.tiles.items ≡ length m.now.elems }
-        requires room { CanCount m.now (t.now ∷ []) self.old }
-        ensures { AddsTask m.now t.now self.old self.new }
+    // Adds all that a task of a consistent plan needs in its shard.
+    pub(crate) fn add_task(&mut self, at: &TaskAt)
+        requires plan { IsConsistent at.now.plan.now }
+        requires types { length self.old.tiles.items ≡ length at.now.plan.now.elems }
+        requires room { CanCount at.now.plan.now (at.now.task.now ∷ []) self.old }
+        ensures { AddsTask at.now.plan.now at.now.task.now self.old self.new }
     {
-        if goal_under(m, t, env) != 0 {
+        if goal_of(at) != 0 {
             add_one(&mut self.entries);
         }
-        self.add_edges(m, t, env);
-        self.add_writes(m.plan(), t, env);
+        self.add_edges(at);
+        self.add_writes(at);
         add_one(&mut self.traps);
     }
 }

@@ -2,7 +2,7 @@
 
 ghost use Rattle.std.specs.Prelude.{◌≡◌, ◌<◌, ◌∷◌, [], Some, IfOk, OnOk, length, slice_get};
 ghost use Rattle.ptg_base.specs.Limits.{IsShardCount};
-ghost use Rattle.dep_iter.specs.Tasks as tasks;
+ghost use Rattle.dep_iter.specs.Consistent.{IsConsistent};
 ghost use Rattle.dep_iter.specs.Tasks.{IsTask, all_tasks};
 ghost use Rattle.dep_shard.specs.Content.{Content};
 ghost use Rattle.shard_meaning.specs.Placing as placing;
@@ -11,10 +11,11 @@ ghost use Rattle.shard_calls.specs.Opened.{AreOpeningShards};
 ghost use Rattle.dep_table.specs.Opened.{HaveOpeningReserve};
 
 use crate::needs::Needs;
-use dep_iter::{Matched, all_tasks, locals_of};
+use dep_iter::{Matched, TaskAt, all_tasks};
 use dep_shard::Shard;
 use ptg_base::{OutOfMemory, TaskId};
-use shard_calls::{opened_shards, shard_under};
+use range_space::Numbers;
+use shard_calls::{opened_shards, shard_at};
 use std::alloc::Global;
 
 // No needs yet, for each of this many shards.
@@ -29,16 +30,15 @@ fn no_needs(alloc: Global, m: &Matched, shards: u32) -> Result<Vec<Needs>, OutOf
     Ok(needs)
 }
 
-// Adds what a task with these locals needs to the needs of the shard k.
-fn need_at(needs: &mut Vec<Needs>, k: usize, m: &Matched, t: &TaskId, env: &[i64])
-    requires task { IsTask m.now t.now }
-    requires locals { env.now ≡ tasks.locals_of m.now t.now }
+// Adds what a task of a consistent plan needs to the needs of the shard k.
+fn need_at(needs: &mut Vec<Needs>, k: usize, at: &TaskAt)
+    requires plan { IsConsistent at.now.plan.now }
     requires within { k < length needs.old.items }
-    requires types { HaveTypes (length m.now.elems) needs.old.items }
-    requires room { CanCountEach m.now (t.now ∷ []) needs.old.items }
-    ensures { AddsTaskAt m.now t.now k needs.old.items needs.new.items }
+    requires types { HaveTypes (length at.now.plan.now.elems) needs.old.items }
+    requires room { CanCountEach at.now.plan.now (at.now.task.now ∷ []) needs.old.items }
+    ensures { AddsTaskAt at.now.plan.now at.now.task.now k needs.old.items needs.new.items }
 {
-    needs[k].add_task(m, t, env);
+    needs[k].add_task(at);
 }
 
 // Adds what a task needs to the needs of its shard.
@@ -49,9 +49,10 @@ fn need_task(needs: &mut Vec<Needs>, m: &Matched, t: &TaskId)
     requires room { CanCountEach m.now (t.now ∷ []) needs.old.items }
     ensures { AddsNeeds m.now (placing.shard_of m.now (length needs.old.items)) t.now needs.old.items needs.new.items }
 {
-    let env = locals_of(m.plan(), t);
-    let k = shard_under(m, needs.len(), t, env.as_slice());
-    need_at(needs, k, m, t, env.as_slice());
+    let mut room = Numbers::new();
+    let at = TaskAt::of(m.plan(), t, &mut room);
+    let k = shard_at(&at, needs.len());
+    need_at(needs, k, &at);
 }
 
 // What each of this many shards needs for all tasks.

@@ -15,6 +15,7 @@ ghost use Rattle.table_rule.specs.Rule.{placement_of};
 use crate::delivery::take_item;
 use crate::turn::Turn;
 use ptg_base::{Item, OutOfMemory, Tile};
+use std::marker::Brand;
 use work_board::Sent;
 
 impl<'a> Turn<'a> {
@@ -44,7 +45,9 @@ impl<'a> Turn<'a> {
         match take_item(held, &table.job.matched, item, tile) {
             Ok(answer) => {
                 table.raise_for(&mut pass.seat, answer);
-                table.words.give_send(&mut pass.seat, shard, item, tile);
+                table
+                    .words
+                    .give_send::<Brand>(&mut pass.seat, shard, item, tile);
                 Ok(answer)
             }
             Err(OutOfMemory) => {

@@ -18,6 +18,7 @@ use crate::shard_steps::{end_task, take_ready};
 use crate::table::DepTable;
 use dep_shard::Arrivals;
 use ptg_base::{OutOfMemory, TaskId};
+use std::marker::Brand;
 use term_core::Trap;
 
 /// The turn of a shard, with the pass that took it. It has no `Drop`, so one of the calls that consume it must give the
@@ -45,7 +46,7 @@ impl DepTable {
         ensures busy { IfErr result (λ b.
             IsPassOf (id_of self.now) b.pass.now × FoundBusy (word.Turn shard) (shown pass.old) (shown b.pass.now)) }
     {
-        let found = self.words.take(&mut pass.seat, shard);
+        let found = self.words.take::<Brand>(&mut pass.seat, shard);
         if found != 0 {
             return Err(Busy { pass });
         }
@@ -93,8 +94,10 @@ impl<'a> Turn<'a> {
         let held = pass.seat.shard_mut(&table.words, shard);
         match take_ready(held, t) {
             Some(tiles) => {
-                table.words.give_claim(&mut pass.seat, shard, t, &tiles);
-                pass.stamp = table.words.draw_stamp(&mut pass.seat, t);
+                table
+                    .words
+                    .give_claim::<Brand>(&mut pass.seat, shard, t, &tiles);
+                pass.stamp = table.words.draw_stamp::<Brand>(&mut pass.seat, t);
                 Some(tiles)
             }
             None => {

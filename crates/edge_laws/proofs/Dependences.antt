@@ -74,7 +74,9 @@ none_reached first_only env d reached = by reached.before reached.listed where
 reached_first : (first_only : Bool) (env : List ℤ) (d : DepPlan) (ds : List DepPlan) → IsReachedIn first_only env (d ∷ ds) d
 reached_first first_only env d ds = record { before = []; after = ds; listed = refl; none_before = λ e b among. absurd among }
 
-reached_later : (first_only : Bool) (env : List ℤ) (d e : DepPlan) (ds : List DepPlan) → (first_only ≡ true → held_target d env ≡ None) → IsReachedIn first_only env ds e → IsReachedIn first_only env (d ∷ ds) e
+reached_later : (first_only : Bool) (env : List ℤ) (d e : DepPlan) (ds : List DepPlan)
+    → (first_only ≡ true → held_target d env ≡ None) → IsReachedIn first_only env ds e
+    → IsReachedIn first_only env (d ∷ ds) e
 reached_later first_only env d e ds none reached = record {
   before = d ∷ reached.before;
   after = reached.after;
@@ -86,9 +88,13 @@ reached_later first_only env d e ds none reached = record {
 }
 
 -- a reached dependence is the first, or is reached in the list after it
-reached_cases : (first_only : Bool) (env : List ℤ) (d e : DepPlan) (ds : List DepPlan) → IsReachedIn first_only env (d ∷ ds) e → (e ≡ d) ⊎ (IsReachedIn first_only env ds e × (first_only ≡ true → held_target d env ≡ None))
+reached_cases : (first_only : Bool) (env : List ℤ) (d e : DepPlan) (ds : List DepPlan)
+    → IsReachedIn first_only env (d ∷ ds) e → (e ≡ d) ⊎ (IsReachedIn first_only env ds e
+    × (first_only ≡ true → held_target d env ≡ None))
 reached_cases first_only env d e ds reached = by reached.before reached.listed reached.none_before where
-  by : (before : List DepPlan) → d ∷ ds ≡ before ++ e ∷ reached.after → (first_only ≡ true → (b : DepPlan) → IsIn b before → held_target b env ≡ None) → (e ≡ d) ⊎ (IsReachedIn first_only env ds e × (first_only ≡ true → held_target d env ≡ None))
+  by : (before : List DepPlan) → d ∷ ds ≡ before ++ e ∷ reached.after
+      → (first_only ≡ true → (b : DepPlan) → IsIn b before → held_target b env ≡ None)
+      → (e ≡ d) ⊎ (IsReachedIn first_only env ds e × (first_only ≡ true → held_target d env ≡ None))
   by [] listed none = let same : e ≡ d = cc in inl same
   by (b ∷ bs) listed none =
       let same : d ≡ b = cc in
@@ -107,11 +113,14 @@ module _ (env : List ℤ) where
   held : (d : DepPlan) (o : Option Target) → active_target d env ≡ Ok o → held_target d env ≡ o
   held d o at = ap (λ r. result_unwrap_or r None) at
 
-  targets_then : (first_only : Bool) (d : DepPlan) (ds : List DepPlan) (o : Option Target) → active_target d env ≡ Ok o → held_targets first_only (d ∷ ds) env ≡ held_then first_only o (held_targets first_only ds env)
+  targets_then : (first_only : Bool) (d : DepPlan) (ds : List DepPlan) (o : Option Target) → active_target d env ≡ Ok o
+      → held_targets first_only (d ∷ ds) env ≡ held_then first_only o (held_targets first_only ds env)
   targets_then first_only d ds o at = ap (λ h. held_then first_only h (held_targets first_only ds env)) (held d o at)
 
   -- if the walk finds the list well, the list has its values
-  after_one : (first_only : Bool) (d : DepPlan) (ds : List DepPlan) (r : Result (Option Target) ExprFault) → active_target d env ≡ r → (are_well first_only env ds ≡ true → HaveValues first_only env ds) → is_well_then first_only env r (are_well first_only env ds) ≡ true → HaveValues first_only env (d ∷ ds)
+  after_one : (first_only : Bool) (d : DepPlan) (ds : List DepPlan) (r : Result (Option Target) ExprFault)
+      → active_target d env ≡ r → (are_well first_only env ds ≡ true → HaveValues first_only env ds)
+      → is_well_then first_only env r (are_well first_only env ds) ≡ true → HaveValues first_only env (d ∷ ds)
   after_one first_only d ds (Err f) at later e = absurd cc
   after_one first_only d ds (Ok None) at later e =
       let have = later e in
@@ -150,7 +159,9 @@ module _ (env : List ℤ) where
   well_have first_only (d ∷ ds) e = after_one first_only d ds (active_target d env) refl (well_have first_only ds) e
 
   -- if the list has its values, the walk finds it well
-  before_one : (first_only : Bool) (d : DepPlan) (ds : List DepPlan) (r : Result (Option Target) ExprFault) → active_target d env ≡ r → IsOk r → (HaveValues first_only env ds → are_well first_only env ds ≡ true) → HaveValues first_only env (d ∷ ds) → is_well_then first_only env r (are_well first_only env ds) ≡ true
+  before_one : (first_only : Bool) (d : DepPlan) (ds : List DepPlan) (r : Result (Option Target) ExprFault)
+      → active_target d env ≡ r → IsOk r → (HaveValues first_only env ds → are_well first_only env ds ≡ true)
+      → HaveValues first_only env (d ∷ ds) → is_well_then first_only env r (are_well first_only env ds) ≡ true
   before_one first_only d ds (Err f) at ok later have = absurd cc
   before_one first_only d ds (Ok None) at ok later have =
       later (record {
@@ -173,7 +184,11 @@ module _ (env : List ℤ) where
       before_one first_only d ds (active_target d env) refl (target_of env d (have.guards d (reached_first first_only env d ds))) (have_well first_only ds) have
 
   -- the active targets are those of what is reached and holds
-  active_one : (first_only : Bool) (d : DepPlan) (ds : List DepPlan) (x : Target) (o : Option Target) → held_target d env ≡ o → (IsIn x (held_targets first_only ds env) → (e : DepPlan) × IsReachedIn first_only env ds e × (held_target e env ≡ Some x)) → IsIn x (held_then first_only o (held_targets first_only ds env)) → (e : DepPlan) × IsReachedIn first_only env (d ∷ ds) e × (held_target e env ≡ Some x)
+  active_one : (first_only : Bool) (d : DepPlan) (ds : List DepPlan) (x : Target) (o : Option Target)
+      → held_target d env ≡ o → (IsIn x (held_targets first_only ds env)
+      → (e : DepPlan) × IsReachedIn first_only env ds e × (held_target e env ≡ Some x))
+      → IsIn x (held_then first_only o (held_targets first_only ds env))
+      → (e : DepPlan) × IsReachedIn first_only env (d ∷ ds) e × (held_target e env ≡ Some x)
   active_one first_only d ds x None at later among = let p = later among in (p.0, reached_later first_only env d p.0 ds (λ f. at) p.1, p.2)
   active_one true d ds x (Some y) at later among = elim among [
     | inl same ↦ (d, reached_first true env d ds, at ∙ ap Some (sym same))
@@ -184,7 +199,8 @@ module _ (env : List ℤ) where
     | inr there ↦ let p = later there in (p.0, reached_later false env d p.0 ds (λ f. absurd cc) p.1, p.2)
   ]
 
-  pub active_reached : (first_only : Bool) (ds : List DepPlan) (x : Target) → IsIn x (held_targets first_only ds env) → (d : DepPlan) × IsReachedIn first_only env ds d × (held_target d env ≡ Some x)
+  pub active_reached : (first_only : Bool) (ds : List DepPlan) (x : Target) → IsIn x (held_targets first_only ds env)
+      → (d : DepPlan) × IsReachedIn first_only env ds d × (held_target d env ≡ Some x)
   active_reached first_only [] x among = absurd among
   active_reached first_only (d ∷ ds) x among = active_one first_only d ds x (held_target d env) refl (active_reached first_only ds x) among
 
@@ -192,12 +208,15 @@ module _ (env : List ℤ) where
   here_active true d ds x at = subst (λ o. IsIn x (held_then true o (held_targets true ds env))) (sym at) (inl refl)
   here_active false d ds x at = subst (λ o. IsIn x (held_then false o (held_targets false ds env))) (sym at) (inl refl)
 
-  later_active : (first_only : Bool) (d : DepPlan) (ds : List DepPlan) (x : Target) (o : Option Target) → held_target d env ≡ o → (first_only ≡ true → held_target d env ≡ None) → IsIn x (held_targets first_only ds env) → IsIn x (held_then first_only o (held_targets first_only ds env))
+  later_active : (first_only : Bool) (d : DepPlan) (ds : List DepPlan) (x : Target) (o : Option Target)
+      → held_target d env ≡ o → (first_only ≡ true → held_target d env ≡ None) → IsIn x (held_targets first_only ds env)
+      → IsIn x (held_then first_only o (held_targets first_only ds env))
   later_active first_only d ds x None at none among = among
   later_active true d ds x (Some y) at none among = absurd (not_some (held_target d env) y at (none refl))
   later_active false d ds x (Some y) at none among = inr among
 
-  pub reached_active : (first_only : Bool) (ds : List DepPlan) (x : Target) (e : DepPlan) → IsReachedIn first_only env ds e → held_target e env ≡ Some x → IsIn x (held_targets first_only ds env)
+  pub reached_active : (first_only : Bool) (ds : List DepPlan) (x : Target) (e : DepPlan)
+      → IsReachedIn first_only env ds e → held_target e env ≡ Some x → IsIn x (held_targets first_only ds env)
   reached_active first_only [] x e reached at = absurd (none_reached first_only env e reached)
   reached_active first_only (d ∷ ds) x e reached at = elim (reached_cases first_only env d e ds reached) [
     | inl same ↦ here_active first_only d ds x (subst (λ z. held_target z env ≡ Some x) same at)

@@ -1,5 +1,7 @@
 -- Each plan is consistent or has a first fault: each check passes or does not.
-use Rattle.std.proofs.Common.{◌≡◌, ℕ, ◌+◌, ◌<◌, ◌≤◌, ℤ, pos, List, [], ◌∷◌, length, refl, ap, subst, Option, Some, None, slice_get, ◌⊎◌, inl, inr, arith, ◌↔◌, ◌≤ℤ◌, ◌<ℤ◌, Bool, true, false, nat_eq, int_eq, IsTrue, IsSomeAnd}
+use Rattle.std.proofs.Common.{◌≡◌, ℕ, ◌+◌, ◌<◌, ◌≤◌, ℤ, pos, List, [], ◌∷◌, length, refl, ap, subst, Option, Some, None}
+use Rattle.std.proofs.Common.{slice_get, ◌⊎◌, inl, inr, arith, ◌↔◌, ◌≤ℤ◌, ◌<ℤ◌, Bool, true, false, nat_eq, int_eq}
+use Rattle.std.proofs.Common.{IsTrue, IsSomeAnd}
 use Rattle.std.proofs.lemmas.Bool.{cases_lt, false≢true}
 use Rattle.ptg_base.specs.Task.{Task}
 use Rattle.ptg_base.specs.TaskComparing.{same_task}
@@ -107,7 +109,8 @@ same_or_other_edge a b = by_test (same_edge a b) (same_edge-decides a b)
 
 same_or_other_place : (a b : Place) → IsDecided (a ≡ b)
 same_or_other_place a b =
-    decided_like (λ p k. record { coll = p.0 k; i = p.1.0 k; j = p.1.1 k }) (λ e. (ap (λ (p : Place). p.coll) e, (ap (λ (p : Place). p.i) e, ap (λ (p : Place). p.j) e)))
+    decided_like (λ p k. record { coll = p.0 k; i = p.1.0 k; j = p.1.1 k })
+    (λ e. (ap (λ (p : Place). p.coll) e, (ap (λ (p : Place). p.i) e, ap (λ (p : Place). p.j) e)))
     (decided_both (same_number a.coll b.coll) (decided_both (same_integer a.i b.i) (same_integer a.j b.j)))
 
 decided_row : (rows : ℕ) (i : ℤ) → IsDecided (IsRow rows i)
@@ -119,7 +122,8 @@ decided_column (Some cols) j = decided_both (decided_at_most (pos 0) j) (decided
 
 decided_place : (colls : List Shape) (p : Place) → IsDecided (HasPlace colls p)
 decided_place colls p =
-    decided_some (λ shape. IsRow shape.rows p.i × IsColumn shape.cols p.j) (λ shape. decided_both (decided_row shape.rows p.i) (decided_column shape.cols p.j)) (slice_get colls p.coll)
+    decided_some (λ shape. IsRow shape.rows p.i × IsColumn shape.cols p.j)
+    (λ shape. decided_both (decided_row shape.rows p.i) (decided_column shape.cols p.j)) (slice_get colls p.coll)
 
 decided_task : (P : Plan) (t : Task) → IsDecided (IsTask P t)
 decided_task P t = decided_like (listed P t).1 (listed P t).0 (decided_in same_or_other_task t (all_tasks P))
@@ -191,10 +195,26 @@ pass_or_failure P b (m ∷ ms) = elim (decided_check P b m.check) [
 
 -- a visit that does not stop the walk
 task_walked : (t p c : ℕ) → t < 1000000 → p ≤ 16000000 → IsWalked t p (t + 1) p (walk.Task c ∷ [])
-task_walked t p c h k = record { unstopped = record { all_have_values = tt; tasks_at_most = omega arith; prefixes_at_most = omega arith }; all_tasks = omega arith; all_prefixes = omega arith }
+task_walked t p c h k = record {
+  unstopped = record {
+    all_have_values = tt;
+    tasks_at_most = omega arith;
+    prefixes_at_most = omega arith;
+  };
+  all_tasks = omega arith;
+  all_prefixes = omega arith;
+}
 
 prefix_walked : (t p c : ℕ) → t ≤ 1000000 → p < 16000000 → IsWalked t p t (p + 1) (Prefix c ∷ [])
-prefix_walked t p c h k = record { unstopped = record { all_have_values = tt; tasks_at_most = omega arith; prefixes_at_most = omega arith }; all_tasks = omega arith; all_prefixes = omega arith }
+prefix_walked t p c h k = record {
+  unstopped = record {
+    all_have_values = tt;
+    tasks_at_most = omega arith;
+    prefixes_at_most = omega arith;
+  };
+  all_tasks = omega arith;
+  all_prefixes = omega arith;
+}
 
 -- nothing stops the walk, or it has a first fault
 unstopped_or_fault : (t p : ℕ) (vs : List Visit) → t ≤ 1000000 → p ≤ 16000000 → walk.IsUnstopped t p vs ⊎ ((f : SpaceFault) × walk.IsFirstFault t p vs f)
@@ -209,7 +229,11 @@ unstopped_or_fault t p (walk.Task c ∷ vs) h k = elim (cases_lt t 1000000) [
         inl (record { all_have_values = u.all_have_values; tasks_at_most = omega arith; prefixes_at_most = omega arith })
     | inr w ↦ inr (w.0, fault_after t p (t + 1) p (walk.Task c ∷ []) vs w.0 (task_walked t p c l k) w.1)
   ]
-  | inr l ↦ inr (TooManyTasks c, fault_before t p (walk.Task c ∷ []) vs (TooManyTasks c) (stops_at_once t p (walk.Task c) (TooManyTasks c) h k (omega arith, refl)))
+  | inr l ↦ inr (
+    TooManyTasks c,
+    fault_before t p (walk.Task c ∷ []) vs (TooManyTasks c)
+        (stops_at_once t p (walk.Task c) (TooManyTasks c) h k (omega arith, refl)),
+  )
 ]
 unstopped_or_fault t p (Prefix c ∷ vs) h k = elim (cases_lt p 16000000) [
   | inl l ↦ elim (unstopped_or_fault t (p + 1) vs h (omega arith)) [

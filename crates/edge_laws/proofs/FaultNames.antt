@@ -1,5 +1,6 @@
 -- What the first fault of a plan names.
-use Rattle.std.proofs.Common.{◌≡◌, ℕ, suc, ◌+◌, ◌<◌, ℤ, List, [], ◌∷◌, ◌++◌, length, length-append, refl, ap, sym, ◌∙◌, subst, Option, Some, slice_get, inl, inr, Result, Ok, Err, arith}
+use Rattle.std.proofs.Common.{◌≡◌, ℕ, suc, ◌+◌, ◌<◌, ℤ, List, [], ◌∷◌, ◌++◌, length, length-append, refl, ap, sym, ◌∙◌}
+use Rattle.std.proofs.Common.{subst, Option, Some, slice_get, inl, inr, Result, Ok, Err, arith}
 use Rattle.std.proofs.lemmas.Option.{slice_get_within}
 use Rattle.std.specs.Option.{option_map_or}
 use Rattle.ptg_base.specs.Lists.{IsIn}
@@ -28,8 +29,11 @@ IsVisitOf class n (walk.Task c) = c ≡ class
 IsVisitOf class n (NoValue c vs) = (c ≡ class) × (length vs < n)
 
 module _ (class n : ℕ) where
-  visit_under : (ds : List Def) (outer : List ℤ) → ((b : List ℤ) → length b ≡ suc (length outer) → (v : Visit) → IsIn v (walk.walk class ds b) → IsVisitOf class n v) → length outer < n
-      → (r : Result (List ℤ) SpanFault) (v : Visit) → IsIn v (visits (λ z. Prefix class ∷ walk.walk class ds (outer ++ z ∷ [])) (NoValue class outer) r) → IsVisitOf class n v
+  visit_under : (ds : List Def) (outer : List ℤ) → ((b : List ℤ) → length b ≡ suc (length outer) → (v : Visit)
+      → IsIn v (walk.walk class ds b) → IsVisitOf class n v) → length outer < n
+      → (r : Result (List ℤ) SpanFault) (v : Visit) → IsIn v
+      (visits (λ z. Prefix class ∷ walk.walk class ds (outer ++ z ∷ [])) (NoValue class outer) r)
+      → IsVisitOf class n v
   visit_under ds outer nested h (Ok vs) v w =
       let p = from_flat_map (λ z. Prefix class ∷ walk.walk class ds (outer ++ z ∷ [])) vs v w in
       elim p.2 [
@@ -52,7 +56,13 @@ pub record OfClass (class : ℕ) (ss : List ClassSpace) (v : Visit) : Type 0 whe
 of_class : (class : ℕ) (ss : List ClassSpace) (v : Visit) → IsIn v (walk_all class ss) → OfClass class ss v
 of_class class [] v w = absurd w
 of_class class (s ∷ ss) v w = elim (from_append v (walk.walk class s.defs []) (walk_all (suc class) ss) w) [
-  | inl k ↦ let e : class ≡ class + 0 = omega arith in record { number = 0; space = s; here = refl; fact = subst (λ m. IsVisitOf m (length s.defs) v) e (visit_of class (length s.defs) s.defs [] (omega arith) v k) }
+  | inl k ↦ let e : class ≡ class + 0 = omega arith in record {
+    number = 0;
+    space = s;
+    here = refl;
+    fact = subst (λ m. IsVisitOf m (length s.defs) v) e
+        (visit_of class (length s.defs) s.defs [] (omega arith) v k);
+  }
   | inr k ↦
       let p = of_class (suc class) ss v k in
       let e : suc class + p.number ≡ class + suc p.number = omega arith in
@@ -72,7 +82,8 @@ stopped_values class n t p (NoValue c ws) k vs h s = let e : ws ≡ vs = cc in s
 visit_at : (ss : List ClassSpace) (f : SpaceFault) (w : walk.IsFirstFault 0 0 (walk_all 0 ss) f) → OfClass 0 ss w.visit
 visit_at ss f w = of_class 0 ss w.visit (subst (IsIn w.visit) (sym w.split) (IsIn-append_right w.visit w.before (w.visit ∷ w.rest) (inl refl)))
 
-pub outer_fewer : (ss : List ClassSpace) (k : ℕ) (vs : List ℤ) (s : ClassSpace) → walk.IsFirstFault 0 0 (walk_all 0 ss) (BadExpr k vs) → slice_get ss k ≡ Some s → length vs < length s.defs
+pub outer_fewer : (ss : List ClassSpace) (k : ℕ) (vs : List ℤ) (s : ClassSpace)
+    → walk.IsFirstFault 0 0 (walk_all 0 ss) (BadExpr k vs) → slice_get ss k ≡ Some s → length vs < length s.defs
 outer_fewer ss k vs s w h =
     let p = visit_at ss (BadExpr k vs) w in
     let e : k ≡ p.number = let c = stopped_class (0 + p.number) (length p.space.defs) _ _ w.visit (BadExpr k vs) p.fact w.stops in omega arith in
@@ -97,7 +108,8 @@ no_flow : (f : SpaceFault) (n : ℕ) → (space_fault f).flow ≡ Some n → ⊥
 no_flow (BadExpr c vs) n h = cc
 no_flow (TooManyTasks c) n h = cc
 
-pub flow_exists : (P : Plan) (f : MatchFault) (c : ClassPlan) (n : ℕ) → IsFirstFault P f → slice_get P.classes f.class ≡ Some c → f.flow ≡ Some n → n < length c.flows
+pub flow_exists : (P : Plan) (f : MatchFault) (c : ClassPlan) (n : ℕ) → IsFirstFault P f
+    → slice_get P.classes f.class ≡ Some c → f.flow ≡ Some n → n < length c.flows
 flow_exists P f c n (inl a) h e = absurd (no_flow a.0 n (sym (ap (λ (z : MatchFault). z.flow) a.2) ∙ e))
 flow_exists P f c n (inr w) h e =
     subst (λ (o : Option ClassPlan). n < length (option_map_or (λ (z : ClassPlan). z.flows) o [])) h ((names_task P f w).1 n e)

@@ -1,5 +1,6 @@
 -- Each mark is at a task of the job, and names a flow of that task, if it names one.
-use Rattle.std.proofs.Common.{◌≡◌, ℕ, suc, ◌+◌, ◌<◌, ℤ, Bool, true, false, List, [], ◌∷◌, ◌++◌, length, sym, subst, Option, Some, None, slice_get, if◌then◌else◌, ◌⊎◌, inl, inr, arith}
+use Rattle.std.proofs.Common.{◌≡◌, ℕ, suc, ◌+◌, ◌<◌, ℤ, Bool, true, false, List, [], ◌∷◌, ◌++◌, length, sym, subst}
+use Rattle.std.proofs.Common.{Option, Some, None, slice_get, if◌then◌else◌, ◌⊎◌, inl, inr, arith}
 use Rattle.std.proofs.lemmas.Option.{slice_get_within}
 use Rattle.std.specs.List.{AllByRecursion}
 use Rattle.std.specs.Option.{option_and_then, option_map, option_map_or, unwrap_or}
@@ -47,7 +48,8 @@ module _ (P : Plan) (t : Task) (of_job : IsTask P t) (n : ℕ) (below : n < leng
   named_write Connecting s w = (at_flow, (at_flow, (at_flow, (at_flow, tt))))
   named_write Matching s w = tt
 
-  named_items : (phase : Phase) (d : Direction) (s : Source) (earlier : List Edge) (is : List Item) → AllByRecursion (IsNamed P) (item_marks d earlier is phase s t n)
+  named_items : (phase : Phase) (d : Direction) (s : Source) (earlier : List Edge) (is : List Item)
+      → AllByRecursion (IsNamed P) (item_marks d earlier is phase s t n)
   named_items phase d s earlier [] = tt
   named_items phase d s earlier (item.Edge e ∷ is) = join (IsNamed P) _ _ (named_edge phase d s earlier e) (named_items phase d s (earlier ++ e ∷ []) is)
   named_items phase d s earlier (item.Write w ∷ is) = join (IsNamed P) _ _ (named_write phase s w) (named_items phase d s earlier is)
@@ -72,7 +74,9 @@ ill_flow_in true None k h = h
 ill_flow_in true (Some i) k h = h
 ill_flow_in false o k h = cc
 
-ill_in_class : (env : List ℤ) (o : Option ClassPlan) (k : ℕ) → unwrap_or (option_and_then (ill_part_of env) o) None ≡ Some k → k < length (option_map_or (λ (c : ClassPlan). c.flows) o [])
+ill_in_class : (env : List ℤ) (o : Option ClassPlan) (k : ℕ)
+    → unwrap_or (option_and_then (ill_part_of env) o) None ≡ Some k
+    → k < length (option_map_or (λ (c : ClassPlan). c.flows) o [])
 ill_in_class env None k h = cc
 ill_in_class env (Some c) k h = let b = first_ill env 0 c.flows k (ill_flow_in (has_hints env c) (first_ill_flow env 0 c.flows) k h) in omega arith
 
@@ -85,7 +89,12 @@ named_task P Connecting t h = ((h, ill_is_flow P t), ((h, λ k q. cc), tt))
 named_task P Matching t h = tt
 
 named_phase : (P : Plan) (phase : Phase) → AllByRecursion (IsNamed P) (phase_marks phase P)
-named_phase P phase = (of_phase (IsNamed P) phase P).1 (λ t h. record { start = named_task P phase t h; flows = λ n f here. named_flow P t h n (slice_get_within (flows_of P t) n f here) phase f })
+named_phase P phase = (of_phase (IsNamed P) phase P).1 (λ t h.
+    record {
+      start = named_task P phase t h;
+      flows = λ n f here. named_flow P t h n
+          (slice_get_within (flows_of P t) n f here) phase f;
+    })
 
 -- a fault names a task of the job and, if any flow, one of that task
 abbrev pub NamesTask : Plan → MatchFault → Type 0

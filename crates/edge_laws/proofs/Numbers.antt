@@ -1,5 +1,6 @@
 -- If each number in the definitions of a class has 64 bits, so do its parameters.
-use Rattle.std.proofs.Common.{◌≡◌, ℕ, zero, suc, ◌<◌, ℤ, pos, negsuc, Bool, true, false, cond, ◌&&◌, List, [], ◌∷◌, ◌++◌, refl, ap, sym, ◌∙◌, subst, arith, get_or, unsigned_abs, inl, inr}
+use Rattle.std.proofs.Common.{◌≡◌, ℕ, zero, suc, ◌<◌, ℤ, pos, negsuc, Bool, true, false, cond, ◌&&◌, List, [], ◌∷◌}
+use Rattle.std.proofs.Common.{◌++◌, refl, ap, sym, ◌∙◌, subst, arith, get_or, unsigned_abs, inl, inr}
 use Rattle.std.proofs.lemmas.Int.{ints, rem_below}
 use Rattle.std.proofs.lemmas.Bool.{and_from, and_parts, lt-ltb, ltb-true}
 use Rattle.std.specs.Prelude.{int_div, int_rem, int_lt, int_le, neg_ℤ, not, ◌||◌, ◌+ℤ◌, ◌-ℤ◌, ◌*ℤ◌, Option, Some, None, Result, Ok, Err}
@@ -235,10 +236,14 @@ module _ (env : List ℤ) (fit : list_all is_number env ≡ true) where
       let parts = and_parts (has_numbers r.lo) (has_numbers r.hi && option_map_or has_numbers r.step true) h in
       let more = and_parts (has_numbers r.hi) (option_map_or has_numbers r.step true) parts.1 in
       let b = then_parts (bounds r env) (λ b. Ok (values b.lo b.hi b.step)) vs e in
-      let lo = then_parts (number r.lo env) (λ lo. and_then (number r.hi env) (λ hi. and_then (step_number r.step env) (λ step. Ok (record { lo = lo; hi = hi; step = step })))) b.0 b.1 in
+      let lo = then_parts (number r.lo env) (λ lo. and_then (number r.hi env)
+      (λ hi. and_then (step_number r.step env) (λ step. Ok (record { lo = lo; hi = hi; step = step })))) b.0 b.1 in
       let hi = then_parts (number r.hi env) (λ hi. and_then (step_number r.step env) (λ step. Ok (record { lo = lo.0; hi = hi; step = step }))) b.0 lo.2 in
       let step = then_parts (step_number r.step env) (λ step. Ok (record { lo = lo.0; hi = hi.0; step = step })) b.0 hi.2 in
-      let way = values_way lo.0 hi.0 step.0 v (subst (IsIn v) (sym (done_is {E = SpanFault} (values b.0.lo b.0.hi b.0.step) vs b.2) ∙ ap (λ (b : Bounds). values b.lo b.hi b.step) (sym (done_is {E = SpanFault} (record { lo = lo.0; hi = hi.0; step = step.0 }) b.0 step.2))) i) in
+      let way = values_way lo.0 hi.0 step.0 v (subst (IsIn v)
+      (sym (done_is {E = SpanFault} (values b.0.lo b.0.hi b.0.step) vs b.2)
+      ∙ ap (λ (b : Bounds). values b.lo b.hi b.step) (sym
+      (done_is {E = SpanFault} (record { lo = lo.0; hi = hi.0; step = step.0 }) b.0 step.2))) i) in
       between_numbers lo.0 hi.0 step.0 v way.before_end way.after_start
       (value_number env fit r.lo lo.0 parts.0 (span_value r.lo env lo.0 lo.1))
       (value_number env fit r.hi hi.0 more.0 (span_value r.hi env hi.0 hi.1))

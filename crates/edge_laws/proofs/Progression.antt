@@ -18,7 +18,8 @@ module _ (hi step : ℤ) where
   nowhere zero = refl
   nowhere (suc index) = refl
 
-  pub value_at : (index : ℕ) (v : ℤ) → slice_get (values v hi step) index ≡ (if is_within hi step (steps_from v step index) then Some (steps_from v step index) else None)
+  pub value_at : (index : ℕ) (v : ℤ) → slice_get (values v hi step) index
+      ≡ (if is_within hi step (steps_from v step index) then Some (steps_from v step index) else None)
   value_at zero v =
       by_test (is_within hi step v)
       (λ h. rw (values_in hi step v h) (rw h refl))

@@ -42,8 +42,16 @@ module _ (env : List ℤ) (f : FlowPlan) where
   valued_flow : FlowHasValues env f → is_well_flow env f ≡ true
   valued_flow have =
       and_from (are_well (is_data (Some f.kind)) env f.ins) (are_well false env f.outs)
-      (have_well env (is_data (Some f.kind)) f.ins (record { guards = λ d reached c. have.in_guards d c (to_reached d reached); arguments = have.in_arguments }))
-      (have_well env false f.outs (record { guards = λ d reached c. have.out_guards d c (reached_among false env f.outs d reached); arguments = have.out_arguments }))
+      (have_well env (is_data (Some f.kind)) f.ins (record {
+        guards = λ d reached c. have.in_guards d c
+            (to_reached d reached);
+        arguments = have.in_arguments;
+      }))
+      (have_well env false f.outs (record {
+        guards = λ d reached c. have.out_guards d c
+            (reached_among false env f.outs d reached);
+        arguments = have.out_arguments;
+      }))
 
   pub ins_reached : (x : Target) → IsIn x (flow_ins env f) ↔ ((d : DepPlan) × IsReached env f d × (held_target d env ≡ Some x))
   ins_reached x = (
@@ -61,7 +69,8 @@ module _ (env : List ℤ) (f : FlowPlan) where
 no_ill_flow : (env : List ℤ) (n : ℕ) (fs : List FlowPlan) → first_ill_flow env n fs ≡ None → (f : FlowPlan) → IsIn f fs → is_well_flow env f ≡ true
 no_ill_flow env n [] e f among = absurd among
 no_ill_flow env n (g ∷ gs) e f among = by (λ k. no_ill_flow env (suc n) gs k f) (is_well_flow env g) refl e where
-  by : (first_ill_flow env (suc n) gs ≡ None → IsIn f gs → is_well_flow env f ≡ true) → (b : Bool) → is_well_flow env g ≡ b → cond b (first_ill_flow env (suc n) gs) (Some n) ≡ None → is_well_flow env f ≡ true
+  by : (first_ill_flow env (suc n) gs ≡ None → IsIn f gs → is_well_flow env f ≡ true) → (b : Bool)
+      → is_well_flow env g ≡ b → cond b (first_ill_flow env (suc n) gs) (Some n) ≡ None → is_well_flow env f ≡ true
   by others true at k = elim among [ inl same ↦ ap (is_well_flow env) same ∙ at | inr later ↦ others k later ]
   by others false at k = absurd cc
 
@@ -101,21 +110,29 @@ class_to env None e = record {
 class_to env (Some d) e =
     let parts = no_ill_part env d e in
     record {
-      affinity = λ c t at among. let same : d ≡ c = cc in member_passes (has_value env) d.affinity.indices (first_so (list_all (has_value env) d.affinity.indices) (has_priority env d.priority) parts.0) t (subst (λ (k : ClassPlan). IsIn t k.affinity.indices) (sym same) among);
-      priority = λ c t at is. let same : d ≡ c = cc in has_priority_to env d.priority t (second_so (list_all (has_value env) d.affinity.indices) (has_priority env d.priority) parts.0) (ap (λ (k : ClassPlan). k.priority) same ∙ is);
+      affinity = λ c t at among. let same : d ≡ c = cc in member_passes (has_value env) d.affinity.indices
+          (first_so (list_all (has_value env) d.affinity.indices) (has_priority env d.priority) parts.0) t
+          (subst (λ (k : ClassPlan). IsIn t k.affinity.indices) (sym same) among);
+      priority = λ c t at is. let same : d ≡ c = cc in has_priority_to env d.priority t
+          (second_so (list_all (has_value env) d.affinity.indices) (has_priority env d.priority) parts.0)
+          (ap (λ (k : ClassPlan). k.priority) same ∙ is);
       flows = λ f among. well_flow env f (no_ill_flow env 0 d.flows parts.1 f among);
     }
 
 class_from : (env : List ℤ) (o : Option ClassPlan) → HaveClassValues env o → option_and_then (ill_part_of env) o ≡ None
 class_from env None have = refl
 class_from env (Some c) have =
-    let hints : has_hints env c ≡ true = and_from (list_all (has_value env) c.affinity.indices) (has_priority env c.priority) (list_all-from_members (has_value env) c.affinity.indices (λ e among. have.affinity c e refl among)) (has_priority_from env c.priority (λ e is. have.priority c e refl is)) in
+    let hints : has_hints env c ≡ true = and_from (list_all (has_value env) c.affinity.indices)
+    (has_priority env c.priority) (list_all-from_members (has_value env) c.affinity.indices
+    (λ e among. have.affinity c e refl among)) (has_priority_from env c.priority
+    (λ e is. have.priority c e refl is)) in
     ap (λ b. cond b (option_map Some (first_ill_flow env 0 c.flows)) (Some None)) hints
     ∙ ap (λ i. option_map Some i) (each_well env 0 c.flows (λ f among. valued_flow env f (have.flows f among)))
 
 pub well_iff : (P : Plan) (t : Task) → IsWellTask P t ↔ TaskHasValues P t
 unfolding ill_part
 well_iff P t = (
-  λ well. let have = class_to (locals_of P t) (slice_get P.classes t.class) well in record { affinity = have.affinity; priority = have.priority; flows = have.flows },
+  λ well. let have = class_to (locals_of P t) (slice_get P.classes t.class)
+      well in record { affinity = have.affinity; priority = have.priority; flows = have.flows },
   λ have. class_from (locals_of P t) (slice_get P.classes t.class) (record { affinity = have.affinity; priority = have.priority; flows = have.flows }),
 )

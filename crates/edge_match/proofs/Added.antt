@@ -32,7 +32,8 @@ use Rattle.edge_match.proofs.Parts.{add_all-append}
 record Adds (ms : List Mark) (es : List Edge) (is : List Item) : Type 0 where
   after : (b : Before) → add_all b ms ≡ record { ins = b.ins ++ es; items = b.items ++ is; places = b.places ++ places_of is }
 
-one_before : (a a' : List Edge) (b b' : List Item) (c c' : List Place) → a ≡ a' → b ≡ b' → c ≡ c' → (let x : Before = record { ins = a; items = b; places = c } in x) ≡ record { ins = a'; items = b'; places = c' }
+one_before : (a a' : List Edge) (b b' : List Item) (c c' : List Place) → a ≡ a' → b ≡ b' → c ≡ c'
+    → (let x : Before = record { ins = a; items = b; places = c } in x) ≡ record { ins = a'; items = b'; places = c' }
 one_before a a' b b' c c' e f g = cc
 
 adds_none : Adds [] [] []
@@ -41,12 +42,17 @@ adds_none = record { after = λ b. one_before _ _ _ _ _ _ (sym (append-nil b.ins
 adds_both : (xs ys : List Mark) (es fs : List Edge) (is js : List Item) → Adds xs es is → Adds ys fs js → Adds (xs ++ ys) (es ++ fs) (is ++ js)
 adds_both xs ys es fs is js h k = record {
   after = λ b.
-      let joined : places_of (is ++ js) ≡ places_of is ++ places_of js = ap (map (λ (w : WriteBack). w.place)) (filter_map-append write_of is js) ∙ map-append (λ (w : WriteBack). w.place) (filter_map write_of is) (filter_map write_of js) in
-      add_all-append b xs ys ∙ ap (λ (c : Before). add_all c ys) (h.after b) ∙ k.after (record { ins = b.ins ++ es; items = b.items ++ is; places = b.places ++ places_of is })
-      ∙ one_before _ _ _ _ _ _ (append_assoc b.ins es fs) (append_assoc b.items is js) (append_assoc b.places (places_of is) (places_of js) ∙ ap (λ l. b.places ++ l) (sym joined));
+      let joined : places_of (is ++ js) ≡ places_of is ++ places_of js = ap (map (λ (w : WriteBack). w.place))
+      (filter_map-append write_of is js) ∙ map-append (λ (w : WriteBack). w.place) (filter_map write_of is)
+      (filter_map write_of js) in
+      add_all-append b xs ys ∙ ap (λ (c : Before). add_all c ys) (h.after b)
+      ∙ k.after (record { ins = b.ins ++ es; items = b.items ++ is; places = b.places ++ places_of is })
+      ∙ one_before _ _ _ _ _ _ (append_assoc b.ins es fs) (append_assoc b.items is js)
+      (append_assoc b.places (places_of is) (places_of js) ∙ ap (λ l. b.places ++ l) (sym joined));
 }
 
-adds_each : {A : Type 0} (f : A → List Mark) (g : A → List Edge) (h : A → List Item) → ((x : A) → Adds (f x) (g x) (h x)) → (xs : List A) → Adds (flat_map f xs) (flat_map g xs) (flat_map h xs)
+adds_each : {A : Type 0} (f : A → List Mark) (g : A → List Edge) (h : A → List Item)
+    → ((x : A) → Adds (f x) (g x) (h x)) → (xs : List A) → Adds (flat_map f xs) (flat_map g xs) (flat_map h xs)
 adds_each f g h each [] = adds_none
 adds_each f g h each (x ∷ xs) = adds_both (f x) (flat_map f xs) (g x) (flat_map g xs) (h x) (flat_map h xs) (each x) (adds_each f g h each xs)
 
@@ -79,7 +85,8 @@ adds_by_number : (f : ℕ → FlowPlan → List Mark) (g : ℕ → FlowPlan → 
     → ((n : ℕ) (x : FlowPlan) → Adds (f n x) (g n x) (h n x)) → (n : ℕ) (xs : List FlowPlan) → Adds (by_number f n xs) (by_number g n xs) (by_number h n xs)
 adds_by_number f g h each n [] = adds_none
 adds_by_number f g h each n (x ∷ xs) =
-    adds_both (f n x) (by_number f (suc n) xs) (g n x) (by_number g (suc n) xs) (h n x) (by_number h (suc n) xs) (each n x) (adds_by_number f g h each (suc n) xs)
+    adds_both (f n x) (by_number f (suc n) xs) (g n x) (by_number g (suc n) xs) (h n x) (by_number h (suc n) xs)
+    (each n x) (adds_by_number f g h each (suc n) xs)
 
 flow_adds : (P : Plan) (t : Task) (n : ℕ) (f : FlowPlan) → Adds (flow_marks Connecting P t n f) (flow_edges In P t n f) (flow_items Out P t n f)
 flow_adds P t n f =
@@ -98,7 +105,8 @@ task_adds P t =
     adds_both _ _ [] (in_edges P t) [] (items P t) (adds_nothing (task_start Connecting P t) (λ b. refl)) flows
 
 -- what the first phase counts
-pub phase-adds : (P : Plan) → add_all nothing (phase_marks Connecting P) ≡ record { ins = all_in P; items = all_items P; places = map (λ (w : WriteBack). w.place) (all_writes P) }
+pub phase-adds : (P : Plan) → add_all nothing (phase_marks Connecting P)
+    ≡ record { ins = all_in P; items = all_items P; places = map (λ (w : WriteBack). w.place) (all_writes P) }
 phase-adds P =
     (adds_each (task_marks Connecting P) (in_edges P) (items P) (task_adds P) (all_tasks P)).after nothing
     ∙ one_before _ _ _ _ _ _ refl refl (ap (map (λ (w : WriteBack). w.place)) (filter_map-flat_map write_of (items P) (all_tasks P)))

@@ -48,7 +48,8 @@ module _ (P : Plan) (s c : Tally) (w : WentOver P s c (all_tasks P)) (edges : s.
   task_once : (t : Task) → IsSoundTask P t → HasNoRepeats (in_edges P t)
   task_once t a =
       let env = locals_of P t in
-      rw in_edges-flows (once_by_number (edges_into_flow t env) (λ e. e.in_flow) (into_flow_is t env) 0 (flows_of P t) (λ i f h. rw zero-add (a.flows i f h).once))
+      rw in_edges-flows (once_by_number (edges_into_flow t env) (λ e. e.in_flow) (into_flow_is t env) 0 (flows_of P t)
+      (λ i f h. rw zero-add (a.flows i f h).once))
 
   ins_once : HasNoRepeats (all_in P)
   ins_once = HasNoRepeats-flat_map (in_edges P) (all_tasks P) (once-all_tasks P) (λ t h. task_once t (w.sound t h))

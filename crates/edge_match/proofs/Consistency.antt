@@ -50,7 +50,8 @@ module _ (P : Plan) (t : Task) (d : Direction) where
 
   pub task_once : ((n : ℕ) (f : FlowPlan) → slice_get (flows_of P t) n ≡ Some f → HasNoRepeats (flow_edges d P t n f)) → HasNoRepeats (edges_of d P t)
   task_once h =
-      rw (edges-numbered P t d) (once_by_number (flow_edges d P t) (near_flow d) (λ n f e k. near_is P t n f d e k) 0 (flows_of P t) (λ i f here. rw zero-add (h i f here)))
+      rw (edges-numbered P t d) (once_by_number (flow_edges d P t) (near_flow d) (λ n f e k. near_is P t n f d e k) 0
+      (flows_of P t) (λ i f here. rw zero-add (h i f here)))
 
 -- the near task of an edge of a task is that task
 near : (d : Direction) (P : Plan) (t : Task) (e : Edge) → IsIn e (edges_of d P t) → near_task d e ≡ t
@@ -148,7 +149,8 @@ module _ (P : Plan) where
   nothing_more : (b : Before) → add_all b (phase_marks Matching P) ≡ b
   nothing_more b =
       let quiet = λ (t : Task) (n : ℕ) (f : FlowPlan) (d : Direction). quiet_items P d (data_source P t n) t n [] (flow_items d P t n f) in
-      all_quiet b (phase_marks Matching P) ((of_phase IsQuiet Matching P).1 (λ t of_job. record { start = tt; flows = λ n f here. record { start = tt; directed = quiet t n f } }))
+      all_quiet b (phase_marks Matching P) ((of_phase IsQuiet Matching P).1
+      (λ t of_job. record { start = tt; flows = λ n f here. record { start = tt; directed = quiet t n f } }))
 
   -- if all tasks are matched in one direction, their edges in it are edges in the other
   others : (d : Direction) → ((t : Task) → IsTask P t → AreMatched d t) → (e : Edge) → IsIn e (all_edges d P) → IsIn e (all_edges (opposite d) P)
@@ -157,10 +159,12 @@ module _ (P : Plan) where
       let q = (m p.0 ((listed P p.0).1 p.1)).0 e p.2 in
       IsIn-flat_map (edges_of (opposite d) P) (all_tasks P) (far_task d e) e ((listed P (far_task d e)).0 q.0) q.1
 
-  pub passes_consistent : AllPass P nothing (marks P) → AllByRecursion IsSound P.spaces → length (all_tasks P) ≤ 1000000 → prefix_total P.spaces ≤ 16000000 → IsConsistent P
+  pub passes_consistent : AllPass P nothing (marks P) → AllByRecursion IsSound P.spaces → length (all_tasks P) ≤ 1000000
+      → prefix_total P.spaces ≤ 16000000 → IsConsistent P
   passes_consistent all sound tasks_at_most prefixes_at_most =
       let both = AllPass-parts P nothing (phase_marks Connecting P) (phase_marks Matching P) all in
-      let first = (all_pass_and P nothing (phase_marks Connecting P)).0 (record { ins_at_most = omega arith; items_at_most = omega arith; written_once = tt }, both.0) in
+      let first = (all_pass_and P nothing (phase_marks Connecting P)).0
+      (record { ins_at_most = omega arith; items_at_most = omega arith; written_once = tt }, both.0) in
       let second = (all_pass_and P (add_all nothing (phase_marks Connecting P)) (phase_marks Matching P)).0 (first.0, both.1) in
       let w = subst IsWithinLimits (phase-adds P) first.0 in
       let m = all_matched.0 second.1 in
@@ -181,7 +185,8 @@ module _ (P : Plan) where
   matched_in : (d : Direction) → HasNoRepeats (all_edges d P) → ((e : Edge) → IsIn e (all_edges d P) → IsIn e (all_edges (opposite d) P))
       → (t : Task) → IsTask P t → AreMatched d t
   matched_in d once same t of_job = (
-    λ e h. let p = from_flat_map (edges_of (opposite d) P) (all_tasks P) e (same e (IsIn-flat_map (edges_of d P) (all_tasks P) t e ((listed P t).0 of_job) h)) in
+    λ e h. let p = from_flat_map (edges_of (opposite d) P) (all_tasks P) e
+        (same e (IsIn-flat_map (edges_of d P) (all_tasks P) t e ((listed P t).0 of_job) h)) in
         let far : far_task d e ≡ p.0 = far_is d e ∙ near (opposite d) P p.0 e p.2 in
         (subst (IsTask P) (sym far) ((listed P p.0).1 p.1), subst (λ u. IsIn e (edges_of (opposite d) P u)) (sym far) p.2),
     HasNoRepeats-part (edges_of d P) (all_tasks P) once t ((listed P t).0 of_job),
@@ -199,6 +204,9 @@ module _ (P : Plan) where
   pub all_pass : IsConsistent P → AllPass P nothing (marks P)
   all_pass w =
       let b = add_all nothing (phase_marks Connecting P) in
-      let limits : IsWithinLimits b = subst IsWithinLimits (sym (phase-adds P)) (record { ins_at_most = w.in_edges_at_most; items_at_most = w.items_at_most; written_once = w.written_once }) in
-      AllPass-append P nothing (phase_marks Connecting P) (phase_marks Matching P) ((all_pass_and P nothing (phase_marks Connecting P)).1 (limits, all_connected w.connected)).1
+      let limits : IsWithinLimits b = subst IsWithinLimits (sym (phase-adds P))
+      (record { ins_at_most = w.in_edges_at_most; items_at_most = w.items_at_most; written_once = w.written_once })
+      in
+      AllPass-append P nothing (phase_marks Connecting P) (phase_marks Matching P)
+      ((all_pass_and P nothing (phase_marks Connecting P)).1 (limits, all_connected w.connected)).1
       ((all_pass_and P b (phase_marks Matching P)).1 (subst IsWithinLimits (sym (nothing_more b)) limits, all_matched.1 (both_matched w))).1

@@ -260,5 +260,6 @@ module _ {X : Type 0} (g : ℕ → FlowPlan → List X) where
 
 module _ (P : Plan) (t : Task) where
   pub edges-numbered : (d : Direction) → edges_of d P t ≡ by_number (flow_edges d P t) 0 (flows_of P t)
-  edges-numbered In = in_edges-flows P t ∙ by_number-same (edges_into_flow t (locals_of P t)) (flow_edges In P t) (λ n f. sym (in_flow_edges P t n f)) 0 (flows_of P t)
+  edges-numbered In = in_edges-flows P t ∙ by_number-same (edges_into_flow t (locals_of P t)) (flow_edges In P t)
+      (λ n f. sym (in_flow_edges P t n f)) 0 (flows_of P t)
   edges-numbered Out = ap (filter_map edge_of) (items-flows P t) ∙ filter_map-by_number edge_of (flow_items Out P t) 0 (flows_of P t)

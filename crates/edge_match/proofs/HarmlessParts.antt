@@ -61,7 +61,8 @@ abbrev bounds_of : ℤ → ℤ → ℤ → Bounds
 bounds_of lo hi step = record { lo = lo; hi = hi; step = step }
 
 range_ok : (x y z : Result ℤ SpanFault) → IsTrue (is_ok x) → IsTrue (is_ok y) → IsTrue (is_ok z)
-    → IsTrue (is_ok (and_then (and_then x (λ lo. and_then y (λ hi. and_then z (λ step. Ok (bounds_of lo hi step))))) (λ (b : Bounds). Ok (values b.lo b.hi b.step))))
+    → IsTrue (is_ok (and_then (and_then x (λ lo. and_then y (λ hi. and_then z (λ step. Ok (bounds_of lo hi step)))))
+    (λ (b : Bounds). Ok (values b.lo b.hi b.step))))
 range_ok (Ok a) (Ok b) (Ok c) p q r = refl
 range_ok (Ok a) (Ok b) (Err e) p q r = absurd (false≢true r)
 range_ok (Ok a) (Err e) z p q r = absurd (false≢true q)
@@ -129,7 +130,8 @@ no_ill_flow env n (f ∷ fs) h =
     let well : is_well_flow env f ≡ true = first_so (is_well_flow env f) (list_all (is_well_flow env) fs) h in
     rw well (no_ill_flow env (suc n) fs (second_so (is_well_flow env f) (list_all (is_well_flow env) fs) h))
 
-pub class_by_parts : (c : ClassPlan) (b : Bool) → OnSmall (λ env. has_hints env c) → OnTrue b (OnSmall (λ env. list_all (is_well_flow env) c.flows)) → OnTrue b (IsHarmlessClass c)
+pub class_by_parts : (c : ClassPlan) (b : Bool) → OnSmall (λ env. has_hints env c)
+    → OnTrue b (OnSmall (λ env. list_all (is_well_flow env) c.flows)) → OnTrue b (IsHarmlessClass c)
 class_by_parts c b hints flows =
     on_true_weaker b (λ (f : OnSmall (λ env. list_all (is_well_flow env) c.flows)). λ env small.
     let well : has_hints env c ≡ true = hints env small in

@@ -73,7 +73,8 @@ module _ (Q : Mark → Type 0) where
           λ w. join (start ++ ins) outs (join start ins w.start (w.directed In)) (w.directed Out),
         )
       where
-        in_direction : (d : Direction) → All (direction_marks In phase P t n f) → All (direction_marks Out phase P t n f) → All (direction_marks d phase P t n f)
+        in_direction : (d : Direction) → All (direction_marks In phase P t n f)
+            → All (direction_marks Out phase P t n f) → All (direction_marks d phase P t n f)
         in_direction In h k = h
         in_direction Out h k = k
 
@@ -216,7 +217,8 @@ module _ (P : Plan) (s : Source) (t : Task) (n : ℕ) where
         λ h. join Q one later (here.1 (h i (inl refl))) (rest.1 (λ j k. h j (inr k))),
       )
 
-  pub connected : (d : Direction) (earlier : List Edge) (is : List Item) → AllHold P (item_marks d earlier is Connecting s t n) ↔ ((i : Item) → IsIn i is → IsConnected P d s i)
+  pub connected : (d : Direction) (earlier : List Edge) (is : List Item)
+      → AllHold P (item_marks d earlier is Connecting s t n) ↔ ((i : Item) → IsIn i is → IsConnected P d s i)
   connected d earlier [] = (λ h i k. absurd k, λ h. tt)
   connected d earlier (item.Edge e ∷ is) =
       let later = earlier ++ e ∷ [] in

@@ -24,7 +24,9 @@ none_fails : (P : Plan) (b : Before) (ms : List Mark) (f : MatchFault) → AllPa
 none_fails P b ms f h w = w.fails.0 (AllPass-parts P b w.passed (w.failed ∷ w.rest) (subst (AllPass P b) w.split h)).1.0
 
 -- marks split at two marks, each the first that fails: it is the same one
-same_failure : (P : Plan) (b : Before) (xs ys : List Mark) (m n : Mark) (ms ns : List Mark) (f g : MatchFault) → xs ++ m ∷ ms ≡ ys ++ n ∷ ns → AllPass P b xs → AllPass P b ys → FailsWith P (add_all b xs) m f → FailsWith P (add_all b ys) n g → f ≡ g
+same_failure : (P : Plan) (b : Before) (xs ys : List Mark) (m n : Mark) (ms ns : List Mark) (f g : MatchFault)
+    → xs ++ m ∷ ms ≡ ys ++ n ∷ ns → AllPass P b xs → AllPass P b ys → FailsWith P (add_all b xs) m f
+    → FailsWith P (add_all b ys) n g → f ≡ g
 same_failure P b [] [] m n ms ns f g e h k s r =
     let same : m ≡ n = cc in
     let q = subst (λ (z : Mark). FailsWith P b z f) same s in
@@ -38,7 +40,9 @@ same_failure P b (x ∷ xs) [] m n ms ns f g e h k s r =
 same_failure P b (x ∷ xs) (y ∷ ys) m n ms ns f g e h k s r =
     let same : y ≡ x = cc in
     let rest : xs ++ m ∷ ms ≡ ys ++ n ∷ ns = cc in
-    same_failure P (add b x.check) xs ys m n ms ns f g rest h.1 (subst (λ (z : Mark). AllPass P (add b z.check) ys) same k.1) s (subst (λ (z : Mark). FailsWith P (add_all (add b z.check) ys) n g) same r)
+    same_failure P (add b x.check) xs ys m n ms ns f g rest h.1
+    (subst (λ (z : Mark). AllPass P (add b z.check) ys) same k.1) s
+    (subst (λ (z : Mark). FailsWith P (add_all (add b z.check) ys) n g) same r)
 
 -- a walk that nothing stops has no fault
 unstopped_fault : (P : Plan) (f : SpaceFault) → walk.IsUnstopped 0 0 (walk_all 0 P.spaces) → walk.IsFirstFault 0 0 (walk_all 0 P.spaces) f → ⊥
@@ -54,7 +58,8 @@ one_first P f g (inl a) (inl b) = a.2 ∙ ap space_fault (one_fault 0 0 (walk_al
 one_first P f g (inl a) (inr w) = absurd (unstopped_fault P a.0 w.unstopped a.1)
 one_first P f g (inr w) (inl b) = absurd (unstopped_fault P b.0 w.unstopped b.1)
 one_first P f g (inr v) (inr w) =
-    same_failure P nothing v.first.passed w.first.passed v.first.failed w.first.failed v.first.rest w.first.rest f g (sym v.first.split ∙ w.first.split) v.first.all_pass w.first.all_pass v.first.fails w.first.fails
+    same_failure P nothing v.first.passed w.first.passed v.first.failed w.first.failed v.first.rest w.first.rest f g
+    (sym v.first.split ∙ w.first.split) v.first.all_pass w.first.all_pass v.first.fails w.first.fails
 
 pub consistent_none : (P : Plan) (f : MatchFault) → IsConsistent P → IsFirstFault P f → ⊥
 consistent_none P f w (inl a) =

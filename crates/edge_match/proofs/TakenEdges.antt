@@ -35,7 +35,9 @@ use Rattle.edge_match.specs.Flows.{AreTaken, AreTakenOnce, IsSent}
 use Rattle.edge_match.specs.Tallies.{Takes, TakesFrom, plan_of, task_of, env_of}
 
 -- the kind of the flow that an edge goes into decides whether it carries a tile
-kind_here : (o : Option ClassPlan) (n : ℕ) (f : FlowPlan) → slice_get (option_map_or (λ (c : ClassPlan). c.flows) o []) n ≡ Some f → option_map (λ (f : FlowPlan). f.kind) (option_and_then (λ (c : ClassPlan). slice_get c.flows n) o) ≡ Some f.kind
+kind_here : (o : Option ClassPlan) (n : ℕ) (f : FlowPlan) → slice_get (option_map_or (λ (c : ClassPlan). c.flows) o [])
+    n ≡ Some f → option_map (λ (f : FlowPlan). f.kind) (option_and_then (λ (c : ClassPlan). slice_get c.flows n) o)
+    ≡ Some f.kind
 kind_here None n f h = cc
 kind_here (Some c) n f h = ap (option_map (λ (f : FlowPlan). f.kind)) h
 
@@ -79,7 +81,8 @@ module _ (P : Plan) (earlier : List Edge) where
   once_nil s = record { taken = taken_nil s; once = tt }
 
   -- edges and then later edges, which were looked up among the former too
-  pub once_after : (s u v : Ins) (xs ys : List Edge) → AreTakenOnce P earlier s u xs → AreTakenOnce P (earlier ++ xs) u v ys → AreTakenOnce P earlier s v (xs ++ ys)
+  pub once_after : (s u v : Ins) (xs ys : List Edge) → AreTakenOnce P earlier s u xs
+      → AreTakenOnce P (earlier ++ xs) u v ys → AreTakenOnce P earlier s v (xs ++ ys)
   once_after s u v xs ys a b =
       let later : AreTaken P earlier u v ys = record {
         sent = b.taken.sent;

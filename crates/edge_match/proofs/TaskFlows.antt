@@ -87,7 +87,8 @@ into_flow_is t env n f e h =
     near_among env n xs (link_in e) (from_edges_in t (flat_map (links_to env n) xs) e (rw edges_into-among at h)).1
 
 sent_is : (t : Task) (env : List ℤ) (n : ℕ) (x : Target) (i : Item) → IsIn i (items_to t env n x) → item_flow i ≡ n
-sent_is t env n (target.Task class flow args) i h = let p = from_map (λ params. item.Edge (edge t n (task class params) flow)) (combinations args env) i h in ap item_flow p.2
+sent_is t env n (target.Task class flow args) i h = let p = from_map
+    (λ params. item.Edge (edge t n (task class params) flow)) (combinations args env) i h in ap item_flow p.2
 sent_is t env n (target.Element coll indices) i h = elim h [ inl e ↦ ap item_flow e | inr none ↦ absurd none ]
 sent_is t env n target.New i h = absurd h
 sent_is t env n target.Null i h = absurd h
@@ -96,7 +97,9 @@ pub sent_flow_is : (t : Task) (env : List ℤ) (n : ℕ) (f : FlowPlan) (i : Ite
 sent_flow_is t env n f i h = let p = from_flat_map (items_to t env n) (flow_outs env f) i h in sent_is t env n p.0 i p.2
 
 -- an item of a task is sent by the flow with its number
-pub item_flow-sends : (P : Plan) (t : Task) (x : Item) → IsIn x (items P t) → (f : FlowPlan) × ((slice_get (flows_of P t) (item_flow x) ≡ Some f) × IsIn x (items_of_flow t (locals_of P t) (item_flow x) f))
+pub item_flow-sends : (P : Plan) (t : Task) (x : Item) → IsIn x (items P t)
+    → (f : FlowPlan) × ((slice_get (flows_of P t) (item_flow x) ≡ Some f)
+    × IsIn x (items_of_flow t (locals_of P t) (item_flow x) f))
 item_flow-sends P t x h =
     let env = locals_of P t in
     let p = from_by_number (items_of_flow t env) 0 (flows_of P t) x (rw (sym (items-flows P t)) h) in
@@ -109,7 +112,8 @@ some_flow : {A : Type 0} (o : Option A) (g : A → Source) (s : Source) → opti
 some_flow None g s e h = absurd (h (sym e))
 some_flow (Some f) g s e h = (f, refl)
 
-pub source_flow : (P : Plan) (t : Task) (n : ℕ) (s : Source) → data_source P t n ≡ s → s ≢ source.Nothing → (f : FlowPlan) × (slice_get (flows_of P t) n ≡ Some f)
+pub source_flow : (P : Plan) (t : Task) (n : ℕ) (s : Source) → data_source P t n ≡ s → s ≢ source.Nothing
+    → (f : FlowPlan) × (slice_get (flows_of P t) n ≡ Some f)
 unfolding data_source
 source_flow P t n s e h = some_flow (slice_get (flows_of P t) n) _ s e h
 

@@ -20,17 +20,22 @@ use Rattle.std.proofs.lemmas.List.Elements.{filter_map-append}
 use Rattle.std.proofs.lemmas.List.Concat.{flat_map-append}
 use Rattle.std.proofs.lemmas.List.Folds.{flat_map-map}
 use Rattle.edge_walk.specs.declared.tie.Tie.{Tie}
-use Rattle.edge_walk.specs.Ties.{Numbered, active_from, all_ties, edge_by_in, item_by_out, numbered, numbered_flow, numbered_targets, numbered_then, task_tie, ties, ties_to}
+use Rattle.edge_walk.specs.Ties.{Numbered, active_from, all_ties, edge_by_in, item_by_out, numbered, numbered_flow}
+use Rattle.edge_walk.specs.Ties.{numbered_targets, numbered_then, task_tie, ties, ties_to}
 
 -- ---- lists
 
 -- ---- one target
 
-edges_among : (t : Task) (n k class flow : ℕ) (cs : List (List ℤ)) → filter_map (edge_by_in t) (map (task_tie n k class flow) cs) ≡ map (λ params. edge (task class params) flow t n) cs
+edges_among : (t : Task) (n k class flow : ℕ) (cs : List (List ℤ))
+    → filter_map (edge_by_in t) (map (task_tie n k class flow) cs) ≡ map (λ params. edge (task class params) flow t n)
+    cs
 edges_among t n k class flow [] = refl
 edges_among t n k class flow (c ∷ cs) = ap (λ l. edge (task class c) flow t n ∷ l) (edges_among t n k class flow cs)
 
-items_among : (t : Task) (n k class flow : ℕ) (cs : List (List ℤ)) → filter_map (item_by_out t) (map (task_tie n k class flow) cs) ≡ map (λ params. item.Edge (edge t n (task class params) flow)) cs
+items_among : (t : Task) (n k class flow : ℕ) (cs : List (List ℤ))
+    → filter_map (item_by_out t) (map (task_tie n k class flow) cs) ≡ map
+    (λ params. item.Edge (edge t n (task class params) flow)) cs
 items_among t n k class flow [] = refl
 items_among t n k class flow (c ∷ cs) = ap (λ l. item.Edge (edge t n (task class c) flow) ∷ l) (items_among t n k class flow cs)
 
@@ -51,7 +56,8 @@ outs_to t env n k target.Null = refl
 abbrev second : ℕ × Target → Target
 second x = x.1
 
-seconds_then : (first_only : Bool) (k : ℕ) (o : Option Target) (later : List (ℕ × Target)) → map second (numbered_then first_only k o later) ≡ held_then first_only o (map second later)
+seconds_then : (first_only : Bool) (k : ℕ) (o : Option Target) (later : List (ℕ × Target))
+    → map second (numbered_then first_only k o later) ≡ held_then first_only o (map second later)
 seconds_then first_only k None later = refl
 seconds_then true k (Some x) later = refl
 seconds_then false k (Some x) later = refl
@@ -67,7 +73,8 @@ seconds_flow In env f = seconds (is_data f.kind) 0 f.ins env
 seconds_flow Out env f = seconds false 0 f.outs env
 
 -- ---- what is chosen of each target is chosen of all
-module _ {X : Type 0} (env : List ℤ) (choose : Tie → Option X) (chosen : ℕ → Target → List X) (h : (n k : ℕ) (x : Target) → filter_map choose (ties_to env n k x) ≡ chosen n x) where
+module _ {X : Type 0} (env : List ℤ) (choose : Tie → Option X) (chosen : ℕ → Target → List X)
+    (h : (n k : ℕ) (x : Target) → filter_map choose (ties_to env n k x) ≡ chosen n x) where
   of_flow : (n : ℕ) (xs : List (ℕ × Target)) → filter_map choose (all_ties env (map (numbered n) xs)) ≡ flat_map (chosen n) (map second xs)
   of_flow n [] = refl
   of_flow n (x ∷ xs) =
@@ -75,13 +82,17 @@ module _ {X : Type 0} (env : List ℤ) (choose : Tie → Option X) (chosen : ℕ
       ∙ ap (λ l. l ++ filter_map choose (all_ties env (map (numbered n) xs))) (h n x.0 x.1)
       ∙ ap (λ l. chosen n x.1 ++ l) (of_flow n xs)
 
-  of_flow_from : (way : Direction) (n : ℕ) (f : FlowPlan) → filter_map choose (all_ties env (map (numbered n) (numbered_flow way env f))) ≡ flat_map (λ (a : ℕ × Target). chosen a.0 a.1) (map (λ (x : Target). (n, x)) (flow_targets way env f))
+  of_flow_from : (way : Direction) (n : ℕ) (f : FlowPlan) → filter_map choose
+      (all_ties env (map (numbered n) (numbered_flow way env f))) ≡ flat_map (λ (a : ℕ × Target). chosen a.0 a.1)
+      (map (λ (x : Target). (n, x)) (flow_targets way env f))
   of_flow_from way n f =
       of_flow n (numbered_flow way env f)
       ∙ ap (flat_map (chosen n)) (seconds_flow way env f)
       ∙ sym (flat_map-map (λ (a : ℕ × Target). chosen a.0 a.1) (λ (x : Target). (n, x)) (flow_targets way env f))
 
-  of_flows : (way : Direction) (n : ℕ) (fs : List FlowPlan) → filter_map choose (all_ties env (active_from way env n fs)) ≡ flat_map (λ (a : ℕ × Target). chosen a.0 a.1) (by_flow (flow_targets way env) n fs)
+  of_flows : (way : Direction) (n : ℕ) (fs : List FlowPlan) → filter_map choose
+      (all_ties env (active_from way env n fs)) ≡ flat_map (λ (a : ℕ × Target). chosen a.0 a.1)
+      (by_flow (flow_targets way env) n fs)
   of_flows way n [] = refl
   of_flows way n (f ∷ fs) =
       let here = map (numbered n) (numbered_flow way env f) in

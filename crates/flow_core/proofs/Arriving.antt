@@ -43,7 +43,8 @@ test_of (suc (suc n)) h = absurd (omega arith)
 
 module _ (P : Plan) (G : Data) (con : IsConsistent P) (S : MachineState) (sound : IsSoundState P G S) (t : Task) (job : IsTask P t) where
   -- the edges into the task that are the sent item: one if it is an edge into the task, else none
-  here : (i : Item) → ((e : Edge) → i ≡ item.Edge e → IsIn e (in_edges P e.to)) → count (λ e. same_item (item.Edge e) i) (in_edges P t) ≡ as_number (is_edge_to t i)
+  here : (i : Item) → ((e : Edge) → i ≡ item.Edge e → IsIn e (in_edges P e.to))
+      → count (λ e. same_item (item.Edge e) i) (in_edges P t) ≡ as_number (is_edge_to t i)
   here (item.Edge d) into =
       by_test (same_task t d.to)
       (λ k.
@@ -64,6 +65,9 @@ module _ (P : Plan) (G : Data) (con : IsConsistent P) (S : MachineState) (sound 
 
   pub arrived_are : arrived P S t ≡ edge_count_to t S.sends
   arrived_are =
-      weigh-same (λ e. send_count S (item.Edge e)) (λ e. as_number (is_sent S (item.Edge e))) (in_edges P t) (λ e _. test_of (send_count S (item.Edge e)) (sound.sent_once (item.Edge e)))
+      weigh-same (λ e. send_count S (item.Edge e)) (λ e. as_number (is_sent S (item.Edge e))) (in_edges P t)
+      (λ e _. test_of (send_count S (item.Edge e)) (sound.sent_once (item.Edge e)))
       ∙ weigh-swap (λ (e : Edge) (x : SentItem). as_number (same_item (item.Edge e) x.item)) (in_edges P t) S.sends
-      ∙ weigh-same (λ (x : SentItem). as_number (is_edge_to t x.item)) (λ (x : SentItem). count (λ e. same_item (item.Edge e) x.item) (in_edges P t)) S.sends (λ x i. here x.item (into_target x i))
+      ∙ weigh-same (λ (x : SentItem). as_number (is_edge_to t x.item))
+      (λ (x : SentItem). count (λ e. same_item (item.Edge e) x.item) (in_edges P t)) S.sends
+      (λ x i. here x.item (into_target x i))

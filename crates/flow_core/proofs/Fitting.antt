@@ -1,5 +1,7 @@
 -- When a run that fits its job may go on, and that it still fits afterwards.
-use Rattle.std.proofs.Common.{◌≡◌, ℕ, ◌+◌, ◌<◌, ◌≤◌, Bool, true, false, cond, is_some, List, [], ◌∷◌, ◌++◌, refl, ap, sym, ◌∙◌, subst, Option, Some, None, Ok, Err, IsTrue, ◌↔◌, nat_eq, eq-eqb, ltb-true, lt-ltb, inl, inr, arith}
+use Rattle.std.proofs.Common.{◌≡◌, ℕ, ◌+◌, ◌<◌, ◌≤◌, Bool, true, false, cond, is_some, List, [], ◌∷◌, ◌++◌, refl, ap}
+use Rattle.std.proofs.Common.{sym, ◌∙◌, subst, Option, Some, None, Ok, Err, IsTrue, ◌↔◌, nat_eq, eq-eqb, ltb-true}
+use Rattle.std.proofs.Common.{lt-ltb, inl, inr, arith}
 use Rattle.std.proofs.lemmas.Bool.{eqb-true, false≢true}
 use Rattle.std.specs.Prelude.{unwrap_or}
 use Rattle.std.specs.Map.{keys_of, lookup, set_value}
@@ -36,7 +38,8 @@ use Rattle.flow_meaning.proofs.Events.{ends_so, event_sound}
 use Rattle.flow_meaning.proofs.Arriving.{arrives}
 use Rattle.flow_meaning.proofs.Enough.{with_outputs}
 use Rattle.flow_meaning.proofs.Sizes.{with_tiles as ended_with}
-use Rattle.flow_core.specs.RunState.{HasLetGo, IsRunning, KeepsTiles, RunState, Tiles, end_of, machine, mark_of, send_of, with_claim, with_end, with_send, with_tiles}
+use Rattle.flow_core.specs.RunState.{HasLetGo, IsRunning, KeepsTiles, RunState, Tiles, end_of, machine, mark_of}
+use Rattle.flow_core.specs.RunState.{send_of, with_claim, with_end, with_send, with_tiles}
 use Rattle.flow_core.specs.Fits.{Fits, HasSentAll, MaySendNow}
 use Rattle.flow_core.specs.SentItems.{IsUnsent}
 use Rattle.flow_core.specs.Arrivals.{CountsArrivals, edge_count_to, is_edge_to}
@@ -62,13 +65,15 @@ sends_stay r i j h =
     lt-ltb 0 (send_count (machine (with_send i r)) j) (omega (arith, send_counts r i j))
 
 -- the tiles that are kept after an end: those of the task that has ended, and the others as before
-kept_now : (t : Task) (end : Ended) (tiles : Tiles) (outputs : List (Task × Tiles)) → end ≡ Ok tiles → lookup (same_task t) (with_tiles t end outputs) ≡ Some tiles
+kept_now : (t : Task) (end : Ended) (tiles : Tiles) (outputs : List (Task × Tiles)) → end ≡ Ok tiles
+    → lookup (same_task t) (with_tiles t end outputs) ≡ Some tiles
 kept_now t (Ok own) tiles outputs h =
     let one : own ≡ tiles = cc in
     found_in t t outputs own ∙ ap (λ b. cond b (Some own) (lookup (same_task t) outputs)) ((same_task-decides t t).1 refl) ∙ ap Some one
 kept_now t (Err cause) tiles outputs h = absurd cc
 
-kept_still : (t u : Task) (end : Ended) (outputs : List (Task × Tiles)) → same_task u t ≡ false → lookup (same_task u) (with_tiles t end outputs) ≡ lookup (same_task u) outputs
+kept_still : (t u : Task) (end : Ended) (outputs : List (Task × Tiles)) → same_task u t ≡ false
+    → lookup (same_task u) (with_tiles t end outputs) ≡ lookup (same_task u) outputs
 kept_still t u (Ok own) outputs k = found_in u t outputs own ∙ ap (λ b. cond b (Some own) (lookup (same_task u) outputs)) k
 kept_still t u (Err cause) outputs k = refl
 
@@ -101,7 +106,8 @@ module _ (P : Plan) (G : Data) (con : IsConsistent P) (r : RunState) (fits : Fit
   )
 
   -- the same, by the count of the edges that were sent to it
-  pub counted : (t : Task) → IsTask P t → mark_of r t ≡ None → (sent all : ℕ) → sent ≡ edge_count_to t r.sends → all ≡ goal P t → IsTrue (nat_eq sent all) ↔ MayClaim P (machine r) t
+  pub counted : (t : Task) → IsTask P t → mark_of r t ≡ None → (sent all : ℕ) → sent ≡ edge_count_to t r.sends
+      → all ≡ goal P t → IsTrue (nat_eq sent all) ↔ MayClaim P (machine r) t
   counted t job none sent all sent_is all_is = (
     λ k. (claimable t).0 (job, none, sym sent_is ∙ eqb-true sent all k ∙ all_is),
     λ may. eq-eqb sent all (sent_is ∙ ((claimable t).1 may).2 ∙ sym all_is),
@@ -124,7 +130,8 @@ module _ (P : Plan) (G : Data) (con : IsConsistent P) (r : RunState) (fits : Fit
         by_test (same_task t u)
         (λ k.
         let one : t ≡ u = (same_task-decides t u).0 k in
-        let here : lookup (same_task t) (set_value (same_task t) r.claims (Some end)) ≡ Some (Some end) = set_same (same_task t) r.claims None (Some end) running in
+        let here : lookup (same_task t) (set_value (same_task t) r.claims (Some end))
+        ≡ Some (Some end) = set_same (same_task t) r.claims None (Some end) running in
         let there : end_of (with_end t end r) u ≡ Some end = subst (λ v. end_of (with_end t end r) v ≡ Some end) one (ap (λ m. unwrap_or m None) here) in
         subst (λ v. ended P G v ≡ Some other) one (meant ∙ sym there ∙ subst (λ v. end_of (with_end t end r) u ≡ Some other) one h))
         (λ k. fits.ends u other (sym (ap (λ m. unwrap_or m None) (set_other (same_task t) (same_task u) (apart t u k) r.claims (Some end))) ∙ h));
@@ -132,7 +139,8 @@ module _ (P : Plan) (G : Data) (con : IsConsistent P) (r : RunState) (fits : Fit
         by_test (same_task t u)
         (λ k.
         let one : t ≡ u = (same_task-decides t u).0 k in
-        let here : lookup (same_task t) (set_value (same_task t) r.claims (Some end)) ≡ Some (Some end) = set_same (same_task t) r.claims None (Some end) running in
+        let here : lookup (same_task t) (set_value (same_task t) r.claims (Some end))
+        ≡ Some (Some end) = set_same (same_task t) r.claims None (Some end) running in
         let there : end_of (with_end t end r) t ≡ Some end = ap (λ m. unwrap_or m None) here in
         let at : end_of (with_end t end r) t ≡ Some (Ok tiles) = subst (λ v. end_of (with_end t end r) v ≡ Some (Ok tiles)) (sym one) h in
         let own : end ≡ Ok tiles = inside end tiles (sym there ∙ at) in
@@ -260,7 +268,8 @@ goes_to_waiting P G con r fits (item.Edge e) now u h =
 goes_to_waiting P G con r fits (item.Write w) now u h = absurd (false≢true h)
 
 -- an output that goes to a claimed task was sent
-pub claimed_sent : (P : Plan) (G : Data) → IsConsistent P → (r : RunState) → Fits P G r → (i : Item) → IsOutputItem P r i → goes_to_claimed r i ≡ true → IsUnsent r.sends i → ⊥
+pub claimed_sent : (P : Plan) (G : Data) → IsConsistent P → (r : RunState) → Fits P G r → (i : Item)
+    → IsOutputItem P r i → goes_to_claimed r i ≡ true → IsUnsent r.sends i → ⊥
 claimed_sent P G con r fits (item.Edge e) output there un =
     let none = target_unclaimed P G con r fits e (output_now P G con r fits (item.Edge e) output un) in
     false≢true (sym (ap is_some none) ∙ there)
@@ -280,7 +289,8 @@ pub edge_by : (P : Plan) (i : Item) (e : Edge) (b : Bool) → i ≡ item.Edge e 
 edge_by P i e b is h =
     subst (λ j. IsTrue b ↔ IsIn j (items P (sender j))) (sym is) (λ k. edge_item (items P e.from) e (h.0 k), λ k. h.1 (item_edge (items P e.from) e k))
 
-pub write_by : (P : Plan) (i : Item) (w : WriteBack) (left : List WriteBack) (b : Bool) → i ≡ item.Write w → left ≡ write_backs P w.from → IsTrue b ↔ IsIn w left → IsTrue b ↔ IsIn i (items P (sender i))
+pub write_by : (P : Plan) (i : Item) (w : WriteBack) (left : List WriteBack) (b : Bool) → i ≡ item.Write w
+    → left ≡ write_backs P w.from → IsTrue b ↔ IsIn w left → IsTrue b ↔ IsIn i (items P (sender i))
 write_by P i w left b is all h =
     let own = subst (λ l. IsTrue b ↔ IsIn w l) all h in
     subst (λ j. IsTrue b ↔ IsIn j (items P (sender j))) (sym is) (λ k. write_item (items P w.from) w (own.0 k), λ k. own.1 (item_write (items P w.from) w k))
@@ -299,28 +309,41 @@ counts_claim old new claims sends t counts others u none =
     ap (λ o. unwrap_or o 0) (others u before.1) ∙ counts u before.0
 
 -- the counts of a table after a task has ended
-pub counts_end : (table : List (Task × ℕ)) (claims : List (Task × Option Ended)) (sends : List SentItem) (t : Task) (end : Ended) → CountsArrivals table claims sends
+pub counts_end : (table : List (Task × ℕ)) (claims : List (Task × Option Ended)) (sends : List SentItem) (t : Task)
+    (end : Ended) → CountsArrivals table claims sends
     → CountsArrivals table (set_value (same_task t) claims (Some end)) sends
 counts_end table claims sends t end counts u none =
     let zero = (key_count u (set_value (same_task t) claims (Some end))).0 none in
     counts u ((key_count u claims).1 (sym (ap (count (same_task u)) (keys_set (same_task t) claims (Some end))) ∙ zero))
 
 -- the claims after a new task is entered, and the run then
-pub grown : (claims new : List (Task × Option Ended)) (sends : List SentItem) (outputs : List (Task × Tiles)) (r : RunState) (t key : Task) → record { claims = claims; sends = sends; outputs = outputs } ≡ r → mark_of r t ≡ None → key ≡ t
+pub grown : (claims new : List (Task × Option Ended)) (sends : List SentItem) (outputs : List (Task × Tiles))
+    (r : RunState) (t key : Task) → record { claims = claims; sends = sends; outputs = outputs } ≡ r
+    → mark_of r t ≡ None → key ≡ t
     → new ≡ insert_entry same_task claims key None → new ≡ claims ++ (t, None) ∷ []
 grown claims new sends outputs r t key view none same e =
     let here : lookup (same_task key) claims ≡ None = ap (λ k. lookup (same_task k) claims) same ∙ ap (λ (s : RunState). mark_of s t) view ∙ none in
     e ∙ insert_entry-absent same_task key None claims (absent_from_lookup (same_task key) claims here) ∙ ap (λ k. claims ++ (k, None) ∷ []) same
 
-pub entered : (claims new : List (Task × Option Ended)) (sends : List SentItem) (outputs : List (Task × Tiles)) (r : RunState) (t key : Task) → record { claims = claims; sends = sends; outputs = outputs } ≡ r → mark_of r t ≡ None → key ≡ t
+pub entered : (claims new : List (Task × Option Ended)) (sends : List SentItem) (outputs : List (Task × Tiles))
+    (r : RunState) (t key : Task) → record { claims = claims; sends = sends; outputs = outputs } ≡ r
+    → mark_of r t ≡ None → key ≡ t
     → new ≡ insert_entry same_task claims key None → record { claims = new; sends = sends; outputs = outputs } ≡ with_claim t r
 entered claims new sends outputs r t key view none same e =
-    let now : record { claims = new; sends = sends; outputs = outputs } ≡ with_claim t (record { claims = claims; sends = sends; outputs = outputs }) = λ i. record { claims = grown claims new sends outputs r t key view none same e i; sends = sends; outputs = outputs } in
+    let now : record { claims = new; sends = sends; outputs = outputs }
+    ≡ with_claim t (record { claims = claims; sends = sends; outputs = outputs }) = λ i.
+    record { claims = grown claims new sends outputs r t key view none same e i; sends = sends; outputs = outputs }
+    in
     now ∙ ap (with_claim t) view
 
 -- the run after a task is marked with its end
-pub ended_run : (claims new : List (Task × Option Ended)) (sends then : List SentItem) (outputs left : List (Task × Tiles)) (r : RunState) (t : Task) (end : Ended) → record { claims = claims; sends = sends; outputs = outputs } ≡ r
-    → new ≡ set_value (same_task t) claims (Some end) → then ≡ sends → left ≡ with_tiles t end outputs → record { claims = new; sends = then; outputs = left } ≡ with_end t end r
+pub ended_run : (claims new : List (Task × Option Ended)) (sends then : List SentItem)
+    (outputs left : List (Task × Tiles)) (r : RunState) (t : Task) (end : Ended)
+    → record { claims = claims; sends = sends; outputs = outputs } ≡ r
+    → new ≡ set_value (same_task t) claims (Some end) → then ≡ sends → left ≡ with_tiles t end outputs
+    → record { claims = new; sends = then; outputs = left } ≡ with_end t end r
 ended_run claims new sends then outputs left r t end view e s o =
-    let now : record { claims = new; sends = then; outputs = left } ≡ with_end t end (record { claims = claims; sends = sends; outputs = outputs }) = λ i. record { claims = e i; sends = s i; outputs = o i } in
+    let now : record { claims = new; sends = then; outputs = left } ≡ with_end t end
+    (record { claims = claims; sends = sends; outputs = outputs }) = λ i.
+    record { claims = e i; sends = s i; outputs = o i } in
     now ∙ ap (with_end t end) view

@@ -1,5 +1,7 @@
 -- What a thread does between two tasks, and where it ends.
-use Rattle.std.proofs.Common.{◌≡◌, ◌+◌, ◌<◌, ℤ, Bool, true, false, cond, is_some, List, [], ◌∷◌, ◌++◌, length, refl, ap, sym, ◌∙◌, subst, ◌⊎◌, Option, Some, None, Ok, Err, IsTrue, ◌↔◌, ◌≢◌, inl, inr, arith, append_assoc, length-append, lt-ltb}
+use Rattle.std.proofs.Common.{◌≡◌, ◌+◌, ◌<◌, ℤ, Bool, true, false, cond, is_some, List, [], ◌∷◌, ◌++◌, length, refl, ap}
+use Rattle.std.proofs.Common.{sym, ◌∙◌, subst, ◌⊎◌, Option, Some, None, Ok, Err, IsTrue, ◌↔◌, ◌≢◌, inl, inr, arith}
+use Rattle.std.proofs.Common.{append_assoc, length-append, lt-ltb}
 use Rattle.std.proofs.lemmas.Bool.{false≢true}
 use Rattle.std.proofs.lemmas.List.{append-nil, map-append}
 use Rattle.std.specs.Prelude.{unwrap_or}
@@ -49,7 +51,8 @@ pub nothing_done : (P : Plan) (r : RunState) → HasDone P [] [] r r
 nothing_done P r = record { claimed = λ us h. h; sent = λ js h. h; ended = refl; ends = λ t. refl; fits = λ G h. h }
 
 -- one thing is done after another
-pub done_then : (P : Plan) (ts us : List Task) (is js : List Item) (a b c : RunState) → HasDone P ts is a b → HasDone P us js b c → HasDone P (ts ++ us) (is ++ js) a c
+pub done_then : (P : Plan) (ts us : List Task) (is js : List Item) (a b c : RunState) → HasDone P ts is a b
+    → HasDone P us js b c → HasDone P (ts ++ us) (is ++ js) a c
 done_then P ts us is js a b c d e = record {
   claimed = λ vs h. e.claimed vs (d.claimed (us ++ vs) (subst (λ l. MayClaimOnly P l a) (append_assoc ts us vs) h));
   sent = λ ks h. e.sent ks (d.sent (js ++ ks) (subst (λ l. OwesOnly P l a) (append_assoc is js ks) h));
@@ -92,7 +95,8 @@ module _ (P : Plan) (r : RunState) (t : Task) where
   }
 
   -- the call claims a task or passes it over
-  pub tried : (new : RunState) (b : Bool) → IsTrue b ↔ MayClaim P (machine r) t → new ≡ cond b (with_claim t r) r → ((H : Data) → Fits P H r → Fits P H new) → HasDone P (t ∷ []) [] r new
+  pub tried : (new : RunState) (b : Bool) → IsTrue b ↔ MayClaim P (machine r) t → new ≡ cond b (with_claim t r) r
+      → ((H : Data) → Fits P H r → Fits P H new) → HasDone P (t ∷ []) [] r new
   tried new true exact is fits = subst (λ s. HasDone P (t ∷ []) [] r s) (sym is) (claim_done (λ H h. subst (Fits P H) is (fits H h)))
   tried new false exact is fits = subst (λ s. HasDone P (t ∷ []) [] r s) (sym is) (pass_done (λ m. false≢true (exact.1 m)))
 
@@ -123,7 +127,8 @@ module _ (P : Plan) (G : Data) (con : IsConsistent P) (r : RunState) (fits : Fit
   owed_sent false exact js h t tiles end j mine = elim (h t tiles end j mine) [
     | inl s ↦ inl s
     | inr k ↦ elim k [
-      | inl same ↦ by_test (is_sent (machine r) i) (λ s. inl (subst (λ x. is_sent (machine r) x ≡ true) (sym same) s)) (λ s. absurd (false≢true (exact.1 (may_now s (subst (λ x. IsIn x (items P t)) same mine)))))
+      | inl same ↦ by_test (is_sent (machine r) i) (λ s. inl (subst (λ x. is_sent (machine r) x ≡ true) (sym same) s))
+          (λ s. absurd (false≢true (exact.1 (may_now s (subst (λ x. IsIn x (items P t)) same mine)))))
       | inr later ↦ inr later
     ]
   ]
@@ -136,11 +141,13 @@ module _ (P : Plan) (G : Data) (con : IsConsistent P) (r : RunState) (fits : Fit
 
 -- a send of an edge, and a try to claim its target
 module _ (P : Plan) (G : Data) (con : IsConsistent P) (r : RunState) (fits : Fits P G r) (e : Edge) where
-  target_ready : (b : Bool) → IsTrue b ↔ MaySendNow P G r (item.Edge e) → (us : List Task) → MayClaimOnly P us r → MayClaimOnly P (e.to ∷ us) (cond b (with_send (item.Edge e) r) r)
+  target_ready : (b : Bool) → IsTrue b ↔ MaySendNow P G r (item.Edge e) → (us : List Task) → MayClaimOnly P us r
+      → MayClaimOnly P (e.to ∷ us) (cond b (with_send (item.Edge e) r) r)
   target_ready false exact us h t may = inr (h t may)
   target_ready true exact us h t may =
       let now = exact.0 refl in
-      let after : MayClaim P (state_after P G (machine r) (Send (item.Edge e))) t = subst (λ S. MayClaim P S t) (send_event P G con r fits (item.Edge e) now) may in
+      let after : MayClaim P (state_after P G (machine r) (Send (item.Edge e))) t = subst (λ S. MayClaim P S t)
+      (send_event P G con r fits (item.Edge e) now) may in
       by_test (same_task t e.to)
       (λ k. inl ((same_task-decides t e.to).0 k))
       (λ k.
@@ -148,7 +155,9 @@ module _ (P : Plan) (G : Data) (con : IsConsistent P) (r : RunState) (fits : Fit
       let arrived_as = arrives_not P G con (machine r) fits.sound e now.may t other in
       inr (h t (record { task = after.task; unclaimed = after.unclaimed; all_arrived = sym arrived_as ∙ after.all_arrived })))
 
-  pub edge_done : (b : Bool) → IsTrue b ↔ MaySendNow P G r (item.Edge e) → (sent new : RunState) → sent ≡ cond b (with_send (item.Edge e) r) r → ((H : Data) → Fits P H r → Fits P H sent) → HasDone P (e.to ∷ []) [] sent new → HasDone P [] (item.Edge e ∷ []) r new
+  pub edge_done : (b : Bool) → IsTrue b ↔ MaySendNow P G r (item.Edge e) → (sent new : RunState)
+      → sent ≡ cond b (with_send (item.Edge e) r) r → ((H : Data) → Fits P H r → Fits P H sent)
+      → HasDone P (e.to ∷ []) [] sent new → HasDone P [] (item.Edge e ∷ []) r new
   edge_done b exact sent new is keeps d = record {
     claimed = λ us h. d.claimed us (subst (MayClaimOnly P (e.to ∷ us)) (sym is) (target_ready b exact us h));
     sent = λ js h. d.sent js (subst (OwesOnly P js) (sym is) (owed_sent P G con r fits (item.Edge e) b exact js h));
@@ -159,15 +168,19 @@ module _ (P : Plan) (G : Data) (con : IsConsistent P) (r : RunState) (fits : Fit
 
 -- a send of a write-back
 module _ (P : Plan) (G : Data) (con : IsConsistent P) (r : RunState) (fits : Fits P G r) (w : WriteBack) where
-  none_ready_more : (b : Bool) → IsTrue b ↔ MaySendNow P G r (item.Write w) → (us : List Task) → MayClaimOnly P us r → MayClaimOnly P us (cond b (with_send (item.Write w) r) r)
+  none_ready_more : (b : Bool) → IsTrue b ↔ MaySendNow P G r (item.Write w) → (us : List Task) → MayClaimOnly P us r
+      → MayClaimOnly P us (cond b (with_send (item.Write w) r) r)
   none_ready_more false exact us h t may = h t may
   none_ready_more true exact us h t may =
       let now = exact.0 refl in
-      let after : MayClaim P (state_after P G (machine r) (Send (item.Write w))) t = subst (λ S. MayClaim P S t) (send_event P G con r fits (item.Write w) now) may in
+      let after : MayClaim P (state_after P G (machine r) (Send (item.Write w))) t = subst (λ S. MayClaim P S t)
+      (send_event P G con r fits (item.Write w) now) may in
       let arrived_as = writes_not P G con (machine r) fits.sound w now.may t in
       h t (record { task = after.task; unclaimed = after.unclaimed; all_arrived = sym arrived_as ∙ after.all_arrived })
 
-  pub write_done : (b : Bool) → IsTrue b ↔ MaySendNow P G r (item.Write w) → (new : RunState) → new ≡ cond b (with_send (item.Write w) r) r → ((H : Data) → Fits P H r → Fits P H new) → HasDone P [] (item.Write w ∷ []) r new
+  pub write_done : (b : Bool) → IsTrue b ↔ MaySendNow P G r (item.Write w) → (new : RunState)
+      → new ≡ cond b (with_send (item.Write w) r) r → ((H : Data) → Fits P H r → Fits P H new)
+      → HasDone P [] (item.Write w ∷ []) r new
   write_done b exact new is keeps = subst (HasDone P [] (item.Write w ∷ []) r) (sym is) (record {
     claimed = none_ready_more b exact;
     sent = owed_sent P G con r fits (item.Write w) b exact;
@@ -196,7 +209,8 @@ module _ (P : Plan) (G : Data) (r : RunState) (fits : Fits P G r) (t : Task) (ru
   last_runs = running_mark r.claims t fits.sound.claimed_once (subst (IsIn t) last (last_in running t))
 
   module _ (none_ready : MayClaimOnly P [] r) (nothing_owed : OwesOnly P [] r) (end : Ended) where
-    owes_its : (u : Task) (tiles : List (Option (List ℤ))) → end_of (with_end t end r) u ≡ Some (Ok tiles) → (i : Item) → IsIn i (items P u) → (is_sent (machine (with_end t end r)) i ≡ true) ⊎ ((u ≡ t) × (end ≡ Ok tiles))
+    owes_its : (u : Task) (tiles : List (Option (List ℤ))) → end_of (with_end t end r) u ≡ Some (Ok tiles) → (i : Item)
+        → IsIn i (items P u) → (is_sent (machine (with_end t end r)) i ≡ true) ⊎ ((u ≡ t) × (end ≡ Ok tiles))
     owes_its u tiles e i mine =
         by_test (same_task t u)
         (λ k.
@@ -205,7 +219,8 @@ module _ (P : Plan) (G : Data) (r : RunState) (fits : Fits P G r) (t : Task) (ru
         let there : end_of (with_end t end r) u ≡ Some end = subst (λ v. end_of (with_end t end r) v ≡ Some end) same here in
         inr (sym same, cc))
         (λ k.
-        let other : end_of (with_end t end r) u ≡ end_of r u = ap (λ m. unwrap_or m None) (set_other (same_task t) (same_task u) (apart t u k) r.claims (Some end)) in
+        let other : end_of (with_end t end r) u ≡ end_of r u = ap (λ m. unwrap_or m None)
+        (set_other (same_task t) (same_task u) (apart t u k) r.claims (Some end)) in
         elim (nothing_owed u tiles (sym other ∙ e) i mine) [ inl s ↦ inl s | inr x ↦ absurd x ])
 
     pub ended_so : (trap : Option Trap) → trap ≡ result_err end → HasEnded P G t running r (with_end t end r) trap
@@ -219,13 +234,16 @@ module _ (P : Plan) (G : Data) (r : RunState) (fits : Fits P G r) (t : Task) (ru
     }
 
 -- after a call of `finish` for it
-pub has_ended : (P : Plan) (G : Data) (r new : RunState) (fits : Fits P G r) (t : Task) (running : List Task) → running ++ t ∷ [] ≡ running_tasks r → MayClaimOnly P [] r → OwesOnly P [] r → (trap : Option Trap) → HasFinished P G t r new trap → HasEnded P G t running r new trap
+pub has_ended : (P : Plan) (G : Data) (r new : RunState) (fits : Fits P G r) (t : Task) (running : List Task)
+    → running ++ t ∷ [] ≡ running_tasks r → MayClaimOnly P [] r → OwesOnly P [] r → (trap : Option Trap)
+    → HasFinished P G t r new trap → HasEnded P G t running r new trap
 has_ended P G r new fits t running last none_ready nothing_owed trap f =
     subst (λ s. HasEnded P G t running r s trap) (sym f.marked) (ended_so P G r fits t running last none_ready nothing_owed f.end trap f.trapped)
 
 -- if nothing is running and nothing is left to do, no event is possible
 pub at_rest : (P : Plan) (G : Data) → IsConsistent P → (r : RunState) → IsBetweenTasks P G r [] → IsQuiescent P G (machine r)
-at_rest P G con r b = (rests P G con (machine r) b.fits.sound).1 (record { none_ready = b.none_ready; all_finished = λ t i. let k = key_found t r.claims i in finished t k.0 k.1 })
+at_rest P G con r b = (rests P G con (machine r) b.fits.sound).1
+    (record { none_ready = b.none_ready; all_finished = λ t i. let k = key_found t r.claims i in finished t k.0 k.1 })
   where
     finished : (t : Task) (m : Option Ended) → lookup (same_task t) r.claims ≡ Some m → IsFinished P G (machine r) t
     finished t None h = absurd (subst (IsIn t) (sym b.running) (marked_running r.claims t h))
@@ -233,7 +251,8 @@ at_rest P G con r b = (rests P G con (machine r) b.fits.sound).1 (record { none_
     finished t (Some (Ok tiles)) h = inr (λ i mine. elim (b.nothing_owed t tiles (ap (λ m. unwrap_or m None) h) i mine) [ inl s ↦ s | inr x ↦ absurd x ])
 
 -- a run in which all tasks without an edge into them were claimed
-pub all_opened : (P : Plan) (G : Data) (r : RunState) (running : List Task) → Fits P G opening_run → HasDone P (all_tasks P) [] opening_run r → running ≡ running_tasks r → IsBetweenTasks P G r running
+pub all_opened : (P : Plan) (G : Data) (r : RunState) (running : List Task) → Fits P G opening_run
+    → HasDone P (all_tasks P) [] opening_run r → running ≡ running_tasks r → IsBetweenTasks P G r running
 all_opened P G r running fits d is = record {
   fits = d.fits G fits;
   running = is;
@@ -242,7 +261,8 @@ all_opened P G r running fits d is = record {
 }
 
 -- a run in which a task is running has fewer ended tasks than the job has tasks
-pub some_left : (P : Plan) (G : Data) (r : RunState) (running : List Task) (t : Task) → Fits P G r → running ++ t ∷ [] ≡ running_tasks r → ended_count r < length (all_tasks P)
+pub some_left : (P : Plan) (G : Data) (r : RunState) (running : List Task) (t : Task) → Fits P G r
+    → running ++ t ∷ [] ≡ running_tasks r → ended_count r < length (all_tasks P)
 some_left P G r running t fits last =
     let all = claims_at_most P G (machine r) fits.sound in
     let parts = counted_among r.claims in
@@ -260,7 +280,8 @@ pub record IsSoFar (P : Plan) (ts left : List Task) (is owed : List Item) (old n
 pub nothing_yet : (P : Plan) (ts : List Task) (is : List Item) (r : RunState) → IsSoFar P ts ts is is r r
 nothing_yet P ts is r = record { tasks = []; sent = []; split = refl; split_items = refl; done = nothing_done P r }
 
-pub one_more : (P : Plan) (ts left us : List Task) (is owed js : List Item) (a b c : RunState) → IsSoFar P ts (us ++ left) is (js ++ owed) a b → HasDone P us js b c → IsSoFar P ts left is owed a c
+pub one_more : (P : Plan) (ts left us : List Task) (is owed js : List Item) (a b c : RunState)
+    → IsSoFar P ts (us ++ left) is (js ++ owed) a b → HasDone P us js b c → IsSoFar P ts left is owed a c
 one_more P ts left us is owed js a b c w d = record {
   tasks = w.tasks ++ us;
   sent = w.sent ++ js;
@@ -279,19 +300,24 @@ all_done P ts is a b w =
 pub rest_done : (P : Plan) (ts left : List Task) (a b : RunState) → IsSoFar P ts left [] [] a b → HasDone P left [] b b → HasDone P ts [] a b
 rest_done P ts left a b w d =
     let none : w.sent ≡ [] = sym (append-nil w.sent) ∙ sym w.split_items in
-    subst (λ l. HasDone P l [] a b) (sym w.split) (subst (λ l. HasDone P (w.tasks ++ left) (l ++ []) a b) none (done_then P w.tasks left w.sent [] a b b w.done d))
+    subst (λ l. HasDone P l [] a b) (sym w.split) (subst (λ l. HasDone P (w.tasks ++ left) (l ++ []) a b) none
+    (done_then P w.tasks left w.sent [] a b b w.done d))
 
 -- the task that was claimed last is one of the job
 pub last_task : (P : Plan) (G : Data) (r : RunState) (fits : Fits P G r) (t : Task) (running : List Task) → running ++ t ∷ [] ≡ running_tasks r → IsTask P t
 last_task P G r fits t running last = (fits.sound.claimed_have_all t (found_key t r.claims None (last_runs P G r fits t running last))).task
 
 -- the tiles that a task left are dropped once nothing is owed
-pub let_go_between : (P : Plan) (G : Data) → IsConsistent P → (t : Task) (last new : RunState) (tasks : List Task) → IsBetweenTasks P G last tasks → has_outputs (end_of last t) ≡ true → HasLetGo t last new → IsBetweenTasks P G new tasks
+pub let_go_between : (P : Plan) (G : Data) → IsConsistent P → (t : Task) (last new : RunState) (tasks : List Task)
+    → IsBetweenTasks P G last tasks → has_outputs (end_of last t) ≡ true → HasLetGo t last new
+    → IsBetweenTasks P G new tasks
 let_go_between P G con t last new tasks b outputs gone = record {
   fits = let_go_fits P G con last b.fits t new gone (λ i mine. elim (b.nothing_owed t o.0 o.1 i mine) [ inl s ↦ s | inr x ↦ absurd x ]);
   running = b.running ∙ sym (ap running_among gone.claims);
   none_ready = λ u may. b.none_ready u (subst (λ S. MayClaim P S u) same may);
-  nothing_owed = λ u tiles end i mine. elim (b.nothing_owed u tiles (sym (ap (λ cs. unwrap_or (lookup (same_task u) cs) None) gone.claims) ∙ end) i mine) [ inl s ↦ inl (ap (λ (S : MachineState). is_sent S i) same ∙ s) | inr x ↦ absurd x ];
+  nothing_owed = λ u tiles end i mine. elim (b.nothing_owed u tiles
+      (sym (ap (λ cs. unwrap_or (lookup (same_task u) cs) None) gone.claims) ∙ end) i mine)
+      [ inl s ↦ inl (ap (λ (S : MachineState). is_sent S i) same ∙ s) | inr x ↦ absurd x ];
 }
   where
     o : (tiles : Tiles) × (end_of last t ≡ Some (Ok tiles))
@@ -301,7 +327,8 @@ let_go_between P G con t last new tasks b outputs gone = record {
     same = λ i. record { claims = keys_of (gone.claims i); sends = gone.sends i }
 
 -- between two tasks, after one has trapped, and after the items of one were sent
-pub between_trapped : (P : Plan) (G : Data) (t : Task) (running : List Task) (old new : RunState) (trap : Option Trap) → HasEnded P G t running old new trap → Fits P G new → true ≡ is_some trap → IsBetweenTasks P G new running
+pub between_trapped : (P : Plan) (G : Data) (t : Task) (running : List Task) (old new : RunState) (trap : Option Trap)
+    → HasEnded P G t running old new trap → Fits P G new → true ≡ is_some trap → IsBetweenTasks P G new running
 between_trapped P G t running old new trap e fits some = record {
   fits = fits;
   running = e.running;
@@ -309,7 +336,8 @@ between_trapped P G t running old new trap e fits some = record {
   nothing_owed = e.trapped (λ none. false≢true (sym (ap is_some none) ∙ sym some));
 }
 
-pub between_sent : (P : Plan) (G : Data) (t : Task) (running : List Task) (old new : RunState) (trap : Option Trap) → HasEnded P G t running old new trap → Fits P G new
+pub between_sent : (P : Plan) (G : Data) (t : Task) (running : List Task) (old new : RunState) (trap : Option Trap)
+    → HasEnded P G t running old new trap → Fits P G new
     → (last : RunState) (now : List Task) → HasDone P [] (items P t) new last → now ≡ running_tasks last → IsBetweenTasks P G last now
 between_sent P G t running old new trap e fits last now d is = record {
   fits = d.fits G fits;
@@ -327,7 +355,11 @@ module _ (P : Plan) (t : Task) (a b : RunState) (outputs : has_outputs (end_of a
   pub output : (i : Item) → IsIn i (items P t) → ((u : Task) → end_of b u ≡ end_of a u) → IsOutputItem P b i
   output i mine ends =
       let from : sender i ≡ t = item_sender P t i mine in
-      record { outputs = ap (λ u. has_outputs (end_of b u)) from ∙ ap has_outputs (ends t) ∙ outputs; is_item = subst (λ u. IsIn i (items P u)) (sym from) mine }
+      record {
+        outputs = ap (λ u. has_outputs (end_of b u)) from ∙ ap has_outputs (ends t)
+            ∙ outputs;
+        is_item = subst (λ u. IsIn i (items P u)) (sym from) mine;
+      }
 
   pub item_output : (all left : List Item) (i : Item) → all ≡ items P t → IsSoFar P [] [] all (i ∷ left) a b
       → IsOutputItem P b i

@@ -34,7 +34,9 @@ opens_first = record { sends = refl; running = refl }
 
 module _ (P : Plan) (r : RunState) (o : IsOpening r) where
   none_come : (t : Task) → arrived P (machine r) t ≡ 0
-  none_come t = ap (λ (s : List SentItem). arrived P (record { claims = keys_of r.claims; sends = s }) t) o.sends ∙ count-none (λ (e : Edge). is_sent (record { claims = keys_of r.claims; sends = [] }) (item.Edge e)) (in_edges P t) (λ e. refl)
+  none_come t = ap (λ (s : List SentItem). arrived P (record { claims = keys_of r.claims; sends = s }) t) o.sends
+      ∙ count-none (λ (e : Edge). is_sent (record { claims = keys_of r.claims; sends = [] }) (item.Edge e))
+      (in_edges P t) (λ e. refl)
 
   root : (t : Task) → IsTask P t → arrived P (machine r) t ≡ goal P t → IsIn t (roots P)
   root t job all = (IsIn-filter (λ (u : Task). goal P u == 0) (all_tasks P) t).1 ((listed P t).0 job, eq-eqb (goal P t) 0 (sym all ∙ none_come t))

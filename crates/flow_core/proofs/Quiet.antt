@@ -1,5 +1,6 @@
 -- Searches for what may happen next, and what follows if nothing is found.
-use Rattle.std.proofs.Common.{◌≡◌, ◌≤◌, Bool, true, false, not, cond, List, [], ◌∷◌, refl, ap, sym, ◌∙◌, subst, Option, Some, None, Ok, Err, IsTrue, ◌↔◌, inl, inr, arith}
+use Rattle.std.proofs.Common.{◌≡◌, ◌≤◌, Bool, true, false, not, cond, List, [], ◌∷◌, refl, ap, sym, ◌∙◌, subst, Option}
+use Rattle.std.proofs.Common.{Some, None, Ok, Err, IsTrue, ◌↔◌, inl, inr, arith}
 use Rattle.std.proofs.lemmas.Bool.{false≢true}
 use Rattle.std.specs.Prelude.{unwrap_or}
 use Rattle.std.specs.Map.{keys_of, lookup}
@@ -59,7 +60,9 @@ module _ (P : Plan) (sends : List SentItem) (t : Task) (end : Option Ended) wher
   pub edge_owed : has_outputs end ≡ true → HasOne (λ (e : Edge). IsUnsent sends (item.Edge e)) (out_edges P t) → IsTrue true ↔ Owes P sends (t, end)
   edge_owed h one = (λ k. (h, (item.Edge one.0, edge_item (items P t) one.0 one.1, one.2)), λ o. refl)
 
-  pub write_owed : has_outputs end ≡ true → (HasOne (λ (e : Edge). IsUnsent sends (item.Edge e)) (out_edges P t) → ⊥) → (b : Bool) → IsTrue b ↔ HasOne (λ (w : WriteBack). IsUnsent sends (item.Write w)) (write_backs P t) → IsTrue b ↔ Owes P sends (t, end)
+  pub write_owed : has_outputs end ≡ true → (HasOne (λ (e : Edge). IsUnsent sends (item.Edge e)) (out_edges P t) → ⊥)
+      → (b : Bool) → IsTrue b ↔ HasOne (λ (w : WriteBack). IsUnsent sends (item.Write w)) (write_backs P t)
+      → IsTrue b ↔ Owes P sends (t, end)
   write_owed h none b exact = (
     λ k. let one = exact.0 k in (h, (item.Write one.0, write_item (items P t) one.0 one.1, one.2)),
     λ o. exact.1 (the_write o.1.0 o.1.1 o.1.2),
@@ -85,7 +88,8 @@ entry_key : (cs : List (Task × Option Ended)) (c : Task × Option Ended) → Is
 entry_key [] c i = i
 entry_key (d ∷ cs) c i = elim i [ inl e ↦ inl (ap (λ (x : Task × Option Ended). x.0) e) | inr j ↦ inr (entry_key cs c j) ]
 
-entry_found : (cs : List (Task × Option Ended)) (c : Task × Option Ended) → ((t : Task) → count (same_task t) (keys_of cs) ≤ 1) → IsIn c cs → lookup (same_task c.0) cs ≡ Some c.1
+entry_found : (cs : List (Task × Option Ended)) (c : Task × Option Ended)
+    → ((t : Task) → count (same_task t) (keys_of cs) ≤ 1) → IsIn c cs → lookup (same_task c.0) cs ≡ Some c.1
 entry_found [] c once i = absurd i
 entry_found (d ∷ cs) c once i = elim i [
   | inl e ↦
@@ -129,9 +133,15 @@ module _ (P : Plan) (G : Data) (con : IsConsistent P) (r : RunState) (fits : Fit
       finished : (t : Task) (m : Option Ended) → lookup (same_task t) r.claims ≡ Some m → IsFinished P G (machine r) t
       finished t None h = absurd (idle t h)
       finished t (Some (Err cause)) h = inl (ap has_outputs (fits.ends t (Err cause) (ap (λ m. unwrap_or m None) h)))
-      finished t (Some (Ok tiles)) h = inr (λ i mine. by_test (is_sent (machine r) i) (λ s. s) (λ s. absurd (none_owed ((t, Some (Ok tiles)), found_entry r.claims t (Some (Ok tiles)) h, (refl, (i, mine, unsent (machine r) i s))))))
+      finished t (Some (Ok tiles)) h = inr (λ i mine. by_test (is_sent (machine r) i) (λ s. s)
+          (λ s. absurd (none_owed (
+            (t, Some (Ok tiles)),
+            found_entry r.claims t (Some (Ok tiles)) h,
+            (refl, (i, mine, unsent (machine r) i s)),
+          ))))
 
-  pub quiet_by : (b : Bool) → (HasOne (MayClaim P (machine r)) (all_tasks P) → ⊥) → IsTrue b ↔ HasOne (Owes P r.sends) r.claims → IsTrue (not b) ↔ IsQuiescent P G (machine r)
+  pub quiet_by : (b : Bool) → (HasOne (MayClaim P (machine r)) (all_tasks P) → ⊥)
+      → IsTrue b ↔ HasOne (Owes P r.sends) r.claims → IsTrue (not b) ↔ IsQuiescent P G (machine r)
   quiet_by true none_ready exact = (λ h. absurd (false≢true h), λ quiet. absurd (owed_possible (exact.0 refl) quiet))
   quiet_by false none_ready exact = (λ h. all_quiet none_ready (λ one. false≢true (exact.1 one)), λ quiet. refl)
 

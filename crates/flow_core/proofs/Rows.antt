@@ -1,5 +1,6 @@
 -- The rows of a run: its trapped tasks and its waiting tasks are those of the event machine.
-use Rattle.std.proofs.Common.{◌≡◌, ℕ, ◌<◌, ◌≤◌, true, false, ◌&&◌, ◌==◌, nat_lt, cond, is_some, List, [], ◌∷◌, ◌++◌, map, refl, ap, sym, ◌∙◌, Option, Some, None, Ok, Err, eq-eqb, ◌⊎◌, inl, inr, arith}
+use Rattle.std.proofs.Common.{◌≡◌, ℕ, ◌<◌, ◌≤◌, true, false, ◌&&◌, ◌==◌, nat_lt, cond, is_some, List, [], ◌∷◌, ◌++◌}
+use Rattle.std.proofs.Common.{map, refl, ap, sym, ◌∙◌, Option, Some, None, Ok, Err, eq-eqb, ◌⊎◌, inl, inr, arith}
 use Rattle.std.proofs.lemmas.Bool.{eqb-true, false≢true, le-ltb, lt-ltb}
 use Rattle.std.proofs.lemmas.List.{append-nil}
 use Rattle.std.specs.Prelude.{unwrap_or}
@@ -37,7 +38,8 @@ use Rattle.flow_core.proofs.Arriving.{arrived_are}
 use Rattle.flow_core.proofs.Fitting.{end_known}
 
 -- the rows of all tasks, in task order, are those of the machine
-pub waits_all : (P : Plan) (S : MachineState) (rows : List WaitRow) → rows ≡ waits_among P S (all_tasks P) → in_task_order (λ (r : WaitRow). r.task) rows ≡ waiting_rows P S
+pub waits_all : (P : Plan) (S : MachineState) (rows : List WaitRow) → rows ≡ waits_among P S (all_tasks P)
+    → in_task_order (λ (r : WaitRow). r.task) rows ≡ waiting_rows P S
 unfolding waiting_tasks waiting_rows
 waits_all P S rows e = ap (in_task_order (λ (r : WaitRow). r.task)) e
 
@@ -45,7 +47,8 @@ waits_all P S rows e = ap (in_task_order (λ (r : WaitRow). r.task)) e
 pub no_wait : (P : Plan) (S : MachineState) (t : Task) (rows : List WaitRow) → is_waiting P S t ≡ false → rows ≡ rows ++ waits_among P S (t ∷ [])
 no_wait P S t rows k = sym (append-nil rows) ∙ ap (λ l. rows ++ l) (sym (ap (λ b. map (wait_row P S) (cond b (t ∷ []) [])) k))
 
-pub one_wait : (P : Plan) (S : MachineState) (t : Task) (rows : List WaitRow) → is_waiting P S t ≡ true → rows ++ wait_row P S t ∷ [] ≡ rows ++ waits_among P S (t ∷ [])
+pub one_wait : (P : Plan) (S : MachineState) (t : Task) (rows : List WaitRow) → is_waiting P S t ≡ true
+    → rows ++ wait_row P S t ∷ [] ≡ rows ++ waits_among P S (t ∷ [])
 one_wait P S t rows k = ap (λ l. rows ++ l) (sym (ap (λ b. map (wait_row P S) (cond b (t ∷ []) [])) k))
 
 module _ (P : Plan) (G : Data) (con : IsConsistent P) (r : RunState) (fits : Fits P G r) (t : Task) where
@@ -64,7 +67,8 @@ module _ (P : Plan) (G : Data) (con : IsConsistent P) (r : RunState) (fits : Fit
     waits_by : is_waiting P (machine r) t ≡ (nat_lt 0 sent && nat_lt sent all)
     waits_by =
         let free : (claim_count (machine r) t == 0) ≡ true = eq-eqb (claim_count (machine r) t) 0 ((key_count t r.claims).0 none) in
-        ap (λ b. b && (nat_lt 0 (arrived P (machine r) t) && nat_lt (arrived P (machine r) t) (goal P t))) free ∙ (λ i. nat_lt 0 (come i) && nat_lt (come i) (sym all_is i))
+        ap (λ b. b && (nat_lt 0 (arrived P (machine r) t) && nat_lt (arrived P (machine r) t) (goal P t))) free
+        ∙ (λ i. nat_lt 0 (come i) && nat_lt (come i) (sym all_is i))
 
     pub waits_not : (sent ≤ 0) ⊎ (all ≤ sent) → is_waiting P (machine r) t ≡ false
     waits_not (inl h) = waits_by ∙ ap (λ b. b && nat_lt sent all) (le-ltb 0 sent h)
@@ -83,7 +87,8 @@ once_found t x (e ∷ es) i h = elim i [
   | inl q ↦ ap (λ b. cond b (Some e.1) (lookup (same_task t) es)) ((same_task-decides t e.0).1 (ap (λ p. p.0) q)) ∙ ap (λ p. Some p.1) (sym q)
   | inr later ↦
       by_test (same_task t e.0)
-      (λ k. let twice = count-some (same_task t) (keys_of es) t (key_in t x es later) ((same_task-decides t t).1 refl) in absurd (omega (arith, h, twice, ap as_number k)))
+      (λ k. let twice = count-some (same_task t) (keys_of es) t (key_in t x es later)
+      ((same_task-decides t t).1 refl) in absurd (omega (arith, h, twice, ap as_number k)))
       (λ k. ap (λ b. cond b (Some e.1) (lookup (same_task t) es)) k ∙ once_found t x es later (omega (arith, h, ap as_number k)))
 ]
   where
@@ -91,7 +96,8 @@ once_found t x (e ∷ es) i h = elim i [
     key_in t x [] i = absurd i
     key_in t x (e ∷ es) i = elim i [ inl q ↦ inl (ap (λ p. p.0) q) | inr later ↦ inr (key_in t x es later) ]
 
-flat_map-keys : {X B : Type 0} (f : Task → List B) (g : Task × X → List B) (es : List (Task × X)) → ((e : Task × X) → IsIn e es → f e.0 ≡ g e) → flat_map f (keys_of es) ≡ flat_map g es
+flat_map-keys : {X B : Type 0} (f : Task → List B) (g : Task × X → List B) (es : List (Task × X))
+    → ((e : Task × X) → IsIn e es → f e.0 ≡ g e) → flat_map f (keys_of es) ≡ flat_map g es
 flat_map-keys f g [] h = refl
 flat_map-keys f g (e ∷ es) h = ap (λ l. l ++ flat_map f (keys_of es)) (h e (inl refl)) ∙ ap (λ l. g e ++ l) (flat_map-keys f g es (λ d i. h d (inr i)))
 
@@ -107,11 +113,13 @@ module _ (P : Plan) (G : Data) (con : IsConsistent P) (r : RunState) (fits : Fit
   pub traps_are : (rows : List TrapRow) → rows ≡ in_task_order (λ (r : TrapRow). r.task) (claim_traps r.claims) → rows ≡ state_traps P G (machine r)
   unfolding state_traps
   traps_are rows e =
-      e ∙ ap (in_task_order (λ (r : TrapRow). r.task)) (sym (flat_map-keys (λ t. trap_rows t (end_in P G (machine r) t)) (λ (c : Task × Option Ended). trap_rows c.0 c.1) r.claims
+      e ∙ ap (in_task_order (λ (r : TrapRow). r.task)) (sym (flat_map-keys (λ t. trap_rows t (end_in P G (machine r) t))
+      (λ (c : Task × Option Ended). trap_rows c.0 c.1) r.claims
       (λ c i. row_as_ended c.0 c.1 (once_found c.0 c.1 r.claims i (fits.sound.claimed_once c.0)))))
 
 -- the answer, by the trapped tasks and the number of the claimed ones
-pub answer_trapped : (P : Plan) (G : Data) (S : MachineState) (rows : List TrapRow) → rows ≡ state_traps P G S → (rows ≡ [] → ⊥) → Trapped rows ≡ state_answer P G S
+pub answer_trapped : (P : Plan) (G : Data) (S : MachineState) (rows : List TrapRow) → rows ≡ state_traps P G S
+    → (rows ≡ [] → ⊥) → Trapped rows ≡ state_answer P G S
 unfolding state_answer
 answer_trapped P G S rows are some = by rows some ∙ ap (state_answer_by P G S) are
   where
@@ -120,12 +128,14 @@ answer_trapped P G S rows are some = by rows some ∙ ap (state_answer_by P G S)
     by (row ∷ rows) some = refl
 
 -- the answer if no task has trapped
-pub answer_untrapped : (P : Plan) (G : Data) (S : MachineState) (rows : List TrapRow) → rows ≡ state_traps P G S → rows ≡ [] → state_answer_by P G S [] ≡ state_answer P G S
+pub answer_untrapped : (P : Plan) (G : Data) (S : MachineState) (rows : List TrapRow) → rows ≡ state_traps P G S
+    → rows ≡ [] → state_answer_by P G S [] ≡ state_answer P G S
 unfolding state_answer
 answer_untrapped P G S rows are none = ap (state_answer_by P G S) (sym none ∙ are)
 
 -- a task has at most as many rows as claims
-count-traps : (t : Task) (claims : List (Task × Option Ended)) → count (λ (r : TrapRow). same_task t r.task) (claim_traps claims) ≤ count (same_task t) (keys_of claims)
+count-traps : (t : Task) (claims : List (Task × Option Ended))
+    → count (λ (r : TrapRow). same_task t r.task) (claim_traps claims) ≤ count (same_task t) (keys_of claims)
 count-traps t [] = omega arith
 count-traps t (c ∷ claims) =
     omega (arith, count-traps t claims, weigh-append (λ (r : TrapRow). as_number (same_task t r.task)) (trap_rows c.0 c.1) (claim_traps claims), one c.0 c.1)
@@ -135,16 +145,19 @@ count-traps t (c ∷ claims) =
     one u (Some (Ok tiles)) = omega arith
     one u (Some (Err cause)) = omega arith
 
-pub traps_differ : (rows rest : List TrapRow) (claims : List (Task × Option Ended)) → rows ++ rest ≡ claim_traps claims → ((t : Task) → count (same_task t) (keys_of claims) ≤ 1) → AreOfDifferentTasks (λ (r : TrapRow). r.task) rows
+pub traps_differ : (rows rest : List TrapRow) (claims : List (Task × Option Ended)) → rows ++ rest ≡ claim_traps claims
+    → ((t : Task) → count (same_task t) (keys_of claims) ≤ 1) → AreOfDifferentTasks (λ (r : TrapRow). r.task) rows
 traps_differ rows rest claims e once t =
     let test = λ (r : TrapRow). same_task t r.task in
     omega (arith, once t, count-traps t claims, weigh-append (λ (r : TrapRow). as_number (test r)) rows rest, ap (λ (l : List TrapRow). count test l) e)
 
-count-rows : (P : Plan) (S : MachineState) (t : Task) (ts : List Task) → count (λ (r : WaitRow). same_task t r.task) (map (wait_row P S) ts) ≡ count (same_task t) ts
+count-rows : (P : Plan) (S : MachineState) (t : Task) (ts : List Task)
+    → count (λ (r : WaitRow). same_task t r.task) (map (wait_row P S) ts) ≡ count (same_task t) ts
 count-rows P S t [] = refl
 count-rows P S t (u ∷ ts) = omega (arith, count-rows P S t ts)
 
-pub waits_differ : (P : Plan) (S : MachineState) (rows : List WaitRow) → rows ≡ waits_among P S (all_tasks P) → AreOfDifferentTasks (λ (r : WaitRow). r.task) rows
+pub waits_differ : (P : Plan) (S : MachineState) (rows : List WaitRow) → rows ≡ waits_among P S (all_tasks P)
+    → AreOfDifferentTasks (λ (r : WaitRow). r.task) rows
 waits_differ P S rows e t =
     omega (
       arith,

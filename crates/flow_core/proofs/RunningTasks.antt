@@ -1,5 +1,6 @@
 -- The running tasks among claimed ones, as tasks are claimed and end.
-use Rattle.std.proofs.Common.{◌≡◌, suc, ◌+◌, ◌≤◌, Bool, true, false, cond, is_some, List, [], ◌∷◌, ◌++◌, length, refl, ap, sym, ◌∙◌, subst, Option, Some, None, inl, inr, arith}
+use Rattle.std.proofs.Common.{◌≡◌, suc, ◌+◌, ◌≤◌, Bool, true, false, cond, is_some, List, [], ◌∷◌, ◌++◌, length, refl}
+use Rattle.std.proofs.Common.{ap, sym, ◌∙◌, subst, Option, Some, None, inl, inr, arith}
 use Rattle.std.proofs.lemmas.Bool.{false≢true}
 use Rattle.std.specs.List.{filter}
 use Rattle.std.specs.Map.{keys_of, lookup, set_value}
@@ -27,7 +28,8 @@ same_length c false xs ys e = e
 pub ended_push : (cs : Claims) (t : Task) → ended_among (cs ++ (t, None) ∷ []) ≡ ended_among cs
 ended_push [] t = refl
 ended_push (c ∷ cs) t =
-    same_length c (is_some c.1) (filter (λ (d : Task × Option Ended). is_some d.1) (cs ++ (t, None) ∷ [])) (filter (λ (d : Task × Option Ended). is_some d.1) cs) (ended_push cs t)
+    same_length c (is_some c.1) (filter (λ (d : Task × Option Ended). is_some d.1) (cs ++ (t, None) ∷ []))
+    (filter (λ (d : Task × Option Ended). is_some d.1) cs) (ended_push cs t)
 
 -- each claimed task is running or has ended
 pub counted_among : (cs : Claims) → ended_among cs + length (running_among cs) ≡ length (keys_of cs)
@@ -83,13 +85,15 @@ not_empty [] t e = cc
 not_empty (y ∷ ys) t e = cc
 
 -- the last running task, at the head of the claims or further on
-ends_here : (cs : Claims) (s t : Task) (ys : List Task) → Once (s ∷ keys_of cs) → s ∷ running_among cs ≡ ys ++ t ∷ [] → same_task t s ≡ true → running_among cs ≡ ys
+ends_here : (cs : Claims) (s t : Task) (ys : List Task) → Once (s ∷ keys_of cs) → s ∷ running_among cs ≡ ys ++ t ∷ []
+    → same_task t s ≡ true → running_among cs ≡ ys
 ends_here cs s t [] once e k = cc
 ends_here cs s t (y ∷ ys) once e k =
     let rest : running_among cs ≡ ys ++ t ∷ [] = cc in
     absurd (not_again (keys_of cs) s t once k (running_key cs t (subst (IsIn t) (sym rest) (last_in ys t))))
 
-ends_later : (running : List Task) (s t : Task) (ys left : List Task) → s ∷ running ≡ ys ++ t ∷ [] → same_task t s ≡ false → ((zs : List Task) → running ≡ zs ++ t ∷ [] → left ≡ zs) → s ∷ left ≡ ys
+ends_later : (running : List Task) (s t : Task) (ys left : List Task) → s ∷ running ≡ ys ++ t ∷ []
+    → same_task t s ≡ false → ((zs : List Task) → running ≡ zs ++ t ∷ [] → left ≡ zs) → s ∷ left ≡ ys
 ends_later running s t [] left e k h = let same : t ≡ s = cc in absurd (false≢true (sym k ∙ (same_task-decides t s).1 same))
 ends_later running s t (y ∷ ys) left e k h =
     let first : s ≡ y = cc in
@@ -97,19 +101,23 @@ ends_later running s t (y ∷ ys) left e k h =
     ap (λ l. s ∷ l) (h ys rest) ∙ ap (λ x. x ∷ ys) first
 
 -- the last running task ends
-pub running_set : (cs : Claims) (t : Task) (end : Ended) (ys : List Task) → Once (keys_of cs) → running_among cs ≡ ys ++ t ∷ [] → running_among (set_value (same_task t) cs (Some end)) ≡ ys
+pub running_set : (cs : Claims) (t : Task) (end : Ended) (ys : List Task) → Once (keys_of cs)
+    → running_among cs ≡ ys ++ t ∷ [] → running_among (set_value (same_task t) cs (Some end)) ≡ ys
 running_set [] t end ys once e = absurd (not_empty ys t e)
 running_set ((s, None) ∷ cs) t end ys once e =
     by_test (same_task t s)
     (λ k. ap (λ b. running_among (cond b ((s, Some end) ∷ cs) ((s, None) ∷ set_value (same_task t) cs (Some end)))) k ∙ ends_here cs s t ys once e k)
     (λ k. ap (λ b. running_among (cond b ((s, Some end) ∷ cs) ((s, None) ∷ set_value (same_task t) cs (Some end)))) k
-    ∙ ends_later (running_among cs) s t ys (running_among (set_value (same_task t) cs (Some end))) e k (λ zs q. running_set cs t end zs (fewer (keys_of cs) s once) q))
+    ∙ ends_later (running_among cs) s t ys (running_among (set_value (same_task t) cs (Some end))) e k
+    (λ zs q. running_set cs t end zs (fewer (keys_of cs) s once) q))
 running_set ((s, Some old) ∷ cs) t end ys once e =
     by_test (same_task t s)
     (λ k. absurd (not_again (keys_of cs) s t once k (running_key cs t (subst (IsIn t) (sym e) (last_in ys t)))))
-    (λ k. ap (λ b. running_among (cond b ((s, Some end) ∷ cs) ((s, Some old) ∷ set_value (same_task t) cs (Some end)))) k ∙ running_set cs t end ys (fewer (keys_of cs) s once) e)
+    (λ k. ap (λ b. running_among (cond b ((s, Some end) ∷ cs) ((s, Some old) ∷ set_value (same_task t) cs (Some end))))
+    k ∙ running_set cs t end ys (fewer (keys_of cs) s once) e)
 
-pub ended_set : (cs : Claims) (t : Task) (end : Ended) → lookup (same_task t) cs ≡ Some None → ended_among (set_value (same_task t) cs (Some end)) ≡ ended_among cs + 1
+pub ended_set : (cs : Claims) (t : Task) (end : Ended) → lookup (same_task t) cs ≡ Some None
+    → ended_among (set_value (same_task t) cs (Some end)) ≡ ended_among cs + 1
 ended_set [] t end h = absurd cc
 ended_set ((s, None) ∷ cs) t end h =
     by_test (same_task t s)

@@ -1,5 +1,7 @@
 -- The tiles that come by edges, put among those that a task starts on.
-use Rattle.std.proofs.Common.{◌≡◌, ℕ, zero, suc, ◌+◌, ◌≤◌, ℤ, Bool, true, false, cond, List, [], ◌∷◌, ◌++◌, length, refl, ap, sym, ◌∙◌, append_assoc, add-one, Option, Some, None, slice_get, slice_set, arith}
+use Rattle.std.proofs.Common.{◌≡◌, ℕ, zero, suc, ◌+◌, ◌≤◌, ℤ, Bool, true, false, cond, List, [], ◌∷◌, ◌++◌, length}
+use Rattle.std.proofs.Common.{refl, ap, sym, ◌∙◌, append_assoc, add-one, Option, Some, None, slice_get, slice_set}
+use Rattle.std.proofs.Common.{arith}
 use Rattle.std.specs.Prelude.{option_map}
 use Rattle.std.specs.Option.{option_map_or}
 use Rattle.std.proofs.lemmas.Option.{same_Some}
@@ -42,7 +44,8 @@ source_edge : (P : Plan) (t : Task) (n : ℕ) (e : Edge) → edge_of_source (dat
 unfolding data_source
 source_edge P t n e h = by (slice_get (flows_of P t) n) h
   where
-    by : (o : Option FlowPlan) → edge_of_source (option_map_or (λ f. source_among t (locals_of P t) n (flow_ins (locals_of P t) f)) o source.Nothing) ≡ Some e → GoesTo t n e
+    by : (o : Option FlowPlan) → edge_of_source (option_map_or
+        (λ f. source_among t (locals_of P t) n (flow_ins (locals_of P t) f)) o source.Nothing) ≡ Some e → GoesTo t n e
     by None k = absurd cc
     by (Some f) k = among_targets t (locals_of P t) n (flow_ins (locals_of P t) f) e k
 
@@ -71,14 +74,17 @@ module _ (P : Plan) (G : Data) where
   pub edge_tile : (d : Delivery) (t : Task) (n : ℕ) (f : FlowPlan) (e : Edge) → edge_into P t n f ≡ Some e → starting_tile P G d t n f ≡ d e
   edge_tile d t n f e h =
       by_test (is_data (Some f.kind))
-      (λ k. ap (λ b. cond b (tile_from P G d f (data_source P t n)) None) k ∙ from_edge d f (data_source P t n) e (sym (ap (λ b. cond b (edge_of_source (data_source P t n)) None) k) ∙ h))
+      (λ k. ap (λ b. cond b (tile_from P G d f (data_source P t n)) None) k
+      ∙ from_edge d f (data_source P t n) e (sym (ap (λ b. cond b (edge_of_source (data_source P t n)) None) k)
+      ∙ h))
       (λ k. let no : None ≡ Some e = sym (ap (λ b. cond b (edge_of_source (data_source P t n)) None) k) ∙ h in absurd cc)
 
   -- another one starts on the same whatever edges deliver
   pub other_tile : (d g : Delivery) (t : Task) (n : ℕ) (f : FlowPlan) → edge_into P t n f ≡ None → starting_tile P G d t n f ≡ starting_tile P G g t n f
   other_tile d g t n f h =
       by_test (is_data (Some f.kind))
-      (λ k. ap (λ b. cond b (tile_from P G d f (data_source P t n)) None) k ∙ from_none d g f (data_source P t n) (sym (ap (λ b. cond b (edge_of_source (data_source P t n)) None) k) ∙ h)
+      (λ k. ap (λ b. cond b (tile_from P G d f (data_source P t n)) None) k
+      ∙ from_none d g f (data_source P t n) (sym (ap (λ b. cond b (edge_of_source (data_source P t n)) None) k) ∙ h)
       ∙ sym (ap (λ b. cond b (tile_from P G g f (data_source P t n)) None) k))
       (λ k. ap (λ b. cond b (tile_from P G d f (data_source P t n)) None) k ∙ sym (ap (λ b. cond b (tile_from P G g f (data_source P t n)) None) k))
 
@@ -89,15 +95,18 @@ module _ (P : Plan) (G : Data) where
       where
         by : (o : Option Edge) → edge_into P t n f ≡ o → starting_tile P G d t n f ≡ starting_tile P G g t n f
         by None k = other_tile d g t n f k
-        by (Some e) k = let goes = edge_goes P t n f e k in edge_tile d t n f e k ∙ same e goes.to (omega (arith, goes.in_flow, h)) ∙ sym (edge_tile g t n f e k)
+        by (Some e) k = let goes = edge_goes P t n f e k in edge_tile d t n f e k
+            ∙ same e goes.to (omega (arith, goes.in_flow, h)) ∙ sym (edge_tile g t n f e k)
 
     pub tiles_same : (n : ℕ) (fs : List FlowPlan) → m ≤ n → tiles_from P G d t n fs ≡ tiles_from P G g t n fs
     tiles_same n [] h = refl
     tiles_same n (f ∷ fs) h = λ i. tile_same n f h i ∷ tiles_same (suc n) fs (omega arith) i
 
   -- the tiles with one more flow done
-  pub one_done : (d : Delivery) (t : Task) (n : ℕ) (f : FlowPlan) (rest : List FlowPlan) (before tiles : List (Option (List ℤ))) (y : Option (List ℤ)) → y ≡ starting_tile P G d t n f
-      → tiles ≡ before ++ y ∷ tiles_from P G nothing_delivered t (suc n) rest → tiles ≡ (before ++ starting_tile P G d t n f ∷ []) ++ tiles_from P G nothing_delivered t (n + 1) rest
+  pub one_done : (d : Delivery) (t : Task) (n : ℕ) (f : FlowPlan) (rest : List FlowPlan)
+      (before tiles : List (Option (List ℤ))) (y : Option (List ℤ)) → y ≡ starting_tile P G d t n f
+      → tiles ≡ before ++ y ∷ tiles_from P G nothing_delivered t (suc n) rest
+      → tiles ≡ (before ++ starting_tile P G d t n f ∷ []) ++ tiles_from P G nothing_delivered t (n + 1) rest
   one_done d t n f rest before tiles y is e =
       e ∙ sym (append_assoc before (y ∷ []) (tiles_from P G nothing_delivered t (suc n) rest))
       ∙ (λ i. (before ++ is i ∷ []) ++ tiles_from P G nothing_delivered t (sym (add-one n) i) rest)
@@ -146,7 +155,8 @@ pub record HasFirst (P : Plan) (t : Task) (n : ℕ) (fs : List FlowPlan) (x : Op
   pub first : x ≡ option_map (λ e. item.Edge e) (edge_into P t n flow)
   pub rest : xs ≡ edges_from P t (n + 1) others
 
-pub first_edge : (P : Plan) (t : Task) (n : ℕ) (fs : List FlowPlan) (x : Option Item) (xs : List (Option Item)) → x ∷ xs ≡ edges_from P t n fs → HasFirst P t n fs x xs
+pub first_edge : (P : Plan) (t : Task) (n : ℕ) (fs : List FlowPlan) (x : Option Item) (xs : List (Option Item))
+    → x ∷ xs ≡ edges_from P t n fs → HasFirst P t n fs x xs
 first_edge P t n [] x xs h = absurd cc
 first_edge P t n (f ∷ fs) x xs h =
     let rest : xs ≡ edges_from P t (suc n) fs = cc in

@@ -50,6 +50,7 @@ module _ (P : Plan) (G : Data) (con : IsConsistent P) (r : RunState) (fits : Fit
   pub all_writable : All (IsWritable G) (writes_among r.sends)
   all_writable = (some_writes r.sends (λ x i. i)).writable
 
-  pub data_is : (writes : List (WriteBack × List ℤ)) (end : Data) → writes ≡ writes_among r.sends → end ≡ replaced_data (λ here. first_written here (with_tiles writes)) G → end ≡ state_data G (machine r)
+  pub data_is : (writes : List (WriteBack × List ℤ)) (end : Data) → writes ≡ writes_among r.sends
+      → end ≡ replaced_data (λ here. first_written here (with_tiles writes)) G → end ≡ state_data G (machine r)
   unfolding state_data
   data_is writes end are e = e ∙ ap (λ ws. replaced_data (λ here. first_written here ws) G) (ap with_tiles are ∙ (some_writes r.sends (λ x i. i)).are)

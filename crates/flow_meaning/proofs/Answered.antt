@@ -1,5 +1,6 @@
 -- The answer of a quiescent sound state is that of the backward meaning.
-use Rattle.std.proofs.Common.{◌≡◌, ℕ, suc, ℤ, Bool, true, false, cond, eqb, List, [], ◌∷◌, ◌++◌, length, refl, ap, sym, ◌∙◌, subst, Option, Some, None, is_some, ◌⊎◌, inl, inr, Ok, Err, arith}
+use Rattle.std.proofs.Common.{◌≡◌, ℕ, suc, ℤ, Bool, true, false, cond, eqb, List, [], ◌∷◌, ◌++◌, length, refl, ap, sym}
+use Rattle.std.proofs.Common.{◌∙◌, subst, Option, Some, None, is_some, ◌⊎◌, inl, inr, Ok, Err, arith}
 use Rattle.std.specs.Prelude.{unwrap_or}
 use Rattle.std.proofs.lemmas.Bool.{false≢true, eqb-true}
 use Rattle.std.specs.List.{filter_map, cons_option, flat_map}
@@ -48,8 +49,11 @@ entry_of_send x = written_by x.item x.tile
 write_send : WriteBack → Option (List ℤ) → SentItem
 write_send w tile = record { item = item.Write w; tile = tile }
 
-written_step : (x : SentItem) (xs : List SentItem) (w : WriteBack) (tile : Option (List ℤ)) → (IsIn {A = Written} (w, tile) (filter_map entry_of_send xs) → IsIn (write_send w tile) xs) →
-    (i : Item) (o : Option (List ℤ)) → x.item ≡ i → x.tile ≡ o → IsIn {A = Written} (w, tile) (cons_option (written_by i o) (filter_map entry_of_send xs)) → IsIn (write_send w tile) (x ∷ xs)
+written_step : (x : SentItem) (xs : List SentItem) (w : WriteBack) (tile : Option (List ℤ))
+    → (IsIn {A = Written} (w, tile) (filter_map entry_of_send xs) → IsIn (write_send w tile) xs) →
+    (i : Item) (o : Option (List ℤ)) → x.item ≡ i → x.tile ≡ o
+    → IsIn {A = Written} (w, tile) (cons_option (written_by i o) (filter_map entry_of_send xs))
+    → IsIn (write_send w tile) (x ∷ xs)
 unfolding write_send
 written_step x xs w tile ih (item.Edge e) o is has h = inr (ih h)
 written_step x xs w tile ih (item.Write v) o is has h = elim h [
@@ -62,7 +66,8 @@ written_step x xs w tile ih (item.Write v) o is has h = elim h [
   | inr t ↦ inr (ih t)
 ]
 
-written_send : (xs : List SentItem) (w : WriteBack) (tile : Option (List ℤ)) → IsIn {A = Written} (w, tile) (filter_map entry_of_send xs) → IsIn (write_send w tile) xs
+written_send : (xs : List SentItem) (w : WriteBack) (tile : Option (List ℤ))
+    → IsIn {A = Written} (w, tile) (filter_map entry_of_send xs) → IsIn (write_send w tile) xs
 written_send [] w tile h = absurd h
 written_send (x ∷ xs) w tile h = written_step x xs w tile (λ k. written_send xs w tile k) x.item x.tile refl refl h
 
@@ -74,16 +79,20 @@ put_in (item.Write w) o l r h = inr h
 put_first : (w : WriteBack) (x : SentItem) (l : List Written) → x.item ≡ item.Write w → IsIn {A = Written} (w, x.tile) (cons_option (entry_of_send x) l)
 put_first w x l e = subst (λ i. IsIn {A = Written} (w, x.tile) (cons_option (written_by i x.tile) l)) (sym e) (inl refl)
 
-send_written : (xs : List SentItem) (x : SentItem) (w : WriteBack) → IsIn x xs → x.item ≡ item.Write w → IsIn {A = Written} (w, x.tile) (filter_map entry_of_send xs)
+send_written : (xs : List SentItem) (x : SentItem) (w : WriteBack) → IsIn x xs → x.item ≡ item.Write w
+    → IsIn {A = Written} (w, x.tile) (filter_map entry_of_send xs)
 send_written [] x w h e = absurd h
 send_written (y ∷ ys) x w h e = elim h [
-  | inl q ↦ subst (λ z. IsIn {A = Written} (w, x.tile) (cons_option (entry_of_send z) (filter_map entry_of_send ys))) q (put_first w x (filter_map entry_of_send ys) e)
+  | inl q ↦ subst (λ z. IsIn {A = Written} (w, x.tile) (cons_option (entry_of_send z) (filter_map entry_of_send ys))) q
+      (put_first w x (filter_map entry_of_send ys) e)
   | inr t ↦ put_in y.item y.tile (filter_map entry_of_send ys) (w, x.tile) (send_written ys x w t e)
 ]
 
 -- the tile of the first write-back that passes the test, or none passes
 module _ (P : Plan) (G : Data) (here : Place → Bool) where
-  first_of_writes : (ws : List WriteBack) → ((w : WriteBack) × IsIn w ws × (here w.place ≡ true) × (written_to P G here ws ≡ written_tile P G w)) ⊎ (((w : WriteBack) → IsIn w ws → here w.place ≡ false) × (written_to P G here ws ≡ None))
+  first_of_writes : (ws : List WriteBack) → ((w : WriteBack) × IsIn w ws × (here w.place ≡ true)
+      × (written_to P G here ws ≡ written_tile P G w)) ⊎ (((w : WriteBack) → IsIn w ws → here w.place ≡ false)
+      × (written_to P G here ws ≡ None))
   first_of_writes [] = inr (λ w i. absurd i, refl)
   first_of_writes (w ∷ ws) =
       by_test (here w.place)
@@ -95,7 +104,9 @@ module _ (P : Plan) (G : Data) (here : Place → Bool) where
         | inr n ↦ inr (λ v i. elim i [ inl e ↦ ap (λ (u : WriteBack). here u.place) e ∙ k | inr t ↦ n.0 v t ], step ∙ n.1)
       ])
 
-  first_of_entries : (rs : List Written) → ((r : Written) × IsIn r rs × (here r.0.place ≡ true) × (first_written here rs ≡ r.1)) ⊎ (((r : Written) → IsIn r rs → here r.0.place ≡ false) × (first_written here rs ≡ None))
+  first_of_entries : (rs : List Written) → ((r : Written) × IsIn r rs × (here r.0.place ≡ true)
+      × (first_written here rs ≡ r.1)) ⊎ (((r : Written) → IsIn r rs → here r.0.place ≡ false)
+      × (first_written here rs ≡ None))
   first_of_entries [] = inr (λ r i. absurd i, refl)
   first_of_entries (r ∷ rs) =
       by_test (here r.0.place)
@@ -109,7 +120,9 @@ module _ (P : Plan) (G : Data) (here : Place → Bool) where
 
   -- both lists have the same tile at a place, if there is at most one write-back to it
   same_first : (ws : List WriteBack) (rs : List Written) → ((w v : WriteBack) → IsIn w ws → IsIn v ws → here w.place ≡ true → here v.place ≡ true → w ≡ v) →
-      ((w : WriteBack) → IsIn w ws → IsIn {A = Written} (w, written_tile P G w) rs) → ((r : Written) → IsIn r rs → IsIn r.0 ws × (r.1 ≡ written_tile P G r.0)) → written_to P G here ws ≡ first_written here rs
+      ((w : WriteBack) → IsIn w ws → IsIn {A = Written} (w, written_tile P G w) rs)
+      → ((r : Written) → IsIn r rs → IsIn r.0 ws × (r.1 ≡ written_tile P G r.0))
+      → written_to P G here ws ≡ first_written here rs
   same_first ws rs only to from = elim (first_of_writes ws) [
     | inl p ↦ elim (first_of_entries rs) [
       | inl q ↦
@@ -129,12 +142,14 @@ module _ (at bt : (Place → Bool) → Option (List ℤ)) (same : (c : ℕ) (x :
   tiles_same : (c : ℕ) (x : Coll) (k : ℕ) (tiles : List (List ℤ)) → replaced_tiles at c x k tiles ≡ replaced_tiles bt c x k tiles
   tiles_same c x k [] = refl
   tiles_same c x k (tile ∷ tiles) =
-      ap (λ o. unwrap_or o tile ∷ replaced_tiles at c x (suc k) tiles) (same c x k) ∙ ap (λ l. unwrap_or (bt (is_place_of c x k)) tile ∷ l) (tiles_same c x (suc k) tiles)
+      ap (λ o. unwrap_or o tile ∷ replaced_tiles at c x (suc k) tiles) (same c x k)
+      ∙ ap (λ l. unwrap_or (bt (is_place_of c x k)) tile ∷ l) (tiles_same c x (suc k) tiles)
 
   colls_same : (c : ℕ) (xs : List Coll) → replaced_colls at c xs ≡ replaced_colls bt c xs
   colls_same c [] = refl
   colls_same c (x ∷ xs) =
-      ap (λ ts. record x { tiles = ts } ∷ replaced_colls at (suc c) xs) (tiles_same c x 0 x.tiles) ∙ ap (λ l. record x { tiles = replaced_tiles bt c x 0 x.tiles } ∷ l) (colls_same (suc c) xs)
+      ap (λ ts. record x { tiles = ts } ∷ replaced_colls at (suc c) xs) (tiles_same c x 0 x.tiles)
+      ∙ ap (λ l. record x { tiles = replaced_tiles bt c x 0 x.tiles } ∷ l) (colls_same (suc c) xs)
 
   data_same : (G : Data) → replaced_data at G ≡ replaced_data bt G
   data_same G = ap (λ cs. record G { colls = cs }) (colls_same 0 G.colls)
@@ -201,7 +216,8 @@ module _ (P : Plan) (G : Data) (con : IsConsistent P) (S : MachineState) (sound 
         let job = (sound.claimed_have_all r.0.from o.claimed).task in
         (IsIn-flat_map (write_backs P) (all_tasks P) r.0.from r.0 ((listed P r.0.from).0 job) (item_write (items P r.0.from) r.0 o.is_item), o.tile)
 
-    one_write : (c : ℕ) (x : Coll) (k : ℕ) (w v : WriteBack) → IsIn w (all_writes P) → IsIn v (all_writes P) → is_place_of c x k w.place ≡ true → is_place_of c x k v.place ≡ true → w ≡ v
+    one_write : (c : ℕ) (x : Coll) (k : ℕ) (w v : WriteBack) → IsIn w (all_writes P) → IsIn v (all_writes P)
+        → is_place_of c x k w.place ≡ true → is_place_of c x k v.place ≡ true → w ≡ v
     one_write c x k w v i j h g = one_from_map (λ (u : WriteBack). u.place) (all_writes P) con.written_once w v i j (one_place c x k w.place v.place h g)
 
     -- the final data of the state are those of the meaning
@@ -219,13 +235,15 @@ module _ (P : Plan) (G : Data) (con : IsConsistent P) (S : MachineState) (sound 
       cond b (Complete (length (all_tasks P)) (state_data G S)) (Stalled (length S.claims) (length (all_tasks P)) (waiting_rows P S))
   by_length none true e = ap (λ d. Complete (length (all_tasks P)) d) (final_same (all_outputs none (eqb-true (length (ran P G)) (length (all_tasks P)) e)))
   by_length none false e =
-      ap (λ n. Stalled n (length (all_tasks P)) (waiting P G)) (sym same_length) ∙ ap (λ rows. Stalled (length S.claims) (length (all_tasks P)) rows) (waiting_same P G con S sound quiet)
+      ap (λ n. Stalled n (length (all_tasks P)) (waiting P G)) (sym same_length)
+      ∙ ap (λ rows. Stalled (length S.claims) (length (all_tasks P)) rows) (waiting_same P G con S sound quiet)
 
   by_rows : (rows : List TrapRow) → trapped P G ≡ rows → answer_by P G rows ≡ state_answer_by P G S rows
   by_rows (r ∷ rows) e = refl
   by_rows [] e =
       by_length e (eqb (length (ran P G)) (length (all_tasks P))) refl
-      ∙ ap (λ n. cond (eqb n (length (all_tasks P))) (Complete (length (all_tasks P)) (state_data G S)) (Stalled (length S.claims) (length (all_tasks P)) (waiting_rows P S))) (sym same_length)
+      ∙ ap (λ n. cond (eqb n (length (all_tasks P))) (Complete (length (all_tasks P)) (state_data G S))
+      (Stalled (length S.claims) (length (all_tasks P)) (waiting_rows P S))) (sym same_length)
 
   -- the answer of the state is that of the meaning
   pub answer_same : answer P G ≡ state_answer P G S

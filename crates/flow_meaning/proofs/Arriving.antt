@@ -21,7 +21,8 @@ use Rattle.dep_iter.proofs.Items.{Edge-injective, item_edge}
 use Rattle.dep_iter.proofs.Once.{once-in_edges}
 use Rattle.list_lemmas.specs.Counting.{as_number, count}
 use Rattle.flow_meaning.specs.Comparing.{same_item}
-use Rattle.flow_meaning.specs.Machine.{MachineState, MaySend, Send, SentItem, arrived, is_sent, send_count, sent_with, state_after, first_tile, sent_tile, end_in}
+use Rattle.flow_meaning.specs.Machine.{MachineState, MaySend, Send, SentItem, arrived, is_sent, send_count, sent_with}
+use Rattle.flow_meaning.specs.Machine.{state_after, first_tile, sent_tile, end_in}
 use Rattle.flow_meaning.specs.Ending.{output_tile}
 use Rattle.flow_meaning.specs.Sound.{IsSoundState}
 use Rattle.flow_meaning.proofs.Comparing.{same_item-decides}
@@ -37,7 +38,9 @@ sent_edge_in P con e job h =
 pub no_edge : (es : List Edge) (e : Edge) → (IsIn e es → ⊥) → count (λ d. same_item (item.Edge d) (item.Edge e)) es ≡ 0
 no_edge [] e h = refl
 no_edge (d ∷ ds) e h =
-    let other : same_item (item.Edge d) (item.Edge e) ≡ false = false_from_ne_true (same_item (item.Edge d) (item.Edge e)) (λ k. h (inl (sym (Edge-injective d e ((same_item-decides (item.Edge d) (item.Edge e)).0 k))))) in
+    let other : same_item (item.Edge d) (item.Edge e) ≡ false = false_from_ne_true
+    (same_item (item.Edge d) (item.Edge e)) (λ k. h (inl
+    (sym (Edge-injective d e ((same_item-decides (item.Edge d) (item.Edge e)).0 k))))) in
     omega (arith, ap as_number other, no_edge ds e (λ i. h (inr i)))
 
 -- an edge occurs at most once among edges without repeats
@@ -62,13 +65,15 @@ module _ (P : Plan) (G : Data) (S : MachineState) (i : Item) (may : MaySend P G 
       (λ k.
       let none : send_count S j ≡ 0 = ap (send_count S) ((same_item-decides j i).0 k) ∙ may.unsent in
       let before : is_sent S j ≡ false = le-ltb 0 (send_count S j) (omega (arith, none)) in
-      let now : is_sent (state_after P G S (Send i)) j ≡ true = lt-ltb 0 (send_count (state_after P G S (Send i)) j) (omega (arith, sum_of j, ap as_number k)) in
+      let now : is_sent (state_after P G S (Send i)) j ≡ true = lt-ltb 0 (send_count (state_after P G S (Send i)) j)
+      (omega (arith, sum_of j, ap as_number k)) in
       omega (arith, ap as_number before, ap as_number now, ap as_number k))
       (λ k.
       let same : send_count (state_after P G S (Send i)) j ≡ send_count S j = omega (arith, sum_of j, ap as_number k) in
       omega (arith, ap (λ n. as_number (nat_lt 0 n)) same, ap as_number k))
 
-  came : (es : List Edge) → count (λ e. is_sent (state_after P G S (Send i)) (item.Edge e)) es ≡ count (λ e. is_sent S (item.Edge e)) es + count (λ e. same_item (item.Edge e) i) es
+  came : (es : List Edge) → count (λ e. is_sent (state_after P G S (Send i)) (item.Edge e)) es
+      ≡ count (λ e. is_sent S (item.Edge e)) es + count (λ e. same_item (item.Edge e) i) es
   came [] = refl
   came (e ∷ es) = omega (arith, sent_then (item.Edge e), came es)
 
@@ -95,7 +100,8 @@ module _ (P : Plan) (G : Data) (con : IsConsistent P) (S : MachineState) (sound 
   writes_not w may t = let none = no_write w (in_edges P t) in omega (arith, came P G S (item.Write w) may (in_edges P t))
 
 -- the tile of an item that is sent last and was not sent before
-first_here : (i : Item) (xs : List SentItem) (x : SentItem) → count (λ (y : SentItem). same_item i y.item) xs ≡ 0 → same_item i x.item ≡ true → first_tile i (xs ++ x ∷ []) ≡ x.tile
+first_here : (i : Item) (xs : List SentItem) (x : SentItem) → count (λ (y : SentItem). same_item i y.item) xs ≡ 0
+    → same_item i x.item ≡ true → first_tile i (xs ++ x ∷ []) ≡ x.tile
 first_here i [] x none h = ap (λ b. cond b x.tile None) h
 first_here i (y ∷ ys) x none h =
     by_test (same_item i y.item)
@@ -107,9 +113,11 @@ first_other i [] x h = ap (λ b. cond b x.tile None) h
 first_other i (y ∷ ys) x h = ap (λ o. cond (same_item i y.item) y.tile o) (first_other i ys x h)
 
 module _ (P : Plan) (G : Data) (S : MachineState) where
-  pub delivers_now : (e : Edge) → MaySend P G S (item.Edge e) → sent_tile (state_after P G S (Send (item.Edge e))).sends e ≡ output_tile (end_in P G S e.from) e.out_flow
+  pub delivers_now : (e : Edge) → MaySend P G S (item.Edge e)
+      → sent_tile (state_after P G S (Send (item.Edge e))).sends e ≡ output_tile (end_in P G S e.from) e.out_flow
   delivers_now e may = first_here (item.Edge e) S.sends (sent_with P G S (item.Edge e)) may.unsent ((same_item-decides (item.Edge e) (item.Edge e)).1 refl)
 
   pub delivers_as_before : (i : Item) (d : Edge) → i ≢ item.Edge d → sent_tile (state_after P G S (Send i)).sends d ≡ sent_tile S.sends d
   delivers_as_before i d other =
-      first_other (item.Edge d) S.sends (sent_with P G S i) (false_from_ne_true (same_item (item.Edge d) i) (λ k. other (sym ((same_item-decides (item.Edge d) i).0 k))))
+      first_other (item.Edge d) S.sends (sent_with P G S i) (false_from_ne_true (same_item (item.Edge d) i)
+      (λ k. other (sym ((same_item-decides (item.Edge d) i).0 k))))

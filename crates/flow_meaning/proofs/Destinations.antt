@@ -1,5 +1,6 @@
 -- The targets of a flow's out dependences, and the flow that a write-back comes from.
-use Rattle.std.proofs.Common.{◌≡◌, ℕ, ℤ, Bool, true, false, eqb, List, [], ◌∷◌, length, map, refl, ap, sym, ◌∙◌, subst, Option, Some, None, Result, Ok, Err, slice_get, inl, inr, arith}
+use Rattle.std.proofs.Common.{◌≡◌, ℕ, ℤ, Bool, true, false, eqb, List, [], ◌∷◌, length, map, refl, ap, sym, ◌∙◌, subst}
+use Rattle.std.proofs.Common.{Option, Some, None, Result, Ok, Err, slice_get, inl, inr, arith}
 use Rattle.std.proofs.lemmas.Bool.{and_parts}
 use Rattle.std.specs.Result.{result_unwrap_or}
 use Rattle.std.specs.Option.{option_map_or}
@@ -34,11 +35,13 @@ use Rattle.flow_meaning.proofs.Starting.{flow_well}
 use Rattle.dep_iter.proofs.Belonging.{from_by_flow}
 
 module _ (passes : Target → Bool) (locals : ℕ) (env : List ℤ) (x : Target) where
-  by_guard : (d : DepPlan) → is_dependence locals passes d ≡ true → (g : Result Bool ExprFault) → result_unwrap_or (and_then g (λ b. Ok (target_by d b))) None ≡ Some x → passes x ≡ true
+  by_guard : (d : DepPlan) → is_dependence locals passes d ≡ true → (g : Result Bool ExprFault)
+      → result_unwrap_or (and_then g (λ b. Ok (target_by d b))) None ≡ Some x → passes x ≡ true
   by_guard d h (Ok b) e = passing locals passes d b x h e
   by_guard d h (Err f) e = absurd cc
 
-  first_or_later : (d : DepPlan) (ds : List DepPlan) → is_dependence locals passes d ≡ true → (IsIn x (held_targets false ds env) → passes x ≡ true) → (o : Option Target) → held_target d env ≡ o
+  first_or_later : (d : DepPlan) (ds : List DepPlan) → is_dependence locals passes d ≡ true
+      → (IsIn x (held_targets false ds env) → passes x ≡ true) → (o : Option Target) → held_target d env ≡ o
       → IsIn x (held_then false o (held_targets false ds env)) → passes x ≡ true
   first_or_later d ds h rest None is i = rest i
   first_or_later d ds h rest (Some y) is i = elim i [
@@ -52,28 +55,35 @@ module _ (passes : Target → Bool) (locals : ℕ) (env : List ℤ) (x : Target)
   held_passes (d ∷ ds) all i = first_or_later d ds (all d (inl refl)) (λ j. held_passes ds (λ c k. all c (inr k)) j) (held_target d env) refl i
 
 -- an active target of an out dependence is one that the flow may have
-pub destination : (P : Plan) (t : Task) (job : IsTask P t) (n : ℕ) (f : FlowPlan) → slice_get (flows_of P t) n ≡ Some f → (x : Target) → IsIn x (flow_outs (locals_of P t) f) → is_destination P.classes P.spaces P.colls (length (class_of P t job).space.defs) f x ≡ true
+pub destination : (P : Plan) (t : Task) (job : IsTask P t) (n : ℕ) (f : FlowPlan) → slice_get (flows_of P t) n ≡ Some f
+    → (x : Target) → IsIn x (flow_outs (locals_of P t) f) → is_destination P.classes P.spaces P.colls
+    (length (class_of P t job).space.defs) f x ≡ true
 destination P t job n f here x i =
     let locals = length (class_of P t job).space.defs in
     let passes = is_destination P.classes P.spaces P.colls locals f in
-    held_passes passes locals (locals_of P t) x f.outs (λ d k. member_passes (is_dependence locals passes) f.outs (and_parts _ _ (flow_well P t job n f here)).1 d k) i
+    held_passes passes locals (locals_of P t) x f.outs (λ d k. member_passes (is_dependence locals passes) f.outs
+    (and_parts _ _ (flow_well P t job n f here)).1 d k) i
 
 -- a write-back of a flow goes to an element
-written_to_element : (t : Task) (env : List ℤ) (n : ℕ) (x : Target) (w : WriteBack) → IsIn (item.Write w) (items_to t env n x) → (coll : ℕ) × (indices : List Term) × (x ≡ target.Element coll indices) × (w.flow ≡ n) × (w.place ≡ place_of coll indices env)
+written_to_element : (t : Task) (env : List ℤ) (n : ℕ) (x : Target) (w : WriteBack)
+    → IsIn (item.Write w) (items_to t env n x) → (coll : ℕ) × (indices : List Term) × (x ≡ target.Element coll indices)
+    × (w.flow ≡ n) × (w.place ≡ place_of coll indices env)
 written_to_element t env n (target.Task class flow args) w i = absurd (no_write _ i)
   where
     no_write : (cs : List (List ℤ)) → IsIn (item.Write w) (map (λ params. item.Edge (edge t n (task class params) flow)) cs) → ⊥
     no_write [] j = j
     no_write (c ∷ cs) j = elim j [ inl q ↦ cc | inr later ↦ no_write cs later ]
 written_to_element t env n (target.Element coll indices) w i = elim i [
-  | inl q ↦ let same : w ≡ record { from = t; flow = n; place = place_of coll indices env } = cc in (coll, indices, refl, ap (λ (v : WriteBack). v.flow) same, ap (λ (v : WriteBack). v.place) same)
+  | inl q ↦ let same : w ≡ record { from = t; flow = n; place = place_of coll indices env } = cc in
+      (coll, indices, refl, ap (λ (v : WriteBack). v.flow) same, ap (λ (v : WriteBack). v.place) same)
   | inr never ↦ absurd never
 ]
 written_to_element t env n target.New w i = absurd i
 written_to_element t env n target.Null w i = absurd i
 
 -- a flow that writes to an element carries a tile
-carries_tile : (classes : List ClassPlan) (k : FlowKind) (coll : ℕ) (indices : List Term) → is_out_target classes k (target.Element coll indices) ≡ true → is_data (Some k) ≡ true
+carries_tile : (classes : List ClassPlan) (k : FlowKind) (coll : ℕ) (indices : List Term)
+    → is_out_target classes k (target.Element coll indices) ≡ true → is_data (Some k) ≡ true
 carries_tile classes Read coll indices h = refl
 carries_tile classes Write coll indices h = refl
 carries_tile classes Rw coll indices h = refl

@@ -1,5 +1,6 @@
 -- As many rounds as a job has tasks are enough.
-use Rattle.std.proofs.Common.{◌≡◌, ℕ, zero, suc, ◌+◌, ◌≤◌, Bool, true, cond, length, refl, ap, sym, ◌∙◌, subst, add-zero, Option, Some, None, is_some, ◌⊎◌, inl, inr, arith}
+use Rattle.std.proofs.Common.{◌≡◌, ℕ, zero, suc, ◌+◌, ◌≤◌, Bool, true, cond, length, refl, ap, sym, ◌∙◌, subst}
+use Rattle.std.proofs.Common.{add-zero, Option, Some, None, is_some, ◌⊎◌, inl, inr, arith}
 use Rattle.std.proofs.lemmas.Bool.{false≢true, cases_eq}
 use Rattle.std.specs.Prelude.{option_map}
 use Rattle.ptg_base.specs.Lists.{IsIn}
@@ -74,7 +75,8 @@ module _ (P : Plan) (G : Data) (con : IsConsistent P) where
   -- if as many have ended as before, nothing new was found
   no_more : (n : ℕ) → ended_count n ≡ ended_count (suc n) → IsStable n
   no_more n same t task =
-      let le : (u : Task) → IsIn u (all_tasks P) → as_number (has_ended n u) ≤ as_number (has_ended (suc n) u) = λ u i. one_le (has_ended n u) (has_ended (suc n) u) (ends_too n u ((listed P u).1 i)) in
+      let le : (u : Task) → IsIn u (all_tasks P) → as_number (has_ended n u) ≤ as_number (has_ended (suc n) u) = λ u i.
+      one_le (has_ended n u) (has_ended (suc n) u) (ends_too n u ((listed P u).1 i)) in
       let back = weigh-tight (λ u. as_number (has_ended n u)) (λ u. as_number (has_ended (suc n) u)) (all_tasks P) le (omega arith) t ((listed P t).0 task) in
       same_answer (ended_within P G n t) (ended_within P G (suc n) t) (λ v e. grows n t task v e) (one_back (has_ended n t) (has_ended (suc n) t) back)
 
@@ -105,7 +107,8 @@ module _ (P : Plan) (G : Data) (con : IsConsistent P) where
     where
       at : (more : ℕ) → IsStable (length (all_tasks P) + more)
       at zero = subst IsStable (sym (add-zero (length (all_tasks P)))) stable
-      at (suc more) = let m : suc (length (all_tasks P) + more) ≡ length (all_tasks P) + suc more = omega arith in subst IsStable m (still_stable (length (all_tasks P) + more) (at more))
+      at (suc more) = let m : suc (length (all_tasks P) + more) ≡ length (all_tasks P) + suc more = omega arith in subst
+          IsStable m (still_stable (length (all_tasks P) + more) (at more))
 
   -- how a task ends is determined by how its sources end
   pub fixed : (t : Task) → IsTask P t → ended P G t ≡ ended_after P G (ended P G) t

@@ -25,7 +25,9 @@ use Rattle.flow_meaning.specs.Comparing.{same_item}
 use Rattle.flow_meaning.specs.Starting.{delivered_tiles, starting_tiles}
 use Rattle.flow_meaning.specs.Ending.{ended_on, has_outputs, output_tile}
 use Rattle.flow_meaning.specs.Backward.{ended, has_all_sources, inputs, source_tile}
-use Rattle.flow_meaning.specs.Machine.{Event, Claim, Send, Happen, IsPossible, MachineState, MayClaim, MaySend, SentItem, state_after, arrived, claim_count, end_in, first_tile, is_sent, opening_state, send_count, sender, sent_tile, sent_with}
+use Rattle.flow_meaning.specs.Machine.{Event, Claim, Send, Happen, IsPossible, MachineState, MayClaim, MaySend}
+use Rattle.flow_meaning.specs.Machine.{SentItem, state_after, arrived, claim_count, end_in, first_tile, is_sent}
+use Rattle.flow_meaning.specs.Machine.{opening_state, send_count, sender, sent_tile, sent_with}
 use Rattle.flow_meaning.specs.Sound.{HasAllArrived, IsOutput, IsSoundState}
 use Rattle.flow_meaning.proofs.Comparing.{same_item-decides}
 use Rattle.flow_meaning.proofs.Enough.{fixed}
@@ -59,7 +61,8 @@ pub each_arrived : (P : Plan) (S : MachineState) (t : Task) → arrived P S t �
 each_arrived P S t h e i = all_pass (λ d. is_sent S (item.Edge d)) (in_edges P t) (omega (arith, h)) e i
 
 -- the tile that was sent first with an item is that of a send of the item
-first_is : (i : Item) (xs : List SentItem) → 0 < count (λ (x : SentItem). same_item i x.item) xs → (x : SentItem) × IsIn x xs × (x.item ≡ i) × (first_tile i xs ≡ x.tile)
+first_is : (i : Item) (xs : List SentItem) → 0 < count (λ (x : SentItem). same_item i x.item) xs
+    → (x : SentItem) × IsIn x xs × (x.item ≡ i) × (first_tile i xs ≡ x.tile)
 first_is i [] h = absurd (omega arith)
 first_is i (x ∷ xs) h =
     by_test (same_item i x.item)
@@ -76,10 +79,16 @@ module _ (P : Plan) (G : Data) (con : IsConsistent P) (S : MachineState) (sound 
     pub outputs : has_outputs (ended P G e.from) ≡ true
     pub tile : sent_tile S.sends e ≡ source_tile (ended P G) e
 
-  output_of : (i : Item) (x : SentItem) → x.item ≡ i → IsIn x S.sends → IsIn (sender i) S.claims × (has_outputs (ended P G (sender i)) ≡ true) × (x.tile ≡ output_tile (ended P G (sender i)) (item_flow i))
+  output_of : (i : Item) (x : SentItem) → x.item ≡ i → IsIn x S.sends
+      → IsIn (sender i) S.claims × (has_outputs (ended P G (sender i)) ≡ true)
+      × (x.tile ≡ output_tile (ended P G (sender i)) (item_flow i))
   output_of i x e here =
-      let o = sound.sent_are_outputs x here in
-      (subst (λ j. IsIn (sender j) S.claims) e o.claimed, subst (λ j. has_outputs (ended P G (sender j)) ≡ true) e o.outputs, o.tile ∙ ap (λ j. output_tile (ended P G (sender j)) (item_flow j)) e)
+      let o = sound.sent_are_outputs x here in (
+        subst (λ j. IsIn (sender j) S.claims) e o.claimed,
+        subst (λ j. has_outputs (ended P G (sender j)) ≡ true) e
+            o.outputs,
+        o.tile ∙ ap (λ j. output_tile (ended P G (sender j)) (item_flow j)) e,
+      )
 
   pub delivers : (e : Edge) → is_sent S (item.Edge e) ≡ true → Delivers e
   delivers e h =
@@ -94,7 +103,9 @@ module _ (P : Plan) (G : Data) (con : IsConsistent P) (S : MachineState) (sound 
     -- if all edges into a task were sent, it ends as the backward meaning says
     pub ends_so : ended P G t ≡ end_in P G S t
     ends_so =
-        let all : has_all_sources P (ended P G) t ≡ true = list_all-from_members (λ (e : Edge). has_outputs (ended P G e.from)) (in_edges P t) (λ e i. (delivers e (each_arrived P S t fed.all_arrived e i)).outputs) in
+        let all : has_all_sources P (ended P G) t ≡ true = list_all-from_members
+        (λ (e : Edge). has_outputs (ended P G e.from)) (in_edges P t)
+        (λ e i. (delivers e (each_arrived P S t fed.all_arrived e i)).outputs) in
         fixed P G con t fed.task
         ∙ ap (λ b. cond b (ended_on P G (source_tile (ended P G)) t) None) all
         ∙ sym (ended_on-same P G con t fed.task (sent_tile S.sends) (source_tile (ended P G)) same_delivery)
@@ -104,7 +115,8 @@ module _ (P : Plan) (G : Data) (con : IsConsistent P) (S : MachineState) (sound 
     unfolding ended_on
     it_ends =
         let h = class_of P t fed.task in
-        ap is_some (ends_so ∙ ap (λ o. option_map (λ (c : ClassPlan). body_meaning c.body (locals_of P t) (starting_tiles P G (sent_tile S.sends) t)) o) h.class_is)
+        ap is_some (ends_so ∙ ap (λ o. option_map (λ (c : ClassPlan). body_meaning c.body (locals_of P t)
+        (starting_tiles P G (sent_tile S.sends) t)) o) h.class_is)
 
     -- and the tiles that were sent to it are its inputs
     pub has_inputs : delivered_tiles P (sent_tile S.sends) t ≡ inputs P G t
@@ -125,7 +137,13 @@ module _ (P : Plan) (G : Data) (con : IsConsistent P) (S : MachineState) (sound 
         | inr never ↦ absurd never
       ]
     ];
-    sent_are_outputs = λ x i. let o = sound.sent_are_outputs x i in record { claimed = IsIn-append_left (sender x.item) S.claims (t ∷ []) o.claimed; is_item = o.is_item; outputs = o.outputs; tile = o.tile };
+    sent_are_outputs = λ x i. let o = sound.sent_are_outputs x
+        i in record {
+          claimed = IsIn-append_left (sender x.item) S.claims (t ∷ []) o.claimed;
+          is_item = o.is_item;
+          outputs = o.outputs;
+          tile = o.tile;
+        };
   }
 
   module _ (i : Item) (may : MaySend P G S i) where
@@ -136,17 +154,25 @@ module _ (P : Plan) (G : Data) (con : IsConsistent P) (S : MachineState) (sound 
     still_sent j h = let c = ltb-true 0 (send_count S j) h in lt-ltb 0 (send_count (state_after P G S (Send i)) j) (omega (arith, sum_at j))
 
     pub more_arrive : (t : Task) → arrived P S t ≤ arrived P (state_after P G S (Send i)) t
-    more_arrive t = count-le (λ e. is_sent S (item.Edge e)) (λ e. is_sent (state_after P G S (Send i)) (item.Edge e)) (in_edges P t) (λ e _ h. still_sent (item.Edge e) h)
+    more_arrive t = count-le (λ e. is_sent S (item.Edge e)) (λ e. is_sent (state_after P G S (Send i)) (item.Edge e))
+        (in_edges P t) (λ e _ h. still_sent (item.Edge e) h)
 
     still_fed : (t : Task) → HasAllArrived P S t → HasAllArrived P (state_after P G S (Send i)) t
     still_fed t fed =
-        let most : arrived P (state_after P G S (Send i)) t ≤ goal P t = count-at_most (λ e. is_sent (state_after P G S (Send i)) (item.Edge e)) (in_edges P t) in
+        let most : arrived P (state_after P G S (Send i)) t ≤ goal P t = count-at_most
+        (λ e. is_sent (state_after P G S (Send i)) (item.Edge e)) (in_edges P t) in
         record { task = fed.task; all_arrived = omega (arith, fed.all_arrived, more_arrive t) }
 
     sends_output : IsOutput P G (state_after P G S (Send i)) (sent_with P G S i)
     sends_output =
         let so = ends_so (sender i) (sound.claimed_have_all (sender i) may.claimed) in
-        record { claimed = may.claimed; is_item = may.is_item; outputs = ap has_outputs so ∙ may.outputs; tile = ap (λ o. output_tile o (item_flow i)) (sym so) }
+        record {
+          claimed = may.claimed;
+          is_item = may.is_item;
+          outputs = ap has_outputs so
+              ∙ may.outputs;
+          tile = ap (λ o. output_tile o (item_flow i)) (sym so);
+        }
 
     pub send_sound : IsSoundState P G (state_after P G S (Send i))
     send_sound = record {
@@ -178,7 +204,13 @@ unclaimed_unsent P G S sound i none =
 
 -- the opening state is sound, as nothing has happened
 pub opening_sound : (P : Plan) (G : Data) → IsSoundState P G opening_state
-opening_sound P G = record { claimed_once = λ t. omega arith; sent_once = λ i. omega arith; claimed_have_all = λ t i. absurd i; sent_are_outputs = λ x i. absurd i }
+opening_sound P G = record {
+  claimed_once = λ t. omega arith;
+  sent_once = λ i. omega arith;
+  claimed_have_all = λ t i.
+      absurd i;
+  sent_are_outputs = λ x i. absurd i;
+}
 
 -- every list of events leads from a sound state to a sound state
 pub happen_sound : (P : Plan) (G : Data) → IsConsistent P → (es : List Event) (S T : MachineState) → IsSoundState P G S → Happen P G es S T → IsSoundState P G T

@@ -1,5 +1,6 @@
 -- No task is listed twice. In a quiescent state, each task that runs was claimed once.
-use Rattle.std.proofs.Common.{◌≡◌, ◌≤◌, Bool, false, cond, List, [], ◌∷◌, ◌++◌, length, refl, ap, sym, ◌∙◌, Option, Some, None, is_some, ◌⊎◌, inl, inr, Ok, Err, arith}
+use Rattle.std.proofs.Common.{◌≡◌, ◌≤◌, Bool, false, cond, List, [], ◌∷◌, ◌++◌, length, refl, ap, sym, ◌∙◌, Option}
+use Rattle.std.proofs.Common.{Some, None, is_some, ◌⊎◌, inl, inr, Ok, Err, arith}
 use Rattle.std.proofs.lemmas.Bool.{false≢true, cases_eq}
 use Rattle.std.specs.List.{filter, flat_map}
 use Rattle.ptg_base.specs.Lists.{IsIn}
@@ -35,14 +36,17 @@ tasks_once P t = once_each (all_tasks P) (once-all_tasks P) t
 
 -- no more tasks are claimed than there are
 pub claims_at_most : (P : Plan) (G : Data) (S : MachineState) → IsSoundState P G S → length S.claims ≤ length (all_tasks P)
-claims_at_most P G S sound = no_longer S.claims (all_tasks P) (distinct_once S.claims sound.claimed_once) (λ t i. (listed P t).0 (sound.claimed_have_all t i).task)
+claims_at_most P G S sound = no_longer S.claims (all_tasks P) (distinct_once S.claims sound.claimed_once)
+    (λ t i. (listed P t).0 (sound.claimed_have_all t i).task)
 
-flat_map-filter : {A B : Type 0} (g : A → List B) (test : A → Bool) → ((x : A) → test x ≡ false → g x ≡ []) → (xs : List A) → flat_map g xs ≡ flat_map g (filter test xs)
+flat_map-filter : {A B : Type 0} (g : A → List B) (test : A → Bool) → ((x : A) → test x ≡ false → g x ≡ [])
+    → (xs : List A) → flat_map g xs ≡ flat_map g (filter test xs)
 flat_map-filter g test none [] = refl
 flat_map-filter g test none (x ∷ xs) =
     by_test (test x)
     (λ k. ap (λ l. g x ++ l) (flat_map-filter g test none xs) ∙ sym (ap (λ b. flat_map g (cond b (x ∷ filter test xs) (filter test xs))) k))
-    (λ k. ap (λ l. l ++ flat_map g xs) (none x k) ∙ flat_map-filter g test none xs ∙ sym (ap (λ b. flat_map g (cond b (x ∷ filter test xs) (filter test xs))) k))
+    (λ k. ap (λ l. l ++ flat_map g xs) (none x k) ∙ flat_map-filter g test none xs
+    ∙ sym (ap (λ b. flat_map g (cond b (x ∷ filter test xs) (filter test xs))) k))
 
 flat_map-members : {A B : Type 0} (f g : A → List B) (xs : List A) → ((x : A) → IsIn x xs → f x ≡ g x) → flat_map f xs ≡ flat_map g xs
 flat_map-members f g [] h = refl
@@ -84,4 +88,5 @@ module _ (P : Plan) (G : Data) (con : IsConsistent P) (S : MachineState) (sound 
       let rows : Task → List TrapRow = λ t. trap_rows t (ended P G t) in
       ap (in_task_order key) (flat_map-filter rows (λ t. is_some (ended P G t)) (λ t h. no_trap t (ended P G t) h) (all_tasks P))
       ∙ same_rows key rows (λ t. one_trap t (ended P G t)) (ran P G) S.claims (HasSameMembers-sym S.claims (ran P G) claims_members) sound.claimed_once
-      ∙ ap (in_task_order key) (flat_map-members rows (λ t. trap_rows t (end_in P G S t)) S.claims (λ t i. ap (trap_rows t) (ends_so P G con S sound t (sound.claimed_have_all t i))))
+      ∙ ap (in_task_order key) (flat_map-members rows (λ t. trap_rows t (end_in P G S t)) S.claims
+      (λ t i. ap (trap_rows t) (ends_so P G con S sound t (sound.claimed_have_all t i))))

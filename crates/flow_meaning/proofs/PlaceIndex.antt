@@ -18,5 +18,6 @@ one_place c x k p q h g =
     let a = and_parts (eqb p.coll c) (option_eq eqb (tile_index x.shape.0 x.shape.1 p.i p.j) (Some k)) h in
     let b = and_parts (eqb q.coll c) (option_eq eqb (tile_index x.shape.0 x.shape.1 q.i q.j) (Some k)) g in
     let coll : p.coll ≡ q.coll = eqb-true p.coll c a.0 ∙ sym (eqb-true q.coll c b.0) in
-    let at = one_index x.shape.0 x.shape.1 p.i p.j q.i q.j k (index_is (tile_index x.shape.0 x.shape.1 p.i p.j) k a.1) (index_is (tile_index x.shape.0 x.shape.1 q.i q.j) k b.1) in
+    let at = one_index x.shape.0 x.shape.1 p.i p.j q.i q.j k (index_is (tile_index x.shape.0 x.shape.1 p.i p.j) k a.1)
+    (index_is (tile_index x.shape.0 x.shape.1 q.i q.j) k b.1) in
     λ m. record { coll = coll m; i = at.0 m; j = at.1 m }

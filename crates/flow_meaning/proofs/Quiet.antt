@@ -1,5 +1,6 @@
 -- A quiescent sound state has what the backward meaning says.
-use Rattle.std.proofs.Common.{◌≡◌, ◌↔◌, ℕ, zero, suc, ◌<◌, ◌≤◌, Bool, true, false, ◌&&◌, cond, List, [], ◌∷◌, ◌++◌, map, length, refl, ap, sym, ◌∙◌, subst, Option, Some, None, is_some, inl, inr, nat_lt, arith}
+use Rattle.std.proofs.Common.{◌≡◌, ◌↔◌, ℕ, zero, suc, ◌<◌, ◌≤◌, Bool, true, false, ◌&&◌, cond, List, [], ◌∷◌, ◌++◌, map}
+use Rattle.std.proofs.Common.{length, refl, ap, sym, ◌∙◌, subst, Option, Some, None, is_some, inl, inr, nat_lt, arith}
 use Rattle.std.proofs.lemmas.Bool.{false≢true, cases_eq, eq-eqb, ne_eqb, lt-ltb}
 use Rattle.std.specs.List.{filter, flat_map}
 use Rattle.ptg_base.specs.Lists.{IsIn}
@@ -145,14 +146,16 @@ module _ (P : Plan) (G : Data) (con : IsConsistent P) (S : MachineState) (sound 
         ∙ ap (λ k. cond (nat_lt 0 k) (record { task = t; arrived = k; goal = goal P t } ∷ []) []) (sym (arrived_is t task))
         ∙ ap (λ b. cond b (row t ∷ []) []) (sym (waits t task h)))
 
-    rows_same : (ts : List Task) → ((t : Task) → IsIn t ts → IsTask P t) → flat_map (λ t. wait_rows P G t (ended P G t)) ts ≡ map row (filter (is_waiting P S) ts)
+    rows_same : (ts : List Task) → ((t : Task) → IsIn t ts → IsTask P t)
+        → flat_map (λ t. wait_rows P G t (ended P G t)) ts ≡ map row (filter (is_waiting P S) ts)
     rows_same [] h = refl
     rows_same (t ∷ ts) h =
         ap (λ l. l ++ flat_map (λ t. wait_rows P G t (ended P G t)) ts) (rows_at t (h t (inl refl)))
         ∙ ap (λ l. cond (is_waiting P S t) (row t ∷ []) [] ++ l) (rows_same ts (λ u i. h u (inr i)))
         ∙ step (is_waiting P S t)
       where
-        step : (b : Bool) → cond b (row t ∷ []) [] ++ map row (filter (is_waiting P S) ts) ≡ map row (cond b (t ∷ filter (is_waiting P S) ts) (filter (is_waiting P S) ts))
+        step : (b : Bool) → cond b (row t ∷ []) [] ++ map row (filter (is_waiting P S) ts)
+            ≡ map row (cond b (t ∷ filter (is_waiting P S) ts) (filter (is_waiting P S) ts))
         step true = refl
         step false = refl
 

@@ -20,7 +20,9 @@ use Rattle.dep_iter.specs.Consistent.{IsConsistent}
 use Rattle.list_lemmas.specs.Counting.{count, as_number}
 use Rattle.flow_meaning.specs.Comparing.{same_item}
 use Rattle.flow_meaning.specs.Ending.{has_outputs}
-use Rattle.flow_meaning.specs.Machine.{Claim, Event, IsPossible, IsQuiescent, MachineState, Send, SentItem, arrived, claim_count, is_sent, send_count, sender, first_tile, same_sent_item, same_tile, sent_tile}
+use Rattle.flow_meaning.specs.Machine.{Claim, Event, IsPossible, IsQuiescent, MachineState, Send, SentItem, arrived}
+use Rattle.flow_meaning.specs.Machine.{claim_count, is_sent, send_count, sender, first_tile, same_sent_item, same_tile}
+use Rattle.flow_meaning.specs.Machine.{sent_tile}
 use Rattle.flow_meaning.specs.Starting.{Delivery, delivered_tiles}
 use Rattle.flow_meaning.specs.Table.{table_entry}
 use Rattle.flow_meaning.specs.Sound.{HasAllArrived, IsReordered, IsSoundState}
@@ -84,7 +86,12 @@ module _ (S T : MachineState) (r : IsReordered S T) where
 
   -- what is possible in one order is possible in another
   possible_back : (P : Plan) (G : Data) → IsConsistent P → IsSoundState P G S → (e : Event) → IsPossible P G T e → IsPossible P G S e
-  possible_back P G con sound (Claim t) may = record { task = may.task; unclaimed = claims_same t ∙ may.unclaimed; all_arrived = arrived_same P t ∙ may.all_arrived }
+  possible_back P G con sound (Claim t) may = record {
+    task = may.task;
+    unclaimed = claims_same t
+        ∙ may.unclaimed;
+    all_arrived = arrived_same P t ∙ may.all_arrived;
+  }
   possible_back P G con sound (Send i) may =
       let here = claim_back (sender i) may.claimed in
       let fed = sound.claimed_have_all (sender i) here in

@@ -52,7 +52,8 @@ module _ (P : Plan) (G : Data) (con : IsConsistent P) (S : MachineState) (sound 
         by_test (has_outputs (ended P G t))
         (λ o. inr (λ i m.
         let same = item_sender P t i m in
-        all_sent P G con S sound quiet i (subst (λ u. IsIn u S.claims) (sym same) c) (subst (λ u. IsIn i (items P u)) (sym same) m) (ap (λ u. has_outputs (ended P G u)) same ∙ o)))
+        all_sent P G con S sound quiet i (subst (λ u. IsIn u S.claims) (sym same) c)
+        (subst (λ u. IsIn i (items P u)) (sym same) m) (ap (λ u. has_outputs (ended P G u)) same ∙ o)))
         (λ o. inl o);
   }
 

@@ -1,5 +1,6 @@
 -- What a round of the backward meaning takes from the round before it.
-use Rattle.std.proofs.Common.{◌≡◌, ℕ, suc, ◌+◌, Bool, true, false, ◌&&◌, cond, List, [], ◌∷◌, ◌++◌, map, refl, ap, ◌∙◌, subst, add-zero, Option, Some, None, slice_get, inl, inr, arith}
+use Rattle.std.proofs.Common.{◌≡◌, ℕ, suc, ◌+◌, Bool, true, false, ◌&&◌, cond, List, [], ◌∷◌, ◌++◌, map, refl, ap, ◌∙◌}
+use Rattle.std.proofs.Common.{subst, add-zero, Option, Some, None, slice_get, inl, inr, arith}
 use Rattle.std.specs.Prelude.{option_map, option_to_list}
 use Rattle.std.specs.List.{list_all}
 use Rattle.ptg_base.specs.Lists.{IsIn}
@@ -17,7 +18,8 @@ use Rattle.dep_iter.specs.declared.source.Source.TheVariants as source
 use Rattle.dep_iter.specs.Tasks.{IsTask, flows_of, locals_of}
 use Rattle.dep_iter.specs.Edges.{data_source, in_edges}
 use Rattle.dep_iter.specs.Consistent.{IsConsistent}
-use Rattle.flow_meaning.specs.Starting.{Delivery, delivered_from, delivered_tile, delivered_tiles, delivered_to, starting_tile, starting_tiles, tile_from, tiles_from}
+use Rattle.flow_meaning.specs.Starting.{Delivery, delivered_from, delivered_tile, delivered_tiles, delivered_to}
+use Rattle.flow_meaning.specs.Starting.{starting_tile, starting_tiles, tile_from, tiles_from}
 use Rattle.flow_meaning.specs.Ending.{Ended, has_outputs, output_tile, ended_on}
 use Rattle.flow_meaning.specs.Backward.{ended_after, has_all_sources, source_tile}
 use Rattle.flow_meaning.proofs.SourceEdges.{source_in}
@@ -31,12 +33,14 @@ module _ (P : Plan) (G : Data) (con : IsConsistent P) (t : Task) (task : IsTask 
     tile_from-same flow source.Null h = refl
     tile_from-same flow source.Nothing h = refl
 
-    tiles_from-same : (n : ℕ) (fs : List FlowPlan) → ((i : ℕ) (flow : FlowPlan) → slice_get fs i ≡ Some flow → slice_get (flows_of P t) (n + i) ≡ Some flow) → tiles_from P G f t n fs ≡ tiles_from P G g t n fs
+    tiles_from-same : (n : ℕ) (fs : List FlowPlan) → ((i : ℕ) (flow : FlowPlan) → slice_get fs i ≡ Some flow
+        → slice_get (flows_of P t) (n + i) ≡ Some flow) → tiles_from P G f t n fs ≡ tiles_from P G g t n fs
     tiles_from-same n [] at = refl
     tiles_from-same n (flow ∷ fs) at =
         let here : slice_get (flows_of P t) n ≡ Some flow = subst (λ m. slice_get (flows_of P t) m ≡ Some flow) (add-zero n) (at 0 flow refl) in
         let first : starting_tile P G f t n flow ≡ starting_tile P G g t n flow =
-        cond-same (is_data (Some flow.kind)) _ _ None (λ carries. tile_from-same flow (data_source P t n) (source_in P t task (con.connected t task).well n flow here carries)) in
+        cond-same (is_data (Some flow.kind)) _ _ None (λ carries. tile_from-same flow (data_source P t n)
+        (source_in P t task (con.connected t task).well n flow here carries)) in
         let rest = tiles_from-same (suc n) fs (λ i other e. subst (λ m. slice_get (flows_of P t) m ≡ Some other) (omega arith) (at (suc i) other e)) in
         ap (λ x. x ∷ tiles_from P G f t (suc n) fs) first ∙ ap (λ l. starting_tile P G g t n flow ∷ l) rest
 
@@ -47,12 +51,14 @@ module _ (P : Plan) (G : Data) (con : IsConsistent P) (t : Task) (task : IsTask 
     delivered_from-same n source.Null h = refl
     delivered_from-same n source.Nothing h = refl
 
-    delivered_to-same : (n : ℕ) (fs : List FlowPlan) → ((i : ℕ) (flow : FlowPlan) → slice_get fs i ≡ Some flow → slice_get (flows_of P t) (n + i) ≡ Some flow) → delivered_to P f t n fs ≡ delivered_to P g t n fs
+    delivered_to-same : (n : ℕ) (fs : List FlowPlan) → ((i : ℕ) (flow : FlowPlan) → slice_get fs i ≡ Some flow
+        → slice_get (flows_of P t) (n + i) ≡ Some flow) → delivered_to P f t n fs ≡ delivered_to P g t n fs
     delivered_to-same n [] at = refl
     delivered_to-same n (flow ∷ fs) at =
         let here : slice_get (flows_of P t) n ≡ Some flow = subst (λ m. slice_get (flows_of P t) m ≡ Some flow) (add-zero n) (at 0 flow refl) in
         let first : delivered_tile P f t n flow ≡ delivered_tile P g t n flow =
-        cond-same (is_data (Some flow.kind)) _ _ [] (λ carries. delivered_from-same n (data_source P t n) (source_in P t task (con.connected t task).well n flow here carries)) in
+        cond-same (is_data (Some flow.kind)) _ _ [] (λ carries. delivered_from-same n (data_source P t n)
+        (source_in P t task (con.connected t task).well n flow here carries)) in
         let rest = delivered_to-same (suc n) fs (λ i other e. subst (λ m. slice_get (flows_of P t) m ≡ Some other) (omega arith) (at (suc i) other e)) in
         ap (λ x. x ++ delivered_to P f t (suc n) fs) first ∙ ap (λ l. delivered_tile P g t n flow ++ l) rest
 
@@ -73,12 +79,15 @@ module _ (P : Plan) (G : Data) (con : IsConsistent P) (t : Task) (task : IsTask 
     pub ended_after-same : ((e : Edge) → IsIn e (in_edges P t) → f e.from ≡ g e.from) → ended_after P G f t ≡ ended_after P G g t
     ended_after-same same =
         let test : has_all_sources P f t ≡ has_all_sources P g t = tests (in_edges P t) (λ e i. ap has_outputs (same e i)) in
-        let ends : ended_on P G (source_tile f) t ≡ ended_on P G (source_tile g) t = ended_on-same (source_tile f) (source_tile g) (λ e i. ap (λ o. output_tile o e.out_flow) (same e i)) in
+        let ends : ended_on P G (source_tile f) t ≡ ended_on P G (source_tile g) t = ended_on-same (source_tile f)
+        (source_tile g) (λ e i. ap (λ o. output_tile o e.out_flow) (same e i)) in
         ap (λ b. cond b (ended_on P G (source_tile f) t) None) test ∙ ap (λ o. cond (has_all_sources P g t) o None) ends
       where
-        tests : (es : List Edge) → ((e : Edge) → IsIn e es → has_outputs (f e.from) ≡ has_outputs (g e.from)) → list_all (λ (e : Edge). has_outputs (f e.from)) es ≡ list_all (λ (e : Edge). has_outputs (g e.from)) es
+        tests : (es : List Edge) → ((e : Edge) → IsIn e es → has_outputs (f e.from) ≡ has_outputs (g e.from))
+            → list_all (λ (e : Edge). has_outputs (f e.from)) es ≡ list_all (λ (e : Edge). has_outputs (g e.from)) es
         tests [] h = refl
-        tests (e ∷ es) h = ap (λ b. b && list_all (λ (e : Edge). has_outputs (f e.from)) es) (h e (inl refl)) ∙ ap (λ b. has_outputs (g e.from) && b) (tests es (λ d i. h d (inr i)))
+        tests (e ∷ es) h = ap (λ b. b && list_all (λ (e : Edge). has_outputs (f e.from)) es) (h e (inl refl))
+            ∙ ap (λ b. has_outputs (g e.from) && b) (tests es (λ d i. h d (inr i)))
 
   -- a task that has ended had all its sources
   pub has_sources : (f : Task → Option Ended) (v : Ended) → ended_after P G f t ≡ Some v → has_all_sources P f t ≡ true

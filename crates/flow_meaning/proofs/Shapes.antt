@@ -1,6 +1,7 @@
 -- A body keeps the shape of its task's tiles: as many entries, absent ones stay absent, and the others keep their
 -- length.
-use Rattle.std.proofs.Common.{◌≡◌, ℕ, ◌-◌, ◌<◌, ℤ, Bool, true, false, cond, List, [], ◌∷◌, length, get_or, set, refl, ap, sym, ◌∙◌, subst, Option, Some, None, Result, Ok, Err, inl, inr, ◌==◌}
+use Rattle.std.proofs.Common.{◌≡◌, ℕ, ◌-◌, ◌<◌, ℤ, Bool, true, false, cond, List, [], ◌∷◌, length, get_or, set, refl}
+use Rattle.std.proofs.Common.{ap, sym, ◌∙◌, subst, Option, Some, None, Result, Ok, Err, inl, inr, ◌==◌}
 use Rattle.std.specs.Prelude.{option_map}
 use Rattle.std.proofs.lemmas.Bool.{cases_eq, cases_lt}
 use Rattle.std.proofs.lemmas.List.{get_or-set_same, get_or-set_other, get_or_past, length-set}
@@ -38,7 +39,8 @@ written_shape : (o : Option (List ℤ)) (at v : ℤ) (ys : List ℤ) → written
 written_shape None at v ys e = absurd cc
 written_shape (Some xs) at v ys e = ap (λ (n : ℕ). Some n) (sym (written_length xs ys (index_in (length xs) at) v e))
 
-no_length : (tiles : List (Option (List ℤ))) (flow n : ℕ) → get_or tiles flow None ≡ None → option_map length (get_or tiles flow None) ≡ Some n → flow < length tiles
+no_length : (tiles : List (Option (List ℤ))) (flow n : ℕ) → get_or tiles flow None ≡ None
+    → option_map length (get_or tiles flow None) ≡ Some n → flow < length tiles
 no_length tiles flow n none e =
     let absent : option_map length (get_or tiles flow None) ≡ None = ap (λ (o : Option (List ℤ)). option_map length o) none in
     absurd cc
@@ -123,7 +125,8 @@ keeps_run : (statements : StatementList) → KeepsShape (run statements)
 keeps_run Done = keeps_done
 keeps_run (SetThen n e rest) = keeps_first (set_meaning n e) (run rest) (keeps_set n e) (keeps_run rest)
 keeps_run (PutThen flow at e rest) = keeps_first (put_meaning flow at e) (run rest) (keeps_put flow at e) (keeps_run rest)
-keeps_run (IfThen c first second rest) = keeps_first (if_meaning c (run first) (run second)) (run rest) (keeps_if c (run first) (run second) (keeps_run first) (keeps_run second)) (keeps_run rest)
+keeps_run (IfThen c first second rest) = keeps_first (if_meaning c (run first) (run second)) (run rest)
+    (keeps_if c (run first) (run second) (keeps_run first) (keeps_run second)) (keeps_run rest)
 keeps_run (ForThen n lo hi turn rest) = keeps_first (for_meaning n lo hi (run turn)) (run rest) (keeps_for n lo hi (run turn) (keeps_run turn)) (keeps_run rest)
 keeps_run (TrapThen w rest) = keeps_first (λ t. Err (trap.Word w)) (run rest) (λ s t e. absurd cc) (keeps_run rest)
 

@@ -53,17 +53,22 @@ known_type types Rw n some h = ltb-true n types h
 known_type types Ctl n some h = omega (arith, eqb-true n 0 h)
 
 -- a flow of a task passes the tests of the flows of its class
-pub flow_well : (P : Plan) (t : Task) (job : IsTask P t) (n : ℕ) (f : FlowPlan) → slice_get (flows_of P t) n ≡ Some f → is_flow P.classes P.spaces P.colls (length P.elems) (length (class_of P t job).space.defs) f ≡ true
+pub flow_well : (P : Plan) (t : Task) (job : IsTask P t) (n : ℕ) (f : FlowPlan) → slice_get (flows_of P t) n ≡ Some f
+    → is_flow P.classes P.spaces P.colls (length P.elems) (length (class_of P t job).space.defs) f ≡ true
 flow_well P t job n f here =
     let h = class_of P t job in
     let w = P.well_made.fit t.class h.class h.space h.class_is h.space_is in
-    passes_at (is_flow P.classes P.spaces P.colls (length P.elems) (length h.space.defs)) h.class.flows n f w.flows (subst (λ fs. slice_get fs n ≡ Some f) (flows_are P t h.class h.class_is) here)
+    passes_at (is_flow P.classes P.spaces P.colls (length P.elems) (length h.space.defs)) h.class.flows n f w.flows
+    (subst (λ fs. slice_get fs n ≡ Some f) (flows_are P t h.class h.class_is) here)
 
 -- the type of a flow is one of the plan's
 pub known_datatype : (P : Plan) (t : Task) (n : ℕ) (f : FlowPlan) → IsTask P t → slice_get (flows_of P t) n ≡ Some f → f.datatype < length P.elems
-known_datatype P t n f job here = known_type (length P.elems) f.kind f.datatype P.well_made.has_default (and_parts _ _ (and_parts _ _ (and_parts _ _ (flow_well P t job n f here)).0).0).0
+known_datatype P t n f job here = known_type (length P.elems) f.kind f.datatype P.well_made.has_default
+    (and_parts _ _ (and_parts _ _ (and_parts _ _ (flow_well P t job n f here)).0).0).0
 
-pub found_known : (P : Plan) (t : Task) (n : ℕ) (fs : List FlowPlan) (none_is : Type 0) (some_is : Bor FlowPlan → Type 0) (o : Option (Bor FlowPlan)) → IsTask P t → fs ≡ flows_of P t
+pub found_known : (P : Plan) (t : Task) (n : ℕ) (fs : List FlowPlan) (none_is : Type 0)
+    (some_is : Bor FlowPlan → Type 0) (o : Option (Bor FlowPlan)) → IsTask P t → fs ≡ flows_of P t
     → MatchOption o none_is (λ f. (n < length fs) × some_is f) → IfSome o (λ f. f.now ≡ get_or fs n f.now) → IfSome o (λ f. f.now.datatype < length P.elems)
 found_known P t n fs none_is some_is None job are within is = tt
-found_known P t n fs none_is some_is (Some f) job are within is = known_datatype P t n f.now job (subst (λ l. slice_get l n ≡ Some f.now) are (slice_get-get_or fs n f.now within.0 ∙ ap (λ x. Some x) (sym is)))
+found_known P t n fs none_is some_is (Some f) job are within is = known_datatype P t n f.now job
+    (subst (λ l. slice_get l n ≡ Some f.now) are (slice_get-get_or fs n f.now within.0 ∙ ap (λ x. Some x) (sym is)))

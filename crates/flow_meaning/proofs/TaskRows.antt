@@ -24,7 +24,8 @@ before_other a b ne = by (task_cmp a b) (task_cmp-compares a b)
     by Greater c = false_from_ne_true (task_before a b) (λ h. let k = c.before.1 h in absurd cc) ∙ sym (ap not (c.after.0 refl))
 
 module _ {A : Type 0} (key : A → Task) where
-  insert_swap : (x y : A) → task_before (key x) (key y) ≡ true → task_before (key y) (key x) ≡ false → (l : List A) → insert_by key x (insert_by key y l) ≡ insert_by key y (insert_by key x l)
+  insert_swap : (x y : A) → task_before (key x) (key y) ≡ true → task_before (key y) (key x) ≡ false → (l : List A)
+      → insert_by key x (insert_by key y l) ≡ insert_by key y (insert_by key x l)
   insert_swap x y h k [] = insert_here key x y [] k ∙ sym (insert_past key y x [] h)
   insert_swap x y h k (z ∷ zs) =
       by_test (task_before (key z) (key y))
@@ -38,7 +39,8 @@ module _ {A : Type 0} (key : A → Task) where
       ap (insert_by key x) (insert_past key y z zs zy) ∙ insert_here key x z (insert_by key y zs) zx
       ∙ sym (ap (insert_by key y) (insert_here key x z zs zx) ∙ insert_past key y x (z ∷ zs) h ∙ ap (λ l. x ∷ l) (insert_past key y z zs zy))))
       (λ zy.
-      let zx : task_before (key z) (key x) ≡ false = false_from_ne_true (task_before (key z) (key x)) (λ e. false≢true (sym zy ∙ before_trans (key z) (key x) (key y) e h)) in
+      let zx : task_before (key z) (key x) ≡ false = false_from_ne_true (task_before (key z) (key x))
+      (λ e. false≢true (sym zy ∙ before_trans (key z) (key x) (key y) e h)) in
       ap (insert_by key x) (insert_here key y z zs zy) ∙ insert_here key x y (z ∷ zs) k
       ∙ sym (ap (insert_by key y) (insert_here key x z zs zx) ∙ insert_past key y x (z ∷ zs) h ∙ ap (λ l. x ∷ l) (insert_here key y z zs zy)))
 
@@ -69,8 +71,10 @@ module _ {A : Type 0} (key : A → Task) where
   all_swap xs ys t u ne (inr p) (inl none) l = ap (λ zs. insert_all xs (insert_all zs l)) none ∙ ap (λ zs. insert_all zs (insert_all xs l)) (sym none)
   all_swap xs ys t u ne (inr p) (inr q) l =
       let apart : key p.0 ≢ key q.0 = λ e. ne (sym p.2 ∙ e ∙ q.2) in
-      let one_way : insert_all xs (insert_all ys l) ≡ insert_by key p.0 (insert_by key q.0 l) = ap (λ zs. insert_all zs (insert_all ys l)) p.1 ∙ ap (λ zs. insert_by key p.0 (insert_all zs l)) q.1 in
-      let other_way : insert_all ys (insert_all xs l) ≡ insert_by key q.0 (insert_by key p.0 l) = ap (λ zs. insert_all ys (insert_all zs l)) p.1 ∙ ap (λ zs. insert_all zs (insert_by key p.0 l)) q.1 in
+      let one_way : insert_all xs (insert_all ys l) ≡ insert_by key p.0 (insert_by key q.0 l) = ap
+      (λ zs. insert_all zs (insert_all ys l)) p.1 ∙ ap (λ zs. insert_by key p.0 (insert_all zs l)) q.1 in
+      let other_way : insert_all ys (insert_all xs l) ≡ insert_by key q.0 (insert_by key p.0 l) = ap
+      (λ zs. insert_all ys (insert_all zs l)) p.1 ∙ ap (λ zs. insert_all zs (insert_by key p.0 l)) q.1 in
       one_way ∙ insert_either p.0 q.0 apart l ∙ sym other_way
 
   module _ (g : Task → List A) (rows : HaveOneRow g) where

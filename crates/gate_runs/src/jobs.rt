@@ -1,34 +1,27 @@
-//! The jobs that are run, with what is printed of them.
+//! The jobs that are run, each with what `run` prints of it.
+
+use crate::runs::Job;
+
+// A sample job, with what is printed of it.
+fn with_answer(sample: sample_jobs::Job, answer: &'static [u8]) -> Job<'static> {
+    Job {
+        jdf: sample.jdf,
+        data: sample.data,
+        answer,
+    }
+}
 
 /// Two tasks without an edge between them.
-pub const PAIR: &[u8] = b"D
-
-T(k)
-k = 0 .. 1
-: D(0)
-WRITE A
-BODY
-END
-";
-
-/// The data of a job with one tile of one number.
-pub const ONE_TILE: &[u8] = b"elems,1
-coll,D,1
-";
-
-/// What is printed of it with the data of one tile.
-pub const PAIR_ANSWER: &[u8] = b"complete,2
+pub fn two_tasks() -> Job<'static> {
+    let answer = b"complete,2
 tile,D,0,0
 ";
+    with_answer(sample_jobs::two_tasks(), answer)
+}
 
-/// The data of the made job of four rows of tiles.
-pub const CHOLESKY_DATA: &[u8] = b"elems,3
-int,NT,4
-coll,D,4,4
-";
-
-/// What is printed of it.
-pub const CHOLESKY_ANSWER: &[u8] = b"complete,20
+/// The made job of four rows of tiles.
+pub fn cholesky() -> Job<'static> {
+    let answer = b"complete,20
 tile,D,0,0,1,0,1
 tile,D,0,1,0,0,0
 tile,D,0,2,0,0,0
@@ -46,109 +39,22 @@ tile,D,3,1,2,1,1
 tile,D,3,2,3,3,1
 tile,D,3,3,4,6,1
 ";
+    with_answer(sample_jobs::cholesky_4(), answer)
+}
 
-/// The made job with an extern block, an option, comments and properties, which change nothing.
-pub const DECORATED: &[u8] = b"extern \"C\" %{
-#include <stdio.h>
-%}
-%option no_taskpool_instance = true
-/* tiled Cholesky */ // lower
-D [type = \"parsec_data_collection_t*\"]
-NT [type = int]
-
-potrf(k) [high_priority = on]
-k = 0 .. NT-1
-: D(k, k)
-RW T <- (k == 0) ? D(k, k) : T herk(k-1, k)
-     -> T trsm(k, k+1 .. NT-1)
-     -> D(k, k)
-; NT - k
-BODY
-T[0] = T[0] + 1; T[1] = T[1] + k; T[2] = 1;
-END
-
-trsm(k, m)
-k = 0 .. NT-2
-m = k+1 .. NT-1
-: D(m, k)
-READ T <- T potrf(k)
-RW C <- (k == 0) ? D(m, k) : C gemm(k-1, m, k)
-     -> A herk(k, m)
-     -> A gemm(k, m, k+1 .. m-1)
-     -> B gemm(k, m+1 .. NT-1, m)
-     -> D(m, k)
-BODY
-if (T[2] != 1) { trap order; }
-C[0] = C[0] + 1; C[1] = C[1] + k; C[2] = 1;
-END
-
-herk(k, m)
-k = 0 .. NT-2
-m = k+1 .. NT-1
-: D(m, m)
-READ A <- C trsm(k, m)
-RW T <- (k == 0) ? D(m, m) : T herk(k-1, m)
-     -> (m == k+1) ? T potrf(m) : T herk(k+1, m)
-BODY
-if (A[2] != 1) { trap order; }
-T[0] = T[0] + 1; T[1] = T[1] + k;
-END
-
-gemm(k, m, n)
-k = 0 .. NT-3
-m = k+2 .. NT-1
-n = k+1 .. m-1
-: D(m, n)
-READ A <- C trsm(k, m)
-READ B <- C trsm(k, n)
-RW C <- (k == 0) ? D(m, n) : C gemm(k-1, m, n)
-     -> (n == k+1) ? C trsm(n, m) : C gemm(k+1, m, n) [type = DEFAULT]
-BODY
-if (A[2] + B[2] != 2) { trap order; }
-C[0] = C[0] + 1; C[1] = C[1] + k;
-END
-";
-
-/// T(0) waits for itself, and for an edge that arrives.
-pub const STALL: &[u8] = b"D
-
-S(z)
-z = 0 .. 0
-: D(0)
-WRITE A -> X T(0)
-BODY
-END
-
-T(z)
-z = 0 .. 0
-: D(0)
-READ X <- A S(0)
-CTL c <- c T(0)
-      -> c T(0)
-BODY
-END
-";
-
-/// What is printed of it with the data of one tile.
-pub const STALL_ANSWER: &[u8] = b"stalled,1,2
+/// A task that waits for itself, and for an edge that arrives.
+pub fn stall() -> Job<'static> {
+    let answer = b"stalled,1,2
 wait,T,0,1,2
 ";
+    with_answer(sample_jobs::stall(), answer)
+}
 
 /// Four tasks without edges; two of them trap.
-pub const TRAPS: &[u8] = b"D
-
-T(k)
-k = 0 .. 3
-: D(0)
-WRITE A
-BODY
-if (k == 2) { A[0] = 1 / 0; }
-if (k == 3) { A[1] = 1; }
-END
-";
-
-/// What is printed of it with the data of one tile.
-pub const TRAPS_ANSWER: &[u8] = b"trapped,2
+pub fn traps() -> Job<'static> {
+    let answer = b"trapped,2
 trap,T,2,divide
 trap,T,3,index
 ";
+    with_answer(sample_jobs::traps(), answer)
+}

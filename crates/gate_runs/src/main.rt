@@ -17,17 +17,14 @@ mod runs;
 
 use crate::command::carried_out;
 use crate::counting::Counting;
-use crate::jobs::{
-    CHOLESKY_ANSWER, CHOLESKY_DATA, DECORATED, ONE_TILE, PAIR, PAIR_ANSWER, STALL, STALL_ANSWER,
-    TRAPS, TRAPS_ANSWER,
-};
+use crate::jobs::{cholesky, stall, traps, two_tasks};
 use crate::meeting::Meeting;
 use crate::noting::Noting;
 use crate::runs::{Job, ran, ran_from_one_file, replayed, traced};
-use job_gen::JDF;
 use ptg_base::OutOfMemory;
 use ptg_os::words;
 use ptg_top::Status;
+use sample_jobs::decorated_cholesky;
 use std::alloc::Global;
 use std::io;
 use std::process::ExitCode;
@@ -39,34 +36,24 @@ use worker_core::Always;
 // Runs two tasks. The one that comes first may run its body only once the other has come.
 fn meet<R: Threads + Wait + RandomSource + Print + Sync>(rt: &R, alloc: Global) -> io::Result<()> {
     let gate = Meeting::new();
-    let job = Job {
-        jdf: PAIR,
-        data: ONE_TILE,
-        answer: PAIR_ANSWER,
-    };
-    match ran(rt, alloc, &job, "--workers 2", &gate) {
+    match ran(rt, alloc, &two_tasks(), "--workers 2", &gate) {
         Ok(end) => println!(rt; "two bodies at once: {end}, the gate {}", gate.end())?,
         Err(OutOfMemory) => println!(rt; "two bodies at once: no memory")?,
     }
     Ok(())
 }
 
-// Counts each body of the Cholesky job with four rows of tiles. Its text is the made one, or a decorated one.
+// Counts each body of the Cholesky job with four rows of tiles.
 fn count<R: Threads + Wait + RandomSource + Print + Sync>(
     rt: &R,
     alloc: Global,
-    jdf: &[u8],
+    job: &Job,
     options: &str,
 ) -> io::Result<()> {
-    let job = Job {
-        jdf,
-        data: CHOLESKY_DATA,
-        answer: CHOLESKY_ANSWER,
-    };
     let Ok(gate) = Counting::new(alloc) else {
         return println!(rt; "{options}: no memory");
     };
-    match ran(rt, alloc, &job, options, &gate) {
+    match ran(rt, alloc, job, options, &gate) {
         Ok(end) => println!(rt; "{options}: {end}, {}", gate.counts())?,
         Err(OutOfMemory) => println!(rt; "{options}: no memory")?,
     }
@@ -79,15 +66,10 @@ fn note<R: Threads + Wait + RandomSource + Print + Sync>(
     alloc: Global,
     options: &str,
 ) -> io::Result<()> {
-    let job = Job {
-        jdf: JDF,
-        data: CHOLESKY_DATA,
-        answer: b"",
-    };
     let Ok(gate) = Noting::new(alloc) else {
         return println!(rt; "trace {options}: no memory");
     };
-    match traced(rt, alloc, &job, options, &gate) {
+    match traced(rt, alloc, &cholesky(), options, &gate) {
         Ok(end) => println!(rt; "trace {options}: {end}, {} tasks", gate.come())?,
         Err(OutOfMemory) => println!(rt; "trace {options}: no memory")?,
     }
@@ -119,14 +101,9 @@ fn replay_all<R: Threads + Wait + RandomSource + Print + Sync>(
     rt: &R,
     alloc: Global,
 ) -> io::Result<()> {
-    for (name, jdf, data, answer) in [
-        ("cholesky", JDF, CHOLESKY_DATA, CHOLESKY_ANSWER),
-        ("stall", STALL, ONE_TILE, STALL_ANSWER),
-        ("traps", TRAPS, ONE_TILE, TRAPS_ANSWER),
-    ] {
-        replay(rt, alloc, name, &Job { jdf, data, answer })?;
-    }
-    Ok(())
+    replay(rt, alloc, "cholesky", &cholesky())?;
+    replay(rt, alloc, "stall", &stall())?;
+    replay(rt, alloc, "traps", &traps())
 }
 
 // Loads the JDF and the data of the Cholesky job from one file, which changes between its loads.
@@ -134,15 +111,10 @@ fn change<R: Threads + Wait + RandomSource + Print + Sync>(
     rt: &R,
     alloc: Global,
 ) -> io::Result<()> {
-    let job = Job {
-        jdf: JDF,
-        data: CHOLESKY_DATA,
-        answer: CHOLESKY_ANSWER,
-    };
     let Ok(gate) = Counting::new(alloc) else {
         return println!(rt; "one file that changes: no memory");
     };
-    match ran_from_one_file(rt, alloc, &job, &gate) {
+    match ran_from_one_file(rt, alloc, &cholesky(), &gate) {
         Ok(end) => println!(rt; "one file that changes: {end}, {}", gate.counts())?,
         Err(OutOfMemory) => println!(rt; "one file that changes: no memory")?,
     }
@@ -155,6 +127,15 @@ fn run_all<R: Threads + Wait + RandomSource + Print + Sync>(
     alloc: Global,
 ) -> io::Result<()> {
     meet(rt, alloc)?;
+    let Ok(decorated) = decorated_cholesky(alloc) else {
+        return println!(rt; "decorated: no memory");
+    };
+    let job = cholesky();
+    let decorated = Job {
+        jdf: decorated.as_bytes(),
+        data: job.data,
+        answer: job.answer,
+    };
     for options in [
         "--workers 1 --shards 1",
         "--workers 1 --shards 16",
@@ -163,14 +144,14 @@ fn run_all<R: Threads + Wait + RandomSource + Print + Sync>(
         "--workers 64 --shards 1",
         "--workers 64 --shards 16",
     ] {
-        count(rt, alloc, DECORATED, options)?;
+        count(rt, alloc, &decorated, options)?;
     }
     for options in [
         "--workers 1 --shards 1 --preload",
         "--workers 4 --shards 16 --preload",
         "--workers 64 --shards 256 --preload",
     ] {
-        count(rt, alloc, JDF, options)?;
+        count(rt, alloc, &job, options)?;
     }
     for options in ["--workers 1 --shards 1", "--workers 1 --shards 16"] {
         note(rt, alloc, options)?;

@@ -41,7 +41,8 @@ length-links_to env n (target.Element coll indices) = refl
 length-links_to env n target.New = refl
 length-links_to env n target.Null = refl
 
-length-numbered : (env : List ℤ) (n : ℕ) (xs : List Target) (rest : List (ℕ × Target)) → length (all_links env (map (λ x. (n, x)) xs ++ rest)) ≡ sum_by (target_count env) xs + length (all_links env rest)
+length-numbered : (env : List ℤ) (n : ℕ) (xs : List Target) (rest : List (ℕ × Target))
+    → length (all_links env (map (λ x. (n, x)) xs ++ rest)) ≡ sum_by (target_count env) xs + length (all_links env rest)
 length-numbered env n [] rest = omega arith
 length-numbered env n (x ∷ xs) rest =
     let e = length-append (links_to env n x) (all_links env (map (λ x. (n, x)) xs ++ rest)) in
@@ -87,5 +88,6 @@ times a b m n r e f h k = (
 )
 
 -- the number of edges into a task, from its links
-pub length-in_edges : (P : Plan) (t : Task) → map (edge_of_link In t) (task_links P t In) ≡ in_edges P t → flows_count (locals_of P t) (flows_of P t) ≡ length (in_edges P t)
+pub length-in_edges : (P : Plan) (t : Task) → map (edge_of_link In t) (task_links P t In) ≡ in_edges P t
+    → flows_count (locals_of P t) (flows_of P t) ≡ length (in_edges P t)
 length-in_edges P t links = sym (length-task_links P t) ∙ sym (length-map (task_links P t In) (edge_of_link In t)) ∙ ap length links

@@ -25,7 +25,8 @@ no_part env c h =
     (λ k. none_ill env 0 c.flows (none_from_option_map Some (first_ill_flow env 0 c.flows) (rw k at h)))
     (λ k. let e = rw k at h in absurd cc)
 
-of_class : (env : List ℤ) (o : Option ClassPlan) → option_and_then (ill_part_of env) o ≡ None → IsTrue (list_all (is_well_flow env) (option_map_or (λ (c : ClassPlan). c.flows) o []))
+of_class : (env : List ℤ) (o : Option ClassPlan) → option_and_then (ill_part_of env) o ≡ None
+    → IsTrue (list_all (is_well_flow env) (option_map_or (λ (c : ClassPlan). c.flows) o []))
 of_class env None h = refl
 of_class env (Some c) h = no_part env c h
 

@@ -8,7 +8,6 @@ ghost use Rattle.range_space.specs.Fault.{range_values};
 ghost use Rattle.dep_iter.specs.Arguments.{combinations};
 ghost use Rattle.dep_iter.specs.Consistent.{IsConsistent};
 ghost use Rattle.dep_iter.specs.Edges as edges;
-ghost use Rattle.dep_iter.specs.Tasks as tasks;
 ghost use Rattle.dep_iter.specs.Tasks.{IsTask};
 ghost use Rattle.dep_iter.specs.Well.{are_well, has_arg, has_arguments, is_well_flow};
 ghost use Rattle.goal_count.specs.Counting as counting;
@@ -110,18 +109,4 @@ pub fn goal(m: &Matched, t: &TaskId) -> u32
     ensures { result ≡ edges.goal m.now t.now }
 {
     goal_of(&TaskAt::of(m.plan(), t, &mut Numbers::new()))
-}
-
-/// How many edges go into a task of a consistent plan, given its locals. No edge is walked.
-pub fn goal_under(m: &Matched, t: &TaskId, env: &[i64]) -> u32
-    requires task { IsTask m.now t.now }
-    requires locals { env.now ≡ tasks.locals_of m.now t.now }
-    ensures { result ≡ edges.goal m.now t.now }
-{
-    let at = TaskAt {
-        plan: m.plan(),
-        task: t,
-        locals: env,
-    };
-    goal_of(&at)
 }

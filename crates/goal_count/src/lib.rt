@@ -3,4 +3,4 @@
 
 mod count;
 
-pub use count::{combination_count, goal, goal_of, goal_under};
+pub use count::{combination_count, goal, goal_of};

@@ -21,7 +21,8 @@ use Rattle.job_laws.proofs.WellData.{spelled_well}
 
 -- ---- the data's text
 
-data_at_most : (text : List ℕ) → length text ≤ 16777216 → (r : Result Data DataFault) → data_of text ≡ r → ((given : Data) × IsData text given) ⊎ ((fault : DataFault) × IsDataFault text fault)
+data_at_most : (text : List ℕ) → length text ≤ 16777216 → (r : Result Data DataFault) → data_of text ≡ r
+    → ((given : Data) × IsData text given) ⊎ ((fault : DataFault) × IsDataFault text fault)
 data_at_most text short (Ok given) is = inl (given, record { bytes_at_most = short; spelled = is })
 data_at_most text short (Err fault) is = inr (fault, inr (record { bytes_at_most = short; first = is }))
 

@@ -1,6 +1,8 @@
 -- In a consistent job of two texts, the names of classes are spelled as names, and the parameters of tasks have 64
 -- bits.
-use Rattle.std.proofs.Common.{◌≡◌, ℕ, zero, suc, ℤ, Bool, true, false, cond, ◌&&◌, List, [], ◌∷◌, ◌++◌, Option, Some, None, is_some, option_map, IsTrue, Result, Ok, Err, refl, ap, sym, ◌∙◌, subst, arith, inl, inr, length, slice_get}
+use Rattle.std.proofs.Common.{◌≡◌, ℕ, zero, suc, ℤ, Bool, true, false, cond, ◌&&◌, List, [], ◌∷◌, ◌++◌, Option, Some}
+use Rattle.std.proofs.Common.{None, is_some, option_map, IsTrue, Result, Ok, Err, refl, ap, sym, ◌∙◌, subst, arith, inl}
+use Rattle.std.proofs.Common.{inr, length, slice_get}
 use Rattle.std.specs.List.{AllByRecursion, list_all}
 use Rattle.std.specs.Map.{lookup}
 use Rattle.std.specs.Option.{option_map_or}
@@ -124,7 +126,8 @@ module _ (job : Job) (fit : list_all has_64_bits job.given.ints ≡ true) where
       let test = expression.term_of names c in
       let first = expression.term_of names a in
       let second = expression.term_of names b in
-      let p = then_parts (together names.reported test (together names.reported first second)) (λ (x : Term × (Term × Term)). Ok (term.Choose x.0 x.1.0 x.1.1)) t e in
+      let p = then_parts (together names.reported test (together names.reported first second))
+      (λ (x : Term × (Term × Term)). Ok (term.Choose x.0 x.1.0 x.1.1)) t e in
       let q = together_parts names.reported test (together names.reported first second) p.0 p.1 in
       let r = together_parts names.reported first second p.0.1 q.1 in
       let k = and_parts (has_numbers c) (has_numbers a && has_numbers b) h in
@@ -155,7 +158,8 @@ module _ (job : Job) (fit : list_all has_64_bits job.given.ints ≡ true) where
       → (has_numbers lo && (has_numbers hi && option_map_or has_numbers step true)) ≡ true
       → range_of job seen lo hi step ≡ Some r → terms.range_has_numbers r ≡ true
   range_numbers seen lo hi step r h k =
-      let p = parts_of (λ x (y : Term × Option Term). record { lo = x; hi = y.0; step = y.1 }) (term_of job seen lo) (both (λ x y. (x, y)) (term_of job seen hi) (option_term job seen step)) r k in
+      let p = parts_of (λ x (y : Term × Option Term). record { lo = x; hi = y.0; step = y.1 }) (term_of job seen lo)
+      (both (λ x y. (x, y)) (term_of job seen hi) (option_term job seen step)) r k in
       let q = parts_of (λ x y. (x, y)) (term_of job seen hi) (option_term job seen step) p.1 p.3 in
       let l = and_parts (has_numbers lo) (has_numbers hi && option_map_or has_numbers step true) h in
       let m = and_parts (has_numbers hi) (option_map_or has_numbers step true) l.1 in
@@ -180,7 +184,8 @@ module _ (job : Job) (fit : list_all has_64_bits job.given.ints ≡ true) where
       let p = parts_of (λ x xs. x ∷ xs) (definition_of job seen d.value) (definitions_of job (seen ++ d ∷ []) ds) xs k in
       let l = and_parts (def_has_numbers d) (list_all def_has_numbers ds) h in
       subst (λ xs. list_all terms.def_has_numbers xs ≡ true) p.4
-      (and_from (terms.def_has_numbers p.0) (list_all terms.def_has_numbers p.1) (definition_numbers seen d.value p.0 l.0 p.2) (definitions_numbers (seen ++ d ∷ []) ds p.1 l.1 p.3))
+      (and_from (terms.def_has_numbers p.0) (list_all terms.def_has_numbers p.1)
+      (definition_numbers seen d.value p.0 l.0 p.2) (definitions_numbers (seen ++ d ∷ []) ds p.1 l.1 p.3))
 
   space_numbers : (class : ClassTree) (s : ClassSpace) → list_all def_has_numbers class.defs ≡ true
       → space_of job class.params class.defs ≡ Some s → list_all terms.def_has_numbers s.defs ≡ true
@@ -201,7 +206,8 @@ module _ (job : Job) (fit : list_all has_64_bits job.given.ints ≡ true) where
   plans_spelled [] bs ps h e = subst AreSpelled (same_Some ([], []) ps e) (refl, tt, tt)
   plans_spelled (c ∷ cs) [] ps h e = absurd cc
   plans_spelled (c ∷ cs) (b ∷ bs) ps h e =
-      let q = parts_of (λ (x : ClassPlan × ClassSpace) (xs : List ClassPlan × List ClassSpace). (x.0 ∷ xs.0, x.1 ∷ xs.1)) (class_plan job c b) (classes_plan job cs bs) ps e in
+      let q = parts_of (λ (x : ClassPlan × ClassSpace) (xs : List ClassPlan × List ClassSpace).
+      (x.0 ∷ xs.0, x.1 ∷ xs.1)) (class_plan job c b) (classes_plan job cs bs) ps e in
       let parts = class_of job c b q.0 q.2 in
       let rest = plans_spelled cs bs q.1 h.1 q.3 in
       subst AreSpelled q.4 (

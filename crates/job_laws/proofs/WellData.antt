@@ -14,12 +14,14 @@ use Rattle.data_read.proofs.SoundTiles.{later_sound}
 later_all_sound : (row : ℕ) (d e : Draft) (rows : List (List (List ℕ))) → IsSound d → later_records row d rows ≡ Ok e → IsSound e
 later_all_sound row d e [] sound is = subst IsSound (same_Ok d e is) sound
 later_all_sound row d e (fields ∷ rows) sound is =
-    by_result (later_record d fields) (λ next h. later_all_sound (row + 1) next e rows (later_sound d next fields sound h) (rw h at is)) (λ code h. absurd (let s = rw h at is in cc))
+    by_result (later_record d fields) (λ next h. later_all_sound (row + 1) next e rows
+    (later_sound d next fields sound h) (rw h at is)) (λ code h. absurd (let s = rw h at is in cc))
 
 all_sound : (rows : List (List (List ℕ))) (d : Draft) → all_records rows ≡ Ok d → IsSound d
 all_sound [] d is = absurd cc
 all_sound (first ∷ rows) d is =
-    by_result (first_record first) (λ elems h. later_all_sound 2 (begun elems) d rows (begun_sound first elems h) (rw h at is)) (λ code h. absurd (let s = rw h at is in cc))
+    by_result (first_record first) (λ elems h. later_all_sound 2 (begun elems) d rows (begun_sound first elems h)
+    (rw h at is)) (λ code h. absurd (let s = rw h at is in cc))
 
 made_of : (n : ℕ) (r : Result Draft DataFault) (given : Data) → as_data n r ≡ Ok given → ((d : Draft) → r ≡ Ok d → IsSound d) → IsWellMade given
 made_of n (Ok d) given is sound = let same : data_after n d ≡ given = cc in subst IsWellMade same (well_made d n (sound d refl))

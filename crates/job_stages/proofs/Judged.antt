@@ -16,7 +16,8 @@ use Rattle.job_stages.specs.Verdict.{TextsDenote}
 use Rattle.job_stages.proofs.Once.{texts_once}
 
 -- the verdict on a tree is the only one of its text
-pub only_verdict : (jdf_text data_text : List ℕ) (r : Result JobVerdict OutOfMemory) (v : JobVerdict) → IfOk r (TextsDenote jdf_text data_text) → TextsDenote jdf_text data_text v → IfOk r (λ w. w ≡ v)
+pub only_verdict : (jdf_text data_text : List ℕ) (r : Result JobVerdict OutOfMemory) (v : JobVerdict)
+    → IfOk r (TextsDenote jdf_text data_text) → TextsDenote jdf_text data_text v → IfOk r (λ w. w ≡ v)
 only_verdict jdf_text data_text (Ok w) v h k = texts_once jdf_text data_text w v h k
 only_verdict jdf_text data_text (Err x) v h k = tt
 
@@ -28,7 +29,8 @@ unmatched job P Q f has e first = subst (λ (p : Plan). HasPlan job p × IsFirst
 pub fault_judged : (jdf_text data_text : List ℕ) (f g : JdfFault) → g ≡ f → IsJdfFault jdf_text f → TextsDenote jdf_text data_text (verdicts.Jdf g)
 fault_judged jdf_text data_text f g e h = inl (g, subst (IsJdfFault jdf_text) (sym e) h, refl)
 
-pub only_fault : (jdf_text data_text : List ℕ) (f g : JdfFault) (v : JobVerdict) → g ≡ f → IsJdfFault jdf_text f → TextsDenote jdf_text data_text v → verdicts.Jdf g ≡ v
+pub only_fault : (jdf_text data_text : List ℕ) (f g : JdfFault) (v : JobVerdict) → g ≡ f → IsJdfFault jdf_text f
+    → TextsDenote jdf_text data_text v → verdicts.Jdf g ≡ v
 only_fault jdf_text data_text f g v e h k = texts_once jdf_text data_text (verdicts.Jdf g) v (fault_judged jdf_text data_text f g e h) k
 
 -- the plan and the data of a verdict, if it is a consistent job

@@ -52,7 +52,8 @@ module _ (job : Job) where
   fault_at : (P Q : Plan) (f : MatchFault) → HasPlan job P → HasPlan job Q → IsFirstFault P f → IsFirstFault Q f
   fault_at P Q f h k first = subst (λ (p : Plan). IsFirstFault p f) (same_plan P Q h k) first
 
-  same_inconsistency : (P Q : Plan) (f g : MatchFault) → HasPlan job P → HasPlan job Q → IsFirstFault P f → IsFirstFault Q g → ◌≡◌ {A = JobVerdict} (verdicts.Inconsistent P f) (verdicts.Inconsistent Q g)
+  same_inconsistency : (P Q : Plan) (f g : MatchFault) → HasPlan job P → HasPlan job Q → IsFirstFault P f
+      → IsFirstFault Q g → ◌≡◌ {A = JobVerdict} (verdicts.Inconsistent P f) (verdicts.Inconsistent Q g)
   same_inconsistency P Q f g h k first other =
       let plans = same_plan P Q h k in
       let faults = one_first Q f g (fault_at P Q f h k first) other in
@@ -97,9 +98,11 @@ texts_once jdf_text data_text v w (inl (f, first, e)) (inr (inr (job, read, h)))
 texts_once jdf_text data_text v w (inr (inl (J, f, tree, first, e))) (inl (g, other, h)) = absurd (not_both jdf_text J g tree other)
 texts_once jdf_text data_text v w (inr (inl (J, f, tree, first, e))) (inr (inl (K, g, other_tree, other, h))) =
     e ∙ (ap verdicts.Data (data_fault_once data_text f g first other) ∙ sym h)
-texts_once jdf_text data_text v w (inr (inl (J, f, tree, first, e))) (inr (inr (job, read, h))) = absurd (data_or_fault data_text job.given f read.spelled first)
+texts_once jdf_text data_text v w (inr (inl (J, f, tree, first, e))) (inr (inr (job, read, h))) = absurd
+    (data_or_fault data_text job.given f read.spelled first)
 texts_once jdf_text data_text v w (inr (inr (job, read, h))) (inl (g, other, k)) = absurd (not_both jdf_text job.jdf g read.tree other)
-texts_once jdf_text data_text v w (inr (inr (job, read, h))) (inr (inl (J, g, tree, other, k))) = absurd (data_or_fault data_text job.given g read.spelled other)
+texts_once jdf_text data_text v w (inr (inr (job, read, h))) (inr (inl (J, g, tree, other, k))) = absurd
+    (data_or_fault data_text job.given g read.spelled other)
 texts_once jdf_text data_text v w (inr (inr (job, read, h))) (inr (inr (other, again, k))) =
     job_once other v w (subst (λ (j : Job). JobDenotes j v) (one_job jdf_text data_text job other read again) h) k
 

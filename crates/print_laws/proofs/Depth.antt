@@ -3,16 +3,21 @@ use Rattle.std.proofs.Common.{ℕ, zero, suc, ◌+◌, ◌≤◌, List, [], ◌�
 use Rattle.std.specs.Prelude.{Option, Some, None}
 use Rattle.grammar_core.specs.declared.token.Token.{Token}
 use Rattle.grammar_core.specs.declared.code.Code.{Code}
-use Rattle.grammar_core.specs.Production.{Production, seq, map, alt, opt, star, limited, Fault, Language, Many, Derives, DerivedWithin, Derived, one_of, checked, pick, after_token}
+use Rattle.grammar_core.specs.Production.{Production, seq, map, alt, opt, star, limited, Fault, Language, Many, Derives}
+use Rattle.grammar_core.specs.Production.{DerivedWithin, Derived, one_of, checked, pick, after_token}
 
 abbrev Into : {A : Type 0} → Language A → Language A → Type 0
 Into {A = A} G H = (s : List Token) (t : A) (o : Fault) (r : List Token) → G s t o r → H s t o r
 
-many_map : {A : Type 0} (full : ℕ → Option Code) (G H : Language A) → Into G H → (i : ℕ) (ts : List A) (s : List Token) (o : Fault) (r : List Token) → Many full G i s ts o r → Many full H i s ts o r
+many_map : {A : Type 0} (full : ℕ → Option Code) (G H : Language A) → Into G H
+    → (i : ℕ) (ts : List A) (s : List Token) (o : Fault) (r : List Token) → Many full G i s ts o r
+    → Many full H i s ts o r
 many_map full G H f i [] s o r h = h
 many_map full G H f i (t ∷ ts) s o r h = (h.0, h.1, h.2, f s t h.1 h.0 h.3, many_map full G H f (suc i) ts h.0 h.2 r h.4, h.5)
 
-derives_map : {N : Type 0} {Tree : N → Type 0} (R R' : (n : N) → Language (Tree n)) → ((n : N) → Into (R n) (R' n)) → {A : Type 0} (g : Production N Tree A) (s : List Token) (t : A) (o : Fault) (r : List Token) → Derives R g s t o r → Derives R' g s t o r
+derives_map : {N : Type 0} {Tree : N → Type 0} (R R' : (n : N) → Language (Tree n)) → ((n : N) → Into (R n) (R' n))
+    → {A : Type 0} (g : Production N Tree A) (s : List Token) (t : A) (o : Fault) (r : List Token) → Derives R g s t o r
+    → Derives R' g s t o r
 derives_map R R' f (one_of q) s t o r h = h
 derives_map R R' f (checked q good c) s t o r h = h
 derives_map R R' f (seq g k) s t o r h = (h.0, h.1, h.2, derives_map R R' f g s t.0 h.1 h.0 h.3, derives_map R R' f k h.0 t.1 h.2 r h.4, h.5)
@@ -26,7 +31,8 @@ derives_map R R' f (after_token q n) s t o r h = (h.0, h.1, h.2, f n h.0 t.1 h.1
 derives_map R R' f (limited l c g) s t o r h = (h.0, derives_map R R' f g s t h.0 r h.1, h.2)
 
 module _ {N : Type 0} {Tree : N → Type 0} (body : (n : N) → Production N Tree (Tree n)) where
-  deeper : (k j : ℕ) → k ≤ j → (n : N) (s : List Token) (t : Tree n) (o : Fault) (r : List Token) → DerivedWithin body k n s t o r → DerivedWithin body j n s t o r
+  deeper : (k j : ℕ) → k ≤ j → (n : N) (s : List Token) (t : Tree n) (o : Fault) (r : List Token)
+      → DerivedWithin body k n s t o r → DerivedWithin body j n s t o r
   deeper zero j le n s t o r h = absurd h
   deeper (suc k) zero le n s t o r h = absurd (omega arith)
   deeper (suc k) (suc j) le n s t o r h = derives_map (DerivedWithin body k) (DerivedWithin body j) (deeper k j (omega arith)) (body n) s t o r h
@@ -37,20 +43,39 @@ module _ {N : Type 0} {Tree : N → Type 0} (body : (n : N) → Production N Tre
   abbrev pub ManyDepth : {A : Type 0} → (ℕ → Option Code) → Production N Tree A → ℕ → List Token → List A → Fault → List Token → Type 0
   ManyDepth full g i s ts o r = (k : ℕ) × Many full (Derives (DerivedWithin body k) g) i s ts o r
 
-  lift : {A : Type 0} (g : Production N Tree A) (k j : ℕ) → k ≤ j → (s : List Token) (t : A) (o : Fault) (r : List Token) → Derives (DerivedWithin body k) g s t o r → Derives (DerivedWithin body j) g s t o r
+  lift : {A : Type 0} (g : Production N Tree A) (k j : ℕ) → k ≤ j
+      → (s : List Token) (t : A) (o : Fault) (r : List Token) → Derives (DerivedWithin body k) g s t o r
+      → Derives (DerivedWithin body j) g s t o r
   lift g k j le s t o r h = derives_map (DerivedWithin body k) (DerivedWithin body j) (deeper k j le) g s t o r h
 
-  lift_many : {A : Type 0} (full : ℕ → Option Code) (g : Production N Tree A) (k j : ℕ) → k ≤ j → (i : ℕ) (ts : List A) (s : List Token) (o : Fault) (r : List Token) → Many full (Derives (DerivedWithin body k) g) i s ts o r → Many full (Derives (DerivedWithin body j) g) i s ts o r
+  lift_many : {A : Type 0} (full : ℕ → Option Code) (g : Production N Tree A) (k j : ℕ) → k ≤ j
+      → (i : ℕ) (ts : List A) (s : List Token) (o : Fault) (r : List Token)
+      → Many full (Derives (DerivedWithin body k) g) i s ts o r
+      → Many full (Derives (DerivedWithin body j) g) i s ts o r
   lift_many full g k j le i ts s o r h = many_map full (Derives (DerivedWithin body k) g) (Derives (DerivedWithin body j) g) (lift g k j le) i ts s o r h
 
-  many_depth : {A : Type 0} (full : ℕ → Option Code) (g : Production N Tree A) → ((s : List Token) (t : A) (o : Fault) (r : List Token) → Derives (Derived body) g s t o r → AtDepth g s t o r) → (i : ℕ) (ts : List A) (s : List Token) (o : Fault) (r : List Token) → Many full (Derives (Derived body) g) i s ts o r → ManyDepth full g i s ts o r
+  many_depth : {A : Type 0} (full : ℕ → Option Code) (g : Production N Tree A)
+      → ((s : List Token) (t : A) (o : Fault) (r : List Token) → Derives (Derived body) g s t o r → AtDepth g s t o r)
+      → (i : ℕ) (ts : List A) (s : List Token) (o : Fault) (r : List Token)
+      → Many full (Derives (Derived body) g) i s ts o r → ManyDepth full g i s ts o r
   many_depth full g f i [] s o r h = (0, h)
   many_depth full g f i (t ∷ ts) s o r h =
       let a = f s t h.1 h.0 h.3 in
-      let b = many_depth full g f (suc i) ts h.0 h.2 r h.4 in
-      (a.0 + b.0, (h.0, h.1, h.2, lift g a.0 (a.0 + b.0) (omega arith) s t h.1 h.0 a.1, lift_many full g b.0 (a.0 + b.0) (omega arith) (suc i) ts h.0 h.2 r b.1, h.5))
+      let b = many_depth full g f (suc i) ts h.0 h.2 r h.4 in (
+        a.0 + b.0,
+        (
+          h.0,
+          h.1,
+          h.2,
+          lift g a.0 (a.0 + b.0) (omega arith) s t h.1 h.0 a.1,
+          lift_many full g b.0 (a.0 + b.0)
+              (omega arith) (suc i) ts h.0 h.2 r b.1,
+          h.5,
+        ),
+      )
 
-  pub at_depth : {A : Type 0} (g : Production N Tree A) (s : List Token) (t : A) (o : Fault) (r : List Token) → Derives (Derived body) g s t o r → AtDepth g s t o r
+  pub at_depth : {A : Type 0} (g : Production N Tree A) (s : List Token) (t : A) (o : Fault) (r : List Token)
+      → Derives (Derived body) g s t o r → AtDepth g s t o r
   at_depth (one_of q) s t o r h = (0, h)
   at_depth (checked q good c) s t o r h = (0, h)
   at_depth (seq g k) s t o r h =

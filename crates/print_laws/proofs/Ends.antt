@@ -4,7 +4,8 @@ use Rattle.std.specs.Prelude.{Option, Some, None}
 use Rattle.std.specs.Option.{option_or}
 use Rattle.grammar_core.specs.declared.token.Token.{Token}
 use Rattle.grammar_core.specs.declared.code.Code.{Code}
-use Rattle.grammar_core.specs.Production.{Production, seq, map, alt, opt, star, limited, Fault, Language, Many, Derives, at_start, one_of, checked, pick, after_token}
+use Rattle.grammar_core.specs.Production.{Production, seq, map, alt, opt, star, limited, Fault, Language, Many, Derives}
+use Rattle.grammar_core.specs.Production.{at_start, one_of, checked, pick, after_token}
 
 -- The second list is the end of the first.
 abbrev pub HasEnd : List Token → List Token → Type 0
@@ -19,11 +20,14 @@ through s m r a b = (a.0 ++ b.0, a.1 ∙ ap (λ (l : List Token). a.0 ++ l) b.1 
 abbrev pub Shortens : {A : Type 0} → Language A → Type 0
 Shortens {A = A} G = (s : List Token) (t : A) (o : Fault) (r : List Token) → G s t o r → HasEnd s r
 
-many_has_end : {A : Type 0} (full : ℕ → Option Code) (G : Language A) → Shortens G → (i : ℕ) (ts : List A) (s : List Token) (o : Fault) (r : List Token) → Many full G i s ts o r → HasEnd s r
+many_has_end : {A : Type 0} (full : ℕ → Option Code) (G : Language A) → Shortens G
+    → (i : ℕ) (ts : List A) (s : List Token) (o : Fault) (r : List Token) → Many full G i s ts o r → HasEnd s r
 many_has_end full G f i [] s o r h = ([], h.0)
 many_has_end full G f i (t ∷ ts) s o r h = through s h.0 r (f s t h.1 h.0 h.3) (many_has_end full G f (suc i) ts h.0 h.2 r h.4)
 
-pub derives_has_end : {N : Type 0} {Tree : N → Type 0} (R : (n : N) → Language (Tree n)) → ((n : N) → Shortens (R n)) → {A : Type 0} (g : Production N Tree A) (s : List Token) (t : A) (o : Fault) (r : List Token) → Derives R g s t o r → HasEnd s r
+pub derives_has_end : {N : Type 0} {Tree : N → Type 0} (R : (n : N) → Language (Tree n)) → ((n : N) → Shortens (R n))
+    → {A : Type 0} (g : Production N Tree A) (s : List Token) (t : A) (o : Fault) (r : List Token) → Derives R g s t o r
+    → HasEnd s r
 derives_has_end R f (one_of q) s t o r h = one_has_end t s r h.0.0
 derives_has_end R f (checked q good c) s t o r h = one_has_end t s r h.0.0
 derives_has_end R f (seq g k) s t o r h = through s h.0 r (derives_has_end R f g s t.0 h.1 h.0 h.3) (derives_has_end R f k h.0 t.1 h.2 r h.4)

@@ -22,7 +22,10 @@ use Rattle.jdf_tree.specs.Numbers.{decimal, is_number}
 use Rattle.jdf_tree.specs.Nonterminal.{an_expr, a_unary, Grammar}
 use Rattle.jdf_tree.specs.GrammarParts.{word_of, names}
 use Rattle.jdf_tree.specs.Grammar.{productions}
-use Rattle.jdf_tree.specs.ExpressionGrammar.{with_spot, number_at, name_alone, is_sign, operator_by, operator_of, ranked, sign_by, number, reference, signed, parens, unary, is_product, is_sum, is_relation, is_equality, is_conjunction, is_disjunction, product, sum, relation, equality, conjunction, disjunction, branches, expr}
+use Rattle.jdf_tree.specs.ExpressionGrammar.{with_spot, number_at, name_alone, is_sign, operator_by, operator_of}
+use Rattle.jdf_tree.specs.ExpressionGrammar.{ranked, sign_by, number, reference, signed, parens, unary, is_product}
+use Rattle.jdf_tree.specs.ExpressionGrammar.{is_sum, is_relation, is_equality, is_conjunction, is_disjunction, product}
+use Rattle.jdf_tree.specs.ExpressionGrammar.{sum, relation, equality, conjunction, disjunction, branches, expr}
 use Rattle.jdf_print.specs.Fragments.{token, between}
 use Rattle.jdf_print.specs.Spelling as print
 use Rattle.print_laws.specs.Same as same
@@ -51,12 +54,25 @@ IsWellFormed (Choose c a b) = IsWellFormed c × IsWellFormed a × IsWellFormed b
 
 -- ---- ranks
 
-alone : (ops : Terminal → Bool) (g : Grammar ExprWithSpot) (s : List Token) (p : ExprWithSpot) (r : List Token) → DerivesTree g s p r → DerivesTree (ranked ops g) s p r
+alone : (ops : Terminal → Bool) (g : Grammar ExprWithSpot) (s : List Token) (p : ExprWithSpot) (r : List Token)
+    → DerivesTree g s p r → DerivesTree (ranked ops g) s p r
 alone ops g s p r h = ((p, []), (r, None, None, h, (refl, refl), refl), refl)
 
 two : (ops : Terminal → Bool) (g : Grammar ExprWithSpot) (x : Token) (s : List Token) (a : ExprWithSpot) (n m : List Token) (b : ExprWithSpot) (r : List Token)
-    → DerivesTree g s a n → n ≡ x ∷ m → ops (terminal_of x) ≡ true → DerivesTree g m b r → DerivesTree (ranked ops g) s (with_spot a.spot (Binary (operator_of x) a.tree b.tree)) r
-two ops g x s a n m b r ha e q hb = ((a, (operator_of x, b) ∷ []), (n, None, None, ha, (r, None, None, (m, None, None, (x, ((e, q), refl), refl), hb, refl), (refl, refl), refl), refl), refl)
+    → DerivesTree g s a n → n ≡ x ∷ m → ops (terminal_of x) ≡ true → DerivesTree g m b r
+    → DerivesTree (ranked ops g) s (with_spot a.spot (Binary (operator_of x) a.tree b.tree)) r
+two ops g x s a n m b r ha e q hb = (
+  (a, (operator_of x, b) ∷ []),
+  (
+    n,
+    None,
+    None,
+    ha,
+    (r, None, None, (m, None, None, (x, ((e, q), refl), refl), hb, refl), (refl, refl), refl),
+    refl,
+  ),
+  refl,
+)
 
 -- The ranks of operators, the tightest binding first.
 abbrev Ranks : Type 0
@@ -75,17 +91,22 @@ unfolding product sum relation equality conjunction disjunction
 all_ranked = refl
 
 -- An operand alone is an expression of each rank.
-climb : (ranks : Ranks) (g : Grammar ExprWithSpot) (s : List Token) (p : ExprWithSpot) (r : List Token) → DerivesTree g s p r → DerivesTree (ranked_by ranks g) s p r
+climb : (ranks : Ranks) (g : Grammar ExprWithSpot) (s : List Token) (p : ExprWithSpot) (r : List Token)
+    → DerivesTree g s p r → DerivesTree (ranked_by ranks g) s p r
 climb [] g s p r h = h
 climb (ops ∷ ranks) g s p r h = climb ranks (ranked ops g) s p r (alone ops g s p r h)
 
 -- Two operands with an operator of a rank between them are an expression of that rank and of each rank above.
-at_rank : (lower : Ranks) (ops : Terminal → Bool) (upper : Ranks) (g : Grammar ExprWithSpot) (x : Token) (s : List Token) (a : ExprWithSpot) (n m : List Token) (b : ExprWithSpot) (r : List Token)
-    → DerivesTree g s a n → n ≡ x ∷ m → ops (terminal_of x) ≡ true → DerivesTree g m b r → DerivesTree (ranked_by (lower ++ ops ∷ upper) g) s (with_spot a.spot (Binary (operator_of x) a.tree b.tree)) r
+at_rank : (lower : Ranks) (ops : Terminal → Bool) (upper : Ranks) (g : Grammar ExprWithSpot) (x : Token)
+    (s : List Token) (a : ExprWithSpot) (n m : List Token) (b : ExprWithSpot) (r : List Token)
+    → DerivesTree g s a n → n ≡ x ∷ m → ops (terminal_of x) ≡ true → DerivesTree g m b r
+    → DerivesTree (ranked_by (lower ++ ops ∷ upper) g) s (with_spot a.spot (Binary (operator_of x) a.tree b.tree)) r
 at_rank [] ops upper g x s a n m b r ha e q hb = climb upper (ranked ops g) s _ r (two ops g x s a n m b r ha e q hb)
-at_rank (rank ∷ lower) ops upper g x s a n m b r ha e q hb = at_rank lower ops upper (ranked rank g) x s a n m b r (alone rank g s a n ha) e q (alone rank g m b r hb)
+at_rank (rank ∷ lower) ops upper g x s a n m b r ha e q hb = at_rank lower ops upper (ranked rank g) x s a n m b r
+    (alone rank g s a n ha) e q (alone rank g m b r hb)
 
-disjunction_derives : (s : List Token) (p : ExprWithSpot) (r : List Token) → DerivesTree (ranked_by all_ranks (unary Class)) s p r → DerivesTree (disjunction Class) s p r
+disjunction_derives : (s : List Token) (p : ExprWithSpot) (r : List Token)
+    → DerivesTree (ranked_by all_ranks (unary Class)) s p r → DerivesTree (disjunction Class) s p r
 disjunction_derives s p r h = subst (λ g. DerivesTree g s p r) all_ranked h
 
 expr_derives : (s : List Token) (p : ExprWithSpot) (r : List Token) → DerivesTree (disjunction Class) s p r → DerivesTree (expr Class) s p r
@@ -109,7 +130,8 @@ name_unary s p r h = named productions (a_unary Class) s p None r h
 
 -- ---- two operands
 
-module _ (x : Token) (s : List Token) (a : ExprWithSpot) (n m : List Token) (b : ExprWithSpot) (r : List Token) (e : n ≡ x ∷ m) (ha : DerivesTree (unary Class) s a n) (hb : DerivesTree (unary Class) m b r) where
+module _ (x : Token) (s : List Token) (a : ExprWithSpot) (n m : List Token) (b : ExprWithSpot) (r : List Token)
+    (e : n ≡ x ∷ m) (ha : DerivesTree (unary Class) s a n) (hb : DerivesTree (unary Class) m b r) where
   -- Both operands with the operator between them derive an expression.
   abbrev Both : Type 0
   Both = DerivesTree (expr Class) s (with_spot a.spot (Binary (operator_of x) a.tree b.tree)) r
@@ -118,7 +140,8 @@ module _ (x : Token) (s : List Token) (a : ExprWithSpot) (n m : List Token) (b :
   by_rank lower ops upper all q =
       let tree = with_spot a.spot (Binary (operator_of x) a.tree b.tree) in
       expr_derives s tree r
-      (disjunction_derives s tree r (subst (λ ranks. DerivesTree (ranked_by ranks (unary Class)) s tree r) all (at_rank lower ops upper (unary Class) x s a n m b r ha e q hb)))
+      (disjunction_derives s tree r (subst (λ ranks. DerivesTree (ranked_by ranks (unary Class)) s tree r) all
+      (at_rank lower ops upper (unary Class) x s a n m b r ha e q hb)))
 
   by_product : is_product (terminal_of x) ≡ true → Both
   by_product q = by_rank [] is_product (is_sum ∷ is_relation ∷ is_equality ∷ is_conjunction ∷ is_disjunction ∷ []) refl q
@@ -210,19 +233,46 @@ colon = refl
 -- ---- operands
 
 -- An expression in parentheses.
-in_parens : (x y : Token) (s m : List Token) (p : ExprWithSpot) (n l r : List Token) → s ≡ x ∷ m → IsLike x (codes "(") → DerivesTree (expr Class) m p n → n ≡ y ∷ l → IsLike y (codes ")") → l ≡ r → DerivesTree (unary Class) s (with_spot x.spot p.tree) r
+in_parens : (x y : Token) (s m : List Token) (p : ExprWithSpot) (n l r : List Token) → s ≡ x ∷ m → IsLike x (codes "(")
+    → DerivesTree (expr Class) m p n → n ≡ y ∷ l → IsLike y (codes ")") → l ≡ r
+    → DerivesTree (unary Class) s (with_spot x.spot p.tree) r
 unfolding unary parens
 in_parens x y s m p n l r e left h k right last =
-    inr (inr (inr (((x, p), y), (n, None, None, (m, None, is_one (is terminal.LeftParen) (codes "(") left_paren x s m e left, name_expr m p n h, refl), (is_one (is terminal.RightParen) (codes ")") right_paren y n r (k ∙ ap (λ (w : List Token). y ∷ w) last) right, refl), refl), refl)))
+    inr (inr (inr (
+      ((x, p), y),
+      (
+        n,
+        None,
+        None,
+        (
+          m,
+          None,
+          is_one (is terminal.LeftParen) (codes "(") left_paren x s m e
+              left,
+          name_expr m p n h,
+          refl,
+        ),
+        (
+          is_one (is terminal.RightParen) (codes ")") right_paren y n r
+              (k ∙ ap (λ (w : List Token). y ∷ w) last) right,
+          refl,
+        ),
+        refl,
+      ),
+      refl,
+    )))
 
 -- A prefix operator and its operand.
-with_sign : (o : UnOp) (x : Token) (s m : List Token) (p : ExprWithSpot) (r : List Token) → s ≡ x ∷ m → IsLike x (print.sign o) → DerivesTree (unary Class) m p r → DerivesTree (unary Class) s (with_spot x.spot (Unary (sign_by (terminal_of x)) p.tree x.spot)) r
+with_sign : (o : UnOp) (x : Token) (s m : List Token) (p : ExprWithSpot) (r : List Token) → s ≡ x ∷ m
+    → IsLike x (print.sign o) → DerivesTree (unary Class) m p r
+    → DerivesTree (unary Class) s (with_spot x.spot (Unary (sign_by (terminal_of x)) p.tree x.spot)) r
 unfolding unary signed
 with_sign o x s m p r e like h = inl ((x, p), (m, None, is_one is_sign (print.sign o) (is_sign_of o) x s m e like, name_unary m p r h, refl), refl)
 
 -- A choice between two expressions.
 three : (c : ExprWithSpot) (s k m : List Token) (a : ExprWithSpot) (l n : List Token) (b : ExprWithSpot) (r : List Token) (x y : Token)
-    → DerivesTree (unary Class) s c k → k ≡ x ∷ m → IsLike x (codes "?") → DerivesTree (unary Class) m a l → l ≡ y ∷ n → IsLike y (codes ":") → DerivesTree (unary Class) n b r
+    → DerivesTree (unary Class) s c k → k ≡ x ∷ m → IsLike x (codes "?") → DerivesTree (unary Class) m a l → l ≡ y ∷ n
+    → IsLike y (codes ":") → DerivesTree (unary Class) n b r
     → DerivesTree (expr Class) s (with_spot c.spot (Choose c.tree a.tree b.tree)) r
 unfolding expr branches
 three c s k m a l n b r x y hc e ask ha f other hb = (
@@ -260,7 +310,15 @@ number_has_tree z spot formed s r h =
     let good : is_number x.text ≡ true = ap is_number h.3.1 ∙ facts.good in
     record {
       tree = number_at x;
-      derives = inr (inl (x, (is_one (is terminal.Number) (signed_decimal z) facts.terminal x s r start h.3, sym (ap (λ (b : Bool). bad_unless b BadNumber) good)), refl));
+      derives = inr (inl (
+        x,
+        (
+          is_one (is terminal.Number) (signed_decimal z) facts.terminal x s r start h.3,
+          sym
+              (ap (λ (b : Bool). bad_unless b BadNumber) good),
+        ),
+        refl,
+      ));
       like = ap (λ (w : List ℕ). same.expression (Num (pos (decimal w)) nowhere)) h.3.1 ∙ ap (λ (v : ℤ). same.expression (Num v nowhere)) facts.value;
     }
 
@@ -289,7 +347,8 @@ has_tree (Unary o a spot) formed s r h =
     let inner_derives = with_sign o sign h.1 h.4.1 k.tree split.0 h.4.2 h.4.3 k.derives in
     record {
       tree = with_spot x.spot (Unary (sign_by (terminal_of sign)) k.tree.tree sign.spot);
-      derives = in_parens x y s h.1 (with_spot sign.spot (Unary (sign_by (terminal_of sign)) k.tree.tree sign.spot)) split.0 split.2.1 r h.2 h.3 (up_expr h.1 _ split.0 inner_derives) split.2.2 split.2.3 split.2.4;
+      derives = in_parens x y s h.1 (with_spot sign.spot (Unary (sign_by (terminal_of sign)) k.tree.tree sign.spot))
+          split.0 split.2.1 r h.2 h.3 (up_expr h.1 _ split.0 inner_derives) split.2.2 split.2.3 split.2.4;
       like = ap (λ (p : UnOp). Unary p (same.expression k.tree.tree) nowhere) (sign_back o sign h.4.3) ∙ ap (λ (t : Expression). Unary o t nowhere) k.like;
     }
 has_tree (Binary o a b) formed s r h =
@@ -303,7 +362,8 @@ has_tree (Binary o a b) formed s r h =
     let both = both_derives sign h.1 ka.tree first.0 first.2.1 kb.tree outer.0 first.2.2 ka.derives kb.derives o first.2.3 in
     record {
       tree = with_spot x.spot (Binary (operator_of sign) ka.tree.tree kb.tree.tree);
-      derives = in_parens x y s h.1 (with_spot ka.tree.spot (Binary (operator_of sign) ka.tree.tree kb.tree.tree)) outer.0 outer.2.1 r h.2 h.3 both outer.2.2 outer.2.3 outer.2.4;
+      derives = in_parens x y s h.1 (with_spot ka.tree.spot (Binary (operator_of sign) ka.tree.tree kb.tree.tree))
+          outer.0 outer.2.1 r h.2 h.3 both outer.2.2 outer.2.3 outer.2.4;
       like = ap (λ (p : BinOp). Binary p (same.expression ka.tree.tree) (same.expression kb.tree.tree)) (operator_back o sign first.2.3)
           ∙ ap (λ (t : Expression). Binary o t (same.expression kb.tree.tree)) ka.like ∙ ap (λ (t : Expression). Binary o (same.expression a) t) kb.like;
     }
@@ -318,10 +378,12 @@ has_tree (Choose c a b) formed s r h =
     let ka = has_tree a formed.1 first.2.1 second.0 second.1 in
     let kb = has_tree b formed.2 second.2.1 outer.0 second.2.4 in
     let y = outer.2.0 in
-    let all = three kc.tree h.1 first.0 first.2.1 ka.tree second.0 second.2.1 kb.tree outer.0 first.2.0 second.2.0 kc.derives first.2.2 first.2.3 ka.derives second.2.2 second.2.3 kb.derives in
+    let all = three kc.tree h.1 first.0 first.2.1 ka.tree second.0 second.2.1 kb.tree outer.0 first.2.0 second.2.0
+    kc.derives first.2.2 first.2.3 ka.derives second.2.2 second.2.3 kb.derives in
     record {
       tree = with_spot x.spot (Choose kc.tree.tree ka.tree.tree kb.tree.tree);
-      derives = in_parens x y s h.1 (with_spot kc.tree.spot (Choose kc.tree.tree ka.tree.tree kb.tree.tree)) outer.0 outer.2.1 r h.2 h.3 all outer.2.2 outer.2.3 outer.2.4;
+      derives = in_parens x y s h.1 (with_spot kc.tree.spot (Choose kc.tree.tree ka.tree.tree kb.tree.tree)) outer.0
+          outer.2.1 r h.2 h.3 all outer.2.2 outer.2.3 outer.2.4;
       like = ap (λ (t : Expression). Choose t (same.expression ka.tree.tree) (same.expression kb.tree.tree)) kc.like
           ∙ ap (λ (t : Expression). Choose (same.expression c) t (same.expression kb.tree.tree)) ka.like
           ∙ ap (λ (t : Expression). Choose (same.expression c) (same.expression a) t) kb.like;

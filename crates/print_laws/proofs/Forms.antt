@@ -43,16 +43,19 @@ Every P (x ∷ xs) = P x × Every P xs
 -- ---- words
 
 -- A word alone.
-pub word_derives : (k : Terminal) (w : List ℕ) → is k (terminal_at w) ≡ true → (x : Token) (s m : List Token) → s ≡ x ∷ m → IsLike x w → DerivesTree (word k) s x m
+pub word_derives : (k : Terminal) (w : List ℕ) → is k (terminal_at w) ≡ true → (x : Token) (s m : List Token)
+    → s ≡ x ∷ m → IsLike x w → DerivesTree (word k) s x m
 word_derives k w e x s m h like = (is_one (is k) w e x s m h like, refl)
 
 -- A word before a derivation.
-pub after_derives : {A : Type 0} (k : Terminal) (g : Grammar A) (w : List ℕ) → is k (terminal_at w) ≡ true → (x : Token) (s m : List Token) (t : A) (r : List Token)
+pub after_derives : {A : Type 0} (k : Terminal) (g : Grammar A) (w : List ℕ) → is k (terminal_at w) ≡ true
+    → (x : Token) (s m : List Token) (t : A) (r : List Token)
     → s ≡ x ∷ m → IsLike x w → DerivesTree g m t r → DerivesTree (prefixed_by k g) s t r
 after_derives k g w e x s m t r h like derives = ((x, t), (m, None, None, word_derives k w e x s m h like, derives, refl), refl)
 
 -- A word after a derivation.
-pub before_derives : {A : Type 0} (k : Terminal) (g : Grammar A) (w : List ℕ) → is k (terminal_at w) ≡ true → (x : Token) (s m : List Token) (t : A) (r : List Token)
+pub before_derives : {A : Type 0} (k : Terminal) (g : Grammar A) (w : List ℕ) → is k (terminal_at w) ≡ true
+    → (x : Token) (s m : List Token) (t : A) (r : List Token)
     → DerivesTree g s t m → m ≡ x ∷ r → IsLike x w → DerivesTree (suffixed_by k g) s t r
 before_derives k g w e x s m t r derives h like = ((t, x), (m, None, None, derives, word_derives k w e x m r h like, refl), refl)
 
@@ -73,17 +76,37 @@ reads_line ps s r h = let k = reads_both ps _ s r h in let R : List Token → Ty
 abbrev pub IsOuter : Expression → Type 0
 IsOuter e = IsWellFormed e × (weight e ≤ 128)
 
-pub outer_reads_back : (e : Expression) → IsOuter e → (s r : List Token) → Reads (print.expression e) s r → ReadsBackAs (outer Class) (λ p. same.expression p.tree) (same.expression e) s r
+pub outer_reads_back : (e : Expression) → IsOuter e → (s r : List Token) → Reads (print.expression e) s r
+    → ReadsBackAs (outer Class) (λ p. same.expression p.tree) (same.expression e) s r
 unfolding outer
 outer_reads_back e formed s r h =
     let k = has_tree e formed.0 s r h in
-    record { tree = k.tree; derives = (None, up_expr s k.tree r k.derives, no_cut (limit_at is_counted 512 128 s) ExprTooLong (taken s r) (within_limit e formed.1 s r h)); like = k.like }
+    record {
+      tree = k.tree;
+      derives = (
+        None,
+        up_expr s k.tree r k.derives,
+        no_cut (limit_at is_counted 512 128 s)
+            ExprTooLong (taken s r) (within_limit e formed.1 s r h),
+      );
+      like = k.like;
+    }
 
-pub guard_reads_back : (e : Expression) → IsOuter e → (s r : List Token) → Reads (print.expression e) s r → ReadsBackAs guard (λ p. same.expression p.tree) (same.expression e) s r
+pub guard_reads_back : (e : Expression) → IsOuter e → (s r : List Token) → Reads (print.expression e) s r
+    → ReadsBackAs guard (λ p. same.expression p.tree) (same.expression e) s r
 unfolding guard
 guard_reads_back e formed s r h =
     let k = has_tree e formed.0 s r h in
-    record { tree = k.tree; derives = (None, up s k.tree r k.derives, no_cut (limit_at is_counted 512 128 s) ExprTooLong (taken s r) (within_limit e formed.1 s r h)); like = k.like }
+    record {
+      tree = k.tree;
+      derives = (
+        None,
+        up s k.tree r k.derives,
+        no_cut (limit_at is_counted 512 128 s) ExprTooLong
+            (taken s r) (within_limit e formed.1 s r h),
+      );
+      like = k.like;
+    }
 
 -- ---- lists
 
@@ -105,7 +128,8 @@ record ListReadsBack {A B : Type 0} (g : Grammar A) (erase : A → B) (bs : List
   like : map erase (first ∷ later) ≡ bs
 
 list_reads_back : {A B : Type 0} (g : Grammar A) (erase : A → B) (formed : A → Type 0) (spelled : A → List Fragment) → EachReadsBack g erase formed spelled
-    → (x : A) (xs : List A) → formed x → Every formed xs → (s r : List Token) → Reads (with_commas (map spelled (x ∷ xs))) s r → ListReadsBack g erase (map erase (x ∷ xs)) s r
+    → (x : A) (xs : List A) → formed x → Every formed xs → (s r : List Token)
+    → Reads (with_commas (map spelled (x ∷ xs))) s r → ListReadsBack g erase (map erase (x ∷ xs)) s r
 list_reads_back g erase formed spelled each x [] m ms s r h =
     let k = each x m s r h in
     record { first = k.tree; later = []; middle = r; derives_first = k.derives; derives_later = λ i. (refl, refl); like = ap (λ b. b ∷ []) k.like }
@@ -118,13 +142,22 @@ list_reads_back g erase formed spelled each x (y ∷ ys) m ms s r h =
       later = more.first ∷ more.later;
       middle = split.0;
       derives_first = k.derives;
-      derives_later = λ i.
-          (more.middle, None, None, after_derives terminal.Comma g (codes ",") is_comma split.2.0 split.0 split.2.1 more.first more.middle split.2.2 split.2.3 more.derives_first, more.derives_later (suc i), refl);
+      derives_later = λ i. (
+        more.middle,
+        None,
+        None,
+        after_derives terminal.Comma g (codes ",") is_comma split.2.0 split.0 split.2.1
+            more.first more.middle split.2.2 split.2.3 more.derives_first,
+        more.derives_later (suc i),
+        refl,
+      );
       like = ap (λ b. b ∷ map erase (more.first ∷ more.later)) k.like ∙ ap (λ bs. erase x ∷ bs) more.like;
     }
 
-pub listed_reads_back : {A B : Type 0} (g : Grammar A) (erase : A → B) (formed : A → Type 0) (spelled : A → List Fragment) → EachReadsBack g erase formed spelled
-    → (x : A) (xs : List A) → formed x → Every formed xs → (s r : List Token) → Reads (with_commas (map spelled (x ∷ xs))) s r → ReadsBackAs (listed g) (map erase) (map erase (x ∷ xs)) s r
+pub listed_reads_back : {A B : Type 0} (g : Grammar A) (erase : A → B) (formed : A → Type 0)
+    (spelled : A → List Fragment) → EachReadsBack g erase formed spelled
+    → (x : A) (xs : List A) → formed x → Every formed xs → (s r : List Token)
+    → Reads (with_commas (map spelled (x ∷ xs))) s r → ReadsBackAs (listed g) (map erase) (map erase (x ∷ xs)) s r
 listed_reads_back g erase formed spelled each x xs m ms s r h =
     let k = list_reads_back g erase formed spelled each x xs m ms s r h in
     record { tree = k.first ∷ k.later; derives = ((k.first, k.later), (k.middle, None, None, k.derives_first, k.derives_later 0, refl), refl); like = k.like }
@@ -144,8 +177,11 @@ record StarReadsBack {A B : Type 0} (full : ℕ → Option Code) (i : ℕ) (g : 
   derives : Many full (Derives (Derived productions) g) i s trees None r
   like : map erase trees ≡ bs
 
-all_read_back : {A B : Type 0} (n : ℕ) (full : ℕ → Option Code) → ((i : ℕ) → i < n → full i ≡ None) → (g : Grammar A) (erase : A → B) (formed : A → Type 0) (spelled : A → List Fragment) → EachReadsBack g erase formed spelled
-    → (i : ℕ) (xs : List A) → i + length xs ≤ n → Every formed xs → (s r : List Token) → Reads (flat_map spelled xs) s r → StarReadsBack full i g erase (map erase xs) s r
+all_read_back : {A B : Type 0} (n : ℕ) (full : ℕ → Option Code) → ((i : ℕ) → i < n → full i ≡ None)
+    → (g : Grammar A) (erase : A → B) (formed : A → Type 0) (spelled : A → List Fragment)
+    → EachReadsBack g erase formed spelled
+    → (i : ℕ) (xs : List A) → i + length xs ≤ n → Every formed xs → (s r : List Token) → Reads (flat_map spelled xs) s r
+    → StarReadsBack full i g erase (map erase xs) s r
 all_read_back n full room g erase formed spelled each i [] few ms s r h = record { trees = []; derives = (h, refl); like = refl }
 all_read_back n full room g erase formed spelled each i (x ∷ xs) few ms s r h =
     let split = reads_both (spelled x) (flat_map spelled xs) s r h in
@@ -157,8 +193,11 @@ all_read_back n full room g erase formed spelled each i (x ∷ xs) few ms s r h 
       like = ap (λ b. b ∷ map erase more.trees) k.like ∙ ap (λ bs. erase x ∷ bs) more.like;
     }
 
-pub star_reads_back : {A B : Type 0} (n : ℕ) (full : ℕ → Option Code) → ((i : ℕ) → i < n → full i ≡ None) → (g : Grammar A) (erase : A → B) (formed : A → Type 0) (spelled : A → List Fragment) → EachReadsBack g erase formed spelled
-    → (xs : List A) → length xs ≤ n → Every formed xs → (s r : List Token) → Reads (flat_map spelled xs) s r → ReadsBackAs (star full g) (map erase) (map erase xs) s r
+pub star_reads_back : {A B : Type 0} (n : ℕ) (full : ℕ → Option Code) → ((i : ℕ) → i < n → full i ≡ None)
+    → (g : Grammar A) (erase : A → B) (formed : A → Type 0) (spelled : A → List Fragment)
+    → EachReadsBack g erase formed spelled
+    → (xs : List A) → length xs ≤ n → Every formed xs → (s r : List Token) → Reads (flat_map spelled xs) s r
+    → ReadsBackAs (star full g) (map erase) (map erase xs) s r
 star_reads_back n full room g erase formed spelled each xs few ms s r h =
     let k = all_read_back n full room g erase formed spelled each 0 xs (omega arith) ms s r h in
     record { tree = k.trees; derives = k.derives; like = k.like }

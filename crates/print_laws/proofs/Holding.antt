@@ -58,7 +58,9 @@ module _ (R : (n : Nonterminal) → Language (TreeOf n)) (B : (n : Nonterminal) 
   if_present g P f s None o r h e known = tt
   if_present g P f s (Some t) o r h e known = f s t o r h e known
 
-  many_hold : {A : Type 0} (full : ℕ → Option Code) (g : Grammar A) (P : A → Type 0) → Holds g P → (i : ℕ) (ts : List A) (s : List Token) (o : Fault) (r : List Token) → Many full (Derives R g) i s ts o r → o ≡ None → Every IsKnown s → Every P ts
+  many_hold : {A : Type 0} (full : ℕ → Option Code) (g : Grammar A) (P : A → Type 0) → Holds g P
+      → (i : ℕ) (ts : List A) (s : List Token) (o : Fault) (r : List Token) → Many full (Derives R g) i s ts o r
+      → o ≡ None → Every IsKnown s → Every P ts
   many_hold full g P f i [] s o r h e known = tt
   many_hold full g P f i (t ∷ ts) s o r h e known =
       let parts = both_none (option_or (at_start (full i)) h.1) (taken s h.0) h.2 (sym e ∙ h.5) in
@@ -75,7 +77,8 @@ module _ (R : (n : Nonterminal) → Language (TreeOf n)) (B : (n : Nonterminal) 
       go true e k = absurd (cc)
       go false e k = let low = leb-false n i e in omega (arith, low)
 
-  many_at_most : {A : Type 0} (n : ℕ) (c : Code) (g : Grammar A) (i : ℕ) (ts : List A) (s : List Token) (o : Fault) (r : List Token) → i ≤ n → Many (full_at n c) (Derives R g) i s ts o r → o ≡ None → i + length ts ≤ n
+  many_at_most : {A : Type 0} (n : ℕ) (c : Code) (g : Grammar A) (i : ℕ) (ts : List A) (s : List Token) (o : Fault)
+      (r : List Token) → i ≤ n → Many (full_at n c) (Derives R g) i s ts o r → o ≡ None → i + length ts ≤ n
   many_at_most n c g i [] s o r le h e = omega arith
   many_at_most n c g i (t ∷ ts) s o r le h e =
       let parts = both_none (option_or (at_start (full_at n c i)) h.1) (taken s h.0) h.2 (sym e ∙ h.5) in
@@ -84,7 +87,10 @@ module _ (R : (n : Nonterminal) → Language (TreeOf n)) (B : (n : Nonterminal) 
       omega (arith, more)
 
   pub few : {A : Type 0} (n : ℕ) (c : Code) (g : Grammar A) (P : A → Type 0) → Holds g P → Holds (star (full_at n c) g) (AtMostEvery n P)
-  few n c g P f s t o r h e known = (let k = many_at_most n c g 0 t s o r (omega arith) h e in omega (arith, k), many_hold (full_at n c) g P f 0 t s o r h e known)
+  few n c g P f s t o r h e known = (
+    let k = many_at_most n c g 0 t s o r (omega arith) h e in omega (arith, k),
+    many_hold (full_at n c) g P f 0 t s o r h e known,
+  )
 
   pub after_word : {A : Type 0} (k : Terminal) (g : Grammar A) (P : A → Type 0) → Holds g P → Holds (prefixed_by k g) P
   after_word k g P f = mapped (λ x. x.1) (seq (word k) g) (λ x. Unit {0} × P x.1) P (both (word k) g (λ x. Unit {0}) P (free (word k)) f) (λ a h. h.1)

@@ -37,7 +37,8 @@ choose : (q : Terminal → Bool) (b : Bool) (x y : Terminal) → q x ≡ false �
 choose q true x y f g = f
 choose q false x y f g = g
 
-spelled_out : (q : Terminal → Bool) (table : List (List ℕ × Terminal)) (text : List ℕ) (else_terminal : Terminal) → has_none q table ≡ true → q else_terminal ≡ false → q (spelled table text else_terminal) ≡ false
+spelled_out : (q : Terminal → Bool) (table : List (List ℕ × Terminal)) (text : List ℕ) (else_terminal : Terminal)
+    → has_none q table ≡ true → q else_terminal ≡ false → q (spelled table text else_terminal) ≡ false
 spelled_out q [] text rest h k = k
 spelled_out q (w ∷ ws) text rest h k =
     let p = and_parts (not (q w.1)) (has_none q ws) h in

@@ -42,7 +42,8 @@ use Rattle.print_laws.proofs.Forms.{Every, IsOuter}
 use Rattle.print_laws.proofs.Targets.{IsArgument, IsTarget, IsChoice, IsDatatype, IsDependence, choice_of}
 use Rattle.print_laws.proofs.Classes.{IsFlow, IsDefinition, IsParameter, IsPriority, IsInBody, IsBody, IsClass, IsJob}
 use Rattle.print_laws.proofs.Known.{no_mark_is_name}
-use Rattle.print_laws.proofs.Marks.{IsGap, is_started, is_opener, among, among_pairs, written_before_gap, parts_unit, left_paren, right_paren, left_bracket, right_bracket, minus_unit, not_unit}
+use Rattle.print_laws.proofs.Marks.{IsGap, is_started, is_opener, among, among_pairs, written_before_gap, parts_unit}
+use Rattle.print_laws.proofs.Marks.{left_paren, right_paren, left_bracket, right_bracket, minus_unit, not_unit}
 use Rattle.print_laws.proofs.Lexing.{IsLexable, is_ascii, both_lex}
 
 -- ---- words
@@ -67,7 +68,8 @@ mark_ascii (a ∷ []) h = and_from (nat_lt a 128) true (among (λ c. nat_lt c 12
 mark_ascii (a ∷ b ∷ []) h = among_pairs (λ c d. is_ascii (c ∷ d ∷ [])) long_marks refl a b h
 mark_ascii (a ∷ b ∷ d ∷ ds) h = absurd (cc)
 
-ascii_by : (b : ℕ) (bs : List ℕ) (l d : Bool) → is_letter b ≡ l → is_digit b ≡ d → cond (l || d) (list_all is_part bs) (is_mark (b ∷ bs)) ≡ true → is_ascii (b ∷ bs) ≡ true
+ascii_by : (b : ℕ) (bs : List ℕ) (l d : Bool) → is_letter b ≡ l → is_digit b ≡ d
+    → cond (l || d) (list_all is_part bs) (is_mark (b ∷ bs)) ≡ true → is_ascii (b ∷ bs) ≡ true
 ascii_by b bs true d e f h = and_from (nat_lt b 128) (is_ascii bs) (letter_ascii b e) (parts_ascii bs h)
 ascii_by b bs false true e f h = and_from (nat_lt b 128) (is_ascii bs) (digit_ascii b f) (parts_ascii bs h)
 ascii_by b bs false false e f h = mark_ascii (b ∷ bs) h
@@ -80,7 +82,8 @@ written_ascii (b ∷ bs) h = ascii_by b bs (is_letter b) (is_digit b) refl refl 
 abbrev IsWord : List ℕ → Type 0
 IsWord w = IsWritten w × (is_started w ≡ true)
 
-started_by : (b : ℕ) (bs : List ℕ) (l d : Bool) → is_letter b ≡ l → is_digit b ≡ d → is_name (terminal_by (cond l kinds.Name (cond d kinds.Number kinds.Mark)) (b ∷ bs)) ≡ true → (l || d) ≡ true
+started_by : (b : ℕ) (bs : List ℕ) (l d : Bool) → is_letter b ≡ l → is_digit b ≡ d
+    → is_name (terminal_by (cond l kinds.Name (cond d kinds.Number kinds.Mark)) (b ∷ bs)) ≡ true → (l || d) ≡ true
 started_by b bs true d e f h = refl
 started_by b bs false true e f h = refl
 started_by b bs false false e f h = let k = no_mark_is_name (b ∷ bs) in absurd (cc)
@@ -117,7 +120,8 @@ line_end : Every IsGap (10 ∷ [])
 line_end = (inr refl, tt)
 
 -- A name or a number, if what follows does not continue it.
-word_lexes : (w : List ℕ) (ps : List Fragment) (after : List ℕ) → IsWord w → begins_part (text ps ++ after) ≡ false → IsLexable ps after → IsLexable (token w ∷ ps) after
+word_lexes : (w : List ℕ) (ps : List Fragment) (after : List ℕ) → IsWord w → begins_part (text ps ++ after) ≡ false
+    → IsLexable ps after → IsLexable (token w ∷ ps) after
 word_lexes w ps after formed stop rest = (parts_unit w (text ps ++ after) formed.0 formed.1 stop, written_ascii w formed.0, rest)
 
 -- A word, a space, and what follows them.
@@ -168,8 +172,10 @@ opens (Binary o a b) formed after = record { first = 40; others = _; whole = ref
 opens (Choose c a b) formed after = record { first = 40; others = _; whole = refl; opener = refl }
 
 sign_unit : (o : UnOp) (left : List ℕ) → Opens left → IsUnit (lex.TokenOf (kind_of (print.sign o))) (print.sign o) left
-sign_unit un.Neg left k = let P : List ℕ → Type 0 = λ l. IsUnit (lex.TokenOf kinds.Mark) (45 ∷ []) l in subst P (sym k.whole) (minus_unit k.first k.others k.opener)
-sign_unit un.Not left k = let P : List ℕ → Type 0 = λ l. IsUnit (lex.TokenOf kinds.Mark) (33 ∷ []) l in subst P (sym k.whole) (not_unit k.first k.others k.opener)
+sign_unit un.Neg left k = let P : List ℕ → Type 0 = λ l. IsUnit (lex.TokenOf kinds.Mark) (45 ∷ []) l in subst P
+    (sym k.whole) (minus_unit k.first k.others k.opener)
+sign_unit un.Not left k = let P : List ℕ → Type 0 = λ l. IsUnit (lex.TokenOf kinds.Mark) (33 ∷ []) l in subst P
+    (sym k.whole) (not_unit k.first k.others k.opener)
 
 sign_ascii : (o : UnOp) → is_ascii (print.sign o) ≡ true
 sign_ascii un.Neg = refl
@@ -177,7 +183,12 @@ sign_ascii un.Not = refl
 
 -- Fragments in parentheses.
 enclosed_lexes : (ps : List Fragment) (after : List ℕ) → IsLexable ps (41 ∷ after) → IsLexable (print.enclosed ps) after
-enclosed_lexes ps after h = (left_paren (text (ps ++ token (codes ")") ∷ []) ++ after), refl, both_lex ps (token (codes ")") ∷ []) after h (right_paren after, refl, tt))
+enclosed_lexes ps after h = (
+  left_paren (text (ps ++ token (codes ")") ∷ []) ++ after),
+  refl,
+  both_lex ps
+      (token (codes ")") ∷ []) after h (right_paren after, refl, tt),
+)
 
 expression_lexes : (e : Expression) → IsWellFormed e → (after : List ℕ) → begins_part after ≡ false → IsLexable (print.expression e) after
 expression_lexes (Num z spot) formed after stop = word_lexes (signed_decimal z) [] after (number_word z formed) stop tt
@@ -195,7 +206,9 @@ expression_lexes (Choose c a b) formed after stop =
     enclosed_lexes (print.expression c ++ (between (codes "?") ++ (print.expression a ++ tail))) after
     (both_lex (print.expression c) (between (codes "?") ++ (print.expression a ++ tail)) (41 ∷ after) (expression_lexes c formed.0 _ refl)
     (between_lexes (codes "?") (print.expression a ++ tail) (41 ∷ after) refl
-    (both_lex (print.expression a) tail (41 ∷ after) (expression_lexes a formed.1 _ refl) (between_lexes (codes ":") (print.expression b) (41 ∷ after) refl (expression_lexes b formed.2 (41 ∷ after) refl)))))
+    (both_lex (print.expression a) tail (41 ∷ after) (expression_lexes a formed.1 _ refl)
+    (between_lexes (codes ":") (print.expression b) (41 ∷ after) refl
+    (expression_lexes b formed.2 (41 ∷ after) refl)))))
 
 -- ---- lists
 
@@ -203,7 +216,8 @@ expression_lexes (Choose c a b) formed after stop =
 abbrev EachIsLexable : {A : Type 0} → (A → Type 0) → (A → List Fragment) → Type 0
 EachIsLexable {A = A} P f = (a : A) → P a → (after : List ℕ) → begins_part after ≡ false → IsLexable (f a) after
 
-commas_lex : {A : Type 0} (P : A → Type 0) (f : A → List Fragment) → EachIsLexable P f → (xs : List A) → Every P xs → (after : List ℕ) → begins_part after ≡ false → IsLexable (with_commas (map f xs)) after
+commas_lex : {A : Type 0} (P : A → Type 0) (f : A → List Fragment) → EachIsLexable P f → (xs : List A) → Every P xs
+    → (after : List ℕ) → begins_part after ≡ false → IsLexable (with_commas (map f xs)) after
 commas_lex P f each [] m after stop = tt
 commas_lex P f each (x ∷ []) m after stop = each x m.0 after stop
 commas_lex P f each (x ∷ y ∷ ys) m after stop =
@@ -214,7 +228,8 @@ commas_lex P f each (x ∷ y ∷ ys) m after stop =
 abbrev LinesAreLexable : {A : Type 0} → (A → Type 0) → (A → List Fragment) → Type 0
 LinesAreLexable {A = A} P f = (a : A) → P a → (after : List ℕ) → IsLexable (f a) after
 
-all_lex : {A : Type 0} (P : A → Type 0) (f : A → List Fragment) → LinesAreLexable P f → (xs : List A) → Every P xs → (after : List ℕ) → IsLexable (flat_map f xs) after
+all_lex : {A : Type 0} (P : A → Type 0) (f : A → List Fragment) → LinesAreLexable P f → (xs : List A) → Every P xs
+    → (after : List ℕ) → IsLexable (flat_map f xs) after
 all_lex P f each [] m after = tt
 all_lex P f each (x ∷ xs) m after = both_lex (f x) (flat_map f xs) after (each x m.0 _) (all_lex P f each xs m.1 after)
 
@@ -229,15 +244,20 @@ argument_lexes (Span spot lo hi (Some by)) formed after stop =
     let tail = between (codes "..") ++ print.expression by in
     both_lex (print.expression lo) (between (codes "..") ++ (print.expression hi ++ tail)) after (expression_lexes lo formed.0.0 _ refl)
     (between_lexes (codes "..") (print.expression hi ++ tail) after refl
-    (both_lex (print.expression hi) tail after (expression_lexes hi formed.1.0 _ refl) (between_lexes (codes "..") (print.expression by) after refl (expression_lexes by formed.2.0 after stop))))
+    (both_lex (print.expression hi) tail after (expression_lexes hi formed.1.0 _ refl)
+    (between_lexes (codes "..") (print.expression by) after refl (expression_lexes by formed.2.0 after stop))))
 
 arguments_lex : (args : List ArgTree) → Every IsArgument args → (after : List ℕ) → IsLexable (print.arguments args) after
-arguments_lex args formed after = enclosed_lexes (with_commas (map print.argument args)) after (commas_lex IsArgument print.argument argument_lexes args formed (41 ∷ after) refl)
+arguments_lex args formed after = enclosed_lexes (with_commas (map print.argument args)) after
+    (commas_lex IsArgument print.argument argument_lexes args formed (41 ∷ after) refl)
 
 target_lexes : (t : TargetTree) → IsTarget t → (after : List ℕ) → begins_part after ≡ false → IsLexable (print.target t) after
 target_lexes (Task flow class args) formed after stop =
-    spaced flow.text (token class.text ∷ print.arguments args) after formed.0.0 (word_lexes class.text (print.arguments args) after (name_word class.text formed.1) refl (arguments_lex args formed.2 after))
-target_lexes (Element coll args) formed after stop = word_lexes coll.text (print.arguments args) after (name_word coll.text formed.0) refl (arguments_lex args formed.1 after)
+    spaced flow.text (token class.text ∷ print.arguments args) after formed.0.0
+    (word_lexes class.text (print.arguments args) after (name_word class.text formed.1) refl
+    (arguments_lex args formed.2 after))
+target_lexes (Element coll args) formed after stop = word_lexes coll.text (print.arguments args) after
+    (name_word coll.text formed.0) refl (arguments_lex args formed.1 after)
 target_lexes (New spot) formed after stop = word_lexes (codes "NEW") [] after (refl, refl) stop tt
 target_lexes (Null spot) formed after stop = word_lexes (codes "NULL") [] after (refl, refl) stop tt
 
@@ -245,7 +265,8 @@ target_lexes (Null spot) formed after stop = word_lexes (codes "NULL") [] after 
 
 guard_lexes : (g : Option Expression) → ((e : Expression) → g ≡ Some e → IsOuter e) → (after : List ℕ) → IsLexable (print.guard g) after
 guard_lexes None formed after = tt
-guard_lexes (Some c) formed after = both_lex (print.expression c) (between (codes "?")) after (expression_lexes c (formed c refl).0 _ refl) (between_lexes (codes "?") [] after refl tt)
+guard_lexes (Some c) formed after = both_lex (print.expression c) (between (codes "?")) after
+    (expression_lexes c (formed c refl).0 _ refl) (between_lexes (codes "?") [] after refl tt)
 
 datatype_lexes : (d : Option Word) → IsDatatype d → (after : List ℕ) → IsLexable (print.datatype d) after
 datatype_lexes None formed after = tt
@@ -257,7 +278,9 @@ datatype_lexes (Some w) formed after = (
     (
       written_before_gap (codes "type") 32 _ refl (inl refl),
       refl,
-      between_lexes (codes "=") (token w.text ∷ token (codes "]") ∷ []) after refl (word_lexes w.text (token (codes "]") ∷ []) after (name_word w.text formed) refl (right_bracket after, refl, tt)),
+      between_lexes (codes "=") (token w.text ∷ token (codes "]") ∷ []) after refl
+          (word_lexes w.text (token (codes "]") ∷ []) after (name_word w.text formed) refl
+          (right_bracket after, refl, tt)),
     ),
   ),
 )
@@ -266,15 +289,21 @@ datatype_stops : (d : Option Word) (after : List ℕ) → begins_part after ≡ 
 datatype_stops None after stop = stop
 datatype_stops (Some w) after stop = refl
 
-choice_lexes : (c : Choice) → IsChoice c → (rest : List Fragment) (after : List ℕ) → begins_part (text rest ++ after) ≡ false → IsLexable rest after → IsLexable (print.guard c.0 ++ (print.target c.1 ++ (print.other c.2 ++ rest))) after
+choice_lexes : (c : Choice) → IsChoice c → (rest : List Fragment) (after : List ℕ)
+    → begins_part (text rest ++ after) ≡ false → IsLexable rest after
+    → IsLexable (print.guard c.0 ++ (print.target c.1 ++ (print.other c.2 ++ rest))) after
 choice_lexes (None, t, None) formed rest after stop h = both_lex (print.target t) rest after (target_lexes t formed _ stop) h
 choice_lexes (None, t, Some u) formed rest after stop h = absurd formed
 choice_lexes (Some c, t, None) formed rest after stop h =
-    both_lex (print.guard (Some c)) (print.target t ++ rest) after (guard_lexes (Some c) (λ e k. subst IsOuter (same_Some _ _ k) formed.0) _) (both_lex (print.target t) rest after (target_lexes t formed.1 _ stop) h)
+    both_lex (print.guard (Some c)) (print.target t ++ rest) after
+    (guard_lexes (Some c) (λ e k. subst IsOuter (same_Some _ _ k) formed.0) _)
+    (both_lex (print.target t) rest after (target_lexes t formed.1 _ stop) h)
 choice_lexes (Some c, t, Some u) formed rest after stop h =
     let tail = between (codes ":") ++ print.target u in
     both_lex (print.guard (Some c)) (print.target t ++ (tail ++ rest)) after (guard_lexes (Some c) (λ e k. subst IsOuter (same_Some _ _ k) formed.0) _)
-    (both_lex (print.target t) (tail ++ rest) after (target_lexes t formed.1 _ refl) (both_lex tail rest after (between_lexes (codes ":") (print.target u) _ refl (target_lexes u formed.2 _ stop)) h))
+    (both_lex (print.target t) (tail ++ rest) after (target_lexes t formed.1 _ refl)
+    (both_lex tail rest after (between_lexes (codes ":") (print.target u) _ refl (target_lexes u formed.2 _ stop))
+    h))
 
 arrow_written : (d : Direction) → IsWritten (print.arrow d)
 arrow_written In = refl
@@ -282,10 +311,14 @@ arrow_written Out = refl
 
 dependence_lexes : (d : DepTree) → IsDependence d → (after : List ℕ) → IsLexable (print.dependence d) after
 dependence_lexes d formed after =
-    line_lexes (blank (codes "  ") ∷ token (print.arrow d.direction) ∷ space ∷ (print.guard d.guard ++ (print.target d.yes ++ (print.other d.no ++ print.datatype d.datatype)))) after (
+    line_lexes (blank (codes "  ") ∷ token (print.arrow d.direction) ∷ space ∷
+    (print.guard d.guard ++ (print.target d.yes ++ (print.other d.no ++ print.datatype d.datatype)))) after (
       (inl refl, (inl refl, tt)),
-      spaced (print.arrow d.direction) (print.guard d.guard ++ (print.target d.yes ++ (print.other d.no ++ print.datatype d.datatype))) (10 ∷ after) (arrow_written d.direction)
-          (choice_lexes (choice_of d) formed.choice (print.datatype d.datatype) (10 ∷ after) (datatype_stops d.datatype (10 ∷ after) refl) (datatype_lexes d.datatype formed.datatype (10 ∷ after))),
+      spaced (print.arrow d.direction) (print.guard d.guard ++
+          (print.target d.yes ++ (print.other d.no ++ print.datatype d.datatype))) (10 ∷ after)
+          (arrow_written d.direction)
+          (choice_lexes (choice_of d) formed.choice (print.datatype d.datatype) (10 ∷ after)
+          (datatype_stops d.datatype (10 ∷ after) refl) (datatype_lexes d.datatype formed.datatype (10 ∷ after))),
     )
 
 -- ---- flows and classes
@@ -299,33 +332,44 @@ kind_written kind.Ctl = refl
 flow_lexes : (f : FlowTree) → IsFlow f → (after : List ℕ) → IsLexable (print.flow f) after
 flow_lexes f formed after =
     both_lex (line (token (print.kind_word f.kind) ∷ space ∷ token f.name.text ∷ [])) (flat_map print.dependence f.deps) after
-    (line_lexes (token (print.kind_word f.kind) ∷ space ∷ token f.name.text ∷ []) _ (spaced (print.kind_word f.kind) (token f.name.text ∷ []) _ (kind_written f.kind) (word_lexes f.name.text [] _ (name_word f.name.text formed.name) refl tt)))
+    (line_lexes (token (print.kind_word f.kind) ∷ space ∷ token f.name.text ∷ []) _
+    (spaced (print.kind_word f.kind) (token f.name.text ∷ []) _ (kind_written f.kind)
+    (word_lexes f.name.text [] _ (name_word f.name.text formed.name) refl tt)))
     (all_lex IsDependence print.dependence dependence_lexes f.deps formed.deps after)
 
 definition_lexes : (d : DefTree) → IsDefinition d → (after : List ℕ) → IsLexable (print.definition d) after
 definition_lexes d formed after =
     line_lexes (token d.name.text ∷ (between (codes "=") ++ print.argument d.value)) after
-    (word_lexes d.name.text (between (codes "=") ++ print.argument d.value) (10 ∷ after) (name_word d.name.text formed.name) refl (between_lexes (codes "=") (print.argument d.value) (10 ∷ after) refl (argument_lexes d.value formed.value (10 ∷ after) refl)))
+    (word_lexes d.name.text (between (codes "=") ++ print.argument d.value) (10 ∷ after)
+    (name_word d.name.text formed.name) refl (between_lexes (codes "=") (print.argument d.value) (10 ∷ after) refl
+    (argument_lexes d.value formed.value (10 ∷ after) refl)))
 
 head_lexes : (c : ClassTree) → IsClass c → (after : List ℕ) → IsLexable (print.head c) after
 head_lexes c formed after =
     line_lexes (token c.name.text ∷ print.enclosed (with_commas (map (λ w. token w.text ∷ []) c.params))) after
     (word_lexes c.name.text (print.enclosed (with_commas (map (λ w. token w.text ∷ []) c.params))) (10 ∷ after) (name_word c.name.text formed.name) refl
-    (enclosed_lexes (with_commas (map (λ w. token w.text ∷ []) c.params)) (10 ∷ after) (commas_lex IsParameter (λ w. token w.text ∷ []) (λ w m l stop. word_lexes w.text [] l (name_word w.text m) stop tt) c.params formed.params _ refl)))
+    (enclosed_lexes (with_commas (map (λ w. token w.text ∷ []) c.params)) (10 ∷ after)
+    (commas_lex IsParameter (λ w. token w.text ∷ []) (λ w m l stop. word_lexes w.text [] l (name_word w.text m) stop
+    tt) c.params formed.params _ refl)))
 
 affinity_lexes : (c : ClassTree) → IsClass c → (after : List ℕ) → IsLexable (print.affinity c) after
 affinity_lexes c formed after =
     line_lexes (token (codes ":") ∷ space ∷ token c.affinity.text ∷ print.arguments c.affinity_args) after
     (spaced (codes ":") (token c.affinity.text ∷ print.arguments c.affinity_args) (10 ∷ after) refl
-    (word_lexes c.affinity.text (print.arguments c.affinity_args) (10 ∷ after) (name_word c.affinity.text formed.affinity) refl (arguments_lex c.affinity_args formed.affinity_args (10 ∷ after))))
+    (word_lexes c.affinity.text (print.arguments c.affinity_args) (10 ∷ after)
+    (name_word c.affinity.text formed.affinity) refl (arguments_lex c.affinity_args formed.affinity_args
+    (10 ∷ after))))
 
 priority_lexes : (p : Option Expression) → IsPriority p → (after : List ℕ) → IsLexable (print.priority p) after
 priority_lexes None formed after = tt
-priority_lexes (Some e) formed after = line_lexes (token (codes ";") ∷ space ∷ print.expression e) after (spaced (codes ";") (print.expression e) (10 ∷ after) refl (expression_lexes e formed.0 (10 ∷ after) refl))
+priority_lexes (Some e) formed after = line_lexes (token (codes ";") ∷ space ∷ print.expression e) after
+    (spaced (codes ";") (print.expression e) (10 ∷ after) refl (expression_lexes e formed.0 (10 ∷ after) refl))
 
-tokens_lex : (x : Token) (xs : List Token) → IsInBody x → Every IsInBody xs → (after : List ℕ) → IsLexable (separated (space ∷ []) (map (λ t. token t.text ∷ []) (x ∷ xs))) (10 ∷ after)
+tokens_lex : (x : Token) (xs : List Token) → IsInBody x → Every IsInBody xs → (after : List ℕ)
+    → IsLexable (separated (space ∷ []) (map (λ t. token t.text ∷ []) (x ∷ xs))) (10 ∷ after)
 tokens_lex x [] m ms after = (written_before_gap x.text 10 after m.written (inr refl), written_ascii x.text m.written, tt)
-tokens_lex x (y ∷ ys) m ms after = spaced x.text (separated (space ∷ []) (map (λ t. token t.text ∷ []) (y ∷ ys))) (10 ∷ after) m.written (tokens_lex y ys ms.0 ms.1 after)
+tokens_lex x (y ∷ ys) m ms after = spaced x.text (separated (space ∷ []) (map (λ t. token t.text ∷ []) (y ∷ ys)))
+    (10 ∷ after) m.written (tokens_lex y ys ms.0 ms.1 after)
 
 body_lexes : (xs : List Token) → IsBody xs → (after : List ℕ) → IsLexable (print.body xs) after
 body_lexes [] formed after = tt

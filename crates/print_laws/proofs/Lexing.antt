@@ -18,7 +18,13 @@ use Rattle.std.proofs.lemmas.Bool.{and_from}
 
 -- The token of a word that follows these bytes.
 abbrev pub token_at : List ℕ → List ℕ → Token
-token_at before word = record { terminal = number_of (terminal_at word); text = word; start = length before; end = length before + length word; spot = spot_after before }
+token_at before word = record {
+  terminal = number_of (terminal_at word);
+  text = word;
+  start = length before;
+  end = length before + length word;
+  spot = spot_after before;
+}
 
 -- The tokens of fragments that follow these bytes.
 abbrev pub tokens_at : List ℕ → List Fragment → List Token
@@ -58,7 +64,8 @@ both_lex (token word ∷ ps) qs after h k =
 both_lex (blank bytes ∷ ps) qs after h k = (h.0, both_lex ps qs after h.1 k)
 
 -- Blanks are dropped one by one.
-past_blanks : (front left : List ℕ) (bytes before rest : List ℕ) (ts : List Token) → Every IsGap bytes → IsLexedTo front left (before ++ bytes) rest ts → IsLexedTo front left before (bytes ++ rest) ts
+past_blanks : (front left : List ℕ) (bytes before rest : List ℕ) (ts : List Token) → Every IsGap bytes
+    → IsLexedTo front left (before ++ bytes) rest ts → IsLexedTo front left before (bytes ++ rest) ts
 past_blanks front left [] before rest ts gaps on = let L : List ℕ → Type 0 = λ b. IsLexedTo front left b rest ts in subst L (append-nil before) on
 past_blanks front left (c ∷ bytes) before rest ts gaps on =
     let L : List ℕ → Type 0 = λ b. IsLexedTo front left b rest ts in

@@ -17,11 +17,13 @@ abbrev pub number_of : (Terminal → Bool) → List Token → ℕ
 number_of q [] = 0
 number_of q (x ∷ s) = cond (q (terminal_of x)) 1 0 + number_of q s
 
-few_from : (q : Terminal → Bool) (w : List Token) (i cap n : ℕ) (r : List Token) → i + length w ≤ cap → number_of q w ≤ n → i + length w ≤ min cap (get_or (token_indices (set q) i (w ++ r)) n cap)
+few_from : (q : Terminal → Bool) (w : List Token) (i cap n : ℕ) (r : List Token) → i + length w ≤ cap
+    → number_of q w ≤ n → i + length w ≤ min cap (get_or (token_indices (set q) i (w ++ r)) n cap)
 few_from q [] i cap n r a b = omega (arith, not_before (set q) r i n cap)
 few_from q (x ∷ w) i cap n r a b = go (q (terminal_of x)) refl n (λ m h. few_from q w (i + 1) cap m r (omega arith) h) b
   where
-    go : (c : Bool) → q (terminal_of x) ≡ c → (m : ℕ) → ((l : ℕ) → number_of q w ≤ l → i + 1 + length w ≤ min cap (get_or (token_indices (set q) (i + 1) (w ++ r)) l cap))
+    go : (c : Bool) → q (terminal_of x) ≡ c → (m : ℕ) → ((l : ℕ) → number_of q w ≤ l
+        → i + 1 + length w ≤ min cap (get_or (token_indices (set q) (i + 1) (w ++ r)) l cap))
         → cond c 1 0 + number_of q w ≤ m → i + suc (length w) ≤ min cap (get_or (token_indices (set q) i (x ∷ w ++ r)) m cap)
     go true e zero f h = absurd (omega arith)
     go true e (suc m) f h = rw (indices_kept (set q) i x (w ++ r) e) (omega (arith, f m (omega arith)))
@@ -32,11 +34,13 @@ pub few_fit : (q : Terminal → Bool) (w : List Token) (cap n : ℕ) (r : List T
 unfolding too_many.limit_at
 few_fit q w cap n r a b = omega (arith, few_from q w 0 cap n r (omega arith) b)
 
-from_few : (q : Terminal → Bool) (w : List Token) (i cap n : ℕ) (r : List Token) → i + length w ≤ min cap (get_or (token_indices (set q) i (w ++ r)) n cap) → number_of q w ≤ n
+from_few : (q : Terminal → Bool) (w : List Token) (i cap n : ℕ) (r : List Token)
+    → i + length w ≤ min cap (get_or (token_indices (set q) i (w ++ r)) n cap) → number_of q w ≤ n
 from_few q [] i cap n r h = omega arith
 from_few q (x ∷ w) i cap n r h = go (q (terminal_of x)) refl n (λ m. from_few q w (i + 1) cap m r) h
   where
-    go : (c : Bool) → q (terminal_of x) ≡ c → (m : ℕ) → ((l : ℕ) → i + 1 + length w ≤ min cap (get_or (token_indices (set q) (i + 1) (w ++ r)) l cap) → number_of q w ≤ l)
+    go : (c : Bool) → q (terminal_of x) ≡ c → (m : ℕ) → ((l : ℕ)
+        → i + 1 + length w ≤ min cap (get_or (token_indices (set q) (i + 1) (w ++ r)) l cap) → number_of q w ≤ l)
         → i + suc (length w) ≤ min cap (get_or (token_indices (set q) i (x ∷ w ++ r)) m cap) → cond c 1 0 + number_of q w ≤ m
     go true e zero f h = let k = rw (indices_kept (set q) i x (w ++ r) e) at h in absurd (omega (arith, k))
     go true e (suc m) f h = let k = rw (indices_kept (set q) i x (w ++ r) e) at h in omega (arith, f m (omega (arith, k)))

@@ -26,7 +26,9 @@ digit_no_letter : (b : ℕ) → is_digit b ≡ true → is_letter b ≡ false
 digit_no_letter b h = grind arith
 
 -- Such a byte begins a name, a number, a mark or another token.
-plain_first : (b : ℕ) (rest : List ℕ) → starts_plainly b ≡ true → first_unit b rest ≡ (if is_letter b then TokenOf Name else (if is_digit b then TokenOf Number else (if begins_mark (b ∷ rest) then TokenOf Mark else TokenOf Other)))
+plain_first : (b : ℕ) (rest : List ℕ) → starts_plainly b ≡ true
+    → first_unit b rest ≡ (if is_letter b then TokenOf Name else
+    (if is_digit b then TokenOf Number else (if begins_mark (b ∷ rest) then TokenOf Mark else TokenOf Other)))
 plain_first b rest h =
     let p = and_parts (not (nat_eq 47 b)) (not (nat_eq 37 b) && (not (b == 34) && not (is_blank b))) h in
     let q = and_parts (not (nat_eq 37 b)) (not (b == 34) && not (is_blank b)) p.1 in
@@ -74,12 +76,14 @@ among q (m ∷ ms) h a k =
     let parts = and_parts (q m) (list_all q ms) h in
     one_of_two q m a (m == a) (list_any (λ n. n == a) ms) refl parts.0 (λ t. among q ms parts.1 a t) k
 
-pair_of_two : (q : ℕ → ℕ → Bool) (m n a b : ℕ) (x y c : Bool) → (m == a) ≡ x → (n == b) ≡ y → q m n ≡ true → (c ≡ true → q a b ≡ true) → ((x && y) || c) ≡ true → q a b ≡ true
+pair_of_two : (q : ℕ → ℕ → Bool) (m n a b : ℕ) (x y c : Bool) → (m == a) ≡ x → (n == b) ≡ y → q m n ≡ true
+    → (c ≡ true → q a b ≡ true) → ((x && y) || c) ≡ true → q a b ≡ true
 pair_of_two q m n a b true true c e k h f t = ap (λ (v : ℕ). q v b) (sym (eqb-true m a e)) ∙ ap (λ (v : ℕ). q m v) (sym (eqb-true n b k)) ∙ h
 pair_of_two q m n a b true false c e k h f t = f t
 pair_of_two q m n a b false y c e k h f t = f t
 
-pub among_pairs : (q : ℕ → ℕ → Bool) (ms : List (ℕ × ℕ)) → list_all (λ m. q m.0 m.1) ms ≡ true → (a b : ℕ) → list_any (λ m. (m.0 == a) && (m.1 == b)) ms ≡ true → q a b ≡ true
+pub among_pairs : (q : ℕ → ℕ → Bool) (ms : List (ℕ × ℕ)) → list_all (λ m. q m.0 m.1) ms ≡ true → (a b : ℕ)
+    → list_any (λ m. (m.0 == a) && (m.1 == b)) ms ≡ true → q a b ≡ true
 among_pairs q [] h a b k = absurd (cc)
 among_pairs q (m ∷ ms) h a b k =
     let parts = and_parts (q m.0 m.1) (list_all (λ n. q n.0 n.1) ms) h in
@@ -159,9 +163,12 @@ percent_first c rest (inr e) = let F : ℕ → Type 0 = λ v. first_unit 37 (v �
 plainly : (a : ℕ) → nat_eq 47 a ≡ false → nat_eq 37 a ≡ false → no_other a ≡ true → starts_plainly a ≡ true
 plainly a e f h = let p = and_parts (no_part a) (not (a == 34) && not (is_blank a)) h in rw (e, f) p.1
 
-first_before_gap : (a c : ℕ) (rest : List ℕ) → is_mark (a ∷ []) ≡ true → IsGap c → (p q : Bool) → nat_eq 47 a ≡ p → nat_eq 37 a ≡ q → first_unit a (c ∷ rest) ≡ TokenOf Mark
-first_before_gap a c rest mark gap true q e f = let F : ℕ → Type 0 = λ v. first_unit v (c ∷ rest) ≡ TokenOf Mark in subst F (eqb-true 47 a e) (slash_first c rest gap)
-first_before_gap a c rest mark gap false true e f = let F : ℕ → Type 0 = λ v. first_unit v (c ∷ rest) ≡ TokenOf Mark in subst F (eqb-true 37 a f) (percent_first c rest gap)
+first_before_gap : (a c : ℕ) (rest : List ℕ) → is_mark (a ∷ []) ≡ true → IsGap c → (p q : Bool) → nat_eq 47 a ≡ p
+    → nat_eq 37 a ≡ q → first_unit a (c ∷ rest) ≡ TokenOf Mark
+first_before_gap a c rest mark gap true q e f = let F : ℕ → Type 0 = λ v. first_unit v (c ∷ rest)
+    ≡ TokenOf Mark in subst F (eqb-true 47 a e) (slash_first c rest gap)
+first_before_gap a c rest mark gap false true e f = let F : ℕ
+    → Type 0 = λ v. first_unit v (c ∷ rest) ≡ TokenOf Mark in subst F (eqb-true 37 a f) (percent_first c rest gap)
 first_before_gap a c rest mark gap false false e f =
     let other = short_first a mark in
     first_mark a (c ∷ rest) (plainly a e f other) (and_parts (no_part a) (not (a == 34) && not (is_blank a)) other).0 (begins_short a (c ∷ rest) mark)
@@ -186,7 +193,9 @@ no_part_gap : (c : ℕ) → IsGap c → is_part c ≡ false
 no_part_gap c (inl e) = ap is_part e
 no_part_gap c (inr e) = ap is_part e
 
-written_by : (b : ℕ) (bs : List ℕ) (c : ℕ) (rest : List ℕ) → IsGap c → (l d : Bool) → is_letter b ≡ l → is_digit b ≡ d → cond (l || d) (list_all is_part bs) (is_mark (b ∷ bs)) ≡ true → IsUnit (TokenOf (cond l Name (cond d Number Mark))) (b ∷ bs) (c ∷ rest)
+written_by : (b : ℕ) (bs : List ℕ) (c : ℕ) (rest : List ℕ) → IsGap c → (l d : Bool) → is_letter b ≡ l → is_digit b ≡ d
+    → cond (l || d) (list_all is_part bs) (is_mark (b ∷ bs)) ≡ true
+    → IsUnit (TokenOf (cond l Name (cond d Number Mark))) (b ∷ bs) (c ∷ rest)
 written_by b bs c rest gap true d e f h = name_unit b bs (c ∷ rest) e h (no_part_gap c gap)
 written_by b bs c rest gap false true e f h = number_unit b bs (c ∷ rest) f h (no_part_gap c gap)
 written_by b bs c rest gap false false e f h = mark_before_gap (b ∷ bs) c rest h gap
@@ -197,7 +206,9 @@ written_before_gap [] c rest h gap = absurd (cc)
 written_before_gap (b ∷ bs) c rest h gap = written_by b bs c rest gap (is_letter b) (is_digit b) refl refl h
 
 -- A name or a number, if what follows does not continue it.
-parts_by : (b : ℕ) (bs left : List ℕ) → begins_part left ≡ false → (l d : Bool) → is_letter b ≡ l → is_digit b ≡ d → (l || d) ≡ true → cond (l || d) (list_all is_part bs) (is_mark (b ∷ bs)) ≡ true → IsUnit (TokenOf (cond l Name (cond d Number Mark))) (b ∷ bs) left
+parts_by : (b : ℕ) (bs left : List ℕ) → begins_part left ≡ false → (l d : Bool) → is_letter b ≡ l → is_digit b ≡ d
+    → (l || d) ≡ true → cond (l || d) (list_all is_part bs) (is_mark (b ∷ bs)) ≡ true
+    → IsUnit (TokenOf (cond l Name (cond d Number Mark))) (b ∷ bs) left
 parts_by b bs left stop true d e f t h = name_unit b bs left e h stop
 parts_by b bs left stop false true e f t h = number_unit b bs left f h stop
 parts_by b bs left stop false false e f t h = absurd (cc)
@@ -217,8 +228,10 @@ none_more (d ∷ ds) h = absurd (cc)
 
 -- A space or LF.
 pub gap_unit : (c : ℕ) (left : List ℕ) → IsGap c → IsUnit Blank (c ∷ []) left
-gap_unit c left (inl e) = let P : ℕ → Type 0 = λ v. IsUnit Blank (v ∷ []) left in subst P (sym e) (record { begins = refl; spelled = refl; longest = λ more after k h. none_more more h })
-gap_unit c left (inr e) = let P : ℕ → Type 0 = λ v. IsUnit Blank (v ∷ []) left in subst P (sym e) (record { begins = refl; spelled = refl; longest = λ more after k h. none_more more h })
+gap_unit c left (inl e) = let P : ℕ → Type 0 = λ v. IsUnit Blank (v ∷ []) left in subst P (sym e)
+    (record { begins = refl; spelled = refl; longest = λ more after k h. none_more more h })
+gap_unit c left (inr e) = let P : ℕ → Type 0 = λ v. IsUnit Blank (v ∷ []) left in subst P (sym e)
+    (record { begins = refl; spelled = refl; longest = λ more after k h. none_more more h })
 
 -- Parentheses and brackets, whatever follows them.
 pub left_paren : (left : List ℕ) → IsUnit (TokenOf Mark) (40 ∷ []) left
@@ -246,9 +259,11 @@ no_unequal d h = grind arith
 pub minus_unit : (d : ℕ) (rest : List ℕ) → is_opener d ≡ true → IsUnit (TokenOf Mark) (45 ∷ []) (d ∷ rest)
 unfolding first_of
 minus_unit d rest h =
-    short_unit 45 (d ∷ rest) refl (first_mark 45 (d ∷ rest) refl refl (begins_short 45 (d ∷ rest) refl)) (λ c after e. no_arrow c (ap is_opener (sym (ap first_of e)) ∙ h))
+    short_unit 45 (d ∷ rest) refl (first_mark 45 (d ∷ rest) refl refl (begins_short 45 (d ∷ rest) refl))
+    (λ c after e. no_arrow c (ap is_opener (sym (ap first_of e)) ∙ h))
 
 pub not_unit : (d : ℕ) (rest : List ℕ) → is_opener d ≡ true → IsUnit (TokenOf Mark) (33 ∷ []) (d ∷ rest)
 unfolding first_of
 not_unit d rest h =
-    short_unit 33 (d ∷ rest) refl (first_mark 33 (d ∷ rest) refl refl (begins_short 33 (d ∷ rest) refl)) (λ c after e. no_unequal c (ap is_opener (sym (ap first_of e)) ∙ h))
+    short_unit 33 (d ∷ rest) refl (first_mark 33 (d ∷ rest) refl refl (begins_short 33 (d ∷ rest) refl))
+    (λ c after e. no_unequal c (ap is_opener (sym (ap first_of e)) ∙ h))

@@ -14,7 +14,8 @@ decimal_from most [] some digits le = absurd (omega (arith, some))
 decimal_from most (b ∷ bs) some digits le = rw digits (grind (arith, nat_tests, le))
 
 -- a number has digits alone and no leading zero, and is at most 2^63 - 1
-pub number_parts : (text : List ℕ) → is_number text ≡ true → (has_leading_zero text ≡ false) × (list_all is_digit text ≡ true) × (decimal text ≤ 9223372036854775807)
+pub number_parts : (text : List ℕ) → is_number text ≡ true → (has_leading_zero text ≡ false)
+    × (list_all is_digit text ≡ true) × (decimal text ≤ 9223372036854775807)
 unfolding is_number
 number_parts text e =
     let parts = and_parts (not (has_leading_zero text)) (is_decimal 9223372036854775807 text) e in
@@ -22,6 +23,7 @@ number_parts text e =
     (not-true (has_leading_zero text) parts.0, number.0, number.1)
 
 -- and conversely
-pub number_from : (text : List ℕ) → 0 < length text → has_leading_zero text ≡ false → list_all is_digit text ≡ true → decimal text ≤ 9223372036854775807 → is_number text ≡ true
+pub number_from : (text : List ℕ) → 0 < length text → has_leading_zero text ≡ false → list_all is_digit text ≡ true
+    → decimal text ≤ 9223372036854775807 → is_number text ≡ true
 unfolding is_number
 number_from text some zero digits le = rw (zero, decimal_from 9223372036854775807 text some digits le) refl

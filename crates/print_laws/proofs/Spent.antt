@@ -66,11 +66,27 @@ tokens_at_most (Elem w a) = omega (arith, token_count-append (print.expression a
 tokens_at_most (Unary o a spot) = omega (arith, token_count-append (print.expression a) (token (codes ")") ∷ []), tokens_at_most a)
 tokens_at_most (Binary o a b) =
     let B = between (print.operator o) ++ print.expression b in
-    omega (arith, token_count-append (print.expression a ++ B) (token (codes ")") ∷ []), token_count-append (print.expression a) B, tokens_at_most a, tokens_at_most b)
+    omega (
+      arith,
+      token_count-append (print.expression a ++ B) (token (codes ")") ∷ []),
+      token_count-append
+          (print.expression a) B,
+      tokens_at_most a,
+      tokens_at_most b,
+    )
 tokens_at_most (Choose c a b) =
     let B = between (codes ":") ++ print.expression b in
     let A = between (codes "?") ++ (print.expression a ++ B) in
-    omega (arith, token_count-append (print.expression c ++ A) (token (codes ")") ∷ []), token_count-append (print.expression c) A, token_count-append (print.expression a) B, tokens_at_most c, tokens_at_most a, tokens_at_most b)
+    omega (
+      arith,
+      token_count-append (print.expression c ++ A) (token (codes ")") ∷ []),
+      token_count-append
+          (print.expression c) A,
+      token_count-append (print.expression a) B,
+      tokens_at_most c,
+      tokens_at_most a,
+      tokens_at_most b,
+    )
 
 at_most_one : (b : Bool) → cond b 1 0 ≤ 1
 at_most_one true = omega arith

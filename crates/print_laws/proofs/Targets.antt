@@ -27,7 +27,8 @@ use Rattle.print_laws.specs.Same as same
 use Rattle.print_laws.specs.Same.{nowhere}
 use Rattle.print_laws.proofs.Readable.{IsLike, Reads, reads_both, terminal_at, like_terminal, is_one}
 use Rattle.print_laws.proofs.Expressions.{DerivesTree, IsName, left_paren, right_paren, question, colon}
-use Rattle.print_laws.proofs.Forms.{ReadsBackAs, Every, IsOuter, outer_reads_back, guard_reads_back, listed_reads_back, word_derives, after_derives, before_derives, name_derives, same_word, reads_line}
+use Rattle.print_laws.proofs.Forms.{ReadsBackAs, Every, IsOuter, outer_reads_back, guard_reads_back, listed_reads_back}
+use Rattle.print_laws.proofs.Forms.{word_derives, after_derives, before_derives, name_derives, same_word, reads_line}
 
 is_dots : is terminal.Dots (terminal_at (codes "..")) ≡ true
 unfolding words marks
@@ -41,7 +42,8 @@ IsArgument (Span spot lo hi None) = IsOuter lo × IsOuter hi
 IsArgument (Span spot lo hi (Some by)) = IsOuter lo × IsOuter hi × IsOuter by
 
 -- The tokens of an argument's spelling derive it.
-pub argument_reads_back : (a : ArgTree) → IsArgument a → (s r : List Token) → Reads (print.argument a) s r → ReadsBackAs grammar.argument same.argument (same.argument a) s r
+pub argument_reads_back : (a : ArgTree) → IsArgument a → (s r : List Token) → Reads (print.argument a) s r
+    → ReadsBackAs grammar.argument same.argument (same.argument a) s r
 unfolding grammar.argument
 argument_reads_back (One e) formed s r h =
     let k = outer_reads_back e formed s r h in
@@ -53,8 +55,28 @@ argument_reads_back (Span spot lo hi None) formed s r h =
     let b = outer_reads_back hi formed.1 split.2.1 last.0 last.1 in
     record {
       tree = Span a.tree.spot a.tree.tree b.tree.tree None;
-      derives = ((a.tree, Some (b.tree, None)), (split.0, None, None, a.derives, (last.0, None, None, after_derives terminal.Dots (outer Class) (codes "..") is_dots split.2.0 split.0 split.2.1 b.tree last.0 split.2.2 split.2.3 b.derives, (last.2, refl), refl), refl), refl);
-      like = ap (λ (e : Expression). Span nowhere e (same.expression b.tree.tree) None) a.like ∙ ap (λ (e : Expression). Span nowhere (same.expression lo) e None) b.like;
+      derives = (
+        (a.tree, Some (b.tree, None)),
+        (
+          split.0,
+          None,
+          None,
+          a.derives,
+          (
+            last.0,
+            None,
+            None,
+            after_derives terminal.Dots (outer Class) (codes "..") is_dots split.2.0 split.0
+                split.2.1 b.tree last.0 split.2.2 split.2.3 b.derives,
+            (last.2, refl),
+            refl,
+          ),
+          refl,
+        ),
+        refl,
+      );
+      like = ap (λ (e : Expression). Span nowhere e (same.expression b.tree.tree) None) a.like
+          ∙ ap (λ (e : Expression). Span nowhere (same.expression lo) e None) b.like;
     }
 argument_reads_back (Span spot lo hi (Some by)) formed s r h =
     let split = reads_both (print.expression lo) (between (codes "..") ++ (print.expression hi ++ (between (codes "..") ++ print.expression by))) s r h in
@@ -88,14 +110,17 @@ argument_reads_back (Span spot lo hi (Some by)) formed s r h =
           ∙ ap (λ (e : Expression). Span nowhere (same.expression lo) (same.expression hi) (Some e)) c.like;
     }
 
-maybe_reads_back : (args : List ArgTree) → Every IsArgument args → (s r : List Token) → Reads (with_commas (map print.argument args)) s r → ReadsBackAs (maybe grammar.arguments) (map same.argument) (map same.argument args) s r
+maybe_reads_back : (args : List ArgTree) → Every IsArgument args → (s r : List Token)
+    → Reads (with_commas (map print.argument args)) s r → ReadsBackAs (maybe grammar.arguments) (map same.argument)
+    (map same.argument args) s r
 unfolding grammar.arguments
 maybe_reads_back [] formed s r h = record { tree = []; derives = (None, (h, refl), refl); like = refl }
 maybe_reads_back (x ∷ xs) formed s r h =
     let k = listed_reads_back grammar.argument same.argument IsArgument print.argument argument_reads_back x xs formed.0 formed.1 s r h in
     record { tree = k.tree; derives = (Some k.tree, k.derives, refl); like = k.like }
 
-pub call_reads_back : (args : List ArgTree) → Every IsArgument args → (s r : List Token) → Reads (print.arguments args) s r → ReadsBackAs grammar.call (map same.argument) (map same.argument args) s r
+pub call_reads_back : (args : List ArgTree) → Every IsArgument args → (s r : List Token)
+    → Reads (print.arguments args) s r → ReadsBackAs grammar.call (map same.argument) (map same.argument args) s r
 unfolding grammar.call
 call_reads_back args formed s r h =
     let split = reads_both (with_commas (map print.argument args)) (token (codes ")") ∷ []) h.1 r h.4 in
@@ -126,7 +151,8 @@ unfolding words marks
 is_null = refl
 
 -- The tokens of a target's spelling derive it.
-pub target_reads_back : (t : TargetTree) → IsTarget t → (s r : List Token) → Reads (print.target t) s r → ReadsBackAs grammar.target same.target (same.target t) s r
+pub target_reads_back : (t : TargetTree) → IsTarget t → (s r : List Token) → Reads (print.target t) s r
+    → ReadsBackAs grammar.target same.target (same.target t) s r
 unfolding grammar.target grammar.called
 target_reads_back (Task flow class args) formed s r h =
     let x = h.0 in
@@ -159,15 +185,45 @@ target_reads_back (Element coll args) formed s r h =
     let k = call_reads_back args formed.1 h.1 r h.4 in
     record {
       tree = Element (word_of x) k.tree;
-      derives = inr (inr ((word_of x, (None, k.tree)), (h.1, None, None, name_derives coll.text formed.0 x s h.1 h.2 h.3, (h.1, None, None, (refl, refl), k.derives, refl), refl), refl));
+      derives = inr (inr (
+        (word_of x, (None, k.tree)),
+        (
+          h.1,
+          None,
+          None,
+          name_derives coll.text formed.0 x s h.1 h.2
+              h.3,
+          (h.1, None, None, (refl, refl), k.derives, refl),
+          refl,
+        ),
+        refl,
+      ));
       like = ap (λ (w : Word). Element w (map same.argument k.tree)) (same_word x coll h.3) ∙ ap (λ (l : List ArgTree). Element (same.word coll) l) k.like;
     }
 target_reads_back (New spot) formed s r h =
     let x = h.0 in
-    record { tree = New x.spot; derives = inl (x, word_derives terminal.New (codes "NEW") is_new x s r (h.2 ∙ ap (λ (w : List Token). x ∷ w) h.4) h.3, refl); like = refl }
+    record {
+      tree = New x.spot;
+      derives = inl (
+        x,
+        word_derives terminal.New (codes "NEW") is_new x s r
+            (h.2 ∙ ap (λ (w : List Token). x ∷ w) h.4) h.3,
+        refl,
+      );
+      like = refl;
+    }
 target_reads_back (Null spot) formed s r h =
     let x = h.0 in
-    record { tree = Null x.spot; derives = inr (inl (x, word_derives terminal.Null (codes "NULL") is_null x s r (h.2 ∙ ap (λ (w : List Token). x ∷ w) h.4) h.3, refl)); like = refl }
+    record {
+      tree = Null x.spot;
+      derives = inr (inl (
+        x,
+        word_derives terminal.Null (codes "NULL") is_null x s r
+            (h.2 ∙ ap (λ (w : List Token). x ∷ w) h.4) h.3,
+        refl,
+      ));
+      like = refl;
+    }
 
 -- ---- dependences
 
@@ -199,7 +255,9 @@ abbrev choice_form : Grammar Choice
 choice_form = pick grammar.may_follow_target_name grammar.unguarded grammar.guarded
 
 -- The tokens of the guard and the targets of a dependence derive them.
-choice_reads_back : (c : Choice) → IsChoice c → (s r : List Token) → Reads (print.guard c.0 ++ (print.target c.1 ++ print.other c.2)) s r → ReadsBackAs choice_form choice (choice c) s r
+choice_reads_back : (c : Choice) → IsChoice c → (s r : List Token)
+    → Reads (print.guard c.0 ++ (print.target c.1 ++ print.other c.2)) s r
+    → ReadsBackAs choice_form choice (choice c) s r
 unfolding grammar.unguarded grammar.guarded
 choice_reads_back (None, t, None) formed s r h =
     let split = reads_both (print.target t) [] s r h in
@@ -224,7 +282,8 @@ choice_reads_back (Some c, t, None) formed s r h =
               None,
               None,
               a.derives,
-              after_derives terminal.Question (seq grammar.target (opt (prefixed_by terminal.Colon grammar.target))) (codes "?") question ask.2.0 ask.0 front.0 (b.tree, None) r mark ask.2.3
+              after_derives terminal.Question (seq grammar.target (opt (prefixed_by terminal.Colon grammar.target)))
+                  (codes "?") question ask.2.0 ask.0 front.0 (b.tree, None) r mark ask.2.3
                   (last.0, None, None, b.derives, (last.2, refl), refl),
               refl,
             ),
@@ -250,8 +309,16 @@ choice_reads_back (Some c, t, Some u) formed s r h =
               None,
               None,
               a.derives,
-              after_derives terminal.Question (seq grammar.target (opt (prefixed_by terminal.Colon grammar.target))) (codes "?") question ask.2.0 ask.0 front.0 (b.tree, Some d.tree) r mark ask.2.3
-                  (last.0, None, None, b.derives, after_derives terminal.Colon grammar.target (codes ":") colon last.2.0 last.0 last.2.1 d.tree r last.2.2 last.2.3 d.derives, refl),
+              after_derives terminal.Question (seq grammar.target (opt (prefixed_by terminal.Colon grammar.target)))
+                  (codes "?") question ask.2.0 ask.0 front.0 (b.tree, Some d.tree) r mark ask.2.3 (
+                    last.0,
+                    None,
+                    None,
+                    b.derives,
+                    after_derives terminal.Colon grammar.target (codes ":") colon last.2.0
+                        last.0 last.2.1 d.tree r last.2.2 last.2.3 d.derives,
+                    refl,
+                  ),
               refl,
             ),
             refl,
@@ -283,7 +350,8 @@ abbrev pub IsDatatype : Option Word → Type 0
 IsDatatype None = Unit {0}
 IsDatatype (Some w) = IsName w.text
 
-datatype_reads_back : (d : Option Word) → IsDatatype d → (s r : List Token) → Reads (print.datatype d) s r → ReadsBackAs (opt grammar.datatype) (option_map same.word) (option_map same.word d) s r
+datatype_reads_back : (d : Option Word) → IsDatatype d → (s r : List Token) → Reads (print.datatype d) s r
+    → ReadsBackAs (opt grammar.datatype) (option_map same.word) (option_map same.word d) s r
 unfolding grammar.datatype
 datatype_reads_back None formed s r h = record { tree = None; derives = (h, refl); like = refl }
 datatype_reads_back (Some w) formed s r h =
@@ -295,10 +363,15 @@ datatype_reads_back (Some w) formed s r h =
     record {
       tree = Some (word_of n.0);
       derives =
-          after_derives terminal.LeftBracket (prefixed_by terminal.TypeWord (prefixed_by terminal.Assign (suffixed_by terminal.RightBracket (name Class)))) (codes "[") is_left_bracket h.0 s h.1 (word_of n.0) r h.2 h.3
-          (after_derives terminal.TypeWord (prefixed_by terminal.Assign (suffixed_by terminal.RightBracket (name Class))) (codes "type") is_type t.0 h.1 t.1 (word_of n.0) r t.2 t.3
+          after_derives terminal.LeftBracket (prefixed_by terminal.TypeWord
+          (prefixed_by terminal.Assign (suffixed_by terminal.RightBracket (name Class)))) (codes "[")
+          is_left_bracket h.0 s h.1 (word_of n.0) r h.2 h.3
+          (after_derives terminal.TypeWord (prefixed_by terminal.Assign
+          (suffixed_by terminal.RightBracket (name Class))) (codes "type") is_type t.0 h.1 t.1 (word_of n.0) r t.2
+          t.3
           (after_derives terminal.Assign (suffixed_by terminal.RightBracket (name Class)) (codes "=") is_assign e.0 t.1 e.1 (word_of n.0) r e.2 e.3
-          (before_derives terminal.RightBracket (name Class) (codes "]") is_right_bracket z.0 e.1 n.1 (word_of n.0) r (name_derives w.text formed n.0 e.1 n.1 n.2 n.3) end z.3)));
+          (before_derives terminal.RightBracket (name Class) (codes "]") is_right_bracket z.0 e.1 n.1 (word_of n.0) r
+          (name_derives w.text formed n.0 e.1 n.1 n.2 n.3) end z.3)));
       like = ap Some (same_word n.0 w n.3);
     }
 
@@ -316,8 +389,12 @@ arrow_back Out = refl
 
 arrow_derives : (d : Direction) (x : Token) (s m : List Token) → s ≡ x ∷ m → IsLike x (print.arrow d) → DerivesTree grammar.arrow s d m
 unfolding grammar.arrow
-arrow_derives d x s m h like =
-    (x, (is_one grammar.is_arrow (print.arrow d) (is_arrow_of d) x s m h like, refl), ap grammar.direction_by (like_terminal x (print.arrow d) like) ∙ arrow_back d)
+arrow_derives d x s m h like = (
+  x,
+  (is_one grammar.is_arrow (print.arrow d) (is_arrow_of d) x s m h like, refl),
+  ap grammar.direction_by
+      (like_terminal x (print.arrow d) like) ∙ arrow_back d,
+)
 
 -- The part of a dependence after its arrow.
 abbrev pub choice_of : DepTree → Choice
@@ -327,18 +404,33 @@ pub record IsDependence (d : DepTree) : Type 0 where
   pub choice : IsChoice (choice_of d)
   pub datatype : IsDatatype d.datatype
 
-pub dependence_reads_back : (d : DepTree) → IsDependence d → (s r : List Token) → Reads (print.dependence d) s r → ReadsBackAs grammar.dependence same.dependence (same.dependence d) s r
+pub dependence_reads_back : (d : DepTree) → IsDependence d → (s r : List Token) → Reads (print.dependence d) s r
+    → ReadsBackAs grammar.dependence same.dependence (same.dependence d) s r
 unfolding grammar.dependence
 dependence_reads_back d formed s r h =
-    let l = reads_line (blank (codes "  ") ∷ token (print.arrow d.direction) ∷ space ∷ (print.guard d.guard ++ (print.target d.yes ++ (print.other d.no ++ print.datatype d.datatype)))) s r h in
+    let l = reads_line (blank (codes "  ") ∷ token (print.arrow d.direction) ∷ space ∷
+    (print.guard d.guard ++ (print.target d.yes ++ (print.other d.no ++ print.datatype d.datatype)))) s r h in
     let C = print.guard d.guard ++ (print.target d.yes ++ print.other d.no) in
-    let regroup : print.guard d.guard ++ (print.target d.yes ++ (print.other d.no ++ print.datatype d.datatype)) ≡ C ++ print.datatype d.datatype = simp append_assoc in
+    let regroup : print.guard d.guard ++ (print.target d.yes ++ (print.other d.no ++ print.datatype d.datatype))
+    ≡ C ++ print.datatype d.datatype = simp append_assoc in
     let R : List Fragment → Type 0 = λ ps. Reads ps l.1 r in
     let split = reads_both C (print.datatype d.datatype) l.1 r (subst R regroup l.4) in
     let a = choice_reads_back (choice_of d) formed.choice l.1 split.0 split.1 in
     let b = datatype_reads_back d.datatype formed.datatype split.0 r split.2 in
     record {
       tree = grammar.dependence_of (d.direction, (a.tree, b.tree));
-      derives = ((d.direction, (a.tree, b.tree)), (l.1, None, None, arrow_derives d.direction l.0 s l.1 l.2 l.3, (split.0, None, None, a.derives, b.derives, refl), refl), refl);
-      like = ap (λ (c : Choice). built d.direction c (option_map same.word b.tree)) a.like ∙ ap (λ (w : Option Word). built d.direction (choice (choice_of d)) w) b.like;
+      derives = (
+        (d.direction, (a.tree, b.tree)),
+        (
+          l.1,
+          None,
+          None,
+          arrow_derives d.direction l.0 s l.1 l.2 l.3,
+          (split.0, None, None, a.derives, b.derives, refl),
+          refl,
+        ),
+        refl,
+      );
+      like = ap (λ (c : Choice). built d.direction c (option_map same.word b.tree)) a.like
+          ∙ ap (λ (w : Option Word). built d.direction (choice (choice_of d)) w) b.like;
     }

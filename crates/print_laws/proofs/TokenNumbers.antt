@@ -5,7 +5,14 @@ use Rattle.std.proofs.Math.Nat.{mod-eq_of_lt}
 use Rattle.grammar_core.specs.declared.token.Token.{Token}
 use Rattle.grammar_core.specs.Terminals as numbered
 use Rattle.jdf_lex.specs.declared.terminal.Terminal.{Terminal}
-use Rattle.jdf_lex.specs.declared.terminal.Terminal.TheVariants.{Name, TypeWord, Int, If, Else, For, Trap, Number, Quoted, Raw, OptionLine, Other, Extern, Body, End, Read, Write, Rw, Ctl, New, Null, LeftParen, RightParen, LeftBracket, RightBracket, LeftBrace, RightBrace, Comma, Semicolon, Colon, Question, Assign, Dots, Inward, Outward, Plus, Minus, Star, Slash, Percent, Equal, NotEqual, Less, AtMost, Greater, AtLeast, And, AndAnd, Or, OrOr, Not}
+use Rattle.jdf_lex.specs.declared.terminal.Terminal.TheVariants.{Name, TypeWord, Int, If, Else, For, Trap, Number}
+use Rattle.jdf_lex.specs.declared.terminal.Terminal.TheVariants.{Quoted, Raw, OptionLine, Other, Extern, Body, End}
+use Rattle.jdf_lex.specs.declared.terminal.Terminal.TheVariants.{Read, Write, Rw, Ctl, New, Null, LeftParen, RightParen}
+use Rattle.jdf_lex.specs.declared.terminal.Terminal.TheVariants.{LeftBracket, RightBracket, LeftBrace, RightBrace}
+use Rattle.jdf_lex.specs.declared.terminal.Terminal.TheVariants.{Comma, Semicolon, Colon, Question, Assign, Dots}
+use Rattle.jdf_lex.specs.declared.terminal.Terminal.TheVariants.{Inward, Outward, Plus, Minus, Star, Slash, Percent}
+use Rattle.jdf_lex.specs.declared.terminal.Terminal.TheVariants.{Equal, NotEqual, Less, AtMost, Greater, AtLeast, And}
+use Rattle.jdf_lex.specs.declared.terminal.Terminal.TheVariants.{AndAnd, Or, OrOr, Not}
 use Rattle.jdf_lex.specs.Terminals.{number_of, terminal_at, terminal_of}
 use Rattle.text_laws.proofs.Numbers.{terminal_of_number}
 

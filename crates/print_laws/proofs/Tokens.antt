@@ -16,16 +16,20 @@ use Rattle.print_laws.proofs.Forms.{Every}
 use Rattle.print_laws.proofs.Known.{IsKnownAs, IsKnown}
 
 -- If the unit is a token of another kind, no comment, raw block or option line begins there.
-peel : (s t u v : Bool) (p : LexicalUnit) (k : TokenKind) → (Raw ≡ k → ⊥) → (OptionLine ≡ k → ⊥) → cond s LineComment (cond t BlockComment (cond u (TokenOf Raw) (cond v (TokenOf OptionLine) p))) ≡ TokenOf k → p ≡ TokenOf k
+peel : (s t u v : Bool) (p : LexicalUnit) (k : TokenKind) → (Raw ≡ k → ⊥) → (OptionLine ≡ k → ⊥)
+    → cond s LineComment (cond t BlockComment (cond u (TokenOf Raw) (cond v (TokenOf OptionLine) p))) ≡ TokenOf k
+    → p ≡ TokenOf k
 peel true t u v p k raw option e = absurd (cc)
 peel false true u v p k raw option e = absurd (cc)
 peel false false true v p k raw option e = absurd (raw (cc))
 peel false false false true p k raw option e = absurd (option (cc))
 peel false false false false p k raw option e = e
 
-plain_is : (b : ℕ) (rest : List ℕ) (k : TokenKind) → (Raw ≡ k → ⊥) → (OptionLine ≡ k → ⊥) → Some (first_unit b rest) ≡ Some (TokenOf k) → plain_unit b rest ≡ TokenOf k
+plain_is : (b : ℕ) (rest : List ℕ) (k : TokenKind) → (Raw ≡ k → ⊥) → (OptionLine ≡ k → ⊥)
+    → Some (first_unit b rest) ≡ Some (TokenOf k) → plain_unit b rest ≡ TokenOf k
 plain_is b rest k raw option e =
-    peel (starts_with nat_eq (b ∷ rest) (codes "//")) (starts_with nat_eq (b ∷ rest) (codes "/*")) (starts_with nat_eq (b ∷ rest) (codes "%{")) (begins_option (b ∷ rest)) (plain_unit b rest) k raw option
+    peel (starts_with nat_eq (b ∷ rest) (codes "//")) (starts_with nat_eq (b ∷ rest) (codes "/*"))
+    (starts_with nat_eq (b ∷ rest) (codes "%{")) (begins_option (b ∷ rest)) (plain_unit b rest) k raw option
     (same_Some (first_unit b rest) (TokenOf k) e)
 
 abbrev Plain : Bool → Bool → Bool → Bool → Bool → LexicalUnit
@@ -88,4 +92,5 @@ token_known before word left x h =
 pub tokens_known : (front left before rest : List ℕ) (ts : List Token) → IsLexedTo front left before rest ts → Every IsKnown ts
 tokens_known front left before rest ts nothing_more = tt
 tokens_known front left before rest ts (dropped_then _ _ _ unit word later dropped whole is on) = tokens_known front left (before ++ word) later ts on
-tokens_known front left before rest ts (token_then _ _ more token word later whole is on) = (token_known before word later token is, tokens_known front left (before ++ word) later more on)
+tokens_known front left before rest ts (token_then _ _ more token word later whole is on) =
+    (token_known before word later token is, tokens_known front left (before ++ word) later more on)

@@ -44,7 +44,8 @@ use Rattle.print_laws.proofs.Holding.{IfPresent, AtMostEvery}
 abbrev pub JobsOf : Language Jdf → Type 0
 JobsOf G = (s : List Token) (t : Jdf) (o : Fault) (r : List Token) → G s t o r → o ≡ None → Every IsKnown s → IsJob t
 
-module _ (R : (n : Nonterminal) → Language (TreeOf n)) (B : (n : Nonterminal) → Shortens (R n)) (E : FactsOf (R (an_expr Class))) (U : FactsOf (R (a_unary Class))) where
+module _ (R : (n : Nonterminal) → Language (TreeOf n)) (B : (n : Nonterminal) → Shortens (R n))
+    (E : FactsOf (R (an_expr Class))) (U : FactsOf (R (a_unary Class))) where
   abbrev pub Holds : {A : Type 0} → Grammar A → (A → Type 0) → Type 0
   Holds g P = holding.Holds R B g P
 
@@ -59,17 +60,25 @@ module _ (R : (n : Nonterminal) → Language (TreeOf n)) (B : (n : Nonterminal) 
   argument_well_formed : Holds grammar.argument IsArgument
   unfolding grammar.argument
   argument_well_formed =
-      holding.mapped R B grammar.argument_of (seq (outer Class) (opt (seq (prefixed_by terminal.Dots (outer Class)) (opt (prefixed_by terminal.Dots (outer Class))))))
+      holding.mapped R B grammar.argument_of (seq (outer Class)
+      (opt (seq (prefixed_by terminal.Dots (outer Class)) (opt (prefixed_by terminal.Dots (outer Class))))))
       (λ x. IsOuter x.0.tree × IfPresent (λ y. IsOuter y.0.tree × IfPresent (λ z. IsOuter z.tree) y.1) x.1) IsArgument
-      (holding.both R B (outer Class) (opt (seq (prefixed_by terminal.Dots (outer Class)) (opt (prefixed_by terminal.Dots (outer Class))))) (λ p. IsOuter p.tree) (IfPresent (λ y. IsOuter y.0.tree × IfPresent (λ z. IsOuter z.tree) y.1))
+      (holding.both R B (outer Class) (opt (seq (prefixed_by terminal.Dots (outer Class))
+      (opt (prefixed_by terminal.Dots (outer Class))))) (λ p. IsOuter p.tree)
+      (IfPresent (λ y. IsOuter y.0.tree × IfPresent (λ z. IsOuter z.tree) y.1))
       outer_well_formed
-      (holding.if_present R B (seq (prefixed_by terminal.Dots (outer Class)) (opt (prefixed_by terminal.Dots (outer Class)))) (λ y. IsOuter y.0.tree × IfPresent (λ z. IsOuter z.tree) y.1)
-      (holding.both R B (prefixed_by terminal.Dots (outer Class)) (opt (prefixed_by terminal.Dots (outer Class))) (λ p. IsOuter p.tree) (IfPresent (λ z. IsOuter z.tree))
+      (holding.if_present R B (seq (prefixed_by terminal.Dots (outer Class))
+      (opt (prefixed_by terminal.Dots (outer Class)))) (λ y. IsOuter y.0.tree × IfPresent (λ z. IsOuter z.tree) y.1)
+      (holding.both R B (prefixed_by terminal.Dots (outer Class)) (opt (prefixed_by terminal.Dots (outer Class)))
+      (λ p. IsOuter p.tree) (IfPresent (λ z. IsOuter z.tree))
       (holding.after_word R B terminal.Dots (outer Class) (λ p. IsOuter p.tree) outer_well_formed)
-      (holding.if_present R B (prefixed_by terminal.Dots (outer Class)) (λ p. IsOuter p.tree) (holding.after_word R B terminal.Dots (outer Class) (λ p. IsOuter p.tree) outer_well_formed)))))
+      (holding.if_present R B (prefixed_by terminal.Dots (outer Class)) (λ p. IsOuter p.tree)
+      (holding.after_word R B terminal.Dots (outer Class) (λ p. IsOuter p.tree) outer_well_formed)))))
       go
     where
-      go : (x : ExprWithSpot × Option (ExprWithSpot × Option ExprWithSpot)) → IsOuter x.0.tree × IfPresent (λ y. IsOuter y.0.tree × IfPresent (λ z. IsOuter z.tree) y.1) x.1 → IsArgument (grammar.argument_of x)
+      go : (x : ExprWithSpot × Option (ExprWithSpot × Option ExprWithSpot))
+          → IsOuter x.0.tree × IfPresent (λ y. IsOuter y.0.tree × IfPresent (λ z. IsOuter z.tree) y.1) x.1
+          → IsArgument (grammar.argument_of x)
       go (a, None) h = h.0
       go (a, Some (b, None)) h = (h.0, h.1.0)
       go (a, Some (b, Some c)) h = (h.0, h.1.0, h.1.1)
@@ -82,20 +91,24 @@ module _ (R : (n : Nonterminal) → Language (TreeOf n)) (B : (n : Nonterminal) 
   unfolding grammar.call
   call_well_formed =
       holding.after_word R B terminal.LeftParen (suffixed_by terminal.RightParen (maybe grammar.arguments)) (Every IsArgument)
-      (holding.before_word R B terminal.RightParen (maybe grammar.arguments) (Every IsArgument) (holding.or_nothing R B grammar.arguments (Every IsArgument) tt arguments_well_formed))
+      (holding.before_word R B terminal.RightParen (maybe grammar.arguments) (Every IsArgument)
+      (holding.or_nothing R B grammar.arguments (Every IsArgument) tt arguments_well_formed))
 
   -- ---- targets
 
   called_well_formed : Holds grammar.called IsTarget
   unfolding grammar.called
   called_well_formed =
-      holding.mapped R B grammar.target_of (seq (name Class) (seq (opt (name Class)) grammar.call)) (λ x. IsName x.0.text × (IfPresent (λ w. IsName w.text) x.1.0 × Every IsArgument x.1.1)) IsTarget
+      holding.mapped R B grammar.target_of (seq (name Class) (seq (opt (name Class)) grammar.call))
+      (λ x. IsName x.0.text × (IfPresent (λ w. IsName w.text) x.1.0 × Every IsArgument x.1.1)) IsTarget
       (holding.both R B (name Class) (seq (opt (name Class)) grammar.call) (λ w. IsName w.text) (λ x. IfPresent (λ w. IsName w.text) x.0 × Every IsArgument x.1)
       (holding.name_well_formed R B)
-      (holding.both R B (opt (name Class)) grammar.call (IfPresent (λ w. IsName w.text)) (Every IsArgument) (holding.if_present R B (name Class) (λ w. IsName w.text) (holding.name_well_formed R B)) call_well_formed))
+      (holding.both R B (opt (name Class)) grammar.call (IfPresent (λ w. IsName w.text)) (Every IsArgument)
+      (holding.if_present R B (name Class) (λ w. IsName w.text) (holding.name_well_formed R B)) call_well_formed))
       go
     where
-      go : (x : Word × (Option Word × List ArgTree)) → IsName x.0.text × (IfPresent (λ w. IsName w.text) x.1.0 × Every IsArgument x.1.1) → IsTarget (grammar.target_of x)
+      go : (x : Word × (Option Word × List ArgTree)) → IsName x.0.text
+          × (IfPresent (λ w. IsName w.text) x.1.0 × Every IsArgument x.1.1) → IsTarget (grammar.target_of x)
       go (a, (None, args)) h = (h.0, h.1.1)
       go (a, (Some b, args)) h = (h.0, h.1.0, h.1.1)
 
@@ -105,7 +118,8 @@ module _ (R : (n : Nonterminal) → Language (TreeOf n)) (B : (n : Nonterminal) 
       holding.one_or R B (map (λ x. New x.spot) (word terminal.New)) (alt (map (λ x. Null x.spot) (word terminal.Null)) grammar.called) IsTarget
       (holding.mapped R B (λ x. New x.spot) (word terminal.New) (λ x. Unit {0}) IsTarget (holding.free R B (word terminal.New)) (λ a h. tt))
       (holding.one_or R B (map (λ x. Null x.spot) (word terminal.Null)) grammar.called IsTarget
-      (holding.mapped R B (λ x. Null x.spot) (word terminal.Null) (λ x. Unit {0}) IsTarget (holding.free R B (word terminal.Null)) (λ a h. tt)) called_well_formed)
+      (holding.mapped R B (λ x. Null x.spot) (word terminal.Null) (λ x. Unit {0}) IsTarget
+      (holding.free R B (word terminal.Null)) (λ a h. tt)) called_well_formed)
 
   -- ---- dependences
 
@@ -116,22 +130,31 @@ module _ (R : (n : Nonterminal) → Language (TreeOf n)) (B : (n : Nonterminal) 
   guarded_well_formed : Holds grammar.guarded IsChoice
   unfolding grammar.guarded
   guarded_well_formed =
-      holding.mapped R B (λ x. (Some x.0.tree, x.1.0, x.1.1)) (seq guard (prefixed_by terminal.Question (seq grammar.target (opt (prefixed_by terminal.Colon grammar.target))))) (λ x. IsOuter x.0.tree × (IsTarget x.1.0 × IfPresent IsTarget x.1.1)) IsChoice
-      (holding.both R B guard (prefixed_by terminal.Question (seq grammar.target (opt (prefixed_by terminal.Colon grammar.target)))) (λ p. IsOuter p.tree) (λ x. IsTarget x.0 × IfPresent IsTarget x.1)
+      holding.mapped R B (λ x. (Some x.0.tree, x.1.0, x.1.1))
+      (seq guard (prefixed_by terminal.Question (seq grammar.target
+      (opt (prefixed_by terminal.Colon grammar.target)))))
+      (λ x. IsOuter x.0.tree × (IsTarget x.1.0 × IfPresent IsTarget x.1.1)) IsChoice
+      (holding.both R B guard (prefixed_by terminal.Question
+      (seq grammar.target (opt (prefixed_by terminal.Colon grammar.target)))) (λ p. IsOuter p.tree)
+      (λ x. IsTarget x.0 × IfPresent IsTarget x.1)
       guard_well_formed
-      (holding.after_word R B terminal.Question (seq grammar.target (opt (prefixed_by terminal.Colon grammar.target))) (λ x. IsTarget x.0 × IfPresent IsTarget x.1)
+      (holding.after_word R B terminal.Question (seq grammar.target (opt (prefixed_by terminal.Colon grammar.target)))
+      (λ x. IsTarget x.0 × IfPresent IsTarget x.1)
       (holding.both R B grammar.target (opt (prefixed_by terminal.Colon grammar.target)) IsTarget (IfPresent IsTarget) target_well_formed
-      (holding.if_present R B (prefixed_by terminal.Colon grammar.target) IsTarget (holding.after_word R B terminal.Colon grammar.target IsTarget target_well_formed)))))
+      (holding.if_present R B (prefixed_by terminal.Colon grammar.target) IsTarget
+      (holding.after_word R B terminal.Colon grammar.target IsTarget target_well_formed)))))
       go
     where
-      go : (x : ExprWithSpot × (TargetTree × Option TargetTree)) → IsOuter x.0.tree × (IsTarget x.1.0 × IfPresent IsTarget x.1.1) → IsChoice (Some x.0.tree, x.1.0, x.1.1)
+      go : (x : ExprWithSpot × (TargetTree × Option TargetTree))
+          → IsOuter x.0.tree × (IsTarget x.1.0 × IfPresent IsTarget x.1.1) → IsChoice (Some x.0.tree, x.1.0, x.1.1)
       go (c, (t, None)) h = (h.0, h.1.0)
       go (c, (t, Some u)) h = (h.0, h.1.0, h.1.1)
 
   datatype_well_formed : Holds grammar.datatype (λ w. IsName w.text)
   unfolding grammar.datatype
   datatype_well_formed =
-      holding.after_word R B terminal.LeftBracket (prefixed_by terminal.TypeWord (prefixed_by terminal.Assign (suffixed_by terminal.RightBracket (name Class)))) (λ w. IsName w.text)
+      holding.after_word R B terminal.LeftBracket (prefixed_by terminal.TypeWord
+      (prefixed_by terminal.Assign (suffixed_by terminal.RightBracket (name Class)))) (λ w. IsName w.text)
       (holding.after_word R B terminal.TypeWord (prefixed_by terminal.Assign (suffixed_by terminal.RightBracket (name Class))) (λ w. IsName w.text)
       (holding.after_word R B terminal.Assign (suffixed_by terminal.RightBracket (name Class)) (λ w. IsName w.text)
       (holding.before_word R B terminal.RightBracket (name Class) (λ w. IsName w.text) (holding.name_well_formed R B))))
@@ -139,15 +162,19 @@ module _ (R : (n : Nonterminal) → Language (TreeOf n)) (B : (n : Nonterminal) 
   dependence_well_formed : Holds grammar.dependence IsDependence
   unfolding grammar.dependence
   dependence_well_formed =
-      holding.mapped R B grammar.dependence_of (seq grammar.arrow (seq (pick grammar.may_follow_target_name grammar.unguarded grammar.guarded) (opt grammar.datatype))) (λ x. Unit {0} × (IsChoice x.1.0 × IfPresent (λ w. IsName w.text) x.1.1)) IsDependence
-      (holding.both R B grammar.arrow (seq (pick grammar.may_follow_target_name grammar.unguarded grammar.guarded) (opt grammar.datatype)) (λ x. Unit {0}) (λ x. IsChoice x.0 × IfPresent (λ w. IsName w.text) x.1)
+      holding.mapped R B grammar.dependence_of (seq grammar.arrow
+      (seq (pick grammar.may_follow_target_name grammar.unguarded grammar.guarded) (opt grammar.datatype)))
+      (λ x. Unit {0} × (IsChoice x.1.0 × IfPresent (λ w. IsName w.text) x.1.1)) IsDependence
+      (holding.both R B grammar.arrow (seq (pick grammar.may_follow_target_name grammar.unguarded grammar.guarded)
+      (opt grammar.datatype)) (λ x. Unit {0}) (λ x. IsChoice x.0 × IfPresent (λ w. IsName w.text) x.1)
       (holding.free R B grammar.arrow)
       (holding.both R B (pick grammar.may_follow_target_name grammar.unguarded grammar.guarded) (opt grammar.datatype) IsChoice (IfPresent (λ w. IsName w.text))
       (holding.picked R B grammar.may_follow_target_name grammar.unguarded grammar.guarded IsChoice unguarded_well_formed guarded_well_formed)
       (holding.if_present R B grammar.datatype (λ w. IsName w.text) datatype_well_formed)))
       go
     where
-      go : (x : Direction × (Choice × Option Word)) → Unit {0} × (IsChoice x.1.0 × IfPresent (λ w. IsName w.text) x.1.1) → IsDependence (grammar.dependence_of x)
+      go : (x : Direction × (Choice × Option Word)) → Unit {0} × (IsChoice x.1.0 × IfPresent (λ w. IsName w.text) x.1.1)
+          → IsDependence (grammar.dependence_of x)
       go (b, (c, None)) h = record { choice = h.1.0; datatype = tt }
       go (b, (c, Some w)) h = record { choice = h.1.0; datatype = h.1.1 }
 
@@ -156,10 +183,13 @@ module _ (R : (n : Nonterminal) → Language (TreeOf n)) (B : (n : Nonterminal) 
   flow_well_formed : Holds grammar.flow IsFlow
   unfolding grammar.flow grammar.dependences
   flow_well_formed =
-      holding.mapped R B grammar.flow_of (seq grammar.kind_of_flow (seq (name Class) grammar.dependences)) (λ x. Unit {0} × (IsName x.1.0.text × AtMostEvery 16 IsDependence x.1.1)) IsFlow
+      holding.mapped R B grammar.flow_of (seq grammar.kind_of_flow (seq (name Class) grammar.dependences))
+      (λ x. Unit {0} × (IsName x.1.0.text × AtMostEvery 16 IsDependence x.1.1)) IsFlow
       (holding.both R B grammar.kind_of_flow (seq (name Class) grammar.dependences) (λ x. Unit {0}) (λ x. IsName x.0.text × AtMostEvery 16 IsDependence x.1)
       (holding.free R B grammar.kind_of_flow)
-      (holding.both R B (name Class) grammar.dependences (λ w. IsName w.text) (AtMostEvery 16 IsDependence) (holding.name_well_formed R B) (holding.few R B 16 TooManyDeps grammar.dependence IsDependence dependence_well_formed)))
+      (holding.both R B (name Class) grammar.dependences (λ w. IsName w.text) (AtMostEvery 16 IsDependence)
+      (holding.name_well_formed R B) (holding.few R B 16 TooManyDeps grammar.dependence IsDependence
+      dependence_well_formed)))
       (λ x h. record { name = h.1.0; few = h.1.1.0; deps = h.1.1.1 })
 
   flows_well_formed : Holds grammar.flows (AtMostEvery 8 IsFlow)
@@ -171,8 +201,11 @@ module _ (R : (n : Nonterminal) → Language (TreeOf n)) (B : (n : Nonterminal) 
   definition_well_formed : Holds grammar.definition IsDefinition
   unfolding grammar.definition
   definition_well_formed =
-      holding.mapped R B grammar.definition_of (seq (name Class) (prefixed_by terminal.Assign grammar.argument)) (λ x. IsName x.0.text × IsArgument x.1) IsDefinition
-      (holding.both R B (name Class) (prefixed_by terminal.Assign grammar.argument) (λ w. IsName w.text) IsArgument (holding.name_well_formed R B) (holding.after_word R B terminal.Assign grammar.argument IsArgument argument_well_formed))
+      holding.mapped R B grammar.definition_of (seq (name Class) (prefixed_by terminal.Assign grammar.argument))
+      (λ x. IsName x.0.text × IsArgument x.1) IsDefinition
+      (holding.both R B (name Class) (prefixed_by terminal.Assign grammar.argument) (λ w. IsName w.text) IsArgument
+      (holding.name_well_formed R B) (holding.after_word R B terminal.Assign grammar.argument IsArgument
+      argument_well_formed))
       (λ x h. record { name = h.0; value = h.1 })
 
   definitions_well_formed : Holds grammar.definitions (AtMostEvery 16 IsDefinition)
@@ -188,13 +221,15 @@ module _ (R : (n : Nonterminal) → Language (TreeOf n)) (B : (n : Nonterminal) 
   priority_well_formed : Holds grammar.priority IsOuter
   unfolding grammar.priority
   priority_well_formed =
-      holding.mapped R B (λ x. x.tree) (prefixed_by terminal.Semicolon (outer Class)) (λ p. IsOuter p.tree) IsOuter (holding.after_word R B terminal.Semicolon (outer Class) (λ p. IsOuter p.tree) outer_well_formed) (λ a h. h)
+      holding.mapped R B (λ x. x.tree) (prefixed_by terminal.Semicolon (outer Class)) (λ p. IsOuter p.tree) IsOuter
+      (holding.after_word R B terminal.Semicolon (outer Class) (λ p. IsOuter p.tree) outer_well_formed) (λ a h. h)
 
   -- How many tokens names with commas between them have.
   name_long : (s : List Token) (w : Word) (o : Fault) (r : List Token) → Derives R (name Class) s w o r → length s ≡ 1 + length r
   name_long s w o r h = let e = ap (λ (l : List Token). length l) h.1.0.0 in omega (arith, e)
 
-  later_long : (i : ℕ) (ws : List Word) (s : List Token) (o : Fault) (r : List Token) → Many any (Derives R (prefixed_by terminal.Comma (name Class))) i s ws o r → length s ≡ 2 * length ws + length r
+  later_long : (i : ℕ) (ws : List Word) (s : List Token) (o : Fault) (r : List Token)
+      → Many any (Derives R (prefixed_by terminal.Comma (name Class))) i s ws o r → length s ≡ 2 * length ws + length r
   later_long i [] s o r h = let e = ap (λ (l : List Token). length l) h.0 in omega (arith, e)
   later_long i (w ∷ ws) s o r h =
       let q = h.3.1 in
@@ -216,7 +251,9 @@ module _ (R : (n : Nonterminal) → Language (TreeOf n)) (B : (n : Nonterminal) 
   unfolding grammar.parameter_list
   parameter_list_well_formed =
       holding.after_word R B terminal.LeftParen (suffixed_by terminal.RightParen (maybe grammar.parameters)) (AtMostEvery 8 IsParameter)
-      (holding.before_word R B terminal.RightParen (maybe grammar.parameters) (AtMostEvery 8 IsParameter) (holding.or_nothing R B grammar.parameters (AtMostEvery 8 IsParameter) (omega arith, tt) parameters_well_formed))
+      (holding.before_word R B terminal.RightParen (maybe grammar.parameters) (AtMostEvery 8 IsParameter)
+      (holding.or_nothing R B grammar.parameters (AtMostEvery 8 IsParameter) (omega arith, tt)
+      parameters_well_formed))
 
   -- ---- bodies
 
@@ -238,19 +275,26 @@ module _ (R : (n : Nonterminal) → Language (TreeOf n)) (B : (n : Nonterminal) 
   tokens_well_formed : Holds grammar.body_tokens IsBody
   unfolding grammar.body_tokens
   tokens_well_formed =
-      holding.mapped R B (λ x. x.0 ∷ x.1) (seq (one_of grammar.begins_body) (star any (one_of grammar.is_in_body))) (λ x. (IsInBody x.0 × (grammar.begins_body (terminal_of x.0) ≡ true)) × Every IsInBody x.1) IsBody
-      (holding.both R B (one_of grammar.begins_body) (star any (one_of grammar.is_in_body)) (λ x. IsInBody x × (grammar.begins_body (terminal_of x) ≡ true)) (Every IsInBody) first_well_formed
+      holding.mapped R B (λ x. x.0 ∷ x.1) (seq (one_of grammar.begins_body) (star any (one_of grammar.is_in_body)))
+      (λ x. (IsInBody x.0 × (grammar.begins_body (terminal_of x.0) ≡ true)) × Every IsInBody x.1) IsBody
+      (holding.both R B (one_of grammar.begins_body) (star any (one_of grammar.is_in_body))
+      (λ x. IsInBody x × (grammar.begins_body (terminal_of x) ≡ true)) (Every IsInBody) first_well_formed
       (holding.all R B any (one_of grammar.is_in_body) IsInBody token_well_formed))
       (λ x h. (h.0.0, h.0.1, h.1))
 
   body_well_formed : Holds grammar.body (λ x. IsBody x.0)
   unfolding grammar.body
   body_well_formed =
-      holding.after_word R B terminal.Body (map grammar.body_of (seq (opt grammar.properties) (seq (maybe grammar.body_tokens) (word terminal.End)))) (λ x. IsBody x.0)
-      (holding.mapped R B grammar.body_of (seq (opt grammar.properties) (seq (maybe grammar.body_tokens) (word terminal.End))) (λ x. Unit {0} × (IsBody x.1.0 × Unit {0})) (λ x. IsBody x.0)
+      holding.after_word R B terminal.Body (map grammar.body_of
+      (seq (opt grammar.properties) (seq (maybe grammar.body_tokens) (word terminal.End)))) (λ x. IsBody x.0)
+      (holding.mapped R B grammar.body_of (seq (opt grammar.properties)
+      (seq (maybe grammar.body_tokens) (word terminal.End))) (λ x. Unit {0} × (IsBody x.1.0 × Unit {0}))
+      (λ x. IsBody x.0)
       (holding.both R B (opt grammar.properties) (seq (maybe grammar.body_tokens) (word terminal.End)) (λ x. Unit {0}) (λ x. IsBody x.0 × Unit {0})
       (holding.free R B (opt grammar.properties))
-      (holding.both R B (maybe grammar.body_tokens) (word terminal.End) IsBody (λ x. Unit {0}) (holding.or_nothing R B grammar.body_tokens IsBody tt tokens_well_formed) (holding.free R B (word terminal.End))))
+      (holding.both R B (maybe grammar.body_tokens) (word terminal.End) IsBody (λ x. Unit {0})
+      (holding.or_nothing R B grammar.body_tokens IsBody tt tokens_well_formed)
+      (holding.free R B (word terminal.End))))
       (λ x h. h.1.0))
 
   -- ---- classes
@@ -258,20 +302,30 @@ module _ (R : (n : Nonterminal) → Language (TreeOf n)) (B : (n : Nonterminal) 
   head_well_formed : Holds grammar.head (λ x. IsName x.0.text × AtMostEvery 8 IsParameter x.1.0)
   unfolding grammar.head
   head_well_formed s x o r h e known =
-      let all = holding.both R B (name Class) (seq grammar.parameter_list (opt grammar.properties)) (λ w. IsName w.text) (λ y. AtMostEvery 8 IsParameter y.0 × Unit {0}) (holding.name_well_formed R B)
-      (holding.both R B grammar.parameter_list (opt grammar.properties) (AtMostEvery 8 IsParameter) (λ y. Unit {0}) parameter_list_well_formed (holding.free R B (opt grammar.properties))) s x o r h e known in
+      let all = holding.both R B (name Class) (seq grammar.parameter_list (opt grammar.properties)) (λ w. IsName w.text)
+      (λ y. AtMostEvery 8 IsParameter y.0 × Unit {0}) (holding.name_well_formed R B)
+      (holding.both R B grammar.parameter_list (opt grammar.properties) (AtMostEvery 8 IsParameter) (λ y. Unit {0})
+      parameter_list_well_formed (holding.free R B (opt grammar.properties))) s x o r h e known in
       (all.0, all.1.0)
 
   abbrev IsRest : grammar.Rest → Type 0
-  IsRest x = AtMostEvery 16 IsDefinition x.0 × ((IsName x.1.0.0.text × Every IsArgument x.1.0.1) × (AtMostEvery 8 IsFlow x.1.1.0 × (IfPresent IsOuter x.1.1.1.0 × IsBody x.1.1.1.1.0)))
+  IsRest x = AtMostEvery 16 IsDefinition x.0 × ((IsName x.1.0.0.text × Every IsArgument x.1.0.1)
+      × (AtMostEvery 8 IsFlow x.1.1.0 × (IfPresent IsOuter x.1.1.1.0 × IsBody x.1.1.1.1.0)))
 
   rest_well_formed : Holds grammar.rest IsRest
   unfolding grammar.rest
   rest_well_formed =
-      holding.both R B grammar.definitions (seq grammar.affinity (seq grammar.flows (seq (opt grammar.priority) grammar.body))) (AtMostEvery 16 IsDefinition) (λ x. (IsName x.0.0.text × Every IsArgument x.0.1) × (AtMostEvery 8 IsFlow x.1.0 × (IfPresent IsOuter x.1.1.0 × IsBody x.1.1.1.0))) definitions_well_formed
-      (holding.both R B grammar.affinity (seq grammar.flows (seq (opt grammar.priority) grammar.body)) (λ x. IsName x.0.text × Every IsArgument x.1) (λ x. AtMostEvery 8 IsFlow x.0 × (IfPresent IsOuter x.1.0 × IsBody x.1.1.0)) affinity_well_formed
-      (holding.both R B grammar.flows (seq (opt grammar.priority) grammar.body) (AtMostEvery 8 IsFlow) (λ x. IfPresent IsOuter x.0 × IsBody x.1.0) flows_well_formed
-      (holding.both R B (opt grammar.priority) grammar.body (IfPresent IsOuter) (λ x. IsBody x.0) (holding.if_present R B grammar.priority IsOuter priority_well_formed) body_well_formed)))
+      holding.both R B grammar.definitions (seq grammar.affinity
+      (seq grammar.flows (seq (opt grammar.priority) grammar.body))) (AtMostEvery 16 IsDefinition)
+      (λ x. (IsName x.0.0.text × Every IsArgument x.0.1)
+      × (AtMostEvery 8 IsFlow x.1.0 × (IfPresent IsOuter x.1.1.0 × IsBody x.1.1.1.0))) definitions_well_formed
+      (holding.both R B grammar.affinity (seq grammar.flows (seq (opt grammar.priority) grammar.body))
+      (λ x. IsName x.0.text × Every IsArgument x.1) (λ x. AtMostEvery 8 IsFlow x.0
+      × (IfPresent IsOuter x.1.0 × IsBody x.1.1.0)) affinity_well_formed
+      (holding.both R B grammar.flows (seq (opt grammar.priority) grammar.body) (AtMostEvery 8 IsFlow)
+      (λ x. IfPresent IsOuter x.0 × IsBody x.1.0) flows_well_formed
+      (holding.both R B (opt grammar.priority) grammar.body (IfPresent IsOuter) (λ x. IsBody x.0)
+      (holding.if_present R B grammar.priority IsOuter priority_well_formed) body_well_formed)))
 
   priority_there : (p : Option Expression) → IfPresent IsOuter p → IsPriority p
   priority_there None h = tt
@@ -311,8 +365,11 @@ module _ (R : (n : Nonterminal) → Language (TreeOf n)) (B : (n : Nonterminal) 
   classes_well_formed : Holds whole.classes AreClasses
   unfolding whole.classes
   classes_well_formed =
-      holding.mapped R B (λ x. x.0 ∷ x.1) (seq whole.class_and_skips (star (grammar.full_at 63 TooManyClasses) whole.class_and_skips)) (λ x. IsClass x.0 × AtMostEvery 63 IsClass x.1) AreClasses
-      (holding.both R B whole.class_and_skips (star (grammar.full_at 63 TooManyClasses) whole.class_and_skips) IsClass (AtMostEvery 63 IsClass) and_skips_well_formed
+      holding.mapped R B (λ x. x.0 ∷ x.1) (seq whole.class_and_skips
+      (star (grammar.full_at 63 TooManyClasses) whole.class_and_skips))
+      (λ x. IsClass x.0 × AtMostEvery 63 IsClass x.1) AreClasses
+      (holding.both R B whole.class_and_skips (star (grammar.full_at 63 TooManyClasses) whole.class_and_skips) IsClass
+      (AtMostEvery 63 IsClass) and_skips_well_formed
       (holding.few R B 63 TooManyClasses whole.class_and_skips IsClass and_skips_well_formed))
       (λ x h. let few = h.1.0 in (omega arith, omega arith, (h.0, h.1.1)))
 
@@ -329,23 +386,37 @@ module _ (R : (n : Nonterminal) → Language (TreeOf n)) (B : (n : Nonterminal) 
     extern_well_formed : Holds whole.file_after_extern IsJob
     unfolding whole.file_after_extern
     extern_well_formed =
-        holding.mapped R B (λ x. x.1.1.1) (seq (word terminal.Extern) (seq (word terminal.Quoted) (after_token (is terminal.Raw) a_file))) (λ x. Unit {0} × (Unit {0} × IsJob x.1.1.1)) IsJob
-        (holding.both R B (word terminal.Extern) (seq (word terminal.Quoted) (after_token (is terminal.Raw) a_file)) (λ x. Unit {0}) (λ x. Unit {0} × IsJob x.1.1) (holding.free R B (word terminal.Extern))
-        (holding.both R B (word terminal.Quoted) (after_token (is terminal.Raw) a_file) (λ x. Unit {0}) (λ x. IsJob x.1) (holding.free R B (word terminal.Quoted)) (behind_well_formed (is terminal.Raw))))
+        holding.mapped R B (λ x. x.1.1.1) (seq (word terminal.Extern)
+        (seq (word terminal.Quoted) (after_token (is terminal.Raw) a_file)))
+        (λ x. Unit {0} × (Unit {0} × IsJob x.1.1.1)) IsJob
+        (holding.both R B (word terminal.Extern) (seq (word terminal.Quoted) (after_token (is terminal.Raw) a_file))
+        (λ x. Unit {0}) (λ x. Unit {0} × IsJob x.1.1) (holding.free R B (word terminal.Extern))
+        (holding.both R B (word terminal.Quoted) (after_token (is terminal.Raw) a_file) (λ x. Unit {0}) (λ x. IsJob x.1)
+        (holding.free R B (word terminal.Quoted)) (behind_well_formed (is terminal.Raw))))
         (λ x h. h.1.1)
 
     option_well_formed : Holds whole.file_after_option IsJob
     unfolding whole.file_after_option
-    option_well_formed = holding.mapped R B (λ x. x.1) (after_token (is terminal.OptionLine) a_file) (λ x. IsJob x.1) IsJob (behind_well_formed (is terminal.OptionLine)) (λ x h. h)
+    option_well_formed = holding.mapped R B (λ x. x.1) (after_token (is terminal.OptionLine) a_file) (λ x. IsJob x.1)
+        IsJob (behind_well_formed (is terminal.OptionLine)) (λ x h. h)
 
     properties_well_formed : Holds whole.file_after_properties IsJob
     unfolding whole.file_after_properties
     properties_well_formed =
-        holding.mapped R B (λ x. whole.with_global x.0 x.1.1.1.1) (seq (name Class) (seq (word terminal.LeftBracket) (seq (star any (one_of grammar.is_no_right_bracket)) (after_token (is terminal.RightBracket) a_file))))
+        holding.mapped R B (λ x. whole.with_global x.0 x.1.1.1.1)
+        (seq (name Class) (seq (word terminal.LeftBracket)
+        (seq (star any (one_of grammar.is_no_right_bracket)) (after_token (is terminal.RightBracket) a_file))))
         (λ x. IsName x.0.text × (Unit {0} × (Unit {0} × IsJob x.1.1.1.1))) IsJob
-        (holding.both R B (name Class) (seq (word terminal.LeftBracket) (seq (star any (one_of grammar.is_no_right_bracket)) (after_token (is terminal.RightBracket) a_file))) (λ w. IsName w.text) (λ x. Unit {0} × (Unit {0} × IsJob x.1.1.1)) (holding.name_well_formed R B)
-        (holding.both R B (word terminal.LeftBracket) (seq (star any (one_of grammar.is_no_right_bracket)) (after_token (is terminal.RightBracket) a_file)) (λ x. Unit {0}) (λ x. Unit {0} × IsJob x.1.1) (holding.free R B (word terminal.LeftBracket))
-        (holding.both R B (star any (one_of grammar.is_no_right_bracket)) (after_token (is terminal.RightBracket) a_file) (λ x. Unit {0}) (λ x. IsJob x.1) (holding.free R B (star any (one_of grammar.is_no_right_bracket))) (behind_well_formed (is terminal.RightBracket)))))
+        (holding.both R B (name Class) (seq (word terminal.LeftBracket)
+        (seq (star any (one_of grammar.is_no_right_bracket)) (after_token (is terminal.RightBracket) a_file)))
+        (λ w. IsName w.text) (λ x. Unit {0} × (Unit {0} × IsJob x.1.1.1)) (holding.name_well_formed R B)
+        (holding.both R B (word terminal.LeftBracket) (seq (star any (one_of grammar.is_no_right_bracket))
+        (after_token (is terminal.RightBracket) a_file)) (λ x. Unit {0}) (λ x. Unit {0} × IsJob x.1.1)
+        (holding.free R B (word terminal.LeftBracket))
+        (holding.both R B (star any (one_of grammar.is_no_right_bracket))
+        (after_token (is terminal.RightBracket) a_file) (λ x. Unit {0}) (λ x. IsJob x.1)
+        (holding.free R B (star any (one_of grammar.is_no_right_bracket)))
+        (behind_well_formed (is terminal.RightBracket)))))
         (λ x h. with_one x.0 x.1.1.1.1 h.0 h.1.1.1)
 
     global_well_formed : Holds whole.file_after_global IsJob
@@ -358,14 +429,21 @@ module _ (R : (n : Nonterminal) → Language (TreeOf n)) (B : (n : Nonterminal) 
         subst IsJob h.2 (with_one (word_of x.0) x.1 (name_known x.0 q.2.1 all_known.0) (behind_well_formed is_name s x o r q e known))
 
     jobs_well_formed : Holds (map whole.without_globals whole.classes) IsJob
-    jobs_well_formed = holding.mapped R B whole.without_globals whole.classes AreClasses IsJob classes_well_formed (λ cs h. record { globals = tt; few = h.0; some = h.1; classes = h.2 })
+    jobs_well_formed = holding.mapped R B whole.without_globals whole.classes AreClasses IsJob classes_well_formed
+        (λ cs h. record { globals = tt; few = h.0; some = h.1; classes = h.2 })
 
     pub file_well_formed : Holds whole.file IsJob
     unfolding whole.file
     file_well_formed =
-        holding.one_or R B whole.file_after_extern (alt whole.file_after_option (pick (is terminal.LeftParen) (map whole.without_globals whole.classes) (pick (is terminal.LeftBracket) whole.file_after_properties whole.file_after_global))) IsJob extern_well_formed
-        (holding.one_or R B whole.file_after_option (pick (is terminal.LeftParen) (map whole.without_globals whole.classes) (pick (is terminal.LeftBracket) whole.file_after_properties whole.file_after_global)) IsJob option_well_formed
-        (holding.picked R B (is terminal.LeftParen) (map whole.without_globals whole.classes) (pick (is terminal.LeftBracket) whole.file_after_properties whole.file_after_global) IsJob jobs_well_formed
+        holding.one_or R B whole.file_after_extern (alt whole.file_after_option
+        (pick (is terminal.LeftParen) (map whole.without_globals whole.classes)
+        (pick (is terminal.LeftBracket) whole.file_after_properties whole.file_after_global))) IsJob
+        extern_well_formed
+        (holding.one_or R B whole.file_after_option (pick (is terminal.LeftParen)
+        (map whole.without_globals whole.classes) (pick (is terminal.LeftBracket) whole.file_after_properties
+        whole.file_after_global)) IsJob option_well_formed
+        (holding.picked R B (is terminal.LeftParen) (map whole.without_globals whole.classes)
+        (pick (is terminal.LeftBracket) whole.file_after_properties whole.file_after_global) IsJob jobs_well_formed
         (holding.picked R B (is terminal.LeftBracket) whole.file_after_properties whole.file_after_global IsJob properties_well_formed global_well_formed)))
 
 -- ---- names of any depth
@@ -391,7 +469,13 @@ step k m =
     }
 
 made_at : (k : ℕ) → AreMade (At k)
-made_at zero = record { shortens = λ n s t o r h. absurd h; exprs = λ s t o r h e known. absurd h; unaries = λ s t o r h e known. absurd h; jobs = λ s t o r h e known. absurd h }
+made_at zero = record {
+  shortens = λ n s t o r h. absurd h;
+  exprs = λ s t o r h e known. absurd h;
+  unaries = λ s t o r h
+      e known. absurd h;
+  jobs = λ s t o r h e known. absurd h;
+}
 made_at (suc k) = step k (made_at k)
 
 -- Each tree that the grammar derives from tokens is well formed.

@@ -1,5 +1,6 @@
 -- Each expression of a text is well formed, and has at most as many names, numbers and operators as counted tokens.
-use Rattle.std.proofs.Common.{◌≡◌, ℕ, pos, suc, ◌+◌, ◌≤◌, Bool, true, false, cond, List, [], ◌∷◌, ◌++◌, length, refl, sym, ap, subst, ◌∙◌, inl, inr, arith, length-append}
+use Rattle.std.proofs.Common.{◌≡◌, ℕ, pos, suc, ◌+◌, ◌≤◌, Bool, true, false, cond, List, [], ◌∷◌, ◌++◌, length, refl}
+use Rattle.std.proofs.Common.{sym, ap, subst, ◌∙◌, inl, inr, arith, length-append}
 use Rattle.std.specs.Prelude.{Option, Some, None}
 use Rattle.grammar_core.specs.declared.token.Token.{Token}
 use Rattle.term_core.specs.declared.operator.BinOp.{BinOp}
@@ -19,7 +20,10 @@ use Rattle.jdf_tree.specs.Numbers.{decimal, is_number}
 use Rattle.print_laws.proofs.NumberTexts.{number_parts}
 use Rattle.jdf_tree.specs.Nonterminal.{Nonterminal, an_expr, a_unary, TreeOf, Grammar}
 use Rattle.jdf_tree.specs.GrammarParts.{any}
-use Rattle.jdf_tree.specs.ExpressionGrammar.{name_alone, operator_of, grouped, ranked, is_sign, number, reference, signed, parens, unary, is_product, is_sum, is_relation, is_equality, is_conjunction, is_disjunction, product, sum, relation, equality, conjunction, disjunction, inside, branches, chosen, expr, outer, guard}
+use Rattle.jdf_tree.specs.ExpressionGrammar.{name_alone, operator_of, grouped, ranked, is_sign, number, reference}
+use Rattle.jdf_tree.specs.ExpressionGrammar.{signed, parens, unary, is_product, is_sum, is_relation, is_equality}
+use Rattle.jdf_tree.specs.ExpressionGrammar.{is_conjunction, is_disjunction, product, sum, relation, equality}
+use Rattle.jdf_tree.specs.ExpressionGrammar.{conjunction, disjunction, inside, branches, chosen, expr, outer, guard}
 use Rattle.print_laws.proofs.Digits.{IsNumber}
 use Rattle.print_laws.proofs.Limits.{number_of, fit_few, number_of-append}
 use Rattle.print_laws.proofs.Spent.{weight}
@@ -59,7 +63,8 @@ pub record Facts (s : List Token) (p : ExprWithSpot) (r : List Token) : Type 0 w
 abbrev pub FactsOf : Language ExprWithSpot → Type 0
 FactsOf G = (s : List Token) (p : ExprWithSpot) (o : Fault) (r : List Token) → G s p o r → o ≡ None → Every IsKnown s → Facts s p r
 
-module _ (R : (n : Nonterminal) → Language (TreeOf n)) (B : (n : Nonterminal) → Shortens (R n)) (E : FactsOf (R (an_expr Class))) (U : FactsOf (R (a_unary Class))) where
+module _ (R : (n : Nonterminal) → Language (TreeOf n)) (B : (n : Nonterminal) → Shortens (R n))
+    (E : FactsOf (R (an_expr Class))) (U : FactsOf (R (a_unary Class))) where
   rest_known : {A : Type 0} (g : Grammar A) (s : List Token) (t : A) (o : Fault) (r : List Token) → Derives R g s t o r → Every IsKnown s → Every IsKnown r
   rest_known g s t o r h known = known_rest s r (derives_has_end R B g s t o r h) known
 
@@ -68,7 +73,8 @@ module _ (R : (n : Nonterminal) → Language (TreeOf n)) (B : (n : Nonterminal) 
   abbrev pub Tail : (Terminal → Bool) → Grammar ExprWithSpot → Grammar (BinOp × ExprWithSpot)
   Tail ops g = seq (map operator_of (one_of ops)) g
 
-  tail_facts : (ops : Terminal → Bool) → is_within ops is_counted ≡ true → (g : Grammar ExprWithSpot) → FactsOf (Derives R g) → (s : List Token) (x : BinOp × ExprWithSpot) (o : Fault) (r : List Token)
+  tail_facts : (ops : Terminal → Bool) → is_within ops is_counted ≡ true → (g : Grammar ExprWithSpot)
+      → FactsOf (Derives R g) → (s : List Token) (x : BinOp × ExprWithSpot) (o : Fault) (r : List Token)
       → Derives R (Tail ops g) s x o r → o ≡ None → Every IsKnown s → IsWellFormed x.1.tree × (1 + weight x.1.tree + counted r ≤ counted s)
   tail_facts ops w g f s x o r h e known =
       let sign = h.3 in
@@ -76,15 +82,20 @@ module _ (R : (n : Nonterminal) → Language (TreeOf n)) (B : (n : Nonterminal) 
       let k = f h.0 x.1 h.2 r h.4 parts.1 (known_rest s h.0 (sign.0 ∷ [], sign.1.0.0) known) in
       (k.formed, omega (arith, k.spent, counts ops w s sign.0 h.0 sign.1.0))
 
-  many_facts : (ops : Terminal → Bool) → is_within ops is_counted ≡ true → (g : Grammar ExprWithSpot) → FactsOf (Derives R g) → (i n : ℕ) (a : Expression) → IsWellFormed a → (xs : List (BinOp × ExprWithSpot)) (s : List Token) (o : Fault) (r : List Token)
-      → weight a + counted s ≤ n → Many any (Derives R (Tail ops g)) i s xs o r → o ≡ None → Every IsKnown s → IsWellFormed (grouped a xs) × (weight (grouped a xs) + counted r ≤ n)
+  many_facts : (ops : Terminal → Bool) → is_within ops is_counted ≡ true → (g : Grammar ExprWithSpot)
+      → FactsOf (Derives R g) → (i n : ℕ) (a : Expression) → IsWellFormed a
+      → (xs : List (BinOp × ExprWithSpot)) (s : List Token) (o : Fault) (r : List Token)
+      → weight a + counted s ≤ n → Many any (Derives R (Tail ops g)) i s xs o r → o ≡ None → Every IsKnown s
+      → IsWellFormed (grouped a xs) × (weight (grouped a xs) + counted r ≤ n)
   many_facts ops w g f i n a formed [] s o r le h e known = (formed, omega (arith, le, ap counted h.0))
   many_facts ops w g f i n a formed (x ∷ xs) s o r le h e known =
       let parts = both_none h.1 (taken s h.0) h.2 (sym e ∙ h.5) in
       let k = tail_facts ops w g f s x h.1 h.0 h.3 parts.0 known in
-      many_facts ops w g f (suc i) n (Binary x.0 a x.1.tree) (formed, k.0) xs h.0 h.2 r (omega (arith, le, k.1)) h.4 parts.1 (rest_known (Tail ops g) s x h.1 h.0 h.3 known)
+      many_facts ops w g f (suc i) n (Binary x.0 a x.1.tree) (formed, k.0) xs h.0 h.2 r (omega (arith, le, k.1)) h.4
+      parts.1 (rest_known (Tail ops g) s x h.1 h.0 h.3 known)
 
-  ranked_facts : (ops : Terminal → Bool) → is_within ops is_counted ≡ true → (g : Grammar ExprWithSpot) → FactsOf (Derives R g) → FactsOf (Derives R (ranked ops g))
+  ranked_facts : (ops : Terminal → Bool) → is_within ops is_counted ≡ true → (g : Grammar ExprWithSpot)
+      → FactsOf (Derives R g) → FactsOf (Derives R (ranked ops g))
   ranked_facts ops w g f s p o r h e known =
       let a = h.0 in
       let q = h.1 in
@@ -97,7 +108,8 @@ module _ (R : (n : Nonterminal) → Language (TreeOf n)) (B : (n : Nonterminal) 
   -- ---- operands
 
   -- An expression after a token.
-  inside_facts : (k : Terminal) (s : List Token) (p : ExprWithSpot) (o : Fault) (r : List Token) → Derives R (inside k Class) s p o r → o ≡ None → Every IsKnown s
+  inside_facts : (k : Terminal) (s : List Token) (p : ExprWithSpot) (o : Fault) (r : List Token)
+      → Derives R (inside k Class) s p o r → o ≡ None → Every IsKnown s
       → (x : Token) × (m : List Token) × IsOne (is k) s x m × Facts m p r
   inside_facts k s p o r h e known =
       let x = h.0 in
@@ -153,14 +165,27 @@ module _ (R : (n : Nonterminal) → Language (TreeOf n)) (B : (n : Nonterminal) 
       let inner_parts = both_none None 1 b.1 (sym parts.0 ∙ b.4) in
       let k = E b.0 x.0.1 b.1 q.0 b.3 inner_parts.1 (known_rest s b.0 (x.0.0 ∷ [], b.2.0) known) in
       let F : ExprWithSpot → Type 0 = λ t. Facts s t r in
-      subst F h.2 (record { formed = k.formed; spent = omega (arith, k.spent, passes (is terminal.LeftParen) s x.0.0 b.0 b.2, passes (is terminal.RightParen) q.0 x.1 r q.4.0) })
+      subst F h.2 (record {
+        formed = k.formed;
+        spent = omega (
+          arith,
+          k.spent,
+          passes (is terminal.LeftParen) s x.0.0 b.0 b.2,
+          passes (is terminal.RightParen) q.0 x.1 r
+              q.4.0,
+        );
+      })
 
   pub unary_facts : FactsOf (Derives R (unary Class))
   unfolding unary
   unary_facts s p o r h e known =
       elim h [
         | inl u ↦ sign_facts s p o r u e known
-        | inr u ↦ elim u [ inl v ↦ number_facts s p o r v e known | inr v ↦ elim v [ inl w ↦ name_facts s p o r w e known | inr w ↦ parens_facts s p o r w e known ] ]
+        | inr u ↦ elim u [
+          | inl v ↦ number_facts s p o r v e known
+          | inr v ↦ elim v
+              [ inl w ↦ name_facts s p o r w e known | inr w ↦ parens_facts s p o r w e known ]
+        ]
       ]
 
   product_facts : FactsOf (Derives R (product Class))
@@ -187,20 +212,31 @@ module _ (R : (n : Nonterminal) → Language (TreeOf n)) (B : (n : Nonterminal) 
   unfolding disjunction is_counted
   disjunction_facts = ranked_facts is_disjunction refl (conjunction Class) conjunction_facts
 
-  branches_facts : (s : List Token) (t : ExprWithSpot × ExprWithSpot) (o : Fault) (r : List Token) → Derives R (branches Class) s t o r → o ≡ None → Every IsKnown s
+  branches_facts : (s : List Token) (t : ExprWithSpot × ExprWithSpot) (o : Fault) (r : List Token)
+      → Derives R (branches Class) s t o r → o ≡ None → Every IsKnown s
       → IsWellFormed t.0.tree × IsWellFormed t.1.tree × (1 + (weight t.0.tree + weight t.1.tree) + counted r ≤ counted s)
   unfolding branches is_counted
   branches_facts s t o r h e known =
       let parts = both_none h.1 (taken s h.0) h.2 (sym e ∙ h.5) in
       let a = inside_facts terminal.Question s t.0 h.1 h.0 h.3 parts.0 known in
-      let b = inside_facts terminal.Colon h.0 t.1 h.2 r h.4 parts.1 (rest_known (inside terminal.Question Class) s t.0 h.1 h.0 h.3 known) in
-      (a.3.formed, b.3.formed, omega (arith, a.3.spent, b.3.spent, counts (is terminal.Question) refl s a.0 a.1 a.2, passes (is terminal.Colon) h.0 b.0 b.1 b.2))
+      let b = inside_facts terminal.Colon h.0 t.1 h.2 r h.4 parts.1 (rest_known (inside terminal.Question Class) s t.0 h.1 h.0 h.3 known) in (
+        a.3.formed,
+        b.3.formed,
+        omega (
+          arith,
+          a.3.spent,
+          b.3.spent,
+          counts (is terminal.Question) refl s a.0 a.1 a.2,
+          passes (is terminal.Colon) h.0 b.0 b.1 b.2,
+        ),
+      )
 
   pub expr_facts : FactsOf (Derives R (expr Class))
   unfolding expr
   expr_facts s p o r h e known = subst (λ t. Facts s t r) h.2 (go h.0.0 h.0.1 h.1)
     where
-      go : (c : ExprWithSpot) (x : Option (ExprWithSpot × ExprWithSpot)) → Derives R (seq (disjunction Class) (opt (branches Class))) s (c, x) o r → Facts s (chosen (c, x)) r
+      go : (c : ExprWithSpot) (x : Option (ExprWithSpot × ExprWithSpot))
+          → Derives R (seq (disjunction Class) (opt (branches Class))) s (c, x) o r → Facts s (chosen (c, x)) r
       go c None q =
           let parts = both_none q.1 (taken s q.0) q.2 (sym e ∙ q.5) in
           let k = disjunction_facts s c q.1 q.0 q.3 parts.0 known in

@@ -23,7 +23,8 @@ differ i k other = by (same_task (task_of i) (task_of k)) refl
     by true e = absurd (true≢false (sym ((unsigned_Decides i k).1 (number_is i k ((same_task-decides (task_of i) (task_of k)).0 e))) ∙ other))
 
 -- the entry of another task stays
-stays : (old new : Entries) (i k : ℕ) (w : Option Entry) → Updates old new (task_of i) w → nat_eq i k ≡ false → entry_in new (task_of k) ≡ entry_in old (task_of k)
+stays : (old new : Entries) (i k : ℕ) (w : Option Entry) → Updates old new (task_of i) w → nat_eq i k ≡ false
+    → entry_in new (task_of k) ≡ entry_in old (task_of k)
 stays old new i k w up other = up (task_of k) ∙ ap (λ b. cond b w (entry_in old (task_of k))) (differ i k other)
 
 -- the task itself has the new entry

@@ -302,9 +302,12 @@ module _ (old new : List Read) where
 
 -- ---- the action on the consistent job that `check` found
 
-module _ (old middle new : List Read) (failed failed_between failed_since : List ℕ → ℕ) (source : Source) (action : Action) (P : Plan) (given : Data) (checked : Denotation) (e : checked ≡ verdicts.Job (jobs.Consistent P given))
+module _ (old middle new : List Read) (failed failed_between failed_since : List ℕ → ℕ) (source : Source)
+    (action : Action) (P : Plan) (given : Data) (checked : Denotation)
+    (e : checked ≡ verdicts.Job (jobs.Consistent P given))
     (h : CheckEndsWith old middle failed failed_between source checked) where
-  acted : (v : Denotation) → ActionEndsWith middle new failed_between failed_since action P given v → IsActed old new failed failed_since source action P given v
+  acted : (v : Denotation) → ActionEndsWith middle new failed_between failed_since action P given v
+      → IsActed old new failed failed_since source action P given v
   acted v ends =
       acted_after old middle new failed failed_between failed_since action P given v ends source
       (subst (λ (c : Denotation). CheckEndsWith old middle failed failed_between source c) e h)

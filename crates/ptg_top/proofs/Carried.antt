@@ -25,8 +25,10 @@ if_some : (table : Option Settings) (A : Type 0) → IsSome table → IfSome tab
 if_some None A some h = absurd (false≢true some)
 if_some (Some settings) A some h = h
 
-module _ (words : List (List ℕ)) (old new : List Read) (command : Order) (steps : Command) (formed : Orders words command) (is : steps ≡ command_of command) where
-  pub command_ends : (failed failed_since : List ℕ → ℕ) (r : Result Verdict OutOfMemory) → IfOk r (λ v. StepsEndWith old new failed failed_since steps (denoted v))
+module _ (words : List (List ℕ)) (old new : List Read) (command : Order) (steps : Command)
+    (formed : Orders words command) (is : steps ≡ command_of command) where
+  pub command_ends : (failed failed_since : List ℕ → ℕ) (r : Result Verdict OutOfMemory)
+      → IfOk r (λ v. StepsEndWith old new failed failed_since steps (denoted v))
       → IfOk r (λ v. IsVerdictOnWords words old new failed failed_since (denoted v))
   command_ends failed failed_since (Ok v) h =
       let Ends : List (List ℕ) → Command → Type 0 =

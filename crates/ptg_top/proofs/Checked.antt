@@ -27,7 +27,9 @@ module _ (old new : List Read) (failed failed_since : List ℕ → ℕ) (text da
   data_ends data_text job loaded h = inr (job, refl, data_text, h, loaded)
 
   -- a data file that is too long
-  pub long_data_ends : (J : Jdf) (fault : DataFault) → IsJdf text J → fault ≡ too_long → (data_text : List ℕ) × (16777216 < length data_text) × IsLoaded (load_of data_name data_text) old new → NoneFailed failed failed_since
+  pub long_data_ends : (J : Jdf) (fault : DataFault) → IsJdf text J → fault ≡ too_long
+      → (data_text : List ℕ) × (16777216 < length data_text) × IsLoaded (load_of data_name data_text) old new
+      → NoneFailed failed failed_since
       → CheckOfDataEndsWith old new failed failed_since text data_name (verdicts.Job (jobs.Data fault))
   long_data_ends J fault tree e long none =
       inr (jobs.Data fault, refl, long.0, inr (inl (J, fault, tree, inl (record { long = long.1; fault_is = e }), refl)), (long.2, none))

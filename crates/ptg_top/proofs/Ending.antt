@@ -29,7 +29,8 @@ module _ (words : List (List ℕ)) (old new : List Read) (failed failed_since : 
   abbrev pub IsOnLoads : Type 0
   IsOnLoads = (loads : List Load) × HasLoaded words old new loads × Denotes words (in_loads loads) v
 
-  on_loads : (command : Order) (loads : List Load) → Orders words command → AreOf loads (files_of command) → CommandDenotes (in_loads loads) command v → EndsAfter old new loads failed failed_since v → WasRead → IsOnLoads
+  on_loads : (command : Order) (loads : List Load) → Orders words command → AreOf loads (files_of command)
+      → CommandDenotes (in_loads loads) command v → EndsAfter old new loads failed failed_since v → WasRead → IsOnLoads
   on_loads command loads formed names h (inl (name, e, after)) read = absurd (read name e after.3)
   on_loads command loads formed names h (inr (of, gave, none)) read = (loads, (inr (command, formed, names), gave), inr (command, formed, h))
 
@@ -41,7 +42,8 @@ module _ (words : List (List ℕ)) (old new : List Read) (failed failed_since : 
   prints : (before after : List ℕ) (s : Status) → IsOnLoads → after ≡ before ++ text_of v → s ≡ status_of v → PrintsLoaded words old new before after s
   prints before after s on text ends = (on.0, on.1, record { verdict = v; denoted = on.2; text = text; ends = ends })
 
-  pub exact_prints : (before after : List ℕ) (s : Status) → IsVerdictOnWords words old new failed failed_since v → after ≡ before ++ text_of v → s ≡ status_of v → IsExact s → PrintsLoaded words old new before after s
+  pub exact_prints : (before after : List ℕ) (s : Status) → IsVerdictOnWords words old new failed failed_since v
+      → after ≡ before ++ text_of v → s ≡ status_of v → IsExact s → PrintsLoaded words old new before after s
   exact_prints before after s h text ends exact = prints before after s (is_denoted h (λ name e rose. subst IsExact (ends ∙ ap status_of e) exact)) text ends
 
   none_failed_after : (loads : List Load) → EndsAfter old new loads failed failed_since v → IsExact (status_of v) → NoneFailed failed failed_since
@@ -104,7 +106,8 @@ exact_texts (verdicts.Spelling text) h = tt
 exact_texts verdicts.PreloadTooLarge h = tt
 exact_texts (verdicts.TraceRefused fault) h = tt
 
-module _ (words : List (List ℕ)) (old new : List Read) (failed failed_since : List ℕ → ℕ) (v : Denotation) (none : (name : List ℕ) → Rose (failed name) (failed_since name) → ⊥) where
+module _ (words : List (List ℕ)) (old new : List Read) (failed failed_since : List ℕ → ℕ) (v : Denotation)
+    (none : (name : List ℕ) → Rose (failed name) (failed_since name) → ⊥) where
   exact_after : (loads : List Load) → EndsAfter old new loads failed failed_since v → IsExact (status_of v)
   exact_after loads (inl (name, e, after)) = absurd (none name after.3)
   exact_after loads (inr (of, gave, same)) = exact_texts v of
@@ -113,7 +116,8 @@ module _ (words : List (List ℕ)) (old new : List Read) (failed failed_since : 
   exact_without_faults (inl h) = subst IsExact (sym (ap status_of h.1)) tt
   exact_without_faults (inr (command, formed, h)) = exact_after h.loads h.reads
 
-  pub complete_prints : (before after : List ℕ) (s : Status) → IsVerdictOnWords words old new failed failed_since v → after ≡ before ++ text_of v → s ≡ status_of v
+  pub complete_prints : (before after : List ℕ) (s : Status) → IsVerdictOnWords words old new failed failed_since v
+      → after ≡ before ++ text_of v → s ≡ status_of v
       → (IsExact s × PrintsLoaded words old new before after s) ⊎ (s ≡ status.OutOfMemory)
   complete_prints before after s h text ends =
       let exact : IsExact s = subst IsExact (sym ends) (exact_without_faults h) in
@@ -141,7 +145,9 @@ module _ (words : List (List ℕ)) (old new : List Read) (failed failed_since : 
   no_write_fault_after loads (inl (name, d, after)) e = not_write_but_read_fault (sym (ap status_of d) ∙ e)
   no_write_fault_after loads (inr (of, gave, none)) e = (of_texts v of).2 e
 
-  unread_after : (command : Order) (loads : List Load) → Orders words command → AreOf loads (files_of command) → CommandDenotes (in_loads loads) command v → EndsAfter old new loads failed failed_since v → status_of v ≡ status.ReadFault
+  unread_after : (command : Order) (loads : List Load) → Orders words command → AreOf loads (files_of command)
+      → CommandDenotes (in_loads loads) command v → EndsAfter old new loads failed failed_since v
+      → status_of v ≡ status.ReadFault
       → (name : List ℕ) × IsUnread words old new failed failed_since name × (text_of v ≡ unread_line name)
   unread_after command loads formed names h (inl (name, d, after)) e = (
     name,

@@ -28,7 +28,8 @@ fault_refuses text fault h = (jobs.Jdf fault, (fault, h, refl), refl)
 pub same_fault_refuses : (text : List ℕ) (f g : JdfFault) → g ≡ f → IsJdfFault text f → RefusesText text (verdicts.Job (jobs.Jdf g))
 same_fault_refuses text f g e h = fault_refuses text g (subst (IsJdfFault text) (sym e) h)
 
-pub long_refuses : (text : List ℕ) (fault : JdfFault) → fault ≡ record { spot = first_spot; code = jdf_codes.TooLong } → 16777216 < length text → RefusesText text (verdicts.Job (jobs.Jdf fault))
+pub long_refuses : (text : List ℕ) (fault : JdfFault) → fault ≡ record { spot = first_spot; code = jdf_codes.TooLong }
+    → 16777216 < length text → RefusesText text (verdicts.Job (jobs.Jdf fault))
 long_refuses text fault e long = fault_refuses text fault (inl (record { long = long; fault_is = e }))
 
 -- a verdict on a job is one on texts
@@ -38,7 +39,8 @@ job_is_of_texts v job e = subst IsOfTexts (sym e) tt
 module _ (old new : List Read) (failed failed_since : List ℕ → ℕ) where
   module _ (name text : List ℕ) (loaded : LoadedAs old new failed failed_since name text) where
     -- a tree of the text that was read
-    pub tree_read : (r : Result (Result Jdf Verdict) OutOfMemory) → IfOk r (λ read. IfOk read (IsJdf text)) → IfOk r (λ read. IfOk read (IsTreeRead old new failed failed_since name))
+    pub tree_read : (r : Result (Result Jdf Verdict) OutOfMemory) → IfOk r (λ read. IfOk read (IsJdf text))
+        → IfOk r (λ read. IfOk read (IsTreeRead old new failed failed_since name))
     tree_read (Ok (Ok J)) h = (text, h, loaded)
     tree_read (Ok (Err v)) h = tt
     tree_read (Err x) h = tt
@@ -52,11 +54,14 @@ module _ (old new : List Read) (failed failed_since : List ℕ → ℕ) where
 
   -- a file that is too long
   pub long_is_refused : (name : List ℕ) (fault : JdfFault) → fault ≡ record { spot = first_spot; code = jdf_codes.TooLong }
-      → (text : List ℕ) × (16777216 < length text) × IsLoaded (load_of name text) old new → NoneFailed failed failed_since → TreeIsRefused old new failed failed_since name (verdicts.Job (jobs.Jdf fault))
+      → (text : List ℕ) × (16777216 < length text) × IsLoaded (load_of name text) old new
+      → NoneFailed failed failed_since → TreeIsRefused old new failed failed_since name
+      (verdicts.Job (jobs.Jdf fault))
   long_is_refused name fault e long none = inr (tt, long.0, long_refuses long.0 fault e long.1, (long.2, none))
 
   -- what `show` denotes
-  pub tree_shown : (jdf : List ℕ) (J : Jdf) (text : List ℕ) → IsTreeRead old new failed failed_since jdf J → text ≡ spelling J → StepsEndWith old new failed failed_since (Show jdf) (verdicts.Spelling text)
+  pub tree_shown : (jdf : List ℕ) (J : Jdf) (text : List ℕ) → IsTreeRead old new failed failed_since jdf J
+      → text ≡ spelling J → StepsEndWith old new failed failed_since (Show jdf) (verdicts.Spelling text)
   tree_shown jdf J text read e =
       record {
         loads = load_of jdf read.0 ∷ [];

@@ -21,7 +21,8 @@ module _ (P : Plan) (s : Settings) (G : Data) where
   refused_is_answer bytes h = subst (λ large. verdicts.PreloadTooLarge ≡ verdict_at large) (sym h) refl
 
   -- an answer, if no preload was refused
-  pub fitting_is_answer : (v : Denotation) → ((bytes : ℕ) → too_large_preload s P ≡ Some bytes → ⊥) → v ≡ verdicts.Ran P (Answer (answer P G)) → IsAnswer s P G v
+  pub fitting_is_answer : (v : Denotation) → ((bytes : ℕ) → too_large_preload s P ≡ Some bytes → ⊥)
+      → v ≡ verdicts.Ran P (Answer (answer P G)) → IsAnswer s P G v
   fitting_is_answer v none e = fits (too_large_preload s P) none
     where
       fits : (large : Option ℕ) → ((bytes : ℕ) → large ≡ Some bytes → ⊥) → v ≡ verdict_at large

@@ -33,7 +33,8 @@ a_finding_has_its_status (findings.Cycle found) = tt
 a_finding_has_its_status (findings.Trace text) = tt
 a_finding_has_its_status (findings.Ranked found) = an_answer_has_its_status found.outcome
 
-module _ (words : List (List ℕ)) (old new : List Read) (v : Verdict) (found : Option ReceiptView) (is : found ≡ receipt_of v) (has : HasReceiptForWords words old new v) where
+module _ (words : List (List ℕ)) (old new : List Read) (v : Verdict) (found : Option ReceiptView)
+    (is : found ≡ receipt_of v) (has : HasReceiptForWords words old new v) where
   abbrev HasReceipt : Option ReceiptView → Type 0
   HasReceipt o =
       MatchOption o

@@ -22,11 +22,16 @@ use Rattle.ptg_top.specs.Reports.{IsOfTexts, NoneFailed}
 use Rattle.ptg_top.specs.Steps.{LoadedAs, ReplayEndsWith}
 
 -- a text that is accepted has no fault, and so it is a trace
-pub accepted : (P : Plan) (given : Data) → IsConsistent P → (text : List ℕ) (r : Result Outcome TraceFault) (o : Outcome) → r ≡ Ok o → ((f : TraceFault) → IsTraceFault P given text f → r ≡ Err f)
+pub accepted : (P : Plan) (given : Data) → IsConsistent P → (text : List ℕ) (r : Result Outcome TraceFault)
+    (o : Outcome) → r ≡ Ok o → ((f : TraceFault) → IsTraceFault P given text f → r ≡ Err f)
     → IfOk r (λ x. x ≡ answer P given) → IsReplayOf text P given (verdicts.Ran P (Answer o))
 accepted P given con text r o is refused answered = elim (fault_or_trace P given con text) [
   | inl p ↦ let e : Ok o ≡ Err p.0 = sym is ∙ refused p.0 p.1 in absurd cc
-  | inr found ↦ inr (found, ap (λ (x : Outcome). verdicts.Ran P (Answer x)) (subst (λ (q : Result Outcome TraceFault). IfOk q (λ x. x ≡ answer P given)) is answered))
+  | inr found ↦ inr (
+    found,
+    ap (λ (x : Outcome). verdicts.Ran P (Answer x))
+        (subst (λ (q : Result Outcome TraceFault). IfOk q (λ x. x ≡ answer P given)) is answered),
+  )
 ]
 
 module _ (old new : List Read) (failed failed_since : List ℕ → ℕ) (trace : List ℕ) (P : Plan) (given : Data) where
@@ -41,6 +46,7 @@ module _ (old new : List Read) (failed failed_since : List ℕ → ℕ) (trace :
   read_ends text (Err x) loaded h = tt
 
   -- a trace file that is too long
-  pub long_ends : (f : TraceFault) → f ≡ too_long → (text : List ℕ) × (16777216 < length text) × IsLoaded (load_of trace text) old new → NoneFailed failed failed_since
+  pub long_ends : (f : TraceFault) → f ≡ too_long → (text : List ℕ) × (16777216 < length text)
+      × IsLoaded (load_of trace text) old new → NoneFailed failed failed_since
       → ReplayEndsWith old new failed failed_since trace P given (verdicts.TraceRefused f)
   long_ends f is long none = inr (tt, long.0, inl (f, of_spelling (over_length long.1 is), refl), (long.2, none))

@@ -17,7 +17,8 @@ use Rattle.ptg_top.proofs.JdfFiles.{job_is_of_texts}
 
 module _ (n : ℕ) where
   -- texts that are those of the made job denote what these denote
-  pub made_denoted : (text data_text_of : List ℕ) (job : JobVerdict) → text ≡ jdf_text → data_text_of ≡ data_text n → TextsDenote text data_text_of job → MadeTextsDenote n (verdicts.Job job)
+  pub made_denoted : (text data_text_of : List ℕ) (job : JobVerdict) → text ≡ jdf_text → data_text_of ≡ data_text n
+      → TextsDenote text data_text_of job → MadeTextsDenote n (verdicts.Job job)
   made_denoted text data_text_of job e d h =
       let made : TextsDenote text (data_text n) job = subst (λ (t : List ℕ). TextsDenote text t job) d h in
       (job, subst (λ (t : List ℕ). TextsDenote t (data_text n) job) e made, refl)

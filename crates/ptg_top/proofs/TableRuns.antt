@@ -14,7 +14,8 @@ use Rattle.ptg_top.specs.Tables.{IsTableAnswer}
 
 module _ (s : Settings) (P : Plan) (G : Data) where
   -- a table that was closed when it was quiet ran the job that was made ready
-  pub closed_is_run : (p : Run) (t : ClosedView) (r : ReceiptView) (outcome : Outcome) → p ≡ run_of P G s → t.job ≡ p.job → t.passes ≡ p.workers → r ≡ receipt_of t outcome
+  pub closed_is_run : (p : Run) (t : ClosedView) (r : ReceiptView) (outcome : Outcome) → p ≡ run_of P G s
+      → t.job ≡ p.job → t.passes ≡ p.workers → r ≡ receipt_of t outcome
       → outcome ≡ answer t.job.matched t.job.given → IsTableAnswer s P G r outcome
   closed_is_run p t r outcome run job passes receipt ended =
       let same : t.job ≡ (run_of P G s).job = job ∙ ap (λ (q : Run). q.job) run in
@@ -39,6 +40,7 @@ module _ (s : Settings) (P : Plan) (G : Data) where
 
   module _ (r : ReceiptView) (outcome : Outcome) (h : IsTableAnswer s P G r outcome) where
     -- the finding from its answer
-    pub found_of_run : (find : Outcome → Finding) (finding : Finding) → finding ≡ find outcome → verdicts.Ran r.plan finding ≡ verdicts.Ran P (find (answer P G))
+    pub found_of_run : (find : Outcome → Finding) (finding : Finding) → finding ≡ find outcome
+        → verdicts.Ran r.plan finding ≡ verdicts.Ran P (find (answer P G))
     found_of_run find finding is =
         ap (λ (Q : Plan). verdicts.Ran Q finding) h.job.0 ∙ ap (λ (f : Finding). verdicts.Ran P f) (is ∙ ap find h.answered)

@@ -23,7 +23,8 @@ ran_tasks P Q G ts us plan same order =
     subst (λ (R : Plan). AllByRecursion (IsTask R) us) (sym plan) (subst (AllByRecursion (IsTask P)) (sym same) (order_tasks P ts order.legal))
 
 -- the text of the tasks of a run, in the order in which they ran
-pub traced_by : (s : Settings) (P : Plan) (G : Data) (p : Run) (r : ReceiptView) (outcome : Outcome) (ts us : List Task) (text : List ℕ) (Q : Plan) → p ≡ run_of P G s → IsTableAnswer s P G r outcome
+pub traced_by : (s : Settings) (P : Plan) (G : Data) (p : Run) (r : ReceiptView) (outcome : Outcome) (ts us : List Task)
+    (text : List ℕ) (Q : Plan) → p ≡ run_of P G s → IsTableAnswer s P G r outcome
     → IsWholeOrder p.job.matched p.job.given ts → Q ≡ r.plan → us ≡ ts → text ≡ trace_text Q us → IsTraced P G (verdicts.Ran r.plan (Trace text))
 traced_by s P G p r outcome ts us text Q run of order plan same is =
     let here : IsWholeOrder P G ts = subst (λ (q : Run). IsWholeOrder q.job.matched q.job.given ts) run order in

@@ -1,5 +1,6 @@
 -- How counts continue from one part of a walk to the next.
-use Rattle.std.proofs.Common.{◌≡◌, ℕ, suc, ◌+◌, ◌<◌, ◌≤◌, ◌⊎◌, inl, inr, ℤ, List, [], ◌∷◌, ◌++◌, length, refl, ap, sym, ◌∙◌, append_assoc, add-zero, Result, Ok, Err, length-append, arith}
+use Rattle.std.proofs.Common.{◌≡◌, ℕ, suc, ◌+◌, ◌<◌, ◌≤◌, ◌⊎◌, inl, inr, ℤ, List, [], ◌∷◌, ◌++◌, length, refl, ap, sym}
+use Rattle.std.proofs.Common.{◌∙◌, append_assoc, add-zero, Result, Ok, Err, length-append, arith}
 use Rattle.std.proofs.lemmas.List.{length-map}
 use Rattle.std.proofs.lemmas.Bool.{cases_lt}
 use Rattle.std.specs.Result.{result_unwrap_or}
@@ -12,7 +13,8 @@ use Rattle.range_space.specs.Values.{values}
 use Rattle.range_space.specs.Fault.{Bounds}
 use Rattle.range_space.specs.Tasks.{full_lists, def_values, params_of}
 use Rattle.range_space.specs.ListsAfter.{def_bounds, lists_over}
-use Rattle.range_space.specs.Walk.{Visit, Prefix, Task, NoValue, visits, walk, walk_among, walk_all, task_count, prefix_count, AllHaveValues, StopsAt, IsFirstFault, IsWalked, task_total}
+use Rattle.range_space.specs.Walk.{Visit, Prefix, Task, NoValue, visits, walk, walk_among, walk_all, task_count}
+use Rattle.range_space.specs.Walk.{prefix_count, AllHaveValues, StopsAt, IsFirstFault, IsWalked, task_total}
 use Rattle.range_space.proofs.Nesting.{def_values-bounds, def_values-fault}
 
 pub task_count-append : (xs ys : List Visit) → task_count (xs ++ ys) ≡ task_count xs + task_count ys
@@ -56,7 +58,12 @@ walked_more t p t' p' t'' p'' xs ys w u =
     let g = u.unstopped.tasks_at_most in
     let h = u.unstopped.prefixes_at_most in
     record {
-      unstopped = record { all_have_values = AllHaveValues-append xs ys w.unstopped.all_have_values u.unstopped.all_have_values; tasks_at_most = omega arith; prefixes_at_most = omega arith };
+      unstopped = record {
+        all_have_values = AllHaveValues-append xs ys w.unstopped.all_have_values
+            u.unstopped.all_have_values;
+        tasks_at_most = omega arith;
+        prefixes_at_most = omega arith;
+      };
       all_tasks = omega arith;
       all_prefixes = omega arith;
     }
@@ -75,7 +82,8 @@ fault_before t p xs ys f w = record {
 -- the first fault of the second part is that of both parts, if nothing stops the first part
 pub fault_after : (t p t' p' : ℕ) (xs ys : List Visit) (f : SpaceFault) → IsWalked t p t' p' xs → IsFirstFault t' p' ys f → IsFirstFault t p (xs ++ ys) f
 fault_after t p t' p' xs ys f w u =
-    let both = walked_more t p t' p' (t' + task_count u.before) (p' + prefix_count u.before) xs u.before w (record { unstopped = u.unstopped; all_tasks = refl; all_prefixes = refl }) in
+    let both = walked_more t p t' p' (t' + task_count u.before) (p' + prefix_count u.before) xs u.before w
+    (record { unstopped = u.unstopped; all_tasks = refl; all_prefixes = refl }) in
     record {
       before = xs ++ u.before;
       visit = u.visit;
@@ -86,14 +94,18 @@ fault_after t p t' p' xs ys f w u =
     }
 
 -- the walk under a definition, given its bounds
-pub walk-bounds : (class : ℕ) (d : Def) (ds : List Def) (outer : List ℤ) (b : Bounds) → def_bounds d outer ≡ Ok b → walk class (d ∷ ds) outer ≡ walk_among class ds outer (values b.lo b.hi b.step)
+pub walk-bounds : (class : ℕ) (d : Def) (ds : List Def) (outer : List ℤ) (b : Bounds) → def_bounds d outer ≡ Ok b
+    → walk class (d ∷ ds) outer ≡ walk_among class ds outer (values b.lo b.hi b.step)
 walk-bounds class d ds outer b e = ap (visits (λ v. Prefix class ∷ walk class ds (outer ++ v ∷ [])) (NoValue class outer)) (def_values-bounds d outer b e)
 
-pub walk-fault : (class : ℕ) (d : Def) (ds : List Def) (outer : List ℤ) (f : SpanFault) → def_bounds d outer ≡ Err f → walk class (d ∷ ds) outer ≡ NoValue class outer ∷ []
+pub walk-fault : (class : ℕ) (d : Def) (ds : List Def) (outer : List ℤ) (f : SpanFault) → def_bounds d outer ≡ Err f
+    → walk class (d ∷ ds) outer ≡ NoValue class outer ∷ []
 walk-fault class d ds outer f e = ap (visits (λ v. Prefix class ∷ walk class ds (outer ++ v ∷ [])) (NoValue class outer)) (def_values-fault d outer f e)
 
 -- there is a task for each full list of locals
-among_count : (class : ℕ) (ds : List Def) (outer : List ℤ) → ((b : List ℤ) → task_count (walk class ds b) ≡ length (full_lists ds b)) → (vs : List ℤ) → task_count (walk_among class ds outer vs) ≡ length (lists_over ds outer vs)
+among_count : (class : ℕ) (ds : List Def) (outer : List ℤ) →
+    ((b : List ℤ) → task_count (walk class ds b) ≡ length (full_lists ds b)) → (vs : List ℤ)
+    → task_count (walk_among class ds outer vs) ≡ length (lists_over ds outer vs)
 among_count class ds outer nested [] = refl
 among_count class ds outer nested (v ∷ vs) =
     task_count-append (walk class ds (outer ++ v ∷ [])) (walk_among class ds outer vs)
@@ -101,7 +113,10 @@ among_count class ds outer nested (v ∷ vs) =
     ∙ ap (λ n. length (full_lists ds (outer ++ v ∷ [])) + n) (among_count class ds outer nested vs)
     ∙ sym (length-append (full_lists ds (outer ++ v ∷ [])) (lists_over ds outer vs))
 
-under_count : (class : ℕ) (ds : List Def) (outer : List ℤ) → ((b : List ℤ) → task_count (walk class ds b) ≡ length (full_lists ds b)) → (r : Result (List ℤ) SpanFault) → task_count (visits (λ v. Prefix class ∷ walk class ds (outer ++ v ∷ [])) (NoValue class outer) r) ≡ length (lists_over ds outer (result_unwrap_or r []))
+under_count : (class : ℕ) (ds : List Def) (outer : List ℤ) →
+    ((b : List ℤ) → task_count (walk class ds b) ≡ length (full_lists ds b)) → (r : Result (List ℤ) SpanFault)
+    → task_count (visits (λ v. Prefix class ∷ walk class ds (outer ++ v ∷ [])) (NoValue class outer) r)
+    ≡ length (lists_over ds outer (result_unwrap_or r []))
 under_count class ds outer nested (Ok vs) = among_count class ds outer nested vs
 under_count class ds outer nested (Err e) = refl
 
@@ -128,25 +143,30 @@ module _ (t p t' p' class : ℕ) (ds : List Def) (outer all left : List ℤ) (v 
     (next : left ≡ v ∷ more) (w : IsSoFar t p t' p' class ds outer all left) where
   -- what is left: the prefix, what is nested in it, and the rest
   left-apart : walk_among class ds outer all ≡ (w.done ++ Prefix class ∷ []) ++ walk class ds (outer ++ v ∷ []) ++ walk_among class ds outer more
-  left-apart = w.split ∙ ap (λ l. w.done ++ walk_among class ds outer l) next ∙ regroup w.done (Prefix class) (walk class ds (outer ++ v ∷ [])) (walk_among class ds outer more)
+  left-apart = w.split ∙ ap (λ l. w.done ++ walk_among class ds outer l) next
+      ∙ regroup w.done (Prefix class) (walk class ds (outer ++ v ∷ [])) (walk_among class ds outer more)
     where
       regroup : (xs : List Visit) (m : Visit) (ys zs : List Visit) → xs ++ ((m ∷ ys) ++ zs) ≡ (xs ++ m ∷ []) ++ ys ++ zs
       regroup xs m ys zs = simp append_assoc
 
   pub fault_at_prefix : (f : SpaceFault) → IsFirstFault t' p' (Prefix class ∷ []) f → IsFirstFault t p (walk_among class ds outer all) f
   fault_at_prefix f u =
-      rw left-apart (fault_before t p _ (walk_among class ds outer more) f (fault_before t p _ (walk class ds (outer ++ v ∷ [])) f (fault_after t p t' p' w.done (Prefix class ∷ []) f w.walked u)))
+      rw left-apart (fault_before t p _ (walk_among class ds outer more) f
+      (fault_before t p _ (walk class ds (outer ++ v ∷ [])) f
+      (fault_after t p t' p' w.done (Prefix class ∷ []) f w.walked u)))
 
   module _ (t'' p'' : ℕ) (one : IsWalked t' p' t'' p'' (Prefix class ∷ [])) where
     pub fault_inside : (f : SpaceFault) → IsFirstFault t'' p'' (walk class ds (outer ++ v ∷ [])) f → IsFirstFault t p (walk_among class ds outer all) f
     fault_inside f u =
-        rw left-apart (fault_before t p _ (walk_among class ds outer more) f (fault_after t p t'' p'' _ _ f (walked_more _ _ t' p' _ _ w.done (Prefix class ∷ []) w.walked one) u))
+        rw left-apart (fault_before t p _ (walk_among class ds outer more) f
+        (fault_after t p t'' p'' _ _ f (walked_more _ _ t' p' _ _ w.done (Prefix class ∷ []) w.walked one) u))
 
     pub one_more : (t3 p3 : ℕ) → IsWalked t'' p'' t3 p3 (walk class ds (outer ++ v ∷ [])) → IsSoFar t p t3 p3 class ds outer all more
     one_more t3 p3 u = record {
       done = (w.done ++ Prefix class ∷ []) ++ walk class ds (outer ++ v ∷ []);
       split = left-apart;
-      walked = walked_more _ _ t'' p'' _ _ (w.done ++ Prefix class ∷ []) (walk class ds (outer ++ v ∷ [])) (walked_more _ _ t' p' _ _ w.done (Prefix class ∷ []) w.walked one) u;
+      walked = walked_more _ _ t'' p'' _ _ (w.done ++ Prefix class ∷ []) (walk class ds (outer ++ v ∷ []))
+          (walked_more _ _ t' p' _ _ w.done (Prefix class ∷ []) w.walked one) u;
     }
 
 -- under the last definition of a class the walk visits a prefix and a task for each value
@@ -162,7 +182,8 @@ prefixes_of_values : (class : ℕ) (vs : List ℤ) → prefix_count (walk_among 
 prefixes_of_values class [] = refl
 prefixes_of_values class (v ∷ vs) = ap suc (prefixes_of_values class vs)
 
-pub values_counted : (t p t' p' class : ℕ) (vs : List ℤ) → t' ≡ t + length vs → p' ≡ p + length vs → t' ≤ 1000000 → p' ≤ 16000000 → IsWalked t p t' p' (walk_among class [] [] vs)
+pub values_counted : (t p t' p' class : ℕ) (vs : List ℤ) → t' ≡ t + length vs → p' ≡ p + length vs → t' ≤ 1000000
+    → p' ≤ 16000000 → IsWalked t p t' p' (walk_among class [] [] vs)
 values_counted t p t' p' class vs d e h k =
     let f = tasks_of_values class vs in
     let g = prefixes_of_values class vs in
@@ -187,7 +208,9 @@ one_prefix t p class h k = record {
 }
 
 -- if there are more values than room, the first prefix or task without room stops the walk
-pub values_refused : (t p class : ℕ) (vs : List ℤ) → t ≤ 1000000 → p ≤ 16000000 → (1000000 < t + length vs) ⊎ (16000000 < p + length vs) → IsFirstFault t p (walk_among class [] [] vs) (TooManyTasks class)
+pub values_refused : (t p class : ℕ) (vs : List ℤ) → t ≤ 1000000 → p ≤ 16000000
+    → (1000000 < t + length vs) ⊎ (16000000 < p + length vs)
+    → IsFirstFault t p (walk_among class [] [] vs) (TooManyTasks class)
 values_refused t p class [] h k more = absurd (elim more [ inl a ↦ omega arith | inr b ↦ omega arith ])
 values_refused t p class (v ∷ vs) h k more = elim (cases_lt p 16000000) [
   | inr full ↦ fault_before t p (Prefix class ∷ []) (Task class ∷ walk_among class [] [] vs) _ (stops_at_once t p (Prefix class) _ h k (omega arith, refl))

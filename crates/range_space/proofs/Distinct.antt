@@ -1,5 +1,6 @@
 -- No list of locals and no task of a class occurs twice, and parameters determine locals.
-use Rattle.std.proofs.Common.{◌≡◌, ℕ, zero, suc, ℤ, pos, negsuc, ◌+ℤ◌, true, List, [], ◌∷◌, ◌++◌, length, refl, ap, sym, ◌∙◌, zero-add, Some, None, IsSome, Result, Ok, Err, inl, inr, Option, arith}
+use Rattle.std.proofs.Common.{◌≡◌, ℕ, zero, suc, ℤ, pos, negsuc, ◌+ℤ◌, true, List, [], ◌∷◌, ◌++◌, length, refl, ap, sym}
+use Rattle.std.proofs.Common.{◌∙◌, zero-add, Some, None, IsSome, Result, Ok, Err, inl, inr, Option, arith}
 use Rattle.std.proofs.lemmas.Int.{ints}
 use Rattle.ptg_base.specs.Lists.{IsIn, HasNoRepeats}
 use Rattle.ptg_base.specs.Returns.{and_then}
@@ -75,12 +76,15 @@ same_given : (given : Option ℤ) (v w : ℤ) → IsSome given → AgreesWith gi
 same_given None v w some a b = absurd cc
 same_given (Some z) v w some a b = a ∙ sym b
 
-same_number : (r : Result ℤ SpanFault) (v w : ℤ) → IsIn v (result_unwrap_or (and_then r (λ z. Ok (z ∷ []))) []) → IsIn w (result_unwrap_or (and_then r (λ z. Ok (z ∷ []))) []) → v ≡ w
+same_number : (r : Result ℤ SpanFault) (v w : ℤ) → IsIn v (result_unwrap_or (and_then r (λ z. Ok (z ∷ []))) [])
+    → IsIn w (result_unwrap_or (and_then r (λ z. Ok (z ∷ []))) []) → v ≡ w
 same_number (Ok z) v w h k = elim h [ inl e ↦ elim k [ inl f ↦ e ∙ sym f | inr t ↦ absurd t ] | inr t ↦ absurd t ]
 same_number (Err e) v w h k = absurd h
 
 module _ (ps : List ℕ) (params : List ℤ) (arity : length ps ≡ length params) where
-  same_value : (d : Def) (ds : List Def) (n : ℕ) (outer : List ℤ) (v w : ℤ) → spans_are_params n (d ∷ ds) ps ≡ true → IsIn v (result_unwrap_or (def_values d outer) []) → IsIn w (result_unwrap_or (def_values d outer) []) → AgreesWith (param_value ps params n) v → AgreesWith (param_value ps params n) w → v ≡ w
+  same_value : (d : Def) (ds : List Def) (n : ℕ) (outer : List ℤ) (v w : ℤ) → spans_are_params n (d ∷ ds) ps ≡ true
+      → IsIn v (result_unwrap_or (def_values d outer) []) → IsIn w (result_unwrap_or (def_values d outer) [])
+      → AgreesWith (param_value ps params n) v → AgreesWith (param_value ps params n) w → v ≡ w
   same_value (Span r) ds n outer v w spans h k a b =
       same_given (param_value ps params n) v w (IsSome-param_value ps params n arity (first_so (is_among n ps) (spans_are_params (suc n) ds ps) spans)) a b
   same_value (Value e) ds n outer v w spans h k a b = same_number (number e outer) v w h k
@@ -89,7 +93,8 @@ module _ (ps : List ℕ) (params : List ℤ) (arity : length ps ≡ length param
   spans_rest (Span r) ds n spans = second_so (is_among n ps) (spans_are_params (suc n) ds ps) spans
   spans_rest (Value e) ds n spans = spans
 
-  same_locals : (ds : List Def) (n : ℕ) (outer k l : List ℤ) → spans_are_params n ds ps ≡ true → AreLocals ds outer k → AreLocals ds outer l → AllAgree ps params n k → AllAgree ps params n l → k ≡ l
+  same_locals : (ds : List Def) (n : ℕ) (outer k l : List ℤ) → spans_are_params n ds ps ≡ true → AreLocals ds outer k
+      → AreLocals ds outer l → AllAgree ps params n k → AllAgree ps params n l → k ≡ l
   same_locals [] n outer [] [] spans h i a b = refl
   same_locals [] n outer [] (w ∷ l) spans h i a b = absurd i
   same_locals [] n outer (v ∷ k) l spans h i a b = absurd h

@@ -1,5 +1,7 @@
 -- Which lists of locals are full, and which of them have given parameters.
-use Rattle.std.proofs.Common.{◌≡◌, ℕ, zero, suc, ◌+◌, ◌<◌, ℤ, pos, Bool, true, false, ◌||◌, ◌==◌, List, [], ◌∷◌, ◌++◌, length, slice_index_or, refl, ap, sym, ◌∙◌, append_assoc, add-zero, zero-add, Some, None, IsSome, nat_lt, IsTrue, inl, inr, subst, eq-eqb, if◌then◌else◌, rules, arith}
+use Rattle.std.proofs.Common.{◌≡◌, ℕ, zero, suc, ◌+◌, ◌<◌, ℤ, pos, Bool, true, false, ◌||◌, ◌==◌, List, [], ◌∷◌, ◌++◌}
+use Rattle.std.proofs.Common.{length, slice_index_or, refl, ap, sym, ◌∙◌, append_assoc, add-zero, zero-add, Some, None}
+use Rattle.std.proofs.Common.{IsSome, nat_lt, IsTrue, inl, inr, subst, eq-eqb, if◌then◌else◌, rules, arith}
 use Rattle.std.proofs.lemmas.Bool.Decides.{nat_tests}
 use Rattle.std.proofs.lemmas.List.{length-map}
 use Rattle.std.specs.Bool.{OnTrue, OnFalse}
@@ -60,12 +62,16 @@ IsSome-param_value (p ∷ ps) (v ∷ vs) n e h =
     (λ k. rw k (IsSome-param_value ps vs n (omega arith) (ap (λ b. b || is_among n ps) (sym k) ∙ h)))
 
 -- agreement of all locals, index by index
-pub agrees_at : (ps : List ℕ) (vs : List ℤ) (k : ℕ) (l : List ℤ) → AllAgree ps vs k l → (i : ℕ) → i < length l → AgreesWith (param_value ps vs (k + i)) (slice_index_or l i (pos 0))
+pub agrees_at : (ps : List ℕ) (vs : List ℤ) (k : ℕ) (l : List ℤ) → AllAgree ps vs k l → (i : ℕ) → i < length l
+    → AgreesWith (param_value ps vs (k + i)) (slice_index_or l i (pos 0))
 agrees_at ps vs k [] w i h = absurd (omega arith)
 agrees_at ps vs k (v ∷ l) w zero h = rw add-zero w.0
-agrees_at ps vs k (v ∷ l) w (suc i) h = subst (λ n. AgreesWith (param_value ps vs n) (slice_index_or l i (pos 0))) (omega arith) (agrees_at ps vs (suc k) l w.1 i (omega arith))
+agrees_at ps vs k (v ∷ l) w (suc i) h = subst (λ n. AgreesWith (param_value ps vs n) (slice_index_or l i (pos 0)))
+    (omega arith) (agrees_at ps vs (suc k) l w.1 i (omega arith))
 
-pub all_agree : (ps : List ℕ) (vs : List ℤ) (k : ℕ) (l : List ℤ) → ((i : ℕ) → i < length l → AgreesWith (param_value ps vs (k + i)) (slice_index_or l i (pos 0))) → AllAgree ps vs k l
+pub all_agree : (ps : List ℕ) (vs : List ℤ) (k : ℕ) (l : List ℤ)
+    → ((i : ℕ) → i < length l → AgreesWith (param_value ps vs (k + i)) (slice_index_or l i (pos 0)))
+    → AllAgree ps vs k l
 all_agree ps vs k [] f = tt
 all_agree ps vs k (v ∷ l) f = (
   rw add-zero at (f 0 (omega arith)),
@@ -73,7 +79,9 @@ all_agree ps vs k (v ∷ l) f = (
 )
 
 -- locals that agree with the given values have these as parameters
-pub params_from_agreement : (ps : List ℕ) (vs l : List ℤ) → length ps ≡ length vs → are_distinct (λ p q. q == p) ps ≡ true → list_all (λ p. nat_lt p (length l)) ps ≡ true → ((i : ℕ) → i < length l → AgreesWith (param_value ps vs i) (slice_index_or l i (pos 0))) → params_of ps l ≡ vs
+pub params_from_agreement : (ps : List ℕ) (vs l : List ℤ) → length ps ≡ length vs
+    → are_distinct (λ p q. q == p) ps ≡ true → list_all (λ p. nat_lt p (length l)) ps ≡ true
+    → ((i : ℕ) → i < length l → AgreesWith (param_value ps vs i) (slice_index_or l i (pos 0))) → params_of ps l ≡ vs
 params_from_agreement [] [] l e d w f = refl
 params_from_agreement [] (v ∷ vs) l e d w f = absurd (omega arith)
 params_from_agreement (p ∷ ps) [] l e d w f = absurd (omega arith)
@@ -98,24 +106,28 @@ agreement_from_params (p ∷ ps) (v ∷ vs) l e i =
     (λ k. rw k (agreement_from_params ps vs l (cc) i))
 
 -- in a well made space a value is given to each range
-pub given_if_ranged : (d : Def) (ds : List Def) (ps : List ℕ) (vs : List ℤ) (n : ℕ) → length ps ≡ length vs → spans_are_params n (d ∷ ds) ps ≡ true → IsGivenIfRanged d (param_value ps vs n)
+pub given_if_ranged : (d : Def) (ds : List Def) (ps : List ℕ) (vs : List ℤ) (n : ℕ) → length ps ≡ length vs
+    → spans_are_params n (d ∷ ds) ps ≡ true → IsGivenIfRanged d (param_value ps vs n)
 given_if_ranged (Span r) ds ps vs n e h = IsSome-param_value ps vs n e (first_so (is_among n ps) (spans_are_params (suc n) ds ps) h)
 given_if_ranged (Value t) ds ps vs n e h = tt
 
 -- a completion of `outer` is one of `outer` with the next value, if that value is known
-module _ (d : Def) (ds : List Def) (ps : List ℕ) (vs : List ℤ) (n : ℕ) (outer full : List ℤ) (v : ℤ) (only : (u : ℤ) → IsIn u (result_unwrap_or (def_values d outer) []) → AgreesWith (param_value ps vs n) u → v ≡ u) where
-  next_of : (locals : List ℤ) → full ≡ outer ++ locals → AreLocals (d ∷ ds) outer locals → AllAgree ps vs n locals → IsCompletion ds ps vs (suc n) (outer ++ v ∷ []) full
-  next_of [] e a g = absurd a
-  next_of (u ∷ locals) e a g =
-      subst (λ z. IsCompletion ds ps vs (suc n) (outer ++ z ∷ []) full) (sym (only u a.0 g.0)) (record {
-        locals = locals;
-        extends = e ∙ sym (append_assoc outer (u ∷ []) locals);
-        are_locals = a.1;
-        all_agree = g.1;
-      })
+module _ (d : Def) (ds : List Def) (ps : List ℕ) (vs : List ℤ) (n : ℕ) (outer full : List ℤ) (v : ℤ)
+    (only : (u : ℤ) → IsIn u (result_unwrap_or (def_values d outer) []) → AgreesWith (param_value ps vs n) u → v ≡ u)
+  where
+    next_of : (locals : List ℤ) → full ≡ outer ++ locals → AreLocals (d ∷ ds) outer locals → AllAgree ps vs n locals
+        → IsCompletion ds ps vs (suc n) (outer ++ v ∷ []) full
+    next_of [] e a g = absurd a
+    next_of (u ∷ locals) e a g =
+        subst (λ z. IsCompletion ds ps vs (suc n) (outer ++ z ∷ []) full) (sym (only u a.0 g.0)) (record {
+          locals = locals;
+          extends = e ∙ sym (append_assoc outer (u ∷ []) locals);
+          are_locals = a.1;
+          all_agree = g.1;
+        })
 
-  pub next_extends : IsCompletion (d ∷ ds) ps vs n outer full → IsCompletion ds ps vs (suc n) (outer ++ v ∷ []) full
-  next_extends w = next_of w.locals w.extends w.are_locals w.all_agree
+    pub next_extends : IsCompletion (d ∷ ds) ps vs n outer full → IsCompletion ds ps vs (suc n) (outer ++ v ∷ []) full
+    next_extends w = next_of w.locals w.extends w.are_locals w.all_agree
 
 module _ (s : ClassSpace) (well : IsWellSpace s) (vs : List ℤ) (arity : length s.params ≡ length vs) where
   pub locals_whole : (now : List ℤ) → IsCompletion s.defs s.params vs 0 [] now → IsIn now (all_locals s)

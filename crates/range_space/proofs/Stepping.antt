@@ -1,5 +1,6 @@
 -- How a range continues from one value to the next.
-use Rattle.std.proofs.Common.{◌≡◌, ℕ, zero, suc, ◌+◌, ◌<◌, ℤ, pos, negsuc, ◌+ℤ◌, ◌-ℤ◌, unsigned_abs, true, false, [], ◌∷◌, refl, ap, sym, ◌∙◌, Option, Some, None, SomeIff, FitsSigned, w64, arith}
+use Rattle.std.proofs.Common.{◌≡◌, ℕ, zero, suc, ◌+◌, ◌<◌, ℤ, pos, negsuc, ◌+ℤ◌, ◌-ℤ◌, unsigned_abs, true, false, []}
+use Rattle.std.proofs.Common.{◌∷◌, refl, ap, sym, ◌∙◌, Option, Some, None, SomeIff, FitsSigned, w64, arith}
 use Rattle.std.proofs.lemmas.Int.{ints}
 use Rattle.range_space.specs.Values.{is_within, while_within, values, values_from}
 use Rattle.list_lemmas.proofs.Truth.{by_test}
@@ -61,7 +62,8 @@ module _ (hi step : ℤ) where
   unfolding values
   values_in v h =
       while_in (gap hi v) v h ∙ ap (λ vs. v ∷ vs) (by_test (is_within hi step (v +ℤ step))
-      (λ k. let e = gap-step hi step v h k in let s = size_pos hi step v h in while_enough (gap hi v) (suc (gap hi (v +ℤ step))) (v +ℤ step) (omega arith) (omega arith))
+      (λ k. let e = gap-step hi step v h k in let s = size_pos hi step v h in while_enough (gap hi v)
+      (suc (gap hi (v +ℤ step))) (v +ℤ step) (omega arith) (omega arith))
       (λ k. while_past (gap hi v) (v +ℤ step) k ∙ sym (while_past (suc (gap hi (v +ℤ step))) (v +ℤ step) k)))
 
 -- a next value that does not fit 64 bits is past hi
@@ -73,6 +75,8 @@ pub values_unfit : (v hi step : ℤ) → FitsSigned w64 v → FitsSigned w64 hi 
 values_unfit v hi step f g not_fit = values_past hi step (v +ℤ step) (unfit_past v hi step f g not_fit)
 
 -- the next value, if it fits 64 bits
-pub values_checked : (v hi step : ℤ) (next : Option ℤ) → FitsSigned w64 v → FitsSigned w64 hi → is_within hi step v ≡ true → SomeIff next (FitsSigned w64 (v +ℤ step)) (v +ℤ step) → values v hi step ≡ v ∷ values_from next hi step
+pub values_checked : (v hi step : ℤ) (next : Option ℤ) → FitsSigned w64 v → FitsSigned w64 hi
+    → is_within hi step v ≡ true → SomeIff next (FitsSigned w64 (v +ℤ step)) (v +ℤ step)
+    → values v hi step ≡ v ∷ values_from next hi step
 values_checked v hi step (Some z) f g h k = values_in hi step v h ∙ ap (λ w. v ∷ values w hi step) (sym k.1)
 values_checked v hi step None f g h k = values_in hi step v h ∙ ap (λ vs. v ∷ vs) (values_unfit v hi step f g k)

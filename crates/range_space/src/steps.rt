@@ -41,6 +41,7 @@ pub(crate) fn is_within(hi: i64, step: i64, v: i64) -> bool
 }
 
 // The value of an expression, or its fault as a fault of a range.
+#[inline(always)]
 pub(crate) fn number(e: &Expr, env: &[i64]) -> Result<i64, SpanFault>
     ensures { result ≡ number e.now env.now }
 {
@@ -51,6 +52,7 @@ pub(crate) fn number(e: &Expr, env: &[i64]) -> Result<i64, SpanFault>
 }
 
 // The step of a range: 1 if none is written, and never 0.
+#[inline(always)]
 fn step_number(step: &Option<Expr>, env: &[i64]) -> Result<i64, SpanFault>
     ensures { result ≡ step_number step.now env.now }
 {
@@ -68,6 +70,7 @@ fn step_number(step: &Option<Expr>, env: &[i64]) -> Result<i64, SpanFault>
 }
 
 /// The progression of a range under the values of the definitions before it, or the range's first fault.
+#[inline(always)]
 pub fn steps_of(range: &Range, env: &[i64]) -> Result<Steps, SpanFault>
     ensures steps { IfOk result (λ s. bounds range.now env.now ≡ Ok (record { lo = s.lo; hi = s.hi; step = s.step })) }
     ensures fault { IfErr result (λ e. bounds range.now env.now ≡ Err e) }
@@ -76,6 +79,14 @@ pub fn steps_of(range: &Range, env: &[i64]) -> Result<Steps, SpanFault>
     let hi = number(&range.hi, env)?;
     let step = step_number(&range.step, env)?;
     Ok(Steps { lo, hi, step })
+}
+
+// Whether a gap is a whole number of steps. Most steps are 1, and a division takes longer than all else here.
+fn is_whole(gap: u64, step: u64) -> bool
+    requires { step ≢ 0 }
+    ensures { IsTrue result ↔ gap % step ≡ 0 }
+{
+    step == 1 || gap % step == 0
 }
 
 impl Steps {
@@ -132,7 +143,6 @@ impl Steps {
         if !is_within(v, self.step, self.lo) {
             return false;
         }
-        let gap = v.abs_diff(self.lo);
-        gap % self.step.unsigned_abs() == 0
+        is_whole(v.abs_diff(self.lo), self.step.unsigned_abs())
     }
 }

@@ -12,7 +12,8 @@ use Rattle.dep_iter.specs.Items.{items, out_edges, write_backs}
 use Rattle.dep_iter.specs.Tasks.{IsTask}
 use Rattle.dep_iter.proofs.Items.{Edge-injective, Write-injective, edge_item, item_edge, item_write, write_item}
 use Rattle.dep_iter.proofs.Once.{once-out_edges, once-write_backs}
-use Rattle.list_lemmas.proofs.Members.{IsIn-append_left, IsIn-append_right, IsIn-map, from_append, from_map, IsIn-filter}
+use Rattle.list_lemmas.proofs.Members.{IsIn-append_left, IsIn-append_right, IsIn-map, from_append, from_map}
+use Rattle.list_lemmas.proofs.Members.{IsIn-filter}
 use Rattle.list_lemmas.proofs.Truth.{by_test}
 use Rattle.list_lemmas.proofs.Distinct.{HasNoRepeats-append, HasNoRepeats-filter, HasNoRepeats-map}
 use Rattle.rank_core.specs.World.{edges_between, edges_within, is_between, items_within}
@@ -38,7 +39,8 @@ module _ (P : Plan) (t : Task) where
           subst (λ j. IsIn j (items P t)) (sym p.2) (write_item (items P t) p.0 p.1)
       | inr right ↦
           let p = from_map (λ (e : Edge). item.Edge e) (edges_within P r t) i right in
-          subst (λ j. IsIn j (items P t)) (sym p.2) (edge_item (items P t) p.0 ((IsIn-filter (λ e. not (is_between P r e)) (out_edges P t) p.0).0 p.1).0)
+          subst (λ j. IsIn j (items P t)) (sym p.2) (edge_item (items P t) p.0
+          ((IsIn-filter (λ e. not (is_between P r e)) (out_edges P t) p.0).0 p.1).0)
     ]
 
     -- an item of a task that is not within its rank is an edge to another rank
@@ -49,12 +51,20 @@ module _ (P : Plan) (t : Task) where
 
     pub within_or_between : (i : Item) → IsIn i (items P t) → IsIn i (items_within P r t) ⊎ IsBetween i
     within_or_between (item.Write w) h =
-        inl (IsIn-append_left (item.Write w) (map item.Write (write_backs P t)) (map item.Edge (edges_within P r t)) (IsIn-map (λ (v : WriteBack). item.Write v) (write_backs P t) w (item_write (items P t) w h)))
+        inl (IsIn-append_left (item.Write w) (map item.Write (write_backs P t)) (map item.Edge (edges_within P r t))
+        (IsIn-map (λ (v : WriteBack). item.Write v) (write_backs P t) w (item_write (items P t) w h)))
     within_or_between (item.Edge e) h =
         by_test (is_between P r e)
-        (λ k. inr (record { edge = e; is = refl; among = (IsIn-filter (is_between P r) (out_edges P t) e).1 (item_is_out e h, k) }))
+        (λ k. inr (record {
+          edge = e;
+          is = refl;
+          among = (IsIn-filter (is_between P r) (out_edges P t) e).1
+              (item_is_out e h, k);
+        }))
         (λ k.
-        inl (IsIn-append_right (item.Edge e) (map item.Write (write_backs P t)) (map item.Edge (edges_within P r t)) (IsIn-map (λ (d : Edge). item.Edge d) (edges_within P r t) e ((IsIn-filter (λ d. not (is_between P r d)) (out_edges P t) e).1 (item_is_out e h, ap not k)))))
+        inl (IsIn-append_right (item.Edge e) (map item.Write (write_backs P t)) (map item.Edge (edges_within P r t))
+        (IsIn-map (λ (d : Edge). item.Edge d) (edges_within P r t) e
+        ((IsIn-filter (λ d. not (is_between P r d)) (out_edges P t) e).1 (item_is_out e h, ap not k)))))
 
 module _ (P : Plan) (con : IsConsistent P) (t : Task) (job : IsTask P t) where
   -- no edge and no item of a task occurs twice
@@ -63,8 +73,12 @@ module _ (P : Plan) (con : IsConsistent P) (t : Task) (job : IsTask P t) where
 
   pub within_once : (r : ℕ) → HasNoRepeats (items_within P r t)
   within_once r =
-      HasNoRepeats-append (map item.Write (write_backs P t)) (map item.Edge (edges_within P r t)) (HasNoRepeats-map (λ (w : WriteBack). item.Write w) (write_backs P t) (once-write_backs P con t job) Write-injective)
-      (HasNoRepeats-map (λ (e : Edge). item.Edge e) (edges_within P r t) (HasNoRepeats-filter (λ e. not (is_between P r e)) (out_edges P t) (once-out_edges P con t job)) Edge-injective)
+      HasNoRepeats-append (map item.Write (write_backs P t)) (map item.Edge (edges_within P r t))
+      (HasNoRepeats-map (λ (w : WriteBack). item.Write w) (write_backs P t) (once-write_backs P con t job)
+      Write-injective)
+      (HasNoRepeats-map (λ (e : Edge). item.Edge e) (edges_within P r t)
+      (HasNoRepeats-filter (λ e. not (is_between P r e)) (out_edges P t) (once-out_edges P con t job))
+      Edge-injective)
       (λ i left right.
       let p = from_map (λ (w : WriteBack). item.Write w) (write_backs P t) i left in
       let q = from_map (λ (e : Edge). item.Edge e) (edges_within P r t) i right in

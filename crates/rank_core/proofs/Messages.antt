@@ -1,5 +1,6 @@
 -- How many messages are sent, and that none is sent twice.
-use Rattle.std.proofs.Common.{◌≡◌, ◌↔◌, ℕ, ◌≤◌, Bool, false, ◌&&◌, cond, List, [], ◌∷◌, map, length, refl, ap, sym, ◌∙◌, subst, IsTrue, is_some, inl, inr, Option, Some, None, arith}
+use Rattle.std.proofs.Common.{◌≡◌, ◌↔◌, ℕ, ◌≤◌, Bool, false, ◌&&◌, cond, List, [], ◌∷◌, map, length, refl, ap, sym, ◌∙◌}
+use Rattle.std.proofs.Common.{subst, IsTrue, is_some, inl, inr, Option, Some, None, arith}
 use Rattle.std.proofs.lemmas.Bool.{cases_eq, false≢true}
 use Rattle.std.proofs.lemmas.List.{length-append, length-map}
 use Rattle.std.specs.List.{filter, flat_map}
@@ -10,7 +11,8 @@ use Rattle.plan_core.specs.declared.plan.Plan.{Plan}
 use Rattle.coll_data.specs.Data.{Data}
 use Rattle.list_lemmas.proofs.Members.{from_map}
 use Rattle.list_lemmas.proofs.Truth.{by_test}
-use Rattle.list_lemmas.proofs.Counts.{count-some, some_passes, same_counts, length-filter, weigh-same, weigh-zero, count-once, weigh-flat_map}
+use Rattle.list_lemmas.proofs.Counts.{count-some, some_passes, same_counts, length-filter, weigh-same, weigh-zero}
+use Rattle.list_lemmas.proofs.Counts.{count-once, weigh-flat_map}
 use Rattle.list_lemmas.proofs.Distinct.{HasNoRepeats-flat_map, HasNoRepeats-map}
 use Rattle.list_lemmas.proofs.Tasks.{distinct_once}
 use Rattle.dep_iter.specs.Consistent.{IsConsistent, all_in, all_out}
@@ -36,7 +38,8 @@ module _ {A : Type 0} (same : A → A → Bool) (decides : (a b : A) → IsTrue 
   none_of : (xs : List A) (x : A) → (IsIn x xs → ⊥) → count (same x) xs ≡ 0
   none_of xs x h = elim (cases_eq (count (same x) xs) 0) [
     | inl z ↦ z
-    | inr more ↦ let p = some_passes (same x) xs (omega (arith, more)) in absurd (h (subst (λ y. IsIn y xs) (sym ((decides x p.0).0 p.2)) p.1))
+    | inr more ↦ let p = some_passes (same x) xs (omega (arith, more)) in absurd
+        (h (subst (λ y. IsIn y xs) (sym ((decides x p.0).0 p.2)) p.1))
   ]
 
   one_at_most : (xs : List A) → HasNoRepeats xs → (x : A) → count (same x) xs ≤ 1
@@ -45,7 +48,8 @@ module _ {A : Type 0} (same : A → A → Bool) (decides : (a b : A) → IsTrue 
   there : (xs : List A) (x : A) → IsIn x xs → 1 ≤ count (same x) xs
   there xs x i = omega (arith, count-some (same x) xs x i ((decides x x).1 refl))
 
-  pub same_members : (xs ys : List A) → HasNoRepeats xs → HasNoRepeats ys → ((x : A) → IsIn x xs ↔ IsIn x ys) → HasSameMembers xs ys
+  pub same_members : (xs ys : List A) → HasNoRepeats xs → HasNoRepeats ys → ((x : A) → IsIn x xs ↔ IsIn x ys)
+      → HasSameMembers xs ys
   same_members xs ys h k iff = (same_counts same decides xs ys).1 (λ x. elim (cases_eq (count (same x) xs) 0) [
     | inl none ↦ none ∙ sym (none_of ys x (λ i. absurd (omega (arith, none, there xs x ((iff x).1 i)))))
     | inr some ↦
@@ -59,12 +63,15 @@ length-joined : {A B : Type 0} (f : A → List B) (xs : List A) → length (flat
 length-joined f [] = refl
 length-joined f (x ∷ xs) = omega (arith, length-joined f xs, length-append (f x) (flat_map f xs))
 
-weigh-filter : {A : Type 0} (g : A → ℕ) (test : A → Bool) → ((x : A) → test x ≡ false → g x ≡ 0) → (xs : List A) → weigh g (filter test xs) ≡ weigh g xs
+weigh-filter : {A : Type 0} (g : A → ℕ) (test : A → Bool) → ((x : A) → test x ≡ false → g x ≡ 0) → (xs : List A)
+    → weigh g (filter test xs) ≡ weigh g xs
 weigh-filter g test none [] = refl
 weigh-filter g test none (x ∷ xs) =
     by_test (test x)
-    (λ k. let e = ap (λ b. weigh g (cond b (x ∷ filter test xs) (filter test xs))) k in omega (arith, e, weigh-filter g test none xs))
-    (λ k. let e = ap (λ b. weigh g (cond b (x ∷ filter test xs) (filter test xs))) k in omega (arith, e, none x k, weigh-filter g test none xs))
+    (λ k. let e = ap (λ b. weigh g (cond b (x ∷ filter test xs) (filter test xs))) k in omega
+    (arith, e, weigh-filter g test none xs))
+    (λ k. let e = ap (λ b. weigh g (cond b (x ∷ filter test xs) (filter test xs))) k in omega
+    (arith, e, none x k, weigh-filter g test none xs))
 
 no_end : (end : Option Ended) → is_some end ≡ false → has_outputs end ≡ false
 no_end None h = refl
@@ -84,10 +91,15 @@ module _ (P : Plan) (G : Data) (r : ℕ) where
       ap length (messages_with P r t (ended P G t) o)
       ∙ length-map (edges_between P r t) (message_from (ended P G t))
       ∙ length-filter (is_between P r) (out_edges P t)
-      ∙ weigh-same (λ e. as_number (has_outputs (ended P G e.from) && is_between P r e)) (λ e. as_number (is_between P r e)) (out_edges P t) (λ e h. ap (λ b. as_number (b && is_between P r e)) (sym (ap (λ u. has_outputs (ended P G u)) (out_edge_from P t e h) ∙ o))))
+      ∙ weigh-same (λ e. as_number (has_outputs (ended P G e.from) && is_between P r e))
+      (λ e. as_number (is_between P r e)) (out_edges P t)
+      (λ e h. ap (λ b. as_number (b && is_between P r e))
+      (sym (ap (λ u. has_outputs (ended P G u)) (out_edge_from P t e h) ∙ o))))
       (λ o.
       ap length (messages_without P r t (ended P G t) o)
-      ∙ sym (weigh-zero (λ e. as_number (has_outputs (ended P G e.from) && is_between P r e)) (out_edges P t) (λ e h. ap (λ b. as_number (b && is_between P r e)) (ap (λ u. has_outputs (ended P G u)) (out_edge_from P t e h) ∙ o))))
+      ∙ sym (weigh-zero (λ e. as_number (has_outputs (ended P G e.from) && is_between P r e)) (out_edges P t)
+      (λ e h. ap (λ b. as_number (b && is_between P r e))
+      (ap (λ u. has_outputs (ended P G u)) (out_edge_from P t e h) ∙ o))))
 
   module _ (con : IsConsistent P) (w : WorldState) (sound : IsSoundWorld P G r w) where
     pub messages_counted : IsQuiet P w → length w.messages ≡ message_count P G r
@@ -96,41 +108,55 @@ module _ (P : Plan) (G : Data) (r : ℕ) where
         let sent : Task → ℕ = λ t. length (messages_by P r t (ended P G t)) in
         ap length sound.messages
         ∙ length-joined (λ t. messages_by P r t (ended P G t)) w.machine.claims
-        ∙ claims_members P G con w.machine sound.state ((quiet_iff P G con r w sound).0 quiet) (λ t. length (messages_by P r t (ended P G t)))
-        ∙ weigh-filter (λ t. length (messages_by P r t (ended P G t))) (λ t. is_some (ended P G t)) (λ t h. ap length (messages_without P r t (ended P G t) (no_end (ended P G t) h))) (all_tasks P)
-        ∙ weigh-same (λ t. count counts (out_edges P t)) (λ t. length (messages_by P r t (ended P G t))) (all_tasks P) (λ t h. by_task t)
+        ∙ claims_members P G con w.machine sound.state ((quiet_iff P G con r w sound).0 quiet)
+        (λ t. length (messages_by P r t (ended P G t)))
+        ∙ weigh-filter (λ t. length (messages_by P r t (ended P G t))) (λ t. is_some (ended P G t))
+        (λ t h. ap length (messages_without P r t (ended P G t) (no_end (ended P G t) h))) (all_tasks P)
+        ∙ weigh-same (λ t. count counts (out_edges P t)) (λ t. length (messages_by P r t (ended P G t))) (all_tasks P)
+        (λ t h. by_task t)
         ∙ sym (weigh-flat_map (λ (e : Edge). as_number (counts e)) (out_edges P) (all_tasks P))
-        ∙ same_members same_edge same_edge-decides (all_out P) (all_in P) con.no_out_edge_twice con.no_in_edge_twice (λ e. let iff = con.same_edges e in (iff.1, iff.0)) (λ e. as_number (counts e))
+        ∙ same_members same_edge same_edge-decides (all_out P) (all_in P) con.no_out_edge_twice con.no_in_edge_twice
+        (λ e. let iff = con.same_edges e in (iff.1, iff.0)) (λ e. as_number (counts e))
 
     from_of : (t : Task) (m : Message) → IsIn m (messages_by P r t (ended P G t)) → m.edge.from ≡ t
     from_of t m h =
         by_test (has_outputs (ended P G t))
         (λ o.
-        let q = from_map (message_from (ended P G t)) (edges_between P r t) m (subst (λ ms. IsIn m ms) (messages_with P r t (ended P G t) o) h) in
+        let q = from_map (message_from (ended P G t)) (edges_between P r t) m
+        (subst (λ ms. IsIn m ms) (messages_with P r t (ended P G t) o) h) in
         ap (λ (x : Message). x.edge.from) q.2 ∙ out_edge_from P t q.0 (between_is_out P t r q.0 q.1))
-        (λ o. let never : IsIn m [] = subst (λ ms. IsIn m ms) (messages_without P r t (ended P G t) o) h in absurd never)
+        (λ o. let never : IsIn m [] = subst (λ ms. IsIn m ms) (messages_without P r t (ended P G t) o) h in absurd
+        never)
 
     once_by : (t : Task) → IsIn t w.machine.claims → HasNoRepeats (messages_by P r t (ended P G t))
     once_by t c =
         by_test (has_outputs (ended P G t))
         (λ o.
         subst HasNoRepeats (sym (messages_with P r t (ended P G t) o))
-        (HasNoRepeats-map (message_from (ended P G t)) (edges_between P r t) (between_once P con t (sound.state.claimed_have_all t c).task r) (λ d e q. ap (λ (x : Message). x.edge) q)))
+        (HasNoRepeats-map (message_from (ended P G t)) (edges_between P r t)
+        (between_once P con t (sound.state.claimed_have_all t c).task r) (λ d e q. ap (λ (x : Message). x.edge) q)))
         (λ o. subst HasNoRepeats (sym (messages_without P r t (ended P G t) o)) tt)
 
     pub messages_once : HasNoRepeats w.messages
     messages_once =
         subst HasNoRepeats (sym sound.messages)
-        (HasNoRepeats-flat_map (λ t. messages_by P r t (ended P G t)) w.machine.claims (distinct_once w.machine.claims sound.state.claimed_once) once_by (λ t u m h k. sym (from_of t m h) ∙ from_of u m k))
+        (HasNoRepeats-flat_map (λ t. messages_by P r t (ended P G t)) w.machine.claims
+        (distinct_once w.machine.claims sound.state.claimed_once) once_by
+        (λ t u m h k. sym (from_of t m h) ∙ from_of u m k))
 
     -- two messages of one edge are one message
     same_message : (a b : Message) → IsIn a w.messages → IsIn b w.messages → a.edge ≡ b.edge → a ≡ b
     same_message a b i j e =
         let x = message_is P G con r w sound a i in
         let y = message_is P G con r w sound b j in
-        λ k. record { edge = e k; tile = (x.tile ∙ ap (λ (d : Edge). output_tile (ended P G d.from) d.out_flow) e ∙ sym y.tile) k }
+        λ k. record {
+          edge = e k;
+          tile = (x.tile ∙ ap (λ (d : Edge). output_tile (ended P G d.from) d.out_flow) e
+              ∙ sym y.tile) k;
+        }
 
-    distinct_edges : (ms : List Message) → ((m : Message) → IsIn m ms → IsIn m w.messages) → HasNoRepeats ms → HasNoRepeats (map (λ (m : Message). m.edge) ms)
+    distinct_edges : (ms : List Message) → ((m : Message) → IsIn m ms → IsIn m w.messages) → HasNoRepeats ms
+        → HasNoRepeats (map (λ (m : Message). m.edge) ms)
     distinct_edges [] among h = tt
     distinct_edges (m ∷ ms) among h = (
       λ i. let p = from_map (λ (x : Message). x.edge) ms m.edge i in

@@ -1,7 +1,8 @@
 -- A task that runs in a world, part by part: it is claimed, its items within its rank are sent one after another, and
 -- it ends. Source: DAGuE (Parallel Computing, 2012), where a task that ends satisfies the dependences of its
 -- successors.
-use Rattle.std.specs.Prelude.{◌≡◌, ◌<◌, ◌≤◌, ◌++◌, ℤ, List, [], ◌∷◌, map, length, option_map, slice_index, Option, Some, None, if◌then◌else◌}
+use Rattle.std.specs.Prelude.{◌≡◌, ◌<◌, ◌≤◌, ◌++◌, ℤ, List, [], ◌∷◌, map, length, option_map, slice_index, Option, Some}
+use Rattle.std.specs.Prelude.{None, if◌then◌else◌}
 use Rattle.ptg_base.specs.Limits.{most_ranks}
 use Rattle.ptg_base.specs.Task.{Task}
 use Rattle.ptg_base.specs.declared.edge.Edge.{Edge}

@@ -9,7 +9,8 @@ ghost use Rattle.rank_core.specs.World.{is_between};
 ghost use Rattle.shard_calls.specs.Taken.{MayTakeEdge, MayTakeWrite, TakesEdge, TakesWrite};
 ghost use Rattle.task_run.specs.Bench.{HoldsOutputs};
 ghost use Rattle.rank_core.specs.RankRoom.{HasRoomFor};
-ghost use Rattle.rank_core.specs.RunningTasks.{HoldsAt, IsRunningTask, data_of, its_edges_within, its_items_within, its_writes, part_way, plan_of, task_of};
+ghost use Rattle.rank_core.specs.RunningTasks.{HoldsAt, IsRunningTask, data_of, its_edges_within, its_items_within};
+ghost use Rattle.rank_core.specs.RunningTasks.{its_writes, part_way, plan_of, task_of};
 
 use crate::room::goes_away;
 use crate::running_task::RunningTask;

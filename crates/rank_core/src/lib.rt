@@ -1,6 +1,6 @@
 //! Worlds of ranks, in which an edge between two ranks is a message: definitions and laws. `World`: ranks that send one
-//! another messages, run in one thread; `drive` runs it in the order of a seed. `ranks_of` returns the number of a job's
-//! messages, and its answer.
+//! another messages, run in one thread; `drive` runs it in the order of a seed. `ranks_of` returns the number of a
+//! job's messages, and its answer.
 #![tactic(auto)]
 
 mod answering;

@@ -8,7 +8,8 @@ ghost use Rattle.indexmap.specs.IndexMap.{spare};
 ghost use Rattle.flow_meaning.specs.Ending.{output_tile};
 ghost use Rattle.task_run.specs.Bench.{HoldsOutputs};
 ghost use Rattle.rank_core.specs.Keeping.{IsMailOf};
-ghost use Rattle.rank_core.specs.RunningTasks.{AreBlank, IsRunningTask, after, before, data_of, its_edges_between, plan_of, task_of};
+ghost use Rattle.rank_core.specs.RunningTasks.{AreBlank, IsRunningTask, after, before, data_of, its_edges_between};
+ghost use Rattle.rank_core.specs.RunningTasks.{plan_of, task_of};
 
 use crate::mail::Mail;
 use crate::message::Message;

@@ -1,6 +1,7 @@
 //! The memory of a run, taken before it.
 
-ghost use Rattle.std.specs.Prelude.{◌≡◌, ◌+◌, ◌<◌, true, false, IfOk, None, OnOk, Some, length, option_map, slice_index, if◌then◌else◌};
+ghost use Rattle.std.specs.Prelude.{◌≡◌, ◌+◌, ◌<◌, true, false, IfOk, None, OnOk, Some, length, option_map};
+ghost use Rattle.std.specs.Prelude.{slice_index, if◌then◌else◌};
 ghost use Rattle.plan_core.specs.Kinds as kinds;
 ghost use Rattle.dep_iter.specs.Items as items;
 ghost use Rattle.dep_iter.specs.Tasks.{IsTask};
@@ -8,7 +9,8 @@ ghost use Rattle.dep_shard.specs.Content.{IsUnchanged};
 ghost use Rattle.rank_core.specs.World.{is_between};
 ghost use Rattle.rank_core.specs.Outgoings.{AddsBlank, AddsWithin};
 ghost use Rattle.rank_core.specs.RankRoom.{HasRoomFor};
-ghost use Rattle.rank_core.specs.RunningTasks.{AreBlank, IsShapeOf, IsRunningTask, its_edges_between, its_edges_within, plan_of, task_of};
+ghost use Rattle.rank_core.specs.RunningTasks.{AreBlank, IsShapeOf, IsRunningTask, its_edges_between, its_edges_within};
+ghost use Rattle.rank_core.specs.RunningTasks.{plan_of, task_of};
 
 use crate::message::Message;
 use crate::running_task::RunningTask;
@@ -16,7 +18,7 @@ use dep_iter::Matched;
 use dep_shard::Shard;
 use plan_core::FlowPlan;
 use ptg_base::{Edge, OutOfMemory, Tile};
-use shard_calls::{flow_at, home_at};
+use shard_calls::{flow_at, home_of};
 use std::alloc::Global;
 
 // What a task will send: the messages to other ranks, whose tiles are still blank, and how many edges stay within its
@@ -79,7 +81,7 @@ pub(crate) fn goes_away(at: &RunningTask, edge: &Edge) -> bool
     requires to { IsTask (plan_of at.now) edge.now.to }
     ensures { result ≡ is_between (plan_of at.now) at.now.ranks edge.now }
 {
-    home_at(at.matched, at.ranks, &edge.to) != at.rank
+    home_of(at.matched, at.ranks, &edge.to) != at.rank
 }
 
 // Adds an edge out of a running task to what it will send.

@@ -1,6 +1,7 @@
 //! The run of a task.
 
-ghost use Rattle.std.specs.Prelude.{◌≡◌, ◌≢◌, ◌<◌, ◌≤◌, ◌↔◌, [], Err, IfErr, IfOk, IsTrue, OnErr, OnOk, Some, false, if◌then◌else◌, length, slice_get, ℕ};
+ghost use Rattle.std.specs.Prelude.{◌≡◌, ◌≢◌, ◌<◌, ◌≤◌, ◌↔◌, [], Err, IfErr, IfOk, IsTrue, OnErr, OnOk, Some, false};
+ghost use Rattle.std.specs.Prelude.{if◌then◌else◌, length, slice_get, ℕ};
 ghost use Rattle.indexmap.specs.IndexMap.{spare};
 ghost use Rattle.dep_iter.specs.Items as items;
 ghost use Rattle.rank_core.specs.Sound.{IsSoundWorld};
@@ -12,7 +13,8 @@ ghost use Rattle.task_run.specs.Bench.{HoldsOutputs, IsBenchOf};
 ghost use Rattle.rank_core.specs.Keeping.{IsMailOf, idle_moment};
 ghost use Rattle.rank_core.specs.RankRoom.{HasRoomFor};
 ghost use Rattle.rank_core.specs.Views.{with_run};
-ghost use Rattle.rank_core.specs.RunningTasks.{AreBlank, HoldsAt, IsRunningTask, after, before, data_of, its_edges_between, its_edges_within, part_way, plan_of, task_of};
+ghost use Rattle.rank_core.specs.RunningTasks.{AreBlank, HoldsAt, IsRunningTask, after, before, data_of};
+ghost use Rattle.rank_core.specs.RunningTasks.{its_edges_between, its_edges_within, part_way, plan_of, task_of};
 
 use crate::history::{History, Number};
 use crate::leaving::leave_within;
@@ -26,7 +28,7 @@ use dep_iter::TaskAt;
 use dep_shard::Shard;
 use ptg_base::{OutOfMemory, TaskId};
 use range_space::Numbers;
-use shard_calls::home_under;
+use shard_calls::home_at;
 use std::alloc::Global;
 use task_run::{Bench, Start};
 use term_core::Trap;
@@ -51,10 +53,8 @@ fn begin(at: &RunningTask, shard: &mut Shard, bench: &mut Bench) -> Result<(), T
 {
     let arrivals = shard.take_ready(at.task.task).unwrap();
     let start = Start {
-        plan: at.matched.plan(),
+        at: at.task,
         given: at.given,
-        task: at.task.task,
-        locals: at.task.locals,
     };
     bench.run(&start, arrivals)
 }
@@ -243,13 +243,14 @@ impl<'m> World<'m> {
     // Runs a task of the job if it may run, and returns whether it did.
     fn run_found(&mut self, task: &TaskAt) -> Result<bool, OutOfMemory>
         requires { task.now.plan.now ≡ self.old.plan }
-        ensures exact { IfOk result (λ ran. IsTrue ran ↔ MayClaim self.old.plan self.old.state.machine task.now.task.now) }
+        ensures exact { IfOk result (λ ran.
+            IsTrue ran ↔ MayClaim self.old.plan self.old.state.machine task.now.task.now) }
         ensures state { IfOk result (λ ran.
             self.new ≡ (if ran then with_run task.now.task.now self.old else self.old)) }
         ensures err { OnErr result (self.new ≡ self.old) }
         ensures sound { IsSoundWorld self.new.plan self.new.given self.new.ranks self.new.state }
     {
-        let rank = home_under(self.matched, self.ranks.len(), task.task, task.locals);
+        let rank = home_at(task, self.ranks.len());
         if !self.ranks[rank].is_ready(task.task) {
             return Ok(false);
         }

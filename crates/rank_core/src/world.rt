@@ -1,6 +1,7 @@
 //! A world of ranks.
 
-ghost use Rattle.std.specs.Prelude.{◌≡◌, ◌<◌, ◌≤◌, ◌↔◌, IfOk, IfNone, IfSome, IsTrue, IsFalse, OnErr, OnOk, Some, length, slice_get};
+ghost use Rattle.std.specs.Prelude.{◌≡◌, ◌<◌, ◌≤◌, ◌↔◌, IfOk, IfNone, IfSome, IsTrue, IsFalse, OnErr, OnOk, Some};
+ghost use Rattle.std.specs.Prelude.{length, slice_get};
 ghost use Rattle.ptg_base.specs.Limits.{IsRankCount, most_ranks};
 ghost use Rattle.ptg_base.specs.Lists.{IsIn};
 ghost use Rattle.ptg_base.specs.Task.{Task};
@@ -27,7 +28,7 @@ use flow_meaning::Outcome;
 use indexmap::IndexMap;
 use ptg_base::{OutOfMemory, TaskId};
 use shard_answer::{Room, outcome_of};
-use shard_calls::{have_no_work, home_at, opened_ranks, take_edge};
+use shard_calls::{have_no_work, home_of, opened_ranks, take_edge};
 use std::alloc::Global;
 use std::marker::Model;
 use task_run::Bench;
@@ -139,7 +140,7 @@ impl<'m> World<'m> {
         ensures rank { result ≡ world.rank_of self.now.plan self.now.ranks t.now }
         ensures within { result < self.now.ranks }
     {
-        home_at(self.matched, self.ranks.len(), t) as u32
+        home_of(self.matched, self.ranks.len(), t) as u32
     }
 
     /// How many ranks there are.
@@ -215,7 +216,7 @@ impl<'m> World<'m> {
         let Some(message) = self.mail.under_way.get(&n) else {
             return Ok(false);
         };
-        let k = home_at(self.matched, self.ranks.len(), &message.edge.to);
+        let k = home_of(self.matched, self.ranks.len(), &message.edge.to);
         take_edge_at(&mut self.ranks, k, self.matched, message)?;
         let _message = self.mail.under_way.swap_remove(&n);
         self.history = History::with_delivery(&self.history, &Number { value: n });

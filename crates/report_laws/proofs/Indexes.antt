@@ -1,5 +1,6 @@
 -- The index of a place, as the number from which its row and its column are found.
-use Rattle.std.proofs.Common.{◌≡◌, ℕ, zero, suc, ◌+◌, ◌*◌, ◌/◌, ◌%◌, ◌<◌, ℤ, pos, negsuc, true, List, [], ◌∷◌, nat_lt, Option, Some, None, refl, sym, ap, ◌∙◌, subst, arith}
+use Rattle.std.proofs.Common.{◌≡◌, ℕ, zero, suc, ◌+◌, ◌*◌, ◌/◌, ◌%◌, ◌<◌, ℤ, pos, negsuc, true, List, [], ◌∷◌, nat_lt}
+use Rattle.std.proofs.Common.{Option, Some, None, refl, sym, ap, ◌∙◌, subst, arith}
 use Rattle.std.specs.Prelude.{option_and_then, option_map, IsSomeAnd}
 use Rattle.std.proofs.lemmas.Bool.Decides.{nat_tests}
 use Rattle.std.proofs.lemmas.Int.{ints}
@@ -33,7 +34,8 @@ pub record IsFoundFrom (rows : ℕ) (cols : Option ℕ) (i j : ℤ) (n : ℕ) : 
   pub is_column : IsColumn cols j
   pub within : n < tile_count rows cols
 
-in_one_column : (rows : ℕ) (i j : ℤ) (n : ℕ) (c : Option ℕ) → index_in 1 j ≡ c → option_and_then (λ column. index_in rows i) c ≡ Some n → IsFoundFrom rows None i j n
+in_one_column : (rows : ℕ) (i j : ℤ) (n : ℕ) (c : Option ℕ) → index_in 1 j ≡ c
+    → option_and_then (λ column. index_in rows i) c ≡ Some n → IsFoundFrom rows None i j n
 in_one_column rows i j n None at e = absurd cc
 in_one_column rows i j n (Some c) at e =
     let col = index_in_is 1 j c at in
@@ -49,7 +51,8 @@ in_one_column rows i j n (Some c) at e =
       within = w;
     }
 
-in_row : (rows cols : ℕ) (i j : ℤ) (n c : ℕ) (r : Option ℕ) → c < cols → j ≡ pos c → index_in rows i ≡ r → option_map (λ row. row * cols + c) r ≡ Some n → IsFoundFrom rows (Some cols) i j n
+in_row : (rows cols : ℕ) (i j : ℤ) (n c : ℕ) (r : Option ℕ) → c < cols → j ≡ pos c → index_in rows i ≡ r
+    → option_map (λ row. row * cols + c) r ≡ Some n → IsFoundFrom rows (Some cols) i j n
 in_row rows cols i j n c None within column at e = absurd cc
 in_row rows cols i j n c (Some r) within column at e =
     let row = index_in_is rows i r at in
@@ -65,7 +68,9 @@ in_row rows cols i j n c (Some r) within column at e =
       within = subst (λ m. m < rows * cols) sum (row_and_column r c rows cols w within);
     }
 
-in_columns : (rows cols : ℕ) (i j : ℤ) (n : ℕ) (c : Option ℕ) → index_in cols j ≡ c → option_and_then (λ column. option_map (λ row. row * cols + column) (index_in rows i)) c ≡ Some n → IsFoundFrom rows (Some cols) i j n
+in_columns : (rows cols : ℕ) (i j : ℤ) (n : ℕ) (c : Option ℕ) → index_in cols j ≡ c
+    → option_and_then (λ column. option_map (λ row. row * cols + column) (index_in rows i)) c ≡ Some n
+    → IsFoundFrom rows (Some cols) i j n
 in_columns rows cols i j n None at e = absurd cc
 in_columns rows cols i j n (Some c) at e = let col = index_in_is cols j c at in in_row rows cols i j n c (index_in rows i) col.within col.is refl e
 
@@ -80,7 +85,8 @@ index_of_pair rows cols i j row column = rw (index_in-pos cols j column, index_i
 pub index_of_row : (rows i : ℕ) → i < rows → tile_index rows None (pos i) (pos 0) ≡ Some i
 index_of_row rows i row = index_in-pos rows i row
 
-some_index : (rows : ℕ) (cols : Option ℕ) (i j : ℤ) (n : ℕ) → tile_index rows cols i j ≡ Some n → IsSomeAnd (tile_index rows cols i j) (λ k. k < tile_count rows cols)
+some_index : (rows : ℕ) (cols : Option ℕ) (i j : ℤ) (n : ℕ) → tile_index rows cols i j ≡ Some n
+    → IsSomeAnd (tile_index rows cols i j) (λ k. k < tile_count rows cols)
 some_index rows cols i j n e = let f = found_from rows cols i j n e in rw e f.within
 
 in_range : (limit : ℕ) (i : ℤ) → IsRow limit i → (k : ℕ) × (i ≡ pos k) × (k < limit)
@@ -108,7 +114,8 @@ index_after rows (Some (suc cols)) n within =
 same_pos : (a b : ℕ) → ◌≡◌ {A = ℤ} (pos a) (pos b) → a ≡ b
 same_pos a b e = cc
 
-pub after_index : (rows : ℕ) (cols : Option ℕ) (place : List ℕ) (n : ℕ) → listed_index rows cols place ≡ Some n → (place ≡ place_after cols n) × (n < tile_count rows cols)
+pub after_index : (rows : ℕ) (cols : Option ℕ) (place : List ℕ) (n : ℕ) → listed_index rows cols place ≡ Some n
+    → (place ≡ place_after cols n) × (n < tile_count rows cols)
 after_index rows None [] n e = absurd cc
 after_index rows None (i ∷ []) n e =
     let f = found_from rows None (pos i) (pos 0) n e in

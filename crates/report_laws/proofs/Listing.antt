@@ -12,7 +12,8 @@ use Rattle.report_text.proofs.Placing.{length_places, place_at}
 use Rattle.report_laws.proofs.Indexes.{index_after, after_index}
 
 -- elements that are paired have the same index in both lists
-pub paired : {A B : Type 0} (xs : List A) (ys : List B) (x : A) (y : B) → IsIn (x, y) (zip xs ys) → (n : ℕ) × (slice_get xs n ≡ Some x) × (slice_get ys n ≡ Some y)
+pub paired : {A B : Type 0} (xs : List A) (ys : List B) (x : A) (y : B) → IsIn (x, y) (zip xs ys)
+    → (n : ℕ) × (slice_get xs n ≡ Some x) × (slice_get ys n ≡ Some y)
 paired [] ys x y among = absurd among
 paired (a ∷ xs) [] x y among = absurd among
 paired (a ∷ xs) (b ∷ ys) x y among = elim among [
@@ -47,15 +48,19 @@ nth_index rows cols n place = (forward, backward) where
       nth_place rows cols n after.1 ∙ ap Some (sym after.0)
 
 -- the tile that is paired with a place is the one at the place's index
-pub beside_place : (coll : Coll) (place : List ℕ) (tile : List ℤ) → IsIn (place, tile) (zip (places coll.shape.0 coll.shape.1) coll.tiles) ↔ option_and_then (slice_get coll.tiles) (listed_index coll.shape.0 coll.shape.1 place) ≡ Some tile
+pub beside_place : (coll : Coll) (place : List ℕ) (tile : List ℤ)
+    → IsIn (place, tile) (zip (places coll.shape.0 coll.shape.1) coll.tiles) ↔ option_and_then (slice_get coll.tiles)
+    (listed_index coll.shape.0 coll.shape.1 place) ≡ Some tile
 beside_place coll place tile = (forward, backward) where
-  forward : IsIn (place, tile) (zip (places coll.shape.0 coll.shape.1) coll.tiles) → option_and_then (slice_get coll.tiles) (listed_index coll.shape.0 coll.shape.1 place) ≡ Some tile
+  forward : IsIn (place, tile) (zip (places coll.shape.0 coll.shape.1) coll.tiles)
+      → option_and_then (slice_get coll.tiles) (listed_index coll.shape.0 coll.shape.1 place) ≡ Some tile
   forward among =
       let p = paired (places coll.shape.0 coll.shape.1) coll.tiles place tile among in
       let index = (nth_index coll.shape.0 coll.shape.1 p.0 place).0 p.1 in
       ap (option_and_then (slice_get coll.tiles)) index ∙ p.2
 
-  backward : option_and_then (slice_get coll.tiles) (listed_index coll.shape.0 coll.shape.1 place) ≡ Some tile → IsIn (place, tile) (zip (places coll.shape.0 coll.shape.1) coll.tiles)
+  backward : option_and_then (slice_get coll.tiles) (listed_index coll.shape.0 coll.shape.1 place) ≡ Some tile
+      → IsIn (place, tile) (zip (places coll.shape.0 coll.shape.1) coll.tiles)
   backward e =
       option_and_then_some (slice_get coll.tiles) (listed_index coll.shape.0 coll.shape.1 place) tile e
       (λ n index at. beside (places coll.shape.0 coll.shape.1) coll.tiles n place tile ((nth_index coll.shape.0 coll.shape.1 n place).1 index) at)

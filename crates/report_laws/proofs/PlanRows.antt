@@ -1,5 +1,6 @@
 -- The rows of an answer are of its plan: of its classes, and of their words.
-use Rattle.std.proofs.Common.{◌≡◌, ℕ, zero, suc, Bool, true, false, ◌==◌, nat_lt, if◌then◌else◌, List, [], ◌∷◌, inl, inr, Option, Some, None, Ok, Err, refl, ap, sym, ◌∙◌, subst, length, slice_get}
+use Rattle.std.proofs.Common.{◌≡◌, ℕ, zero, suc, Bool, true, false, ◌==◌, nat_lt, if◌then◌else◌, List, [], ◌∷◌, inl}
+use Rattle.std.proofs.Common.{inr, Option, Some, None, Ok, Err, refl, ap, sym, ◌∙◌, subst, length, slice_get}
 use Rattle.std.proofs.lemmas.Option.{slice_get_within, same_Some}
 use Rattle.std.specs.Prelude.{All, option_map}
 use Rattle.std.specs.Option.{option_map_or}
@@ -46,23 +47,27 @@ module _ (P : Plan) (G : Data) where
   abbrev EndAllowed : ClassPlan → Option Ended → Type 0
   EndAllowed c o = (cause : Trap) → o ≡ Some (Err cause) → IsAllowed (length c.trap_words) cause
 
-  end_allowed : (t : Task) (c : ClassPlan) (d : Delivery) → slice_get P.classes t.class ≡ Some c → has_words (length c.trap_words) c.body.statements ≡ true → EndAllowed c (ended_on P G d t)
+  end_allowed : (t : Task) (c : ClassPlan) (d : Delivery) → slice_get P.classes t.class ≡ Some c
+      → has_words (length c.trap_words) c.body.statements ≡ true → EndAllowed c (ended_on P G d t)
   unfolding ended_on
   end_allowed t c d here words cause e =
       let tiles = starting_tiles P G d t in
       let end = body_meaning c.body (locals_of P t) tiles in
-      let same : end ≡ Err cause = same_Some end (Err cause) (sym (ap (λ o. option_map (λ (k : ClassPlan). body_meaning k.body (locals_of P t) tiles) o) here) ∙ e) in
+      let same : end ≡ Err cause = same_Some end (Err cause)
+      (sym (ap (λ o. option_map (λ (k : ClassPlan). body_meaning k.body (locals_of P t) tiles) o) here) ∙ e) in
       subst (λ (r : Ended). Allows (length c.trap_words) r) same (allows-body (length c.trap_words) c.body (locals_of P t) tiles words)
 
   choice_allowed : (c : ClassPlan) (b : Bool) (o : Option Ended) → EndAllowed c o → EndAllowed c (if b then o else None)
   choice_allowed c true o h cause e = h cause e
   choice_allowed c false o h cause e = absurd cc
 
-  within_allowed : (t : Task) (c : ClassPlan) (n : ℕ) → slice_get P.classes t.class ≡ Some c → has_words (length c.trap_words) c.body.statements ≡ true → EndAllowed c (ended_within P G n t)
+  within_allowed : (t : Task) (c : ClassPlan) (n : ℕ) → slice_get P.classes t.class ≡ Some c
+      → has_words (length c.trap_words) c.body.statements ≡ true → EndAllowed c (ended_within P G n t)
   unfolding ended_within
   within_allowed t c zero here words cause e = absurd cc
   within_allowed t c (suc n) here words cause e =
-      choice_allowed c (has_all_sources P (ended_within P G n) t) (ended_on P G (source_tile (ended_within P G n)) t) (end_allowed t c (source_tile (ended_within P G n)) here words) cause e
+      choice_allowed c (has_all_sources P (ended_within P G n) t) (ended_on P G (source_tile (ended_within P G n)) t)
+      (end_allowed t c (source_tile (ended_within P G n)) here words) cause e
 
   -- a cause of such a class has a word of it
   word_of : (words : List (List ℕ)) (cause : Trap) → IsAllowed (length words) cause → HasWord words cause
@@ -79,9 +84,11 @@ module _ (P : Plan) (G : Data) where
       let c = class_of P t task in
       let well = P.well_made.fit t.class c.class c.space c.class_is c.space_is in
       let words : trap_words P t.class ≡ c.class.trap_words = ap (λ o. option_map_or (λ (k : ClassPlan). k.trap_words) o []) c.class_is in
-      subst (λ ws. HasWord ws cause) (sym words) (word_of c.class.trap_words cause (within_allowed t c.class (length (all_tasks P)) c.class_is well.words cause e))
+      subst (λ ws. HasWord ws cause) (sym words) (word_of c.class.trap_words cause
+      (within_allowed t c.class (length (all_tasks P)) c.class_is well.words cause e))
 
-  trap_row_in : (t : Task) (o : Option Ended) (row : TrapRow) → IsIn row (rows_of_end t o) → (cause : Trap) × (o ≡ Some (Err cause)) × (row ≡ record { task = t; cause = cause })
+  trap_row_in : (t : Task) (o : Option Ended) (row : TrapRow) → IsIn row (rows_of_end t o)
+      → (cause : Trap) × (o ≡ Some (Err cause)) × (row ≡ record { task = t; cause = cause })
   trap_row_in t None row i = absurd i
   trap_row_in t (Some (Ok tiles)) row i = absurd i
   trap_row_in t (Some (Err cause)) row i = elim i [ inl e ↦ (cause, refl, e) | inr n ↦ absurd n ]
@@ -114,7 +121,8 @@ module _ (P : Plan) (G : Data) where
   by_traps (r ∷ rows) h = h
   by_traps [] h = by_count (length (ran P G) == length (all_tasks P))
     where
-      by_count : (b : Bool) → HasRowsOf P (if b then Complete (length (all_tasks P)) (final_data P G) else Stalled (length (ran P G)) (length (all_tasks P)) (waiting P G))
+      by_count : (b : Bool) → HasRowsOf P (if b then Complete (length (all_tasks P)) (final_data P G) else Stalled
+          (length (ran P G)) (length (all_tasks P)) (waiting P G))
       by_count true = tt
       by_count false = waits_allowed
 

@@ -80,9 +80,12 @@ module _ (n : ℕ) where
   allows-value slots tiles (Unary o a) =
       allows-and_then (body_value slots tiles a) (λ x. map_fault trap_of (unary_value o x)) (allows-value slots tiles a) (λ x. allows-fault (unary_value o x))
   allows-value slots tiles (Binary o a b) =
-      allows-and_then (body_value slots tiles a) (λ x. option_map_or Ok (decided o x) (and_then (body_value slots tiles b) (λ y. map_fault trap_of (arithmetic o x y)))) (allows-value slots tiles a)
+      allows-and_then (body_value slots tiles a) (λ x. option_map_or Ok (decided o x)
+      (and_then (body_value slots tiles b) (λ y. map_fault trap_of (arithmetic o x y))))
+      (allows-value slots tiles a)
       (λ x. allows-decided (decided o x) (and_then (body_value slots tiles b) (λ y. map_fault trap_of (arithmetic o x y)))
-      (allows-and_then (body_value slots tiles b) (λ y. map_fault trap_of (arithmetic o x y)) (allows-value slots tiles b) (λ y. allows-fault (arithmetic o x y))))
+      (allows-and_then (body_value slots tiles b) (λ y. map_fault trap_of (arithmetic o x y))
+      (allows-value slots tiles b) (λ y. allows-fault (arithmetic o x y))))
   allows-value slots tiles (Choose c a b) =
       allows-and_then (body_value slots tiles c) (λ x. if holds x then body_value slots tiles a else body_value slots tiles b) (allows-value slots tiles c)
       (λ x. allows-choice (holds x) (body_value slots tiles a) (body_value slots tiles b) (allows-value slots tiles a) (allows-value slots tiles b))
@@ -112,7 +115,8 @@ module _ (n : ℕ) where
 
   allows-turns : (block : State → Result State Trap) (m : ℕ) → AllowsAll block → (values : List ℤ) → AllowsAll (turns block m values)
   allows-turns block m h [] s = tt
-  allows-turns block m h (v ∷ more) s = allows-first_then (λ t. block (assigned m v t)) (turns block m more) (λ t. h (assigned m v t)) (allows-turns block m h more) s
+  allows-turns block m h (v ∷ more) s = allows-first_then (λ t. block (assigned m v t)) (turns block m more)
+      (λ t. h (assigned m v t)) (allows-turns block m h more) s
 
   allows-for : (m : ℕ) (lo hi : Term) (block : State → Result State Trap) → AllowsAll block → AllowsAll (for_meaning m lo hi block)
   allows-for m lo hi block h s =
@@ -127,7 +131,8 @@ module _ (n : ℕ) where
   allows-run (IfThen c first second rest) h s =
       let p = and_parts (has_words n first && has_words n second) (has_words n rest) h in
       let q = and_parts (has_words n first) (has_words n second) p.0 in
-      allows-first_then (if_meaning c (run first) (run second)) (run rest) (allows-if c (run first) (run second) (allows-run first q.0) (allows-run second q.1)) (allows-run rest p.1) s
+      allows-first_then (if_meaning c (run first) (run second)) (run rest)
+      (allows-if c (run first) (run second) (allows-run first q.0) (allows-run second q.1)) (allows-run rest p.1) s
   allows-run (ForThen m lo hi turn rest) h s =
       let p = and_parts (has_words n turn) (has_words n rest) h in
       allows-first_then (for_meaning m lo hi (run turn)) (run rest) (allows-for m lo hi (run turn) (allows-run turn p.0)) (allows-run rest p.1) s
@@ -136,6 +141,8 @@ module _ (n : ℕ) where
       allows-first_then (λ t. Err (Word w)) (run rest) (λ t. ltb-true w n p.0) (allows-run rest p.1) s
 
   -- a body with such words traps with one of them
-  pub allows-body : (body : Body) (locals : List ℤ) (tiles : List (Option (List ℤ))) → has_words n body.statements ≡ true → Allows n (body_meaning body locals tiles)
+  pub allows-body : (body : Body) (locals : List ℤ) (tiles : List (Option (List ℤ)))
+      → has_words n body.statements ≡ true → Allows n (body_meaning body locals tiles)
   allows-body body locals tiles h =
-      allows-and_then (run body.statements (opening locals body.slots tiles task_budget)) (λ s. Ok s.tiles) (allows-run body.statements h (opening locals body.slots tiles task_budget)) (λ s. tt)
+      allows-and_then (run body.statements (opening locals body.slots tiles task_budget)) (λ s. Ok s.tiles)
+      (allows-run body.statements h (opening locals body.slots tiles task_budget)) (λ s. tt)

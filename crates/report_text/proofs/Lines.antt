@@ -20,7 +20,8 @@ each_field (field ∷ fields) =
     ∙ ap (λ t. with_commas (field_texts field) ++ t) (each_field fields)
 
 -- a word, fields and LF
-pub line_parts : (word : List ℕ) (fields : List Field) → line (word ∷ flat_map field_texts fields) ≡ word ++ (flat_map (λ field. with_commas (field_texts field)) fields ++ 10 ∷ [])
+pub line_parts : (word : List ℕ) (fields : List Field) → line (word ∷ flat_map field_texts fields)
+    ≡ word ++ (flat_map (λ field. with_commas (field_texts field)) fields ++ 10 ∷ [])
 line_parts word fields =
     let texts = flat_map (λ (field : Field). with_commas (field_texts field)) fields in
     ap (λ t. t ++ 10 ∷ []) (joined word (flat_map field_texts fields) ∙ ap (λ t. word ++ t) (each_field fields))

@@ -28,7 +28,9 @@ length_placed coll whole =
     length-zip (places coll.shape.0 coll.shape.1) coll.tiles ∙ omega (arith, count, whole.all_tiles)
 
 -- a tile beside its place
-pub placed_tile : (coll : Coll) (n : ℕ) (tile : List ℤ) → IsWhole coll → n < length coll.tiles → tile ≡ get_or coll.tiles n tile → (place_after coll.shape.1 n, tile) ≡ get_or (placed coll) n (place_after coll.shape.1 n, tile)
+pub placed_tile : (coll : Coll) (n : ℕ) (tile : List ℤ) → IsWhole coll → n < length coll.tiles
+    → tile ≡ get_or coll.tiles n tile → (place_after coll.shape.1 n, tile)
+    ≡ get_or (placed coll) n (place_after coll.shape.1 n, tile)
 placed_tile coll n tile whole within is =
     let place = place_after coll.shape.1 n in
     let count : n < tile_count coll.shape.0 coll.shape.1 = omega (arith, within, whole.all_tiles) in

@@ -1,5 +1,6 @@
 -- A sort by tasks puts rows of different tasks in task order.
-use Rattle.std.proofs.Common.{◌≡◌, ℕ, zero, suc, ◌+◌, ◌<◌, ◌≤◌, Bool, true, false, not, cond, List, [], ◌∷◌, length, get_or, refl, ap, sym, ◌∙◌, subst, inl, inr, arith}
+use Rattle.std.proofs.Common.{◌≡◌, ℕ, zero, suc, ◌+◌, ◌<◌, ◌≤◌, Bool, true, false, not, cond, List, [], ◌∷◌, length}
+use Rattle.std.proofs.Common.{get_or, refl, ap, sym, ◌∙◌, subst, inl, inr, arith}
 use Rattle.std.proofs.lemmas.Bool.{false≢true, and_parts, and_from, not-true}
 use Rattle.std.proofs.lemmas.List.Sorted.{answers_always, ranks_by, sorted_far, IsPermutation-sym, Contains-permutation, sum_by-IsPermutation}
 use Rattle.std.specs.List.{filter}
@@ -52,7 +53,8 @@ module _ {A : Type 0} (key : A → Task) where
   IsUp (x ∷ xs) = ((y : A) → IsIn y xs → lt y x ≡ false) × IsUp xs
 
   -- two rows may change places among those that tie with a row, if they don't both tie with it
-  either_way : (x y : A) (l : List A) (a b : Bool) → (a ≡ true → b ≡ true → ⊥) → cond b (y ∷ cond a (x ∷ l) l) (cond a (x ∷ l) l) ≡ cond a (x ∷ cond b (y ∷ l) l) (cond b (y ∷ l) l)
+  either_way : (x y : A) (l : List A) (a b : Bool) → (a ≡ true → b ≡ true → ⊥)
+      → cond b (y ∷ cond a (x ∷ l) l) (cond a (x ∷ l) l) ≡ cond a (x ∷ cond b (y ∷ l) l) (cond b (y ∷ l) l)
   either_way x y l true true apart = absurd (apart refl refl)
   either_way x y l true false apart = refl
   either_way x y l false true apart = refl
@@ -77,11 +79,13 @@ module _ {A : Type 0} (key : A → Task) where
   up_insert x (y ∷ ys) up =
       by_test (lt y x)
       (λ h.
-      let first : (w : A) → IsIn w (insert_by key x ys) → lt w y ≡ false = λ w i. elim (from_insert key w x ys i) [ inl e ↦ subst (λ v. lt v y ≡ false) (sym e) (weak_order.one_way y x h) | inr t ↦ up.0 w t ] in
+      let first : (w : A) → IsIn w (insert_by key x ys) → lt w y ≡ false = λ w i. elim (from_insert key w x ys i)
+      [ inl e ↦ subst (λ v. lt v y ≡ false) (sym e) (weak_order.one_way y x h) | inr t ↦ up.0 w t ] in
       let all : IsUp (y ∷ insert_by key x ys) = (first, up_insert x ys up.1) in
       subst IsUp (sym (insert_past key x y ys h)) all)
       (λ h.
-      let first : (w : A) → IsIn w (y ∷ ys) → lt w x ≡ false = λ w i. elim i [ inl e ↦ subst (λ v. lt v x ≡ false) (sym e) h | inr t ↦ weak_order.chain w y x (up.0 w t) h ] in
+      let first : (w : A) → IsIn w (y ∷ ys) → lt w x ≡ false = λ w i. elim i
+      [ inl e ↦ subst (λ v. lt v x ≡ false) (sym e) h | inr t ↦ weak_order.chain w y x (up.0 w t) h ] in
       let all : IsUp (x ∷ y ∷ ys) = (first, up) in
       subst IsUp (sym (insert_here key x y ys h)) all)
 
@@ -125,7 +129,8 @@ module _ {A : Type 0} (key : A → Task) where
       let heads = sym (kept_first (ties lt y) y ys (self_tie y)) ∙ e y ∙ kept_first (ties lt y) z zs tie in
       let same : y ≡ z = cc in
       let rest : (w : A) → filter (ties lt w) ys ≡ filter (ties lt w) zs =
-      λ w. rest_same (ties lt w y) y (filter (ties lt w) ys) (filter (ties lt w) zs) (e w ∙ ap (λ v. cond (ties lt w v) (v ∷ filter (ties lt w) zs) (filter (ties lt w) zs)) (sym same)) in
+      λ w. rest_same (ties lt w y) y (filter (ties lt w) ys) (filter (ties lt w) zs)
+      (e w ∙ ap (λ v. cond (ties lt w v) (v ∷ filter (ties lt w) zs) (filter (ties lt w) zs)) (sym same)) in
       ap (λ v. v ∷ ys) same ∙ ap (λ l. z ∷ l) (same_lists ys zs up.1 also.1 rest)
 
   sorted_rest : (x : A) (xs : List A) → IsSortedBy lt (x ∷ xs) → IsSortedBy lt xs
@@ -179,7 +184,9 @@ module _ {A : Type 0} (key : A → Task) where
       in_of y ys found.0 found.1 found.2
 
   -- if at most one row passes a test, the same one passes in any order
-  same_one : (p : A → Bool) (xs ys cs bs : List A) → ((y : A) → IsIn y xs → IsIn y ys) → ((y : A) → IsIn y ys → IsIn y xs) → filter p xs ≡ cs → filter p ys ≡ bs → length cs ≤ 1 → length bs ≤ 1 → cs ≡ bs
+  same_one : (p : A → Bool) (xs ys cs bs : List A) → ((y : A) → IsIn y xs → IsIn y ys)
+      → ((y : A) → IsIn y ys → IsIn y xs) → filter p xs ≡ cs → filter p ys ≡ bs → length cs ≤ 1 → length bs ≤ 1
+      → cs ≡ bs
   same_one p xs ys [] [] to from e f one other = refl
   same_one p xs ys [] (b ∷ bs) to from e f one other =
       let k = first_kept p b bs ys f in absurd (subst (IsIn b) e ((IsIn-filter p xs b).1 (from b k.0, k.1)))
@@ -192,12 +199,14 @@ module _ {A : Type 0} (key : A → Task) where
   same_one p xs ys (a ∷ []) (b ∷ c ∷ bs) to from e f one other = absurd (omega (arith, other))
 
   -- rows of different tasks have one order
-  pub one_order : (xs ys : List A) → ((y : A) → IsIn y xs → IsIn y ys) → ((y : A) → IsIn y ys → IsIn y xs) → AreOfDifferentTasks key xs → AreOfDifferentTasks key ys → in_task_order key xs ≡ in_task_order key ys
+  pub one_order : (xs ys : List A) → ((y : A) → IsIn y xs → IsIn y ys) → ((y : A) → IsIn y ys → IsIn y xs)
+      → AreOfDifferentTasks key xs → AreOfDifferentTasks key ys → in_task_order key xs ≡ in_task_order key ys
   one_order xs ys to from once other =
       same_lists (in_task_order key xs) (in_task_order key ys) (up_order xs) (up_order ys)
       (λ w.
       order_kept w xs
-      ∙ same_one (ties lt w) xs ys (filter (ties lt w) xs) (filter (ties lt w) ys) to from refl refl (omega (arith, few_ties w xs, once (key w))) (omega (arith, few_ties w ys, other (key w)))
+      ∙ same_one (ties lt w) xs ys (filter (ties lt w) xs) (filter (ties lt w) ys) to from refl refl
+      (omega (arith, few_ties w xs, once (key w))) (omega (arith, few_ties w ys, other (key w)))
       ∙ sym (order_kept w ys))
 
   -- a sort of rows of different tasks by their tasks puts them in task order
@@ -205,13 +214,18 @@ module _ {A : Type 0} (key : A → Task) where
   sorted_is xs ys up moves once =
       same_lists ys (in_task_order key xs) (up_from ys up) (up_order xs)
       (λ w.
-      sym (same_one (ties lt w) xs ys (filter (ties lt w) xs) (filter (ties lt w) ys) (λ y. in_moved y xs ys moves) (λ y. in_moved y ys xs (IsPermutation-sym xs ys moves)) refl refl (omega (arith, few_ties w xs, once (key w))) (omega (arith, few_ties w ys, differ_moved xs ys moves once (key w))))
+      sym (same_one (ties lt w) xs ys (filter (ties lt w) xs) (filter (ties lt w) ys) (λ y. in_moved y xs ys moves)
+      (λ y. in_moved y ys xs (IsPermutation-sym xs ys moves)) refl refl (omega (arith, few_ties w xs, once (key w)))
+      (omega (arith, few_ties w ys, differ_moved xs ys moves once (key w))))
       ∙ sym (order_kept w xs))
 
   -- the same for `sort_unstable_by`, if each call of its closure compares the tasks of the two rows
-  pub sorted_from_sort_by : {F : Type 0} {g : Mut F (Bor A × (Bor A × Unit {0})) Ordering} {f : F} (xs ys : List A) → IsSortedByClosure g f ys → IsPermutation xs ys → AreOfDifferentTasks key xs →
-      ((f : F) (a : Bor A × (Bor A × Unit {0})) (r : Ordering) (f' : F) → Called g f a r f' → r ≡ task_cmp (key a.0.now) (key a.1.0.now)) → ys ≡ in_task_order key xs
+  pub sorted_from_sort_by : {F : Type 0} {g : Mut F (Bor A × (Bor A × Unit {0})) Ordering} {f : F} (xs ys : List A)
+      → IsSortedByClosure g f ys → IsPermutation xs ys → AreOfDifferentTasks key xs →
+      ((f : F) (a : Bor A × (Bor A × Unit {0})) (r : Ordering) (f' : F) → Called g f a r f'
+      → r ≡ task_cmp (key a.0.now) (key a.1.0.now)) → ys ≡ in_task_order key xs
   sorted_from_sort_by {g = g} {f = f} xs ys up moves once compares =
       let always : ComparesAs g lt f =
-      answers_always g (λ a r. is_lt r ≡ lt a.0.now a.1.0.now) f (λ f a r f' k. ap is_lt (compares f a r f' k) ∙ task_before-cmp (key a.0.now) (key a.1.0.now)) in
+      answers_always g (λ a r. is_lt r ≡ lt a.0.now a.1.0.now) f
+      (λ f a r f' k. ap is_lt (compares f a r f' k) ∙ task_before-cmp (key a.0.now) (key a.1.0.now)) in
       sorted_is xs ys (up lt weak_order always) moves once

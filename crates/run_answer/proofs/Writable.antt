@@ -28,13 +28,16 @@ use Rattle.dep_iter.proofs.Items.{item_write}
 use Rattle.flow_meaning.specs.Sound.{IsSoundState}
 
 -- a tile of a collection's datatype may be a tile of that collection
-tile_of_coll : (P : Plan) (G : Data) → DataFit P G → (coll datatype : ℕ) (tile : List ℤ) → option_map_or (λ (s : Shape). eqb s.datatype datatype) (slice_get P.colls coll) false ≡ true
+tile_of_coll : (P : Plan) (G : Data) → DataFit P G → (coll datatype : ℕ) (tile : List ℤ)
+    → option_map_or (λ (s : Shape). eqb s.datatype datatype) (slice_get P.colls coll) false ≡ true
     → length tile ≡ slice_index P.elems datatype → IsTileOf G coll tile
 tile_of_coll P G fit coll datatype tile type long =
     by (slice_get G.colls coll)
-    (subst (λ o. option_map_or (λ (s : Shape). eqb s.datatype datatype) o false ≡ true) (ap (λ cs. slice_get cs coll) (sym fit.collections) ∙ slice_get-map shape_of G.colls coll) type)
+    (subst (λ o. option_map_or (λ (s : Shape). eqb s.datatype datatype) o false ≡ true)
+    (ap (λ cs. slice_get cs coll) (sym fit.collections) ∙ slice_get-map shape_of G.colls coll) type)
   where
-    by : (o : Option Coll) → option_map_or (λ (s : Shape). eqb s.datatype datatype) (option_map shape_of o) false ≡ true → IfSome o (λ (c : Coll). length tile ≡ slice_index (elements_by_type G) c.datatype)
+    by : (o : Option Coll) → option_map_or (λ (s : Shape). eqb s.datatype datatype) (option_map shape_of o) false ≡ true
+        → IfSome o (λ (c : Coll). length tile ≡ slice_index (elements_by_type G) c.datatype)
     by None h = absurd (false≢true h)
     by (Some c) h = long ∙ ap (λ es. slice_index es datatype) (sym fit.elements) ∙ ap (slice_index (elements_by_type G)) (sym (eqb-true c.datatype datatype h))
 

@@ -1,5 +1,6 @@
 -- What a claim changes of the entries of a table.
-use Rattle.std.proofs.Common.{◌≡◌, ◌≢◌, ℕ, ◌<◌, Bool, true, false, cond, ◌==◌, ◌&&◌, ◌||◌, List, map, nat_lt, Some, None, refl, sym, ap, ◌∙◌, subst, arith, eq-eqb, ne_eqb}
+use Rattle.std.proofs.Common.{◌≡◌, ◌≢◌, ℕ, ◌<◌, Bool, true, false, cond, ◌==◌, ◌&&◌, ◌||◌, List, map, nat_lt, Some}
+use Rattle.std.proofs.Common.{None, refl, sym, ap, ◌∙◌, subst, arith, eq-eqb, ne_eqb}
 use Rattle.std.proofs.lemmas.Bool.{false_from_ne_true, le-ltb}
 use Rattle.std.proofs.lemmas.List.Elements.{filter_agree}
 use Rattle.list_lemmas.proofs.Truth.{by_test, and-false}
@@ -50,7 +51,12 @@ module _ (P : Plan) (G : Data) (S : MachineState) (t : Task) where
   claimed_now = omega (arith, weigh-push (λ x. as_number (same_task t x)) S.claims t, ap as_number ((same_task-decides t t).1 refl))
 
   claimed_before : (u : Task) → t ≢ u → claim_count (state_after P G S (Claim t)) u ≡ claim_count S u
-  claimed_before u other = omega (arith, weigh-push (λ x. as_number (same_task u x)) S.claims t, ap as_number (false_from_ne_true (same_task u t) (λ e. other (sym ((same_task-decides u t).0 e)))))
+  claimed_before u other = omega (
+    arith,
+    weigh-push (λ x. as_number (same_task u x)) S.claims t,
+    ap as_number
+        (false_from_ne_true (same_task u t) (λ e. other (sym ((same_task-decides u t).0 e)))),
+  )
 
   pub taken : table_entry P (state_after P G S (Claim t)) t ≡ None
   taken = ap (λ b. cond b (Some (entry_of P S t)) None) (claimed_not_there (claim_count (state_after P G S (Claim t)) t) (arrived P S t) (goal P t) claimed_now)

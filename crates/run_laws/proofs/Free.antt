@@ -1,5 +1,6 @@
 -- No tile has come to the flow of an edge that may be sent.
-use Rattle.std.proofs.Common.{◌≡◌, ◌≢◌, ℕ, suc, ◌+◌, ℤ, cond, List, [], ◌∷◌, ◌++◌, map, refl, ap, sym, ◌∙◌, subst, arith, Option, Some, None, slice_get, nat_eq, add-zero}
+use Rattle.std.proofs.Common.{◌≡◌, ◌≢◌, ℕ, suc, ◌+◌, ℤ, cond, List, [], ◌∷◌, ◌++◌, map, refl, ap, sym, ◌∙◌, subst}
+use Rattle.std.proofs.Common.{arith, Option, Some, None, slice_get, nat_eq, add-zero}
 use Rattle.std.specs.Map.{lookup}
 use Rattle.std.specs.Prelude.{option_to_list}
 use Rattle.std.specs.Cmp.{unsigned_Decides}
@@ -41,7 +42,8 @@ lookup_past flow [] ys none = refl
 lookup_past flow (x ∷ xs) ys none =
     by_test (nat_eq flow x.0)
     (λ k. let some : Some x.1 ≡ None = sym (ap (λ b. cond b (Some x.1) (lookup (nat_eq flow) xs)) k) ∙ none in absurd cc)
-    (λ k. ap (λ b. cond b (Some x.1) (lookup (nat_eq flow) (xs ++ ys))) k ∙ lookup_past flow xs ys (sym (ap (λ b. cond b (Some x.1) (lookup (nat_eq flow) xs)) k) ∙ none))
+    (λ k. ap (λ b. cond b (Some x.1) (lookup (nat_eq flow) (xs ++ ys))) k
+    ∙ lookup_past flow xs ys (sym (ap (λ b. cond b (Some x.1) (lookup (nat_eq flow) xs)) k) ∙ none))
 
 -- if an edge delivers nothing, no tile comes to its flow
 module _ (P : Plan) (t : Task) (task : IsTask P t) (well : IsWellTask P t) (e : Edge) (among : IsIn e (in_edges P t)) (d : Delivery) (none : d e ≡ None) where
@@ -65,17 +67,21 @@ module _ (P : Plan) (t : Task) (task : IsTask P t) (well : IsWellTask P t) (e : 
       (λ ne. elsewhere n (data_source P t n) ne))
       (λ k. ap (λ b. lookup (nat_eq e.in_flow) (cond b (delivered_from d n (data_source P t n)) [])) k)
 
-  nothing_to : (n : ℕ) (fs : List FlowPlan) → ((i : ℕ) (f : FlowPlan) → slice_get fs i ≡ Some f → slice_get (flows_of P t) (n + i) ≡ Some f) → lookup (nat_eq e.in_flow) (delivered_to P d t n fs) ≡ None
+  nothing_to : (n : ℕ) (fs : List FlowPlan) → ((i : ℕ) (f : FlowPlan) → slice_get fs i ≡ Some f
+      → slice_get (flows_of P t) (n + i) ≡ Some f) → lookup (nat_eq e.in_flow) (delivered_to P d t n fs) ≡ None
   nothing_to n [] at = refl
   nothing_to n (f ∷ fs) at =
-      lookup_past e.in_flow (delivered_tile P d t n f) (delivered_to P d t (suc n) fs) (nothing_at n f (subst (λ m. slice_get (flows_of P t) m ≡ Some f) (add-zero n) (at 0 f refl)))
+      lookup_past e.in_flow (delivered_tile P d t n f) (delivered_to P d t (suc n) fs)
+      (nothing_at n f (subst (λ m. slice_get (flows_of P t) m ≡ Some f) (add-zero n) (at 0 f refl)))
       ∙ nothing_to (suc n) fs (λ i g q. subst (λ m. slice_get (flows_of P t) m ≡ Some g) (omega arith) (at (suc i) g q))
 
   pub no_tile_of : tile_of (delivered_tiles P d t) e.in_flow ≡ None
   unfolding delivered_tiles
   no_tile_of = nothing_to 0 (flows_of P t) (λ i g q. subst (λ m. slice_get (flows_of P t) m ≡ Some g) (omega arith) q)
 
-module _ (P : Plan) (G : Data) (con : IsConsistent P) (of : Placement) (k : ℕ) (R : Moment) (sound : IsSoundState P G R.state) (e : Edge) (may : MaySend P G R.state (item.Edge e)) (y : Content) (at : of e.to ≡ k) (h : IsShardOf P G of k R y) where
+module _ (P : Plan) (G : Data) (con : IsConsistent P) (of : Placement) (k : ℕ) (R : Moment)
+    (sound : IsSoundState P G R.state) (e : Edge) (may : MaySend P G R.state (item.Edge e)) (y : Content)
+    (at : of e.to ≡ k) (h : IsShardOf P G of k R y) where
   -- no tile has come to the flow
   pub target_free : tile_of (entry_before y e.to (goal P e.to) (priority P e.to)).tiles e.in_flow ≡ None
   target_free =

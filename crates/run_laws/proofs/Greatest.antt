@@ -42,10 +42,18 @@ module _ (P : Plan) (G : Data) (con : IsConsistent P) (calm : trapped P G ≡ []
   same_count : (t : Task) → count (same_task t) ts ≡ count (same_task t) (ran P G)
   unfolding ran
   same_count t =
-      let there = once_each (filter (λ u. is_some (ended P G u)) (all_tasks P)) (HasNoRepeats-filter (λ u. is_some (ended P G u)) (all_tasks P) (once-all_tasks P)) t in
+      let there = once_each (filter (λ u. is_some (ended P G u)) (all_tasks P))
+      (HasNoRepeats-filter (λ u. is_some (ended P G u)) (all_tasks P) (once-all_tasks P)) t in
       let here = once_each ts (legal_once P [] ts g.legal) t in
       elim (member_or_not t ts) [
-        | inl i ↦ omega (arith, here, there, count-some (same_task t) ts t i ((same_task-decides t t).1 refl), count-some (same_task t) (ran P G) t ((members_ran P G con calm ts g t).0 i) ((same_task-decides t t).1 refl))
+        | inl i ↦ omega (
+          arith,
+          here,
+          there,
+          count-some (same_task t) ts t i ((same_task-decides t t).1 refl),
+          count-some (same_task t) (ran P G) t ((members_ran P G con calm ts g t).0 i)
+              ((same_task-decides t t).1 refl),
+        )
         | inr absent ↦ uncounted t ts absent ∙ sym (uncounted t (ran P G) (λ i. absent ((members_ran P G con calm ts g t).1 i)))
       ]
 

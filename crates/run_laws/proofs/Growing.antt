@@ -32,13 +32,22 @@ module _ (P : Plan) (G : Data) where
   bars_or_may before t i = elim (member_or_not t before) [
     | inl old ↦ inl (λ m. m.follows.first_time old)
     | inr new ↦ elim (all_or_missing P G before (in_edges P t)) [
-      | inl all ↦ inr (record { follows = record { task = (listed P t).1 i; first_time = new; after_sources = λ e j. (all e j).0 }; have_outputs = λ e j. (all e j).1 })
+      | inl all ↦ inr (record {
+        follows = record {
+          task = (listed P t).1 i;
+          first_time = new;
+          after_sources = λ e j.
+              (all e j).0;
+        };
+        have_outputs = λ e j. (all e j).1;
+      })
       | inr p ↦ inl (λ m. not_missing P G before t m p.0 p.1 p.2)
     ]
   ]
 
   few : (ts : List Task) → MayAllRunAfter P G [] ts → length ts ≤ length (all_tasks P)
-  few ts may = let legal = may_legal P G [] ts may in no_longer ts (all_tasks P) (legal_once P [] ts legal) (λ t i. (listed P t).0 (legal_tasks P [] ts legal t i))
+  few ts may = let legal = may_legal P G [] ts may in no_longer ts (all_tasks P) (legal_once P [] ts legal)
+      (λ t i. (listed P t).0 (legal_tasks P [] ts legal t i))
 
   module _ (con : IsConsistent P) where
     module _ (ts : List Task) (none : (t : Task) → MayRunAfter P G ts t → ⊥) where
@@ -56,7 +65,9 @@ module _ (P : Plan) (G : Data) where
                 task = job;
                 first_time = absent;
                 after_sources = λ d i.
-                    let o = with_outputs (ended_within P G n d.from) (member_passes (λ (x : Edge). has_outputs (ended_within P G n x.from)) (in_edges P t) all d i) in
+                    let o = with_outputs (ended_within P G n d.from)
+                    (member_passes (λ (x : Edge). has_outputs (ended_within P G n x.from)) (in_edges P t) all d i)
+                    in
                     let s = with_outputs (ended P G d.from) (outputs d i) in
                     within n d.from (source_is_task P con t job d i) (ap is_some s.1) o.0 o.1;
               };

@@ -23,7 +23,8 @@ pub end_moment : (P : Plan) (G : Data) (R : Moment) → IsSoundMoment P G R → 
 end_moment P G R sound t runs = record {
   state = sound.state;
   claimed = λ u. by_test (same_task u t)
-      (λ k. subst (λ v. run_count (with_end R t) v ≤ claim_count R.state v) (sym ((same_task-decides u t).0 k)) (omega (arith, sound.claimed t, runs_once_less R t runs)))
+      (λ k. subst (λ v. run_count (with_end R t) v ≤ claim_count R.state v) (sym ((same_task-decides u t).0 k))
+      (omega (arith, sound.claimed t, runs_once_less R t runs)))
       (λ k. omega (arith, sound.claimed u, runs_as_before R t u runs (λ e. differ u e k)));
 }
   where
@@ -34,7 +35,12 @@ module _ (P : Plan) (G : Data) (con : IsConsistent P) (R : Moment) (sound : IsSo
   pub claim_moment : (t : Task) → MayClaim P R.state t → IsSoundMoment P G (with_claim R t)
   claim_moment t may = record {
     state = claim_sound P G con R.state sound.state t may;
-    claimed = λ u. omega (arith, sound.claimed u, weigh-push (λ v. as_number (same_task u v)) R.state.claims t, weigh-push (λ v. as_number (same_task u v)) R.running t);
+    claimed = λ u. omega (
+      arith,
+      sound.claimed u,
+      weigh-push (λ v. as_number (same_task u v)) R.state.claims t,
+      weigh-push (λ v. as_number (same_task u v)) R.running t,
+    );
   }
 
   pub send_moment : (i : Item) → MaySend P G R.state i → IsSoundMoment P G (with_send P G R i)

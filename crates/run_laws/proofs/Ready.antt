@@ -16,6 +16,13 @@ use Rattle.shard_meaning.proofs.ReadyCount.{ready_count}
 -- if no task is ready and none runs, the moment is calm
 pub calm_by_count : (P : Plan) (R : Moment) → length (ready_tasks P R.state) ≡ 0 → R.running ≡ [] → IsCalm P R
 calm_by_count P R none idle = record {
-  none_ready = λ t may. absurd (omega (arith, none, ready_count P R.state, count-some (is_ready P R.state) (all_tasks P) t ((listed P t).0 may.task) (and_from (is_unclaimed R.state t) (arrived P R.state t == goal P t) (eq-eqb (claim_count R.state t) 0 may.unclaimed) (eq-eqb (arrived P R.state t) (goal P t) may.all_arrived))));
+  none_ready = λ t may. absurd (omega (
+    arith,
+    none,
+    ready_count P R.state,
+    count-some (is_ready P R.state) (all_tasks P)
+        t ((listed P t).0 may.task) (and_from (is_unclaimed R.state t) (arrived P R.state t == goal P t)
+        (eq-eqb (claim_count R.state t) 0 may.unclaimed) (eq-eqb (arrived P R.state t) (goal P t) may.all_arrived)),
+  ));
   none_runs = idle;
 }

@@ -16,7 +16,8 @@ use Rattle.dep_iter.proofs.Listing.{listed}
 use Rattle.chain_cert.proofs.Orders.{legal_once, legal_tasks}
 use Rattle.flow_meaning.specs.Order.{IsWholeOrder}
 
-pub spelled_text : (P : Plan) (ts : List Task) → AllByRecursion IsSpelled (map (row_of P) ts) → length ts ≤ 1000000 → IsWellSpelled (trace_text P ts) (map (row_of P) ts)
+pub spelled_text : (P : Plan) (ts : List Task) → AllByRecursion IsSpelled (map (row_of P) ts) → length ts ≤ 1000000
+    → IsWellSpelled (trace_text P ts) (map (row_of P) ts)
 unfolding trace_text
 spelled_text P ts rows le =
     let es = map (row_of P) ts in
@@ -27,11 +28,14 @@ spelled_text P ts rows le =
       spelled = rows;
     }
 
-pub one_list : (P : Plan) (ts us : List Task) → AllByRecursion (IsTask P) ts → AllByRecursion (IsTask P) us → AllByRecursion IsSpelled (map (row_of P) ts) → AllByRecursion IsSpelled (map (row_of P) us) → length ts ≤ 1000000 → length us ≤ 1000000 → trace_text P ts ≡ trace_text P us → ts ≡ us
+pub one_list : (P : Plan) (ts us : List Task) → AllByRecursion (IsTask P) ts → AllByRecursion (IsTask P) us
+    → AllByRecursion IsSpelled (map (row_of P) ts) → AllByRecursion IsSpelled (map (row_of P) us) → length ts ≤ 1000000
+    → length us ≤ 1000000 → trace_text P ts ≡ trace_text P us → ts ≡ us
 one_list P ts us h k rows lines le ge e =
     let w = spelled_text P ts rows le in
     let v = spelled_text P us lines ge in
-    same_list P ts us h k (one_spelling (trace_text P us) (map (row_of P) ts) (map (row_of P) us) (subst (λ text. IsWellSpelled text (map (row_of P) ts)) e w) v)
+    same_list P ts us h k (one_spelling (trace_text P us) (map (row_of P) ts) (map (row_of P) us)
+    (subst (λ text. IsWellSpelled text (map (row_of P) ts)) e w) v)
 
 pub whole_length : (P : Plan) (G : Data) → IsConsistent P → (ts : List Task) → IsWholeOrder P G ts → length ts ≤ 1000000
 whole_length P G con ts w =

@@ -28,7 +28,9 @@ use Rattle.shard_meaning.proofs.Due.{unsent_yet}
 
 module _ (P : Plan) (G : Data) (con : IsConsistent P) (of : Placement) (k : ℕ) (R : Moment) (sound : IsSoundState P G R.state) where
   write_listed : (v : WriteBack) → IsIn (sender (item.Write v)) R.state.claims → IsIn (item.Write v) (items P v.from) → IsIn v (all_writes P)
-  write_listed v claimed among = IsIn-flat_map (write_backs P) (all_tasks P) v.from v ((listed P v.from).0 (sound.claimed_have_all v.from claimed).task) (IsIn-filter_map write_of (items P v.from) (item.Write v) v among refl)
+  write_listed v claimed among = IsIn-flat_map (write_backs P) (all_tasks P) v.from v
+      ((listed P v.from).0 (sound.claimed_have_all v.from claimed).task)
+      (IsIn-filter_map write_of (items P v.from) (item.Write v) v among refl)
 
   -- no two write-backs that were sent go to one place
   module _ (w : WriteBack) (may : MaySend P G R.state (item.Write w)) where
@@ -44,7 +46,8 @@ module _ (P : Plan) (G : Data) (con : IsConsistent P) (of : Placement) (k : ℕ)
     here_is p h = ap (λ i. (write_in i).place) ((same_item-decides (item.Write (record { from = w.from; flow = w.flow; place = p })) (item.Write w)).0 h)
 
     is_at : (p : Place) → p ≡ w.place → is_here p ≡ true
-    is_at p e = (same_item-decides (item.Write (record { from = w.from; flow = w.flow; place = p })) (item.Write w)).1 (ap (λ (q : Place). item.Write (record { from = w.from; flow = w.flow; place = q })) e)
+    is_at p e = (same_item-decides (item.Write (record { from = w.from; flow = w.flow; place = p })) (item.Write w)).1
+        (ap (λ (q : Place). item.Write (record { from = w.from; flow = w.flow; place = q })) e)
 
     abbrev at_place : WriteBack × List ℤ → ℕ
     at_place p = as_number (is_here p.0.place)
@@ -54,7 +57,8 @@ module _ (P : Plan) (G : Data) (con : IsConsistent P) (of : Placement) (k : ℕ)
         let one : v ≡ w = one_from_map (λ (u : WriteBack). u.place) (all_writes P) con.written_once v w among (write_listed w may.claimed may.is_item) same in
         false≢true (sym (unsent_yet P G R (item.Write w) may) ∙ (ap (λ u. is_sent R.state (item.Write u)) (sym one) ∙ sent))
 
-    no_weight : (i : Item) (o : Option (List ℤ)) → is_sent R.state i ≡ true → IsIn (sender i) R.state.claims → IsIn i (items P (sender i)) → written_weight of k at_place i o ≡ 0
+    no_weight : (i : Item) (o : Option (List ℤ)) → is_sent R.state i ≡ true → IsIn (sender i) R.state.claims
+        → IsIn i (items P (sender i)) → written_weight of k at_place i o ≡ 0
     no_weight (item.Edge e) o sent claimed among = refl
     no_weight (item.Write v) None sent claimed among = refl
     no_weight (item.Write v) (Some x) sent claimed among = by (is_of of k v.from)
@@ -65,5 +69,7 @@ module _ (P : Plan) (G : Data) (con : IsConsistent P) (of : Placement) (k : ℕ)
 
     pub unwritten : (y : Content) → IsShardOf P G of k R y → (p : WriteBack × List ℤ) → IsIn p y.written → p.0.place ≡ w.place → ⊥
     unwritten y h p i same =
-        let none = weigh-zero (write_weight of k at_place) R.state.sends (λ x j. let out = sound.sent_are_outputs x j in no_weight x.item x.tile (member_send R.state x j) out.claimed out.is_item) in
+        let none = weigh-zero (write_weight of k at_place) R.state.sends
+        (λ x j. let out = sound.sent_are_outputs x j in no_weight x.item x.tile (member_send R.state x j)
+        out.claimed out.is_item) in
         absurd (omega (arith, h.written at_place, none, count-some (λ (q : WriteBack × List ℤ). is_here q.0.place) y.written p i (is_at p.0.place same)))

@@ -1,5 +1,6 @@
 -- Which tasks run after a claim, an end or a send.
-use Rattle.std.proofs.Common.{◌≡◌, Bool, true, false, cond, List, [], ◌∷◌, ◌++◌, ap, sym, ◌∙◌, subst, ◌⊎◌, Option, Some, None, Result, Ok, Err, IfOk, OnErr, inl, inr}
+use Rattle.std.proofs.Common.{◌≡◌, Bool, true, false, cond, List, [], ◌∷◌, ◌++◌, ap, sym, ◌∙◌, subst, ◌⊎◌, Option, Some}
+use Rattle.std.proofs.Common.{None, Result, Ok, Err, IfOk, OnErr, inl, inr}
 use Rattle.std.specs.Map.{lookup, set_value}
 use Rattle.ptg_base.specs.Lists.{IsIn}
 use Rattle.ptg_base.specs.Task.{Task}
@@ -37,15 +38,22 @@ ran_before [] t u end h = h
 ran_before (c ∷ cs) t u end h =
     by_test (same_task t c.0)
     (λ k.
-    let now : cond (same_task u c.0) (Some (Some end)) (lookup (same_task u) cs) ≡ Some None = sym (ap (λ b. lookup (same_task u) (cond b ((c.0, Some end) ∷ cs) (c ∷ set_value (same_task t) cs (Some end)))) k) ∙ h in
+    let now : cond (same_task u c.0) (Some (Some end)) (lookup (same_task u) cs)
+    ≡ Some None = sym (ap (λ b. lookup (same_task u) (cond b ((c.0, Some end) ∷ cs)
+    (c ∷ set_value (same_task t) cs (Some end)))) k) ∙ h in
     by_test (same_task u c.0)
     (λ q. let no : Some (Some end) ≡ Some None = sym (ap (λ b. cond b (Some (Some end)) (lookup (same_task u) cs)) q) ∙ now in absurd cc)
     (λ q. ap (λ b. cond b (Some c.1) (lookup (same_task u) cs)) q ∙ sym (ap (λ b. cond b (Some (Some end)) (lookup (same_task u) cs)) q) ∙ now))
     (λ k.
-    let now : cond (same_task u c.0) (Some c.1) (lookup (same_task u) (set_value (same_task t) cs (Some end))) ≡ Some None = sym (ap (λ b. lookup (same_task u) (cond b ((c.0, Some end) ∷ cs) (c ∷ set_value (same_task t) cs (Some end)))) k) ∙ h in
+    let now : cond (same_task u c.0) (Some c.1) (lookup (same_task u) (set_value (same_task t) cs (Some end)))
+    ≡ Some None = sym (ap (λ b. lookup (same_task u) (cond b ((c.0, Some end) ∷ cs)
+    (c ∷ set_value (same_task t) cs (Some end)))) k) ∙ h in
     by_test (same_task u c.0)
-    (λ q. ap (λ b. cond b (Some c.1) (lookup (same_task u) cs)) q ∙ sym (ap (λ b. cond b (Some c.1) (lookup (same_task u) (set_value (same_task t) cs (Some end)))) q) ∙ now)
-    (λ q. ap (λ b. cond b (Some c.1) (lookup (same_task u) cs)) q ∙ ran_before cs t u end (sym (ap (λ b. cond b (Some c.1) (lookup (same_task u) (set_value (same_task t) cs (Some end)))) q) ∙ now)))
+    (λ q. ap (λ b. cond b (Some c.1) (lookup (same_task u) cs)) q
+    ∙ sym (ap (λ b. cond b (Some c.1) (lookup (same_task u) (set_value (same_task t) cs (Some end)))) q) ∙ now)
+    (λ q. ap (λ b. cond b (Some c.1) (lookup (same_task u) cs)) q
+    ∙ ran_before cs t u end (sym (ap (λ b. cond b (Some c.1)
+    (lookup (same_task u) (set_value (same_task t) cs (Some end)))) q) ∙ now)))
 
 -- each running task is one of these
 abbrev RunAmong : RunState → List Task → Type 0

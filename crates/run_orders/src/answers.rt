@@ -1,7 +1,6 @@
 //! The whole answers of small jobs, as they are printed: by one thread, and by the calls of one run from the last task
 //! to the first.
 
-use crate::jobs::Job;
 use crate::stepwise::Stepwise;
 use dep_iter::Matched;
 use flow_core::run_one;
@@ -10,6 +9,7 @@ use job_stages::job_of_texts;
 use ptg_base::{OutOfMemory, Seq};
 use ptg_io::{Failed, MemSink};
 use report_text::report;
+use sample_jobs::Job;
 use std::alloc::Global;
 
 /// The text of the answer that one thread finds; `None` if the job is not consistent.

@@ -3,11 +3,12 @@
 
 ghost use Rattle.ptg_base.specs.Limits.{IsRankCount};
 
-use crate::jobs::{BROADCAST, numbers};
+use crate::jobs::numbers;
 use crate::steps::{Step, first_other};
 use job_stages::job_of_texts;
 use ptg_base::OutOfMemory;
 use rank_core::World;
+use sample_jobs::broadcast;
 use std::alloc::Global;
 use std::fmt;
 
@@ -171,7 +172,8 @@ fn ending(world: World<'_>) -> Result<End, OutOfMemory> {
 pub fn end_of(alloc: Global, ranks: u32, steps: &[(Step, bool)]) -> Result<End, OutOfMemory>
     requires { IsRankCount ranks }
 {
-    let Some((job, given)) = job_of_texts(alloc, BROADCAST.jdf, BROADCAST.data)? else {
+    let texts = broadcast();
+    let Some((job, given)) = job_of_texts(alloc, texts.jdf, texts.data)? else {
         return Ok(End::NoJob);
     };
     let mut world = World::new(alloc, &job, given, ranks)?;

@@ -3,12 +3,12 @@
 ghost use Rattle.ptg_base.specs.Limits.{IsRankCount};
 
 use crate::comparing::same;
-use crate::jobs::Job;
 use crate::stepwise::answer_of_run_one;
 use flow_meaning::Outcome;
 use job_stages::job_of_texts;
 use ptg_base::OutOfMemory;
 use rank_core::ranks_of;
+use sample_jobs::Job;
 use std::alloc::Global;
 use std::fmt;
 

@@ -19,10 +19,11 @@ ghost use Rattle.ptg_base.specs.Limits.{IsRankCount};
 use crate::answers::{of_a_run_backwards, of_one_thread};
 use crate::broadcast::{EARLY, LATE, LEFT, REFUSED, THRICE};
 use crate::driven::agreed;
-use crate::jobs::{ANSWERED, JOBS, Job};
+use crate::jobs::{answered_jobs, driven_jobs};
 use crate::orders::End;
 use crate::stepwise::Step;
 use ptg_base::OutOfMemory;
+use sample_jobs::Job;
 use std::alloc::Global;
 use std::io;
 
@@ -93,18 +94,18 @@ fn main(rt: HostRuntime) -> io::Result<()> {
     print_order_of_ranks(&rt, alloc, "early", 3, EARLY)?;
     print_order_of_ranks(&rt, alloc, "refused", 4, REFUSED)?;
     print_order_of_ranks(&rt, alloc, "left", 3, LEFT)?;
-    for job in JOBS {
-        print_agreed(&rt, alloc, job, 1)?;
-        print_agreed(&rt, alloc, job, 3)?;
-        print_agreed(&rt, alloc, job, 64)?;
+    for job in driven_jobs() {
+        print_agreed(&rt, alloc, &job, 1)?;
+        print_agreed(&rt, alloc, &job, 3)?;
+        print_agreed(&rt, alloc, &job, 64)?;
     }
-    for job in ANSWERED {
-        print_answer(&rt, job.name, "one thread", of_one_thread(alloc, job))?;
+    for job in answered_jobs() {
+        print_answer(&rt, job.name, "one thread", of_one_thread(alloc, &job))?;
         print_answer(
             &rt,
             job.name,
             "last task first",
-            of_a_run_backwards(alloc, job),
+            of_a_run_backwards(alloc, &job),
         )?;
     }
     Ok(())

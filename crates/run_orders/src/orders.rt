@@ -1,9 +1,10 @@
 //! A broadcast, claimed and sent in other orders than the program's.
 
-use crate::jobs::{BROADCAST, numbers};
+use crate::jobs::numbers;
 use crate::stepwise::{Step, Stepwise, answer_of_run_one};
 use flow_meaning::Outcome;
 use ptg_base::OutOfMemory;
+use sample_jobs::broadcast;
 use std::alloc::Global;
 
 // The numbers of the three places, if this is the answer of a run all of whose four tasks ran.
@@ -121,7 +122,8 @@ pub enum End {
 
 /// The broadcast in one order of steps, compared with the answer of one thread.
 pub fn end_of(alloc: Global, steps: &[(Step, bool)]) -> Result<End, OutOfMemory> {
-    let Some(mut run) = Stepwise::start(alloc, &BROADCAST)? else {
+    let texts = broadcast();
+    let Some(mut run) = Stepwise::start(alloc, &texts)? else {
         return Ok(End::NoJob);
     };
     if let Some(number) = run.first_other(steps)? {
@@ -130,7 +132,7 @@ pub fn end_of(alloc: Global, steps: &[(Step, bool)]) -> Result<End, OutOfMemory>
     let Some(numbers) = found(run.answer()?) else {
         return Ok(End::NotComplete);
     };
-    match found(answer_of_run_one(alloc, &BROADCAST)?) {
+    match found(answer_of_run_one(alloc, &texts)?) {
         Some(wanted) if wanted == numbers => Ok(End::Numbers(numbers)),
         _ => Ok(End::Differs),
     }

@@ -5,7 +5,6 @@ ghost use Rattle.ptg_base.specs.Lists.{IsIn};
 ghost use Rattle.ptg_base.specs.Task.{Task};
 ghost use Rattle.flow_core.specs.RunState.{IsRunning};
 
-use crate::jobs::Job;
 use coll_data::Given;
 use dep_iter::{Matched, all_tasks, is_task, out_edges, write_backs};
 use flow_core::{State, run_one};
@@ -13,6 +12,7 @@ use flow_meaning::Outcome;
 use job_stages::job_of_texts;
 use plan_core::Plan;
 use ptg_base::{Edge, Item, OutOfMemory, Place, TaskId, WriteBack};
+use sample_jobs::Job;
 use std::alloc::Global;
 use std::marker::Model;
 

@@ -1,5 +1,6 @@
 -- The passes of workers that are done are all passes of the table, and one of them has seen quiet.
-use Rattle.std.proofs.Common.{[], ◌∷◌, ◌++◌, ap, arith, inl, ◌<◌, ◌≡◌, ℕ, Bool, true, false, List, length, map, refl, sym, ◌∙◌, subst, Option, Some, None, Result, Ok, Err, slice_get, slice_index_or}
+use Rattle.std.proofs.Common.{[], ◌∷◌, ◌++◌, ap, arith, inl, ◌<◌, ◌≡◌, ℕ, Bool, true, false, List, length, map, refl}
+use Rattle.std.proofs.Common.{sym, ◌∙◌, subst, Option, Some, None, Result, Ok, Err, slice_get, slice_index_or}
 use Rattle.std.specs.Prelude.{IsSome}
 use Rattle.std.specs.Map.{keys_of}
 use Rattle.ptg_base.specs.Lists.{IsIn}

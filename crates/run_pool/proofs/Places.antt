@@ -18,7 +18,8 @@ has_both (x ∷ xs) (z ∷ ys) y n i = elim i [
 ]
 
 -- two lists of one length whose members have the same view at each index
-pub same_looks : {A B : Type 0} (f : A → B) (xs ys : List A) → length ys ≡ length xs → ((k : ℕ) (x y : A) → slice_get xs k ≡ Some x → slice_get ys k ≡ Some y → f y ≡ f x) → map f ys ≡ map f xs
+pub same_looks : {A B : Type 0} (f : A → B) (xs ys : List A) → length ys ≡ length xs
+    → ((k : ℕ) (x y : A) → slice_get xs k ≡ Some x → slice_get ys k ≡ Some y → f y ≡ f x) → map f ys ≡ map f xs
 same_looks f [] [] n h = refl
 same_looks f (x ∷ xs) [] n h = absurd (omega arith)
 same_looks f [] (y ∷ ys) n h = absurd (omega arith)

@@ -20,29 +20,41 @@ use Rattle.run_pool.specs.Desks.{AreReady, IsReady}
 use Rattle.run_pool.specs.Seated.{PaddedDesk, pass_on, record_on}
 
 -- one ready desk more
-pub ready_more : (table : TableId) (plan : Plan) (ds : List PaddedDesk) (d : PaddedDesk) (es : List PaddedDesk) → AreReady (IsPassOf table) shown plan ds → IsReady (IsPassOf table) shown plan (padded_value d) → es ≡ ds ++ d ∷ [] → AreReady (IsPassOf table) shown plan es
+pub ready_more : (table : TableId) (plan : Plan) (ds : List PaddedDesk) (d : PaddedDesk) (es : List PaddedDesk)
+    → AreReady (IsPassOf table) shown plan ds → IsReady (IsPassOf table) shown plan (padded_value d) → es ≡ ds ++ d ∷ []
+    → AreReady (IsPassOf table) shown plan es
 ready_more table plan ds d es all one is = subst (AreReady (IsPassOf table) shown plan) (sym is)
-    (λ k e at. elim (slice_get_push ds d k e at) [ inl before ↦ all k e before | inr same ↦ subst (λ x. IsReady (IsPassOf table) shown plan (padded_value x)) same one ])
+    (λ k e at. elim (slice_get_push ds d k e at) [
+      | inl before ↦ all k e before
+      | inr same ↦ subst
+          (λ x. IsReady (IsPassOf table) shown plan (padded_value x)) same one
+    ])
 
 abbrev Reorders : Type 0
 Reorders = (vs ws : List PassRecord) → HasSameMembers vs ws → AreAll vs → AreAll ws
 
-records_more : (ds : List PaddedDesk) (d : PaddedDesk) (es : List PaddedDesk) (v : PassRecord) → record_on d ≡ v → es ≡ ds ++ d ∷ [] → map record_on ds ++ v ∷ [] ≡ map record_on es
+records_more : (ds : List PaddedDesk) (d : PaddedDesk) (es : List PaddedDesk) (v : PassRecord) → record_on d ≡ v
+    → es ≡ ds ++ d ∷ [] → map record_on ds ++ v ∷ [] ≡ map record_on es
 records_more ds d es v same is = sym (ap (map record_on) is ∙ map-append record_on ds (d ∷ []) ∙ ap (λ x. map record_on ds ++ x ∷ []) same)
 
 -- one more pass, on the last desk
-pub all_more : Reorders → (u v : PassRecord) (ds : List PaddedDesk) (d : PaddedDesk) (es : List PaddedDesk) → AreAll (u ∷ v ∷ map record_on ds) → record_on d ≡ v → es ≡ ds ++ d ∷ [] → AreAll (u ∷ map record_on es)
+pub all_more : Reorders → (u v : PassRecord) (ds : List PaddedDesk) (d : PaddedDesk) (es : List PaddedDesk)
+    → AreAll (u ∷ v ∷ map record_on ds) → record_on d ≡ v → es ≡ ds ++ d ∷ [] → AreAll (u ∷ map record_on es)
 all_more order u v ds d es all same is =
     let moved = order (u ∷ v ∷ map record_on ds) (u ∷ (map record_on ds ++ v ∷ [])) (λ f. omega (arith, weigh-push f (map record_on ds) v)) all in
     subst (λ vs. AreAll (u ∷ vs)) (records_more ds d es v same is) moved
 
 -- the first pass on the last desk
-pub all_seated : Reorders → (v : PassRecord) (ds : List PaddedDesk) (d : PaddedDesk) (es : List PaddedDesk) → AreAll (v ∷ map record_on ds) → record_on d ≡ v → es ≡ ds ++ d ∷ [] → AreAll (map record_on es)
+pub all_seated : Reorders → (v : PassRecord) (ds : List PaddedDesk) (d : PaddedDesk) (es : List PaddedDesk)
+    → AreAll (v ∷ map record_on ds) → record_on d ≡ v → es ≡ ds ++ d ∷ [] → AreAll (map record_on es)
 all_seated order v ds d es all same is =
-    subst AreAll (records_more ds d es v same is) (order (v ∷ map record_on ds) (map record_on ds ++ v ∷ []) (λ f. omega (arith, weigh-push f (map record_on ds) v)) all)
+    subst AreAll (records_more ds d es v same is) (order (v ∷ map record_on ds) (map record_on ds ++ v ∷ [])
+    (λ f. omega (arith, weigh-push f (map record_on ds) v)) all)
 
 -- a desk with an idle pass and a bench
-pub ready_desk : (table : TableId) (plan : Plan) (d : PaddedDesk) (p : PassView) → pass_on d ≡ p → IsPassOf table p → (shown p).running ≡ [] → IsBenchOf plan (padded_value d).bench → IsReady (IsPassOf table) shown plan (padded_value d)
+pub ready_desk : (table : TableId) (plan : Plan) (d : PaddedDesk) (p : PassView) → pass_on d ≡ p → IsPassOf table p
+    → (shown p).running ≡ [] → IsBenchOf plan (padded_value d).bench
+    → IsReady (IsPassOf table) shown plan (padded_value d)
 ready_desk table plan d p on pass idle bench = record {
   pass = subst (IsPassOf table) (sym on) pass;
   idle = ap (λ (q : PassView). (shown q).running) on ∙ idle;

@@ -1,5 +1,6 @@
 -- The numbers that are sent over all edges and write-backs, and a bound on how many they are.
-use Rattle.std.proofs.Common.{nat_le, ◌*◌, subst, ◌≡◌, ℕ, zero, suc, ◌+◌, ◌≤◌, ◌<◌, true, List, [], ◌∷◌, length, ap, ◌∙◌, Option, Some, None, slice_index, sum, arith}
+use Rattle.std.proofs.Common.{nat_le, ◌*◌, subst, ◌≡◌, ℕ, zero, suc, ◌+◌, ◌≤◌, ◌<◌, true, List, [], ◌∷◌, length, ap}
+use Rattle.std.proofs.Common.{◌∙◌, Option, Some, None, slice_index, sum, arith}
 use Rattle.std.proofs.Math.Nat.{mul-le-mul_left}
 use Rattle.std.proofs.lemmas.Bool.{and_parts}
 use Rattle.std.proofs.lemmas.Bool.Decides.{nat_tests}

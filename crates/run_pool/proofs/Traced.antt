@@ -1,5 +1,6 @@
 -- The logs of all workers, sorted, are the claims of all passes in the order of their stamps.
-use Rattle.std.proofs.Common.{◌≡◌, ℕ, zero, suc, true, List, [], ◌∷◌, ◌++◌, length, map, get_or, slice_index_or, refl, ap, sym, ◌∙◌, subst, inl, inr, arith, Result, Ok, Err}
+use Rattle.std.proofs.Common.{◌≡◌, ℕ, zero, suc, true, List, [], ◌∷◌, ◌++◌, length, map, get_or, slice_index_or, refl}
+use Rattle.std.proofs.Common.{ap, sym, ◌∙◌, subst, inl, inr, arith, Result, Ok, Err}
 use Rattle.std.proofs.lemmas.List.Sorted.{sum_by-IsPermutation}
 use Rattle.std.specs.List.{flat_map}
 use Rattle.std.specs.Result.{IfOk}
@@ -47,22 +48,43 @@ stamp_at (x ∷ xs) zero d = refl
 stamp_at (x ∷ xs) (suc k) d = stamp_at xs k d
 
 -- a sorted log
-pub sorted_log : (stamps : List StampedTask) (log sorted : List Logged) (ts : List Task) → log ≡ logged stamps → IsPermutation log sorted → IsNonDecreasingBy (λ (e : Logged). e.0) sorted → ts ≡ map (λ (e : Logged). e.1) sorted → AreInStampOrder stamps ts
+pub sorted_log : (stamps : List StampedTask) (log sorted : List Logged) (ts : List Task) → log ≡ logged stamps
+    → IsPermutation log sorted → IsNonDecreasingBy (λ (e : Logged). e.0) sorted → ts ≡ map (λ (e : Logged). e.1) sorted
+    → AreInStampOrder stamps ts
 sorted_log stamps log sorted ts is moves rise tasks = record {
   ordered = map stamp_of sorted;
   same = λ f. let g : Logged → ℕ = λ e. f (stamp_of e) in
-      omega (arith, weigh-map f stamp_of sorted, weigh-sum g sorted, weigh-sum g log, sum_by-IsPermutation g log sorted moves, ap (weigh g) is, weigh-map g (λ (c : Task × ℕ). (c.1, c.0)) stamps);
-  rise = λ i j d le lt. omega (arith, length-stamps sorted, rise i j (d.1, d.0) le (omega (arith, length-stamps sorted)), ap number_of (stamp_at sorted i d), ap number_of (stamp_at sorted j d));
+      omega (
+        arith,
+        weigh-map f stamp_of sorted,
+        weigh-sum g sorted,
+        weigh-sum g log,
+        sum_by-IsPermutation g log sorted
+            moves,
+        ap (weigh g) is,
+        weigh-map g (λ (c : Task × ℕ). (c.1, c.0)) stamps,
+      );
+  rise = λ i j d le lt. omega (
+    arith,
+    length-stamps sorted,
+    rise i j (d.1, d.0) le
+        (omega (arith, length-stamps sorted)),
+    ap number_of (stamp_at sorted i d),
+    ap number_of (stamp_at sorted j d),
+  );
   tasks = tasks ∙ sym (map-map (λ (x : StampedTask). x.0) stamp_of sorted);
 }
 
-pub sorted_tasks : {A E : Type 0} (items : A → List Task) (r : Result A E) (log sorted : List Logged) → IsPermutation log sorted → IsNonDecreasingBy (λ (e : Logged). e.0) sorted → IfOk r (λ a. items a ≡ map (λ (e : Logged). e.1) sorted)
+pub sorted_tasks : {A E : Type 0} (items : A → List Task) (r : Result A E) (log sorted : List Logged)
+    → IsPermutation log sorted → IsNonDecreasingBy (λ (e : Logged). e.0) sorted
+    → IfOk r (λ a. items a ≡ map (λ (e : Logged). e.1) sorted)
     → IfOk r (λ a. (stamps : List StampedTask) → log ≡ logged stamps → AreInStampOrder stamps (items a))
 sorted_tasks items (Ok a) log sorted moves rise is = λ stamps same. sorted_log stamps log sorted (items a) same moves rise is
 sorted_tasks items (Err e) log sorted moves rise is = tt
 
 -- the logs of all desks
-pub logged_all : (es : List PaddedDesk) → ((e : PaddedDesk) → IsIn e es → log_on e ≡ logged (record_on e).stamps) → flat_map log_on es ≡ logged (joined_stamps (map record_on es))
+pub logged_all : (es : List PaddedDesk) → ((e : PaddedDesk) → IsIn e es → log_on e ≡ logged (record_on e).stamps)
+    → flat_map log_on es ≡ logged (joined_stamps (map record_on es))
 logged_all [] h = refl
 logged_all (e ∷ es) h =
     ap (λ l. l ++ flat_map log_on es) (h e (inl refl))
@@ -76,7 +98,9 @@ module _ (ds es : List PaddedDesk) (count : length es ≡ length ds) (w : HaveLo
       let d : PaddedDesk = b.other in
       let h : HasLogged true (record_on d) (record_on e) (log_on d) (log_on e) =
       subst (λ (x : PaddedDesk). HasLogged true (record_on d) (record_on x) (log_on d) (log_on x)) (get_or_from_slice_get es b.place e d b.after)
-      (subst (λ (x : PaddedDesk). HasLogged true (record_on x) (record_on (slice_index_or es b.place d)) (log_on x) (log_on (slice_index_or es b.place d))) (get_or_from_slice_get ds b.place d d b.before) (w b.place d (slice_get_within ds b.place d b.before))) in
+      (subst (λ (x : PaddedDesk). HasLogged true (record_on x) (record_on (slice_index_or es b.place d)) (log_on x)
+      (log_on (slice_index_or es b.place d))) (get_or_from_slice_get ds b.place d d b.before)
+      (w b.place d (slice_get_within ds b.place d b.before))) in
       let f = fresh d (IsIn-slice_get ds b.place d b.before) in
       h.gained refl ∙ (ap (λ l. l ++ logged h.more) f.no_log ∙ ap logged (sym (h.claimed.stamps ∙ ap (λ l. l ++ h.more) f.no_stamp)))
 

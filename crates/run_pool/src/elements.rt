@@ -3,14 +3,14 @@
 ghost use Rattle.std.specs.Prelude.{◌≡◌, ◌≤◌, ◌<◌, ◌^◌, length, if◌then◌else◌};
 ghost use Rattle.plan_core.specs.Kinds as kinds;
 ghost use Rattle.dep_iter.specs.Edges as edges;
-ghost use Rattle.dep_iter.specs.Tasks as tasks;
 ghost use Rattle.dep_iter.specs.Tasks.{IsTask};
 ghost use Rattle.run_pool.specs.Bytes as bytes;
 ghost use Rattle.run_pool.specs.Elements as elements;
 
-use dep_iter::{Matched, all_tasks, flows_of, in_edges_under, locals_of, write_backs_under};
+use dep_iter::{Matched, TaskAt, all_tasks, flows_of};
 use plan_core::Plan;
 use ptg_base::TaskId;
+use range_space::Numbers;
 
 // How many numbers a tile of this flow of a task has; 0 if there is no such flow.
 fn flow_elements(plan: &Plan, t: &TaskId, flow: u8) -> u64
@@ -50,29 +50,25 @@ fn carried_elements(plan: &Plan, t: &TaskId, flow: u8) -> u64
 }
 
 // How many numbers are sent over the edges into a task.
-fn in_elements(plan: &Plan, t: &TaskId, env: &[i64]) -> u64
-    requires task { IsTask plan.now t.now }
-    requires locals { env.now ≡ tasks.locals_of plan.now t.now }
-    requires at_most { elements.in_elements plan.now t.now < 2 ^ 64 }
-    ensures { result ≡ elements.in_elements plan.now t.now }
+fn in_elements(at: &TaskAt) -> u64
+    requires { elements.in_elements at.now.plan.now at.now.task.now < 2 ^ 64 }
+    ensures { result ≡ elements.in_elements at.now.plan.now at.now.task.now }
 {
     let mut all = 0;
-    for edge in in_edges_under(plan, t, env) {
-        all += carried_elements(plan, t, edge.in_flow);
+    for edge in at.in_edges() {
+        all += carried_elements(at.plan, at.task, edge.in_flow);
     }
     all
 }
 
 // How many numbers are sent over the write-backs of a task.
-fn written_elements(plan: &Plan, t: &TaskId, env: &[i64]) -> u64
-    requires task { IsTask plan.now t.now }
-    requires locals { env.now ≡ tasks.locals_of plan.now t.now }
-    requires at_most { elements.written_elements plan.now t.now < 2 ^ 64 }
-    ensures { result ≡ elements.written_elements plan.now t.now }
+fn written_elements(at: &TaskAt) -> u64
+    requires { elements.written_elements at.now.plan.now at.now.task.now < 2 ^ 64 }
+    ensures { result ≡ elements.written_elements at.now.plan.now at.now.task.now }
 {
     let mut all = 0;
-    for write in write_backs_under(plan, t, env) {
-        all += flow_elements(plan, t, write.flow);
+    for write in at.write_backs() {
+        all += flow_elements(at.plan, at.task, write.flow);
     }
     all
 }
@@ -84,8 +80,9 @@ fn task_elements(plan: &Plan, t: &TaskId) -> u64
     requires at_most { elements.task_elements plan.now t.now < 2 ^ 64 }
     ensures { result ≡ elements.task_elements plan.now t.now }
 {
-    let env = locals_of(plan, t);
-    in_elements(plan, t, env.as_slice()) + written_elements(plan, t, env.as_slice())
+    let mut room = Numbers::new();
+    let at = TaskAt::of(plan, t, &mut room);
+    in_elements(&at) + written_elements(&at)
 }
 
 // How many numbers are sent over the edges into all tasks and over their write-backs, by a walk over the tasks.

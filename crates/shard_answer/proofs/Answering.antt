@@ -68,7 +68,8 @@ once_by (x ∷ xs) distinct t =
     (λ k. omega (arith, once_by xs distinct.1 t, ap as_number k))
 
 -- rows of different tasks of a job are at most as many as its tasks
-few_rows : {A : Type 0} (key : A → Task) (P : Plan) (rows : List A) → AreOfDifferentTasks key rows → ((r : A) → IsIn r rows → IsTask P (key r)) → length rows ≤ length (all_tasks P)
+few_rows : {A : Type 0} (key : A → Task) (P : Plan) (rows : List A) → AreOfDifferentTasks key rows
+    → ((r : A) → IsIn r rows → IsTask P (key r)) → length rows ≤ length (all_tasks P)
 few_rows key P rows once tasks =
     let fits = no_longer (map key rows) (all_tasks P) (distinct_once (map key rows) (λ t. omega (arith, once t, count-map (same_task t) key rows)))
     (λ t i. let x = from_map key rows t i in (listed P t).0 (subst (IsTask P) (sym x.2) (tasks x.0 x.1))) in
@@ -131,18 +132,31 @@ module _ (P : Plan) (G : Data) (con : IsConsistent P) (known : DataFit P G) (wel
     no_traps_there = sym (traps_same P G con there (sound_there P G con known well ys h) quiet_there) ∙ traps_same P G con state h.sound quiet ∙ no_traps
 
     -- the answer of a complete run
-    pub complete_answer : length state.claims ≡ length (all_tasks P) → Complete (length (all_tasks P)) (replaced_data (λ here. first_written here (with_tiles (all_written ys))) G) ≡ answer P G
+    pub complete_answer : length state.claims ≡ length (all_tasks P)
+        → Complete (length (all_tasks P)) (replaced_data (λ here. first_written here (with_tiles (all_written ys))) G)
+        ≡ answer P G
     unfolding state_answer
     complete_answer all =
         ap (Complete (length (all_tasks P))) (data_is P G con known well ys h)
-        ∙ sym (ap (λ b. cond b (Complete (length (all_tasks P)) (state_data G there)) (Stalled (length state.claims) (length (all_tasks P)) (waiting_rows P there))) (eq-eqb (length state.claims) (length (all_tasks P)) all))
+        ∙ sym (ap (λ b. cond b (Complete (length (all_tasks P)) (state_data G there))
+        (Stalled (length state.claims) (length (all_tasks P)) (waiting_rows P there)))
+        (eq-eqb (length state.claims) (length (all_tasks P)) all))
         ∙ ap (state_answer_by P G there) (sym no_traps_there) ∙ sym (answer_same P G con there (sound_there P G con known well ys h) quiet_there)
 
     -- the answer of a stall
-    pub stalled_answer : HaveDistinctEntries ys → (length state.claims ≡ length (all_tasks P) → ⊥) → (waits : List WaitRow) → waits ≡ in_task_order (λ (r : WaitRow). r.task) (all_waits ys)
+    pub stalled_answer : HaveDistinctEntries ys → (length state.claims ≡ length (all_tasks P) → ⊥)
+        → (waits : List WaitRow) → waits ≡ in_task_order (λ (r : WaitRow). r.task) (all_waits ys)
         → Stalled (length state.claims) (length (all_tasks P)) waits ≡ answer P G
     unfolding state_answer
     stalled_answer distinct fewer waits found =
-        ap (Stalled (length state.claims) (length (all_tasks P))) (found ∙ waits_are P G ys h (λ k y at. (found_by y.entries (distinct k y at), once_by y.entries (distinct k y at))))
-        ∙ sym (ap (λ b. cond b (Complete (length (all_tasks P)) (state_data G state)) (Stalled (length state.claims) (length (all_tasks P)) (waiting_rows P state))) (false_from_ne_true (length state.claims == length (all_tasks P)) (λ e. fewer (eqb-true (length state.claims) (length (all_tasks P)) e))))
+        ap (Stalled (length state.claims) (length (all_tasks P)))
+        (found ∙ waits_are P G ys h (λ k y at. (
+          found_by y.entries (distinct k y at),
+          once_by y.entries
+              (distinct k y at),
+        )))
+        ∙ sym (ap (λ b. cond b (Complete (length (all_tasks P)) (state_data G state))
+        (Stalled (length state.claims) (length (all_tasks P)) (waiting_rows P state)))
+        (false_from_ne_true (length state.claims == length (all_tasks P))
+        (λ e. fewer (eqb-true (length state.claims) (length (all_tasks P)) e))))
         ∙ ap (state_answer_by P G state) (sym no_traps) ∙ sym (answer_same P G con state h.sound quiet)

@@ -1,5 +1,6 @@
 -- Sums and rows over shards, each of which has its own part.
-use Rattle.std.proofs.Common.{◌≡◌, ℕ, zero, suc, ◌+◌, ◌<◌, ◌≤◌, Bool, false, cond, ◌==◌, List, [], ◌∷◌, length, slice_get, refl, ap, sym, ◌∙◌, subst, inl, inr, arith, eq-eqb, Some}
+use Rattle.std.proofs.Common.{◌≡◌, ℕ, zero, suc, ◌+◌, ◌<◌, ◌≤◌, Bool, false, cond, ◌==◌, List, [], ◌∷◌, length}
+use Rattle.std.proofs.Common.{slice_get, refl, ap, sym, ◌∙◌, subst, inl, inr, arith, eq-eqb, Some}
 use Rattle.std.proofs.lemmas.Bool.{eqb-true, false_from_ne_true, false≢true}
 use Rattle.std.specs.Prelude.{flat_map}
 use Rattle.ptg_base.specs.Lists.{IsIn}
@@ -54,20 +55,31 @@ module _ {A : Type 0} (g v : A → ℕ) where
       other : (g x == j) ≡ false → g x ≡ j → ⊥
       other e same = false≢true (sym e ∙ eq-eqb (g x) j same)
 
-  gathered_from : {B : Type 0} (w : B → ℕ) (ys : List B) (xs : List A) (j : ℕ) → ((i k : ℕ) (y : B) → k ≡ j + i → slice_get ys i ≡ Some y → w y ≡ weigh (part k) xs) → weigh w ys ≡ weigh (spread j (length ys)) xs
+  gathered_from : {B : Type 0} (w : B → ℕ) (ys : List B) (xs : List A) (j : ℕ)
+      → ((i k : ℕ) (y : B) → k ≡ j + i → slice_get ys i ≡ Some y → w y ≡ weigh (part k) xs)
+      → weigh w ys ≡ weigh (spread j (length ys)) xs
   unfolding spread
   gathered_from w [] xs j h = sym (weigh-zero (λ x. 0) xs (λ x i. refl))
   gathered_from w (y ∷ ys) xs j h =
-      omega (arith, h 0 j y (omega arith) refl, gathered_from w ys xs (suc j) (λ i k z e is. h (suc i) k z (omega (arith, e)) is), weigh-plus (part j) (spread (suc j) (length ys)) xs)
+      omega (
+        arith,
+        h 0 j y (omega arith) refl,
+        gathered_from w ys xs (suc j)
+            (λ i k z e is. h (suc i) k z (omega (arith, e)) is),
+        weigh-plus (part j) (spread (suc j) (length ys)) xs,
+      )
 
   -- If each shard weighs what belongs to it, all shards weigh what all things do.
-  pub gathered : {B : Type 0} (w : B → ℕ) (ys : List B) (xs : List A) → ((k : ℕ) (y : B) → slice_get ys k ≡ Some y → w y ≡ weigh (part k) xs) → ((x : A) → IsIn x xs → g x < length ys) → weigh w ys ≡ weigh v xs
+  pub gathered : {B : Type 0} (w : B → ℕ) (ys : List B) (xs : List A)
+      → ((k : ℕ) (y : B) → slice_get ys k ≡ Some y → w y ≡ weigh (part k) xs) → ((x : A) → IsIn x xs → g x < length ys)
+      → weigh w ys ≡ weigh v xs
   gathered w ys xs h placed =
       gathered_from w ys xs 0 (λ i k y e is. subst (λ n. w y ≡ weigh (part n) xs) (omega (arith, e)) (h i y is))
       ∙ weigh-same v (spread 0 (length ys)) xs (λ x i. spread_among 0 (length ys) x (omega arith) (omega (arith, placed x i)))
 
 -- the shard that a row comes from
-pub row_of : {A B : Type 0} (rows : B → List A) (ys : List B) (r : A) → IsIn r (flat_map rows ys) → (k : ℕ) × (y : B) × (slice_get ys k ≡ Some y) × IsIn r (rows y)
+pub row_of : {A B : Type 0} (rows : B → List A) (ys : List B) (r : A) → IsIn r (flat_map rows ys)
+    → (k : ℕ) × (y : B) × (slice_get ys k ≡ Some y) × IsIn r (rows y)
 row_of rows ys r i =
     let p = from_flat_map rows ys r i in
     let at = place_of_member ys p.0 p.1 in
@@ -82,13 +94,16 @@ one_of_both (suc a) zero one other apart = omega (arith, one)
 one_of_both (suc a) (suc b) one other apart = absurd (apart (omega arith) (omega arith))
 
 module _ {A B : Type 0} (key : A → Task) (rows : B → List A) (of : Task → ℕ) where
-  later_rows : (ys : List B) (j : ℕ) → ((i k : ℕ) (y : B) → k ≡ j + i → slice_get ys i ≡ Some y → (r : A) → IsIn r (rows y) → of (key r) ≡ k) → (r : A) → IsIn r (flat_map rows ys) → j ≤ of (key r)
+  later_rows : (ys : List B) (j : ℕ) → ((i k : ℕ) (y : B) → k ≡ j + i → slice_get ys i ≡ Some y → (r : A)
+      → IsIn r (rows y) → of (key r) ≡ k) → (r : A) → IsIn r (flat_map rows ys) → j ≤ of (key r)
   later_rows ys j own r i =
       let p = row_of rows ys r i in
       let is : of (key r) ≡ j + p.0 = own p.0 (j + p.0) p.1 refl p.2 r p.3 in
       omega (arith, is)
 
-  differ_from : (ys : List B) (j : ℕ) → ((i k : ℕ) (y : B) → k ≡ j + i → slice_get ys i ≡ Some y → AreOfDifferentTasks key (rows y)) → ((i k : ℕ) (y : B) → k ≡ j + i → slice_get ys i ≡ Some y → (r : A) → IsIn r (rows y) → of (key r) ≡ k)
+  differ_from : (ys : List B) (j : ℕ) → ((i k : ℕ) (y : B) → k ≡ j + i → slice_get ys i ≡ Some y
+      → AreOfDifferentTasks key (rows y)) → ((i k : ℕ) (y : B) → k ≡ j + i → slice_get ys i ≡ Some y → (r : A)
+      → IsIn r (rows y) → of (key r) ≡ k)
       → AreOfDifferentTasks key (flat_map rows ys)
   differ_from [] j once own t = omega arith
   differ_from (y ∷ ys) j once own t =
@@ -106,5 +121,7 @@ module _ {A B : Type 0} (key : A → Task) (rows : B → List A) (of : Task → 
 
   -- If the rows of each shard are those of different tasks that belong to it, the rows of all shards are those of
   -- different tasks.
-  pub differ : (ys : List B) → ((k : ℕ) (y : B) → slice_get ys k ≡ Some y → AreOfDifferentTasks key (rows y)) → ((k : ℕ) (y : B) → slice_get ys k ≡ Some y → (r : A) → IsIn r (rows y) → of (key r) ≡ k) → AreOfDifferentTasks key (flat_map rows ys)
+  pub differ : (ys : List B) → ((k : ℕ) (y : B) → slice_get ys k ≡ Some y → AreOfDifferentTasks key (rows y))
+      → ((k : ℕ) (y : B) → slice_get ys k ≡ Some y → (r : A) → IsIn r (rows y) → of (key r) ≡ k)
+      → AreOfDifferentTasks key (flat_map rows ys)
   differ ys once own = differ_from ys 0 (λ i k y e is. once i y is) (λ i k y e is r among. own i y is r among ∙ omega (arith, e))

@@ -1,5 +1,6 @@
 -- Steps of the loops over shards and their rows.
-use Rattle.std.proofs.Common.{◌≡◌, ℕ, zero, suc, ◌+◌, ◌<◌, ℤ, List, [], ◌∷◌, ◌++◌, map, take, length, slice_get, refl, ap, sym, ◌∙◌, subst, append_assoc, inl, arith, Some, None}
+use Rattle.std.proofs.Common.{◌≡◌, ℕ, zero, suc, ◌+◌, ◌<◌, ℤ, List, [], ◌∷◌, ◌++◌, map, take, length, slice_get, refl}
+use Rattle.std.proofs.Common.{ap, sym, ◌∙◌, subst, append_assoc, inl, arith, Some, None}
 use Rattle.std.proofs.lemmas.List.{append-nil}
 use Rattle.std.proofs.lemmas.List.Elements.{All-weaker}
 use Rattle.std.specs.List.{All}
@@ -19,10 +20,13 @@ map_next f (y ∷ ys) zero x is = let one : y ≡ x = cc in ap (λ v. f v ∷ []
 map_next f (y ∷ ys) (suc i) x is = ap (λ l. f y ∷ l) (map_next f ys i x is)
 
 -- one more row is pushed
-pub pushed_row : {A B : Type 0} (f : A → B) (es : List A) (i : ℕ) (x : A) (base rows new : List B) (r : B) → slice_get es i ≡ Some x → r ≡ f x → rows ≡ base ++ map f (take i es) → new ≡ rows ++ r ∷ [] → new ≡ base ++ map f (take (i + 1) es)
+pub pushed_row : {A B : Type 0} (f : A → B) (es : List A) (i : ℕ) (x : A) (base rows new : List B) (r : B)
+    → slice_get es i ≡ Some x → r ≡ f x → rows ≡ base ++ map f (take i es) → new ≡ rows ++ r ∷ []
+    → new ≡ base ++ map f (take (i + 1) es)
 pushed_row f es i x base rows new r at is so_far push =
     let next : suc i ≡ i + 1 = omega arith in
-    push ∙ (λ j. so_far j ++ is j ∷ []) ∙ append_assoc base (map f (take i es)) (f x ∷ []) ∙ ap (λ l. base ++ l) (sym (map_next f es i x at)) ∙ ap (λ n. base ++ map f (take n es)) next
+    push ∙ (λ j. so_far j ++ is j ∷ []) ∙ append_assoc base (map f (take i es)) (f x ∷ [])
+    ∙ ap (λ l. base ++ l) (sym (map_next f es i x at)) ∙ ap (λ n. base ++ map f (take n es)) next
 
 pub none_past : {A : Type 0} (xs : List A) (i : ℕ) → i < length xs → slice_get xs i ≡ None → ⊥
 none_past [] i h none = absurd (omega (arith, h))
@@ -40,10 +44,13 @@ written-push [] y = append-nil y.written
 written-push (z ∷ zs) y = ap (λ l. z.written ++ l) (written-push zs y) ∙ sym (append_assoc z.written (all_written zs) y.written)
 
 -- the write-backs of the last shard are made first
-pub one_shard : (ys rest : List Content) (y : Content) (ws : List (WriteBack × List ℤ)) (d e : Data) → ys ≡ rest ++ y ∷ [] → ws ≡ y.written → e ≡ replaced_data (written_to ws) d → replaced_data (written_to (all_written rest)) e ≡ replaced_data (written_to (all_written ys)) d
+pub one_shard : (ys rest : List Content) (y : Content) (ws : List (WriteBack × List ℤ)) (d e : Data)
+    → ys ≡ rest ++ y ∷ [] → ws ≡ y.written → e ≡ replaced_data (written_to ws) d
+    → replaced_data (written_to (all_written rest)) e ≡ replaced_data (written_to (all_written ys)) d
 one_shard ys rest y ws d e all is made =
     ap (replaced_data (written_to (all_written rest))) made ∙ ap (λ vs. replaced_data (written_to (all_written rest)) (replaced_data (written_to vs) d)) is
-    ∙ sym (replaced_twice (all_written rest) y.written d) ∙ ap (λ vs. replaced_data (written_to vs) d) (sym (written-push rest y)) ∙ ap (λ zs. replaced_data (written_to (all_written zs)) d) (sym all)
+    ∙ sym (replaced_twice (all_written rest) y.written d) ∙ ap (λ vs. replaced_data (written_to vs) d)
+    (sym (written-push rest y)) ∙ ap (λ zs. replaced_data (written_to (all_written zs)) d) (sym all)
 
 pub still_writable : (ws vs : List (WriteBack × List ℤ)) (d e : Data) → e ≡ replaced_data (written_to ws) d → All (IsWritable d) vs → All (IsWritable e) vs
 still_writable ws vs d e made all =

@@ -1,5 +1,6 @@
 -- The trapped tasks of the shards are those of the run.
-use Rattle.std.proofs.Common.{◌≡◌, ℕ, zero, suc, ◌<◌, ◌≤◌, Bool, true, false, cond, ◌&&◌, ◌==◌, eq-eqb, List, [], ◌∷◌, slice_get, refl, ap, sym, ◌∙◌, subst, inl, inr, arith, Option, Some, None, Ok, Err}
+use Rattle.std.proofs.Common.{◌≡◌, ℕ, zero, suc, ◌<◌, ◌≤◌, Bool, true, false, cond, ◌&&◌, ◌==◌, eq-eqb, List, [], ◌∷◌}
+use Rattle.std.proofs.Common.{slice_get, refl, ap, sym, ◌∙◌, subst, inl, inr, arith, Option, Some, None, Ok, Err}
 use Rattle.std.proofs.lemmas.Bool.{eqb-true, and_parts, and_from}
 use Rattle.std.specs.Prelude.{flat_map}
 use Rattle.ptg_base.specs.Lists.{IsIn}
@@ -109,10 +110,12 @@ module _ (P : Plan) (G : Data) (con : IsConsistent P) (ys : List Content) (h : H
       omega (arith, (h.shares k y at).trapped f, none)
 
   -- a trapped row is of a claimed task of the shard that traps
-  row_traps : (k : ℕ) (y : Content) → slice_get ys k ≡ Some y → (t : Task) (c : Trap) → IsIn (t, c) y.trapped → IsIn t state.claims × (ended P G t ≡ Some (Err c)) × (h.of t ≡ k)
+  row_traps : (k : ℕ) (y : Content) → slice_get ys k ≡ Some y → (t : Task) (c : Trap) → IsIn (t, c) y.trapped
+      → IsIn t state.claims × (ended P G t ≡ Some (Err c)) × (h.of t ≡ k)
   row_traps k y at t c i =
       let f : Task × Trap → ℕ = λ x. as_number (is_trap t c x) in
-      let some : 0 < weigh (trap_weight P G h.of k f) state.claims = omega (arith, weights k y at f, count-some (is_trap t c) y.trapped (t, c) i (is_trap-self t c)) in
+      let some : 0 < weigh (trap_weight P G h.of k f) state.claims = omega
+      (arith, weights k y at f, count-some (is_trap t c) y.trapped (t, c) i (is_trap-self t c)) in
       let p = weigh-some (trap_weight P G h.of k f) state.claims some in
       let q = trap_some P G h.of k f p.0 p.2 in
       let e = ended_some f p.0 (ended P G p.0) q.1 in
@@ -127,10 +130,19 @@ module _ (P : Plan) (G : Data) (con : IsConsistent P) (ys : List Content) (h : H
       passes false h = absurd (omega (arith, h))
 
   -- a claimed task that traps has a row in its shard
-  trap_has_row : (k : ℕ) (y : Content) → slice_get ys k ≡ Some y → (t : Task) (c : Trap) → IsIn t state.claims → ended P G t ≡ Some (Err c) → h.of t ≡ k → IsIn (t, c) y.trapped
+  trap_has_row : (k : ℕ) (y : Content) → slice_get ys k ≡ Some y → (t : Task) (c : Trap) → IsIn t state.claims
+      → ended P G t ≡ Some (Err c) → h.of t ≡ k → IsIn (t, c) y.trapped
   trap_has_row k y at t c i is own =
       let f : Task × Trap → ℕ = λ x. as_number (is_trap t c x) in
-      let some : 0 < count (is_trap t c) y.trapped = omega (arith, weights k y at f, weigh-member (trap_weight P G h.of k f) state.claims t i, trap_here P G h.of k f t c own is, ap as_number (is_trap-self t c)) in
+      let some : 0 < count (is_trap t c) y.trapped = omega (
+        arith,
+        weights k y at f,
+        weigh-member
+            (trap_weight P G h.of k f) state.claims t i,
+        trap_here P G h.of k f t c own is,
+        ap as_number
+            (is_trap-self t c),
+      ) in
       let p = some_passes (is_trap t c) y.trapped some in
       let m = is_trap-means t c p.0 p.2 in
       subst (λ (x : Task × Trap). IsIn x y.trapped) (λ j. (sym m.0 j, sym m.1 j)) p.1
@@ -156,7 +168,8 @@ module _ (P : Plan) (G : Data) (con : IsConsistent P) (ys : List Content) (h : H
       let x = from_map trap_row p.1.trapped r p.3 in
       let q = row_traps p.0 p.1 p.2 x.0.0 x.0.1 x.1 in
       subst (λ s. IsIn s claimed_rows) (sym x.2)
-      (IsIn-flat_map (λ t. trap_rows t (end_in P G state t)) state.claims x.0.0 (trap_row x.0) q.0 (in_row x.0.0 (end_in P G state x.0.0) x.0.1 (sym (end_known x.0.0 q.0) ∙ q.1)))
+      (IsIn-flat_map (λ t. trap_rows t (end_in P G state t)) state.claims x.0.0 (trap_row x.0) q.0
+      (in_row x.0.0 (end_in P G state x.0.0) x.0.1 (sym (end_known x.0.0 q.0) ∙ q.1)))
 
   from_claimed : (r : TrapRow) → IsIn r claimed_rows → IsIn r (all_traps ys)
   from_claimed r i =
@@ -165,7 +178,8 @@ module _ (P : Plan) (G : Data) (con : IsConsistent P) (ys : List Content) (h : H
       let job = (h.sound.claimed_have_all p.0 p.1).task in
       let y = slice_get_there ys (h.of p.0) (h.placed p.0 job) in
       let there = trap_has_row (h.of p.0) y.0 y.1 p.0 q.0 p.1 (end_known p.0 p.1 ∙ q.1) refl in
-      subst (λ s. IsIn s (all_traps ys)) (sym q.2) (in_rows traps_of ys (h.of p.0) y.0 (trap_row (p.0, q.0)) y.1 (IsIn-map trap_row y.0.trapped (p.0, q.0) there))
+      subst (λ s. IsIn s (all_traps ys)) (sym q.2) (in_rows traps_of ys (h.of p.0) y.0 (trap_row (p.0, q.0)) y.1
+      (IsIn-map trap_row y.0.trapped (p.0, q.0) there))
 
   pub rows_differ : AreOfDifferentTasks (λ (r : TrapRow). r.task) (all_traps ys)
   rows_differ =
@@ -186,16 +200,25 @@ module _ (P : Plan) (G : Data) (con : IsConsistent P) (ys : List Content) (h : H
   one_row t u (Some (Ok tiles)) = omega arith
   one_row t u (Some (Err c)) = omega arith
 
-  count-claimed : (t : Task) (us : List Task) → count (λ (r : TrapRow). same_task t r.task) (flat_map (λ u. trap_rows u (end_in P G state u)) us) ≤ count (same_task t) us
+  count-claimed : (t : Task) (us : List Task) → count (λ (r : TrapRow). same_task t r.task)
+      (flat_map (λ u. trap_rows u (end_in P G state u)) us) ≤ count (same_task t) us
   count-claimed t [] = omega arith
   count-claimed t (u ∷ us) =
-      omega (arith, count-claimed t us, one_row t u (end_in P G state u), weigh-append (λ (r : TrapRow). as_number (same_task t r.task)) (trap_rows u (end_in P G state u)) (flat_map (λ v. trap_rows v (end_in P G state v)) us))
+      omega (
+        arith,
+        count-claimed t us,
+        one_row t u (end_in P G state u),
+        weigh-append
+            (λ (r : TrapRow). as_number (same_task t r.task)) (trap_rows u (end_in P G state u))
+            (flat_map (λ v. trap_rows v (end_in P G state v)) us),
+      )
 
   -- the trapped tasks of the shards, in task order, are those of the state
   pub traps_are : in_task_order (λ (r : TrapRow). r.task) (all_traps ys) ≡ state_traps P G state
   unfolding state_traps
   traps_are =
-      one_order (λ (r : TrapRow). r.task) (all_traps ys) claimed_rows to_claimed from_claimed rows_differ (λ t. omega (arith, count-claimed t state.claims, h.sound.claimed_once t))
+      one_order (λ (r : TrapRow). r.task) (all_traps ys) claimed_rows to_claimed from_claimed rows_differ
+      (λ t. omega (arith, count-claimed t state.claims, h.sound.claimed_once t))
 
   pub rows_are_tasks : (r : TrapRow) → IsIn r (all_traps ys) → IsTask P r.task
   rows_are_tasks r i =

@@ -1,5 +1,6 @@
 -- The waiting tasks of the shards are those of the run.
-use Rattle.std.proofs.Common.{◌≡◌, ℕ, ◌≤◌, Bool, true, false, cond, ◌||◌, ◌==◌, List, [], ◌∷◌, map, slice_get, refl, ap, sym, ◌∙◌, subst, inl, inr, arith, Some, None}
+use Rattle.std.proofs.Common.{◌≡◌, ℕ, ◌≤◌, Bool, true, false, cond, ◌||◌, ◌==◌, List, [], ◌∷◌, map, slice_get, refl, ap}
+use Rattle.std.proofs.Common.{sym, ◌∙◌, subst, inl, inr, arith, Some, None}
 use Rattle.std.proofs.lemmas.Bool.{eqb-true, and_parts}
 use Rattle.std.specs.List.{filter}
 use Rattle.std.specs.Map.{lookup}
@@ -48,7 +49,8 @@ AreFound es = (x : Task × Entry) → IsIn x es → entry_in es x.0 ≡ Some x.1
 abbrev pub HaveOnce : Entries → Type 0
 HaveOnce es = (t : Task) → count (λ (x : Task × Entry). same_task t x.0) es ≤ 1
 
-module _ (P : Plan) (G : Data) (ys : List Content) (h : HoldAnEnd P G ys) (found : (k : ℕ) (y : Content) → slice_get ys k ≡ Some y → AreFound y.entries × HaveOnce y.entries) where
+module _ (P : Plan) (G : Data) (ys : List Content) (h : HoldAnEnd P G ys)
+    (found : (k : ℕ) (y : Content) → slice_get ys k ≡ Some y → AreFound y.entries × HaveOnce y.entries) where
   abbrev state : MachineState
   state = h.moment.state
 
@@ -63,7 +65,11 @@ module _ (P : Plan) (G : Data) (ys : List Content) (h : HoldAnEnd P G ys) (found
       unready : is_ready P state t ≡ true → ⊥
       unready k =
           let p = and_parts (claim_count state t == 0) (arrived P state t == goal P t) k in
-          h.calm.none_ready t (record { task = job; unclaimed = eqb-true (claim_count state t) 0 p.0; all_arrived = eqb-true (arrived P state t) (goal P t) p.1 })
+          h.calm.none_ready t (record {
+            task = job;
+            unclaimed = eqb-true (claim_count state t) 0 p.0;
+            all_arrived = eqb-true (arrived P state t) (goal P t) p.1;
+          })
 
       by : (a : Bool) → is_ready P state t ≡ a → (b : Bool) → is_waiting P state t ≡ b → (is_waiting P state t ≡ true) × (wait_row (t, e) ≡ row t)
       by true k b l = absurd (unready k)
@@ -76,7 +82,8 @@ module _ (P : Plan) (G : Data) (ys : List Content) (h : HoldAnEnd P G ys) (found
           (l, ap (λ (w : Entry). wait_row (t, w)) (sym same))
 
   waiting_entry : (t : Task) → is_waiting P state t ≡ true → table_entry P state t ≡ Some (table_row P state t)
-  waiting_entry t l = by_test (is_ready P state t) (λ k i. cond (k i || l i) (Some (table_row P state t)) None) (λ k i. cond (k i || l i) (Some (table_row P state t)) None)
+  waiting_entry t l = by_test (is_ready P state t) (λ k i. cond (k i || l i) (Some (table_row P state t)) None)
+      (λ k i. cond (k i || l i) (Some (table_row P state t)) None)
 
   abbrev waiting : List Task
   waiting = filter (is_waiting P state) (all_tasks P)
@@ -89,7 +96,9 @@ module _ (P : Plan) (G : Data) (ys : List Content) (h : HoldAnEnd P G ys) (found
       let share = h.shares p.0 p.1 p.2 in
       let own = share.only x.0.0 x.0.1 is in
       let w = entry_waits x.0.0 x.0.1 own.0 (sym (share.there x.0.0 own.0 own.1) ∙ is) in
-      subst (λ s. IsIn s (map row waiting)) (sym (x.2 ∙ w.1)) (IsIn-map row waiting x.0.0 ((IsIn-filter (is_waiting P state) (all_tasks P) x.0.0).1 ((listed P x.0.0).0 own.0, w.0)))
+      subst (λ s. IsIn s (map row waiting)) (sym (x.2 ∙ w.1))
+      (IsIn-map row waiting x.0.0 ((IsIn-filter (is_waiting P state) (all_tasks P) x.0.0).1
+      ((listed P x.0.0).0 own.0, w.0)))
 
   from_waiting : (r : WaitRow) → IsIn r (map row waiting) → IsIn r (all_waits ys)
   from_waiting r i =
@@ -99,7 +108,8 @@ module _ (P : Plan) (G : Data) (ys : List Content) (h : HoldAnEnd P G ys) (found
       let y = slice_get_there ys (h.of p.0) (h.placed p.0 job) in
       let is = (h.shares (h.of p.0) y.0 y.1).there p.0 job refl ∙ waiting_entry p.0 q.1 in
       let there = found_in p.0 (table_row P state p.0) y.0.entries is in
-      subst (λ s. IsIn s (all_waits ys)) (sym p.2) (in_rows waits_of ys (h.of p.0) y.0 (row p.0) y.1 (IsIn-map wait_row y.0.entries (p.0, table_row P state p.0) there))
+      subst (λ s. IsIn s (all_waits ys)) (sym p.2) (in_rows waits_of ys (h.of p.0) y.0 (row p.0) y.1
+      (IsIn-map wait_row y.0.entries (p.0, table_row P state p.0) there))
 
   pub waits_differ : AreOfDifferentTasks (λ (r : WaitRow). r.task) (all_waits ys)
   waits_differ =

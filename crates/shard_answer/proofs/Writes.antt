@@ -1,6 +1,7 @@
 -- What was written back in the shards is what the run sent. The state with its sends in the shards' order has the same
 -- answer.
-use Rattle.std.proofs.Common.{◌≡◌, ℕ, zero, ◌+◌, ℤ, Bool, true, false, cond, ◌==◌, List, [], ◌∷◌, ◌++◌, map, slice_get, refl, ap, sym, ◌∙◌, subst, arith, Option, Some, None}
+use Rattle.std.proofs.Common.{◌≡◌, ℕ, zero, ◌+◌, ℤ, Bool, true, false, cond, ◌==◌, List, [], ◌∷◌, ◌++◌, map, slice_get}
+use Rattle.std.proofs.Common.{refl, ap, sym, ◌∙◌, subst, arith, Option, Some, None}
 use Rattle.std.specs.List.{All, cons_option, filter, filter_map}
 use Rattle.ptg_base.specs.Lists.{IsIn}
 use Rattle.ptg_base.specs.declared.edge.WriteBack.{WriteBack}
@@ -40,7 +41,8 @@ none_either : (b : Bool) → cond b zero zero ≡ zero
 none_either true = refl
 none_either false = refl
 
-own_weight : (of : Placement) (k : ℕ) (f : WriteBack × List ℤ → ℕ) (i : Item) (o : Option (List ℤ)) → written_weight of k f i o ≡ cond (of (sender i) == k) (any_weight f i o) 0
+own_weight : (of : Placement) (k : ℕ) (f : WriteBack × List ℤ → ℕ) (i : Item) (o : Option (List ℤ))
+    → written_weight of k f i o ≡ cond (of (sender i) == k) (any_weight f i o) 0
 own_weight of k f (item.Edge e) o = sym (none_either (of e.from == k))
 own_weight of k f (item.Write w) None = sym (none_either (of w.from == k))
 own_weight of k f (item.Write w) (Some tile) = refl
@@ -67,10 +69,12 @@ no_writes : (xs : List SentItem) → filter_map write_of_sent (filter is_edge xs
 no_writes [] = refl
 no_writes (x ∷ xs) =
     by_test (is_edge x)
-    (λ k. ap (λ b. filter_map write_of_sent (cond b (x ∷ filter is_edge xs) (filter is_edge xs))) k ∙ (λ i. cons_option (written_edge x.item x.tile k i) (no_writes xs i)))
+    (λ k. ap (λ b. filter_map write_of_sent (cond b (x ∷ filter is_edge xs) (filter is_edge xs))) k
+    ∙ (λ i. cons_option (written_edge x.item x.tile k i) (no_writes xs i)))
     (λ k. ap (λ b. filter_map write_of_sent (cond b (x ∷ filter is_edge xs) (filter is_edge xs))) k ∙ no_writes xs)
 
-all_writes_of : (ws : List (WriteBack × List ℤ)) (rest : List SentItem) → filter_map write_of_sent rest ≡ [] → filter_map write_of_sent (map as_sent ws ++ rest) ≡ with_tiles ws
+all_writes_of : (ws : List (WriteBack × List ℤ)) (rest : List SentItem) → filter_map write_of_sent rest ≡ []
+    → filter_map write_of_sent (map as_sent ws ++ rest) ≡ with_tiles ws
 all_writes_of [] rest none = none
 all_writes_of (w ∷ ws) rest none = ap (λ l. (w.0, Some w.1) ∷ l) (all_writes_of ws rest none)
 
@@ -86,10 +90,13 @@ module _ (P : Plan) (G : Data) (con : IsConsistent P) (known : DataFit P G) (wel
   all_weights f =
       weigh-flat_map f (λ (y : Content). y.written) ys
       ∙ gathered (λ (x : SentItem). h.of (sender x.item)) (λ (x : SentItem). any_weight f x.item x.tile) (λ (y : Content). weigh f y.written) ys state.sends
-      (λ k y at. (h.shares k y at).written f ∙ weigh-same (part (λ (x : SentItem). h.of (sender x.item)) (λ (x : SentItem). any_weight f x.item x.tile) k) (write_weight h.of k f) state.sends (λ x i. own_weight h.of k f x.item x.tile))
+      (λ k y at. (h.shares k y at).written f ∙ weigh-same (part (λ (x : SentItem). h.of (sender x.item))
+      (λ (x : SentItem). any_weight f x.item x.tile) k) (write_weight h.of k f) state.sends
+      (λ x i. own_weight h.of k f x.item x.tile))
       (λ x i. h.placed (sender x.item) (h.sound.claimed_have_all (sender x.item) (h.sound.sent_are_outputs x i).claimed).task)
 
-  one_sent : (f : SentItem → ℕ) (x : SentItem) → IsIn x state.sends → (i : Item) → x.item ≡ i → (o : Option (List ℤ)) → x.tile ≡ o → any_weight (λ w. f (as_sent w)) i o + cond (edge_item i) (f x) 0 ≡ f x
+  one_sent : (f : SentItem → ℕ) (x : SentItem) → IsIn x state.sends → (i : Item) → x.item ≡ i → (o : Option (List ℤ))
+      → x.tile ≡ o → any_weight (λ w. f (as_sent w)) i o + cond (edge_item i) (f x) 0 ≡ f x
   one_sent f x among (item.Edge e) is o has = omega arith
   one_sent f x among (item.Write w) is None has =
       let s = write_sent P G con state h.sound known well x among w is in
@@ -126,7 +133,8 @@ module _ (P : Plan) (G : Data) (con : IsConsistent P) (known : DataFit P G) (wel
       All-from_members (IsWritable G) y.written
       (λ w i.
       let among : IsIn w (all_written ys) = IsIn-flat_map (λ (z : Content). z.written) ys y w (IsIn-slice_get ys k y at) i in
-      let sent : IsIn (as_sent w) in_shard_order.sends = IsIn-append_left (as_sent w) (map as_sent (all_written ys)) (filter is_edge state.sends) (IsIn-map as_sent (all_written ys) w among) in
+      let sent : IsIn (as_sent w) in_shard_order.sends = IsIn-append_left (as_sent w) (map as_sent (all_written ys))
+      (filter is_edge state.sends) (IsIn-map as_sent (all_written ys) w among) in
       let s = write_sent P G con in_shard_order sound_there known well (as_sent w) sent w.0 refl in
       let both : Some w.1 ≡ Some s.0 = s.1 in
       let same : w.1 ≡ s.0 = cc in
@@ -135,4 +143,5 @@ module _ (P : Plan) (G : Data) (con : IsConsistent P) (known : DataFit P G) (wel
   -- the data after a run in which all tasks ran
   pub data_is : replaced_data (λ here. first_written here (with_tiles (all_written ys))) G ≡ state_data G in_shard_order
   unfolding state_data
-  data_is = ap (λ ws. replaced_data (λ here. first_written here ws) G) (sym (all_writes_of (all_written ys) (filter is_edge state.sends) (no_writes state.sends)))
+  data_is = ap (λ ws. replaced_data (λ here. first_written here ws) G)
+      (sym (all_writes_of (all_written ys) (filter is_edge state.sends) (no_writes state.sends)))

@@ -20,7 +20,8 @@ use Rattle.shard_calls.proofs.TaskWalks.{IsSoFar, one_more}
 use Rattle.dep_iter.specs.Consistent.{roots_among}
 
 -- one new shard more
-pub new_more : (n : ℕ) (lengths : List ℕ) (ys : List Content) (y : Content) (zs : List Content) → AreNew n lengths ys → IsNew y lengths → zs ≡ ys ++ y ∷ [] → AreNew (n + 1) lengths zs
+pub new_more : (n : ℕ) (lengths : List ℕ) (ys : List Content) (y : Content) (zs : List Content) → AreNew n lengths ys
+    → IsNew y lengths → zs ≡ ys ++ y ∷ [] → AreNew (n + 1) lengths zs
 new_more n lengths ys y zs w new is = subst (AreNew (n + 1) lengths) (sym is) (record {
   count = omega (arith, w.count, length-append ys (y ∷ []));
   each = λ k z at. elim (slice_get_push ys y k z at) [ inl before ↦ w.each k z before | inr same ↦ subst (λ x. IsNew x lengths) same new ];
@@ -57,7 +58,8 @@ no_root P t ts k = ap (λ b. length (cond b (t ∷ roots_among P ts) (roots_amon
 
 -- if none of these tasks is without an edge into it, each has one
 none_is_root : (P : Plan) (ts : List Task) → length (roots_among P ts) ≡ 0 → (t : Task) → IsIn t ts → (goal P t == 0) ≡ false
-none_is_root P ts none t i = by_test (goal P t == 0) (λ root. absurd (has_none (roots_among P ts) none ((IsIn-filter (λ u. goal P u == 0) ts t).1 (i, root)))) (λ not. not)
+none_is_root P ts none t i = by_test (goal P t == 0) (λ root. absurd
+    (has_none (roots_among P ts) none ((IsIn-filter (λ u. goal P u == 0) ts t).1 (i, root)))) (λ not. not)
   where
     has_none : (us : List Task) → length us ≡ 0 → IsIn t us → ⊥
     has_none [] z j = absurd j

@@ -1,5 +1,6 @@
 -- The opening of shards, task by task.
-use Rattle.std.proofs.Common.{◌≡◌, ◌≢◌, ℕ, ◌<◌, ◌==◌, false, cond, List, [], ◌∷◌, ◌++◌, length, refl, ap, sym, ◌∙◌, subst, Option, Some, None, slice_get, inl, inr, if◌then◌else◌, ne_eqb}
+use Rattle.std.proofs.Common.{◌≡◌, ◌≢◌, ℕ, ◌<◌, ◌==◌, false, cond, List, [], ◌∷◌, ◌++◌, length, refl, ap, sym, ◌∙◌}
+use Rattle.std.proofs.Common.{subst, Option, Some, None, slice_get, inl, inr, if◌then◌else◌, ne_eqb}
 use Rattle.std.proofs.lemmas.Bool.{false≢true, cases_eq}
 use Rattle.ptg_base.specs.Entry.{Entry}
 use Rattle.ptg_base.specs.Lists.{IsIn}
@@ -34,7 +35,8 @@ module _ (P : Plan) (of : Placement) where
         by (Some v) e = w.there t (w.only t v e).0 own
 
     -- more tasks are opened if their entries are there
-    pub more_kept : (more : List Task) → ((t : Task) → IsIn t more → of t ≡ k → entry_of y t ≡ opening_entry P t) → IsOpenedFor P of k (λ u. IsIn u (done ++ more)) y
+    pub more_kept : (more : List Task) → ((t : Task) → IsIn t more → of t ≡ k → entry_of y t ≡ opening_entry P t)
+        → IsOpenedFor P of k (λ u. IsIn u (done ++ more)) y
     more_kept more here = record {
       there = λ u i own. elim (from_append u done more i) [ inl before ↦ w.there u before own | inr later ↦ here u later own ];
       only = λ u e is. let p = w.only u e is in (IsIn-append_left u done more p.0, p.1);
@@ -53,7 +55,8 @@ module _ (P : Plan) (of : Placement) where
       ])
 
       -- the shard of the task, after it was entered
-      entered : of t ≡ k → goal P t ≡ 0 → (z : Content) → EntersIn t (priority P t) y z → (v : Option Entry) → entry_of y t ≡ v → IsOpenedFor P of k (λ u. IsIn u (done ++ t ∷ [])) z
+      entered : of t ≡ k → goal P t ≡ 0 → (z : Content) → EntersIn t (priority P t) y z → (v : Option Entry)
+          → entry_of y t ≡ v → IsOpenedFor P of k (λ u. IsIn u (done ++ t ∷ [])) z
       entered own root z e (Some v) is =
           let same : z.entries ≡ y.entries = e.again v is in
           let g = one_more_kept (λ o. w.there t (w.only t v is).0 o) in record {

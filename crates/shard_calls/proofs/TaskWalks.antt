@@ -22,8 +22,14 @@ module _ (P : Plan) where
   pub next_task : (Q : List Task → Type 0) (t : Task) (rest : List Task) → IsSoFar P Q (t ∷ rest) → IsTask P t
   next_task Q t rest w = (listed P t).1 (subst (IsIn t) (sym w.split) (IsIn-append_right t w.passed (t ∷ rest) (inl refl)))
 
-  pub one_more : (Q R : List Task → Type 0) (t : Task) (rest : List Task) → ((ts : List Task) → Q ts → R (ts ++ t ∷ [])) → IsSoFar P Q (t ∷ rest) → IsSoFar P R rest
-  one_more Q R t rest more w = record { passed = w.passed ++ t ∷ []; split = w.split ∙ sym (append_assoc w.passed (t ∷ []) rest); holds = more w.passed w.holds }
+  pub one_more : (Q R : List Task → Type 0) (t : Task) (rest : List Task) → ((ts : List Task) → Q ts → R (ts ++ t ∷ []))
+      → IsSoFar P Q (t ∷ rest) → IsSoFar P R rest
+  one_more Q R t rest more w = record {
+    passed = w.passed ++ t ∷ [];
+    split = w.split
+        ∙ sym (append_assoc w.passed (t ∷ []) rest);
+    holds = more w.passed w.holds;
+  }
 
   pub whole : (Q : List Task → Type 0) → IsSoFar P Q [] → Q (all_tasks P)
   whole Q w = subst Q (sym (w.split ∙ append-nil w.passed)) w.holds

@@ -11,9 +11,9 @@ ghost use Rattle.dep_shard.specs.declared.shard.Arrived.TheVariants.{Fired};
 ghost use Rattle.dep_shard.specs.Content.{IsReady, IsTileOf, IsWaiting, KeepsAllButEntries, KeepsSpares, Updates, Uses, entry_of};
 ghost use Rattle.shard_meaning.specs.Share.{entry_after, entry_found};
 
-use dep_iter::{Matched, TaskAt, flows_of, priority_under};
+use dep_iter::{Matched, TaskAt, flows_of};
 use dep_shard::{Arrived, Shard};
-use goal_count::goal_under;
+use goal_count::goal_of;
 use ptg_base::{Edge, OutOfMemory, TaskId, Tile};
 use range_space::Numbers;
 
@@ -55,9 +55,7 @@ fn arrive_first(
 {
     let mut room = Numbers::new();
     let at = TaskAt::of(m.plan(), &edge.to, &mut room);
-    let goal = goal_under(m, &edge.to, at.locals);
-    let priority = priority_under(m.plan(), &edge.to, at.locals);
-    shard.arrive_first(edge, goal, priority, datatype, tile)
+    shard.arrive_first(edge, goal_of(&at), at.priority(), datatype, tile)
 }
 
 // Notes an edge to its target, with its tile. If memory is refused, the shard stays as it was, but for spares that may

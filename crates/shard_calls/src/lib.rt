@@ -12,5 +12,5 @@ mod quiet;
 pub use flows::flow_at;
 pub use items::{take_edge, take_write};
 pub use opening::{opened_ranks, opened_shards};
-pub use placing::{home_at, home_under, shard_at, shard_under};
+pub use placing::{home_at, home_of, shard_at};
 pub use quiet::have_no_work;

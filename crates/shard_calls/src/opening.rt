@@ -6,11 +6,12 @@ ghost use Rattle.dep_iter.specs.Edges.{goal};
 ghost use Rattle.dep_iter.specs.Tasks.{IsTask};
 ghost use Rattle.shard_calls.specs.Opened.{AreNew, AreOpening, AreOpeningRanks, AreOpeningShards, Enters, EntersIn, Opens, placement_by};
 
-use crate::placing::{SharedTo, number_under};
-use dep_iter::{Matched, all_tasks, locals_of, priority_under};
+use crate::placing::{SharedTo, number_at};
+use dep_iter::{Matched, TaskAt, all_tasks};
 use dep_shard::Shard;
-use goal_count::goal_under;
+use goal_count::goal_of;
 use ptg_base::{OutOfMemory, TaskId};
+use range_space::Numbers;
 use std::alloc::Global;
 
 // Enters a ready task into its shard, unless it has an entry.
@@ -44,13 +45,13 @@ fn open_task(
     ensures opened { OnOk result
         (Opens m.now (placement_by to m.now (length shards.old.items)) t.now shards.old.items shards.new.items) }
 {
-    let env = locals_of(m.plan(), t);
-    if goal_under(m, t, env.as_slice()) != 0 {
+    let mut room = Numbers::new();
+    let at = TaskAt::of(m.plan(), t, &mut room);
+    if goal_of(&at) != 0 {
         return Ok(false);
     }
-    let k = number_under(to, m, shards.len(), t, env.as_slice());
-    let priority = priority_under(m.plan(), t, env.as_slice());
-    enter(shards, k, t, priority)?;
+    let k = number_at(to, &at, shards.len());
+    enter(shards, k, t, at.priority())?;
     Ok(true)
 }
 

@@ -1,15 +1,14 @@
 //! The shard of a task.
 
-ghost use Rattle.std.specs.Prelude.{◌≡◌, ◌<◌};
+ghost use Rattle.std.specs.Prelude.{◌≡◌, ◌<◌, ◌%◌};
 ghost use Rattle.ptg_base.specs.Limits.{IsShardCount};
-ghost use Rattle.dep_iter.specs.Tasks as tasks;
+ghost use Rattle.dep_iter.specs.Consistent.{IsConsistent};
 ghost use Rattle.dep_iter.specs.Tasks.{IsTask};
 ghost use Rattle.shard_meaning.specs.Placing as placing;
 ghost use Rattle.shard_meaning.specs.Placing.{home_of, shard_of};
 ghost use Rattle.shard_calls.specs.Opened.{placement_by};
 
-use dep_iter::{Matched, TaskAt, affinity_under, place_number};
-use plan_core::Plan;
+use dep_iter::{Matched, TaskAt, place_number};
 use ptg_base::TaskId;
 use range_space::Numbers;
 use term_core::{Expr, is_closed};
@@ -68,90 +67,70 @@ fn name_no_local(indices: &[Expr]) -> bool
 }
 
 // Whether the affinity of a task's class is one place for all its tasks.
-fn has_one_place(plan: &Plan, t: &TaskId) -> bool
-    requires { IsTask plan.now t.now }
-    ensures { result ≡ placing.has_one_place plan.now t.now }
+fn has_one_place(at: &TaskAt) -> bool
+    ensures { result ≡ placing.has_one_place at.now.plan.now at.now.task.now }
 {
-    let class = plan.class(t.class());
+    let class = at.plan.class(at.task.class());
     name_no_local(class.affinity.indices.as_slice())
 }
 
-/// Where a task with these locals belongs by the place of its affinity alone, among `shards` shards.
+// The remainder of a number that mostly is less than the divisor. Then nothing is divided.
+fn remainder(n: u64, divisor: u64) -> u64
+    requires { 0 < divisor }
+    ensures { result ≡ n % divisor }
+{
+    if n < divisor { n } else { n % divisor }
+}
+
+/// Where a task of a consistent plan belongs by the place of its affinity alone, among `shards` shards.
 #[tactic(auto, unfolding(shard_meaning::specs::Placing::home_of))]
-pub fn home_under(m: &Matched, shards: usize, t: &TaskId, env: &[i64]) -> usize
-    requires task { IsTask m.now t.now }
-    requires locals { env.now ≡ tasks.locals_of m.now t.now }
+pub fn home_at(at: &TaskAt, shards: usize) -> usize
+    requires plan { IsConsistent at.now.plan.now }
     requires shards { IsShardCount shards }
-    ensures number { result ≡ home_of m.now shards t.now }
+    ensures number { result ≡ home_of at.now.plan.now shards at.now.task.now }
     ensures within { result < shards }
 {
-    let plan = m.plan();
-    let place = affinity_under(plan, t, env);
+    let place = at.affinity();
     let count = shards as u64;
-    let coll = u64::from(place.coll) % count;
-    let number = place_number(plan, &place) % count;
-    ((coll + number) % count) as usize
+    let coll = remainder(u64::from(place.coll), count);
+    let number = place_number(at.plan, &place) % count;
+    remainder(coll + number, count) as usize
 }
 
 /// Where a task belongs by the place of its affinity alone, among `shards` shards.
-pub fn home_at(m: &Matched, shards: usize, t: &TaskId) -> usize
+pub fn home_of(m: &Matched, shards: usize, t: &TaskId) -> usize
     requires task { IsTask m.now t.now }
     requires shards { IsShardCount shards }
     ensures number { result ≡ home_of m.now shards t.now }
     ensures within { result < shards }
 {
-    let mut room = Numbers::new();
-    let at = TaskAt::of(m.plan(), t, &mut room);
-    home_under(m, shards, t, at.locals)
+    home_at(&TaskAt::of(m.plan(), t, &mut Numbers::new()), shards)
 }
 
-/// The shard of a task with these locals, among `shards` shards.
+/// The shard of a task of a consistent plan, among `shards` shards.
 #[tactic(auto, unfolding(shard_meaning::specs::Placing::shard_of))]
-pub fn shard_under(m: &Matched, shards: usize, t: &TaskId, env: &[i64]) -> usize
-    requires task { IsTask m.now t.now }
-    requires locals { env.now ≡ tasks.locals_of m.now t.now }
+pub fn shard_at(at: &TaskAt, shards: usize) -> usize
+    requires plan { IsConsistent at.now.plan.now }
     requires shards { IsShardCount shards }
-    ensures number { result ≡ shard_of m.now shards t.now }
+    ensures number { result ≡ shard_of at.now.plan.now shards at.now.task.now }
     ensures within { result < shards }
 {
-    if has_one_place(m.plan(), t) {
-        spread(shards, t)
+    if has_one_place(at) {
+        spread(shards, at.task)
     } else {
-        home_under(m, shards, t, env)
+        home_at(at, shards)
     }
 }
 
-/// The shard of a task, among `shards` shards.
-#[tactic(auto, unfolding(shard_meaning::specs::Placing::shard_of))]
-pub fn shard_at(m: &Matched, shards: usize, t: &TaskId) -> usize
-    requires task { IsTask m.now t.now }
-    requires shards { IsShardCount shards }
-    ensures number { result ≡ shard_of m.now shards t.now }
-    ensures within { result < shards }
-{
-    if has_one_place(m.plan(), t) {
-        spread(shards, t)
-    } else {
-        home_at(m, shards, t)
-    }
-}
-
-// The number of the shard, or of the rank, of a task with these locals.
-pub(crate) fn number_under(
-    to: SharedTo,
-    m: &Matched,
-    count: usize,
-    t: &TaskId,
-    env: &[i64],
-) -> usize
-    requires task { IsTask m.now t.now }
-    requires locals { env.now ≡ tasks.locals_of m.now t.now }
+// The number of the shard, or of the rank, of a task of a consistent plan.
+pub(crate) fn number_at(to: SharedTo, at: &TaskAt, count: usize) -> usize
+    requires plan { IsConsistent at.now.plan.now }
     requires count { IsShardCount count }
-    ensures number { result ≡ placement_by to m.now count t.now }
+    ensures number { result ≡ placement_by to at.now.plan.now count at.now.task.now }
     ensures within { result < count }
 {
     match to {
-        SharedTo::Shards => shard_under(m, count, t, env),
-        SharedTo::Ranks => home_under(m, count, t, env),
+        SharedTo::Shards => shard_at(at, count),
+        SharedTo::Ranks => home_at(at, count),
     }
 }

@@ -24,7 +24,9 @@ use Rattle.shard_meaning.proofs.Due.{due-send, runs_as_before}
 use Rattle.shard_meaning.proofs.Holding.{may_ready, ready_may}
 
 -- if no shard has work, no task may be claimed and none runs
-module _ (P : Plan) (G : Data) (of : Placement) (R : Moment) (n : ℕ) (within : (t : Task) → of t < n) (shards : ℕ → Content) (shares : (k : ℕ) → k < n → IsShardOf P G of k R (shards k)) (idle : (k : ℕ) → k < n → HasNoWork (shards k)) where
+module _ (P : Plan) (G : Data) (of : Placement) (R : Moment) (n : ℕ) (within : (t : Task) → of t < n)
+    (shards : ℕ → Content) (shares : (k : ℕ) → k < n → IsShardOf P G of k R (shards k))
+    (idle : (k : ℕ) → k < n → HasNoWork (shards k)) where
   no_claim : (t : Task) → MayClaim P R.state t → ⊥
   no_claim t may =
       let k = of t in
@@ -50,13 +52,18 @@ calm_shard P G of k R y h calm = record {
 
 -- a calm moment at which all claimed tasks are finished is at rest
 pub calm_rests : (P : Plan) (G : Data) (R : Moment) → IsCalm P R → AreFinished P G R → IsAtRest P G R.state
-calm_rests P G R calm finished = record { none_ready = calm.none_ready; all_finished = λ t claimed. finished t claimed (ap (count (same_task t)) calm.none_runs) }
+calm_rests P G R calm finished = record {
+  none_ready = calm.none_ready;
+  all_finished = λ t claimed. finished t claimed
+      (ap (count (same_task t)) calm.none_runs);
+}
 
 pub calm_quiescent : (P : Plan) (G : Data) → IsConsistent P → (R : Moment) → IsSoundState P G R.state → IsCalm P R → AreFinished P G R → IsQuiescent P G R.state
 calm_quiescent P G con R sound calm finished = (rests P G con R.state sound).1 (calm_rests P G R calm finished)
 
 -- a finished task is still finished after a send
-still_finished : (P : Plan) (G : Data) (R : Moment) (i : Item) → MaySend P G R.state i → (t : Task) → IsFinished P G R.state t → IsFinished P G (with_send P G R i).state t
+still_finished : (P : Plan) (G : Data) (R : Moment) (i : Item) → MaySend P G R.state i → (t : Task)
+    → IsFinished P G R.state t → IsFinished P G (with_send P G R i).state t
 still_finished P G R i may t f = elim f [ inl trap ↦ inl trap | inr all ↦ inr (λ j among. (due-send P G R i may).sent j (all j among)) ]
 
 module _ (P : Plan) (G : Data) (R : Moment) (finished : AreFinished P G R) where

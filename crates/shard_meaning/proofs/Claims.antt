@@ -33,7 +33,14 @@ module _ (P : Plan) (G : Data) (con : IsConsistent P) (of : Placement) (k : ℕ)
         there = es.there;
         only = es.only;
         written = λ f. ap (weigh f) takes.written ∙ h.written f;
-        trapped = λ f. omega (arith, ap (weigh f) takes.trapped, h.trapped f, weigh-push (trap_weight P G of k f) R.running t, weigh-push (trap_weight P G of k f) R.state.claims t);
+        trapped = λ f. omega (
+          arith,
+          ap (weigh f) takes.trapped,
+          h.trapped f,
+          weigh-push (trap_weight P G of k f)
+              R.running t,
+          weigh-push (trap_weight P G of k f) R.state.claims t,
+        );
         running = omega (arith, takes.running, h.running, runs, one);
         ended = omega (arith, takes.running, takes.ended, h.ended, claims, one);
         elems = takes.elems ∙ h.elems;

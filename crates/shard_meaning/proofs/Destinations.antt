@@ -35,7 +35,9 @@ module _ (P : Plan) (t : Task) (job : IsTask P t) (n : ℕ) (g : FlowPlan) (here
   same_type x i = (and_parts _ _ (and_parts _ _ (destination P t job n g here x i)).0).1
 
 -- a link out of a flow with a tile leads to a flow with a tile, and any other link to a flow without
-data_target : (P : Plan) (k : FlowKind) (x : Target) → is_out_target P.classes k x ≡ true → (l : Link) (env : List ℤ) (n : ℕ) → IsIn l (links_to env n x) → is_data (kind_of P.classes l.far.class l.far_flow) ≡ is_data (Some k)
+data_target : (P : Plan) (k : FlowKind) (x : Target) → is_out_target P.classes k x ≡ true
+    → (l : Link) (env : List ℤ) (n : ℕ) → IsIn l (links_to env n x)
+    → is_data (kind_of P.classes l.far.class l.far_flow) ≡ is_data (Some k)
 data_target P k (target.Task c m args) h l env n i =
     let p = from_links n c m (combinations args env) l i in
     ap (λ (z : ℕ). is_data (kind_of P.classes z l.far_flow)) p.0 ∙ (ap (λ (z : ℕ). is_data (kind_of P.classes c z)) p.1 ∙ by k h)
@@ -57,7 +59,9 @@ data_target P k target.New h l env n i = absurd i
 data_target P k target.Null h l env n i = absurd i
 
 -- and to one of its type
-typed_target : (P : Plan) (d : ℕ) (x : Target) → has_datatype P.classes P.colls d x ≡ true → (l : Link) (env : List ℤ) (n : ℕ) → IsIn l (links_to env n x) → has_type d (flow_of P.classes l.far.class l.far_flow) ≡ true
+typed_target : (P : Plan) (d : ℕ) (x : Target) → has_datatype P.classes P.colls d x ≡ true
+    → (l : Link) (env : List ℤ) (n : ℕ) → IsIn l (links_to env n x)
+    → has_type d (flow_of P.classes l.far.class l.far_flow) ≡ true
 typed_target P d (target.Task c m args) h l env n i =
     let p = from_links n c m (combinations args env) l i in
     ap (λ (z : ℕ). has_type d (flow_of P.classes z l.far_flow)) p.0 ∙ (ap (λ (z : ℕ). has_type d (flow_of P.classes c z)) p.1 ∙ h)
@@ -78,7 +82,9 @@ sends_to P t job e among =
     let p = (out_edge_is P t e).0 among in
     by (slice_get (flows_of P t) e.out_flow) refl p.0 p.1
   where
-    by : (o : Option FlowPlan) → slice_get (flows_of P t) e.out_flow ≡ o → e.from ≡ t → IsSomeAnd o (λ f. IsIn (link_out e) (flat_map (links_to (locals_of P t) e.out_flow) (flow_outs (locals_of P t) f))) → SendsTo P e
+    by : (o : Option FlowPlan) → slice_get (flows_of P t) e.out_flow ≡ o → e.from ≡ t
+        → IsSomeAnd o (λ f. IsIn (link_out e) (flat_map (links_to (locals_of P t) e.out_flow)
+        (flow_outs (locals_of P t) f))) → SendsTo P e
     by None is from h = absurd h
     by (Some g) is from h =
         let q = from_flat_map (links_to (locals_of P t) e.out_flow) (flow_outs (locals_of P t) g) (link_out e) h in

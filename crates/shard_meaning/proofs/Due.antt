@@ -42,16 +42,21 @@ module _ (P : Plan) (of : Placement) (k : ℕ) (R T : Moment) (before : IsDueBef
   unsent_before a i e = guarded a _ _ (contrapositive (is_sent R.state i) (is_sent T.state i) (before.sent i)) e
 
   pub edges_due : (datatype : ℕ) → count (is_due_edge P of k datatype T.state) (all_data P) ≤ count (is_due_edge P of k datatype R.state) (all_data P)
-  edges_due datatype = count-le (is_due_edge P of k datatype T.state) (is_due_edge P of k datatype R.state) (all_data P) (λ e i h. unsent_before (is_of of k e.to && is_edge_of_type P datatype e) (item.Edge e) h)
+  edges_due datatype = count-le (is_due_edge P of k datatype T.state) (is_due_edge P of k datatype R.state) (all_data P)
+      (λ e i h. unsent_before (is_of of k e.to && is_edge_of_type P datatype e) (item.Edge e) h)
 
-  pub write_tiles_due : (datatype : ℕ) → count (is_due_write_tile P of k datatype T.state) (all_writes P) ≤ count (is_due_write_tile P of k datatype R.state) (all_writes P)
-  write_tiles_due datatype = count-le (is_due_write_tile P of k datatype T.state) (is_due_write_tile P of k datatype R.state) (all_writes P) (λ w i h. unsent_before (is_of of k w.from && is_write_of_type P datatype w) (item.Write w) h)
+  pub write_tiles_due : (datatype : ℕ) → count (is_due_write_tile P of k datatype T.state) (all_writes P) ≤ count
+      (is_due_write_tile P of k datatype R.state) (all_writes P)
+  write_tiles_due datatype = count-le (is_due_write_tile P of k datatype T.state)
+      (is_due_write_tile P of k datatype R.state) (all_writes P)
+      (λ w i h. unsent_before (is_of of k w.from && is_write_of_type P datatype w) (item.Write w) h)
 
   pub writes_due : count (is_due_write of k T.state) (all_writes P) ≤ count (is_due_write of k R.state) (all_writes P)
   writes_due = count-le (is_due_write of k T.state) (is_due_write of k R.state) (all_writes P) (λ w i h. unsent_before (is_of of k w.from) (item.Write w) h)
 
   pub ends_due : count (is_due_end of k T) (all_tasks P) ≤ count (is_due_end of k R) (all_tasks P)
-  ends_due = count-le (is_due_end of k T) (is_due_end of k R) (all_tasks P) (λ t i h. guarded (is_of of k t) (is_to_end T t) (is_to_end R t) (before.to_end t) h)
+  ends_due = count-le (is_due_end of k T) (is_due_end of k R) (all_tasks P)
+      (λ t i h. guarded (is_of of k t) (is_to_end T t) (is_to_end R t) (before.to_end t) h)
 
   -- if each unclaimed task without an entry later had none before, no more entries are due
   pub entries_due : (y z : Content) → ((t : Task) → is_unclaimed T.state t ≡ true → is_none (entry_of z t) ≡ true → is_none (entry_of y t) ≡ true)
@@ -75,13 +80,25 @@ due-claim R t free = record {
   to_end = λ u e. or_elim (is_unclaimed (with_claim R t).state u) (nat_lt 0 (run_count (with_claim R t) u))
       (λ h. or_left (is_unclaimed R.state u) (nat_lt 0 (run_count R u)) (unclaimed u h))
       (λ h. by_test (same_task u t)
-      (λ same. or_left (is_unclaimed R.state u) (nat_lt 0 (run_count R u)) (unclaimed_is R.state u (ap (claim_count R.state) ((same_task-decides u t).0 same) ∙ free)))
-      (λ other. or_right (is_unclaimed R.state u) (nat_lt 0 (run_count R u)) (lt-ltb 0 (run_count R u) (omega (arith, ltb-true 0 (run_count (with_claim R t) u) h, weigh-push (λ v. as_number (same_task u v)) R.running t, ap as_number other)))))
+      (λ same. or_left (is_unclaimed R.state u) (nat_lt 0 (run_count R u))
+      (unclaimed_is R.state u (ap (claim_count R.state) ((same_task-decides u t).0 same) ∙ free)))
+      (λ other. or_right (is_unclaimed R.state u) (nat_lt 0 (run_count R u))
+      (lt-ltb 0 (run_count R u) (omega (
+        arith,
+        ltb-true 0 (run_count (with_claim R t) u) h,
+        weigh-push
+            (λ v. as_number (same_task u v)) R.running t,
+        ap as_number other,
+      )))))
       e;
 }
   where
     unclaimed : (u : Task) → is_unclaimed (with_claim R t).state u ≡ true → is_unclaimed R.state u ≡ true
-    unclaimed u h = unclaimed_is R.state u (omega (arith, eqb-true (claim_count (with_claim R t).state u) 0 h, weigh-push (λ v. as_number (same_task u v)) R.state.claims t))
+    unclaimed u h = unclaimed_is R.state u (omega (
+      arith,
+      eqb-true (claim_count (with_claim R t).state u) 0 h,
+      weigh-push (λ v. as_number (same_task u v)) R.state.claims t,
+    ))
 
 module _ (P : Plan) (G : Data) (R : Moment) (i : Item) (may : MaySend P G R.state i) where
   sum : (j : Item) → send_count (state_after P G R.state (Send i)) j ≡ send_count R.state j + as_number (same_item j i)
@@ -102,11 +119,22 @@ module _ (P : Plan) (G : Data) (R : Moment) (i : Item) (may : MaySend P G R.stat
   unsent_yet = le-ltb 0 (send_count R.state i) (omega (arith, may.unsent))
 
   pub sent_as_before : (j : Item) → (j ≡ i → ⊥) → is_sent (with_send P G R i).state j ≡ is_sent R.state j
-  sent_as_before j ne = ap (nat_lt 0) (let n : send_count (state_after P G R.state (Send i)) j ≡ send_count R.state j = omega (arith, sum j, ap as_number (false_from_ne_true (same_item j i) (λ q. ne ((same_item-decides j i).0 q)))) in n)
+  sent_as_before j ne = ap (nat_lt 0) (let n : send_count (state_after P G R.state (Send i)) j
+      ≡ send_count R.state j = omega (
+        arith,
+        sum j,
+        ap as_number
+            (false_from_ne_true (same_item j i) (λ q. ne ((same_item-decides j i).0 q))),
+      ) in n)
 
 -- how often other tasks run after the end of a task
 pub runs_as_before : (R : Moment) (t u : Task) → 0 < run_count R t → (u ≡ t → ⊥) → run_count (with_end R t) u ≡ run_count R u
-runs_as_before R t u runs ne = omega (arith, weigh-without (λ v. as_number (same_task u v)) t R.running runs, ap as_number (false_from_ne_true (same_task u t) (λ q. ne ((same_task-decides u t).0 q))))
+runs_as_before R t u runs ne = omega (
+  arith,
+  weigh-without (λ v. as_number (same_task u v)) t R.running runs,
+  ap
+      as_number (false_from_ne_true (same_task u t) (λ q. ne ((same_task-decides u t).0 q))),
+)
 
 pub runs_once_less : (R : Moment) (t : Task) → 0 < run_count R t → run_count (with_end R t) t + 1 ≡ run_count R t
 runs_once_less R t runs = omega (arith, weigh-without (λ v. as_number (same_task t v)) t R.running runs, ap as_number ((same_task-decides t t).1 refl))
@@ -118,6 +146,12 @@ due-end R t runs = record {
   sent = λ i e. e;
   to_end = λ u e. or_elim (is_unclaimed R.state u) (nat_lt 0 (run_count (with_end R t) u))
       (λ h. or_left (is_unclaimed R.state u) (nat_lt 0 (run_count R u)) h)
-      (λ h. or_right (is_unclaimed R.state u) (nat_lt 0 (run_count R u)) (lt-ltb 0 (run_count R u) (omega (arith, ltb-true 0 (run_count (with_end R t) u) h, weigh-without (λ v. as_number (same_task u v)) t R.running runs))))
+      (λ h. or_right (is_unclaimed R.state u) (nat_lt 0 (run_count R u))
+      (lt-ltb 0 (run_count R u) (omega (
+        arith,
+        ltb-true 0 (run_count (with_end R t) u) h,
+        weigh-without
+            (λ v. as_number (same_task u v)) t R.running runs,
+      ))))
       e;
 }

@@ -35,7 +35,9 @@ no_trap f t (Some (Err cause)) h = absurd (false≢true h)
 
 module _ (P : Plan) (G : Data) (of : Placement) (k : ℕ) (R : Moment) (t : Task) (runs : 0 < run_count R t) where
   -- the parts of a shard that an end changes, whether the task ends with or without a trap
-  ends_here : (y z : Content) → of t ≡ k → Ends y z → KeepsEntriesAndWritten y z → ((f : Task × Trap → ℕ) → weigh f z.trapped ≡ weigh f y.trapped + trap_weight P G of k f t) → IsShardOf P G of k R y → IsShardOf P G of k (with_end R t) z
+  ends_here : (y z : Content) → of t ≡ k → Ends y z → KeepsEntriesAndWritten y z
+      → ((f : Task × Trap → ℕ) → weigh f z.trapped ≡ weigh f y.trapped + trap_weight P G of k f t)
+      → IsShardOf P G of k R y → IsShardOf P G of k (with_end R t) z
   ends_here y z at ends kept trapped h =
       let less = weigh-without (λ u. as_number (is_of of k u)) t R.running runs in
       let one = one_here of k t at in
@@ -49,13 +51,29 @@ module _ (P : Plan) (G : Data) (of : Placement) (k : ℕ) (R : Moment) (t : Task
         elems = kept.elems ∙ h.elems;
       }
 
-  pub end_here : (y z : Content) → of t ≡ k → IsTrue (has_outputs (ended P G t)) → Ends y z → KeepsEntriesAndWritten y z → z.trapped ≡ y.trapped → IsShardOf P G of k R y → IsShardOf P G of k (with_end R t) z
+  pub end_here : (y z : Content) → of t ≡ k → IsTrue (has_outputs (ended P G t)) → Ends y z → KeepsEntriesAndWritten y z
+      → z.trapped ≡ y.trapped → IsShardOf P G of k R y → IsShardOf P G of k (with_end R t) z
   end_here y z at outs ends kept trapped h =
-      ends_here y z at ends kept (λ f. omega (arith, ap (weigh f) trapped, ap (λ b. cond b (ended_weight f t (ended P G t)) 0) (eq-eqb (of t) k at), no_trap f t (ended P G t) outs)) h
+      ends_here y z at ends kept (λ f. omega (
+        arith,
+        ap (weigh f) trapped,
+        ap
+            (λ b. cond b (ended_weight f t (ended P G t)) 0) (eq-eqb (of t) k at),
+        no_trap f t (ended P G t) outs,
+      )) h
 
-  pub trap_here : (y z : Content) (cause : Trap) → of t ≡ k → ended P G t ≡ Some (Err cause) → Ends y z → KeepsEntriesAndWritten y z → z.trapped ≡ y.trapped ++ (t, cause) ∷ [] → IsShardOf P G of k R y → IsShardOf P G of k (with_end R t) z
+  pub trap_here : (y z : Content) (cause : Trap) → of t ≡ k → ended P G t ≡ Some (Err cause) → Ends y z
+      → KeepsEntriesAndWritten y z → z.trapped ≡ y.trapped ++ (t, cause) ∷ [] → IsShardOf P G of k R y
+      → IsShardOf P G of k (with_end R t) z
   trap_here y z cause at traps ends kept trapped h =
-      ends_here y z at ends kept (λ f. omega (arith, ap (weigh f) trapped, weigh-push f y.trapped (t, cause), ap (λ b. cond b (ended_weight f t (ended P G t)) 0) (eq-eqb (of t) k at), ap (ended_weight f t) traps)) h
+      ends_here y z at ends kept (λ f. omega (
+        arith,
+        ap (weigh f) trapped,
+        weigh-push f y.trapped (t, cause),
+        ap
+            (λ b. cond b (ended_weight f t (ended P G t)) 0) (eq-eqb (of t) k at),
+        ap (ended_weight f t) traps,
+      )) h
 
   pub end_away : (y : Content) → of t ≢ k → IsShardOf P G of k R y → IsShardOf P G of k (with_end R t) y
   end_away y away h =
@@ -65,7 +83,13 @@ module _ (P : Plan) (G : Data) (of : Placement) (k : ℕ) (R : Moment) (t : Task
         there = h.there;
         only = h.only;
         written = h.written;
-        trapped = λ f. omega (arith, h.trapped f, weigh-without (trap_weight P G of k f) t R.running runs, ap (λ b. cond b (ended_weight f t (ended P G t)) 0) (ne_eqb (of t) k away));
+        trapped = λ f. omega (
+          arith,
+          h.trapped f,
+          weigh-without (trap_weight P G of k f) t R.running runs,
+          ap
+              (λ b. cond b (ended_weight f t (ended P G t)) 0) (ne_eqb (of t) k away),
+        );
         running = omega (arith, h.running, less, none);
         ended = h.ended;
         elems = h.elems;

@@ -1,6 +1,7 @@
 -- What the holder of a shard knows: which tasks may be claimed, what a claim hands out, and the bounds of its two
 -- numbers.
-use Rattle.std.proofs.Common.{◌≡◌, ℕ, ◌+◌, ◌<◌, ◌≤◌, Bool, true, false, cond, ◌==◌, ◌&&◌, ◌||◌, List, refl, ap, sym, ◌∙◌, subst, arith, Some, None, nat_lt, IsSome}
+use Rattle.std.proofs.Common.{◌≡◌, ℕ, ◌+◌, ◌<◌, ◌≤◌, Bool, true, false, cond, ◌==◌, ◌&&◌, ◌||◌, List, refl, ap, sym}
+use Rattle.std.proofs.Common.{◌∙◌, subst, arith, Some, None, nat_lt, IsSome}
 use Rattle.std.proofs.lemmas.Bool.{eqb-true}
 use Rattle.ptg_base.specs.Entry.{Entry, FlowTile}
 use Rattle.ptg_base.specs.Task.{Task}
@@ -32,10 +33,12 @@ pub record IsEntryOf (P : Plan) (S : MachineState) (t : Task) (e : Entry) : Type
   pub unclaimed : claim_count S t ≡ 0
   pub is : e ≡ whole_entry P S t
 
-entry_is : (P : Plan) (S : MachineState) (t : Task) (e : Entry) (b : Bool) → is_ready P S t || is_waiting P S t ≡ b → cond b (Some (whole_entry P S t)) None ≡ Some e → IsEntryOf P S t e
+entry_is : (P : Plan) (S : MachineState) (t : Task) (e : Entry) (b : Bool) → is_ready P S t || is_waiting P S t ≡ b
+    → cond b (Some (whole_entry P S t)) None ≡ Some e → IsEntryOf P S t e
 entry_is P S t e true h is = record { unclaimed = free (claim_count S t == 0) refl h; is = sym (same_Some (whole_entry P S t) e is) }
   where
-    free : (b : Bool) → (claim_count S t == 0) ≡ b → ((b && (arrived P S t == goal P t)) || (b && (nat_lt 0 (arrived P S t) && nat_lt (arrived P S t) (goal P t)))) ≡ true → claim_count S t ≡ 0
+    free : (b : Bool) → (claim_count S t == 0) ≡ b → ((b && (arrived P S t == goal P t)) ||
+        (b && (nat_lt 0 (arrived P S t) && nat_lt (arrived P S t) (goal P t)))) ≡ true → claim_count S t ≡ 0
     free true k g = eqb-true (claim_count S t) 0 k
     free false k g = absurd cc
 entry_is P S t e false h is = absurd cc
@@ -60,7 +63,9 @@ module _ (P : Plan) (G : Data) (of : Placement) (k : ℕ) (R : Moment) (y : Cont
   -- and a task of the shard that may be claimed has one
   pub may_ready : (t : Task) → of t ≡ k → MayClaim P R.state t → (entry_of y t ≡ Some (whole_entry P R.state t)) × IsReady (whole_entry P R.state t)
   may_ready t at may = (
-    h.there t may.task at ∙ (by_same P t (claim_count R.state t) 0 (arrived P R.state t) (arrived P R.state t) _ _ may.unclaimed refl refl ∙ full_entry P t (arrived P R.state t) (delivered_tiles P (sent_tile R.state.sends) t) may.all_arrived),
+    h.there t may.task at ∙ (by_same P t (claim_count R.state t) 0 (arrived P R.state t) (arrived P R.state t) _ _
+        may.unclaimed refl refl ∙ full_entry P t (arrived P R.state t) (delivered_tiles P (sent_tile R.state.sends) t)
+        may.all_arrived),
     may.all_arrived,
   )
 
@@ -77,7 +82,14 @@ module _ (P : Plan) (G : Data) (of : Placement) (k : ℕ) (R : Moment) (y : Cont
 
   -- and fewer, if a task is not claimed
   pub numbers_below : IsConsistent P → IsSoundState P G R.state → (t : Task) → IsTask P t → claim_count R.state t ≡ 0 → y.running + y.ended < 1000000
-  numbers_below con sound t job free = omega (arith, h.ended, count-at_most (is_of of k) R.state.claims, claims_below P G R.state sound t job free, con.tasks_at_most)
+  numbers_below con sound t job free = omega (
+    arith,
+    h.ended,
+    count-at_most (is_of of k) R.state.claims,
+    claims_below P
+        G R.state sound t job free,
+    con.tasks_at_most,
+  )
 
   -- and fewer, if a task has an entry
   pub numbers_with_entry : IsConsistent P → IsSoundState P G R.state → (t : Task) (e : Entry) → entry_of y t ≡ Some e → y.running + y.ended < 1000000

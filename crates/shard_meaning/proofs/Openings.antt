@@ -33,7 +33,8 @@ none_arrived P t = weigh-zero _ (in_edges P t) (λ e i. refl)
 -- the entry of a task before the first event is that of the table
 opening_is : (P : Plan) (t : Task) → opening_entry P t ≡ table_entry P opening_state t
 opening_is P t =
-    let table : table_entry P opening_state t ≡ entry_by P t 0 0 [] = by_same P t 0 0 (arrived P opening_state t) 0 (delivered_tiles P (sent_tile opening_state.sends) t) [] refl (none_arrived P t) (nothing_comes P t) in
+    let table : table_entry P opening_state t ≡ entry_by P t 0 0 [] = by_same P t 0 0 (arrived P opening_state t) 0
+    (delivered_tiles P (sent_tile opening_state.sends) t) [] refl (none_arrived P t) (nothing_comes P t) in
     dite (ℕ_discrete (goal P t) 0)
     (λ z. ap (λ b. cond b (Some (fresh 0 (priority P t))) None) (eq-eqb (goal P t) 0 z)
     ∙ ((λ i. Some (record { goal = sym z i; arrived = 0; priority = priority P t; tiles = [] }))
@@ -68,14 +69,25 @@ module _ (P : Plan) (of : Placement) (k : ℕ) (y : Content) (opening : IsOpenin
 
   pub opening_reserve : HasOpeningReserve P of k y → HasReserve P of k opening_moment y
   opening_reserve h = record {
-    entries = omega (arith, h.entries, count-le (is_due_entry of k opening_moment.state y) (is_to_enter P of k) (all_tasks P) (λ t i e. to_enter t ((listed P t).1 i) e));
+    entries = omega (
+      arith,
+      h.entries,
+      count-le (is_due_entry of k opening_moment.state y) (is_to_enter P of k)
+          (all_tasks P) (λ t i e. to_enter t ((listed P t).1 i) e),
+    );
     tiles = λ d. omega (
       arith,
       h.tiles d,
       count-le (is_due_edge P of k d opening_moment.state) (is_edge_to P of k d) (all_data P) (λ e i b. first (is_of of k e.to && is_edge_of_type P d e) _ b),
-      count-le (is_due_write_tile P of k d opening_moment.state) (is_write_from P of k d) (all_writes P) (λ w i b. first (is_of of k w.from && is_write_of_type P d w) _ b),
+      count-le (is_due_write_tile P of k d opening_moment.state) (is_write_from P of k d) (all_writes P)
+          (λ w i b. first (is_of of k w.from && is_write_of_type P d w) _ b),
     );
-    writes = omega (arith, h.writes, count-le (is_due_write of k opening_moment.state) (λ (w : WriteBack). is_of of k w.from) (all_writes P) (λ w i b. first (is_of of k w.from) _ b));
+    writes = omega (
+      arith,
+      h.writes,
+      count-le (is_due_write of k opening_moment.state)
+          (λ (w : WriteBack). is_of of k w.from) (all_writes P) (λ w i b. first (is_of of k w.from) _ b),
+    );
     traps = omega (arith, h.traps, count-le (is_due_end of k opening_moment) (is_of of k) (all_tasks P) (λ t i b. first (is_of of k t) _ b));
   }
 

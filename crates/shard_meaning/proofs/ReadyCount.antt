@@ -1,6 +1,7 @@
 -- How many tasks are ready: with the claimed ones no more than the job has, one fewer after a claim, one more after a
 -- send that makes a task ready.
-use Rattle.std.proofs.Common.{◌≡◌, ◌≢◌, ◌+◌, ◌<◌, ◌≤◌, Bool, true, false, ◌&&◌, ◌==◌, not, List, [], ◌∷◌, length, refl, ap, sym, ◌∙◌, subst, arith, eq-eqb, ne_eqb}
+use Rattle.std.proofs.Common.{◌≡◌, ◌≢◌, ◌+◌, ◌<◌, ◌≤◌, Bool, true, false, ◌&&◌, ◌==◌, not, List, [], ◌∷◌, length, refl}
+use Rattle.std.proofs.Common.{ap, sym, ◌∙◌, subst, arith, eq-eqb, ne_eqb}
 use Rattle.std.specs.List.{filter}
 use Rattle.std.proofs.lemmas.Bool.{and_from, false_from_ne_true, false≢true}
 use Rattle.ptg_base.specs.Lists.{IsIn}
@@ -48,10 +49,20 @@ disjoint p q (x ∷ xs) h =
 pub ready_at_most : (P : Plan) (G : Data) (S : MachineState) → IsSoundState P G S → length (ready_tasks P S) + length S.claims ≤ length (all_tasks P)
 ready_at_most P G S sound =
     let claimed : Task → Bool = λ t. not (is_unclaimed S t) in
-    let taken : (t : Task) → IsIn t S.claims → claimed t ≡ true = λ t i. ap not (ne_eqb (claim_count S t) 0 (λ z. absurd (omega (arith, z, member_claim S t i)))) in
+    let taken : (t : Task) → IsIn t S.claims → claimed t ≡ true = λ t i. ap not
+    (ne_eqb (claim_count S t) 0 (λ z. absurd (omega (arith, z, member_claim S t i)))) in
     let claims : length S.claims ≤ length (filter claimed (all_tasks P)) =
-    no_longer S.claims (filter claimed (all_tasks P)) (distinct_once S.claims sound.claimed_once) (λ t i. (IsIn-filter claimed (all_tasks P) t).1 ((listed P t).0 (sound.claimed_have_all t i).task, taken t i)) in
-    omega (arith, claims, length-filter claimed (all_tasks P), ready_count P S, disjoint (is_ready P S) claimed (all_tasks P) (λ t h. not_one (is_unclaimed S t) (arrived P S t == goal P t) h))
+    no_longer S.claims (filter claimed (all_tasks P)) (distinct_once S.claims sound.claimed_once)
+    (λ t i. (IsIn-filter claimed (all_tasks P) t).1 ((listed P t).0 (sound.claimed_have_all t i).task, taken t i))
+    in
+    omega (
+      arith,
+      claims,
+      length-filter claimed (all_tasks P),
+      ready_count P S,
+      disjoint (is_ready P S) claimed
+          (all_tasks P) (λ t h. not_one (is_unclaimed S t) (arrived P S t == goal P t) h),
+    )
   where
     not_one : (a b : Bool) → not a ≡ true → (a && b) ≡ false
     not_one true b h = absurd (false≢true h)
@@ -71,12 +82,23 @@ same_ready : (P : Plan) (S T : MachineState) (t : Task) → claim_count T t ≡ 
 same_ready P S T t c a = λ i. (c i == 0) && (a i == goal P t)
 
 -- a claim makes one fewer ready
-pub ready-claim : (P : Plan) (R : Moment) (t : Task) → MayClaim P R.state t → count (is_ready P (with_claim R t).state) (all_tasks P) + 1 ≡ count (is_ready P R.state) (all_tasks P)
+pub ready-claim : (P : Plan) (R : Moment) (t : Task) → MayClaim P R.state t
+    → count (is_ready P (with_claim R t).state) (all_tasks P) + 1 ≡ count (is_ready P R.state) (all_tasks P)
 ready-claim P R t may =
     count-falls (is_ready P R.state) (is_ready P (with_claim R t).state) (all_tasks P) t (once-all_tasks P) ((listed P t).0 may.task)
     (is_ready-may P R.state t may.unclaimed may.all_arrived)
-    (not_ready-claimed P (with_claim R t).state t (omega (arith, weigh-push (λ v. as_number (same_task t v)) R.state.claims t, ap as_number ((same_task-decides t t).1 refl))))
-    (λ u ne. same_ready P R.state (with_claim R t).state u (omega (arith, weigh-push (λ v. as_number (same_task u v)) R.state.claims t, ap as_number (false_from_ne_true (same_task u t) (λ q. ne ((same_task-decides u t).0 q))))) refl)
+    (not_ready-claimed P (with_claim R t).state t (omega (
+      arith,
+      weigh-push (λ v. as_number (same_task t v))
+          R.state.claims t,
+      ap as_number ((same_task-decides t t).1 refl),
+    )))
+    (λ u ne. same_ready P R.state (with_claim R t).state u (omega (
+      arith,
+      weigh-push (λ v. as_number (same_task u v)) R.state.claims t,
+      ap as_number
+          (false_from_ne_true (same_task u t) (λ q. ne ((same_task-decides u t).0 q))),
+    )) refl)
 
 module _ (P : Plan) (G : Data) (con : IsConsistent P) (S : MachineState) (sound : IsSoundState P G S) where
   module _ (e : Edge) (may : MaySend P G S (item.Edge e)) where
@@ -104,11 +126,14 @@ module _ (P : Plan) (G : Data) (con : IsConsistent P) (S : MachineState) (sound 
     -- a send of another one makes none ready
     pub ready-waits : arrived P S e.to + 1 ≢ goal P e.to → count (is_ready P later) (all_tasks P) ≡ count (is_ready P S) (all_tasks P)
     ready-waits more = count-same (is_ready P S) (is_ready P later) (all_tasks P) (λ u i. by_test (same_task u e.to)
-        (λ k. subst (λ v. is_ready P later v ≡ is_ready P S v) (sym ((same_task-decides u e.to).0 k)) (not_ready-waits P later e.to (λ q. more (sym one_more ∙ q)) ∙ sym was_not))
+        (λ k. subst (λ v. is_ready P later v ≡ is_ready P S v) (sym ((same_task-decides u e.to).0 k))
+        (not_ready-waits P later e.to (λ q. more (sym one_more ∙ q)) ∙ sym was_not))
         (λ k. others_ready u (λ q. false≢true (sym k ∙ (same_task-decides u e.to).1 q))))
       where
         was_not : is_ready P S e.to ≡ false
         was_not = not_ready-waits P S e.to (λ q. absurd (omega (arith, q, missing P G con S sound (λ t. 0) 0 e may)))
 
-  pub ready-write : (w : WriteBack) → MaySend P G S (item.Write w) → count (is_ready P (state_after P G S (Send (item.Write w)))) (all_tasks P) ≡ count (is_ready P S) (all_tasks P)
-  ready-write w may = count-same (is_ready P S) (is_ready P (state_after P G S (Send (item.Write w)))) (all_tasks P) (λ u i. same_ready P S (state_after P G S (Send (item.Write w))) u refl (writes_not P G con S sound w may u))
+  pub ready-write : (w : WriteBack) → MaySend P G S (item.Write w)
+      → count (is_ready P (state_after P G S (Send (item.Write w)))) (all_tasks P) ≡ count (is_ready P S) (all_tasks P)
+  ready-write w may = count-same (is_ready P S) (is_ready P (state_after P G S (Send (item.Write w)))) (all_tasks P)
+      (λ u i. same_ready P S (state_after P G S (Send (item.Write w))) u refl (writes_not P G con S sound w may u))

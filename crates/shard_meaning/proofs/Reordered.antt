@@ -42,14 +42,19 @@ module _ (P : Plan) (R T : Moment) (same : IsReorderedMoment R T) where
   reordered_reserve of k y h = reserve-away P of k R T as_due y h
 
   pub reordered_finished : (G : Data) → AreFinished P G R → AreFinished P G T
-  reordered_finished G finished t claimed still = elim (finished t (claim_in T.state R.state (back R.state T.state same.state) t claimed) (sym (runs t) ∙ still)) [
-    | inl trap ↦ inl trap
-    | inr all ↦ inr (λ i among. sent i ∙ all i among)
-  ]
+  reordered_finished G finished t claimed still = elim (finished t
+      (claim_in T.state R.state (back R.state T.state same.state) t claimed) (sym (runs t) ∙ still)) [
+        | inl trap ↦ inl trap
+        | inr all ↦ inr (λ i among. sent i ∙ all i among)
+      ]
 
   module _ (G : Data) (sound : IsSoundMoment P G R) where
     pub reordered_moment : IsSoundMoment P G T
-    reordered_moment = record { state = reordered_sound R.state T.state same.state P G sound.state; claimed = λ t. omega (arith, sound.claimed t, claims t, runs t) }
+    reordered_moment = record {
+      state = reordered_sound R.state T.state same.state P G sound.state;
+      claimed = λ t. omega
+          (arith, sound.claimed t, claims t, runs t);
+    }
 
     module _ (con : IsConsistent P) where
       pub reordered_share : (of : Placement) (k : ℕ) (y : Content) → IsShardOf P G of k R y → IsShardOf P G of k T y

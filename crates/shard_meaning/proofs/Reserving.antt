@@ -21,12 +21,14 @@ use Rattle.flow_meaning.specs.Table.{is_unclaimed}
 use Rattle.shard_meaning.specs.Moment.{Moment, run_count, with_claim, with_end, with_send}
 use Rattle.shard_meaning.specs.Share.{Placement, is_of}
 use Rattle.shard_meaning.specs.Reserve.{HasReserve, is_due_end}
-use Rattle.shard_meaning.proofs.Due.{IsDueBefore, due-claim, due-end, due-send, edges_due, ends_due, entries_due, is_to_end, runs_as_before, runs_once_less, write_tiles_due, writes_due}
+use Rattle.shard_meaning.proofs.Due.{IsDueBefore, due-claim, due-end, due-send, edges_due, ends_due, entries_due}
+use Rattle.shard_meaning.proofs.Due.{is_to_end, runs_as_before, runs_once_less, write_tiles_due, writes_due}
 use Rattle.shard_meaning.proofs.Entries.{still_there}
 
 module _ (P : Plan) (of : Placement) (k : ℕ) where
   -- a shard of which nothing but the entries and the spares has changed, after no event or one that uses no spare
-  kept_by : (R T : Moment) → IsDueBefore R T → (y z : Content) → ((t : Task) → is_unclaimed T.state t ≡ true → is_none (entry_of z t) ≡ true → is_none (entry_of y t) ≡ true)
+  kept_by : (R T : Moment) → IsDueBefore R T → (y z : Content)
+      → ((t : Task) → is_unclaimed T.state t ≡ true → is_none (entry_of z t) ≡ true → is_none (entry_of y t) ≡ true)
       → Uses y.spare z.spare 0 None 0 0 → HasReserve P of k R y → HasReserve P of k T z
   kept_by R T before y z none uses h = record {
     entries = omega (arith, h.entries, uses.entries, entries_due P of k R T before y z none);
@@ -50,14 +52,17 @@ module _ (P : Plan) (of : Placement) (k : ℕ) where
   pub reserve-claim_away : (R : Moment) (t : Task) → MayClaim P R.state t → (y : Content) → HasReserve P of k R y → HasReserve P of k (with_claim R t) y
   reserve-claim_away R t may y h = reserve-away R (with_claim R t) (due-claim R t may.unclaimed) y h
 
-  pub reserve-send_away : (G : Data) (R : Moment) (i : Item) → MaySend P G R.state i → (y : Content) → HasReserve P of k R y → HasReserve P of k (with_send P G R i) y
+  pub reserve-send_away : (G : Data) (R : Moment) (i : Item) → MaySend P G R.state i → (y : Content)
+      → HasReserve P of k R y → HasReserve P of k (with_send P G R i) y
   reserve-send_away G R i may y h = reserve-away R (with_send P G R i) (due-send P G R i may) y h
 
   pub reserve-end_away : (R : Moment) (t : Task) → 0 < run_count R t → (y : Content) → HasReserve P of k R y → HasReserve P of k (with_end R t) y
   reserve-end_away R t runs y h = reserve-away R (with_end R t) (due-end R t runs) y h
 
   -- a claim here
-  pub reserve-claim : (R : Moment) (t : Task) → MayClaim P R.state t → (y z : Content) (tiles : List FlowTile) → Takes y z t tiles → Uses y.spare z.spare 0 None 0 0 → HasReserve P of k R y → HasReserve P of k (with_claim R t) z
+  pub reserve-claim : (R : Moment) (t : Task) → MayClaim P R.state t → (y z : Content) (tiles : List FlowTile)
+      → Takes y z t tiles → Uses y.spare z.spare 0 None 0 0 → HasReserve P of k R y
+      → HasReserve P of k (with_claim R t) z
   reserve-claim R t may y z tiles takes uses h = kept_by R (with_claim R t) (due-claim R t may.unclaimed) y z
       (λ u free e. by_test (same_task t u)
       (λ same. absurd (claimed u ((same_task-decides t u).0 same) free))
@@ -65,11 +70,19 @@ module _ (P : Plan) (of : Placement) (k : ℕ) where
       uses h
     where
       claimed : (u : Task) → t ≡ u → is_unclaimed (with_claim R t).state u ≡ true → ⊥
-      claimed u same free = absurd (omega (arith, eqb-true (claim_count (with_claim R t).state u) 0 free, weigh-push (λ v. as_number (same_task u v)) R.state.claims t, ap as_number ((same_task-decides u t).1 (sym same))))
+      claimed u same free = absurd (omega (
+        arith,
+        eqb-true (claim_count (with_claim R t).state u) 0 free,
+        weigh-push
+            (λ v. as_number (same_task u v)) R.state.claims t,
+        ap as_number ((same_task-decides u t).1 (sym same)),
+      ))
 
   -- an end here without a trap
-  pub reserve-end : (R : Moment) (t : Task) → 0 < run_count R t → (y z : Content) → KeepsEntriesAndWritten y z → Uses y.spare z.spare 0 None 0 0 → HasReserve P of k R y → HasReserve P of k (with_end R t) z
-  reserve-end R t runs y z kept uses h = kept_by R (with_end R t) (due-end R t runs) y z (λ u free e. ap (λ l. is_none (entry_in l u)) (sym kept.entries) ∙ e) uses h
+  pub reserve-end : (R : Moment) (t : Task) → 0 < run_count R t → (y z : Content) → KeepsEntriesAndWritten y z
+      → Uses y.spare z.spare 0 None 0 0 → HasReserve P of k R y → HasReserve P of k (with_end R t) z
+  reserve-end R t runs y z kept uses h = kept_by R (with_end R t) (due-end R t runs) y z
+      (λ u free e. ap (λ l. is_none (entry_in l u)) (sym kept.entries) ∙ e) uses h
 
   module _ (R : Moment) (t : Task) (job : IsTask P t) (at : of t ≡ k) (claimed : 0 < claim_count R.state t) (runs : run_count R t ≡ 1) where
     due_before : is_due_end of k R t ≡ true
@@ -88,11 +101,18 @@ module _ (P : Plan) (of : Placement) (k : ℕ) where
     spare-trap y h = omega (arith, h.traps, count-some (is_due_end of k R) (all_tasks P) t ((listed P t).0 job) due_before)
 
     -- an end here by a trap
-    pub reserve-trap : (y z : Content) → KeepsEntriesAndWritten y z → Uses y.spare z.spare 0 None 0 1 → HasReserve P of k R y → HasReserve P of k (with_end R t) z
+    pub reserve-trap : (y z : Content) → KeepsEntriesAndWritten y z → Uses y.spare z.spare 0 None 0 1
+        → HasReserve P of k R y → HasReserve P of k (with_end R t) z
     reserve-trap y z kept uses h =
         let before = due-end R t (omega arith) in
         record {
-          entries = omega (arith, h.entries, uses.entries, entries_due P of k R (with_end R t) before y z (λ u free e. ap (λ l. is_none (entry_in l u)) (sym kept.entries) ∙ e));
+          entries = omega (
+            arith,
+            h.entries,
+            uses.entries,
+            entries_due P of k R (with_end R t) before y z
+                (λ u free e. ap (λ l. is_none (entry_in l u)) (sym kept.entries) ∙ e),
+          );
           tiles = λ d. omega (arith, h.tiles d, uses.tiles d, edges_due P of k R (with_end R t) before d, write_tiles_due P of k R (with_end R t) before d);
           writes = omega (arith, h.writes, uses.writes, writes_due P of k R (with_end R t) before);
           traps = omega (

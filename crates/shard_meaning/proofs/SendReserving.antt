@@ -1,6 +1,8 @@
 -- The reserve of a shard is enough for a send of an edge to one of its tasks or of a write-back of one, and the send
 -- keeps it.
-use Rattle.std.proofs.Common.{◌≡◌, ℕ, ◌+◌, ◌<◌, ◌≤◌, true, false, cond, not, ◌&&◌, List, refl, ap, sym, ◌∙◌, subst, inl, inr, arith, Option, Some, None, is_none, is_some, nat_eq, eq-eqb, ℤ, slice_index, if◌then◌else◌, IsTrue}
+use Rattle.std.proofs.Common.{◌≡◌, ℕ, ◌+◌, ◌<◌, ◌≤◌, true, false, cond, not, ◌&&◌, List, refl, ap, sym, ◌∙◌, subst, inl}
+use Rattle.std.proofs.Common.{inr, arith, Option, Some, None, is_none, is_some, nat_eq, eq-eqb, ℤ, slice_index}
+use Rattle.std.proofs.Common.{if◌then◌else◌, IsTrue}
 use Rattle.std.proofs.lemmas.Bool.{and_from, false_from_ne_true, false≢true}
 use Rattle.std.specs.Cmp.{unsigned_Decides}
 use Rattle.std.specs.Prelude.{option_map}
@@ -97,7 +99,8 @@ module _ (P : Plan) (G : Data) (con : IsConsistent P) (of : Placement) (k : ℕ)
         omega (
           arith,
           count-falls (is_due_entry of k R.state y) (is_due_entry of k later.state z) (all_tasks P) e.to (once-all_tasks P) among_tasks (entry_due y none)
-              (ap (λ o. is_of of k e.to && (is_unclaimed R.state e.to && is_none o)) (now_there y z e.to e.to (Some w) updates ((same_task-decides e.to e.to).1 refl))
+              (ap (λ o. is_of of k e.to && (is_unclaimed R.state e.to && is_none o))
+              (now_there y z e.to e.to (Some w) updates ((same_task-decides e.to e.to).1 refl))
               ∙ ap (λ b. is_of of k e.to && b) (and-false (is_unclaimed R.state e.to)) ∙ and-false (is_of of k e.to))
               (λ u ne. ap (λ o. is_of of k u && (is_unclaimed R.state u && is_none o)) (still_there y z e.to u (Some w) updates (unlike u ne))),
         )
@@ -110,31 +113,49 @@ module _ (P : Plan) (G : Data) (con : IsConsistent P) (of : Placement) (k : ℕ)
         )
 
     edge_due : (d : ℕ) → has_type d (flow_of P.classes e.to.class e.in_flow) ≡ true → is_due_edge P of k d R.state e ≡ true
-    edge_due d type = and_from (is_of of k e.to && is_edge_of_type P d e) (not (is_sent R.state (item.Edge e))) (and_from (is_of of k e.to) (is_edge_of_type P d e) (eq-eqb (of e.to) k at) type) (ap not (unsent_yet P G R (item.Edge e) may))
+    edge_due d type = and_from (is_of of k e.to && is_edge_of_type P d e) (not (is_sent R.state (item.Edge e)))
+        (and_from (is_of of k e.to) (is_edge_of_type P d e) (eq-eqb (of e.to) k at) type)
+        (ap not (unsent_yet P G R (item.Edge e) may))
 
-    edge_falls : (d : ℕ) (x : List ℤ) → has_type d (flow_of P.classes e.to.class e.in_flow) ≡ true → output_tile (ended P G e.from) e.out_flow ≡ Some x → count (is_due_edge P of k d later.state) (all_data P) + 1 ≡ count (is_due_edge P of k d R.state) (all_data P)
-    edge_falls d x type some = count-falls (is_due_edge P of k d R.state) (is_due_edge P of k d later.state) (all_data P) e (HasNoRepeats-filter (is_data_edge P) (all_in P) con.no_in_edge_twice) (among_data x some) (edge_due d type)
-        (ap (λ b. (is_of of k e.to && is_edge_of_type P d e) && not b) (sent_now P G R (item.Edge e) may) ∙ and-false (is_of of k e.to && is_edge_of_type P d e))
-        (λ c ne. ap (λ b. (is_of of k c.to && is_edge_of_type P d c) && not b) (sent_as_before P G R (item.Edge e) may (item.Edge c) (λ q. ne (ap (edge_in c) q))))
+    edge_falls : (d : ℕ) (x : List ℤ) → has_type d (flow_of P.classes e.to.class e.in_flow) ≡ true
+        → output_tile (ended P G e.from) e.out_flow ≡ Some x
+        → count (is_due_edge P of k d later.state) (all_data P) + 1 ≡ count (is_due_edge P of k d R.state) (all_data P)
+    edge_falls d x type some = count-falls (is_due_edge P of k d R.state) (is_due_edge P of k d later.state)
+        (all_data P) e (HasNoRepeats-filter (is_data_edge P) (all_in P) con.no_in_edge_twice) (among_data x some)
+        (edge_due d type)
+        (ap (λ b. (is_of of k e.to && is_edge_of_type P d e) && not b) (sent_now P G R (item.Edge e) may)
+        ∙ and-false (is_of of k e.to && is_edge_of_type P d e))
+        (λ c ne. ap (λ b. (is_of of k c.to && is_edge_of_type P d c) && not b)
+        (sent_as_before P G R (item.Edge e) may (item.Edge c) (λ q. ne (ap (edge_in c) q))))
       where
         edge_in : Edge → Item → Edge
         edge_in d (item.Edge x) = x
         edge_in d (item.Write w) = d
 
-    tiles_after : (d : ℕ) → has_type d (flow_of P.classes e.to.class e.in_flow) ≡ true → (n : ℕ) (o : Option (List ℤ)) → output_tile (ended P G e.from) e.out_flow ≡ o
-        → count (is_due_edge P of k n later.state) (all_data P) + tiles_used (if is_some o then Some d else None) n ≤ count (is_due_edge P of k n R.state) (all_data P)
+    tiles_after : (d : ℕ) → has_type d (flow_of P.classes e.to.class e.in_flow) ≡ true → (n : ℕ) (o : Option (List ℤ))
+        → output_tile (ended P G e.from) e.out_flow ≡ o
+        → count (is_due_edge P of k n later.state) (all_data P) + tiles_used (if is_some o then Some d else None)
+        n ≤ count (is_due_edge P of k n R.state) (all_data P)
     tiles_after d type n None none = omega (arith, edges_due P of k R later before n)
     tiles_after d type n (Some x) some = by_test (nat_eq d n)
         (λ same. let at_n : d ≡ n = (unsigned_Decides d n).0 same in
         omega (arith, used-here d n at_n, edge_falls n x (subst (λ m. has_type m (flow_of P.classes e.to.class e.in_flow) ≡ true) at_n type) some))
         (λ other. omega (arith, used-elsewhere d n other, edges_due P of k R later before n))
 
-    pub reserve-edge : (y z : Content) (w : Entry) (d : ℕ) → Updates y.entries z.entries e.to (Some w) → IsTrue (has_type d (flow_of P.classes e.to.class e.in_flow))
+    pub reserve-edge : (y z : Content) (w : Entry) (d : ℕ) → Updates y.entries z.entries e.to (Some w)
+        → IsTrue (has_type d (flow_of P.classes e.to.class e.in_flow))
         → Uses y.spare z.spare (if is_some (entry_of y e.to) then 0 else 1) (if is_some (output_tile (ended P G e.from) e.out_flow) then Some d else None) 0 0
         → HasReserve P of k R y → HasReserve P of k later z
     reserve-edge y z w d updates type uses h = record {
       entries = omega (arith, h.entries, uses.entries, entries_after y z w updates (entry_of y e.to) refl);
-      tiles = λ n. omega (arith, h.tiles n, uses.tiles n, tiles_after d type n (output_tile (ended P G e.from) e.out_flow) refl, write_tiles_due P of k R later before n);
+      tiles = λ n. omega (
+        arith,
+        h.tiles n,
+        uses.tiles n,
+        tiles_after d type n
+            (output_tile (ended P G e.from) e.out_flow) refl,
+        write_tiles_due P of k R later before n,
+      );
       writes = omega (arith, h.writes, uses.writes, writes_due P of k R later before);
       traps = omega (arith, h.traps, uses.traps, ends_due P of k R later before);
     }
@@ -143,7 +164,9 @@ module _ (P : Plan) (G : Data) (con : IsConsistent P) (of : Placement) (k : ℕ)
     pub spare-entry : (y : Content) → HasReserve P of k R y → entry_of y e.to ≡ None → 0 < y.spare.entries
     spare-entry y h none = omega (arith, h.entries, count-some (is_due_entry of k R.state y) (all_tasks P) e.to among_tasks (entry_due y none))
 
-    pub spare-edge_tile : (y : Content) (d : ℕ) (x : List ℤ) → HasReserve P of k R y → IsTrue (has_type d (flow_of P.classes e.to.class e.in_flow)) → output_tile (ended P G e.from) e.out_flow ≡ Some x → 0 < slice_index y.spare.tiles d
+    pub spare-edge_tile : (y : Content) (d : ℕ) (x : List ℤ) → HasReserve P of k R y
+        → IsTrue (has_type d (flow_of P.classes e.to.class e.in_flow))
+        → output_tile (ended P G e.from) e.out_flow ≡ Some x → 0 < slice_index y.spare.tiles d
     spare-edge_tile y d x h type some = omega (arith, h.tiles d, count-some (is_due_edge P of k d R.state) (all_data P) e (among_data x some) (edge_due d type))
 
   module _ (w : WriteBack) (may : MaySend P G R.state (item.Write w)) (at : of w.from ≡ k) where
@@ -154,7 +177,9 @@ module _ (P : Plan) (G : Data) (con : IsConsistent P) (of : Placement) (k : ℕ)
     due = due-send P G R (item.Write w) may
 
     among_writes : IsIn w (all_writes P)
-    among_writes = IsIn-flat_map (write_backs P) (all_tasks P) w.from w ((listed P w.from).0 (sound.claimed_have_all w.from may.claimed).task) (item_write (items P w.from) w may.is_item)
+    among_writes = IsIn-flat_map (write_backs P) (all_tasks P) w.from w
+        ((listed P w.from).0 (sound.claimed_have_all w.from may.claimed).task)
+        (item_write (items P w.from) w may.is_item)
 
     once : HasNoRepeats (all_writes P)
     once = HasNoRepeats-from_map (λ (v : WriteBack). v.place) (all_writes P) con.written_once
@@ -178,22 +203,37 @@ module _ (P : Plan) (G : Data) (con : IsConsistent P) (of : Placement) (k : ℕ)
         (λ v ne. ap (λ b. is_of of k v.from && not b) (still_due v ne))
 
     tile_due : (d : ℕ) → has_type d (flow_of P.classes w.from.class w.flow) ≡ true → is_due_write_tile P of k d R.state w ≡ true
-    tile_due d type = and_from (is_of of k w.from && is_write_of_type P d w) (not (is_sent R.state (item.Write w))) (and_from (is_of of k w.from) (is_write_of_type P d w) (eq-eqb (of w.from) k at) type) unsent
+    tile_due d type = and_from (is_of of k w.from && is_write_of_type P d w) (not (is_sent R.state (item.Write w)))
+        (and_from (is_of of k w.from) (is_write_of_type P d w) (eq-eqb (of w.from) k at) type) unsent
 
-    tile_falls : (d : ℕ) → has_type d (flow_of P.classes w.from.class w.flow) ≡ true → count (is_due_write_tile P of k d after.state) (all_writes P) + 1 ≡ count (is_due_write_tile P of k d R.state) (all_writes P)
-    tile_falls d type = count-falls (is_due_write_tile P of k d R.state) (is_due_write_tile P of k d after.state) (all_writes P) w once among_writes (tile_due d type)
-        (ap (λ b. (is_of of k w.from && is_write_of_type P d w) && not b) (sent_now P G R (item.Write w) may) ∙ and-false (is_of of k w.from && is_write_of_type P d w))
+    tile_falls : (d : ℕ) → has_type d (flow_of P.classes w.from.class w.flow) ≡ true
+        → count (is_due_write_tile P of k d after.state) (all_writes P) + 1
+        ≡ count (is_due_write_tile P of k d R.state) (all_writes P)
+    tile_falls d type = count-falls (is_due_write_tile P of k d R.state) (is_due_write_tile P of k d after.state)
+        (all_writes P) w once among_writes (tile_due d type)
+        (ap (λ b. (is_of of k w.from && is_write_of_type P d w) && not b) (sent_now P G R (item.Write w) may)
+        ∙ and-false (is_of of k w.from && is_write_of_type P d w))
         (λ v ne. ap (λ b. (is_of of k v.from && is_write_of_type P d v) && not b) (still_due v ne))
 
-    tiles_left : (d : ℕ) → has_type d (flow_of P.classes w.from.class w.flow) ≡ true → (n : ℕ) → count (is_due_write_tile P of k n after.state) (all_writes P) + tiles_used (Some d) n ≤ count (is_due_write_tile P of k n R.state) (all_writes P)
+    tiles_left : (d : ℕ) → has_type d (flow_of P.classes w.from.class w.flow) ≡ true → (n : ℕ)
+        → count (is_due_write_tile P of k n after.state) (all_writes P) + tiles_used (Some d) n ≤ count
+        (is_due_write_tile P of k n R.state) (all_writes P)
     tiles_left d type n = by_test (nat_eq d n)
         (λ same. let at_n : d ≡ n = (unsigned_Decides d n).0 same in
         omega (arith, used-here d n at_n, tile_falls n (subst (λ m. has_type m (flow_of P.classes w.from.class w.flow) ≡ true) at_n type)))
         (λ other. omega (arith, used-elsewhere d n other, write_tiles_due P of k R after due n))
 
-    pub reserve-write : (y z : Content) (d : ℕ) → KeepsAllButWritten y z → IsTrue (has_type d (flow_of P.classes w.from.class w.flow)) → Uses y.spare z.spare 0 (Some d) 1 0 → HasReserve P of k R y → HasReserve P of k after z
+    pub reserve-write : (y z : Content) (d : ℕ) → KeepsAllButWritten y z
+        → IsTrue (has_type d (flow_of P.classes w.from.class w.flow)) → Uses y.spare z.spare 0 (Some d) 1 0
+        → HasReserve P of k R y → HasReserve P of k after z
     reserve-write y z d kept type uses h = record {
-      entries = omega (arith, h.entries, uses.entries, entries_due P of k R after due y z (λ u free e. ap (λ l. is_none (entry_in l u)) (sym kept.entries) ∙ e));
+      entries = omega (
+        arith,
+        h.entries,
+        uses.entries,
+        entries_due P of k R after due y z
+            (λ u free e. ap (λ l. is_none (entry_in l u)) (sym kept.entries) ∙ e),
+      );
       tiles = λ n. omega (arith, h.tiles n, uses.tiles n, edges_due P of k R after due n, tiles_left d type n);
       writes = omega (arith, h.writes, uses.writes, write_falls);
       traps = omega (arith, h.traps, uses.traps, ends_due P of k R after due);
@@ -203,5 +243,6 @@ module _ (P : Plan) (G : Data) (con : IsConsistent P) (of : Placement) (k : ℕ)
     pub spare-write : (y : Content) → HasReserve P of k R y → 0 < y.spare.writes
     spare-write y h = omega (arith, h.writes, count-some (is_due_write of k R.state) (all_writes P) w among_writes write_due)
 
-    pub spare-write_tile : (y : Content) (d : ℕ) → HasReserve P of k R y → IsTrue (has_type d (flow_of P.classes w.from.class w.flow)) → 0 < slice_index y.spare.tiles d
+    pub spare-write_tile : (y : Content) (d : ℕ) → HasReserve P of k R y
+        → IsTrue (has_type d (flow_of P.classes w.from.class w.flow)) → 0 < slice_index y.spare.tiles d
     spare-write_tile y d h type = omega (arith, h.tiles d, count-some (is_due_write_tile P of k d R.state) (all_writes P) w among_writes (tile_due d type))

@@ -29,16 +29,24 @@ module _ (P : Plan) (G : Data) (con : IsConsistent P) (of : Placement) (k : ℕ)
     edge_output = ap (λ o. output_tile o e.out_flow) (ends_so P G con R.state sound e.from (sound.claimed_have_all e.from may.claimed))
 
     pub edge_here : (y z : Content) → of e.to ≡ k
-        → Updates y.entries z.entries e.to (Some (with_arrival (entry_before y e.to (goal P e.to) (priority P e.to)) e.in_flow (output_tile (ended P G e.from) e.out_flow)))
+        → Updates y.entries z.entries e.to (Some (with_arrival (entry_before y e.to (goal P e.to) (priority P e.to))
+        e.in_flow (output_tile (ended P G e.from) e.out_flow)))
         → KeepsAllButEntries y z → IsShardOf P G of k R y → IsShardOf P G of k (with_send P G R (item.Edge e)) z
     edge_here y z at updates kept h =
         let carried = carries P G R.state e (sound.claimed_have_all e.from may.claimed).task may.is_item in
         let es = edge_entries P G con R.state sound of k e may y z at carried (entries_of h)
-        (subst (λ x. Updates y.entries z.entries e.to (Some (with_arrival (entry_before y e.to (goal P e.to) (priority P e.to)) e.in_flow x))) edge_output updates) in
+        (subst (λ x. Updates y.entries z.entries e.to (Some (with_arrival
+        (entry_before y e.to (goal P e.to) (priority P e.to)) e.in_flow x))) edge_output updates) in
         record {
           there = es.there;
           only = es.only;
-          written = λ f. omega (arith, ap (weigh f) kept.written, h.written f, weigh-push (write_weight of k f) R.state.sends (sent_with P G R.state (item.Edge e)));
+          written = λ f. omega (
+            arith,
+            ap (weigh f) kept.written,
+            h.written f,
+            weigh-push (write_weight of k f)
+                R.state.sends (sent_with P G R.state (item.Edge e)),
+          );
           trapped = λ f. omega (arith, ap (weigh f) kept.trapped, h.trapped f);
           running = kept.running ∙ h.running;
           ended = omega (arith, kept.running, kept.ended, h.ended);
@@ -62,7 +70,8 @@ module _ (P : Plan) (G : Data) (con : IsConsistent P) (of : Placement) (k : ℕ)
     write_output : output_tile (ended P G w.from) w.flow ≡ output_tile (end_in P G R.state w.from) w.flow
     write_output = ap (λ o. output_tile o w.flow) (ends_so P G con R.state sound w.from (sound.claimed_have_all w.from may.claimed))
 
-    weight_here : (f : WriteBack × List ℤ → ℕ) (x : List ℤ) (o : Option (List ℤ)) → o ≡ Some x → of w.from ≡ k → written_weight of k f (item.Write w) o ≡ f (w, x)
+    weight_here : (f : WriteBack × List ℤ → ℕ) (x : List ℤ) (o : Option (List ℤ)) → o ≡ Some x → of w.from ≡ k
+        → written_weight of k f (item.Write w) o ≡ f (w, x)
     weight_here f x o is at = ap (written_weight of k f (item.Write w)) is ∙ ap (λ b. cond b (f (w, x)) 0) (eq-eqb (of w.from) k at)
 
     weight_away : (f : WriteBack × List ℤ → ℕ) (o : Option (List ℤ)) → of w.from ≢ k → written_weight of k f (item.Write w) o ≡ 0
@@ -96,7 +105,14 @@ module _ (P : Plan) (G : Data) (con : IsConsistent P) (of : Placement) (k : ℕ)
         record {
           there = es.there;
           only = es.only;
-          written = λ f. omega (arith, h.written f, weigh-push (write_weight of k f) R.state.sends (sent_with P G R.state (item.Write w)), weight_away f (output_tile (end_in P G R.state w.from) w.flow) away);
+          written = λ f. omega (
+            arith,
+            h.written f,
+            weigh-push (write_weight of k f) R.state.sends
+                (sent_with P G R.state (item.Write w)),
+            weight_away f (output_tile (end_in P G R.state w.from) w.flow)
+                away,
+          );
           trapped = h.trapped;
           running = h.running;
           ended = h.ended;

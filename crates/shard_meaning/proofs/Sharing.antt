@@ -61,7 +61,19 @@ exprs_sync = let a = expr_sync in search (sendable, crosses) depth 30
 
 class_sync : IsSync class_row
 class_sync = let a = flows_sync in let b = expr_sync in let e = exprs_sync in
-    declared_sync class_type (search (sendable, crosses) depth 30, (search (sendable, crosses) depth 30, (a, (search (sendable, crosses) depth 30, (struct_sync (shape body_type) (block_sync, (search sendable, tt)), (words_sync, tt))))))
+    declared_sync class_type (
+      search (sendable, crosses) depth 30,
+      (
+        search (sendable, crosses) depth 30,
+        (
+          a,
+          (
+            search (sendable, crosses) depth 30,
+            (struct_sync (shape body_type) (block_sync, (search sendable, tt)), (words_sync, tt)),
+          ),
+        ),
+      ),
+    )
 
 -- a plan as a field of another struct
 pub plan_fields : IsSync (Struct (shape plan_type))

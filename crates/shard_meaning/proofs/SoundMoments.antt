@@ -35,12 +35,18 @@ module _ (P : Plan) (G : Data) (con : IsConsistent P) (R : Moment) (sound : IsSo
       }
 
 -- what is sent with an item is what its task leaves
-pub sent_is : (P : Plan) (G : Data) → IsConsistent P → (S : MachineState) → IsSoundState P G S → (i : Item) → MaySend P G S i → sent_with P G S i ≡ with_its_tile P G i
+pub sent_is : (P : Plan) (G : Data) → IsConsistent P → (S : MachineState) → IsSoundState P G S → (i : Item)
+    → MaySend P G S i → sent_with P G S i ≡ with_its_tile P G i
 sent_is P G con S sound i may = λ j. item_from (sym (ends_so P G con S sound (sender i) (sound.claimed_have_all (sender i) may.claimed)) j) i
 
 -- if a task is not claimed, fewer tasks are claimed than there are
-pub claims_below : (P : Plan) (G : Data) (S : MachineState) → IsSoundState P G S → (t : Task) → IsTask P t → claim_count S t ≡ 0 → length S.claims < length (all_tasks P)
+pub claims_below : (P : Plan) (G : Data) (S : MachineState) → IsSoundState P G S → (t : Task) → IsTask P t
+    → claim_count S t ≡ 0 → length S.claims < length (all_tasks P)
 claims_below P G S sound t job free =
     let more = no_longer (t ∷ S.claims) (all_tasks P) ((λ i. absurd (omega (arith, free, member_claim S t i))), distinct_once S.claims sound.claimed_once)
-    (λ u i. elim i [ inl same ↦ subst (λ v. IsIn v (all_tasks P)) (sym same) ((listed P t).0 job) | inr claimed ↦ (listed P u).0 (sound.claimed_have_all u claimed).task ]) in
+    (λ u i. elim i [
+      | inl same ↦ subst (λ v. IsIn v (all_tasks P)) (sym same) ((listed P t).0 job)
+      | inr claimed ↦
+          (listed P u).0 (sound.claimed_have_all u claimed).task
+    ]) in
     omega (arith, more)

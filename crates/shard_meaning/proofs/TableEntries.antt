@@ -26,18 +26,38 @@ module _ (P : Plan) (t : Task) where
       (Some (record { goal = goal P t; arrived = came; priority = priority P t; tiles = tiles })) None) (ne_eqb claims 0 (λ e. absurd (omega arith)))
 
   -- one that is not claimed and to which all edges came has one
-  pub full_entry : (came : ℕ) (tiles : List FlowTile) → came ≡ goal P t → entry_by 0 came tiles ≡ Some (record { goal = goal P t; arrived = came; priority = priority P t; tiles = tiles })
+  pub full_entry : (came : ℕ) (tiles : List FlowTile) → came ≡ goal P t
+      → entry_by 0 came tiles ≡ Some (record {
+        goal = goal P t;
+        arrived = came;
+        priority = priority P t;
+        tiles = tiles;
+      })
   full_entry came tiles e =
-      ap (λ b. cond (b || (nat_lt 0 came && nat_lt came (goal P t))) (Some (record { goal = goal P t; arrived = came; priority = priority P t; tiles = tiles })) None) (eq-eqb came (goal P t) e)
+      ap (λ b. cond (b || (nat_lt 0 came && nat_lt came (goal P t)))
+      (Some (record { goal = goal P t; arrived = came; priority = priority P t; tiles = tiles })) None)
+      (eq-eqb came (goal P t) e)
 
   -- and so has one to which some came
-  pub some_entry : (came : ℕ) (tiles : List FlowTile) → 0 < came → came ≤ goal P t → entry_by 0 came tiles ≡ Some (record { goal = goal P t; arrived = came; priority = priority P t; tiles = tiles })
+  pub some_entry : (came : ℕ) (tiles : List FlowTile) → 0 < came → came ≤ goal P t
+      → entry_by 0 came tiles ≡ Some (record {
+        goal = goal P t;
+        arrived = came;
+        priority = priority P t;
+        tiles = tiles;
+      })
   some_entry came tiles some most = dite (ℕ_discrete came (goal P t))
       (λ e. full_entry came tiles e)
-      (λ ne. ap (λ b. cond (b || (nat_lt 0 came && nat_lt came (goal P t))) (Some (record { goal = goal P t; arrived = came; priority = priority P t; tiles = tiles })) None) (ne_eqb came (goal P t) ne)
-      ∙ (ap (λ b. cond (b && nat_lt came (goal P t)) (Some (record { goal = goal P t; arrived = came; priority = priority P t; tiles = tiles })) None) (lt-ltb 0 came some)
-      ∙ ap (λ b. cond b (Some (record { goal = goal P t; arrived = came; priority = priority P t; tiles = tiles })) None) (lt-ltb came (goal P t) (omega arith))))
+      (λ ne. ap (λ b. cond (b || (nat_lt 0 came && nat_lt came (goal P t)))
+      (Some (record { goal = goal P t; arrived = came; priority = priority P t; tiles = tiles })) None)
+      (ne_eqb came (goal P t) ne)
+      ∙ (ap (λ b. cond (b && nat_lt came (goal P t)) (Some (record
+      { goal = goal P t; arrived = came; priority = priority P t; tiles = tiles })) None) (lt-ltb 0 came some)
+      ∙ ap (λ b. cond b (Some (record { goal = goal P t; arrived = came; priority = priority P t; tiles = tiles }))
+      None) (lt-ltb came (goal P t) (omega arith))))
 
   -- one that waits for edges has none until one came
   pub none_came : (tiles : List FlowTile) → 0 < goal P t → entry_by 0 0 tiles ≡ None
-  none_came tiles some = ap (λ b. cond (b || false) (Some (record { goal = goal P t; arrived = 0; priority = priority P t; tiles = tiles })) None) (ne_eqb 0 (goal P t) (λ e. absurd (omega arith)))
+  none_came tiles some = ap (λ b. cond (b || false) (Some (record
+      { goal = goal P t; arrived = 0; priority = priority P t; tiles = tiles })) None)
+      (ne_eqb 0 (goal P t) (λ e. absurd (omega arith)))

@@ -35,7 +35,8 @@ in_flow_small P e job among =
     let below = slice_get_below (flows_of P e.to) e.in_flow _ ((in_edge_is P e.to e).0 among).1 in
     omega (arith, below, well.body.flows_at_most, ap (λ o. length (option_map_or (λ (c : ClassPlan). c.flows) o [])) h.class_is)
 
-module _ (P : Plan) (G : Data) (con : IsConsistent P) (of : Placement) (k : ℕ) (R : Moment) (sound : IsSoundState P G R.state) (e : Edge) (may : MaySend P G R.state (item.Edge e)) where
+module _ (P : Plan) (G : Data) (con : IsConsistent P) (of : Placement) (k : ℕ) (R : Moment)
+    (sound : IsSoundState P G R.state) (e : Edge) (may : MaySend P G R.state (item.Edge e)) where
   into_target : IsIn e (in_edges P e.to)
   into_target = sent_edge_in P con e (sound.claimed_have_all e.from may.claimed).task may.is_item
 
@@ -49,7 +50,13 @@ module _ (P : Plan) (G : Data) (con : IsConsistent P) (of : Placement) (k : ℕ)
   target_goal = omega (arith, missing P G con R.state sound of k e may)
 
   module _ (y : Content) (at : of e.to ≡ k) (h : IsShardOf P G of k R y) where
-    found : entry_before y e.to (goal P e.to) (priority P e.to) ≡ record { goal = goal P e.to; arrived = arrived P R.state e.to; priority = priority P e.to; tiles = delivered_tiles P (sent_tile R.state.sends) e.to }
+    found : entry_before y e.to (goal P e.to) (priority P e.to) ≡ record {
+      goal = goal P e.to;
+      arrived = arrived P R.state e.to;
+      priority = priority P e.to;
+      tiles = delivered_tiles P
+          (sent_tile R.state.sends) e.to;
+    }
     found = finds P G con R.state sound of k e may y at (entries_of h)
 
     -- the target waits
@@ -57,14 +64,17 @@ module _ (P : Plan) (G : Data) (con : IsConsistent P) (of : Placement) (k : ℕ)
     target_waits = subst (λ (x : Entry). IsWaiting x) (sym found) (omega (arith, missing P G con R.state sound of k e may))
 
     -- the edge makes it ready if and only if it is the last
-    pub target_fires : (x : Option (List ℤ)) → IsReady (with_arrival (entry_before y e.to (goal P e.to) (priority P e.to)) e.in_flow x) ↔ (arrived P R.state e.to + 1 ≡ goal P e.to)
+    pub target_fires : (x : Option (List ℤ)) → IsReady (with_arrival
+        (entry_before y e.to (goal P e.to) (priority P e.to)) e.in_flow x) ↔ (arrived P R.state e.to + 1 ≡ goal P e.to)
     target_fires x = (
       λ r. subst (λ (v : Entry). IsReady (with_arrival v e.in_flow x)) found r,
       λ q. subst (λ (v : Entry). IsReady (with_arrival v e.in_flow x)) (sym found) q,
     )
 
     -- an entry that is there has the goal and the priority of the plan, and it is what the edge finds
-    pub target_entry : (v : Entry) → entry_of y e.to ≡ Some v → (v.goal ≡ goal P e.to) × (v.priority ≡ priority P e.to) × (entry_before y e.to (goal P e.to) (priority P e.to) ≡ v)
+    pub target_entry : (v : Entry) → entry_of y e.to ≡ Some v
+        → (v.goal ≡ goal P e.to) × (v.priority ≡ priority P e.to)
+        × (entry_before y e.to (goal P e.to) (priority P e.to) ≡ v)
     target_entry v is =
         let i = entry_in_table P G of k R y h e.to v is in
         (ap (λ (x : Entry). x.goal) i.is, ap (λ (x : Entry). x.priority) i.is, ap (λ o. unwrap_or o (fresh (goal P e.to) (priority P e.to))) is)

@@ -59,21 +59,37 @@ module _ (P : Plan) (G : Data) (con : IsConsistent P) (S : MachineState) (sound 
     types f is = eqb-true f.datatype to.flow.datatype (subst (λ o. has_type to.flow.datatype o ≡ true) is to.same_type)
 
     -- an edge to a CTL flow carries no tile
-    pub edge_empty : (f : FlowPlan) → flow_of P.classes e.to.class e.in_flow ≡ Some f → is_data (Some f.kind) ≡ false → output_tile (ended P G e.from) e.out_flow ≡ None
-    edge_empty f is ctl = ap (λ o. output_tile o e.out_flow) so ∙ no_output P G _ e.from job e.out_flow to.flow to.here (sym (kinds f is) ∙ ctl) (end_in P G S e.from) refl
+    pub edge_empty : (f : FlowPlan) → flow_of P.classes e.to.class e.in_flow ≡ Some f → is_data (Some f.kind) ≡ false
+        → output_tile (ended P G e.from) e.out_flow ≡ None
+    edge_empty f is ctl = ap (λ o. output_tile o e.out_flow) so
+        ∙ no_output P G _ e.from job e.out_flow to.flow to.here (sym (kinds f is) ∙ ctl) (end_in P G S e.from) refl
 
     -- and one to a data flow a tile of its type
-    pub edge_typed : DataFit P G → IsWellMade G → (f : FlowPlan) → flow_of P.classes e.to.class e.in_flow ≡ Some f → is_data (Some f.kind) ≡ true → (x : List ℤ) × (output_tile (ended P G e.from) e.out_flow ≡ Some x) × IsTileOf P.elems f.datatype x
+    pub edge_typed : DataFit P G → IsWellMade G → (f : FlowPlan) → flow_of P.classes e.to.class e.in_flow ≡ Some f
+        → is_data (Some f.kind) ≡ true → (x : List ℤ) × (output_tile (ended P G e.from) e.out_flow ≡ Some x)
+        × IsTileOf P.elems f.datatype x
     edge_typed fit well f is data_flow =
         let d : is_data (Some to.flow.kind) ≡ true = sym (kinds f is) ∙ data_flow in
-        let p = sized _ _ (item_sized P G con fit well e.from job (ap has_outputs so ∙ may.outputs) (item.Edge e) may.is_item to.flow to.here d) in
-        (p.0, p.1, subst (λ n. IsTileOf P.elems n p.0) (sym (types f is)) (record { known = known_datatype P e.from e.out_flow to.flow job to.here; fits = p.2 }))
+        let p = sized _ _ (item_sized P G con fit well e.from job (ap has_outputs so ∙ may.outputs) (item.Edge e) may.is_item to.flow to.here d) in (
+          p.0,
+          p.1,
+          subst (λ n. IsTileOf P.elems n p.0) (sym (types f is))
+              (record { known = known_datatype P e.from e.out_flow to.flow job to.here; fits = p.2 }),
+        )
 
   -- a write-back has a tile of the type of its flow
   pub write_typed : (w : WriteBack) → MaySend P G S (item.Write w) → DataFit P G → IsWellMade G
-      → (f : FlowPlan) × (x : List ℤ) × (flow_of P.classes w.from.class w.flow ≡ Some f) × (output_tile (ended P G w.from) w.flow ≡ Some x) × IsTileOf P.elems f.datatype x
+      → (f : FlowPlan) × (x : List ℤ) × (flow_of P.classes w.from.class w.flow ≡ Some f)
+      × (output_tile (ended P G w.from) w.flow ≡ Some x) × IsTileOf P.elems f.datatype x
   write_typed w may fit well =
       let fed = sound.claimed_have_all w.from may.claimed in
       let from = writing_flow P w.from fed.task w may.is_item in
-      let p = sized _ _ (item_sized P G con fit well w.from fed.task (ap has_outputs (ends_so P G con S sound w.from fed) ∙ may.outputs) (item.Write w) may.is_item from.flow from.here from.carries) in
-      (from.flow, p.0, sym (flow_is P w.from w.flow) ∙ from.here, p.1, record { known = known_datatype P w.from w.flow from.flow fed.task from.here; fits = p.2 })
+      let p = sized _ _ (item_sized P G con fit well w.from fed.task
+      (ap has_outputs (ends_so P G con S sound w.from fed) ∙ may.outputs) (item.Write w) may.is_item from.flow
+      from.here from.carries) in (
+        from.flow,
+        p.0,
+        sym (flow_is P w.from w.flow) ∙ from.here,
+        p.1,
+        record { known = known_datatype P w.from w.flow from.flow fed.task from.here; fits = p.2 },
+      )

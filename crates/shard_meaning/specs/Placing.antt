@@ -1,8 +1,8 @@
 -- Which shard a task belongs to: by the place of its affinity, or by a hash if that is one place for its class. The
 -- multiplier is 2^64 over the golden ratio; what a run computes does not depend on it. Source: Knuth, The Art of
 -- Computer Programming, volume 3 (multiplicative hashing).
--- Carried by: `shard_calls::shard_under`, `shard_calls::shard_at`, `shard_calls::home_under`, `shard_calls::home_at`,
--- `dep_table::DepTable::shard_of`, `rank_core::World::rank_of`.
+-- Carried by: `shard_calls::shard_at`, `shard_calls::home_at`, `shard_calls::home_of`, `dep_table::DepTable::shard_of`,
+-- `rank_core::World::rank_of`.
 use Rattle.std.specs.Prelude.{ℕ, ℤ, Bool, true, false, List, [], ◌∷◌, ◌+◌, ◌*◌, ◌/◌, ◌%◌, ◌^◌, ◌&&◌, if◌then◌else◌, slice_get}
 use Rattle.std.specs.Int.{cast_unsigned, w64}
 use Rattle.std.specs.Option.{option_map_or}

@@ -19,7 +19,10 @@ split_all v vs one all = by v.names refl one
     by : (l : List Name) → v.names ≡ l → length l ≡ 1 → AreAll (after_split v ∷ split_off v ∷ vs)
     by [] e h = absurd (omega arith)
     by (x ∷ []) e h = all_split (v ∷ vs) (after_split v ∷ split_off v ∷ vs) x.0 x.1 all
-        (λ f. let a : weigh f (names_after_split v.names) ≡ f (x.0, x.1 + 1) + 0 = ap (λ (l : List Name). weigh f (names_after_split l)) e in let b : weigh f v.names ≡ f x + 0 = ap (weigh f) e in let c : weigh f (names_split_off v.names) ≡ f (x.0 ++ x.1 ∷ [], 0) + 0 = ap (λ (l : List Name). weigh f (names_split_off l)) e in omega arith)
+        (λ f. let a : weigh f (names_after_split v.names) ≡ f (x.0, x.1 + 1) + 0 = ap
+        (λ (l : List Name). weigh f (names_after_split l)) e in let b : weigh f v.names
+        ≡ f x + 0 = ap (weigh f) e in let c : weigh f (names_split_off v.names)
+        ≡ f (x.0 ++ x.1 ∷ [], 0) + 0 = ap (λ (l : List Name). weigh f (names_split_off l)) e in omega arith)
     by (x ∷ (y ∷ ys)) e h = absurd (omega arith)
 
 pub join_all : (v w : PassRecord) (vs : List PassRecord) → AreAll (v ∷ w ∷ vs) → AreAll (both v w ∷ vs)

@@ -42,11 +42,18 @@ module _ (j : TableJob) (s : Table) (id : ℕ) (v : PassRecord) (rule : Rule j s
 
   -- if it holds no turn, each turn is free
   pub alone_free : v.turns ≡ [] → (k : ℕ) → k < j.shards → get_or s.words (turn_word k) 0 ≡ 0
-  alone_free none_held k near = omega (arith, rule.1.turns.counted k (omega (arith, rule.1.slots)), weigh_alone (holds k) s.views id v me (λ i u ne e. ap (turns_in k) (others_empty i u ne e).turns), ap (turns_in k) none_held)
+  alone_free none_held k near = omega (
+    arith,
+    rule.1.turns.counted k (omega (arith, rule.1.slots)),
+    weigh_alone
+        (holds k) s.views id v me (λ i u ne e. ap (turns_in k) (others_empty i u ne e).turns),
+    ap (turns_in k) none_held,
+  )
 
   -- the stamps are its own
   same_stamps : HasSameMembers alone_parts.live.stamps v.stamps
-  same_stamps f = alone_parts.live.theirs f ∙ weigh_alone (λ (u : PassRecord). weigh f u.stamps) s.views id v me (λ i u ne e. ap (weigh f) (others_empty i u ne e).stamps)
+  same_stamps f = alone_parts.live.theirs f ∙ weigh_alone (λ (u : PassRecord). weigh f u.stamps) s.views id v me
+      (λ i u ne e. ap (weigh f) (others_empty i u ne e).stamps)
 
   among : (x : StampedTask) → IsIn x v.stamps → IsIn x alone_parts.live.stamps
   among x i = same_in same_stamp same_stamp-decides v.stamps alone_parts.live.stamps (HasSameMembers-sym alone_parts.live.stamps v.stamps same_stamps) x i
@@ -57,5 +64,9 @@ module _ (j : TableJob) (s : Table) (id : ℕ) (v : PassRecord) (rule : Rule j s
     differ = λ x. omega (arith, d.differ x, same_stamps (λ (y : StampedTask). as_number (eqb y.1 x)));
     below = λ t x i. d.below t x (among (t, x) i);
     above_sources = λ e a b edge i k. d.above_sources e a b edge (among (e.from, a) i) (among (e.to, b) k);
-    senders = λ x i. let o = parts.live.drawn.senders x i in (o.0, same_in same_stamp same_stamp-decides alone_parts.live.stamps v.stamps same_stamps (sender x.item, o.0) o.1);
+    senders = λ x i. let o = parts.live.drawn.senders x i in (
+      o.0,
+      same_in same_stamp same_stamp-decides alone_parts.live.stamps v.stamps same_stamps (sender x.item, o.0)
+          o.1,
+    );
   }

@@ -55,15 +55,26 @@ claim_owns v t tiles named o = record {
 claim_lives : (v : PassRecord) (t : Task) (tiles : List FlowTile) (k : ℕ) (y₀ : Content) → v.credit ≡ 0
     → v.turns ≡ (k, y₀) ∷ [] → OwnsWork v → OwnsLives v → OwnsLives (turn_left (with_own_claim v t tiles))
 claim_lives v t tiles k y₀ none_left turn o l = record {
-  credit = omega (arith, none_left, o.running (λ _. 1), weigh-one v.running, weigh-one v.claims, length-append v.running (t ∷ []), length-append v.claims (t ∷ []));
+  credit = omega (
+    arith,
+    none_left,
+    o.running (λ _. 1),
+    weigh-one v.running,
+    weigh-one v.claims,
+    length-append v.running
+        (t ∷ []),
+    length-append v.claims (t ∷ []),
+  );
   stamps = λ u. omega (arith, l.stamps u, weigh-push (λ z. as_number (same_task u z)) v.claims t);
   stamped = λ u. omega (arith, l.stamped u, weigh-push (λ z. as_number (same_task u z)) v.claims t, weigh-push (λ z. as_number (same_task u z)) v.running t);
 }
 
 -- no pass has sent an item of a task that is not claimed
-nothing_sent : (j : TableJob) (s : Table) (R : Moment) (id : ℕ) (v : PassRecord) (t : Task) (tiles : List FlowTile) (k : ℕ) (y₀ y : Content) → Parts j s R → get_elem? s.views id ≡ some v → Takes y₀ y t tiles
+nothing_sent : (j : TableJob) (s : Table) (R : Moment) (id : ℕ) (v : PassRecord) (t : Task) (tiles : List FlowTile)
+    (k : ℕ) (y₀ y : Content) → Parts j s R → get_elem? s.views id ≡ some v → Takes y₀ y t tiles
     → IsShardOf j.matched j.given (shard_of j.matched j.shards) k R y₀ → MayStart j.matched j.given t tiles v
-nothing_sent j s R id v t tiles k y₀ y r me takes share = let P : Plan = j.matched in let G : Data = j.given in let of : Placement = shard_of j.matched j.shards in
+nothing_sent j s R id v t tiles k y₀ y r me takes share = let P : Plan = j.matched in let G : Data = j.given in let of :
+    Placement = shard_of j.matched j.shards in
     let may : MayClaim P R.state t = ready_may P G of k R y₀ share t takes.had.entry takes.had.is takes.had.ready in
     record {
       task = may.task;
@@ -71,14 +82,23 @@ nothing_sent j s R id v t tiles k y₀ y r me takes share = let P : Plan = j.mat
         runs = claim_ends P G R r.consistent r.sound t may;
         inputs = claim_inputs P G of k R y₀ share r.consistent r.sound y t tiles takes;
       };
-      unsent = λ i among. let none_sent : send_count R.state i ≡ 0 = unclaimed_unsent P G R.state r.sound i (ap (claim_count R.state) (item_sender P t i among) ∙ may.unclaimed) in
-          omega (arith, none_sent, r.records.sends (λ (x : SentItem). as_number (same_item i x.item)), term_le (λ (u : PassRecord). weigh (λ (x : SentItem). as_number (same_item i x.item)) u.sends) s.views id v me);
+      unsent = λ i among. let none_sent : send_count R.state i ≡ 0 = unclaimed_unsent P G R.state r.sound i
+          (ap (claim_count R.state) (item_sender P t i among) ∙ may.unclaimed) in
+          omega (
+            arith,
+            none_sent,
+            r.records.sends (λ (x : SentItem). as_number (same_item i x.item)),
+            term_le
+                (λ (u : PassRecord). weigh (λ (x : SentItem). as_number (same_item i x.item)) u.sends) s.views id v me,
+          );
     }
 
 -- the turn is given back with a claim, if the shard had a ready entry of the task
-pub claims : (j : TableJob) (n id : ℕ) (m : Seated) (k : ℕ) (t : Task) (y₀ y : Content) (tiles : List FlowTile) → HasTurn m k y₀ y 0 → Takes y₀ y t tiles → Uses y₀.spare y.spare 0 None 0 0
+pub claims : (j : TableJob) (n id : ℕ) (m : Seated) (k : ℕ) (t : Task) (y₀ y : Content) (tiles : List FlowTile)
+    → HasTurn m k y₀ y 0 → Takes y₀ y t tiles → Uses y₀.spare y.spare 0 None 0 0
     → Allows (Rule j) n id m (turn_word k) (λ _. 0) (λ _. GivesClaim (Some j) t tiles (step n (turn_word k) 0 0 none) m 0)
-claims j n id m k t y₀ y tiles h takes uses s rule wide me _ = let P : Plan = j.matched in let G : Data = j.given in let of : Placement = shard_of j.matched j.shards in
+claims j n id m k t y₀ y tiles h takes uses s rule wide me _ = let P : Plan = j.matched in let G : Data = j.given in let
+    of : Placement = shard_of j.matched j.shards in
     let R : Moment = rule.0 in let r = rule.1 in let v : PassRecord = m.0 in let w : PassRecord = turn_left (with_own_claim v t tiles) in
     let held = holds_turn m k y₀ y 0 h in
     let share = r.held id v me k y₀ held in

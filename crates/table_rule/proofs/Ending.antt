@@ -52,12 +52,14 @@ sound_moment j s R r = record {
     arith,
     r.records.claims (λ u. as_number (same_task t u)),
     r.records.running (λ u. as_number (same_task t u)),
-    weigh_terms (λ (v : PassRecord). own_runs v t) (λ (v : PassRecord). own_claims v t) s.views (λ i v e. (r.owned.each i v e).running (λ u. as_number (same_task t u))),
+    weigh_terms (λ (v : PassRecord). own_runs v t) (λ (v : PassRecord). own_claims v t) s.views
+        (λ i v e. (r.owned.each i v e).running (λ u. as_number (same_task t u))),
   );
 }
 
 -- a task that some pass runs is among the running tasks of the moment
-module _ (vs : List PassRecord) (R : Moment) (records : AreRecordsOf R vs) (id : ℕ) (v : PassRecord) (me : get_elem? vs id ≡ some v) (t : Task) (runs : v.running ≡ t ∷ []) where
+module _ (vs : List PassRecord) (R : Moment) (records : AreRecordsOf R vs) (id : ℕ) (v : PassRecord)
+    (me : get_elem? vs id ≡ some v) (t : Task) (runs : v.running ≡ t ∷ []) where
   pub own_run : own_runs v t ≡ 1
   own_run = omega (arith, ap (weigh (λ u. as_number (same_task t u))) runs, ap as_number ((same_task-decides t t).1 refl))
 
@@ -68,14 +70,24 @@ module _ (vs : List PassRecord) (R : Moment) (records : AreRecordsOf R vs) (id :
   end_records w claims sends none_runs = record {
     claims = λ f. records.claims f ∙ sym (same_weight vs id v w me (λ (u : PassRecord). weigh f u.claims) (ap (weigh f) claims));
     sends = λ f. records.sends f ∙ sym (same_weight vs id v w me (λ (u : PassRecord). weigh f u.sends) (ap (weigh f) sends));
-    running = λ f. omega (arith, records.running f, weigh-without f t R.running it_runs, weigh-set (λ (u : PassRecord). weigh f u.running) vs id v w me, ap (weigh f) none_runs, ap (weigh f) runs);
+    running = λ f. omega (
+      arith,
+      records.running f,
+      weigh-without f t R.running it_runs,
+      weigh-set
+          (λ (u : PassRecord). weigh f u.running) vs id v w me,
+      ap (weigh f) none_runs,
+      ap (weigh f) runs,
+    );
   }
 
 -- the pass after the end
 end_owns : (v : PassRecord) → HasName v → OwnsWork v → OwnsWork (turn_left (with_own_end v))
 end_owns v named o = record { running = λ f. omega arith; sends = o.sends; nameless = λ e. absurd (named_not_empty v.names named e) }
 
-end_lives : (v : PassRecord) (t : Task) (k : ℕ) (y₀ : Content) → v.credit ≡ 0 → v.turns ≡ (k, y₀) ∷ [] → v.running ≡ t ∷ [] → 0 < own_stamps v t → own_claims v t ≤ 1 → OwnsWork v → OwnsLives v → OwnsLives (turn_left (with_own_end v))
+end_lives : (v : PassRecord) (t : Task) (k : ℕ) (y₀ : Content) → v.credit ≡ 0 → v.turns ≡ (k, y₀) ∷ []
+    → v.running ≡ t ∷ [] → 0 < own_stamps v t → own_claims v t ≤ 1 → OwnsWork v → OwnsLives v
+    → OwnsLives (turn_left (with_own_end v))
 end_lives v t k y₀ none_left turn runs stamped once o l = record {
   credit = omega (arith, none_left, o.running (λ _. 1), ap length runs, weigh-one v.running, weigh-one v.claims);
   stamps = l.stamps;
@@ -91,15 +103,23 @@ record Ending (j : TableJob) (R : Moment) (v : PassRecord) (k : ℕ) (t : Task) 
   spare : j.preloaded ≡ true → Reserve j R k y₀ → Reserve j (with_end R t) k y
 
 -- the turn is given back with the end of the running task
-ends : (j : TableJob) (n id : ℕ) (m : Seated) (k : ℕ) (t : Task) (y₀ y : Content) → HasTurn m k y₀ y 0 → m.0.running ≡ t ∷ [] → shard_of j.matched j.shards t ≡ k → 0 < own_stamps m.0 t
+ends : (j : TableJob) (n id : ℕ) (m : Seated) (k : ℕ) (t : Task) (y₀ y : Content) → HasTurn m k y₀ y 0
+    → m.0.running ≡ t ∷ [] → shard_of j.matched j.shards t ≡ k → 0 < own_stamps m.0 t
     → ((s : Table) (R : Moment) → Parts j s R → get_elem? s.views id ≡ some m.0 → Ending j R m.0 k t y₀ y)
     → Allows (Rule j) n id m (turn_word k) (λ _. 0) (λ _. GivesEnd (step n (turn_word k) 0 0 none) m 0)
-ends j n id m k t y₀ y h runs at stamped does s rule wide me _ = let P : Plan = j.matched in let G : Data = j.given in let of : Placement = shard_of j.matched j.shards in
+ends j n id m k t y₀ y h runs at stamped does s rule wide me
+    _ = let P : Plan = j.matched in let G : Data = j.given in let of : Placement = shard_of j.matched j.shards in
     let R : Moment = rule.0 in let r = rule.1 in let v : PassRecord = m.0 in let w : PassRecord = turn_left (with_own_end v) in
     let held = holds_turn m k y₀ y 0 h in
     let own = it_runs s.views R r.records id v me t runs in
     let d = does s R r me in
-    let once : own_claims v t ≤ 1 = omega (arith, r.sound.claimed_once t, r.records.claims (λ u. as_number (same_task t u)), term_le (λ (u : PassRecord). own_claims u t) s.views id v me) in
+    let once : own_claims v t ≤ 1 = omega (
+      arith,
+      r.sound.claimed_once t,
+      r.records.claims
+          (λ u. as_number (same_task t u)),
+      term_le (λ (u : PassRecord). own_claims u t) s.views id v me,
+    ) in
     let busy : R.running ≡ [] → ⊥ = λ e. absurd (omega (arith, own, ap (λ l. count (same_task t) l) e)) in (
       w,
       gives,
@@ -129,22 +149,37 @@ ends j n id m k t y₀ y h runs at stamped does s rule wide me _ = let P : Plan 
     )
 
 -- after its items
-pub ends_with_items : (j : TableJob) (n id : ℕ) (m : Seated) (k : ℕ) (t : Task) (y₀ y : Content) → HasTurn m k y₀ y 0 → MayEnd j.matched j.given t m.0 → shard_of j.matched j.shards t ≡ k → 0 < own_stamps m.0 t
+pub ends_with_items : (j : TableJob) (n id : ℕ) (m : Seated) (k : ℕ) (t : Task) (y₀ y : Content) → HasTurn m k y₀ y 0
+    → MayEnd j.matched j.given t m.0 → shard_of j.matched j.shards t ≡ k → 0 < own_stamps m.0 t
     → Ends y₀ y → KeepsEntriesAndWritten y₀ y → y.trapped ≡ y₀.trapped → Uses y₀.spare y.spare 0 None 0 0
     → Allows (Rule j) n id m (turn_word k) (λ _. 0) (λ _. GivesEnd (step n (turn_word k) 0 0 none) m 0)
-ends_with_items j n id m k t y₀ y h may at stamped ending kept trapped uses = ends j n id m k t y₀ y h may.runs at stamped (λ s R r me. let own = it_runs s.views R r.records id m.0 me t may.runs in record {
-  finished = inr (λ i among. lt-ltb 0 (send_count R.state i) (omega (arith, ltb-true 0 (send_count (done_by m.0) i) (may.sent i among), r.records.sends (λ (x : SentItem). as_number (same_item i x.item)), term_le (λ (u : PassRecord). weigh (λ (x : SentItem). as_number (same_item i x.item)) u.sends) s.views id m.0 me)));
-  here = λ q. end_here j.matched j.given (shard_of j.matched j.shards) k R t own y₀ y at may.outputs ending kept trapped q;
-  spare = λ pre q. reserve-end j.matched (shard_of j.matched j.shards) k R t own y₀ y kept uses q;
-})
+ends_with_items j n id m k t y₀ y h may at stamped ending kept trapped uses = ends j n id m k t y₀ y h may.runs at
+    stamped (λ s R r me. let own = it_runs s.views R r.records id m.0 me t may.runs in record {
+      finished = inr (λ i among. lt-ltb 0 (send_count R.state i)
+          (omega (
+            arith,
+            ltb-true 0 (send_count (done_by m.0) i) (may.sent i among),
+            r.records.sends
+                (λ (x : SentItem). as_number (same_item i x.item)),
+            term_le
+                (λ (u : PassRecord). weigh (λ (x : SentItem). as_number (same_item i x.item)) u.sends) s.views id m.0 me,
+          )));
+      here = λ q. end_here j.matched j.given (shard_of j.matched j.shards) k R t own y₀ y at may.outputs ending kept trapped q;
+      spare = λ pre q. reserve-end j.matched (shard_of j.matched j.shards) k R t own y₀ y kept uses q;
+    })
 
 -- by a trap
-pub ends_by_trap : (j : TableJob) (n id : ℕ) (m : Seated) (k : ℕ) (t : Task) (cause : Trap) (y₀ y : Content) → HasTurn m k y₀ y 0 → MayTrap j.matched j.given t cause m.0 → shard_of j.matched j.shards t ≡ k → 0 < own_stamps m.0 t
+pub ends_by_trap : (j : TableJob) (n id : ℕ) (m : Seated) (k : ℕ) (t : Task) (cause : Trap) (y₀ y : Content)
+    → HasTurn m k y₀ y 0 → MayTrap j.matched j.given t cause m.0 → shard_of j.matched j.shards t ≡ k
+    → 0 < own_stamps m.0 t
     → Ends y₀ y → KeepsEntriesAndWritten y₀ y → y.trapped ≡ y₀.trapped ++ (t, cause) ∷ [] → Uses y₀.spare y.spare 0 None 0 1
     → Allows (Rule j) n id m (turn_word k) (λ _. 0) (λ _. GivesEnd (step n (turn_word k) 0 0 none) m 0)
-ends_by_trap j n id m k t cause y₀ y h may at stamped ending kept trapped uses = ends j n id m k t y₀ y h may.runs at stamped (λ s R r me. let own = it_runs s.views R r.records id m.0 me t may.runs in record {
-  finished = inl (ap has_outputs may.traps);
-  here = λ q. trap_here j.matched j.given (shard_of j.matched j.shards) k R t own y₀ y cause at may.traps ending kept trapped q;
-  spare = λ pre q. let sound = sound_moment j s R r in let claimed : 0 < claim_count R.state t = omega (arith, own, sound.claimed t) in
-      reserve-trap j.matched (shard_of j.matched j.shards) k R t (r.sound.claimed_have_all t (claim_member R.state t claimed)).task at claimed (omega (arith, own, sound.claimed t, r.sound.claimed_once t)) y₀ y kept uses q;
-})
+ends_by_trap j n id m k t cause y₀ y h may at stamped ending kept trapped uses = ends j n id m k t y₀ y h may.runs at
+    stamped (λ s R r me. let own = it_runs s.views R r.records id m.0 me t may.runs in record {
+      finished = inl (ap has_outputs may.traps);
+      here = λ q. trap_here j.matched j.given (shard_of j.matched j.shards) k R t own y₀ y cause at may.traps ending kept trapped q;
+      spare = λ pre q. let sound = sound_moment j s R r in let claimed : 0 < claim_count R.state t = omega (arith, own, sound.claimed t) in
+          reserve-trap j.matched (shard_of j.matched j.shards) k R t
+          (r.sound.claimed_have_all t (claim_member R.state t claimed)).task at claimed
+          (omega (arith, own, sound.claimed t, r.sound.claimed_once t)) y₀ y kept uses q;
+    })

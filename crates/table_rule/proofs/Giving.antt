@@ -25,8 +25,11 @@ pub holds_turn : (m : Seated) (k : ℕ) (y₀ y : Content) (credits : ℕ) → H
 holds_turn m k y₀ y credits h = subst (IsIn (k, y₀)) (sym h.turn) (inl refl)
 
 -- the turn is given back, and of the shard at most spares have grown
-pub leaves : (j : TableJob) (n id : ℕ) (m : Seated) (k : ℕ) (y₀ y : Content) → HasTurn m k y₀ y 0 → IsUnchanged y₀ y → Uses y₀.spare y.spare 0 None 0 0 → Allows (Rule j) n id m (turn_word k) (λ _. 0) (λ _. GivesBack (step n (turn_word k) 0 0 none) m 0)
-leaves j n id m k y₀ y h same uses s rule wide me _ = let R : Moment = rule.0 in let r = rule.1 in let v : PassRecord = m.0 in let w : PassRecord = turn_left v in let o = r.owned.each id v me in let l = r.live.each id v me in
+pub leaves : (j : TableJob) (n id : ℕ) (m : Seated) (k : ℕ) (y₀ y : Content) → HasTurn m k y₀ y 0 → IsUnchanged y₀ y
+    → Uses y₀.spare y.spare 0 None 0 0 → Allows (Rule j) n id m (turn_word k) (λ _. 0)
+    (λ _. GivesBack (step n (turn_word k) 0 0 none) m 0)
+leaves j n id m k y₀ y h same uses s rule wide me _ = let R : Moment = rule.0 in let r = rule.1 in let v : PassRecord =
+    m.0 in let w : PassRecord = turn_left v in let o = r.owned.each id v me in let l = r.live.each id v me in
     let held = holds_turn m k y₀ y 0 h in (
       w,
       gives,
@@ -45,7 +48,11 @@ leaves j n id m k y₀ y h same uses s rule wide me _ = let R : Moment = rule.0 
           others = λ x z ne q. q;
           calms = λ c. c;
           sees = r.quieted.calm id v me;
-          live = live_same j s id v R r me w refl refl (record { credit = omega (arith, h.credit, o.running (λ _. 1), weigh-one v.running, weigh-one v.claims); stamps = l.stamps; stamped = l.stamped });
+          live = live_same j s id v R r me w refl refl (record {
+            credit = omega (arith, h.credit, o.running (λ _. 1), weigh-one v.running, weigh-one v.claims);
+            stamps = l.stamps;
+            stamped = l.stamped;
+          });
           spare_here = λ pre. reserve-unchanged j.matched (shard_of j.matched j.shards) k R y₀ y same.entries uses ((r.reserved pre).held id v me k y₀ held);
           spare_others = λ pre x z ne q. q;
         }),

@@ -1,5 +1,6 @@
 -- The live word and the stamps in a step that draws no stamp, and how large the two words get.
-use Rattle.std.proofs.Common.{◌↔◌, IsTrue, ◌≡◌, ℕ, ◌+◌, ◌<◌, ◌≤◌, ◌⊎◌, Bool, true, ◌&&◌, List, [], ◌∷◌, map, set, length, sym, refl, ap, ◌∙◌, subst, ⊎_elim, arith, eqb, eq-eqb, eqb-true}
+use Rattle.std.proofs.Common.{◌↔◌, IsTrue, ◌≡◌, ℕ, ◌+◌, ◌<◌, ◌≤◌, ◌⊎◌, Bool, true, ◌&&◌, List, [], ◌∷◌, map, set}
+use Rattle.std.proofs.Common.{length, sym, refl, ap, ◌∙◌, subst, ⊎_elim, arith, eqb, eq-eqb, eqb-true}
 use Rattle.std.specs.Cmp.{first_so, second_so}
 use Rattle.std.specs.List.{flat_map}
 use mathlib.Core.Logic.{dite}
@@ -48,16 +49,28 @@ pub same_stamp-decides : (a b : StampedTask) → IsTrue (same_stamp a b) ↔ (a 
 same_stamp-decides a b = (same_stamp-one a b, λ e. subst (λ c. same_stamp a c ≡ true) e (same_stamp-itself a))
 
 -- the stamps of a pass are among those of all, and each of those is one of some pass
-module _ (stamps : List StampedTask) (vs : List PassRecord) (theirs : (f : StampedTask → ℕ) → weigh f stamps ≡ weigh (λ (v : PassRecord). weigh f v.stamps) vs) where
+module _ (stamps : List StampedTask) (vs : List PassRecord) (theirs : (f : StampedTask → ℕ)
+    → weigh f stamps ≡ weigh (λ (v : PassRecord). weigh f v.stamps) vs) where
   pub stamp_among : (id : ℕ) (v : PassRecord) → get_elem? vs id ≡ some v → (x : StampedTask) → IsIn x v.stamps → IsIn x stamps
   stamp_among id v me x i =
       let mine = count-some (same_stamp x) v.stamps x i (same_stamp-itself x) in
-      let found = some_passes (same_stamp x) stamps (omega (arith, theirs (λ y. as_number (same_stamp x y)), term_le (λ (u : PassRecord). count (same_stamp x) u.stamps) vs id v me)) in
+      let found = some_passes (same_stamp x) stamps (omega (
+        arith,
+        theirs (λ y. as_number (same_stamp x y)),
+        term_le
+            (λ (u : PassRecord). count (same_stamp x) u.stamps) vs id v me,
+      )) in
       subst (λ y. IsIn y stamps) (sym (same_stamp-one x found.0 found.2)) found.1
 
   pub stamp_of : (x : StampedTask) → IsIn x stamps → (id : ℕ) × (v : PassRecord) × (get_elem? vs id ≡ some v) × IsIn x v.stamps
   stamp_of x i =
-      let place = some_place (λ (u : PassRecord). count (same_stamp x) u.stamps) vs (omega (arith, theirs (λ y. as_number (same_stamp x y)), count-some (same_stamp x) stamps x i (same_stamp-itself x))) in
+      let place = some_place (λ (u : PassRecord). count (same_stamp x) u.stamps) vs
+      (omega (
+        arith,
+        theirs (λ y. as_number (same_stamp x y)),
+        count-some (same_stamp x) stamps x i
+            (same_stamp-itself x),
+      )) in
       let v : PassRecord = place.1 in
       let found = some_passes (same_stamp x) v.stamps place.3 in
       (place.0, v, place.2, subst (λ y. IsIn y v.stamps) (sym (same_stamp-one x found.0 found.2)) found.1)
@@ -80,12 +93,15 @@ module _ (P : Plan) (R R' : Moment) (live stamp : ℕ) (vs : List PassRecord) (i
       differ = r.drawn.differ;
       below = r.drawn.below;
       above_sources = r.drawn.above_sources;
-      senders = λ x i. ⊎_elim (λ old. r.drawn.senders x old) (λ (t : (s : ℕ) × IsIn (sender x.item, s) v.stamps). (t.0, stamp_among r.stamps vs r.theirs id v me (sender x.item, t.0) t.1)) (senders x i);
+      senders = λ x i. ⊎_elim (λ old. r.drawn.senders x old)
+          (λ (t : (s : ℕ) × IsIn (sender x.item, s) v.stamps).
+          (t.0, stamp_among r.stamps vs r.theirs id v me (sender x.item, t.0) t.1)) (senders x i);
     };
   }
 
   -- the moment stays too, and the live word may change with the credit
-  pub live_moved : (live' : ℕ) → live' + v.credit ≡ live + w.credit → OwnsLives w → w.stamps ≡ v.stamps → AreLive P R live stamp vs → AreLive P R live' stamp (set vs id w)
+  pub live_moved : (live' : ℕ) → live' + v.credit ≡ live + w.credit → OwnsLives w → w.stamps ≡ v.stamps
+      → AreLive P R live stamp vs → AreLive P R live' stamp (set vs id w)
   live_moved live' sum owns stamps r = record {
     live = omega (arith, r.live, sum, weigh-set (λ (u : PassRecord). u.credit) vs id v w me, term_le (λ (u : PassRecord). u.credit) vs id v me);
     each = each_kept OwnsLives vs id w owns r.each;
@@ -105,7 +121,12 @@ module _ (P : Plan) (G : Data) (S : MachineState) (sound : IsSoundState P G S) w
   pub claims_among_tasks : (f : Task → ℕ) → weigh f S.claims ≤ weigh f (all_tasks P)
   claims_among_tasks f = dominated same_task one_task itself S.claims (all_tasks P) (λ t. dite (ℕ_discrete (claim_count S t) 0)
       (λ z. omega arith)
-      (λ nz. let i = claim_member S t (omega arith) in omega (arith, sound.claimed_once t, count-some (same_task t) (all_tasks P) t ((listed P t).0 (sound.claimed_have_all t i).task) (itself t)))) f
+      (λ nz. let i = claim_member S t (omega arith) in omega (
+        arith,
+        sound.claimed_once t,
+        count-some (same_task t) (all_tasks P) t
+            ((listed P t).0 (sound.claimed_have_all t i).task) (itself t),
+      ))) f
 
 -- at most as many turns are held as there are shards
 module _ (words : List ℕ) (slots : List (mathlib.Core.Option.Option Content)) (vs : List PassRecord) (r : AreTurns words slots vs) where
@@ -118,7 +139,9 @@ module _ (words : List ℕ) (slots : List (mathlib.Core.Option.Option Content)) 
 
   numbers-weigh : (f : ℕ → ℕ) → weigh f numbers ≡ weigh (λ (v : PassRecord). weigh (λ (x : ℕ × Content). f x.0) v.turns) vs
   unfolding numbers
-  numbers-weigh f = weigh-flat_map f (λ (v : PassRecord). map (λ (x : ℕ × Content). x.0) v.turns) vs ∙ weigh-same (λ (v : PassRecord). weigh f (map (λ (x : ℕ × Content). x.0) v.turns)) (λ (v : PassRecord). weigh (λ (x : ℕ × Content). f x.0) v.turns) vs (λ v. weigh-map f v.turns)
+  numbers-weigh f = weigh-flat_map f (λ (v : PassRecord). map (λ (x : ℕ × Content). x.0) v.turns) vs
+      ∙ weigh-same (λ (v : PassRecord). weigh f (map (λ (x : ℕ × Content). x.0) v.turns))
+      (λ (v : PassRecord). weigh (λ (x : ℕ × Content). f x.0) v.turns) vs (λ v. weigh-map f v.turns)
 
   near_number : (k : ℕ) → IsIn k numbers → k < length slots
   near_number k i =
@@ -145,7 +168,8 @@ module _ (P : Plan) (G : Data) (R : Moment) (live stamp : ℕ) (words : List ℕ
 
   pub live_few : AreTurns words slots vs → live ≤ length (all_tasks P) + length slots
   live_few turns =
-      let each = weigh_terms (λ (v : PassRecord). v.credit + length v.running) (λ (v : PassRecord). length v.claims + length v.turns) vs (λ i v e. (r.each i v e).credit) in
+      let each = weigh_terms (λ (v : PassRecord). v.credit + length v.running)
+      (λ (v : PassRecord). length v.claims + length v.turns) vs (λ i v e. (r.each i v e).credit) in
       omega (
         arith,
         r.live,
@@ -180,4 +204,11 @@ module _ (P : Plan) (G : Data) (R : Moment) (live stamp : ℕ) (words : List ℕ
       weigh-map f (x ∷ xs) = omega (arith, weigh-map f xs)
 
       own_few : (v : PassRecord) → OwnsLives v → weigh (λ _. 1) v.stamps ≤ weigh (λ _. 1) v.claims
-      own_few v o = omega (arith, weigh-map (λ _. 1) v.stamps, dominated same_task (λ a b h. (same_task-decides a b).0 h) (λ a. (same_task-decides a a).1 refl) (map (λ (x : StampedTask). x.0) v.stamps) v.claims (λ t. omega (arith, weigh-map (λ u. as_number (same_task t u)) v.stamps, o.stamps t)) (λ _. 1))
+      own_few v o = omega (
+        arith,
+        weigh-map (λ _. 1) v.stamps,
+        dominated same_task
+            (λ a b h. (same_task-decides a b).0 h) (λ a. (same_task-decides a a).1 refl)
+            (map (λ (x : StampedTask). x.0) v.stamps) v.claims
+            (λ t. omega (arith, weigh-map (λ u. as_number (same_task t u)) v.stamps, o.stamps t)) (λ _. 1),
+      )

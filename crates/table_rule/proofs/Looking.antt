@@ -33,7 +33,8 @@ module _ (j : TableJob) (s : Table) (id : ℕ) (v : PassRecord) (R : Moment) (r 
   owns = r.owned.each id v me
 
   -- the part of the rule about halt and quiet
-  pub quiet_kept : (w : PassRecord) → w.halts ≡ v.halts → (w.quiet ≡ true → IsCalm j.matched R) → IsQuieted j.matched R (get_or s.words (halt_word j.shards) 0) (set s.views id w)
+  pub quiet_kept : (w : PassRecord) → w.halts ≡ v.halts → (w.quiet ≡ true → IsCalm j.matched R)
+      → IsQuieted j.matched R (get_or s.words (halt_word j.shards) 0) (set s.views id w)
   quiet_kept w halts sees =
       let raises : weigh raised (set s.views id w) ≡ weigh raised s.views = same_weight s.views id v w me raised (ap as_number halts) in
       record {
@@ -42,8 +43,12 @@ module _ (j : TableJob) (s : Table) (id : ℕ) (v : PassRecord) (R : Moment) (r 
         high = λ z. r.quieted.high (omega arith);
       }
 
-  pub live_same : (w : PassRecord) → w.credit ≡ v.credit → w.stamps ≡ v.stamps → OwnsLives w → AreLive j.matched R (get_or s.words (live_word j.shards) 0) (get_or s.words (stamp_word j.shards) 0) (set s.views id w)
-  live_same w credit stamps mine = live_kept j.matched R R (get_or s.words (live_word j.shards) 0) (get_or s.words (stamp_word j.shards) 0) s.views id v w me (omega (arith, credit)) mine stamps (λ x i. inl i) r.live
+  pub live_same : (w : PassRecord) → w.credit ≡ v.credit → w.stamps ≡ v.stamps → OwnsLives w
+      → AreLive j.matched R (get_or s.words (live_word j.shards) 0) (get_or s.words (stamp_word j.shards) 0)
+      (set s.views id w)
+  live_same w credit stamps mine = live_kept j.matched R R (get_or s.words (live_word j.shards) 0)
+      (get_or s.words (stamp_word j.shards) 0) s.views id v w me (omega (arith, credit)) mine stamps (λ x i. inl i)
+      r.live
 
   pub looked : (word : Word) (found : ℕ) → Parts j (board s.words s.homes (set s.views id (with_look v word found))) R
   looked word found = let o = owns in aside j s id v (with_look v word found) s.words R r (record {
@@ -54,7 +59,19 @@ module _ (j : TableJob) (s : Table) (id : ℕ) (v : PassRecord) (R : Moment) (r 
     handed = refl;
     names = refl;
     turns = refl;
-    owns = record { running = o.running; sends = o.sends; nameless = λ e. let n = o.nameless e in record { claims = n.claims; sends = n.sends; running = n.running; turns = n.turns; credit = n.credit; stamps = n.stamps } };
+    owns = record {
+      running = o.running;
+      sends = o.sends;
+      nameless = λ e. let n = o.nameless
+          e in record {
+            claims = n.claims;
+            sends = n.sends;
+            running = n.running;
+            turns = n.turns;
+            credit = n.credit;
+            stamps = n.stamps;
+          };
+    };
     long = refl;
     turn_words = λ k l. refl;
     quieted = quiet_kept (with_look v word found) refl (r.quieted.calm id v me);
@@ -71,11 +88,24 @@ module _ (j : TableJob) (s : Table) (id : ℕ) (v : PassRecord) (R : Moment) (r 
     handed = refl;
     names = refl;
     turns = refl;
-    owns = record { running = o.running; sends = o.sends; nameless = λ e. let n = o.nameless e in record { claims = n.claims; sends = n.sends; running = n.running; turns = n.turns; credit = n.credit; stamps = n.stamps } };
+    owns = record {
+      running = o.running;
+      sends = o.sends;
+      nameless = λ e. let n = o.nameless
+          e in record {
+            claims = n.claims;
+            sends = n.sends;
+            running = n.running;
+            turns = n.turns;
+            credit = n.credit;
+            stamps = n.stamps;
+          };
+    };
     long = refl;
     turn_words = λ k l. refl;
     quieted = quiet_kept (with_quiet (with_look v word found)) refl (λ _. calm);
-    live = let l = r.live.each id v me in live_same (with_quiet (with_look v word found)) refl refl (record { credit = l.credit; stamps = l.stamps; stamped = l.stamped });
+    live = let l = r.live.each id v me in live_same (with_quiet (with_look v word found)) refl refl
+        (record { credit = l.credit; stamps = l.stamps; stamped = l.stamped });
     halt = λ pre. (r.reserved pre).halt;
   })
 
@@ -83,7 +113,8 @@ module _ (j : TableJob) (s : Table) (id : ℕ) (v : PassRecord) (R : Moment) (r 
   pub taken : (k : ℕ) (y : Content) → k < j.shards → HasName v → get_or s.words (turn_word k) 0 ≡ 0 → Share j R k y → (j.preloaded ≡ true → Reserve j R k y)
       → Parts j (board (set s.words (turn_word k) 1) (set s.homes k none) (set s.views id (with_turn v k y))) R
   taken k y near named free share spare = let o = owns in let l = r.live.each id v me in
-      turned j s id v (with_turn v k y) k 1 none R R r (taking s.words s.homes s.views id v (with_turn v k y) k y (omega (arith, r.slots)) (omega (arith, r.words)) me r.turns free refl) (record {
+      turned j s id v (with_turn v k y) k 1 none R R r (taking s.words s.homes s.views id v (with_turn v k y) k y
+      (omega (arith, r.slots)) (omega (arith, r.words)) me r.turns free refl) (record {
         records = same_records s.views id v (with_turn v k y) me R refl refl refl r.records;
         sound = r.sound;
         finished = r.finished;
@@ -102,11 +133,13 @@ module _ (j : TableJob) (s : Table) (id : ℕ) (v : PassRecord) (R : Moment) (r 
         spare_held = λ pre x z h. here_or_held (Reserve j R) x z (spare pre) ((r.reserved pre).held id v me) h;
       })
     where
-      here_or_held : (Q : ℕ → Content → Type 0) (x : ℕ) (z : Content) → Q k y → ((x : ℕ) (z : Content) → IsIn (x, z) v.turns → Q x z) → IsIn (x, z) ((k, y) ∷ v.turns) → Q x z
+      here_or_held : (Q : ℕ → Content → Type 0) (x : ℕ) (z : Content) → Q k y
+          → ((x : ℕ) (z : Content) → IsIn (x, z) v.turns → Q x z) → IsIn (x, z) ((k, y) ∷ v.turns) → Q x z
       here_or_held Q x z q held h = ⊎_elim (λ (e : (x, z) ≡ (k, y)). subst (λ (p : ℕ × Content). Q p.0 p.1) (sym e) q) (λ t. held x z t) h
 
 -- the turn of a shard is taken, or is found taken
-pub takes_turn : (j : TableJob) (n id : ℕ) (m : Seated) (k : ℕ) → k < j.shards → HasName m.0 → Allows (Rule j) n id m (turn_word k) (λ _. 1) (TriesTurn (Some j) k (step n (turn_word k) 1 0 none) m)
+pub takes_turn : (j : TableJob) (n id : ℕ) (m : Seated) (k : ℕ) → k < j.shards → HasName m.0
+    → Allows (Rule j) n id m (turn_word k) (λ _. 1) (TriesTurn (Some j) k (step n (turn_word k) 1 0 none) m)
 takes_turn j n id m k near named s rule wide me _ = let R : Moment = rule.0 in let r = rule.1 in let v : PassRecord = m.0 in
     dite (ℕ_discrete (get_or s.words (turn_word k) 0) 0)
     (λ free. let close : k < length s.homes = omega (arith, r.slots) in let home = r.in_slots k close free in let y : Content = home.0 in (
@@ -122,19 +155,23 @@ takes_turn j n id m k near named s rule wide me _ = let R : Moment = rule.0 in l
       with_look v (Turn k) found,
       keeps,
       tt,
-      subst (λ (words : List ℕ). Rule j (board words s.homes (set s.views id (with_look v (Turn k) found)))) (sym same_words) (R, looked j s id v R r me (Turn k) found),
+      subst (λ (words : List ℕ). Rule j (board words s.homes (set s.views id (with_look v (Turn k) found))))
+          (sym same_words) (R, looked j s id v R r me (Turn k) found),
       (refl, (λ free. absurd (held free)), λ _. refl),
     ))
   where
-    same_home : (Q : Content → Type 0) (slots : List (mathlib.Core.Option.Option Content)) (y : Content) → get_elem? slots k ≡ some (some y) → (z : Content) × (get_elem? slots k ≡ some (some z)) × Q z → Q y
+    same_home : (Q : Content → Type 0) (slots : List (mathlib.Core.Option.Option Content)) (y : Content)
+        → get_elem? slots k ≡ some (some y) → (z : Content) × (get_elem? slots k ≡ some (some z)) × Q z → Q y
     same_home Q slots y e t = subst Q (some-injective t.0 y (some-injective (some t.0) (some y) (sym t.1 ∙ e))) t.2
 
 -- the halt word is read
-pub reads_halt : (j : TableJob) (n id : ℕ) (m : Seated) → Allows (Rule j) n id m (halt_word j.shards) (λ x. x) (ReadsHalt (Some j) (step n (halt_word j.shards) 0 0 none) m)
+pub reads_halt : (j : TableJob) (n id : ℕ) (m : Seated) → Allows (Rule j) n id m (halt_word j.shards) (λ x. x)
+    (ReadsHalt (Some j) (step n (halt_word j.shards) 0 0 none) m)
 reads_halt j n id m s rule wide me _ = let found : ℕ = get_or s.words (halt_word j.shards) 0 in (
   with_look m.0 Halt found,
   keeps,
   tt,
-  subst (λ (words : List ℕ). Rule j (board words s.homes (set s.views id (with_look m.0 Halt found)))) (sym (set-get_or s.words (halt_word j.shards) 0)) (rule.0, looked j s id m.0 rule.0 rule.1 me Halt found),
+  subst (λ (words : List ℕ). Rule j (board words s.homes (set s.views id (with_look m.0 Halt found))))
+      (sym (set-get_or s.words (halt_word j.shards) 0)) (rule.0, looked j s id m.0 rule.0 rule.1 me Halt found),
   (omega (arith, wide, rule.1.slots), refl, λ pre. (rule.1.reserved pre).halt),
 )

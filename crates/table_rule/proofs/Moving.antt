@@ -1,5 +1,6 @@
 -- What a step changes of the rule: a step on a turn word, and a step on another word or on none.
-use Rattle.std.proofs.Common.{◌≡◌, ℕ, ◌+◌, ◌*◌, ◌<◌, ◌≤◌, ◌≢◌, true, List, ◌∷◌, set, length, get_or, sym, refl, ap, ◌∙◌, subst, arith, length-set, get_or-set_other}
+use Rattle.std.proofs.Common.{◌≡◌, ℕ, ◌+◌, ◌*◌, ◌<◌, ◌≤◌, ◌≢◌, true, List, ◌∷◌, set, length, get_or, sym, refl, ap, ◌∙◌}
+use Rattle.std.proofs.Common.{subst, arith, length-set, get_or-set_other}
 use mathlib.Core.Option.{none, some}
 use lib.ListN.{get_elem?}
 use Rattle.ptg_base.specs.Lists.{IsIn}
@@ -26,7 +27,8 @@ abbrev pub board : List ℕ → Slots → List PassRecord → Table
 board words slots vs = record { words = words; homes = slots; views = vs }
 
 -- the passes after one of them has changed, and its names have not
-pub owned_kept : (vs : List PassRecord) (id : ℕ) (v w : PassRecord) → get_elem? vs id ≡ some v → w.names ≡ v.names → OwnsWork w → AreOwned vs → AreOwned (set vs id w)
+pub owned_kept : (vs : List PassRecord) (id : ℕ) (v w : PassRecord) → get_elem? vs id ≡ some v → w.names ≡ v.names
+    → OwnsWork w → AreOwned vs → AreOwned (set vs id w)
 owned_kept vs id v w me names owns r = record {
   each = each_kept OwnsWork vs id w owns r.each;
   names = same_names vs (set vs id w) (λ f. same_weight vs id v w me (λ (u : PassRecord). weigh f u.names) (ap (weigh f) names)) r.names;
@@ -59,8 +61,10 @@ module _ (j : TableJob) (s : Table) (id : ℕ) (v w : PassRecord) (k new : ℕ) 
   pub turned : Turning j s id v w k new slot R R' → Parts j (board (set s.words (turn_word k) new) (set s.homes k slot) (set s.views id w)) R'
   turned g =
       let halt : get_or (set s.words (turn_word k) new) (halt_word j.shards) 0 ≡ get_or s.words (halt_word j.shards) 0 = other_word j.shards (omega arith) in
-      let live : get_or (set s.words (turn_word k) new) (live_word j.shards) 0 ≡ get_or s.words (live_word j.shards) 0 = other_word (j.shards + 1) (omega arith) in
-      let stamp : get_or (set s.words (turn_word k) new) (stamp_word j.shards) 0 ≡ get_or s.words (stamp_word j.shards) 0 = other_word (j.shards + 2) (omega arith) in
+      let live : get_or (set s.words (turn_word k) new) (live_word j.shards) 0
+      ≡ get_or s.words (live_word j.shards) 0 = other_word (j.shards + 1) (omega arith) in
+      let stamp : get_or (set s.words (turn_word k) new) (stamp_word j.shards) 0
+      ≡ get_or s.words (stamp_word j.shards) 0 = other_word (j.shards + 2) (omega arith) in
       let raises : weigh raised (set s.views id w) ≡ weigh raised s.views = same_weight s.views id v w t.me raised (ap as_number g.halts) in
       record {
         consistent = r.consistent;
@@ -77,7 +81,9 @@ module _ (j : TableJob) (s : Table) (id : ℕ) (v w : PassRecord) (k new : ℕ) 
         turns = turns_after s.words s.homes s.views id v w k new slot t r.turns;
         held = held_after s.words s.homes s.views id v w k new slot t (Share j R) (Share j R') g.others g.held r.held;
         quieted = record {
-          calm = each_set (λ (u : PassRecord). u.quiet ≡ true → IsCalm j.matched R) (λ (u : PassRecord). u.quiet ≡ true → IsCalm j.matched R') s.views id w (λ i u ne e q is. g.calms (q is)) g.sees r.quieted.calm;
+          calm = each_set (λ (u : PassRecord). u.quiet ≡ true → IsCalm j.matched R)
+              (λ (u : PassRecord). u.quiet ≡ true → IsCalm j.matched R') s.views id w (λ i u ne e q is. g.calms (q is))
+              g.sees r.quieted.calm;
           low = λ z. omega (arith, halt, raises, r.quieted.low);
           high = λ z. omega (arith, halt, raises, r.quieted.high);
         };
@@ -85,7 +91,8 @@ module _ (j : TableJob) (s : Table) (id : ℕ) (v w : PassRecord) (k new : ℕ) 
             (subst (λ a. AreLive j.matched R' (get_or s.words (live_word j.shards) 0) a (set s.views id w)) (sym stamp) g.live);
         reserved = λ pre. let old = r.reserved pre in record {
           halt = halt ∙ old.halt;
-          in_slots = in_slots_after s.words s.homes s.views id v w k new slot t (Reserve j R) (Reserve j R') (g.spare_others pre) (g.spare_in_slots pre) old.in_slots;
+          in_slots = in_slots_after s.words s.homes s.views id v w k new slot t (Reserve j R) (Reserve j R')
+              (g.spare_others pre) (g.spare_in_slots pre) old.in_slots;
           held = held_after s.words s.homes s.views id v w k new slot t (Reserve j R) (Reserve j R') (g.spare_others pre) (g.spare_held pre) old.held;
         };
       }
@@ -113,8 +120,11 @@ module _ (j : TableJob) (s : Table) (id : ℕ) (v w : PassRecord) (k : ℕ) (y�
   given_back g =
       let near = near_held s.words s.homes s.views id v w k y₀ y more me r.turns turn in
       let stays : (x : ℕ) (z : Content) → IsIn (x, z) w.turns → IsIn (x, z) more = λ x z h. subst (IsIn (x, z)) left h in
-      let apart : (x : ℕ) (z : Content) → IsIn (x, z) w.turns → x ≢ k = λ x z h. stay_else s.words s.homes s.views id v w k y₀ y more me r.turns turn x z (stays x z h) in
-      let kept : (x : ℕ) (z : Content) → IsIn (x, z) w.turns → IsIn (x, z) v.turns = λ x z h. stay_held s.words s.homes s.views id v w k y₀ y more me r.turns turn x z (stays x z h) in
+      let apart : (x : ℕ) (z : Content) → IsIn (x, z) w.turns
+      → x ≢ k = λ x z h. stay_else s.words s.homes s.views id v w k y₀ y more me r.turns turn x z (stays x z h) in
+      let kept : (x : ℕ) (z : Content) → IsIn (x, z) w.turns
+      → IsIn (x, z) v.turns = λ x z h. stay_held s.words s.homes s.views id v w k y₀ y more me r.turns turn x z
+      (stays x z h) in
       turned j s id v w k 0 (some y) R R' r (giving s.words s.homes s.views id v w k y₀ y more me r.turns turn (omega (arith, r.words, r.slots)) left) (record {
         records = g.records;
         sound = g.sound;
@@ -146,7 +156,9 @@ pub record Besides (j : TableJob) (s : Table) (words : List ℕ) (vs : List Pass
   pub live : AreLive j.matched R (get_or words (live_word j.shards) 0) (get_or words (stamp_word j.shards) 0) vs
   pub halt : j.preloaded ≡ true → get_or words (halt_word j.shards) 0 ≡ 0
 
-pub beside : (j : TableJob) (s : Table) (words : List ℕ) (vs : List PassRecord) (R : Moment) → Parts j s R → ((Q : ℕ → Content → Type 0) → AreHeld Q s.views → AreHeld Q vs) → Besides j s words vs R → Parts j (board words s.homes vs) R
+pub beside : (j : TableJob) (s : Table) (words : List ℕ) (vs : List PassRecord) (R : Moment) → Parts j s R
+    → ((Q : ℕ → Content → Type 0) → AreHeld Q s.views → AreHeld Q vs) → Besides j s words vs R
+    → Parts j (board words s.homes vs) R
 beside j s words vs R r keeps b =
     let near : (k : ℕ) → k < length s.homes → k < j.shards = λ k l. omega (arith, r.slots) in
     record {
@@ -193,9 +205,11 @@ pub record Aside (j : TableJob) (s : Table) (id : ℕ) (v w : PassRecord) (words
   pub live : AreLive j.matched R (get_or words (live_word j.shards) 0) (get_or words (stamp_word j.shards) 0) (set s.views id w)
   pub halt : j.preloaded ≡ true → get_or words (halt_word j.shards) 0 ≡ 0
 
-pub aside : (j : TableJob) (s : Table) (id : ℕ) (v w : PassRecord) (words : List ℕ) (R : Moment) → Parts j s R → Aside j s id v w words R → Parts j (board words s.homes (set s.views id w)) R
+pub aside : (j : TableJob) (s : Table) (id : ℕ) (v w : PassRecord) (words : List ℕ) (R : Moment) → Parts j s R
+    → Aside j s id v w words R → Parts j (board words s.homes (set s.views id w)) R
 aside j s id v w words R r a = beside j s words (set s.views id w) R r
-    (λ Q old. each_kept (λ (u : PassRecord). (k : ℕ) (y : Content) → IsIn (k, y) u.turns → Q k y) s.views id w (λ k y h. old id v a.me k y (subst (IsIn (k, y)) a.turns h)) old)
+    (λ Q old. each_kept (λ (u : PassRecord). (k : ℕ) (y : Content) → IsIn (k, y) u.turns → Q k y) s.views id w
+    (λ k y h. old id v a.me k y (subst (IsIn (k, y)) a.turns h)) old)
     (record {
       long = a.long;
       turn_words = a.turn_words;

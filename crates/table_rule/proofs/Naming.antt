@@ -1,5 +1,7 @@
 -- Names of passes: one that is split off is new, and a pass that has all of them is the only one that has any.
-use Rattle.std.proofs.Common.{◌≡◌, ℕ, zero, suc, ◌+◌, ◌<◌, ◌≤◌, ◌≢◌, ◌⊎◌, Bool, true, false, ◌&&◌, List, [], ◌∷◌, ◌++◌, length, sym, refl, ap, ◌∙◌, subst, inl, inr, ⊎_elim, arith, eqb, eq-eqb, ne_eqb, lt-ltb, le-ltb, nat_lt, nat_eq}
+use Rattle.std.proofs.Common.{◌≡◌, ℕ, zero, suc, ◌+◌, ◌<◌, ◌≤◌, ◌≢◌, ◌⊎◌, Bool, true, false, ◌&&◌, List, [], ◌∷◌, ◌++◌}
+use Rattle.std.proofs.Common.{length, sym, refl, ap, ◌∙◌, subst, inl, inr, ⊎_elim, arith, eqb, eq-eqb, ne_eqb, lt-ltb}
+use Rattle.std.proofs.Common.{le-ltb, nat_lt, nat_eq}
 use mathlib.Core.Logic.{dite}
 use mathlib.Core.Option.{some, some-injective}
 use native.Mathlib.Decide.{ℕ_discrete, dec_le}
@@ -45,7 +47,8 @@ above-here : (p : List ℕ) (k : ℕ) (x : Name) → x.0 ≡ p → k < x.1 → a
 above-here p k x e l = ap (λ (b : Bool). as_number (b && nat_lt k x.1)) (equal_bytes x.0 p e) ∙ ap as_number (lt-ltb k x.1 l)
 
 pub above-past : (p : List ℕ) (k : ℕ) (x : Name) → x.1 ≤ k → above p k x ≡ 0
-above-past p k x l = ⊎_elim (λ t. ap (λ (b : Bool). as_number (b && nat_lt k x.1)) t.1 ∙ ap as_number (le-ltb k x.1 l)) (λ t. ap (λ (b : Bool). as_number (b && nat_lt k x.1)) t.1) (tested x.0 p)
+above-past p k x l = ⊎_elim (λ t. ap (λ (b : Bool). as_number (b && nat_lt k x.1)) t.1 ∙ ap as_number (le-ltb k x.1 l))
+    (λ t. ap (λ (b : Bool). as_number (b && nat_lt k x.1)) t.1) (tested x.0 p)
 
 above-else : (p : List ℕ) (k : ℕ) (x : Name) → x.0 ≢ p → above p k x ≡ 0
 above-else p k x n = ⊎_elim (λ t. absurd (n t.0)) (λ t. ap (λ (b : Bool). as_number (b && nat_lt k x.1)) t.1) (tested x.0 p)
@@ -55,13 +58,20 @@ above_le p k x = ⊎_elim (λ t. omega (arith, named-here p x t.0, one_at_most (
 
 above_more : (p : List ℕ) (k : ℕ) (q : List ℕ) (n : ℕ) → above p k (q, n) ≤ above p k (q, n + 1)
 above_more p k q n = dite (dec_le n k) (λ l. omega (arith, above-past p k (q, n) l))
-    (λ l. ⊎_elim (λ t. omega (arith, above-here p k (q, n) t.0 (omega arith), above-here p k (q, n + 1) t.0 (omega arith))) (λ t. omega (arith, above-else p k (q, n) t.0)) (tested q p))
+    (λ l. ⊎_elim (λ t. omega (
+      arith,
+      above-here p k (q, n) t.0 (omega arith),
+      above-here p k (q, n + 1) t.0
+          (omega arith),
+    )) (λ t. omega (arith, above-else p k (q, n) t.0)) (tested q p))
 
 exact_le : (x y : Name) → exact x y ≤ named x.0 y
-exact_le x y = ⊎_elim (λ t. omega (arith, named-here x.0 y t.0, one_at_most (pointwise nat_eq y.0 x.0 && eqb y.1 x.1))) (λ t. omega (arith, ap (λ (b : Bool). as_number (b && eqb y.1 x.1)) t.1)) (tested y.0 x.0)
+exact_le x y = ⊎_elim (λ t. omega (arith, named-here x.0 y t.0, one_at_most (pointwise nat_eq y.0 x.0 && eqb y.1 x.1)))
+    (λ t. omega (arith, ap (λ (b : Bool). as_number (b && eqb y.1 x.1)) t.1)) (tested y.0 x.0)
 
 exact-else : (x y : Name) → y.1 ≢ x.1 → exact x y ≡ 0
-exact-else x y ne = ⊎_elim (λ t. ap (λ (b : Bool). as_number (b && eqb y.1 x.1)) t.1 ∙ ap as_number (ne_eqb y.1 x.1 ne)) (λ t. ap (λ (b : Bool). as_number (b && eqb y.1 x.1)) t.1) (tested y.0 x.0)
+exact-else x y ne = ⊎_elim (λ t. ap (λ (b : Bool). as_number (b && eqb y.1 x.1)) t.1 ∙ ap as_number (ne_eqb y.1 x.1 ne))
+    (λ t. ap (λ (b : Bool). as_number (b && eqb y.1 x.1)) t.1) (tested y.0 x.0)
 
 exact-here : (x : Name) → exact x x ≡ 1
 exact-here x = ap (λ (b : Bool). as_number (b && eqb x.1 x.1)) (equal_bytes x.0 x.0 refl) ∙ ap as_number (eq-eqb x.1 x.1 refl)
@@ -75,7 +85,8 @@ module _ (vs : List PassRecord) where
   names_le f g h = weigh-le (λ (v : PassRecord). weigh f v.names) (λ (v : PassRecord). weigh g v.names) vs (λ v i. weigh-le f g v.names (λ x j. h x))
 
   names_plus : (f g : Name → ℕ) → names_of vs (λ x. f x + g x) ≡ names_of vs f + names_of vs g
-  names_plus f g = weigh-same (λ (v : PassRecord). weigh (λ x. f x + g x) v.names) (λ (v : PassRecord). weigh f v.names + weigh g v.names) vs (λ v. weigh-plus f g v.names)
+  names_plus f g = weigh-same (λ (v : PassRecord). weigh (λ x. f x + g x) v.names)
+      (λ (v : PassRecord). weigh f v.names + weigh g v.names) vs (λ v. weigh-plus f g v.names)
       ∙ weigh-plus (λ (v : PassRecord). weigh f v.names) (λ (v : PassRecord). weigh g v.names) vs
 
 -- under the name (p, n) of a pass nothing was split off yet as its n-th
@@ -95,12 +106,20 @@ split_names vs vs' p n r has moved =
     let none = fresh_name vs p n r has in
     record {
       once = λ q. let same : named q (p, n) ≡ named q (p, n + 1) = refl in ⊎_elim
-          (λ (t : (p ++ n ∷ [] ≡ q) × _). omega (arith, moved (named q), subst (λ (x : List ℕ). names_of vs (named x) ≡ 0) t.0 none, one_at_most (pointwise nat_eq (p ++ n ∷ []) q)))
+          (λ (t : (p ++ n ∷ [] ≡ q) × _). omega (
+            arith,
+            moved (named q),
+            subst
+                (λ (x : List ℕ). names_of vs (named x) ≡ 0) t.0 none,
+            one_at_most (pointwise nat_eq (p ++ n ∷ []) q),
+          ))
           (λ t. omega (arith, moved (named q), r.once q, ap as_number t.1))
           (tested (p ++ n ∷ []) q);
       parent = λ q k h. let m = moved (above q k) in let more = above_more q k p n in
           dite (ℕ_discrete (names_of vs (named (q ++ k ∷ []))) 0)
-          (λ z. let new : 0 < named (q ++ k ∷ []) (p ++ n ∷ [], 0) = (let same : named (q ++ k ∷ []) (p, n) ≡ named (q ++ k ∷ []) (p, n + 1) = refl in omega (arith, moved (named (q ++ k ∷ [])))) in
+          (λ z. let new : 0 < named (q ++ k ∷ []) (p ++ n ∷ [], 0) =
+          (let same : named (q ++ k ∷ []) (p, n) ≡ named (q ++ k ∷ []) (p, n + 1) = refl in omega
+          (arith, moved (named (q ++ k ∷ [])))) in
           let e = same_from_push p q n k (named-at (q ++ k ∷ []) (p ++ n ∷ [], 0) new) in
           omega (arith, above-here q k (p, n + 1) e.0 (omega (arith, e.1)), above-past q k (p, n) (omega (arith, e.1))))
           (λ nz. omega (arith, r.parent q k (omega arith)));
@@ -122,8 +141,10 @@ snoc_view : (p : List ℕ) → (p ≡ []) ⊎ ((q : List ℕ) × (k : ℕ) × (p
 snoc_view [] = inl refl
 snoc_view (x ∷ xs) = inr (⊎_elim (λ (e : xs ≡ []). ([], x, (λ i. x ∷ e i), omega arith)) (λ t. (x ∷ t.0, t.1, (λ i. x ∷ t.2 i), omega arith)) (snoc_view xs))
 
-two_names : (vs : List PassRecord) (p : List ℕ) (i j : ℕ) (u v : PassRecord) → AreNames vs → get_elem? vs i ≡ some u → get_elem? vs j ≡ some v → 0 < weigh (named p) u.names → 0 < weigh (named p) v.names → i ≡ j
-two_names vs p i j u v r e d a b = dite (ℕ_discrete i j) (λ h. h) (λ ne. absurd (omega (arith, r.once p, terms_le (λ (w : PassRecord). weigh (named p) w.names) vs j i v u ne d e)))
+two_names : (vs : List PassRecord) (p : List ℕ) (i j : ℕ) (u v : PassRecord) → AreNames vs → get_elem? vs i ≡ some u
+    → get_elem? vs j ≡ some v → 0 < weigh (named p) u.names → 0 < weigh (named p) v.names → i ≡ j
+two_names vs p i j u v r e d a b = dite (ℕ_discrete i j) (λ h. h)
+    (λ ne. absurd (omega (arith, r.once p, terms_le (λ (w : PassRecord). weigh (named p) w.names) vs j i v u ne d e)))
 
 -- if v has all names, each name of a pass is one of v's
 module _ (vs : List PassRecord) (id : ℕ) (v : PassRecord) (r : AreNames vs) (me : get_elem? vs id ≡ some v) (all : AreAll (v ∷ [])) where
@@ -147,7 +168,8 @@ module _ (vs : List PassRecord) (id : ℕ) (v : PassRecord) (r : AreNames vs) (m
   no_names : (i : ℕ) (u : PassRecord) (l : List Name) → i ≢ id → get_elem? vs i ≡ some u → u.names ≡ l → l ≡ []
   no_names i u [] ne e is_l = refl
   no_names i u (x ∷ xs) ne e is_l =
-      let has : 0 < weigh (named x.0) u.names = (let a : weigh (named x.0) u.names ≡ named x.0 x + weigh (named x.0) xs = ap (weigh (named x.0)) is_l in omega (arith, named-here x.0 x refl)) in
+      let has : 0 < weigh (named x.0) u.names = (let a : weigh (named x.0) u.names
+      ≡ named x.0 x + weigh (named x.0) xs = ap (weigh (named x.0)) is_l in omega (arith, named-here x.0 x refl)) in
       let total = term_le (λ (w : PassRecord). weigh (named x.0) w.names) vs i u e in
       absurd (ne (two_names vs x.0 i id u v r e me has (known (suc (length x.0)) x.0 (omega arith) (omega arith))))
 
@@ -160,7 +182,8 @@ named_not_empty [] h e = absurd (omega arith)
 named_not_empty (x ∷ xs) h e = cc
 
 -- all passes, after one was split off under (p, n)
-pub all_split : (vs vs' : List PassRecord) (p : List ℕ) (n : ℕ) → AreAll vs → ((f : Name → ℕ) → names_of vs' f + f (p, n) ≡ names_of vs f + f (p, n + 1) + f (p ++ n ∷ [], 0)) → AreAll vs'
+pub all_split : (vs vs' : List PassRecord) (p : List ℕ) (n : ℕ) → AreAll vs
+    → ((f : Name → ℕ) → names_of vs' f + f (p, n) ≡ names_of vs f + f (p, n + 1) + f (p ++ n ∷ [], 0)) → AreAll vs'
 all_split vs vs' p n all moved = record {
   first = let same : named [] (p, n) ≡ named [] (p, n + 1) = refl in omega (arith, moved (named []), all.first);
   split = λ q k h.
@@ -168,7 +191,12 @@ all_split vs vs' p n all moved = record {
       let here = moved (named (q ++ k ∷ [])) in
       dite (ℕ_discrete (names_of vs (above q k)) 0)
       (λ z. let new : 0 < above q k (p, n + 1) = omega (arith, moved (above q k), above-past q k (p ++ n ∷ [], 0) (omega arith)) in
-      let old : above q k (p, n) ≡ 0 = omega (arith, moved (above q k), above-past q k (p ++ n ∷ [], 0) (omega arith), one_at_most (has_split q k (p, n + 1))) in
+      let old : above q k (p, n) ≡ 0 = omega (
+        arith,
+        moved (above q k),
+        above-past q k (p ++ n ∷ [], 0) (omega arith),
+        one_at_most (has_split q k (p, n + 1)),
+      ) in
       let is_q : p ≡ q = named-at q (p, n + 1) (omega (arith, above_le q k (p, n + 1))) in
       let at_k : k ≡ n = which q k is_q new old in
       omega (arith, here, named-here (q ++ k ∷ []) (p ++ n ∷ [], 0) (λ i. is_q i ++ sym at_k i ∷ [])))

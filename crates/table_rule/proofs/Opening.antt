@@ -38,7 +38,8 @@ some_shard (y ∷ ys) (suc k) l = some_shard ys k (omega arith)
 pub opens : (j : TableJob) (words : List ℕ) (shards : List Content) → IsOpening j words shards → Rule j (opening words shards first_pass)
 opens j words shards o =
     let long : length (map some shards) ≡ j.shards = length-map shards some ∙ o.shard_count in
-    let free : (k : ℕ) → k < length (map some shards) → get_or words (turn_word k) 0 ≡ 0 = λ k l. o.opening_words.zero (turn_word k) (λ e. omega (arith, long)) in
+    let free : (k : ℕ) → k < length (map some shards) → get_or words (turn_word k) 0
+    ≡ 0 = λ k l. o.opening_words.zero (turn_word k) (λ e. omega (arith, long)) in
     let near : (k : ℕ) → k < length (map some shards) → k < length shards = λ k l. omega (arith, length-map shards some) in (
       opening_moment,
       record {
@@ -58,7 +59,8 @@ opens j words shards o =
         };
         handed = single (WasHandedInputs j) first_pass (handed_none j.matched j.given);
         finished = opening_finished j.matched j.given;
-        in_slots = λ k l z. let y = some_shard shards k (near k l) in (y.0, y.2, opening_share j.matched (shard_of j.matched j.shards) k y.0 (o.each k y.0 y.1) j.given);
+        in_slots = λ k l z. let y = some_shard shards k (near k l) in
+            (y.0, y.2, opening_share j.matched (shard_of j.matched j.shards) k y.0 (o.each k y.0 y.1) j.given);
         turns = record {
           counted = λ k l. omega (arith, free k l);
           single = λ k l. omega (arith, free k l);
@@ -86,7 +88,12 @@ opens j words shards o =
         };
         reserved = λ pre. record {
           halt = o.opening_words.zero (halt_word j.shards) (λ e. omega arith);
-          in_slots = λ k l z. let y = some_shard shards k (near k l) in (y.0, y.2, opening_reserve j.matched (shard_of j.matched j.shards) k y.0 (o.each k y.0 y.1) (o.spares pre k y.0 y.1));
+          in_slots = λ k l z. let y = some_shard shards k (near k l) in (
+            y.0,
+            y.2,
+            opening_reserve j.matched (shard_of j.matched j.shards) k y.0 (o.each k y.0 y.1)
+                (o.spares pre k y.0 y.1),
+          );
           held = single (λ (u : PassRecord). (k : ℕ) (y : Content) → IsIn (k, y) u.turns → _) first_pass (λ k y h. absurd h);
         };
       },

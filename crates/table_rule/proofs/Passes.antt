@@ -15,8 +15,10 @@ use Rattle.work_board.specs.declared.record.PassRecord.{PassRecord}
 use Rattle.table_rule.specs.Records.{AreRecordsOf, Each}
 use Rattle.table_rule.proofs.Weighing.{weigh-set}
 
-pub each_set : (P Q : PassRecord → Type 0) (vs : List PassRecord) (id : ℕ) (w : PassRecord) → ((i : ℕ) (v : PassRecord) → i ≢ id → get_elem? vs i ≡ some v → P v → Q v) → Q w → Each P vs → Each Q (set vs id w)
-each_set P Q vs id w other here all i u e = ⊎_elim (λ (t : (i ≡ id) × (w ≡ u)). subst Q t.1 here) (λ (t : (i ≢ id) × (get_elem? vs i ≡ some u)). other i u t.0 t.1 (all i u t.1)) (at_set vs id i w u e)
+pub each_set : (P Q : PassRecord → Type 0) (vs : List PassRecord) (id : ℕ) (w : PassRecord)
+    → ((i : ℕ) (v : PassRecord) → i ≢ id → get_elem? vs i ≡ some v → P v → Q v) → Q w → Each P vs → Each Q (set vs id w)
+each_set P Q vs id w other here all i u e = ⊎_elim (λ (t : (i ≡ id) × (w ≡ u)). subst Q t.1 here)
+    (λ (t : (i ≢ id) × (get_elem? vs i ≡ some u)). other i u t.0 t.1 (all i u t.1)) (at_set vs id i w u e)
 
 -- if the new record has the property, each pass still has it
 pub each_kept : (Q : PassRecord → Type 0) (vs : List PassRecord) (id : ℕ) (w : PassRecord) → Q w → Each Q vs → Each Q (set vs id w)
@@ -37,16 +39,44 @@ module _ (vs : List PassRecord) (id : ℕ) (v w : PassRecord) (me : get_elem? vs
     running = λ f. r.running f ∙ sym (same_weight (λ (u : PassRecord). weigh f u.running) (ap (weigh f) running));
   }
 
-  pub claim_records : (R : Moment) (t : Task) → w.claims ≡ v.claims ++ t ∷ [] → w.sends ≡ v.sends → w.running ≡ v.running ++ t ∷ [] → AreRecordsOf R vs → AreRecordsOf (with_claim R t) (set vs id w)
+  pub claim_records : (R : Moment) (t : Task) → w.claims ≡ v.claims ++ t ∷ [] → w.sends ≡ v.sends
+      → w.running ≡ v.running ++ t ∷ [] → AreRecordsOf R vs → AreRecordsOf (with_claim R t) (set vs id w)
   claim_records R t claims sends running r = record {
-    claims = λ f. omega (arith, r.claims f, weigh-set (λ (u : PassRecord). weigh f u.claims) vs id v w me, ap (weigh f) claims, weigh-push f v.claims t, weigh-push f R.state.claims t);
+    claims = λ f. omega (
+      arith,
+      r.claims f,
+      weigh-set (λ (u : PassRecord). weigh f u.claims) vs id v w me,
+      ap (weigh f)
+          claims,
+      weigh-push f v.claims t,
+      weigh-push f R.state.claims t,
+    );
     sends = λ f. r.sends f ∙ sym (same_weight (λ (u : PassRecord). weigh f u.sends) (ap (weigh f) sends));
-    running = λ f. omega (arith, r.running f, weigh-set (λ (u : PassRecord). weigh f u.running) vs id v w me, ap (weigh f) running, weigh-push f v.running t, weigh-push f R.running t);
+    running = λ f. omega (
+      arith,
+      r.running f,
+      weigh-set (λ (u : PassRecord). weigh f u.running) vs id v w me,
+      ap
+          (weigh f) running,
+      weigh-push f v.running t,
+      weigh-push f R.running t,
+    );
   }
 
-  pub send_records : (P : Plan) (G : Data) (R : Moment) (i : Item) (x : SentItem) → x ≡ sent_with P G R.state i → w.claims ≡ v.claims → w.sends ≡ v.sends ++ x ∷ [] → w.running ≡ v.running → AreRecordsOf R vs → AreRecordsOf (with_send P G R i) (set vs id w)
+  pub send_records : (P : Plan) (G : Data) (R : Moment) (i : Item) (x : SentItem) → x ≡ sent_with P G R.state i
+      → w.claims ≡ v.claims → w.sends ≡ v.sends ++ x ∷ [] → w.running ≡ v.running → AreRecordsOf R vs
+      → AreRecordsOf (with_send P G R i) (set vs id w)
   send_records P G R i x is claims sends running r = record {
     claims = λ f. r.claims f ∙ sym (same_weight (λ (u : PassRecord). weigh f u.claims) (ap (weigh f) claims));
-    sends = λ f. omega (arith, r.sends f, weigh-set (λ (u : PassRecord). weigh f u.sends) vs id v w me, ap (weigh f) sends, weigh-push f v.sends x, weigh-push f R.state.sends (sent_with P G R.state i), ap f is);
+    sends = λ f. omega (
+      arith,
+      r.sends f,
+      weigh-set (λ (u : PassRecord). weigh f u.sends) vs id v w me,
+      ap (weigh f)
+          sends,
+      weigh-push f v.sends x,
+      weigh-push f R.state.sends (sent_with P G R.state i),
+      ap f is,
+    );
     running = λ f. r.running f ∙ sym (same_weight (λ (u : PassRecord). weigh f u.running) (ap (weigh f) running));
   }

@@ -29,7 +29,13 @@ use Rattle.table_rule.proofs.Weighing.{weigh-same}
 
 -- as many tasks are ready
 ready_same : (P : Plan) (S T : MachineState) → IsReordered S T → length (ready_tasks P T) ≡ length (ready_tasks P S)
-ready_same P S T same = omega (arith, ready_count P T, ready_count P S, weigh-same (λ t. as_number (is_ready P T t)) (λ t. as_number (is_ready P S t)) (all_tasks P) (λ t. ap as_number (still t)))
+ready_same P S T same = omega (
+  arith,
+  ready_count P T,
+  ready_count P S,
+  weigh-same (λ t. as_number (is_ready P T t))
+      (λ t. as_number (is_ready P S t)) (all_tasks P) (λ t. ap as_number (still t)),
+)
   where
     sent : (e : Edge) → is_sent T (item.Edge e) ≡ is_sent S (item.Edge e)
     sent e = ap (nat_lt 0) (sym (same.sends (λ (x : SentItem). as_number (same_item (item.Edge e) x.item))))
@@ -52,15 +58,18 @@ module _ (j : TableJob) (s : Table) (R T : Moment) (r : Parts j s R) (same : IsR
       differ = l.drawn.differ;
       below = l.drawn.below;
       above_sources = l.drawn.above_sources;
-      senders = λ x i. l.drawn.senders x (same_in same_sent_item same_sent_item-decides T.state.sends R.state.sends (HasSameMembers-sym R.state.sends T.state.sends same.state.sends) x i);
+      senders = λ x i. l.drawn.senders x (same_in same_sent_item same_sent_item-decides T.state.sends R.state.sends
+          (HasSameMembers-sym R.state.sends T.state.sends same.state.sends) x i);
     };
   }
 
   pub reordered_parts : Parts j s T
   reordered_parts =
       let sound = sound_moment j s R r in
-      let share : (k : ℕ) (y : Content) → Share j R k y → Share j T k y = λ k y h. reordered_share j.matched R T same j.given sound r.consistent (shard_of j.matched j.shards) k y h in
-      let spare : (k : ℕ) (y : Content) → Reserve j R k y → Reserve j T k y = λ k y h. reordered_reserve j.matched R T same (shard_of j.matched j.shards) k y h in
+      let share : (k : ℕ) (y : Content) → Share j R k y → Share j T k y = λ k y h. reordered_share j.matched R T same
+      j.given sound r.consistent (shard_of j.matched j.shards) k y h in
+      let spare : (k : ℕ) (y : Content) → Reserve j R k y → Reserve j T k y = λ k y h. reordered_reserve j.matched R T
+      same (shard_of j.matched j.shards) k y h in
       record {
         consistent = r.consistent;
         some_shards = r.some_shards;
@@ -79,7 +88,12 @@ module _ (j : TableJob) (s : Table) (R T : Moment) (r : Parts j s R) (same : IsR
         in_slots = λ k l z. let h = r.in_slots k l z in (h.0, h.1, share k h.0 h.2);
         turns = r.turns;
         held = λ i v e k y h. share k y (r.held i v e k y h);
-        quieted = record { calm = λ i v e q. reordered_calm j.matched R T same j.given sound r.consistent (r.quieted.calm i v e q); low = r.quieted.low; high = r.quieted.high };
+        quieted = record {
+          calm = λ i v e q. reordered_calm j.matched R T same j.given sound r.consistent
+              (r.quieted.calm i v e q);
+          low = r.quieted.low;
+          high = r.quieted.high;
+        };
         live = live_same _ _ r.live;
         reserved = λ pre. let old = r.reserved pre in record {
           halt = old.halt;

@@ -43,7 +43,8 @@ module _ (j : TableJob) (k : ℕ) (v : PassRecord) (y : Content) (w : WasSeen j 
   seen_share = let r = seen_parts in same_shard (Share j (joined w.table.views) k) (r.in_slots k (near_home w.table.homes k (some y) w.home) free)
 
   pub seen_reserve : j.preloaded ≡ true → Reserve j (joined w.table.views) k y
-  seen_reserve pre = let r = seen_parts in same_shard (Reserve j (joined w.table.views) k) ((r.reserved pre).in_slots k (near_home w.table.homes k (some y) w.home) free)
+  seen_reserve pre = let r = seen_parts in same_shard (Reserve j (joined w.table.views) k)
+      ((r.reserved pre).in_slots k (near_home w.table.homes k (some y) w.home) free)
 
   -- the task that the pass runs is among the running tasks of the moment
   pub seen_runs : (t : Task) → v.running ≡ t ∷ [] → 0 < run_count (joined w.table.views) t

@@ -1,5 +1,6 @@
 -- Weights of lists that change in one place, and lists that weigh no more than others.
-use Rattle.std.proofs.Common.{◌≡◌, ℕ, zero, suc, ◌+◌, ◌<◌, ◌≤◌, ◌≢◌, Bool, true, List, [], ◌∷◌, set, length, sym, refl, ap, subst, inl, inr, arith, eqb, eq-eqb, ne_eqb}
+use Rattle.std.proofs.Common.{◌≡◌, ℕ, zero, suc, ◌+◌, ◌<◌, ◌≤◌, ◌≢◌, Bool, true, List, [], ◌∷◌, set, length, sym, refl}
+use Rattle.std.proofs.Common.{ap, subst, inl, inr, arith, eqb, eq-eqb, ne_eqb}
 use mathlib.Core.Option.{some, some-injective, some-ne-none}
 use mathlib.Core.Logic.{dite}
 use native.Mathlib.Decide.{ℕ_discrete}
@@ -99,7 +100,14 @@ below-zero (suc n) = omega (arith, below-zero n)
 
 by_number : (n : ℕ) (l : List ℕ) → ((x : ℕ) → IsIn x l → x < n) → length l ≡ below (λ k. count (λ x. eqb x k) l) n
 by_number n [] h = sym (below-zero n)
-by_number n (x ∷ xs) h = omega (arith, by_number n xs (λ y i. h y (inr i)), below-is n x (h x (inl refl)), below-plus (λ k. as_number (eqb x k)) (λ k. count (λ y. eqb y k) xs) (λ k. as_number (eqb x k) + count (λ y. eqb y k) xs) n (λ k. refl))
+by_number n (x ∷ xs) h = omega (
+  arith,
+  by_number n xs (λ y i. h y (inr i)),
+  below-is n x (h x (inl refl)),
+  below-plus
+      (λ k. as_number (eqb x k)) (λ k. count (λ y. eqb y k) xs) (λ k. as_number (eqb x k) + count (λ y. eqb y k) xs) n
+      (λ k. refl),
+)
 
 -- a list of numbers below n without repeats has at most n members
 pub few_numbers : (n : ℕ) (l : List ℕ) → ((x : ℕ) → IsIn x l → x < n) → ((k : ℕ) → k < n → count (λ x. eqb x k) l ≤ 1) → length l ≤ n

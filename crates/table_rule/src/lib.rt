@@ -21,6 +21,7 @@ pub use events::{
     a_turn_is_given_back_with_a_claim, a_turn_is_given_back_with_a_send,
     a_turn_is_given_back_with_an_end,
 };
+pub use law::Event;
 pub use pass_seat::PassSeat;
 pub use rules::{
     a_pass_with_all_names_is_alone, all_passes_stay_all, each_task_has_a_shard,

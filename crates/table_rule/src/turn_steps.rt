@@ -17,30 +17,12 @@ use crate::table_words::TableWords;
 use crate::words::turn_index;
 use dep_shard::Arrivals;
 use ptg_base::{Item, TaskId, Tile};
-use std::marker::Brand;
 
 impl TableWords {
-    // The step itself, about the event E.
-    fn take_of<E: Event>(&self, seat: &mut PassSeat, shard: u32) -> u64
-        requires event { (E.job ≡ Some (words_job self.now)) × (E.shard ≡ shard) }
-        requires of { seat_table seat.old ≡ words_table self.now }
-        requires within { shard < (words_job self.now).shards }
-        requires named { HasName (seated seat.old).0 }
-        ensures of { seat_table seat.new ≡ seat_table seat.old }
-        ensures free { result ≡ 0
-            → (y : Content)
-            × (seated seat.new ≡ (with_turn (seated seat.old).0 shard y, (shard, y) ∷ (seated seat.old).1))
-            × WasSeen (words_job self.now) shard (seated seat.old).0 y }
-        ensures taken { result ≢ 0
-            → seated seat.new ≡ (with_look (seated seat.old).0 (word.Turn shard) result, (seated seat.old).1) }
-    {
-        let word = turn_index(shard);
-        self.table.shared.swap::<Take<E>>(&mut seat.seat, word, 1)
-    }
-
     /// Tries to take the turn of a shard that the pass does not hold, and returns what it found in the turn word: 0 if
     /// it took the turn. What it found becomes the pass's look.
-    pub fn take(&self, seat: &mut PassSeat, shard: u32) -> u64
+    pub fn take<E: Event>(&self, seat: &mut PassSeat, shard: u32) -> u64
+        requires event { (E.job ≡ Some (words_job self.now)) × (E.shard ≡ shard) }
         requires of { seat_table seat.old ≡ words_table self.now }
         requires within { shard < (words_job self.now).shards }
         requires named { HasName (seated seat.old).0 }
@@ -53,7 +35,8 @@ impl TableWords {
         ensures taken { result ≢ 0
             → seated seat.new ≡ (with_look (seated seat.old).0 (word.Turn shard) result, (seated seat.old).1) }
     {
-        self.take_of::<Brand>(seat, shard)
+        let word = turn_index(shard);
+        self.table.shared.swap::<Take<E>>(&mut seat.seat, word, 1)
     }
 
     /// Gives a turn back without an event.
@@ -68,8 +51,14 @@ impl TableWords {
         self.table.shared.store::<Leave>(&mut seat.seat, word, 0);
     }
 
-    // The step itself, about the event E.
-    fn give_claim_of<E: Event>(&self, seat: &mut PassSeat, shard: u32, t: &TaskId, tiles: &Arrivals)
+    /// Gives a turn back with a claim.
+    pub fn give_claim<E: Event>(
+        &self,
+        seat: &mut PassSeat,
+        shard: u32,
+        t: &TaskId,
+        tiles: &Arrivals,
+    )
         requires event { (E.job ≡ Some (words_job self.now)) × (E.task ≡ t.now) × (E.tiles ≡ tiles.now) }
         requires of { seat_table seat.old ≡ words_table self.now }
         requires within { shard < (words_job self.now).shards }
@@ -86,22 +75,8 @@ impl TableWords {
         self.table.shared.store::<Claim<E>>(&mut seat.seat, word, 0);
     }
 
-    /// Gives a turn back with a claim.
-    pub fn give_claim(&self, seat: &mut PassSeat, shard: u32, t: &TaskId, tiles: &Arrivals)
-        requires of { seat_table seat.old ≡ words_table self.now }
-        requires within { shard < (words_job self.now).shards }
-        requires claims { MayGiveClaim shard t.now tiles.now (seated seat.old) }
-        ensures of { seat_table seat.new ≡ seat_table seat.old }
-        ensures me { seated seat.new
-            ≡ (turn_left (with_own_claim (seated seat.old).0 t.now tiles.now), rest (seated seat.old).1) }
-        ensures starts { MayStart (words_job self.now).matched (words_job self.now).given t.now tiles.now
-            (seated seat.old).0 }
-    {
-        self.give_claim_of::<Brand>(seat, shard, t, tiles);
-    }
-
-    // The step itself, about the event E.
-    fn give_send_of<E: Event>(
+    /// Gives a turn back with a send, which spends a credit if the target fires.
+    pub fn give_send<E: Event>(
         &self,
         seat: &mut PassSeat,
         shard: u32,
@@ -120,18 +95,6 @@ impl TableWords {
         let _tile = tile;
         let word = turn_index(shard);
         self.table.shared.store::<Send<E>>(&mut seat.seat, word, 0);
-    }
-
-    /// Gives a turn back with a send, which spends a credit if the target fires.
-    pub fn give_send(&self, seat: &mut PassSeat, shard: u32, item: &Item, tile: Option<&Tile>)
-        requires of { seat_table seat.old ≡ words_table self.now }
-        requires within { shard < (words_job self.now).shards }
-        requires sends { MayGiveSend (words_job self.now) shard item.now (option_copied tile) (seated seat.old) }
-        ensures of { seat_table seat.new ≡ seat_table seat.old }
-        ensures me { seated seat.new
-            ≡ after_send record { item = item.now; tile = option_copied tile.entry } (seated seat.old) }
-    {
-        self.give_send_of::<Brand>(seat, shard, item, tile);
     }
 
     /// Gives a turn back with the end of the running task, which gives the pass a credit.

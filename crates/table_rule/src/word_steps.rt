@@ -12,7 +12,6 @@ use crate::pass_seat::PassSeat;
 use crate::table_words::TableWords;
 use crate::words::{halt_index, live_index, stamp_index};
 use ptg_base::TaskId;
-use std::marker::Brand;
 
 impl TableWords {
     /// Raises the halt word.
@@ -28,8 +27,8 @@ impl TableWords {
             .store::<RaiseHalt>(&mut seat.seat, word, 1);
     }
 
-    // The step itself, about the event E.
-    fn read_halt_of<E: Event>(&self, seat: &mut PassSeat) -> u64
+    /// Reads the halt word, which becomes the pass's look. It is 0 in a preloaded table.
+    pub fn read_halt<E: Event>(&self, seat: &mut PassSeat) -> u64
         requires event { E.job ≡ Some (words_job self.now) }
         requires of { seat_table seat.old ≡ words_table self.now }
         ensures of { seat_table seat.new ≡ seat_table seat.old }
@@ -40,33 +39,9 @@ impl TableWords {
         self.table.shared.load::<ReadHalt<E>>(&mut seat.seat, word)
     }
 
-    /// Reads the halt word, which becomes the pass's look. It is 0 in a preloaded table.
-    pub fn read_halt(&self, seat: &mut PassSeat) -> u64
-        requires of { seat_table seat.old ≡ words_table self.now }
-        ensures of { seat_table seat.new ≡ seat_table seat.old }
-        ensures me { seated seat.new ≡ (with_look (seated seat.old).0 Halt result, (seated seat.old).1) }
-        ensures preloaded { (words_job self.now).preloaded ≡ true → result ≡ 0 }
-    {
-        self.read_halt_of::<Brand>(seat)
-    }
-
-    // The step itself, about the event E.
-    fn read_live_of<E: Event>(&self, seat: &mut PassSeat) -> u64
-        requires event { E.job ≡ Some (words_job self.now) }
-        requires of { seat_table seat.old ≡ words_table self.now }
-        ensures of { seat_table seat.new ≡ seat_table seat.old }
-        ensures quiet { result ≡ 0
-            → (seated seat.new ≡ (with_quiet (with_look (seated seat.old).0 Live result), (seated seat.old).1))
-            × WasPass (words_job self.now) (with_quiet (with_look (seated seat.old).0 Live result)) }
-        ensures busy { result ≢ 0
-            → seated seat.new ≡ (with_look (seated seat.old).0 Live result, (seated seat.old).1) }
-    {
-        let word = live_index(self.shards);
-        self.table.shared.load::<ReadLive<E>>(&mut seat.seat, word)
-    }
-
     /// Reads the live word, which becomes the pass's look: 0 is quiet. Only a pass without a credit may read it.
-    pub fn read_live(&self, seat: &mut PassSeat) -> u64
+    pub fn read_live<E: Event>(&self, seat: &mut PassSeat) -> u64
+        requires event { E.job ≡ Some (words_job self.now) }
         requires of { seat_table seat.old ≡ words_table self.now }
         requires no_credit { (seated seat.old).0.credit ≡ 0 }
         ensures of { seat_table seat.new ≡ seat_table seat.old }
@@ -76,7 +51,8 @@ impl TableWords {
         ensures busy { result ≢ 0
             → seated seat.new ≡ (with_look (seated seat.old).0 Live result, (seated seat.old).1) }
     {
-        self.read_live_of::<Brand>(seat)
+        let word = live_index(self.shards);
+        self.table.shared.load::<ReadLive<E>>(&mut seat.seat, word)
     }
 
     /// Raises the live word by 1, which gives the pass a credit. Only a pass that holds more turns than credits may.
@@ -109,8 +85,8 @@ impl TableWords {
             .fetch_sub::<LowerLive>(&mut seat.seat, word, 1);
     }
 
-    // The step itself, about the event E.
-    fn draw_stamp_of<E: Event>(&self, seat: &mut PassSeat, t: &TaskId) -> u64
+    /// Draws a stamp for the running task, which has none yet, and returns it.
+    pub fn draw_stamp<E: Event>(&self, seat: &mut PassSeat, t: &TaskId) -> u64
         requires event { E.task ≡ t.now }
         requires of { seat_table seat.old ≡ words_table self.now }
         requires runs { (seated seat.old).0.running ≡ t.now ∷ [] }
@@ -124,17 +100,5 @@ impl TableWords {
         self.table
             .shared
             .fetch_add::<DrawStamp<E>>(&mut seat.seat, word, 1)
-    }
-
-    /// Draws a stamp for the running task, which has none yet, and returns it.
-    pub fn draw_stamp(&self, seat: &mut PassSeat, t: &TaskId) -> u64
-        requires of { seat_table seat.old ≡ words_table self.now }
-        requires runs { (seated seat.old).0.running ≡ t.now ∷ [] }
-        requires none_yet { own_stamps (seated seat.old).0 t.now ≡ 0 }
-        requires named { HasName (seated seat.old).0 }
-        ensures of { seat_table seat.new ≡ seat_table seat.old }
-        ensures me { seated seat.new ≡ (with_stamp (seated seat.old).0 t.now result, (seated seat.old).1) }
-    {
-        self.draw_stamp_of::<Brand>(seat, t)
     }
 }

@@ -17,15 +17,18 @@ abbrev KeepsNames : Type 0
 KeepsNames = (vs ws : List PassRecord) → map (λ (w : PassRecord). w.names) ws ≡ map (λ (v : PassRecord). v.names) vs → AreAll vs → AreAll ws
 
 -- the first pass alone
-pub all_of_one : KeepsNames → AreAll (first_pass ∷ []) → (T : TableId) (p : PassView) (ps : List PassView) → ps ≡ p ∷ [] → IsPassOf T p → (shown p).names ≡ first_pass.names → AreAllPasses T ps
+pub all_of_one : KeepsNames → AreAll (first_pass ∷ []) → (T : TableId) (p : PassView) (ps : List PassView) → ps ≡ p ∷ []
+    → IsPassOf T p → (shown p).names ≡ first_pass.names → AreAllPasses T ps
 all_of_one names one T p ps is of named = subst (AreAllPasses T) (sym is) (record {
   each = λ q i. elim i [ inl same ↦ subst (IsPassOf T) (sym same) of | inr never ↦ absurd never ];
   all = names (first_pass ∷ []) (shown p ∷ []) (ap (λ x. x ∷ []) named) one;
 })
 
 -- the first pass and the two that were split off it
-pub all_of_three : Splits → KeepsNames → AreAll (first_pass ∷ []) → (T : TableId) (mine second first : PassView) (ps : List PassView) → ps ≡ mine ∷ second ∷ first ∷ []
-    → IsPassOf T mine → IsPassOf T second → IsPassOf T first → (shown mine).names ≡ ([], 2) ∷ [] → (shown second).names ≡ split_as 1 → (shown first).names ≡ split_as 0 → AreAllPasses T ps
+pub all_of_three : Splits → KeepsNames → AreAll (first_pass ∷ [])
+    → (T : TableId) (mine second first : PassView) (ps : List PassView) → ps ≡ mine ∷ second ∷ first ∷ []
+    → IsPassOf T mine → IsPassOf T second → IsPassOf T first → (shown mine).names ≡ ([], 2) ∷ []
+    → (shown second).names ≡ split_as 1 → (shown first).names ≡ split_as 0 → AreAllPasses T ps
 all_of_three split names one T mine second first ps is m s f mn sn fn = subst (AreAllPasses T) (sym is) (record {
   each = λ q i. elim i [
     | inl same ↦ subst (IsPassOf T) (sym same) m
@@ -35,8 +38,11 @@ all_of_three split names one T mine second first ps is m s f mn sn fn = subst (A
     ]
   ];
   all =
-      names (after_split (after_split first_pass) ∷ split_off (after_split first_pass) ∷ split_off first_pass ∷ []) (shown mine ∷ shown second ∷ shown first ∷ [])
-      (ap (λ x. x ∷ (shown second).names ∷ (shown first).names ∷ []) mn ∙ ap (λ x. (([], 2) ∷ []) ∷ x ∷ (shown first).names ∷ []) sn ∙ ap (λ x. (([], 2) ∷ []) ∷ split_as 1 ∷ x ∷ []) fn)
+      names (after_split (after_split first_pass) ∷ split_off (after_split first_pass) ∷ split_off first_pass ∷ [])
+      (shown mine ∷ shown second ∷ shown first ∷ [])
+      (ap (λ x. x ∷ (shown second).names ∷ (shown first).names ∷ []) mn
+      ∙ ap (λ x. (([], 2) ∷ []) ∷ x ∷ (shown first).names ∷ []) sn
+      ∙ ap (λ x. (([], 2) ∷ []) ∷ split_as 1 ∷ x ∷ []) fn)
       (split (after_split first_pass) (split_off first_pass ∷ []) refl (split first_pass [] refl one));
 })
 

@@ -8,11 +8,11 @@ ghost use Rattle.dep_table.specs.Passes.{IsPassOf};
 ghost use Rattle.dep_table.specs.Tables.{id_of};
 
 use crate::closing::close_one;
-use crate::jobs::Texts;
 use crate::opening::{Make, table_of};
 use dep_iter::is_task;
 use dep_table::{DepTable, Pass, an_idle_pass_is_a_workers_pass};
 use ptg_base::{OutOfMemory, TaskId};
+use sample_jobs::Job;
 use std::alloc::Global;
 use work_board::{Board, Claim};
 
@@ -67,7 +67,7 @@ fn closed_after(
 /// if it is, it still runs.
 pub fn claim_and_close(
     alloc: Global,
-    texts: &Texts,
+    texts: &Job,
     task: &TaskId,
 ) -> Result<Option<Early>, OutOfMemory> {
     let make = Make {
@@ -81,7 +81,7 @@ pub fn claim_and_close(
 }
 
 /// The shard of a task among 16, if it is one of the job.
-pub fn shard_of(alloc: Global, texts: &Texts, task: &TaskId) -> Result<Option<u32>, OutOfMemory> {
+pub fn shard_of(alloc: Global, texts: &Job, task: &TaskId) -> Result<Option<u32>, OutOfMemory> {
     let make = Make {
         shards: 16,
         preload: false,

@@ -9,7 +9,6 @@ mod answer;
 mod closing;
 mod early;
 mod hands;
-mod jobs;
 mod opening;
 mod orders;
 mod playing;
@@ -21,9 +20,6 @@ mod watcher;
 mod watching;
 
 use crate::early::{claim_and_close, shard_of};
-use crate::jobs::{
-    BROADCAST, CHOLESKY_4, CHOLESKY_20, GATHER, ONE_TASK, PAIR, STALL, TRAPS, TYPES, Texts,
-};
 use crate::opening::{Make, table_of};
 use crate::orders::play_in_order;
 use crate::playing::{Played, play};
@@ -31,6 +27,9 @@ use crate::thief::ran_by_thief;
 use crate::threads::{answer_by, traced};
 use ptg_base::{OutOfMemory, TaskId};
 use run_pool::Settings;
+use sample_jobs::{
+    Job, broadcast, cholesky_4, cholesky_20, gather, one_task, pair, stall, traps, types,
+};
 use std::alloc::Global;
 use std::io;
 use std::sync::Wait;
@@ -46,7 +45,7 @@ const WORKERS: [u32; 3] = [1, 2, 5];
 fn played<R: Threads + Wait + Sync>(
     rt: &R,
     alloc: Global,
-    texts: &Texts,
+    texts: &Job,
     make: Make,
 ) -> Result<Option<Played>, OutOfMemory> {
     let Some((table, first)) = table_of(alloc, texts, make)? else {
@@ -59,7 +58,7 @@ fn played<R: Threads + Wait + Sync>(
 fn print_played<R: Threads + Wait + Print + Sync>(
     rt: &R,
     alloc: Global,
-    texts: &Texts,
+    texts: &Job,
 ) -> io::Result<()> {
     let name = texts.name;
     for shards in SHARDS {
@@ -78,7 +77,7 @@ fn print_played<R: Threads + Wait + Print + Sync>(
 fn print_answers<R: Threads + Wait + Print + Sync>(
     rt: &R,
     alloc: Global,
-    texts: &Texts,
+    texts: &Job,
 ) -> io::Result<()> {
     let name = texts.name;
     for workers in WORKERS {
@@ -103,7 +102,7 @@ fn print_answers<R: Threads + Wait + Print + Sync>(
 }
 
 // Closes a table after a claim of the task of this class with the parameter 0.
-fn print_early<R: Print>(rt: &R, alloc: Global, texts: &Texts, class: u32) -> io::Result<()> {
+fn print_early<R: Print>(rt: &R, alloc: Global, texts: &Job, class: u32) -> io::Result<()> {
     let name = texts.name;
     match claim_and_close(alloc, texts, &TaskId::new(class, &[0])) {
         Ok(Some(e)) => println!(rt;
@@ -119,7 +118,7 @@ fn print_early<R: Print>(rt: &R, alloc: Global, texts: &Texts, class: u32) -> io
 fn print_ordered<R: Threads + Wait + Print + Sync>(
     rt: &R,
     alloc: Global,
-    texts: &Texts,
+    texts: &Job,
     ids: &[i64],
 ) -> io::Result<()> {
     let name = texts.name;
@@ -134,7 +133,7 @@ fn print_ordered<R: Threads + Wait + Print + Sync>(
 fn print_claims<R: Threads + Wait + Print + Sync>(
     rt: &R,
     alloc: Global,
-    texts: &Texts,
+    texts: &Job,
 ) -> io::Result<()> {
     let name = texts.name;
     match traced(rt, alloc, texts) {
@@ -148,7 +147,7 @@ fn print_claims<R: Threads + Wait + Print + Sync>(
 }
 
 // The number of a task's shard, among 16.
-fn print_shard<R: Print>(rt: &R, alloc: Global, texts: &Texts, task: &TaskId) -> io::Result<()> {
+fn print_shard<R: Print>(rt: &R, alloc: Global, texts: &Job, task: &TaskId) -> io::Result<()> {
     let name = texts.name;
     match shard_of(alloc, texts, task) {
         Ok(Some(shard)) => println!(rt; "{name}, class {}: shard {shard}", task.class()),
@@ -161,7 +160,7 @@ fn print_shard<R: Print>(rt: &R, alloc: Global, texts: &Texts, task: &TaskId) ->
 fn print_thief<R: Threads + Wait + Print + Sync>(
     rt: &R,
     alloc: Global,
-    texts: &Texts,
+    texts: &Job,
     ids: &[i64],
 ) -> io::Result<()> {
     let name = texts.name;
@@ -175,28 +174,28 @@ fn print_thief<R: Threads + Wait + Print + Sync>(
 
 // The results of the jobs in orders that ids steer, and of early closes.
 fn print_orders<R: Threads + Wait + Print + Sync>(rt: &R, alloc: Global) -> io::Result<()> {
-    print_ordered(rt, alloc, &GATHER, &[])?;
-    print_ordered(rt, alloc, &GATHER, &[0, 1, 2])?;
-    print_ordered(rt, alloc, &GATHER, &[1, 2, 0])?;
-    print_ordered(rt, alloc, &TRAPS, &[3, 0, 2, 1])?;
+    print_ordered(rt, alloc, &gather(), &[])?;
+    print_ordered(rt, alloc, &gather(), &[0, 1, 2])?;
+    print_ordered(rt, alloc, &gather(), &[1, 2, 0])?;
+    print_ordered(rt, alloc, &traps(), &[3, 0, 2, 1])?;
     // After the first claim a task is ready, and after the second one it runs.
-    print_early(rt, alloc, &BROADCAST, 1)?;
-    print_early(rt, alloc, &BROADCAST, 0)
+    print_early(rt, alloc, &broadcast(), 1)?;
+    print_early(rt, alloc, &broadcast(), 0)
 }
 
 // What a thief runs, the claims of four workers, and the shards of two tasks.
 fn print_others<R: Threads + Wait + Print + Sync>(rt: &R, alloc: Global) -> io::Result<()> {
-    print_thief(rt, alloc, &ONE_TASK, &[0, 0, 0])?;
-    print_thief(rt, alloc, &PAIR, &[0, 0, 0])?;
-    print_thief(rt, alloc, &ONE_TASK, &[])?;
-    print_claims(rt, alloc, &CHOLESKY_20)?;
-    print_shard(rt, alloc, &CHOLESKY_4, &TaskId::new(0, &[0]))?;
-    print_shard(rt, alloc, &CHOLESKY_4, &TaskId::new(1, &[0, 1]))
+    print_thief(rt, alloc, &one_task(), &[0, 0, 0])?;
+    print_thief(rt, alloc, &pair(), &[0, 0, 0])?;
+    print_thief(rt, alloc, &one_task(), &[])?;
+    print_claims(rt, alloc, &cholesky_20())?;
+    print_shard(rt, alloc, &cholesky_4(), &TaskId::new(0, &[0]))?;
+    print_shard(rt, alloc, &cholesky_4(), &TaskId::new(1, &[0, 1]))
 }
 
 fn main(rt: HostRuntime) -> io::Result<()> {
     let alloc = rt.alloc();
-    for texts in [BROADCAST, GATHER, TRAPS, STALL, TYPES] {
+    for texts in [broadcast(), gather(), traps(), stall(), types()] {
         print_played(&rt, alloc, &texts)?;
         print_answers(&rt, alloc, &texts)?;
     }

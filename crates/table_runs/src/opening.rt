@@ -6,10 +6,10 @@ ghost use Rattle.dep_table.specs.Passes.{IsPassOf};
 ghost use Rattle.dep_table.specs.Tables.{id_of, job_of as job_in};
 ghost use Rattle.dep_table.specs.Views.{shown};
 
-use crate::jobs::Texts;
 use dep_table::{DepTable, Pass};
 use job_stages::job_of_texts;
 use ptg_base::{MOST_SHARDS, OutOfMemory};
+use sample_jobs::Job;
 use std::alloc::Global;
 
 /// How a table is made.
@@ -23,7 +23,7 @@ pub struct Make {
 /// not within its limits.
 pub fn table_of(
     alloc: Global,
-    texts: &Texts,
+    texts: &Job,
     make: Make,
 ) -> Result<Option<(DepTable, Pass)>, OutOfMemory>
     ensures pass { IfOk result (λ o. IfSome o (λ (table, pass).

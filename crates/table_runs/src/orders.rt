@@ -10,10 +10,10 @@ ghost use Rattle.dep_table.specs.Views.{shown};
 use crate::answer::{Answer, answer_of};
 use crate::closing::close_one;
 use crate::hands::one_worker;
-use crate::jobs::Texts;
 use crate::opening::{Make, table_of};
 use dep_table::{DepTable, Pass, an_idle_pass_is_a_workers_pass};
 use ptg_base::{OutOfMemory, TaskId};
+use sample_jobs::Job;
 use std::alloc::Global;
 use std::fmt;
 use std::sync::Wait;
@@ -95,7 +95,7 @@ fn work_with<R: Threads + Wait + Sync>(
 pub fn play_in_order<R: Threads + Wait + Sync>(
     rt: &R,
     alloc: Global,
-    texts: &Texts,
+    texts: &Job,
     ids: &[i64],
 ) -> Result<Option<Ordered>, OutOfMemory> {
     let make = Make {

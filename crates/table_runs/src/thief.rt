@@ -10,12 +10,12 @@ ghost use Rattle.dep_table.specs.Tables.{id_of, job_of};
 ghost use Rattle.dep_table.specs.Views.{shown};
 
 use crate::hands::two_workers;
-use crate::jobs::Texts;
 use crate::opening::{Make, table_of};
 use crate::unscanned::{PassPair, Unscanned};
 use dep_table::{DepTable, Pass, an_idle_pass_is_a_workers_pass};
 use ptg_base::OutOfMemory;
 use ready_deques::Hands;
+use sample_jobs::Job;
 use std::alloc::Global;
 use std::fmt;
 use std::sync::Wait;
@@ -89,7 +89,7 @@ fn steal<R: Threads + Wait + Sync>(
 fn ran_with<R: Threads + Wait + Sync>(
     rt: &R,
     alloc: Global,
-    texts: &Texts,
+    texts: &Job,
     thief: &mut Hands,
 ) -> Result<Option<End>, OutOfMemory> {
     let make = Make {
@@ -108,7 +108,7 @@ fn ran_with<R: Threads + Wait + Sync>(
 pub fn ran_by_thief<R: Threads + Wait + Sync>(
     rt: &R,
     alloc: Global,
-    texts: &Texts,
+    texts: &Job,
     ids: &[i64],
 ) -> Result<Option<End>, OutOfMemory> {
     let (mut thief, _idle) = two_workers(alloc, ids)?;

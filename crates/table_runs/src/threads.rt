@@ -4,11 +4,11 @@ ghost use Rattle.std.specs.Prelude.{IsTrue};
 ghost use Rattle.ptg_base.specs.Limits.{AreRunCounts};
 
 use crate::answer::{Answer, answer_of};
-use crate::jobs::Texts;
 use dep_table::Closed;
 use job_stages::job_of_texts;
 use ptg_base::{MOST_SHARDS, MOST_WORKERS, OutOfMemory, TaskId};
 use run_pool::{PrepareFault, Settings, lay_out, prepare, run, run_traced};
+use sample_jobs::Job;
 use std::alloc::Global;
 use std::sync::Wait;
 use std::thread::Threads;
@@ -32,7 +32,7 @@ fn are_settings(settings: Settings) -> bool
 pub fn answer_by<R: Threads + Wait + Sync>(
     rt: &R,
     alloc: Global,
-    texts: &Texts,
+    texts: &Job,
     settings: Settings,
 ) -> Result<Option<Answer>, OutOfMemory> {
     if !are_settings(settings) {
@@ -85,7 +85,7 @@ fn claims_of(tasks: Vec<TaskId>, closed: Closed) -> Result<Claims, OutOfMemory> 
 pub fn traced<R: Threads + Wait + Sync>(
     rt: &R,
     alloc: Global,
-    texts: &Texts,
+    texts: &Job,
 ) -> Result<Option<Claims>, OutOfMemory> {
     let Some((matched, given)) = job_of_texts(alloc, texts.jdf, texts.data)? else {
         return Ok(None);

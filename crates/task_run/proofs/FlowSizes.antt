@@ -17,10 +17,15 @@ use Rattle.flow_meaning.proofs.Sizes.{coll_type}
 pub use Rattle.flow_meaning.proofs.Starting.{known_datatype as known}
 
 -- a tile that a flow reads from a place is of the type of the flow
-sized : (elems : List ℕ) (datatype size : ℕ) (o : Option Shape) → option_map_or (λ (s : Shape). eqb s.datatype datatype) o false ≡ true → IfSome o (λ (s : Shape). size ≡ slice_index elems s.datatype) → size ≡ slice_index elems datatype
+sized : (elems : List ℕ) (datatype size : ℕ) (o : Option Shape)
+    → option_map_or (λ (s : Shape). eqb s.datatype datatype) o false ≡ true
+    → IfSome o (λ (s : Shape). size ≡ slice_index elems s.datatype) → size ≡ slice_index elems datatype
 sized elems datatype size None same h = absurd (false≢true same)
 sized elems datatype size (Some s) same h = h ∙ ap (slice_index elems) (eqb-true s.datatype datatype same)
 
-pub place_size : (P : Plan) (t : Task) (n : ℕ) (f : FlowPlan) (p : Place) (size : ℕ) → IsConsistent P → IsTask P t → slice_get (flows_of P t) n ≡ Some f → is_data (Some f.kind) ≡ true → data_source P t n ≡ source.Place p
-    → IfSome (slice_get P.colls p.coll) (λ (s : Shape). size ≡ slice_index P.elems s.datatype) → size ≡ slice_index P.elems f.datatype
-place_size P t n f p size con job here carries from h = sized P.elems f.datatype size (slice_get P.colls p.coll) (coll_type P con t job n f here carries p from) h
+pub place_size : (P : Plan) (t : Task) (n : ℕ) (f : FlowPlan) (p : Place) (size : ℕ) → IsConsistent P → IsTask P t
+    → slice_get (flows_of P t) n ≡ Some f → is_data (Some f.kind) ≡ true → data_source P t n ≡ source.Place p
+    → IfSome (slice_get P.colls p.coll) (λ (s : Shape). size ≡ slice_index P.elems s.datatype)
+    → size ≡ slice_index P.elems f.datatype
+place_size P t n f p size con job here carries from h = sized P.elems f.datatype size (slice_get P.colls p.coll)
+    (coll_type P con t job n f here carries p from) h

@@ -1,5 +1,6 @@
 -- The pools of a bench, by type.
-use Rattle.std.specs.Prelude.{◌≡◌, ℕ, ◌<◌, ℤ, List, length, option_map, slice_get, slice_set, Option, Some, IfSome, MatchOption}
+use Rattle.std.specs.Prelude.{◌≡◌, ℕ, ◌<◌, ℤ, List, length, option_map, slice_get, slice_set, Option, Some, IfSome}
+use Rattle.std.specs.Prelude.{MatchOption}
 use Rattle.tile_pool.specs.Pool.{IsTakenFrom}
 use Rattle.task_run.specs.declared.pools.TypePool.{TypePool}
 use Rattle.task_run.specs.Pools.{IsPoolOf}

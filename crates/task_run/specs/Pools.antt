@@ -1,5 +1,6 @@
 -- The tiles of a bench, in a pool for each type. Some of them are lent to the flows of a task.
-use Rattle.std.specs.Prelude.{◌≡◌, ℕ, ◌+◌, ◌-◌, ◌<◌, ◌≤◌, ℤ, pos, nat_eq, List, [], ◌∷◌, ◌++◌, count_by, length, replicate, slice_get, slice_index, take, option_map, Option, Some}
+use Rattle.std.specs.Prelude.{◌≡◌, ℕ, ◌+◌, ◌-◌, ◌<◌, ◌≤◌, ℤ, pos, nat_eq, List, [], ◌∷◌, ◌++◌, count_by, length}
+use Rattle.std.specs.Prelude.{replicate, slice_get, slice_index, take, option_map, Option, Some}
 use Rattle.std.specs.Option.{option_eq}
 use Rattle.ptg_base.specs.Limits.{most_flows}
 use Rattle.tile_pool.specs.Pool.{Pool}

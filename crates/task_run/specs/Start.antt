@@ -1,23 +1,26 @@
 -- What a task starts on. Source: DAGuE (Parallel Computing, 2012): a task runs on what its sources gave.
--- Carried by: `Bench::run` (`IsStart`).
-use Rattle.std.specs.Prelude.{◌≡◌, ℕ, ◌≤◌, ℤ, List}
+-- Carried by: `Start`, which keeps that the job is consistent and that the data fit it; `Bench::run`.
+use Rattle.std.specs.Prelude.{◌≡◌, ℕ, ◌≤◌, List}
 use Rattle.ptg_base.specs.Entry.{FlowTile}
 use Rattle.ptg_base.specs.Task.{Task}
 use Rattle.plan_core.specs.declared.plan.Plan.{Plan}
 use Rattle.coll_data.specs.Data.{Data}
-use Rattle.plan_data.specs.Fit.{DataFit}
-use Rattle.dep_iter.specs.Tasks.{IsTask, locals_of}
-use Rattle.dep_iter.specs.Consistent.{IsConsistent}
 use Rattle.dep_shard.specs.Arrivals.{tile_of}
 use Rattle.flow_meaning.specs.Starting.{Delivery}
 use Rattle.flow_meaning.specs.Backward.{ended, inputs, source_tile}
+use Rattle.task_run.specs.declared.start.Start.{Start}
 
--- a task of a consistent job with its locals, and the data of the job
-pub record IsStart (P : Plan) (G : Data) (t : Task) (locals : List ℤ) : Type 0 where
-  pub consistent : IsConsistent P
-  pub fit : DataFit P G
-  pub task : IsTask P t
-  pub locals_are : locals ≡ locals_of P t
+-- the plan of the task that starts
+abbrev pub plan_of : Start → Plan
+plan_of s = s.at.now.plan.now
+
+-- the task itself
+abbrev pub task_of : Start → Task
+task_of s = s.at.now.task.now
+
+-- the data of its job
+abbrev pub data_of : Start → Data
+data_of s = s.given.now
 
 -- what the edges into a task deliver: the tiles that their sources leave
 abbrev pub delivered : Plan → Data → Delivery

@@ -1,6 +1,7 @@
 //! Where one worker runs tasks.
 
-ghost use Rattle.std.specs.Prelude.{◌≡◌, ◌+◌, ◌<◌, [], ◌∷◌, ◌++◌, Some, Err, length, slice_get, IfOk, OnOk, IfErr, IsSome};
+ghost use Rattle.std.specs.Prelude.{◌≡◌, ◌+◌, ◌<◌, [], ◌∷◌, ◌++◌, Some, Err, length, slice_get};
+ghost use Rattle.std.specs.Prelude.{IfOk, OnOk, IfErr, IsSome};
 ghost use Rattle.std.specs.Option.{option_copied};
 ghost use Rattle.ptg_base.specs.Limits.{most_flows};
 ghost use Rattle.body_eval.specs.Element.{tile_of};
@@ -8,12 +9,13 @@ ghost use Rattle.dep_iter.specs.Tasks as tasks;
 ghost use Rattle.flow_meaning.specs.Starting as starting;
 ghost use Rattle.flow_meaning.specs.Backward.{ended, inputs, MayRun};
 ghost use Rattle.task_run.specs.Bench.{HoldsOutputs, IsBenchOf};
-ghost use Rattle.task_run.specs.Start.{HasInputsFrom, IsStart, delivered};
+ghost use Rattle.task_run.specs.Start.{HasInputsFrom, data_of, delivered, plan_of, task_of};
 
 use crate::pools::Pools;
-use crate::start::{Start, next_tile};
+use crate::start::Start;
+use crate::starting::next_tile;
 use body_eval::{Scratch, run_body};
-use dep_iter::{Matched, flows_of};
+use dep_iter::Matched;
 use dep_shard::{Arrivals, FlowTiles};
 use plan_core::FlowPlan;
 use ptg_base::{MOST_FLOWS, OutOfMemory, Tile};
@@ -67,21 +69,20 @@ impl Bench {
 
     // Lays the tile of the next flow of a task on the bench: the one that arrived, or else one from its source.
     fn lay(&mut self, start: &Start, flow: &FlowPlan, arrivals: &mut FlowTiles)
-        requires start { IsStart start.now.plan.now start.now.given.now start.now.task.now start.now.locals.now }
-        requires elems { self.old.elems ≡ start.now.plan.now.elems }
+        requires elems { self.old.elems ≡ (plan_of start.now).elems }
         requires room { length self.old.tiles < most_flows }
-        requires flow { slice_get (tasks.flows_of start.now.plan.now start.now.task.now) (length self.old.tiles)
+        requires flow { slice_get (tasks.flows_of (plan_of start.now) (task_of start.now)) (length self.old.tiles)
             ≡ Some flow.now }
-        requires inputs { HasInputsFrom start.now.plan.now start.now.given.now start.now.task.now
+        requires inputs { HasInputsFrom (plan_of start.now) (data_of start.now) (task_of start.now)
             (length self.old.tiles) arrivals.old }
         ensures elems { self.new.elems ≡ self.old.elems }
         ensures tiles { self.new.tiles
             ≡ self.old.tiles
-            ++ starting.starting_tile start.now.plan.now start.now.given.now
-            (delivered start.now.plan.now start.now.given.now) start.now.task.now (length self.old.tiles)
+            ++ starting.starting_tile (plan_of start.now) (data_of start.now)
+            (delivered (plan_of start.now) (data_of start.now)) (task_of start.now) (length self.old.tiles)
             flow.now
             ∷ [] }
-        ensures inputs { HasInputsFrom start.now.plan.now start.now.given.now start.now.task.now
+        ensures inputs { HasInputsFrom (plan_of start.now) (data_of start.now) (task_of start.now)
             (length self.old.tiles + 1) arrivals.new }
     {
         let number = self.pools.flows();
@@ -91,37 +92,35 @@ impl Bench {
 
     // Lays the tiles of all flows of a task on the bench.
     fn lay_all(&mut self, start: &Start, arrivals: &mut FlowTiles)
-        requires start { IsStart start.now.plan.now start.now.given.now start.now.task.now start.now.locals.now }
-        requires bench { IsBenchOf start.now.plan.now self.old }
-        requires inputs { arrivals.old ≡ inputs start.now.plan.now start.now.given.now start.now.task.now }
+        requires bench { IsBenchOf (plan_of start.now) self.old }
+        requires inputs { arrivals.old ≡ inputs (plan_of start.now) (data_of start.now) (task_of start.now) }
         ensures elems { self.new.elems ≡ self.old.elems }
         ensures tiles { self.new.tiles
-            ≡ starting.starting_tiles start.now.plan.now start.now.given.now
-            (delivered start.now.plan.now start.now.given.now) start.now.task.now }
+            ≡ starting.starting_tiles (plan_of start.now) (data_of start.now)
+            (delivered (plan_of start.now) (data_of start.now)) (task_of start.now) }
     {
-        for flow in flows_of(start.plan, start.task) {
+        for flow in start.at.flows() {
             self.lay(start, flow, arrivals);
         }
     }
 
     // Runs the body of the task whose tiles are on the bench.
     fn run_laid(&mut self, start: &Start) -> Result<(), Trap>
-        requires start { IsStart start.now.plan.now start.now.given.now start.now.task.now start.now.locals.now }
         requires tiles { self.old.tiles
-            ≡ starting.starting_tiles start.now.plan.now start.now.given.now
-            (delivered start.now.plan.now start.now.given.now) start.now.task.now }
-        requires runs { IsSome (ended start.now.plan.now start.now.given.now start.now.task.now) }
+            ≡ starting.starting_tiles (plan_of start.now) (data_of start.now)
+            (delivered (plan_of start.now) (data_of start.now)) (task_of start.now) }
+        requires runs { IsSome (ended (plan_of start.now) (data_of start.now) (task_of start.now)) }
         ensures elems { self.new.elems ≡ self.old.elems }
         ensures ok { OnOk result
-            (HoldsOutputs start.now.plan.now start.now.given.now start.now.task.now self.new) }
+            (HoldsOutputs (plan_of start.now) (data_of start.now) (task_of start.now) self.new) }
         ensures trap { IfErr result (λ cause.
-            ended start.now.plan.now start.now.given.now start.now.task.now ≡ Some (Err cause)) }
+            ended (plan_of start.now) (data_of start.now) (task_of start.now) ≡ Some (Err cause)) }
     {
-        let class = start.plan.class(start.task.class());
+        let class = start.at.plan.class(start.at.task.class());
         let flows = self.pools.flows();
         run_body(
             &class.body,
-            start.locals,
+            start.at.locals,
             &mut self.tiles[..flows],
             &mut self.scratch,
         )
@@ -131,14 +130,13 @@ impl Bench {
     /// the job says. A tile that came is moved, not copied; only for the other flows is the source evaluated. It takes
     /// no memory.
     pub fn run(&mut self, start: &Start, arrivals: Arrivals) -> Result<(), Trap>
-        requires bench { IsBenchOf start.now.plan.now self.old }
-        requires start { IsStart start.now.plan.now start.now.given.now start.now.task.now start.now.locals.now }
-        requires inputs { MayRun start.now.plan.now start.now.given.now start.now.task.now arrivals }
+        requires bench { IsBenchOf (plan_of start.now) self.old }
+        requires inputs { MayRun (plan_of start.now) (data_of start.now) (task_of start.now) arrivals }
         ensures elems { self.new.elems ≡ self.old.elems }
         ensures ok { OnOk result
-            (HoldsOutputs start.now.plan.now start.now.given.now start.now.task.now self.new) }
+            (HoldsOutputs (plan_of start.now) (data_of start.now) (task_of start.now) self.new) }
         ensures trap { IfErr result (λ cause.
-            ended start.now.plan.now start.now.given.now start.now.task.now ≡ Some (Err cause)) }
+            ended (plan_of start.now) (data_of start.now) (task_of start.now) ≡ Some (Err cause)) }
     {
         self.nodes = arrivals;
         let mut tiles = FlowTiles::new();
@@ -157,7 +155,7 @@ impl Bench {
         self.tiles[flow as usize].as_ref()
     }
 
-    // Clears the place of the last flow of the task on the bench. `spent` takes a tile along that came to it by an edge.
+    // Clears the place of the last flow of the task on the bench. `spent` takes a tile along that came by an edge.
     fn clear_last(&mut self, spent: &mut Arrivals)
         requires { 0 < length self.old.tiles }
         ensures elems { self.new.elems ≡ self.old.elems }

@@ -4,6 +4,7 @@
 mod bench;
 mod pools;
 mod start;
+mod starting;
 
 pub use bench::Bench;
 pub use start::Start;

@@ -1,144 +1,19 @@
-//! A task with its job, and the tiles that it starts on.
+//! A task that starts, with its job.
 
-ghost use Rattle.std.specs.Prelude.{◌≡◌, ◌+◌, ◌<◌, true, Some, length, pos, replicate, slice_get, slice_index};
-ghost use Rattle.ptg_base.specs.Limits.{most_flows};
-ghost use Rattle.plan_core.specs.Kinds as kinds;
-ghost use Rattle.coll_data.specs.Tiles.{tile_at};
-ghost use Rattle.dep_iter.specs.declared.source.Source.TheVariants as source;
-ghost use Rattle.dep_iter.specs.Edges as edges;
-ghost use Rattle.dep_iter.specs.Tasks as tasks;
-ghost use Rattle.flow_meaning.specs.Starting as starting;
-ghost use Rattle.task_run.specs.Pools.{LendsTo};
-ghost use Rattle.task_run.specs.Start.{HasInputsFrom, IsStart, delivered};
-ghost use Rattle.flow_meaning.specs.Starting.{nothing_delivered};
+ghost use Rattle.plan_data.specs.Fit.{DataFit};
+ghost use Rattle.dep_iter.specs.Consistent.{IsConsistent};
+ghost use Rattle.task_run.specs.OneStart.{IsConsistent-prop};
 
-use crate::pools::Pools;
 use coll_data::Given;
-use dep_iter::{Source, TaskAt};
-use dep_shard::FlowTiles;
-use plan_core::{FlowPlan, Plan};
-use plan_data::opening_tile;
-use ptg_base::{Place, TaskId, Tile};
-use term_core::FlowKind;
+use dep_iter::TaskAt;
 
-/// A task with its locals, and with the plan and the data of its job.
+/// A task of a consistent job, and the data of the job.
 #[derive(Drop)]
 pub struct Start<'a> {
-    pub plan: &'a Plan,
+    /// The task, with its plan and its locals.
+    pub at: &'a TaskAt<'a>,
+    /// The data.
     pub given: &'a Given,
-    pub task: &'a TaskId,
-    pub locals: &'a [i64],
-}
-
-// A copy of the tile of a place, for a flow that reads it.
-fn lend_place(pools: &mut Pools, start: &Start, flow: &FlowPlan, place: &Place) -> Option<Tile>
-    requires start { IsStart start.now.plan.now start.now.given.now start.now.task.now start.now.locals.now }
-    requires elems { pools.old.elems ≡ start.now.plan.now.elems }
-    requires flows { length pools.old.lent < most_flows }
-    requires flow { slice_get (tasks.flows_of start.now.plan.now start.now.task.now) (length pools.old.lent)
-        ≡ Some flow.now }
-    requires kind { kinds.is_data (Some flow.now.kind) ≡ true }
-    requires place { edges.data_source start.now.plan.now start.now.task.now (length pools.old.lent)
-        ≡ source.Place place.now }
-    ensures tile { result ≡ tile_at start.now.given.now.colls place.now }
-    ensures lent { LendsTo pools.old pools.new result }
-{
-    let tile = opening_tile(start.plan, start.given, place);
-    Some(pools.lend(flow.datatype, Some(tile)))
-}
-
-// The tile of a flow that has no source.
-fn lend_unsourced(pools: &mut Pools, flow: &FlowPlan) -> Option<Tile>
-    requires flows { length pools.old.lent < most_flows }
-    requires known { flow.now.datatype < length pools.old.elems }
-    ensures tile { result
-        ≡ starting.unsourced_tile flow.now.kind (replicate (slice_index pools.old.elems flow.now.datatype) (pos 0)) }
-    ensures lent { LendsTo pools.old pools.new result }
-{
-    match flow.kind {
-        FlowKind::Write => Some(pools.lend(flow.datatype, None)),
-        FlowKind::Read | FlowKind::Rw | FlowKind::Ctl => {
-            pools.lend_none();
-            None
-        }
-    }
-}
-
-// The tile of a data flow that comes by no edge, from the source of the flow.
-fn lend_from(pools: &mut Pools, start: &Start, flow: &FlowPlan, source: &Source) -> Option<Tile>
-    requires start { IsStart start.now.plan.now start.now.given.now start.now.task.now start.now.locals.now }
-    requires elems { pools.old.elems ≡ start.now.plan.now.elems }
-    requires flows { length pools.old.lent < most_flows }
-    requires flow { slice_get (tasks.flows_of start.now.plan.now start.now.task.now) (length pools.old.lent)
-        ≡ Some flow.now }
-    requires kind { kinds.is_data (Some flow.now.kind) ≡ true }
-    requires source { edges.data_source start.now.plan.now start.now.task.now (length pools.old.lent) ≡ source.now }
-    ensures tile { result
-        ≡ starting.tile_from start.now.plan.now start.now.given.now nothing_delivered flow.now source.now }
-    ensures lent { LendsTo pools.old pools.new result }
-{
-    match source {
-        Source::Place(place) => lend_place(pools, start, flow, place),
-        Source::New => Some(pools.lend(flow.datatype, None)),
-        Source::Nothing => lend_unsourced(pools, flow),
-        Source::Task(_) | Source::Null => {
-            pools.lend_none();
-            None
-        }
-    }
-}
-
-// The tile that the next flow of the task starts on, if it comes by no edge.
-fn lend_source(pools: &mut Pools, start: &Start, flow: &FlowPlan) -> Option<Tile>
-    requires start { IsStart start.now.plan.now start.now.given.now start.now.task.now start.now.locals.now }
-    requires elems { pools.old.elems ≡ start.now.plan.now.elems }
-    requires flows { length pools.old.lent < most_flows }
-    requires flow { slice_get (tasks.flows_of start.now.plan.now start.now.task.now) (length pools.old.lent)
-        ≡ Some flow.now }
-    ensures tile { result
-        ≡ starting.starting_tile start.now.plan.now start.now.given.now nothing_delivered start.now.task.now
-        (length pools.old.lent) flow.now }
-    ensures lent { LendsTo pools.old pools.new result }
-{
-    if !flow.kind.is_data() {
-        pools.lend_none();
-        return None;
-    }
-    let at = TaskAt {
-        plan: start.plan,
-        task: start.task,
-        locals: start.locals,
-    };
-    let source = at.data_source(pools.flows() as u8);
-    lend_from(pools, start, flow, &source)
-}
-
-// The tile that the next flow of the task starts on: the one that arrived, or else one from its source.
-pub(crate) fn next_tile(
-    pools: &mut Pools,
-    start: &Start,
-    flow: &FlowPlan,
-    arrivals: &mut FlowTiles,
-) -> Option<Tile>
-    requires start { IsStart start.now.plan.now start.now.given.now start.now.task.now start.now.locals.now }
-    requires elems { pools.old.elems ≡ start.now.plan.now.elems }
-    requires flows { length pools.old.lent < most_flows }
-    requires flow { slice_get (tasks.flows_of start.now.plan.now start.now.task.now) (length pools.old.lent)
-        ≡ Some flow.now }
-    requires inputs { HasInputsFrom start.now.plan.now start.now.given.now start.now.task.now (length pools.old.lent)
-        arrivals.old }
-    ensures tile { result
-        ≡ starting.starting_tile start.now.plan.now start.now.given.now
-        (delivered start.now.plan.now start.now.given.now) start.now.task.now (length pools.old.lent) flow.now }
-    ensures lent { LendsTo pools.old pools.new result }
-    ensures rest { HasInputsFrom start.now.plan.now start.now.given.now start.now.task.now (length pools.old.lent + 1)
-        arrivals.new }
-{
-    match arrivals.take(pools.flows() as u8) {
-        Some(tile) => {
-            pools.lend_none();
-            Some(tile)
-        }
-        None => lend_source(pools, start, flow),
-    }
+    pub ghost consistent: { IsConsistent at.now.plan.now } by { IsConsistent-prop at.now.plan.now },
+    pub ghost fit: { DataFit at.now.plan.now given.now },
 }

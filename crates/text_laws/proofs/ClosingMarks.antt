@@ -99,7 +99,8 @@ not_earlier a b x y ys (c ∷ w) apart first second whole free =
     let heads : c ≡ b = cc in
     free [] w (λ i. first i ∷ heads i ∷ w)
 
-free_after : (p : LexicalUnit) (a b : ℕ) → IsClosedBy p a b → (w : List ℕ) (x : ℕ) (v : List ℕ) → IsFreeOf (a ∷ b ∷ []) w → x ∷ v ≡ w ++ a ∷ b ∷ [] → is_closed p (eqb x a) v ≡ true
+free_after : (p : LexicalUnit) (a b : ℕ) → IsClosedBy p a b → (w : List ℕ) (x : ℕ) (v : List ℕ)
+    → IsFreeOf (a ∷ b ∷ []) w → x ∷ v ≡ w ++ a ∷ b ∷ [] → is_closed p (eqb x a) v ≡ true
 free_after p a b m [] x v free e =
     let first : x ≡ a = cc in
     let rest : v ≡ b ∷ [] = cc in

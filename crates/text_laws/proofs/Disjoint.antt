@@ -3,7 +3,14 @@ use Rattle.std.proofs.Common.{◌≡◌, ℕ, zero, suc, Bool, true, false, List
 use Rattle.std.specs.Prelude.{◌&&◌, ◌||◌, not}
 use Rattle.std.proofs.lemmas.Bool.{and_parts, not-true}
 use Rattle.jdf_lex.specs.declared.terminal.Terminal.{Terminal}
-use Rattle.jdf_lex.specs.declared.terminal.Terminal.TheVariants.{Name, TypeWord, Int, If, Else, For, Trap, Number, Quoted, Raw, OptionLine, Other, Extern, Body, End, Read, Write, Rw, Ctl, New, Null, LeftParen, RightParen, LeftBracket, RightBracket, LeftBrace, RightBrace, Comma, Semicolon, Colon, Question, Assign, Dots, Inward, Outward, Plus, Minus, Star, Slash, Percent, Equal, NotEqual, Less, AtMost, Greater, AtLeast, And, AndAnd, Or, OrOr, Not}
+use Rattle.jdf_lex.specs.declared.terminal.Terminal.TheVariants.{Name, TypeWord, Int, If, Else, For, Trap, Number}
+use Rattle.jdf_lex.specs.declared.terminal.Terminal.TheVariants.{Quoted, Raw, OptionLine, Other, Extern, Body, End}
+use Rattle.jdf_lex.specs.declared.terminal.Terminal.TheVariants.{Read, Write, Rw, Ctl, New, Null, LeftParen, RightParen}
+use Rattle.jdf_lex.specs.declared.terminal.Terminal.TheVariants.{LeftBracket, RightBracket, LeftBrace, RightBrace}
+use Rattle.jdf_lex.specs.declared.terminal.Terminal.TheVariants.{Comma, Semicolon, Colon, Question, Assign, Dots}
+use Rattle.jdf_lex.specs.declared.terminal.Terminal.TheVariants.{Inward, Outward, Plus, Minus, Star, Slash, Percent}
+use Rattle.jdf_lex.specs.declared.terminal.Terminal.TheVariants.{Equal, NotEqual, Less, AtMost, Greater, AtLeast, And}
+use Rattle.jdf_lex.specs.declared.terminal.Terminal.TheVariants.{AndAnd, Or, OrOr, Not}
 use Rattle.jdf_lex.specs.Terminals.{number_of, all_terminals}
 
 -- Is each terminal of the list in the set?
@@ -87,7 +94,10 @@ all_last p k [] h = (and_parts (p k) true h).0
 all_last p k (x ∷ xs) h = all_last p x xs (and_parts (p k) (all_are p (x ∷ xs)) h).1
 
 abbrev others : List Terminal
-others = TypeWord ∷ Int ∷ If ∷ Else ∷ For ∷ Trap ∷ Number ∷ Quoted ∷ Raw ∷ OptionLine ∷ Other ∷ Extern ∷ Body ∷ End ∷ Read ∷ Write ∷ Rw ∷ Ctl ∷ New ∷ Null ∷ LeftParen ∷ RightParen ∷ LeftBracket ∷ RightBracket ∷ LeftBrace ∷ RightBrace ∷ Comma ∷ Semicolon ∷ Colon ∷ Question ∷ Assign ∷ Dots ∷ Inward ∷ Outward ∷ Plus ∷ Minus ∷ Star ∷ Slash ∷ Percent ∷ Equal ∷ NotEqual ∷ Less ∷ AtMost ∷ Greater ∷ AtLeast ∷ And ∷ AndAnd ∷ Or ∷ OrOr ∷ Not ∷ []
+others = TypeWord ∷ Int ∷ If ∷ Else ∷ For ∷ Trap ∷ Number ∷ Quoted ∷ Raw ∷ OptionLine ∷ Other ∷ Extern ∷ Body ∷ End ∷
+    Read ∷ Write ∷ Rw ∷ Ctl ∷ New ∷ Null ∷ LeftParen ∷ RightParen ∷ LeftBracket ∷ RightBracket ∷ LeftBrace ∷ RightBrace
+    ∷ Comma ∷ Semicolon ∷ Colon ∷ Question ∷ Assign ∷ Dots ∷ Inward ∷ Outward ∷ Plus ∷ Minus ∷ Star ∷ Slash ∷ Percent ∷
+    Equal ∷ NotEqual ∷ Less ∷ AtMost ∷ Greater ∷ AtLeast ∷ And ∷ AndAnd ∷ Or ∷ OrOr ∷ Not ∷ []
 
 pub all_at : (p : Terminal → Bool) → all_are p all_terminals ≡ true → (k : Terminal) → p k ≡ true
 all_at p h k = subst (λ (x : Terminal). p x ≡ true) (listed k) (all_get p all_terminals Not (number_of k) (all_last p Name others h) h)

@@ -12,7 +12,8 @@ use Rattle.text_laws.specs.ExactReading.{ReadsExactly}
 use Rattle.grammar_core.proofs.Whole as whole_text
 use Rattle.list_lemmas.proofs.Options.{same_Ok, Ok≢Err, same_Err}
 
-module _ {N : Type 0} {Tree : N → Type 0} (body : (n : N) → Production N Tree (Tree n)) (claims : Claims N) {A : Type 0} (g : Production N Tree A) (h : IsPredictive body claims g) where
+module _ {N : Type 0} {Tree : N → Type 0} (body : (n : N) → Production N Tree (Tree n)) (claims : Claims N) {A : Type 0}
+    (g : Production N Tree A) (h : IsPredictive body claims g) where
   found : (s : List Token) (t : A) → whole body g s ≡ Ok t → IsText body g s t None
   found = whole_text.text_found body claims h.nonterminals h.nonterminal_limits g h.start h.start_limits
 
@@ -27,7 +28,9 @@ module _ {N : Type 0} {Tree : N → Type 0} (body : (n : N) → Production N Tre
 
   one_fault : (s : List Token) (i j : ℕ) (c d : Code) → IsFirstFault body g s i c → IsFirstFault body g s j d → (i ≡ j) × (c ≡ d)
   one_fault s i j c d a b =
-      let same : fault_from_end (length s - i) c ≡ fault_from_end (length s - j) d = same_Err (fault_from_end (length s - i) c) (fault_from_end (length s - j) d) (sym (refused s i c a) ∙ refused s j d b) in
+      let same : fault_from_end (length s - i) c ≡ fault_from_end (length s - j) d = same_Err
+      (fault_from_end (length s - i) c) (fault_from_end (length s - j) d)
+      (sym (refused s i c a) ∙ refused s j d b) in
       let left : length s - i ≡ length s - j = ap (λ (n : ReadFault). n.left) same in
       let x = whole_text.fault_index body g s i c a in
       let y = whole_text.fault_index body g s j d b in

@@ -1,5 +1,6 @@
 -- Each longer word at a position begins the same unit, so the longest word is taken.
-use Rattle.std.proofs.Common.{◌≡◌, ℕ, ◌≤◌, ◌⊎◌, Bool, true, false, cond, not, eqb, List, [], ◌∷◌, ◌++◌, length, drop, Some, refl, sym, ◌∙◌, ap, subst, inl, inr, arith}
+use Rattle.std.proofs.Common.{◌≡◌, ℕ, ◌≤◌, ◌⊎◌, Bool, true, false, cond, not, eqb, List, [], ◌∷◌, ◌++◌, length, drop}
+use Rattle.std.proofs.Common.{Some, refl, sym, ◌∙◌, ap, subst, inl, inr, arith}
 use Rattle.std.specs.Prelude.{codes}
 use Rattle.std.specs.List.{starts_with}
 use Rattle.std.proofs.lemmas.Bool.{and_parts, and_from, cases_lt, cases_Bool, false≢true, eqb-true, not-true, not_from_false}
@@ -39,7 +40,8 @@ option_more xs after e f =
     let size : 7 ≤ length xs = starts_length xs option_word parts.0 in
     let split : drop 7 (xs ++ after) ≡ drop 7 xs ++ after = drop-append-le 7 xs after size in
     let none : begins_part (drop 7 (xs ++ after)) ≡ false = ap begins_part split ∙ part_more (drop 7 xs) after (not-true (begins_part (drop 7 xs)) parts.1) f in
-    and_from (starts_with eqb (xs ++ after) option_word) (not (begins_part (drop 7 (xs ++ after)))) (starts_more xs after option_word parts.0) (not_from_false (begins_part (drop 7 (xs ++ after))) none)
+    and_from (starts_with eqb (xs ++ after) option_word) (not (begins_part (drop 7 (xs ++ after))))
+    (starts_more xs after option_word parts.0) (not_from_false (begins_part (drop 7 (xs ++ after))) none)
 
 option_bytes : (a b : ℕ) (x : List ℕ) → begins_option (a ∷ b ∷ x) ≡ true → (a ≡ 37) × (b ≡ 111)
 option_bytes a b x e =
@@ -67,12 +69,15 @@ unit_of a b x option =
     (cond option (TokenOf OptionLine) (plain_unit a (b ∷ x)))))
 
 -- Either the test of an option line makes no difference, or no comment or raw block begins there.
-option_decides : (a b : ℕ) (x : List ℕ) (s t : Bool) → (unit_of a b x s ≡ unit_of a b x t) ⊎ ((unit_of a b x true ≡ TokenOf OptionLine) × (unit_of a b x false ≡ plain_unit a (b ∷ x)))
+option_decides : (a b : ℕ) (x : List ℕ) (s t : Bool) → (unit_of a b x s ≡ unit_of a b x t)
+    ⊎ ((unit_of a b x true ≡ TokenOf OptionLine) × (unit_of a b x false ≡ plain_unit a (b ∷ x)))
 option_decides a b x s t =
-    decided (starts_with eqb (a ∷ b ∷ x) (codes "//")) (starts_with eqb (a ∷ b ∷ x) (codes "/*")) (starts_with eqb (a ∷ b ∷ x) (codes "%{")) (plain_unit a (b ∷ x))
+    decided (starts_with eqb (a ∷ b ∷ x) (codes "//")) (starts_with eqb (a ∷ b ∷ x) (codes "/*"))
+    (starts_with eqb (a ∷ b ∷ x) (codes "%{")) (plain_unit a (b ∷ x))
   where
     decided : (c d e : Bool) (p : LexicalUnit)
-        → (cond c LineComment (cond d BlockComment (cond e (TokenOf Raw) (cond s (TokenOf OptionLine) p))) ≡ cond c LineComment (cond d BlockComment (cond e (TokenOf Raw) (cond t (TokenOf OptionLine) p))))
+        → (cond c LineComment (cond d BlockComment (cond e (TokenOf Raw) (cond s (TokenOf OptionLine) p)))
+        ≡ cond c LineComment (cond d BlockComment (cond e (TokenOf Raw) (cond t (TokenOf OptionLine) p))))
         ⊎ ((cond c LineComment (cond d BlockComment (cond e (TokenOf Raw) (cond true (TokenOf OptionLine) p))) ≡ TokenOf OptionLine)
         × (cond c LineComment (cond d BlockComment (cond e (TokenOf Raw) (cond false (TokenOf OptionLine) p))) ≡ p))
     decided true d e p = inl refl
@@ -81,7 +86,8 @@ option_decides a b x s t =
     decided false false false p = inr (refl, refl)
 
 -- The longer text begins with the same unit.
-same_begin : (a b : ℕ) (x after : List ℕ) (other : LexicalUnit) → unit_of a b x (begins_option (a ∷ b ∷ x)) ≡ other → is_spelling other (a ∷ b ∷ x) ≡ true → (other ≡ TokenOf OptionLine → begins_part after ≡ false)
+same_begin : (a b : ℕ) (x after : List ℕ) (other : LexicalUnit) → unit_of a b x (begins_option (a ∷ b ∷ x)) ≡ other
+    → is_spelling other (a ∷ b ∷ x) ≡ true → (other ≡ TokenOf OptionLine → begins_part after ≡ false)
     → unit_of a b x (begins_option (a ∷ b ∷ (x ++ after))) ≡ other
 same_begin a b x after other is spelled follows =
     let s = begins_option (a ∷ b ∷ x) in
@@ -106,7 +112,8 @@ same_begin a b x after other is spelled follows =
     ]
 
 -- Each word of the same unit there is at most as long.
-no_longer : (p : LexicalUnit) (word left longer after : List ℕ) → IsUnit p word left → word ++ left ≡ longer ++ after → is_spelling p longer ≡ true → length longer ≤ length word
+no_longer : (p : LexicalUnit) (word left longer after : List ℕ) → IsUnit p word left → word ++ left ≡ longer ++ after
+    → is_spelling p longer ≡ true → length longer ≤ length word
 no_longer p word left longer after unit same spelled =
     elim (cases_lt (length word) (length longer)) [
       | inl below ↦
@@ -125,7 +132,8 @@ pub longest : LongestIsTaken
 longest unit other word left [] after is same begins spelled follows = omega arith
 longest unit other word left (a ∷ []) after is same begins spelled follows = omega (arith, some_word unit word left is)
 longest unit other word left (a ∷ b ∷ x) after is same begins spelled follows =
-    let here : unit_of a b x (begins_option (a ∷ b ∷ (x ++ after))) ≡ other = same_begin a b x after other (same_Some (first_unit a (b ∷ x)) other begins) spelled follows in
+    let here : unit_of a b x (begins_option (a ∷ b ∷ (x ++ after))) ≡ other = same_begin a b x after other
+    (same_Some (first_unit a (b ∷ x)) other begins) spelled follows in
     let whole : Some unit ≡ Some (first_unit a (b ∷ (x ++ after))) = sym is.begins ∙ ap unit_at same in
     let one : unit ≡ other = same_Some unit (first_unit a (b ∷ (x ++ after))) whole ∙ here in
     no_longer unit word left (a ∷ b ∷ x) after is same (subst (λ p. is_spelling p (a ∷ b ∷ x) ≡ true) (sym one) spelled)

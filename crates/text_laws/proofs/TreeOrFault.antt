@@ -51,7 +51,8 @@ longest_of bytes (suc n) =
               | inl lt ↦ k.longest m (omega (arith, lt)) u
               | inr ge ↦
                   let all : m ≡ suc n = omega (arith, le, ge) in
-                  absurd (both_ways (is_utf8 (take (suc n) bytes)) f (is_utf8-from_IsUtf8 (take (suc n) bytes) (subst (λ (l : ℕ). IsUtf8 (take l bytes)) all u)))
+                  absurd (both_ways (is_utf8 (take (suc n) bytes)) f
+                  (is_utf8-from_IsUtf8 (take (suc n) bytes) (subst (λ (l : ℕ). IsUtf8 (take l bytes)) all u)))
             ];
           }
     ]
@@ -73,7 +74,8 @@ stops_somewhere bytes bad =
 
 -- ---- the grammar
 
-named_fault : (tokens : List Token) (end : Spot) (i : ℕ) (c : Code) → IsFirstFault productions file tokens i c → (fault : JdfFault) × IsGrammarFault tokens end fault
+named_fault : (tokens : List Token) (end : Spot) (i : ℕ) (c : Code) → IsFirstFault productions file tokens i c
+    → (fault : JdfFault) × IsGrammarFault tokens end fault
 named_fault tokens end i c first = go (slice_get tokens i) refl
   where
     go : (o : Option Token) → slice_get tokens i ≡ o → (fault : JdfFault) × IsGrammarFault tokens end fault
@@ -81,14 +83,37 @@ named_fault tokens end i c first = go (slice_get tokens i) refl
         (record { spot = token.spot; code = code_at_token c }, record { token_index = i; code = c; first = first; fault_is = inl (token, e, refl) })
     go None e = (record { spot = end; code = jdf.Truncated }, record { token_index = i; code = c; first = first; fault_is = inr (e, refl) })
 
-by_grammar : (bytes : List ℕ) → length bytes ≤ 16777216 → IsUtf8 bytes → (tokens : List Token) (end : Spot) → IsLexed bytes tokens end → length tokens ≤ 1000000 → Either bytes
+by_grammar : (bytes : List ℕ) → length bytes ≤ 16777216 → IsUtf8 bytes → (tokens : List Token) (end : Spot)
+    → IsLexed bytes tokens end → length tokens ≤ 1000000 → Either bytes
 by_grammar bytes size utf8 tokens end lexed number = go (whole productions file tokens) refl
   where
     go : (r : Result Jdf ReadFault) → whole productions file tokens ≡ r → Either bytes
-    go (Ok tree) e = inl (tree, record { bytes_at_most = size; utf8 = utf8; tokens = tokens; end = end; lexed = lexed; tokens_at_most = number; text = found tokens tree e })
+    go (Ok tree) e = inl (
+      tree,
+      record {
+        bytes_at_most = size;
+        utf8 = utf8;
+        tokens = tokens;
+        end = end;
+        lexed = lexed;
+        tokens_at_most = number;
+        text = found tokens tree e;
+      },
+    )
     go (Err n) e =
         let fault = named_fault tokens end (length tokens - n.left) n.code (faulty tokens n.left n.code e) in
-        inr (fault.0, inr (inr (inr (record { bytes_at_most = size; utf8 = utf8; tokens = tokens; end = end; lexed = lexed; tokens_at_most = number; fault_is = fault.1 }))))
+        inr (
+          fault.0,
+          inr (inr (inr (record {
+            bytes_at_most = size;
+            utf8 = utf8;
+            tokens = tokens;
+            end = end;
+            lexed = lexed;
+            tokens_at_most = number;
+            fault_is = fault.1;
+          }))),
+        )
 
 -- ---- the text
 
@@ -105,7 +130,11 @@ by_encoding bytes size =
       | inl t ↦ by_tokens bytes size (IsUtf8-from_is_utf8 bytes t)
       | inr f ↦
           let k = stops_somewhere bytes f in
-          inr (record { spot = spot_after (take k.0 bytes); code = jdf.NotUtf8 }, inr (inl (record { bytes_at_most = size; at = k.0; stops = k.1; fault_is = refl })))
+          inr (
+            record { spot = spot_after (take k.0 bytes); code = jdf.NotUtf8 },
+            inr
+                (inl (record { bytes_at_most = size; at = k.0; stops = k.1; fault_is = refl })),
+          )
     ]
 
 pub tree_or_fault : TreeOrFault

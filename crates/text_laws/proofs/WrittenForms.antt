@@ -1,5 +1,6 @@
 -- The lexical units of a text are those of the written forms.
-use Rattle.std.proofs.Common.{◌≡◌, ℕ, Bool, true, false, cond, eqb, List, [], ◌∷◌, ◌++◌, length, take, drop, Some, None, refl, sym, ◌∙◌, ap, subst, inl, inr, arith}
+use Rattle.std.proofs.Common.{◌≡◌, ℕ, Bool, true, false, cond, eqb, List, [], ◌∷◌, ◌++◌, length, take, drop, Some, None}
+use Rattle.std.proofs.Common.{refl, sym, ◌∙◌, ap, subst, inl, inr, arith}
 use Rattle.std.specs.Prelude.{codes, ◌||◌, not}
 use Rattle.std.specs.List.{starts_with}
 use Rattle.std.proofs.lemmas.Bool.{and_parts, cases_lt, false≢true, eqb-true, not-true, or_parts}
@@ -42,7 +43,8 @@ decided_unit line block raw_block option quote blank_byte letter digit mark_byte
     (cond block BlockComment
     (cond raw_block (TokenOf Raw)
     (cond option (TokenOf OptionLine)
-    (cond quote (TokenOf Quoted) (cond blank_byte Blank (cond letter (TokenOf Name) (cond digit (TokenOf Number) (cond mark_byte (TokenOf Mark) (TokenOf Other)))))))))
+    (cond quote (TokenOf Quoted) (cond blank_byte Blank (cond letter (TokenOf Name)
+    (cond digit (TokenOf Number) (cond mark_byte (TokenOf Mark) (TokenOf Other)))))))))
 
 -- the tests that hold, and those that fail, for a unit
 abbrev Decides : LexicalUnit → (line block raw_block option quote blank_byte letter digit mark_byte : Bool) → Type 0
@@ -71,12 +73,16 @@ decides false false false false false false false false false = (refl, refl, ref
 
 abbrev DecidedBy : LexicalUnit → ℕ → List ℕ → Type 0
 DecidedBy u b rest =
-    Decides u (starts_with eqb (b ∷ rest) (codes "//")) (starts_with eqb (b ∷ rest) (codes "/*")) (starts_with eqb (b ∷ rest) (codes "%{")) (begins_option (b ∷ rest)) (eqb b 34) (is_blank b) (is_letter b) (is_digit b) (begins_mark (b ∷ rest))
+    Decides u (starts_with eqb (b ∷ rest) (codes "//")) (starts_with eqb (b ∷ rest) (codes "/*"))
+    (starts_with eqb (b ∷ rest) (codes "%{")) (begins_option (b ∷ rest)) (eqb b 34) (is_blank b) (is_letter b)
+    (is_digit b) (begins_mark (b ∷ rest))
 
 decided_by : (u : LexicalUnit) (b : ℕ) (rest : List ℕ) → unit_at (b ∷ rest) ≡ Some u → DecidedBy u b rest
 decided_by u b rest e =
     subst (λ v. DecidedBy v b rest) (same_Some (first_unit b rest) u e)
-    (decides (starts_with eqb (b ∷ rest) (codes "//")) (starts_with eqb (b ∷ rest) (codes "/*")) (starts_with eqb (b ∷ rest) (codes "%{")) (begins_option (b ∷ rest)) (eqb b 34) (is_blank b) (is_letter b) (is_digit b) (begins_mark (b ∷ rest)))
+    (decides (starts_with eqb (b ∷ rest) (codes "//")) (starts_with eqb (b ∷ rest) (codes "/*"))
+    (starts_with eqb (b ∷ rest) (codes "%{")) (begins_option (b ∷ rest)) (eqb b 34) (is_blank b) (is_letter b)
+    (is_digit b) (begins_mark (b ∷ rest)))
 
 starts_split : (xs front : List ℕ) → starts_with eqb xs front ≡ true → (rest : List ℕ) × (xs ≡ front ++ rest)
 starts_split xs [] e = (xs, refl)
@@ -88,7 +94,8 @@ starts_split (x ∷ xs) (f ∷ fs) e =
     (later.0, (λ i. sym same i ∷ later.1 i))
 
 -- The longest word of a unit begins with the unit's opening.
-opening_in_word : (u : LexicalUnit) (front word left rest : List ℕ) → IsUnit u word left → is_spelling u front ≡ true → word ++ left ≡ front ++ rest → (more : List ℕ) × (word ≡ front ++ more) × (rest ≡ more ++ left)
+opening_in_word : (u : LexicalUnit) (front word left rest : List ℕ) → IsUnit u word left → is_spelling u front ≡ true
+    → word ++ left ≡ front ++ rest → (more : List ℕ) × (word ≡ front ++ more) × (rest ≡ more ++ left)
 opening_in_word u front word left rest unit spelled same =
     elim (cases_lt (length word) (length front)) [
       | inl shorter ↦
@@ -121,13 +128,15 @@ option_form word left unit begins =
     let parts = and_parts (starts_with eqb (word ++ left) (codes "%option")) (not (begins_part (drop 7 (word ++ left)))) begins in
     let split = starts_split (word ++ left) (codes "%option") parts.0 in
     let found = opening_in_word (TokenOf OptionLine) (codes "%option") word left split.0 unit refl split.1 in
-    let no_lf : is_spelling (TokenOf OptionLine) (codes "%option" ++ found.0) ≡ true = subst (λ z. is_spelling (TokenOf OptionLine) z ≡ true) found.1 unit.spelled in
+    let no_lf : is_spelling (TokenOf OptionLine) (codes "%option" ++ found.0)
+    ≡ true = subst (λ z. is_spelling (TokenOf OptionLine) z ≡ true) found.1 unit.spelled in
     let after : drop 7 (word ++ left) ≡ split.0 = ap (drop 7) split.1 in
     let no_part : begins_part (found.0 ++ left) ≡ false =
     ap begins_part (sym (after ∙ found.2)) ∙ not-true (begins_part (drop 7 (word ++ left))) parts.1 in
     subst (λ z. HasForm (TokenOf OptionLine) z) (sym found.1) (option_line found.0 (part_before found.0 left no_part) no_lf)
 
-comment_form : (b : ℕ) (w left : List ℕ) → is_spelling BlockComment (b ∷ w) ≡ true → starts_with eqb (b ∷ (w ++ left)) (codes "/*") ≡ true → HasForm BlockComment (b ∷ w)
+comment_form : (b : ℕ) (w left : List ℕ) → is_spelling BlockComment (b ∷ w) ≡ true
+    → starts_with eqb (b ∷ (w ++ left)) (codes "/*") ≡ true → HasForm BlockComment (b ∷ w)
 comment_form b [] left spelled starts = absurd (false≢true spelled)
 comment_form b (c ∷ v) left spelled starts =
     let split = starts_split (b ∷ c ∷ (v ++ left)) (codes "/*") starts in
@@ -136,7 +145,8 @@ comment_form b (c ∷ v) left spelled starts =
     let closed = closed_is_free BlockComment 42 47 comment_closed_by v spelled in
     subst (λ z. HasForm BlockComment z) (λ i. sym first i ∷ sym second i ∷ sym closed.whole i) (block_comment closed.word closed.free)
 
-raw_form : (b : ℕ) (w left : List ℕ) → is_spelling (TokenOf Raw) (b ∷ w) ≡ true → starts_with eqb (b ∷ (w ++ left)) (codes "%{") ≡ true → HasForm (TokenOf Raw) (b ∷ w)
+raw_form : (b : ℕ) (w left : List ℕ) → is_spelling (TokenOf Raw) (b ∷ w) ≡ true
+    → starts_with eqb (b ∷ (w ++ left)) (codes "%{") ≡ true → HasForm (TokenOf Raw) (b ∷ w)
 raw_form b [] left spelled starts = absurd (false≢true spelled)
 raw_form b (c ∷ v) left spelled starts =
     let split = starts_split (b ∷ c ∷ (v ++ left)) (codes "%{") starts in
@@ -208,14 +218,16 @@ unit_of_word u word left v y unit same words =
 written_from : (u : LexicalUnit) (b : ℕ) (w left : List ℕ) (o : Found) → IsWrittenUnit u (b ∷ w) left → front_unit (b ∷ (w ++ left)) ≡ o → IsUnit u (b ∷ w) left
 written_from u b w left None written found =
     let first : first_unit b (w ++ left) ≡ u = same_Some (first_unit b (w ++ left)) u written.begins in
-    let spelled : is_spelling (first_unit b (w ++ left)) (b ∷ w) ≡ true = subst (λ z. is_spelling z (b ∷ w) ≡ true) (sym first) (form_is_spelling u (b ∷ w) written.form) in
+    let spelled : is_spelling (first_unit b (w ++ left)) (b ∷ w) ≡ true = subst (λ z. is_spelling z (b ∷ w) ≡ true)
+    (sym first) (form_is_spelling u (b ∷ w) written.form) in
     absurd (front_none b (w ++ left) found (b ∷ w) left refl spelled)
 written_from u b w left (Some (q, n)) written found =
     let text = b ∷ (w ++ left) in
     let whole : text ≡ take n text ++ drop n text = sym (take-append-drop n text) in
     let front = front_found text q n found in
     let one : q ≡ u = one_begins q u text front.0 written.begins in
-    let here : IsUnit q (take n text) (drop n text) = record { begins = ap unit_at (sym whole) ∙ front.0; spelled = front.1.spelled; longest = front.1.longest } in
+    let here : IsUnit q (take n text) (drop n text) = record
+    { begins = ap unit_at (sym whole) ∙ front.0; spelled = front.1.spelled; longest = front.1.longest } in
     let unit : IsUnit u (take n text) (drop n text) = subst (λ z. IsUnit z (take n text) (drop n text)) one here in
     unit_of_word u (b ∷ w) left (take n text) (drop n text) unit whole (same_word u (b ∷ w) left (take n text) (drop n text) written unit whole)
 

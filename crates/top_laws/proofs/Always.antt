@@ -87,7 +87,8 @@ certify_some operands jdf data_name =
     let a = operands 0 jdf in
     let b = operands 1 data_name in
     let checked = contents_some jdf data_name a b in
-    let found = some_on IsCertified checked.0 (λ P given is. certified_some P given (contents_consistent jdf data_name a b P given (subst (ContentsDenote jdf data_name a b) is checked.1))) in
+    let found = some_on IsCertified checked.0 (λ P given is. certified_some P given
+    (contents_consistent jdf data_name a b P given (subst (ContentsDenote jdf data_name a b) is checked.1))) in
     (found.0, (checked.0, checked.1, found.1))
 
 traced_some : (P : Plan) (given : Data) → IsConsistent P → (v : Denotation) × IsTraced P given v
@@ -95,12 +96,14 @@ traced_some P given con =
     let order = some_whole_order P given con in
     (verdicts.Ran P (TraceText (trace_text P order.0)), (order.0, order.1, refl))
 
-trace_some : (operands : Operands) (jdf data_name : List ℕ) (workers shards : ℕ) → (v : Denotation) × CommandDenotes operands (Trace jdf data_name workers shards) v
+trace_some : (operands : Operands) (jdf data_name : List ℕ) (workers shards : ℕ)
+    → (v : Denotation) × CommandDenotes operands (Trace jdf data_name workers shards) v
 trace_some operands jdf data_name workers shards =
     let a = operands 0 jdf in
     let b = operands 1 data_name in
     let checked = contents_some jdf data_name a b in
-    let found = some_on IsTraced checked.0 (λ P given is. traced_some P given (contents_consistent jdf data_name a b P given (subst (ContentsDenote jdf data_name a b) is checked.1))) in
+    let found = some_on IsTraced checked.0 (λ P given is. traced_some P given
+    (contents_consistent jdf data_name a b P given (subst (ContentsDenote jdf data_name a b) is checked.1))) in
     (found.0, (checked.0, checked.1, found.1))
 
 replayed_some : (trace : List ℕ) (content : Option (List ℕ)) (P : Plan) (given : Data) → IsConsistent P → (v : Denotation) × IsReplayed trace content P given v
@@ -116,7 +119,9 @@ replay_some operands jdf data_name trace =
     let b = operands 1 data_name in
     let content = operands 2 trace in
     let checked = contents_some jdf data_name a b in
-    let found = some_on (IsReplayed trace content) checked.0 (λ P given is. replayed_some trace content P given (contents_consistent jdf data_name a b P given (subst (ContentsDenote jdf data_name a b) is checked.1))) in
+    let found = some_on (IsReplayed trace content) checked.0
+    (λ P given is. replayed_some trace content P given (contents_consistent jdf data_name a b P given
+    (subst (ContentsDenote jdf data_name a b) is checked.1))) in
     (found.0, (checked.0, checked.1, found.1))
 
 abbrev ranked : ℕ → Plan → Data → Denotation
@@ -132,7 +137,9 @@ command_some : (operands : Operands) (command : Order) → (v : Denotation) × C
 command_some operands (Run jdf data_name workers shards preload) =
     let settings : Settings = record { workers = workers; shards = shards; preload = preload } in
     let checked = contents_some jdf data_name (operands 0 jdf) (operands 1 data_name) in
-    let found = some_on (IsAnswer settings) checked.0 (λ P given is. (if is_too_large settings P then verdicts.PreloadTooLarge else verdicts.Ran P (Answer (answer P given)), refl)) in
+    let found = some_on (IsAnswer settings) checked.0 (λ P given is.
+    (if is_too_large settings P then verdicts.PreloadTooLarge else verdicts.Ran P (Answer (answer P given)), refl))
+    in
     (found.0, (checked.0, checked.1, found.1))
 command_some operands (Show jdf) = content_shows_some jdf (operands 0 jdf)
 command_some operands (Check jdf data_name) = contents_some jdf data_name (operands 0 jdf) (operands 1 data_name)

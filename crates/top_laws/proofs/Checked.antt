@@ -20,12 +20,14 @@ use Rattle.ptg_top.specs.JobFiles.{ContentsDenote, JobTextsDenote, RefusesText}
 -- ---- a verb that continues after `check`
 
 module _ (Verb : Plan → Data → Denotation → Type 0) where
-  pub once_on : (checked v w : Denotation) → ((P : Plan) (given : Data) → checked ≡ verdicts.Job (jobs.Consistent P given) → Verb P given v → Verb P given w → v ≡ w)
+  pub once_on : (checked v w : Denotation) → ((P : Plan) (given : Data)
+      → checked ≡ verdicts.Job (jobs.Consistent P given) → Verb P given v → Verb P given w → v ≡ w)
       → OnConsistent Verb checked v → OnConsistent Verb checked w → v ≡ w
   once_on (verdicts.Job (jobs.Consistent P given)) v w once h k = once P given refl h k
   once_on checked v w once h k = h ∙ sym k
 
-  pub some_on : (checked : Denotation) → ((P : Plan) (given : Data) → checked ≡ verdicts.Job (jobs.Consistent P given) → (v : Denotation) × Verb P given v) → (v : Denotation) × OnConsistent Verb checked v
+  pub some_on : (checked : Denotation) → ((P : Plan) (given : Data) → checked ≡ verdicts.Job (jobs.Consistent P given)
+      → (v : Denotation) × Verb P given v) → (v : Denotation) × OnConsistent Verb checked v
   some_on (verdicts.Job (jobs.Consistent P given)) some = some P given refl
   some_on checked some = (checked, refl)
 
@@ -39,7 +41,8 @@ refused_or_read text v J (job, (f, first, is), e) tree = not_both text J f tree 
 pub job_texts_once : (text data_text : List ℕ) (v w : Denotation) → JobTextsDenote text data_text v → JobTextsDenote text data_text w → v ≡ w
 job_texts_once text data_text v w (job, h, e) (other, k, d) = e ∙ (ap verdicts.Job (texts_once text data_text job other h k) ∙ sym d)
 
-pub contents_once : (jdf data_name : List ℕ) (a b : Option (List ℕ)) (v w : Denotation) → ContentsDenote jdf data_name a b v → ContentsDenote jdf data_name a b w → v ≡ w
+pub contents_once : (jdf data_name : List ℕ) (a b : Option (List ℕ)) (v w : Denotation)
+    → ContentsDenote jdf data_name a b v → ContentsDenote jdf data_name a b w → v ≡ w
 contents_once jdf data_name None b v w h k = h ∙ sym k
 contents_once jdf data_name (Some text) None v w (inl h) (inl k) = refused_once text v w h k
 contents_once jdf data_name (Some text) None v w (inl h) (inr (J, tree, d)) = absurd (refused_or_read text v J h tree)
@@ -56,7 +59,8 @@ texts_consistent text data_text P given (inr (inr (job, has, plan))) = plan.1
 same_job : (a b : JobVerdict) → verdicts.Job a ≡ verdicts.Job b → a ≡ b
 same_job a b e = cc
 
-pub contents_consistent : (jdf data_name : List ℕ) (a b : Option (List ℕ)) (P : Plan) (given : Data) → ContentsDenote jdf data_name a b (verdicts.Job (jobs.Consistent P given)) → IsConsistent P
+pub contents_consistent : (jdf data_name : List ℕ) (a b : Option (List ℕ)) (P : Plan) (given : Data)
+    → ContentsDenote jdf data_name a b (verdicts.Job (jobs.Consistent P given)) → IsConsistent P
 contents_consistent jdf data_name None b P given e = absurd cc
 contents_consistent jdf data_name (Some text) None P given (inl (job, (fault, h, is), e)) = absurd cc
 contents_consistent jdf data_name (Some text) None P given (inr (J, tree, e)) = absurd cc

@@ -1,5 +1,6 @@
 -- If reads returned pieces of known files, each load is the file with its name, or both have more than 16 MiB.
-use Rattle.std.proofs.Common.{◌≡◌, ℕ, ◌+◌, ◌<◌, ◌≤◌, List, [], ◌∷◌, ◌++◌, length, take, drop, sym, ap, subst, ◌∙◌, refl, arith, append_assoc, append-nil, length-append, inl, inr}
+use Rattle.std.proofs.Common.{◌≡◌, ℕ, ◌+◌, ◌<◌, ◌≤◌, List, [], ◌∷◌, ◌++◌, length, take, drop, sym, ap, subst, ◌∙◌, refl}
+use Rattle.std.proofs.Common.{arith, append_assoc, append-nil, length-append, inl, inr}
 use Rattle.std.specs.Prelude.{Some, ◌⊎◌}
 use Rattle.std.specs.List.{AllByRecursion, concat}
 use Rattle.std.proofs.lemmas.List.{append_cancel_left, length-take, take_all, drop-drop}
@@ -35,12 +36,14 @@ all_back P (x ∷ xs) ys all = all_back P xs ys all.1
 -- ---- the pieces of one file
 
 -- consecutive pieces of a file are its bytes from the offset where they began
-turn_is_front : (files : NamedFiles) (name bytes : List ℕ) → file_of files name ≡ Some bytes → (from : ℕ) (pieces : List (List ℕ)) → AllByRecursion (IsPieceOf files) (reads_in_turn name from pieces)
+turn_is_front : (files : NamedFiles) (name bytes : List ℕ) → file_of files name ≡ Some bytes
+    → (from : ℕ) (pieces : List (List ℕ)) → AllByRecursion (IsPieceOf files) (reads_in_turn name from pieces)
     → concat pieces ≡ take (length (concat pieces)) (drop from bytes)
 turn_is_front files name bytes there from [] all = refl
 turn_is_front files name bytes there from (piece ∷ pieces) ((other, same, is), all) =
     let one : other ≡ bytes = cc in
-    let here : take (length piece) piece ≡ take (length piece) (drop from bytes) = subst (λ (b : List ℕ). take (length piece) piece ≡ take (length piece) (drop from b)) one is.piece in
+    let here : take (length piece) piece ≡ take (length piece) (drop from bytes) = subst
+    (λ (b : List ℕ). take (length piece) piece ≡ take (length piece) (drop from b)) one is.piece in
     let whole : piece ≡ take (length piece) (drop from bytes) = sym (take_all (length piece) piece (omega arith)) ∙ here in
     let rest = turn_is_front files name bytes there (from + length piece) pieces all in
     let later : drop (from + length piece) bytes ≡ drop (length piece) (drop from bytes) = sym (drop-drop (length piece) from bytes) in
@@ -68,8 +71,10 @@ module _ (files : NamedFiles) (load : Load) (old new : List Read) (first : IsLoa
       let last = (all_back (IsPieceOf files) own end all).0 in
       let bytes = last.0 in
       let earlier : first.earlier ≡ take (length first.earlier) bytes =
-      subst (λ (b : List ℕ). b ≡ take (length b) bytes) first.reads.together (turn_is_front files load.name bytes last.1 0 first.reads.pieces (all_front (IsPieceOf files) own end all)) in
-      let piece : first.last ≡ take (length first.last) (drop (length first.earlier) bytes) = sym (take_all (length first.last) first.last (omega arith)) ∙ last.2.piece in
+      subst (λ (b : List ℕ). b ≡ take (length b) bytes) first.reads.together
+      (turn_is_front files load.name bytes last.1 0 first.reads.pieces (all_front (IsPieceOf files) own end all)) in
+      let piece : first.last ≡ take (length first.last) (drop (length first.earlier) bytes) = sym
+      (take_all (length first.last) first.last (omega arith)) ∙ last.2.piece in
       let text : load.text ≡ take (length load.text) bytes =
       first.text
       ∙ ap (λ (b : List ℕ). b ++ first.last) earlier
@@ -78,7 +83,9 @@ module _ (files : NamedFiles) (load : Load) (old new : List Read) (first : IsLoa
       ∙ ap (λ (k : ℕ). take k bytes) (sym (length-append first.earlier first.last) ∙ sym (ap length first.text)) in
       (bytes, last.1, whole_or_long bytes text last.2.end first.whole)
     where
-      whole_or_long : (bytes : List ℕ) → load.text ≡ take (length load.text) bytes → (length first.last ≡ 0 → length bytes ≤ length first.earlier) → (first.last ≡ []) ⊎ (16777216 < length load.text) → IsSameOrLong load.text bytes
+      whole_or_long : (bytes : List ℕ) → load.text ≡ take (length load.text) bytes
+          → (length first.last ≡ 0 → length bytes ≤ length first.earlier)
+          → (first.last ≡ []) ⊎ (16777216 < length load.text) → IsSameOrLong load.text bytes
       whole_or_long bytes text end (inl none) =
           let short : length bytes ≤ length first.earlier = end (ap length none) in
           let size : length load.text ≡ length first.earlier = ap length first.text ∙ length-append first.earlier first.last ∙ omega (arith, ap length none) in
@@ -89,7 +96,8 @@ module _ (files : NamedFiles) (load : Load) (old new : List Read) (first : IsLoa
 
 -- ---- all loads
 
-loads_from : (files : NamedFiles) (old new : List Read) (loads : List Load) → Gave old new loads → (added : List Read) → new ≡ old ++ added → AllByRecursion (IsPieceOf files) added → AllByRecursion (IsFileOf files) loads
+loads_from : (files : NamedFiles) (old new : List Read) (loads : List Load) → Gave old new loads → (added : List Read)
+    → new ≡ old ++ added → AllByRecursion (IsPieceOf files) added → AllByRecursion (IsFileOf files) loads
 loads_from files old new [] gave added is all = tt
 loads_from files old new (load ∷ loads) (middle, first, rest) added is all =
     let more = gave_adds middle new loads rest in
@@ -103,7 +111,9 @@ loads_from files old new (load ∷ loads) (middle, first, rest) added is all =
     )
 
 -- loads before further reads
-pub loads_before : (files : NamedFiles) (old middle new : List Read) (loads : List Load) (rest : List Read) → AddsPieces (Some files) old new → Gave old middle loads → new ≡ middle ++ rest → AllByRecursion (IsFileOf files) loads
+pub loads_before : (files : NamedFiles) (old middle new : List Read) (loads : List Load) (rest : List Read)
+    → AddsPieces (Some files) old new → Gave old middle loads → new ≡ middle ++ rest
+    → AllByRecursion (IsFileOf files) loads
 loads_before files old middle new loads rest pieces gave then =
     let added = pieces files refl in
     let own = gave_adds old middle loads gave in

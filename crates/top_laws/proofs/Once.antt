@@ -56,12 +56,14 @@ certified_once P given v w con (c, h, e) (d, k, q) =
     let ws = class_weights P given in
     e ∙ (ap (λ (x : Certificate). verdicts.Ran P (certified ws (answer P given) x)) (one P given ws c d con h k) ∙ sym q)
 
-certify_once : (operands : Operands) (jdf data_name : List ℕ) (v w : Denotation) → CommandDenotes operands (Certify jdf data_name) v → CommandDenotes operands (Certify jdf data_name) w → v ≡ w
+certify_once : (operands : Operands) (jdf data_name : List ℕ) (v w : Denotation)
+    → CommandDenotes operands (Certify jdf data_name) v → CommandDenotes operands (Certify jdf data_name) w → v ≡ w
 certify_once operands jdf data_name v w (a, h, e) (b, k, d) =
     let a_file = operands 0 jdf in
     let b_file = operands 1 data_name in
     once_on IsCertified b v w
-    (λ P given is. certified_once P given v w (contents_consistent jdf data_name a_file b_file P given (subst (ContentsDenote jdf data_name a_file b_file) is k)))
+    (λ P given is. certified_once P given v w (contents_consistent jdf data_name a_file b_file P given
+    (subst (ContentsDenote jdf data_name a_file b_file) is k)))
     (subst (λ (c : Denotation). OnConsistent IsCertified c v) (contents_once jdf data_name a_file b_file a b h k) e) d
 
 -- a text has at most one first fault, or is a trace
@@ -71,31 +73,42 @@ replay_of_once P given text v w con (inl (f, h, e)) (inr (trace, d)) = absurd (t
 replay_of_once P given text v w con (inr (trace, e)) (inl (g, k, d)) = absurd (trace_or_fault P given con text trace g k)
 replay_of_once P given text v w con (inr (trace, e)) (inr (other, d)) = e ∙ sym d
 
-replayed_once : (trace : List ℕ) (content : Option (List ℕ)) (P : Plan) (given : Data) (v w : Denotation) → IsConsistent P → IsReplayed trace content P given v → IsReplayed trace content P given w → v ≡ w
+replayed_once : (trace : List ℕ) (content : Option (List ℕ)) (P : Plan) (given : Data) (v w : Denotation)
+    → IsConsistent P → IsReplayed trace content P given v → IsReplayed trace content P given w → v ≡ w
 replayed_once trace None P given v w con h k = h ∙ sym k
 replayed_once trace (Some text) P given v w con h k = replay_of_once P given text v w con h k
 
-replay_once : (operands : Operands) (jdf data_name trace : List ℕ) (v w : Denotation) → CommandDenotes operands (Replay jdf data_name trace) v → CommandDenotes operands (Replay jdf data_name trace) w → v ≡ w
+replay_once : (operands : Operands) (jdf data_name trace : List ℕ) (v w : Denotation)
+    → CommandDenotes operands (Replay jdf data_name trace) v → CommandDenotes operands (Replay jdf data_name trace) w
+    → v ≡ w
 replay_once operands jdf data_name trace v w (a, h, e) (b, k, d) =
     let a_file = operands 0 jdf in
     let b_file = operands 1 data_name in
     let Verb = IsReplayed trace (operands 2 trace) in
     once_on Verb b v w
-    (λ P given is. replayed_once trace (operands 2 trace) P given v w (contents_consistent jdf data_name a_file b_file P given (subst (ContentsDenote jdf data_name a_file b_file) is k)))
+    (λ P given is. replayed_once trace (operands 2 trace) P given v w
+    (contents_consistent jdf data_name a_file b_file P given
+    (subst (ContentsDenote jdf data_name a_file b_file) is k)))
     (subst (λ (c : Denotation). OnConsistent Verb c v) (contents_once jdf data_name a_file b_file a b h k) e) d
 
 -- two verdicts of `trace` are the same refusal, or traces of one job
-traces_on : (operands : Operands) (jdf data_name : List ℕ) (checked v w : Denotation) → FilesDenote operands jdf data_name checked → OnConsistent IsTraced checked v → OnConsistent IsTraced checked w → (v ≡ w) ⊎ AreTracesOfOneJob operands v w
+traces_on : (operands : Operands) (jdf data_name : List ℕ) (checked v w : Denotation)
+    → FilesDenote operands jdf data_name checked → OnConsistent IsTraced checked v → OnConsistent IsTraced checked w
+    → (v ≡ w) ⊎ AreTracesOfOneJob operands v w
 traces_on operands jdf data_name (verdicts.Job (jobs.Consistent P given)) v w found h k = inr (jdf, data_name, P, given, found, h, k)
 traces_on operands jdf data_name checked v w found h k = inl (h ∙ sym k)
 
-traces_of_one_job : (operands : Operands) (jdf data_name : List ℕ) (workers shards : ℕ) (v w : Denotation) → CommandDenotes operands (Trace jdf data_name workers shards) v → CommandDenotes operands (Trace jdf data_name workers shards) w
+traces_of_one_job : (operands : Operands) (jdf data_name : List ℕ) (workers shards : ℕ) (v w : Denotation)
+    → CommandDenotes operands (Trace jdf data_name workers shards) v
+    → CommandDenotes operands (Trace jdf data_name workers shards) w
     → (v ≡ w) ⊎ AreTracesOfOneJob operands v w
 traces_of_one_job operands jdf data_name workers shards v w (a, h, e) (b, k, d) =
-    traces_on operands jdf data_name b v w k (subst (λ (c : Denotation). OnConsistent IsTraced c v) (contents_once jdf data_name (operands 0 jdf) (operands 1 data_name) a b h k) e) d
+    traces_on operands jdf data_name b v w k (subst (λ (c : Denotation). OnConsistent IsTraced c v)
+    (contents_once jdf data_name (operands 0 jdf) (operands 1 data_name) a b h k) e) d
 
 -- a command other than `trace` denotes at most one verdict with the operands
-command_once : (operands : Operands) (command : Order) (v w : Denotation) → IsNoTrace command → CommandDenotes operands command v → CommandDenotes operands command w → v ≡ w
+command_once : (operands : Operands) (command : Order) (v w : Denotation) → IsNoTrace command
+    → CommandDenotes operands command v → CommandDenotes operands command w → v ≡ w
 command_once operands (Trace jdf data_name workers shards) v w free h k = absurd free
 command_once operands (Run jdf data_name workers shards preload) v w free (a, h, e) (b, k, d) =
     let settings : Settings = record { workers = workers; shards = shards; preload = preload } in
@@ -119,7 +132,8 @@ one_meaning words operands v w free (inr (a, formed, h)) (inr (b, other, k)) =
     command_once operands b v w (free b other) (subst (λ (r : Order). CommandDenotes operands r v) (one_command words a b formed other) h) k
 
 -- and two verdicts of `trace` are of one job
-one_or_traces : (operands : Operands) (command : Order) (v w : Denotation) → CommandDenotes operands command v → CommandDenotes operands command w → (v ≡ w) ⊎ AreTracesOfOneJob operands v w
+one_or_traces : (operands : Operands) (command : Order) (v w : Denotation) → CommandDenotes operands command v
+    → CommandDenotes operands command w → (v ≡ w) ⊎ AreTracesOfOneJob operands v w
 one_or_traces operands (Trace jdf data_name workers shards) v w h k = traces_of_one_job operands jdf data_name workers shards v w h k
 one_or_traces operands (Run jdf data_name workers shards preload) v w h k = inl (command_once operands (Run jdf data_name workers shards preload) v w tt h k)
 one_or_traces operands (Show jdf) v w h k = inl (command_once operands (Show jdf) v w tt h k)

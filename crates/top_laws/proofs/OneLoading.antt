@@ -29,13 +29,17 @@ parts_of a b i j p q r s e =
     let rests : r ≡ s = cc in
     (ap (λ (x : Read). x.name) heads, ap (λ (x : Read). x.piece) heads, rests)
 
-no_end_within : (from : ℕ) (last piece : List ℕ) (pieces : List (List ℕ)) → some piece → from + length (piece ++ concat pieces) ≤ 16777216 → last ≡ piece → (last ≡ []) ⊎ (16777216 < from + 0 + length last) → ⊥
+no_end_within : (from : ℕ) (last piece : List ℕ) (pieces : List (List ℕ)) → some piece
+    → from + length (piece ++ concat pieces) ≤ 16777216 → last ≡ piece
+    → (last ≡ []) ⊎ (16777216 < from + 0 + length last) → ⊥
 no_end_within from last piece pieces nonempty within same (inl none) = absurd (omega (arith, nonempty, ap length (sym same ∙ none)))
 no_end_within from last piece pieces nonempty within same (inr past) = absurd (omega (arith, within, past, ap length same, length-append piece (concat pieces)))
 
 module _ (a b : List ℕ) where
-  once : (from : ℕ) (ps qs : List (List ℕ)) (last other : List ℕ) (r s : List Read) → AllByRecursion some ps → AllByRecursion some qs → from + length (concat ps) ≤ 16777216 → from + length (concat qs) ≤ 16777216
-      → IsLast from ps last → IsLast from qs other → reads_of a from ps last r ≡ reads_of b from qs other s → (a ≡ b) × (concat ps ++ last ≡ concat qs ++ other) × (r ≡ s)
+  once : (from : ℕ) (ps qs : List (List ℕ)) (last other : List ℕ) (r s : List Read) → AllByRecursion some ps
+      → AllByRecursion some qs → from + length (concat ps) ≤ 16777216 → from + length (concat qs) ≤ 16777216
+      → IsLast from ps last → IsLast from qs other → reads_of a from ps last r ≡ reads_of b from qs other s
+      → (a ≡ b) × (concat ps ++ last ≡ concat qs ++ other) × (r ≡ s)
   once from [] [] last other r s all each within inside ends stops e = parts_of a b (from + 0) (from + 0) last other r s e
   once from [] (q ∷ qs) last other r s all each within inside ends stops e =
       let tail : List Read = reads_in_turn b (from + length q) qs ++ read_at b (from + length (q ++ concat qs)) other ∷ s in
@@ -57,23 +61,38 @@ module _ (a b : List ℕ) where
       ap (λ (k : ℕ). reads_in_turn a (from + length p) ps ++ read_at a k last ∷ r) (sym first) ∙ tails
       ∙ ap (λ (k : ℕ). reads_in_turn b (from + length q) qs ++ read_at b k other ∷ s) second in
       let sizes : length q ≡ length p = ap length (sym same) in
-      let alike : reads_of a (from + length p) ps last r ≡ reads_of b (from + length p) qs other s = subst (λ (k : ℕ). reads_of a (from + length p) ps last r ≡ reads_of b (from + k) qs other s) sizes moved in
+      let alike : reads_of a (from + length p) ps last r ≡ reads_of b (from + length p) qs other s = subst
+      (λ (k : ℕ). reads_of a (from + length p) ps last r ≡ reads_of b (from + k) qs other s) sizes moved in
       let then =
       once (from + length p) ps qs last other r s all.1 each.1 (omega (arith, within, first)) (omega (arith, inside, second, sizes))
       (last_of p ps last first ends) (subst (λ (k : ℕ). IsLast (from + k) qs other) sizes (last_of q qs other second stops)) alike in (
         then.0,
-        append_assoc p (concat ps) last ∙ ap (λ (t : List ℕ). p ++ t) then.1 ∙ ap (λ (t : List ℕ). t ++ (concat qs ++ other)) same ∙ sym (append_assoc q (concat qs) other),
+        append_assoc p (concat ps) last ∙ ap (λ (t : List ℕ). p ++ t) then.1
+            ∙ ap (λ (t : List ℕ). t ++ (concat qs ++ other)) same ∙ sym (append_assoc q (concat qs) other),
         then.2,
       )
     where
-      last_of : (piece : List ℕ) (pieces : List (List ℕ)) (end : List ℕ) → from + length (piece ++ concat pieces) ≡ from + length piece + length (concat pieces) → IsLast from (piece ∷ pieces) end → IsLast (from + length piece) pieces end
+      last_of : (piece : List ℕ) (pieces : List (List ℕ)) (end : List ℕ)
+          → from + length (piece ++ concat pieces) ≡ from + length piece + length (concat pieces)
+          → IsLast from (piece ∷ pieces) end → IsLast (from + length piece) pieces end
       last_of piece pieces end is (inl none) = inl none
       last_of piece pieces end is (inr past) = inr (omega (arith, past, is))
 
 some_added : (old new : List Read) (load : Load) (loads : List Load) → Gave old new (load ∷ loads) → new ≡ old → ⊥
 some_added old new load loads (middle, first, rest) same =
     let more = gave_adds middle new loads rest in
-    absurd (omega (arith, ap length more.1, length-append middle more.0, ap length first.ended, length-append first.before (last_read load old middle first ∷ []), ap length first.reads.reads, length-append old (own_reads load old middle first), ap length same))
+    absurd (omega (
+      arith,
+      ap length more.1,
+      length-append middle more.0,
+      ap length first.ended,
+      length-append
+          first.before (last_read load old middle first ∷ []),
+      ap length first.reads.reads,
+      length-append old
+          (own_reads load old middle first),
+      ap length same,
+    ))
 
 module _ (old : List Read) (a b : Load) (one two : List Read) (first : IsLoaded a old one) (second : IsLoaded b old two) where
   -- two loads that begin the same list are the same, and so is what was read after them
@@ -82,25 +101,35 @@ module _ (old : List Read) (a b : Load) (one two : List Read) (first : IsLoaded 
       let mine = own_reads a old one first in
       let its = own_reads b old two second in
       let whole : old ++ (mine ++ last_read a old one first ∷ r) ≡ old ++ (its ++ last_read b old two second ∷ s) =
-      sym (ap (λ (rs : List Read). rs ++ r) (added_by a old one first) ∙ append_assoc old (mine ++ last_read a old one first ∷ []) r ∙ ap (λ (rs : List Read). old ++ rs) (append_assoc mine (last_read a old one first ∷ []) r))
+      sym (ap (λ (rs : List Read). rs ++ r) (added_by a old one first)
+      ∙ append_assoc old (mine ++ last_read a old one first ∷ []) r
+      ∙ ap (λ (rs : List Read). old ++ rs) (append_assoc mine (last_read a old one first ∷ []) r))
       ∙ e
-      ∙ (ap (λ (rs : List Read). rs ++ s) (added_by b old two second) ∙ append_assoc old (its ++ last_read b old two second ∷ []) s ∙ ap (λ (rs : List Read). old ++ rs) (append_assoc its (last_read b old two second ∷ []) s)) in
+      ∙ (ap (λ (rs : List Read). rs ++ s) (added_by b old two second)
+      ∙ append_assoc old (its ++ last_read b old two second ∷ []) s
+      ∙ ap (λ (rs : List Read). old ++ rs) (append_assoc its (last_read b old two second ∷ []) s)) in
       let parts = append_cancel_left old (mine ++ last_read a old one first ∷ r) (its ++ last_read b old two second ∷ s) whole in
       let found =
       once a.name b.name 0 first.reads.pieces second.reads.pieces first.last second.last r s first.reads.nonempty second.reads.nonempty
-      (within_of a first.earlier first.reads.pieces first.reads.together first.within) (within_of b second.earlier second.reads.pieces second.reads.together second.within)
-      (last_of a first.earlier first.last first.reads.pieces first.reads.together first.text first.whole) (last_of b second.earlier second.last second.reads.pieces second.reads.together second.text second.whole)
-      (placed a mine first.last r first.earlier first.reads.pieces first.reads.together ∙ parts ∙ sym (placed b its second.last s second.earlier second.reads.pieces second.reads.together)) in
+      (within_of a first.earlier first.reads.pieces first.reads.together first.within)
+      (within_of b second.earlier second.reads.pieces second.reads.together second.within)
+      (last_of a first.earlier first.last first.reads.pieces first.reads.together first.text first.whole)
+      (last_of b second.earlier second.last second.reads.pieces second.reads.together second.text second.whole)
+      (placed a mine first.last r first.earlier first.reads.pieces first.reads.together ∙ parts
+      ∙ sym (placed b its second.last s second.earlier second.reads.pieces second.reads.together)) in
       let texts : a.text ≡ b.text =
-      first.text ∙ ap (λ (t : List ℕ). t ++ first.last) (sym first.reads.together) ∙ found.1 ∙ ap (λ (t : List ℕ). t ++ second.last) second.reads.together ∙ sym second.text in (
+      first.text ∙ ap (λ (t : List ℕ). t ++ first.last) (sym first.reads.together) ∙ found.1
+      ∙ ap (λ (t : List ℕ). t ++ second.last) second.reads.together ∙ sym second.text in (
         ap (λ (n : List ℕ). load_of n a.text) found.0 ∙ ap (λ (t : List ℕ). load_of b.name t) texts,
         append_cancel_right one two s (subst (λ (rs : List Read). one ++ rs ≡ two ++ s) found.2 e),
       )
     where
-      within_of : (load : Load) (earlier : List ℕ) (pieces : List (List ℕ)) → concat pieces ≡ earlier → length earlier ≤ 16777216 → 0 + length (concat pieces) ≤ 16777216
+      within_of : (load : Load) (earlier : List ℕ) (pieces : List (List ℕ)) → concat pieces ≡ earlier
+          → length earlier ≤ 16777216 → 0 + length (concat pieces) ≤ 16777216
       within_of load earlier pieces together within = omega (arith, ap length together, within)
 
-      last_of : (load : Load) (earlier last : List ℕ) (pieces : List (List ℕ)) → concat pieces ≡ earlier → load.text ≡ earlier ++ last → (last ≡ []) ⊎ (16777216 < length load.text) → IsLast 0 pieces last
+      last_of : (load : Load) (earlier last : List ℕ) (pieces : List (List ℕ)) → concat pieces ≡ earlier
+          → load.text ≡ earlier ++ last → (last ≡ []) ⊎ (16777216 < length load.text) → IsLast 0 pieces last
       last_of load earlier last pieces together text (inl none) = inl none
       last_of load earlier last pieces together text (inr past) = inr (omega (arith, past, ap length text, length-append earlier last, ap length together))
 

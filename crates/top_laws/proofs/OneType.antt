@@ -10,7 +10,8 @@ module _ (P : Plan) (elems : ℕ) (one : P.elems ≡ elems ∷ []) where
   unfolding preload_bytes
   bytes_are workers =
       let types : sum P.elems ≡ elems = ap sum one ∙ zero-add elems in
-      ap (λ n. 8 * (n + 8 * workers * sum P.elems)) (sent_are P elems one) ∙ ap (λ n. 8 * (elems * (length (all_data P) + length (all_writes P)) + 8 * workers * n)) types
+      ap (λ n. 8 * (n + 8 * workers * sum P.elems)) (sent_are P elems one)
+      ∙ ap (λ n. 8 * (elems * (length (all_data P) + length (all_writes P)) + 8 * workers * n)) types
       ∙ regroup elems (length (all_data P) + length (all_writes P)) workers
     where
       regroup : (e s w : ℕ) → 8 * (e * s + 8 * w * e) ≡ 8 * e * (s + 8 * w)

@@ -49,7 +49,8 @@ no_run jdf data_name (Some text) None P f (inr h) = let e = h.2 in cc
 no_run jdf data_name (Some text) (Some data_text) P f h = let e = h.2 in cc
 
 -- a consistent job has two texts
-texts_of : (jdf data_name : List ℕ) (a b : Option (List ℕ)) (P : Plan) (given : Data) → ContentsDenote jdf data_name a b (verdicts.Job (jobs.Consistent P given))
+texts_of : (jdf data_name : List ℕ) (a b : Option (List ℕ)) (P : Plan) (given : Data)
+    → ContentsDenote jdf data_name a b (verdicts.Job (jobs.Consistent P given))
     → (text : List ℕ) × (data_text : List ℕ) × TextsDenote text data_text (jobs.Consistent P given)
 texts_of jdf data_name None b P given h = absurd cc
 texts_of jdf data_name (Some text) None P given (inl h) = let e = h.2 in let d = h.1.2 in absurd cc
@@ -107,7 +108,8 @@ some_trace jdf data_name a b P Q given text h (tasks, whole, e) short =
 
 -- ---- what is replayed
 
-module _ (jdf data_name trace text : List ℕ) (others more : ℕ) (operands later : Operands) (P : Plan) (beside : HasTrace operands later jdf data_name trace text) where
+module _ (jdf data_name trace text : List ℕ) (others more : ℕ) (operands later : Operands) (P : Plan)
+    (beside : HasTrace operands later jdf data_name trace text) where
   abbrev settings : Settings
   settings = record { workers = others; shards = more; preload = false }
 
@@ -119,7 +121,8 @@ module _ (jdf data_name trace text : List ℕ) (others more : ℕ) (operands lat
   files_same v h = subst (λ b. ContentsDenote jdf data_name (later 0 jdf) b v) (sym beside.same_data)
       (subst (λ a. ContentsDenote jdf data_name a (operands 1 data_name) v) (sym beside.same_jdf) h)
 
-  module _ (Q : Plan) (given : Data) (found_job : FilesDenote operands jdf data_name (verdicts.Job (jobs.Consistent Q given))) (is : IsSomeTrace Q given text) where
+  module _ (Q : Plan) (given : Data) (found_job : FilesDenote operands jdf data_name
+      (verdicts.Job (jobs.Consistent Q given))) (is : IsSomeTrace Q given text) where
     abbrev IsRun : Denotation → Type 0
     IsRun v = v ≡ verdicts.Ran Q (found.Answer (answer Q given))
 
@@ -149,9 +152,11 @@ module _ (jdf data_name trace text : List ℕ) (others more : ℕ) (operands lat
         (verdicts.Job (jobs.Consistent Q given), files_same (verdicts.Job (jobs.Consistent Q given)) found_job, run_is_replay v on)
 
 -- if the arguments form this command, they denote what the command denotes
-command_of : (words : List (List ℕ)) (command : Order) (operands : Operands) (v : Denotation) → Orders words command → Denotes words operands v → CommandDenotes operands command v
+command_of : (words : List (List ℕ)) (command : Order) (operands : Operands) (v : Denotation) → Orders words command
+    → Denotes words operands v → CommandDenotes operands command v
 command_of words command operands v formed (inl h) = absurd (h.0 command formed)
-command_of words command operands v formed (inr (other, orders, h)) = subst (λ (c : Order). CommandDenotes operands c v) (one_command words other command orders formed) h
+command_of words command operands v formed (inr (other, orders, h)) = subst (λ (c : Order). CommandDenotes operands c v)
+    (one_command words other command orders formed) h
 
 pub traces_replay : TracesReplay
 traces_replay tracing replaying running jdf data_name trace workers shards others more operands later P text first second third h short beside v =
@@ -159,6 +164,16 @@ traces_replay tracing replaying running jdf data_name trace workers shards other
     let job = traced_on jdf data_name (operands 0 jdf) (operands 1 data_name) P text traced.0 traced.1 traced.2 in
     let at = subst (FilesDenote operands jdf data_name) job.2 traced.1 in
     let is = some_trace jdf data_name (operands 0 jdf) (operands 1 data_name) P job.0 job.1 text at job.3 short in (
-      λ k. inr (Run jdf data_name others more false, third, to_run jdf data_name trace text others more operands later P beside job.0 job.1 at is v (command_of replaying (Replay jdf data_name trace) later v second k)),
-      λ k. inr (Replay jdf data_name trace, second, to_replay jdf data_name trace text others more operands later P beside job.0 job.1 at is v (command_of running (Run jdf data_name others more false) operands v third k)),
+      λ k. inr (
+        Run jdf data_name others more false,
+        third,
+        to_run jdf data_name trace text others more operands later P
+            beside job.0 job.1 at is v (command_of replaying (Replay jdf data_name trace) later v second k),
+      ),
+      λ k. inr (
+        Replay jdf data_name trace,
+        second,
+        to_replay jdf data_name trace text others more operands later P
+            beside job.0 job.1 at is v (command_of running (Run jdf data_name others more false) operands v third k),
+      ),
     )

@@ -40,11 +40,13 @@ module _ (one other : List (List ℕ)) (jdf data_name : List ℕ) (a b : Setting
 
 pub shards_change_nothing : ShardsChangeNothing
 shards_change_nothing one other jdf data_name w s t p operands v first second h =
-    same_denoted one other jdf data_name (record { workers = w; shards = s; preload = p }) (record { workers = w; shards = t; preload = p }) operands v (λ P. refl) first second h
+    same_denoted one other jdf data_name (record { workers = w; shards = s; preload = p })
+    (record { workers = w; shards = t; preload = p }) operands v (λ P. refl) first second h
 
 pub workers_change_nothing : WorkersChangeNothing
 workers_change_nothing one other jdf data_name w u s t operands v first second h =
-    same_denoted one other jdf data_name (record { workers = w; shards = s; preload = false }) (record { workers = u; shards = t; preload = false }) operands v (λ P. refl) first second h
+    same_denoted one other jdf data_name (record { workers = w; shards = s; preload = false })
+    (record { workers = u; shards = t; preload = false }) operands v (λ P. refl) first second h
 
 pub seeds_change_nothing : SeedsChangeNothing
 seeds_change_nothing one other jdf data_name r seed another operands v first second (inl (none, e)) = absurd (none (Ranks jdf data_name r seed) first)

@@ -44,7 +44,8 @@ module _ (text bytes : List ℕ) where
   pub refuses_same : (v : Denotation) → IsSameOrLong text bytes → RefusesText text v → RefusesText bytes v
   refuses_same v same (job, (fault, h, e), d) = (job, (fault, jdf_fault_same fault same h, e), d)
 
-  long_first : (data_text : List ℕ) (job : JobVerdict) → 16777216 < length text → 16777216 < length bytes → TextsDenote text data_text job → TextsDenote bytes data_text job
+  long_first : (data_text : List ℕ) (job : JobVerdict) → 16777216 < length text → 16777216 < length bytes
+      → TextsDenote text data_text job → TextsDenote bytes data_text job
   long_first data_text job long longer (inl (fault, h, e)) = inl (fault, long_jdf fault long longer h, e)
   long_first data_text job long longer (inr (inl (J, fault, tree, h, e))) = absurd (omega (arith, long, tree.bytes_at_most))
   long_first data_text job long longer (inr (inr (found, has, h))) = absurd (omega (arith, long, has.tree.bytes_at_most))
@@ -64,7 +65,8 @@ module _ (text bytes : List ℕ) where
   long_data fault long longer (inl h) = inl (record { long = longer; fault_is = h.fault_is })
   long_data fault long longer (inr h) = absurd (omega (arith, long, h.bytes_at_most))
 
-  long_second : (jdf_text : List ℕ) (job : JobVerdict) → 16777216 < length text → 16777216 < length bytes → TextsDenote jdf_text text job → TextsDenote jdf_text bytes job
+  long_second : (jdf_text : List ℕ) (job : JobVerdict) → 16777216 < length text → 16777216 < length bytes
+      → TextsDenote jdf_text text job → TextsDenote jdf_text bytes job
   long_second jdf_text job long longer (inl h) = inl h
   long_second jdf_text job long longer (inr (inl (J, fault, tree, h, e))) = inr (inl (J, fault, tree, long_data fault long longer h, e))
   long_second jdf_text job long longer (inr (inr (found, has, h))) = absurd (omega (arith, long, has.spelled.bytes_at_most))
@@ -92,26 +94,37 @@ module _ (text bytes : List ℕ) where
 -- ---- contents
 
 -- a fault of the JDF's text is denoted whatever the data file holds, and also if it is missing
-refused_whatever : (jdf data_name text : List ℕ) (other : Option (List ℕ)) (v : Denotation) → RefusesText text v → ContentsDenote jdf data_name (Some text) other v
+refused_whatever : (jdf data_name text : List ℕ) (other : Option (List ℕ)) (v : Denotation) → RefusesText text v
+    → ContentsDenote jdf data_name (Some text) other v
 refused_whatever jdf data_name text None v h = inl h
 refused_whatever jdf data_name text (Some data_text) v h = (h.0, inl h.1, h.2)
 
 module _ (jdf data_name : List ℕ) where
-  pub contents_known : (a b one other : Option (List ℕ)) → Agree a one → Agree b other → (v : Denotation) → WasRead v → ContentsDenote jdf data_name a b v → ContentsDenote jdf data_name one other v
+  pub contents_known : (a b one other : Option (List ℕ)) → Agree a one → Agree b other → (v : Denotation) → WasRead v
+      → ContentsDenote jdf data_name a b v → ContentsDenote jdf data_name one other v
   contents_known None b one other first second v read h = absurd (read jdf h)
   contents_known (Some text) None one other first second v read (inl h) =
-      subst (λ (o : Option (List ℕ)). ContentsDenote jdf data_name o other v) (sym first.1) (refused_whatever jdf data_name first.0 other v (refuses_same text first.0 v first.2 h))
+      subst (λ (o : Option (List ℕ)). ContentsDenote jdf data_name o other v) (sym first.1)
+      (refused_whatever jdf data_name first.0 other v (refuses_same text first.0 v first.2 h))
   contents_known (Some text) None one other first second v read (inr (J, tree, e)) = absurd (read data_name e)
   contents_known (Some text) (Some data_text) one other first second v read (job, h, e) =
-      let both : JobTextsDenote first.0 second.0 v = (job, second_same data_text second.0 first.0 job second.2 (first_same text first.0 data_text job first.2 h), e) in
-      let half : ContentsDenote jdf data_name (Some first.0) other v = subst (λ (o : Option (List ℕ)). ContentsDenote jdf data_name (Some first.0) o v) (sym second.1) both in
+      let both : JobTextsDenote first.0 second.0 v = (
+        job,
+        second_same data_text second.0 first.0 job second.2
+            (first_same text first.0 data_text job first.2 h),
+        e,
+      ) in
+      let half : ContentsDenote jdf data_name (Some first.0) other v = subst
+      (λ (o : Option (List ℕ)). ContentsDenote jdf data_name (Some first.0) o v) (sym second.1) both in
       subst (λ (o : Option (List ℕ)). ContentsDenote jdf data_name o other v) (sym first.1) half
 
 pub shows_known : (name : List ℕ) (a one : Option (List ℕ)) → Agree a one → (v : Denotation) → WasRead v → ContentShows name a v → ContentShows name one v
 shows_known name None one agree v read h = absurd (read name h)
 shows_known name (Some text) one agree v read h = subst (λ (o : Option (List ℕ)). ContentShows name o v) (sym agree.1) (shows_same text agree.0 v agree.2 h)
 
-pub replayed_known : (trace : List ℕ) (a one : Option (List ℕ)) → Agree a one → (P : Plan) (given : Data) (v : Denotation) → WasRead v → IsReplayed trace a P given v → IsReplayed trace one P given v
+pub replayed_known : (trace : List ℕ) (a one : Option (List ℕ)) → Agree a one
+    → (P : Plan) (given : Data) (v : Denotation) → WasRead v → IsReplayed trace a P given v
+    → IsReplayed trace one P given v
 replayed_known trace None one agree P given v read h = absurd (read trace h)
 replayed_known trace (Some text) one agree P given v read h =
     subst (λ (o : Option (List ℕ)). IsReplayed trace o P given v) (sym agree.1) (replay_same text agree.0 P given v agree.2 h)

@@ -10,7 +10,8 @@ use Rattle.trace_core.specs.Cutting.{is_free_of, opens_with}
 not_free : (c b : ℕ) (bs : List ℕ) → is_free_of c (b ∷ bs) ≡ true → (b == c) ≡ true → ⊥
 not_free c b bs free is = false≢true (sym (ap not is) ∙ first_so (not (b == c)) (is_free_of c bs) free)
 
-pub cut_once : (c : ℕ) (a b ra rb : List ℕ) → is_free_of c a ≡ true → is_free_of c b ≡ true → opens_with c ra ≡ true → opens_with c rb ≡ true → a ++ ra ≡ b ++ rb → (a ≡ b) × (ra ≡ rb)
+pub cut_once : (c : ℕ) (a b ra rb : List ℕ) → is_free_of c a ≡ true → is_free_of c b ≡ true → opens_with c ra ≡ true
+    → opens_with c rb ≡ true → a ++ ra ≡ b ++ rb → (a ≡ b) × (ra ≡ rb)
 cut_once c [] [] ra rb fa fb oa ob e = (refl, e)
 cut_once c [] (y ∷ b) ra rb fa fb oa ob e = absurd (not_free c y b fb (subst (λ l. opens_with c l ≡ true) e oa))
 cut_once c (x ∷ a) [] ra rb fa fb oa ob e = absurd (not_free c x a fa (subst (λ l. opens_with c l ≡ true) (sym e) ob))
@@ -28,4 +29,6 @@ pub free_by : (test : ℕ → Bool) (c : ℕ) → test c ≡ false → (bs : Lis
 free_by test c fails [] all = refl
 free_by test c fails (b ∷ bs) all =
     let passes = first_so (test b) (list_all test bs) all in
-    and_from (not (b == c)) (is_free_of c bs) (ap not (ne_eqb b c (λ e. false≢true (sym fails ∙ ap test (sym e) ∙ passes)))) (free_by test c fails bs (second_so (test b) (list_all test bs) all))
+    and_from (not (b == c)) (is_free_of c bs) (ap not (ne_eqb b c
+    (λ e. false≢true (sym fails ∙ ap test (sym e) ∙ passes))))
+    (free_by test c fails bs (second_so (test b) (list_all test bs) all))

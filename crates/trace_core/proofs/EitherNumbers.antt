@@ -24,7 +24,9 @@ number_or_none field =
       ]
     ]
   where
-    neither : ((n : ℕ) → n < 9223372036854775808 → field ≡ signed_decimal (pos n) → ⊥) → ((n : ℕ) → n < 9223372036854775808 → field ≡ signed_decimal (negsuc n) → ⊥) → (n : ℤ) → is_number n ≡ true → field ≢ signed_decimal n
+    neither : ((n : ℕ) → n < 9223372036854775808 → field ≡ signed_decimal (pos n) → ⊥)
+        → ((n : ℕ) → n < 9223372036854775808 → field ≡ signed_decimal (negsuc n) → ⊥) → (n : ℤ) → is_number n ≡ true
+        → field ≢ signed_decimal n
     neither none nor (pos n) fits e = none n (ltb-true n 9223372036854775808 fits) e
     neither none nor (negsuc n) fits e = nor n (ltb-true n 9223372036854775808 fits) e
 

@@ -30,7 +30,8 @@ small_fits n le = lt-ltb n 9223372036854775808 (omega arith)
 pub no_count : (field : List ℕ) → ((z : ℤ) → is_number z ≡ true → field ≢ signed_decimal z) → (n : ℕ) → n ≤ 1000000 → field ≢ decimal n
 no_count field none n le h = none (pos n) (small_fits n le) h
 
-pub other_count : (field : List ℕ) (z : ℤ) → is_number z ≡ true → field ≡ signed_decimal z → ((n : ℕ) → n ≤ 1000000 → z ≢ pos n) → (n : ℕ) → n ≤ 1000000 → field ≢ decimal n
+pub other_count : (field : List ℕ) (z : ℤ) → is_number z ≡ true → field ≡ signed_decimal z
+    → ((n : ℕ) → n ≤ 1000000 → z ≢ pos n) → (n : ℕ) → n ≤ 1000000 → field ≢ decimal n
 other_count field z fits is none n le h = none n le (same_number z (pos n) fits (small_fits n le) (sym is ∙ h))
 
 pub rows_push : (es : List TraceRow) (e : TraceRow) (rest : List ℕ) → rows_text (es ++ e ∷ []) ++ rest ≡ rows_text es ++ (row_line e ++ rest)
@@ -38,7 +39,9 @@ rows_push es e rest =
     ap (λ t. t ++ rest) (flat_map-append row_line es (e ∷ []) ∙ ap (λ t. rows_text es ++ t) (append-nil (row_line e)))
     ∙ append_assoc (rows_text es) (row_line e) rest
 
-pub begin_more : (text : List ℕ) (n : ℕ) (es : List TraceRow) (rest name numbers later : List ℕ) → BeginsWith text n es rest → (r : BeginsWithRow rest name numbers later) → BeginsWith text n (es ++ r.entry ∷ []) later
+pub begin_more : (text : List ℕ) (n : ℕ) (es : List TraceRow) (rest name numbers later : List ℕ)
+    → BeginsWith text n es rest → (r : BeginsWithRow rest name numbers later)
+    → BeginsWith text n (es ++ r.entry ∷ []) later
 begin_more text n es rest name numbers later w r = record {
   at_most = w.at_most;
   split = w.split ∙ ap (λ t. head_line n ++ t) (ap (λ t. rows_text es ++ t) r.split ∙ sym (rows_push es r.entry later));
@@ -50,9 +53,12 @@ empty [] h = refl
 empty (x ∷ xs) h = let z = eqb-true (length (x ∷ xs)) 0 h in absurd (omega arith)
 
 -- as many rows as the head states, and nothing after them
-pub ended_rows : (text : List ℕ) (n : ℕ) (es : List TraceRow) (first left : List ℕ) → text ≡ head_line n ++ first → BeginsWith text n es left → length es ≡ n → (length left == 0) ≡ true → (ds : List TraceRow) × IsWellSpelled text ds × (first ≡ rows_text ds)
+pub ended_rows : (text : List ℕ) (n : ℕ) (es : List TraceRow) (first left : List ℕ) → text ≡ head_line n ++ first
+    → BeginsWith text n es left → length es ≡ n → (length left == 0) ≡ true
+    → (ds : List TraceRow) × IsWellSpelled text ds × (first ≡ rows_text ds)
 ended_rows text n es first left is w all none =
     let nothing = empty left none in
     let same = same_head n n first (rows_text es ++ left) w.at_most w.at_most (sym is ∙ w.split) in
-    let whole : BeginsWith text (length es) es [] = subst (λ l. BeginsWith text (length es) es l) nothing (subst (λ m. BeginsWith text m es left) (sym all) w) in
+    let whole : BeginsWith text (length es) es [] = subst (λ l. BeginsWith text (length es) es l) nothing
+    (subst (λ m. BeginsWith text m es left) (sym all) w) in
     (es, whole, same.1 ∙ ap (λ l. rows_text es ++ l) nothing ∙ append-nil (rows_text es))

@@ -28,7 +28,8 @@ same_list P (t ∷ ts) (u ∷ us) h k e =
     λ i. same i ∷ later i
 
 -- a well spelled text whose rows are those of these tasks is their text
-pub is_list : (P : Plan) (text : List ℕ) (es : List TraceRow) (ts : List Task) → length text ≤ 16777216 → IsWellSpelled text es → AreRowsOf P es ts → IsListOf P text ts
+pub is_list : (P : Plan) (text : List ℕ) (es : List TraceRow) (ts : List Task) → length text ≤ 16777216
+    → IsWellSpelled text es → AreRowsOf P es ts → IsListOf P text ts
 unfolding trace_text
 is_list P text es ts le w rows = record {
   at_most = le;

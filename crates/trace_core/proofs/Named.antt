@@ -1,5 +1,7 @@
 -- The class and the task that a row names.
-use Rattle.std.proofs.Common.{◌≡◌, ◌≢◌, ℕ, zero, suc, ◌+◌, ◌<◌, ◌≤◌, ℤ, Bool, true, false, not, ◌||◌, nat_eq, List, [], ◌∷◌, map, length, refl, ap, sym, ◌∙◌, subst, zero-add, Option, Some, None, MatchOption, slice_get, arith}
+use Rattle.std.proofs.Common.{◌≡◌, ◌≢◌, ℕ, zero, suc, ◌+◌, ◌<◌, ◌≤◌, ℤ, Bool, true, false, not, ◌||◌, nat_eq, List, []}
+use Rattle.std.proofs.Common.{◌∷◌, map, length, refl, ap, sym, ◌∙◌, subst, zero-add, Option, Some, None, MatchOption}
+use Rattle.std.proofs.Common.{slice_get, arith}
 use Rattle.std.specs.Cmp.Lexicographic.{pointwise}
 use Rattle.std.specs.Option.{option_map_or}
 use Rattle.std.specs.List.{list_any}
@@ -21,7 +23,8 @@ use Rattle.std.specs.Cmp.{first_so, second_so}
 use Rattle.std.specs.Str.{bytes_eq}
 use Rattle.list_lemmas.proofs.Texts.{equal_bytes}
 
-pub later_class : (classes later : List ClassPlan) (first : ClassPlan) (name : List ℕ) (n : ℕ) (r : Option ℕ) → classes ≡ first ∷ later → (first.name ≡ name → ⊥)
+pub later_class : (classes later : List ClassPlan) (first : ClassPlan) (name : List ℕ) (n : ℕ) (r : Option ℕ)
+    → classes ≡ first ∷ later → (first.name ≡ name → ⊥)
     → MatchOption r ((k : ℕ) → IsNamed later name k → ⊥) (λ m. (k : ℕ) × IsNamed later name k × (m ≡ (n + 1) + k))
     → MatchOption r ((k : ℕ) → IsNamed classes name k → ⊥) (λ m. (k : ℕ) × IsNamed classes name k × (m ≡ n + k))
 later_class classes later first name n None is other none = λ k p. by k (subst (λ l. IsNamed l name k) is p)
@@ -52,20 +55,25 @@ any_named name [] (suc k) p = let e : None ≡ Some p.0 = p.1 in cc
 any_named name (c ∷ cs) zero p =
     let e : Some c ≡ Some p.0 = p.1 in
     let same : p.0 ≡ c = cc in
-    ap (λ b. b || list_any (pointwise nat_eq name) (map (λ (d : ClassPlan). d.name) cs)) (equal_bytes name c.name (sym p.2 ∙ ap (λ (d : ClassPlan). d.name) same))
-any_named name (c ∷ cs) (suc k) p = or_true (pointwise nat_eq name c.name) (list_any (pointwise nat_eq name) (map (λ (d : ClassPlan). d.name) cs)) (any_named name cs k p)
+    ap (λ b. b || list_any (pointwise nat_eq name) (map (λ (d : ClassPlan). d.name) cs))
+    (equal_bytes name c.name (sym p.2 ∙ ap (λ (d : ClassPlan). d.name) same))
+any_named name (c ∷ cs) (suc k) p = or_true (pointwise nat_eq name c.name)
+    (list_any (pointwise nat_eq name) (map (λ (d : ClassPlan). d.name) cs)) (any_named name cs k p)
   where
     or_true : (a b : Bool) → b ≡ true → (a || b) ≡ true
     or_true true b h = refl
     or_true false b h = h
 
-first_apart : (c : ClassPlan) (cs : List ClassPlan) (name : List ℕ) (k : ℕ) → are_distinct bytes_eq (map (λ (d : ClassPlan). d.name) (c ∷ cs)) ≡ true → c.name ≡ name → IsNamed cs name k → ⊥
+first_apart : (c : ClassPlan) (cs : List ClassPlan) (name : List ℕ) (k : ℕ)
+    → are_distinct bytes_eq (map (λ (d : ClassPlan). d.name) (c ∷ cs)) ≡ true → c.name ≡ name → IsNamed cs name k → ⊥
 first_apart c cs name k distinct here p =
     let there = any_named c.name cs k (p.0, p.1, p.2 ∙ sym here) in
-    let none = first_so (not (list_any (pointwise nat_eq c.name) (map (λ (d : ClassPlan). d.name) cs))) (are_distinct bytes_eq (map (λ (d : ClassPlan). d.name) cs)) distinct in
+    let none = first_so (not (list_any (pointwise nat_eq c.name) (map (λ (d : ClassPlan). d.name) cs)))
+    (are_distinct bytes_eq (map (λ (d : ClassPlan). d.name) cs)) distinct in
     false≢true (sym (ap not there) ∙ none)
 
-one_name : (cs : List ClassPlan) (name : List ℕ) → are_distinct bytes_eq (map (λ (d : ClassPlan). d.name) cs) ≡ true → (j k : ℕ) → IsNamed cs name j → IsNamed cs name k → j ≡ k
+one_name : (cs : List ClassPlan) (name : List ℕ) → are_distinct bytes_eq (map (λ (d : ClassPlan). d.name) cs) ≡ true
+    → (j k : ℕ) → IsNamed cs name j → IsNamed cs name k → j ≡ k
 one_name [] name distinct zero k p q = let e : None ≡ Some p.0 = p.1 in cc
 one_name [] name distinct (suc j) k p q = let e : None ≡ Some p.0 = p.1 in cc
 one_name (c ∷ cs) name distinct zero zero p q = refl
@@ -78,7 +86,8 @@ one_name (c ∷ cs) name distinct (suc j) zero p q = absurd (first_apart c cs na
     head_name : IsNamed (c ∷ cs) name zero → c.name ≡ name
     head_name p = let e : Some c ≡ Some p.0 = p.1 in let same : c ≡ p.0 = cc in ap (λ (d : ClassPlan). d.name) same ∙ p.2
 one_name (c ∷ cs) name distinct (suc j) (suc k) p q =
-    ap suc (one_name cs name (second_so (not (list_any (pointwise nat_eq c.name) (map (λ (d : ClassPlan). d.name) cs))) (are_distinct bytes_eq (map (λ (d : ClassPlan). d.name) cs)) distinct) j k p q)
+    ap suc (one_name cs name (second_so (not (list_any (pointwise nat_eq c.name) (map (λ (d : ClassPlan). d.name) cs)))
+    (are_distinct bytes_eq (map (λ (d : ClassPlan). d.name) cs)) distinct) j k p q)
 
 pub class_name_at : (P : Plan) (n : ℕ) (c : ClassPlan) → slice_get P.classes n ≡ Some c → class_name P n ≡ c.name
 class_name_at P n c e = ap (λ o. option_map_or (λ (d : ClassPlan). d.name) o []) e

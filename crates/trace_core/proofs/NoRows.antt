@@ -9,8 +9,10 @@ use Rattle.trace_core.proofs.Cuts.{cut_once}
 use Rattle.trace_core.proofs.Spelled.{row_free, row_split}
 use Rattle.trace_core.proofs.Fields.{none_left}
 
-pub field_some : (text rest field later : List ℕ) (n : ℤ) → text ≡ 44 ∷ rest → IsCut 44 rest field later → is_number n ≡ true → field ≡ signed_decimal n → BeginsWithNumber text n later
-field_some text rest field later n is cut fits same = record { split = is ∙ ap (λ t. 44 ∷ t) (cut.split ∙ ap (λ t. t ++ later) same); fits = fits; next = cut.next }
+pub field_some : (text rest field later : List ℕ) (n : ℤ) → text ≡ 44 ∷ rest → IsCut 44 rest field later
+    → is_number n ≡ true → field ≡ signed_decimal n → BeginsWithNumber text n later
+field_some text rest field later n is cut fits same = record
+    { split = is ∙ ap (λ t. 44 ∷ t) (cut.split ∙ ap (λ t. t ++ later) same); fits = fits; next = cut.next }
 
 pub other_first : (text rest : List ℕ) (b : ℕ) → text ≡ b ∷ rest → b ≢ 44 → HasNoNumber text
 other_first text rest b is other n more w = let whole : b ∷ rest ≡ 44 ∷ (signed_decimal n ++ more) = sym is ∙ w.split in other cc

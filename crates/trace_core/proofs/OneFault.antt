@@ -42,7 +42,8 @@ module _ (P : Plan) (G : Data) where
   ]
 
   -- a row whose task may run has no fault
-  fault_or_run : (before : List Task) (e : TraceRow) (code : TraceCode) (t : Task) → IsRowFault P G before e code → e ≡ row_of P t → MayRunAfter P G before t → ⊥
+  fault_or_run : (before : List Task) (e : TraceRow) (code : TraceCode) (t : Task) → IsRowFault P G before e code
+      → e ≡ row_of P t → MayRunAfter P G before t → ⊥
   fault_or_run before e TooLong t f is may = f
   fault_or_run before e BadTrace t f is may = f
   fault_or_run before e UnknownTask t f is may = f t (may.follows.task, is)
@@ -79,7 +80,9 @@ module _ (P : Plan) (G : Data) where
   one_code before e TooEarly Unfinished f g = absurd g
 
   -- if all rows may run, none of them fails
-  none_fails : (acc ts front : List Task) (e : TraceRow) (later : List TraceRow) (c : TraceCode) → map (row_of P) ts ≡ map (row_of P) front ++ e ∷ later → MayAllRunAfter P G acc ts → MayAllRunAfter P G acc front → IsRowFault P G (acc ++ front) e c → ⊥
+  none_fails : (acc ts front : List Task) (e : TraceRow) (later : List TraceRow) (c : TraceCode)
+      → map (row_of P) ts ≡ map (row_of P) front ++ e ∷ later → MayAllRunAfter P G acc ts → MayAllRunAfter P G acc front
+      → IsRowFault P G (acc ++ front) e c → ⊥
   none_fails acc [] [] e later c h may mays f = let never : [] ≡ e ∷ later = h in absurd cc
   none_fails acc [] (u ∷ us) e later c h may mays f = let never : [] ≡ row_of P u ∷ (map (row_of P) us ++ e ∷ later) = h in absurd cc
   none_fails acc (t ∷ ts) [] e later c h may mays f =
@@ -95,7 +98,9 @@ module _ (P : Plan) (G : Data) where
       (subst (λ b. IsRowFault P G b e c) ((λ i. acc ++ sym same i ∷ us) ∙ sym (append_assoc acc (t ∷ []) us)) f)
 
   -- two rows that fail, each after rows that may run, are the same
-  one_row : (acc front rear : List Task) (d e : TraceRow) (ds es : List TraceRow) (b c : TraceCode) → map (row_of P) front ++ d ∷ ds ≡ map (row_of P) rear ++ e ∷ es → MayAllRunAfter P G acc front → MayAllRunAfter P G acc rear
+  one_row : (acc front rear : List Task) (d e : TraceRow) (ds es : List TraceRow) (b c : TraceCode)
+      → map (row_of P) front ++ d ∷ ds ≡ map (row_of P) rear ++ e ∷ es → MayAllRunAfter P G acc front
+      → MayAllRunAfter P G acc rear
       → IsRowFault P G (acc ++ front) d b → IsRowFault P G (acc ++ rear) e c → (length front ≡ length rear) × (b ≡ c)
   one_row acc [] [] d e ds es b c h may mays f g =
       let whole : d ∷ ds ≡ e ∷ es = h in
@@ -148,9 +153,12 @@ module _ (P : Plan) (G : Data) where
       one_of_tasks es f g a (subst (λ l. IsFaultOfRow P G l g ⊎ IsUnfinished P G l g) (sym (one_spelling text es ds w v)) b)
 
   -- a text whose rows are tasks that may run, with each task that runs among them, has no fault
-  pub faultless : (text : List ℕ) (ts : List Task) → length text ≤ 16777216 → IsWellSpelled text (map (row_of P) ts) → MayAllRunAfter P G [] ts → ((t : Task) → IsIn t (ran P G) → IsIn t ts) → (f : TraceFault) → IsTraceFault P G text f → ⊥
+  pub faultless : (text : List ℕ) (ts : List Task) → length text ≤ 16777216 → IsWellSpelled text (map (row_of P) ts)
+      → MayAllRunAfter P G [] ts → ((t : Task) → IsIn t (ran P G) → IsIn t ts) → (f : TraceFault)
+      → IsTraceFault P G text f → ⊥
   faultless text ts le w may all f (of_spelling a) = no_spelling_fault text (map (row_of P) ts) f le w a
-  faultless text ts le w may all f (of_tasks es ge v a) = by (subst (λ l. IsFaultOfRow P G l f ⊎ IsUnfinished P G l f) (one_spelling text es (map (row_of P) ts) v w) a)
+  faultless text ts le w may all f (of_tasks es ge v a) = by
+      (subst (λ l. IsFaultOfRow P G l f ⊎ IsUnfinished P G l f) (one_spelling text es (map (row_of P) ts) v w) a)
     where
       by : IsFaultOfRow P G (map (row_of P) ts) f ⊎ IsUnfinished P G (map (row_of P) ts) f → ⊥
       by (inl r) = none_fails [] ts r.before r.failed r.later f.code r.split may r.may_run r.code

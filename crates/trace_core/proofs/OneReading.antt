@@ -128,12 +128,15 @@ module _ (P : Plan) where
         let before : AreRowsBefore P b.1.entries b.0 g.code = b.1.read.0 in
         let same = one_spelling text a.1.entries b.1.entries a.1.spelled b.1.spelled in
         let q = one_row [] a.0 b.0 front.failed before.failed front.later before.later f.code g.code
-        (ap (λ l. l ++ front.failed ∷ front.later) (sym front.rows.named) ∙ sym front.split ∙ same ∙ before.split ∙ ap (λ l. l ++ before.failed ∷ before.later) before.rows.named)
+        (ap (λ l. l ++ front.failed ∷ front.later) (sym front.rows.named) ∙ sym front.split ∙ same ∙ before.split
+        ∙ ap (λ l. l ++ before.failed ∷ before.later) before.rows.named)
         front.rows.tasks before.rows.tasks front.rows.once before.rows.once front.fault before.fault in
         same_fault f g (a.1.read.1 ∙ ap (λ n. n + 2) q.0 ∙ sym b.1.read.1) q.1
 
     -- so a call that returns only such lists and only such faults returns each exactly when there is one
-    pub exactly : (r : Result (List Task) (Refusal TraceFault)) → IfOk r (λ ts. IsReading P text ts None) → ((f : TraceFault) → r ≡ Err (Fault f) → IsReadFault P text f) → FindsOrRefuses (λ ts. IsReading P text ts None) (IsReadFault P text) r
+    pub exactly : (r : Result (List Task) (Refusal TraceFault)) → IfOk r (λ ts. IsReading P text ts None)
+        → ((f : TraceFault) → r ≡ Err (Fault f) → IsReadFault P text f)
+        → FindsOrRefuses (λ ts. IsReading P text ts None) (IsReadFault P text) r
     exactly (Ok ts) found fault = record {
       found = found;
       only = λ us read. inl (ap (λ x. Ok x) (one_reading ts us found read));

@@ -14,11 +14,13 @@ pub record GoesOn (es : List TraceRow) (rest : List ℕ) (ds : List TraceRow) (l
   pub text : rest ≡ rows_text more ++ later
 
 -- of two lists of rows that a text begins with, one is continued by the other
-pub one_goes_on : (es ds : List TraceRow) (r s : List ℕ) → AllByRecursion IsSpelled es → AllByRecursion IsSpelled ds → rows_text es ++ r ≡ rows_text ds ++ s → GoesOn es r ds s ⊎ GoesOn ds s es r
+pub one_goes_on : (es ds : List TraceRow) (r s : List ℕ) → AllByRecursion IsSpelled es → AllByRecursion IsSpelled ds
+    → rows_text es ++ r ≡ rows_text ds ++ s → GoesOn es r ds s ⊎ GoesOn ds s es r
 one_goes_on [] ds r s h k e = inl (record { more = ds; all = refl; spelled = k; text = e })
 one_goes_on (x ∷ es) [] r s h k e = inr (record { more = x ∷ es; all = refl; spelled = h; text = sym e })
 one_goes_on (x ∷ es) (y ∷ ds) r s h k e =
-    let first = same_row x y (rows_text es ++ r) (rows_text ds ++ s) h.0 k.0 (sym (append_assoc (row_line x) (rows_text es) r) ∙ e ∙ append_assoc (row_line y) (rows_text ds) s) in
+    let first = same_row x y (rows_text es ++ r) (rows_text ds ++ s) h.0 k.0
+    (sym (append_assoc (row_line x) (rows_text es) r) ∙ e ∙ append_assoc (row_line y) (rows_text ds) s) in
     elim (one_goes_on es ds r s h.1 k.1 first.1) [
       | inl g ↦ inl (record { more = g.more; all = (λ i. sym first.0 i ∷ g.all i); spelled = g.spelled; text = g.text })
       | inr g ↦ inr (record { more = g.more; all = (λ i. first.0 i ∷ g.all i); spelled = g.spelled; text = g.text })
@@ -36,7 +38,8 @@ stops es rest ds later none g = by g.more g.all g.spelled g.text
     by (x ∷ xs) all s t = absurd (none x (rows_text xs ++ later) s.0 (t ∙ append_assoc (row_line x) (rows_text xs) later))
 
 -- if the other list is no longer, it is the same, and so is the rest
-as_many : (es : List TraceRow) (rest : List ℕ) (ds : List TraceRow) (later : List ℕ) → length ds ≤ length es → GoesOn es rest ds later → (ds ≡ es) × (rest ≡ later)
+as_many : (es : List TraceRow) (rest : List ℕ) (ds : List TraceRow) (later : List ℕ) → length ds ≤ length es
+    → GoesOn es rest ds later → (ds ≡ es) × (rest ≡ later)
 as_many es rest ds later le g = by g.more g.all g.text
   where
     by : (more : List TraceRow) → ds ≡ es ++ more → rest ≡ rows_text more ++ later → (ds ≡ es) × (rest ≡ later)
@@ -57,14 +60,16 @@ pub not_without_head : (text : List ℕ) (n : ℕ) (es : List TraceRow) (r : Lis
 not_without_head text n es r w none = none n (rows_text es ++ r) w.at_most w.split
 
 -- two lists after which a row is missing have the same length
-two_bad : (text : List ℕ) (n m : ℕ) (es ds : List TraceRow) (r s : List ℕ) → BeginsWith text n es r → BeginsWith text m ds s → HasNoRow r → HasNoRow s → length es ≡ length ds
+two_bad : (text : List ℕ) (n m : ℕ) (es ds : List TraceRow) (r s : List ℕ) → BeginsWith text n es r
+    → BeginsWith text m ds s → HasNoRow r → HasNoRow s → length es ≡ length ds
 two_bad text n m es ds r s w v fails ne = elim (goes_on text n m es ds r s w v) [
   | inl g ↦ sym (ap length (stops es r ds s fails g))
   | inr g ↦ ap length (stops ds s es r ne g)
 ]
 
 -- if a row is missing, no list has as many rows as the head states
-bad_before : (text : List ℕ) (n m : ℕ) (es ds : List TraceRow) (r s : List ℕ) → BeginsWith text n es r → BeginsWith text m ds s → HasNoRow r → length es < n → length ds ≡ m → ⊥
+bad_before : (text : List ℕ) (n m : ℕ) (es ds : List TraceRow) (r s : List ℕ) → BeginsWith text n es r
+    → BeginsWith text m ds s → HasNoRow r → length es < n → length ds ≡ m → ⊥
 bad_before text n m es ds r s w v fails lt all =
     let same = head_number text n m es ds r s w v in
     elim (goes_on text n m es ds r s w v) [
@@ -73,7 +78,8 @@ bad_before text n m es ds r s w v fails lt all =
     ]
 
 -- lists of as many rows as the head states are the same, and so are their rests
-all_rows : (text : List ℕ) (n m : ℕ) (es ds : List TraceRow) (r s : List ℕ) → BeginsWith text n es r → BeginsWith text m ds s → length es ≡ n → length ds ≡ m → (es ≡ ds) × (r ≡ s)
+all_rows : (text : List ℕ) (n m : ℕ) (es ds : List TraceRow) (r s : List ℕ) → BeginsWith text n es r
+    → BeginsWith text m ds s → length es ≡ n → length ds ≡ m → (es ≡ ds) × (r ≡ s)
 all_rows text n m es ds r s w v here there =
     let same = head_number text n m es ds r s w v in
     elim (goes_on text n m es ds r s w v) [
@@ -89,7 +95,8 @@ one_bad_row text j k (bad_head h p) (bad_head g q) = p ∙ sym q
 one_bad_row text j k (bad_head h p) (bad_row m ds s v lt fails q) = absurd (not_without_head text m ds s v h)
 one_bad_row text j k (bad_head h p) (row_too_many m ds s v all some q) = absurd (not_without_head text m ds s v h)
 one_bad_row text j k (bad_row n es r w lt fails p) (bad_head g q) = absurd (not_without_head text n es r w g)
-one_bad_row text j k (bad_row n es r w lt fails p) (bad_row m ds s v less ne q) = let e = two_bad text n m es ds r s w v fails ne in p ∙ ap (λ l. l + 2) e ∙ sym q
+one_bad_row text j k (bad_row n es r w lt fails p) (bad_row m ds s v less ne q) = let e = two_bad text n m es ds r s w v
+    fails ne in p ∙ ap (λ l. l + 2) e ∙ sym q
 one_bad_row text j k (bad_row n es r w lt fails p) (row_too_many m ds s v all some q) = absurd (bad_before text n m es ds r s w v fails lt all)
 one_bad_row text j k (row_too_many n es r w all some p) (bad_head g q) = absurd (not_without_head text n es r w g)
 one_bad_row text j k (row_too_many n es r w all some p) (bad_row m ds s v less ne q) = absurd (bad_before text m n ds es s r v w ne less all)

@@ -30,7 +30,14 @@ pub record IsReadTo (P : Plan) (es : List TraceRow) (ts : List Task) (left : Lis
   pub rows : AreRowsOf P front ts
 
 pub nothing_read : (P : Plan) (es : List TraceRow) (text : List ℕ) → AllByRecursion IsSpelled es → text ≡ rows_text es → IsReadTo P es [] text
-nothing_read P es text all is = record { front = []; others = es; split = refl; spelled = all; text = is; rows = record { named = refl; tasks = tt; once = tt } }
+nothing_read P es text all is = record {
+  front = [];
+  others = es;
+  split = refl;
+  spelled = all;
+  text = is;
+  rows = record { named = refl; tasks = tt; once = tt };
+}
 
 -- if no row comes first, all were read
 pub all_read : (P : Plan) (es : List TraceRow) (ts : List Task) (left : List ℕ) → IsReadTo P es ts left → HasNoRow left → AreRowsOf P es ts
@@ -49,7 +56,8 @@ pub record IsNextRow (P : Plan) (es : List TraceRow) (ts : List Task) (e : Trace
   pub text : later ≡ rows_text others
   pub rows : AreRowsOf P front ts
 
-pub next_is : (P : Plan) (es : List TraceRow) (ts : List Task) (left name numbers later : List ℕ) → IsReadTo P es ts left → (w : BeginsWithRow left name numbers later) → IsNextRow P es ts w.entry later
+pub next_is : (P : Plan) (es : List TraceRow) (ts : List Task) (left name numbers later : List ℕ)
+    → IsReadTo P es ts left → (w : BeginsWithRow left name numbers later) → IsNextRow P es ts w.entry later
 next_is P es ts left name numbers later r w = by r.others r.split r.spelled r.text
   where
     by : (others : List TraceRow) → es ≡ r.front ++ others → AllByRecursion IsSpelled others → left ≡ rows_text others → IsNextRow P es ts w.entry later
@@ -80,12 +88,14 @@ module _ (P : Plan) (es : List TraceRow) (ts : List Task) (e : TraceRow) (later 
   pub stops_at : (code : TraceCode) → IsNamingFault P ts e code → AreRowsBefore P es ts code
   stops_at code fault = record { front = n.front; failed = e; later = n.others; split = n.split; rows = n.rows; fault = fault }
 
-pub inserted_old : (t : Task) (ts new : List Task) (b : Bool) → b ≡ not (list_any (same_task t) ts) → b ≡ false → new ≡ cond (list_any (same_task t) ts) ts (ts ++ t ∷ []) → (new ≡ ts) × IsIn t ts
+pub inserted_old : (t : Task) (ts new : List Task) (b : Bool) → b ≡ not (list_any (same_task t) ts) → b ≡ false
+    → new ≡ cond (list_any (same_task t) ts) ts (ts ++ t ∷ []) → (new ≡ ts) × IsIn t ts
 inserted_old t ts new b is h keys =
     let there = not-false (list_any (same_task t) ts) (sym is ∙ h) in
     (keys ∙ ap (λ c. cond c ts (ts ++ t ∷ [])) there, any_member t ts there)
 
-pub inserted_new : (t : Task) (ts new : List Task) (b : Bool) → b ≡ not (list_any (same_task t) ts) → b ≡ true → new ≡ cond (list_any (same_task t) ts) ts (ts ++ t ∷ []) → (new ≡ ts ++ t ∷ []) × (IsIn t ts → ⊥)
+pub inserted_new : (t : Task) (ts new : List Task) (b : Bool) → b ≡ not (list_any (same_task t) ts) → b ≡ true
+    → new ≡ cond (list_any (same_task t) ts) ts (ts ++ t ∷ []) → (new ≡ ts ++ t ∷ []) × (IsIn t ts → ⊥)
 inserted_new t ts new b is h keys =
     let absent = not-true (list_any (same_task t) ts) (sym is ∙ h) in
     (keys ∙ ap (λ c. cond c ts (ts ++ t ∷ [])) absent, none_member t ts absent)

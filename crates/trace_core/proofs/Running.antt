@@ -61,7 +61,8 @@ module _ (P : Plan) (e : TraceRow) where
   ]
 
   -- a row is that of a task that may run after these, or has a fault
-  run_or_fault : (G : Data) (before : List Task) → ((t : Task) × (e ≡ row_of P t) × MayRunAfter P G before t) ⊎ ((code : TraceCode) × IsRowFault P G before e code)
+  run_or_fault : (G : Data) (before : List Task) → ((t : Task) × (e ≡ row_of P t) × MayRunAfter P G before t)
+      ⊎ ((code : TraceCode) × IsRowFault P G before e code)
   run_or_fault G before = elim named_or_unknown [
     | inr none ↦ inr (UnknownTask, none)
     | inl p ↦ elim (member_or_not p.0 before) [
@@ -92,7 +93,8 @@ module _ (P : Plan) (G : Data) (es : List TraceRow) where
     | inl p ↦
         let rows = map (row_of P) before in
         from_row (before ++ p.0 ∷ []) later
-        (split ∙ ap (λ x. rows ++ x ∷ later) p.1 ∙ sym (append_assoc rows (row_of P p.0 ∷ []) later) ∙ ap (λ l. l ++ later) (sym (map-append (row_of P) before (p.0 ∷ []))))
+        (split ∙ ap (λ x. rows ++ x ∷ later) p.1 ∙ sym (append_assoc rows (row_of P p.0 ∷ []) later)
+        ∙ ap (λ l. l ++ later) (sym (map-append (row_of P) before (p.0 ∷ []))))
         (may_push P G [] before p.0 may p.2)
   ]
 

@@ -1,7 +1,8 @@
 -- The printed forms of numbers and rows: which bytes they have, and that no two are printed alike.
 use lib.Signed.{mag}
 use mir.Val.{SFits}
-use Rattle.std.proofs.Common.{◌≡◌, ◌==◌, ℕ, suc, ◌^◌, ◌<◌, ◌≤◌, ℤ, pos, negsuc, true, false, not, ◌||◌, List, [], ◌∷◌, ◌++◌, map, codes, refl, ap, sym, ◌∙◌, append_assoc, w64, arith}
+use Rattle.std.proofs.Common.{◌≡◌, ◌==◌, ℕ, suc, ◌^◌, ◌<◌, ◌≤◌, ℤ, pos, negsuc, true, false, not, ◌||◌, List, [], ◌∷◌}
+use Rattle.std.proofs.Common.{◌++◌, map, codes, refl, ap, sym, ◌∙◌, append_assoc, w64, arith}
 use Rattle.std.specs.Prelude.{nat_le}
 use Rattle.std.specs.List.{list_all, join_with_byte}
 use Rattle.std.specs.Fmt.{decimal, signed_decimal}
@@ -50,7 +51,9 @@ same_number y z h k e = signed_decimal_injective y z (fits_mag y h) (fits_mag z 
 pub name_free : (c : ℕ) → is_part c ≡ false → (name : List ℕ) → is_name name ≡ true → is_free_of c name ≡ true
 name_free c fails [] h = absurd (false≢true h)
 name_free c fails (b ∷ bs) h =
-    free_by is_part c fails (b ∷ bs) (and_from (is_part b) (list_all is_part bs) (letter_part b (first_so (is_letter b) (list_all is_part bs) h)) (second_so (is_letter b) (list_all is_part bs) h))
+    free_by is_part c fails (b ∷ bs) (and_from (is_part b) (list_all is_part bs)
+    (letter_part b (first_so (is_letter b) (list_all is_part bs) h))
+    (second_so (is_letter b) (list_all is_part bs) h))
   where
     letter_part : (b : ℕ) → is_letter b ≡ true → is_part b ≡ true
     letter_part b h = ap (λ x. x || is_digit b) h
@@ -58,7 +61,9 @@ name_free c fails (b ∷ bs) h =
 pub fields_free : (ns : List ℤ) → list_all is_number ns ≡ true → is_free_of 10 (number_fields ns) ≡ true
 fields_free [] h = refl
 fields_free (n ∷ ns) h =
-    free_append 10 (number_field n) (number_fields ns) (signed_free 10 n (first_so (is_number n) (list_all is_number ns) h) refl refl) (fields_free ns (second_so (is_number n) (list_all is_number ns) h))
+    free_append 10 (number_field n) (number_fields ns) (signed_free 10 n
+    (first_so (is_number n) (list_all is_number ns) h) refl refl)
+    (fields_free ns (second_so (is_number n) (list_all is_number ns) h))
 
 pub fields_open : (ns : List ℤ) → opens_with 44 (number_fields ns) ≡ true
 fields_open [] = refl
@@ -73,7 +78,8 @@ pub row_line_is : (e : TraceRow) → row_line e ≡ row_content e ++ 10 ∷ []
 row_line_is e = ap (λ t. (codes "ran," ++ t) ++ 10 ∷ []) (joined_numbers e.name e.params)
 
 pub row_free : (e : TraceRow) → IsSpelled e → is_free_of 10 (row_content e) ≡ true
-row_free e s = free_append 10 (codes "ran,") (e.name ++ number_fields e.params) refl (free_append 10 e.name (number_fields e.params) (name_free 10 refl e.name s.name) (fields_free e.params s.params))
+row_free e s = free_append 10 (codes "ran,") (e.name ++ number_fields e.params) refl
+    (free_append 10 e.name (number_fields e.params) (name_free 10 refl e.name s.name) (fields_free e.params s.params))
 
 -- a text that begins with a row
 pub row_split : (e : TraceRow) (rest : List ℕ) → row_line e ++ rest ≡ row_content e ++ 10 ∷ rest
@@ -88,7 +94,8 @@ same_numbers (m ∷ ms) (n ∷ ns) h k e =
     let fm = first_so (is_number m) (list_all is_number ms) h in
     let fn = first_so (is_number n) (list_all is_number ns) k in
     let tail : signed_decimal m ++ number_fields ms ≡ signed_decimal n ++ number_fields ns = cc in
-    let r = cut_once 44 (signed_decimal m) (signed_decimal n) (number_fields ms) (number_fields ns) (signed_free 44 m fm refl refl) (signed_free 44 n fn refl refl) (fields_open ms) (fields_open ns) tail in
+    let r = cut_once 44 (signed_decimal m) (signed_decimal n) (number_fields ms) (number_fields ns)
+    (signed_free 44 m fm refl refl) (signed_free 44 n fn refl refl) (fields_open ms) (fields_open ns) tail in
     let first = same_number m n fm fn r.0 in
     let later = same_numbers ms ns (second_so (is_number m) (list_all is_number ms) h) (second_so (is_number n) (list_all is_number ns) k) r.1 in
     λ i. first i ∷ later i
@@ -97,14 +104,17 @@ same_numbers (m ∷ ms) (n ∷ ns) h k e =
 pub same_content : (d e : TraceRow) → IsSpelled d → IsSpelled e → row_content d ≡ row_content e → d ≡ e
 same_content d e s t h =
     let tail : d.name ++ number_fields d.params ≡ e.name ++ number_fields e.params = cc in
-    let r = cut_once 44 d.name e.name (number_fields d.params) (number_fields e.params) (name_free 44 refl d.name s.name) (name_free 44 refl e.name t.name) (fields_open d.params) (fields_open e.params) tail in
+    let r = cut_once 44 d.name e.name (number_fields d.params) (number_fields e.params)
+    (name_free 44 refl d.name s.name) (name_free 44 refl e.name t.name) (fields_open d.params)
+    (fields_open e.params) tail in
     let params = same_numbers d.params e.params s.params t.params r.1 in
     λ i. record { name = r.0 i; params = params i }
 
 -- a text begins with at most one row
 pub same_row : (d e : TraceRow) (rd re : List ℕ) → IsSpelled d → IsSpelled e → row_line d ++ rd ≡ row_line e ++ re → (d ≡ e) × (rd ≡ re)
 same_row d e rd re s t h =
-    let r = cut_once 10 (row_content d) (row_content e) (10 ∷ rd) (10 ∷ re) (row_free d s) (row_free e t) refl refl (sym (row_split d rd) ∙ h ∙ row_split e re) in
+    let r = cut_once 10 (row_content d) (row_content e) (10 ∷ rd) (10 ∷ re) (row_free d s) (row_free e t) refl refl
+    (sym (row_split d rd) ∙ h ∙ row_split e re) in
     (same_content d e s t r.0, cc)
 
 -- and with at most one head
@@ -115,5 +125,6 @@ pub same_head : (m n : ℕ) (rm rn : List ℕ) → m ≤ 1000000 → n ≤ 10000
 same_head m n rm rn h k e =
     let whole : codes "trace," ++ (decimal m ++ 10 ∷ rm) ≡ codes "trace," ++ (decimal n ++ 10 ∷ rn) = sym (head_split m rm) ∙ e ∙ head_split n rn in
     let tail : decimal m ++ 10 ∷ rm ≡ decimal n ++ 10 ∷ rn = cc in
-    let r = cut_once 10 (decimal m) (decimal n) (10 ∷ rm) (10 ∷ rn) (decimal_free 10 m (omega arith) refl) (decimal_free 10 n (omega arith) refl) refl refl tail in
+    let r = cut_once 10 (decimal m) (decimal n) (10 ∷ rm) (10 ∷ rn) (decimal_free 10 m (omega arith) refl)
+    (decimal_free 10 n (omega arith) refl) refl refl tail in
     (decimal_injective m n (omega arith) (omega arith) r.0, cc)

@@ -24,6 +24,7 @@ row_put P t c out a b d e name is named p q r s =
     joined : (out word name fields : List ℕ) → (((out ++ word) ++ name) ++ fields) ++ 10 ∷ [] ≡ out ++ ((word ++ (name ++ fields)) ++ 10 ∷ [])
     joined out word name fields = simp append_assoc
 
-pub whole_text : (P : Plan) (ts : List Task) (n : ℕ) (out text : List ℕ) → length ts ≤ n → out ≡ head_line (length ts) ++ rows_text (map (row_of P) (take n ts)) → text ≡ out → text ≡ trace_text P ts
+pub whole_text : (P : Plan) (ts : List Task) (n : ℕ) (out text : List ℕ) → length ts ≤ n
+    → out ≡ head_line (length ts) ++ rows_text (map (row_of P) (take n ts)) → text ≡ out → text ≡ trace_text P ts
 unfolding trace_text
 whole_text P ts n out text le is same = same ∙ is ∙ ap (λ us. head_line (length ts) ++ rows_text (map (row_of P) us)) (take_all n ts le)

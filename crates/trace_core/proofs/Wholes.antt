@@ -38,7 +38,8 @@ use Rattle.trace_core.specs.Faults.{IsMissing}
 use Rattle.trace_core.specs.Orders.{MayAllRunAfter, MayRunAfter}
 
 -- one more task that may run
-pub may_push : (P : Plan) (G : Data) (acc ts : List Task) (t : Task) → MayAllRunAfter P G acc ts → MayRunAfter P G (acc ++ ts) t → MayAllRunAfter P G acc (ts ++ t ∷ [])
+pub may_push : (P : Plan) (G : Data) (acc ts : List Task) (t : Task) → MayAllRunAfter P G acc ts
+    → MayRunAfter P G (acc ++ ts) t → MayAllRunAfter P G acc (ts ++ t ∷ [])
 may_push P G acc [] t h m = (subst (λ l. MayRunAfter P G l t) (append-nil acc) m, tt)
 may_push P G acc (u ∷ us) t h m = (h.0, may_push P G (acc ++ u ∷ []) us t h.1 (subst (λ l. MayRunAfter P G l t) (sym (append_assoc acc (u ∷ []) us)) m))
 
@@ -47,7 +48,9 @@ may_legal P G acc [] h = tt
 may_legal P G acc (t ∷ ts) h = (h.0.follows, may_legal P G (acc ++ t ∷ []) ts h.1)
 
 -- all edges come from these tasks, whose outputs exist, or one does not
-pub all_or_missing : (P : Plan) (G : Data) (before : List Task) (es : List Edge) → ((e : Edge) → IsIn e es → IsIn e.from before × (has_outputs (ended P G e.from) ≡ true)) ⊎ ((x : Edge) × IsIn x es × IsMissing P G before x)
+pub all_or_missing : (P : Plan) (G : Data) (before : List Task) (es : List Edge)
+    → ((e : Edge) → IsIn e es → IsIn e.from before × (has_outputs (ended P G e.from) ≡ true))
+    ⊎ ((x : Edge) × IsIn x es × IsMissing P G before x)
 all_or_missing P G before es = all_or_one (λ (e : Edge). IsIn e.from before × (has_outputs (ended P G e.from) ≡ true)) (IsMissing P G before) es decide
   where
     decide : (e : Edge) → IsIn e es → (IsIn e.from before × (has_outputs (ended P G e.from) ≡ true)) ⊎ IsMissing P G before e
@@ -87,13 +90,21 @@ module _ (P : Plan) (G : Data) (con : IsConsistent P) where
     | inr later ↦ may_ran (acc ++ u ∷ []) us h.1 t later
   ]
 
-  same_count : (ts : List Task) → HasNoRepeats ts → ((t : Task) → IsIn t ts ↔ IsIn t (ran P G)) → (t : Task) → count (same_task t) ts ≡ count (same_task t) (ran P G)
+  same_count : (ts : List Task) → HasNoRepeats ts → ((t : Task) → IsIn t ts ↔ IsIn t (ran P G)) → (t : Task)
+      → count (same_task t) ts ≡ count (same_task t) (ran P G)
   unfolding ran
   same_count ts once same t =
-      let there = once_each (filter (λ u. is_some (ended P G u)) (all_tasks P)) (HasNoRepeats-filter (λ u. is_some (ended P G u)) (all_tasks P) (once-all_tasks P)) t in
+      let there = once_each (filter (λ u. is_some (ended P G u)) (all_tasks P))
+      (HasNoRepeats-filter (λ u. is_some (ended P G u)) (all_tasks P) (once-all_tasks P)) t in
       let here = once_each ts once t in
       elim (member_or_not t ts) [
-        | inl i ↦ omega (arith, here, there, count-some (same_task t) ts t i ((same_task-decides t t).1 refl), count-some (same_task t) (ran P G) t ((same t).0 i) ((same_task-decides t t).1 refl))
+        | inl i ↦ omega (
+          arith,
+          here,
+          there,
+          count-some (same_task t) ts t i ((same_task-decides t t).1 refl),
+          count-some (same_task t) (ran P G) t ((same t).0 i) ((same_task-decides t t).1 refl),
+        )
         | inr absent ↦ uncounted t ts absent ∙ sym (uncounted t (ran P G) (λ i. absent ((same t).1 i)))
       ]
 
@@ -101,7 +112,11 @@ module _ (P : Plan) (G : Data) (con : IsConsistent P) where
   pub whole : (ts : List Task) → MayAllRunAfter P G [] ts → ((t : Task) → IsIn t (ran P G) → IsIn t ts) → IsWholeOrder P G ts
   whole ts may all =
       let legal = may_legal P G [] ts may in
-      record { legal = legal; all = (same_counts same_task same_task-decides ts (ran P G)).1 (same_count ts (legal_once P [] ts legal) (λ t. (may_ran [] ts may t, all t))) }
+      record {
+        legal = legal;
+        all = (same_counts same_task same_task-decides ts (ran P G)).1
+            (same_count ts (legal_once P [] ts legal) (λ t. (may_ran [] ts may t, all t)));
+      }
 
   -- and conversely
   pub members : (ts : List Task) → HasSameMembers ts (ran P G) → (t : Task) → IsIn t ts ↔ IsIn t (ran P G)

@@ -20,7 +20,8 @@ use Rattle.flow_meaning.proofs.Events.{claim_member, delivers, each_arrived, mem
 use Rattle.flow_meaning.proofs.Members.{in_edge_item}
 
 -- a task may be claimed if and only if it is new and its sources are done
-module _ (P : Plan) (G : Data) (con : IsConsistent P) (S : MachineState) (sound : IsSoundState P G S) (done : (u : Task) → IsIn u S.claims → IsFinished P G S u) (t : Task) (job : IsTask P t) where
+module _ (P : Plan) (G : Data) (con : IsConsistent P) (S : MachineState) (sound : IsSoundState P G S)
+    (done : (u : Task) → IsIn u S.claims → IsFinished P G S u) (t : Task) (job : IsTask P t) where
   edge_sent : (e : Edge) → IsIn e (in_edges P t) → IsIn e.from S.claims → has_outputs (ended P G e.from) ≡ true → is_sent S (item.Edge e) ≡ true
   edge_sent e i c o = elim (done e.from c) [
     | inl trap ↦ absurd (false≢true (sym trap ∙ o))
@@ -28,9 +29,12 @@ module _ (P : Plan) (G : Data) (con : IsConsistent P) (S : MachineState) (sound 
   ]
 
   none_claimed : (IsIn t S.claims → ⊥) → claim_count S t ≡ 0
-  none_claimed new = by_test (nat_lt 0 (claim_count S t)) (λ k. absurd (new (claim_member S t (ltb-true 0 (claim_count S t) k)))) (λ k. let z = ltb-false 0 (claim_count S t) k in omega arith)
+  none_claimed new = by_test (nat_lt 0 (claim_count S t)) (λ k. absurd
+      (new (claim_member S t (ltb-true 0 (claim_count S t) k))))
+      (λ k. let z = ltb-false 0 (claim_count S t) k in omega arith)
 
-  pub may_follow_finished : MayClaim P S t ↔ ((IsIn t S.claims → ⊥) × ((e : Edge) → IsIn e (in_edges P t) → IsIn e.from S.claims × IsTrue (has_outputs (ended P G e.from))))
+  pub may_follow_finished : MayClaim P S t ↔ ((IsIn t S.claims → ⊥)
+      × ((e : Edge) → IsIn e (in_edges P t) → IsIn e.from S.claims × IsTrue (has_outputs (ended P G e.from))))
   may_follow_finished = (
     λ may. (
       λ i. let more = member_claim S t i in let none = may.unclaimed in absurd (omega arith),

@@ -5,7 +5,8 @@ use Rattle.ptg_base.specs.declared.refusal.Refusal.{Refusal}
 use Rattle.ptg_base.specs.declared.refusal.Refusal.TheVariants as refusals
 use Rattle.ptg_base.specs.declared.refusal.Refusal.TheVariants.{Fault}
 use Rattle.rank_core.specs.Views.{WorldView}
-use Rattle.std.proofs.Common.{◌≡◌, ℕ, ◌+◌, List, [], ◌∷◌, ◌++◌, map, length, refl, ap, sym, ◌∙◌, subst, inl, inr, append_assoc, Option, Some, None, Result, Ok, Err, arith}
+use Rattle.std.proofs.Common.{◌≡◌, ℕ, ◌+◌, List, [], ◌∷◌, ◌++◌, map, length, refl, ap, sym, ◌∙◌, subst, inl, inr}
+use Rattle.std.proofs.Common.{append_assoc, Option, Some, None, Result, Ok, Err, arith}
 use Rattle.std.specs.List.{AllByRecursion}
 use Rattle.std.proofs.lemmas.List.{append-nil, map-append}
 use Rattle.ptg_base.specs.Lists.{HasNoRepeats, IsIn}
@@ -35,12 +36,14 @@ use Rattle.trace_core.proofs.Wholes.{all_or_missing, whole, whole_all, whole_may
 use Rattle.trace_replay.specs.Replaying.{HasRunInOrder, IsEndOf, IsVerdictOn, StopsAt}
 
 -- the tasks that were read are tasks of the job, and differ
-pub read_tasks : (P : Plan) (es : List TraceRow) (ts : List Task) (fault : Option TraceFault) → IsReadAs P es ts fault → AllByRecursion (IsTask P) ts × HasNoRepeats ts
+pub read_tasks : (P : Plan) (es : List TraceRow) (ts : List Task) (fault : Option TraceFault) → IsReadAs P es ts fault
+    → AllByRecursion (IsTask P) ts × HasNoRepeats ts
 read_tasks P es ts None r = (r.tasks, r.once)
 read_tasks P es ts (Some f) r = (r.0.rows.tasks, r.0.rows.once)
 
 -- the rows go on after those of the tasks that were read
-rows_go_on : (P : Plan) (es : List TraceRow) (ts : List Task) (fault : Option TraceFault) → IsReadAs P es ts fault → (more : List TraceRow) × (es ≡ map (row_of P) ts ++ more)
+rows_go_on : (P : Plan) (es : List TraceRow) (ts : List Task) (fault : Option TraceFault) → IsReadAs P es ts fault
+    → (more : List TraceRow) × (es ≡ map (row_of P) ts ++ more)
 rows_go_on P es ts None r = ([], r.named ∙ sym (append-nil (map (row_of P) ts)))
 rows_go_on P es ts (Some f) r = (r.0.failed ∷ r.0.later, r.0.split ∙ ap (λ l. l ++ r.0.failed ∷ r.0.later) r.0.rows.named)
 
@@ -57,7 +60,8 @@ middle_task : (P : Plan) (before later : List Task) (t : Task) → AllByRecursio
 middle_task P [] later t h = h.0
 middle_task P (u ∷ us) later t h = middle_task P us later t h.1
 
-module _ (P : Plan) (G : Data) (es : List TraceRow) (ts : List Task) (jobs : AllByRecursion (IsTask P) ts) (once : HasNoRepeats ts) (fault : Option TraceFault) (read : IsReadAs P es ts fault) where
+module _ (P : Plan) (G : Data) (es : List TraceRow) (ts : List Task) (jobs : AllByRecursion (IsTask P) ts)
+    (once : HasNoRepeats ts) (fault : Option TraceFault) (read : IsReadAs P es ts fault) where
   -- a task that may not run is the fault
   pub stopped_early : (index : ℕ) → StopsAt P G ts index → (f : TraceFault) → f ≡ record { row = index + 2; code = TooEarly } → IsVerdictOn P G es ts (Err f)
   stopped_early index s f is =
@@ -78,9 +82,14 @@ module _ (P : Plan) (G : Data) (es : List TraceRow) (ts : List Task) (jobs : All
         row = ap (λ (g : TraceFault). g.row) is ∙ ap (λ n. n + 2) s.is_index;
       })
     where
-      edge_missing : (s : StopsAt P G ts index) → IsTask P s.stopped → (IsIn s.stopped s.before → ⊥) → (x : Edge) × IsIn x (in_edges P s.stopped) × IsMissing P G s.before x
+      edge_missing : (s : StopsAt P G ts index) → IsTask P s.stopped → (IsIn s.stopped s.before → ⊥)
+          → (x : Edge) × IsIn x (in_edges P s.stopped) × IsMissing P G s.before x
       edge_missing s job new = elim (all_or_missing P G s.before (in_edges P s.stopped)) [
-        | inl all ↦ absurd (s.early (record { follows = record { task = job; first_time = new; after_sources = λ e i. (all e i).0 }; have_outputs = λ e i. (all e i).1 }))
+        | inl all ↦ absurd (s.early (record {
+          follows = record
+              { task = job; first_time = new; after_sources = λ e i. (all e i).0 };
+          have_outputs = λ e i. (all e i).1;
+        }))
         | inr p ↦ p
       ]
 
@@ -99,7 +108,8 @@ module _ (P : Plan) (G : Data) (es : List TraceRow) (ts : List Task) (jobs : All
       })
 
   -- otherwise a task that runs is missing
-  unfinished : MayAllRunAfter P G [] ts → fault ≡ None → (t : Task) × IsIn t (ran P G) × (IsIn t ts → ⊥) → (f : TraceFault) → f ≡ record { row = length ts + 2; code = Unfinished } → IsVerdictOn P G es ts (Err f)
+  unfinished : MayAllRunAfter P G [] ts → fault ≡ None → (t : Task) × IsIn t (ran P G) × (IsIn t ts → ⊥)
+      → (f : TraceFault) → f ≡ record { row = length ts + 2; code = Unfinished } → IsVerdictOn P G es ts (Err f)
   unfinished may is missing f same =
       let r = subst (IsReadAs P es ts) is read in
       inr (record {
@@ -116,10 +126,13 @@ module _ (P : Plan) (G : Data) (es : List TraceRow) (ts : List Task) (jobs : All
       entries_length (u ∷ us) = omega (arith, entries_length us)
 
   -- otherwise the order is whole
-  finished : IsConsistent P → MayAllRunAfter P G [] ts → fault ≡ None → ((t : Task) → IsIn t (ran P G) → IsIn t ts) → (o : Outcome) → o ≡ answer P G → IsVerdictOn P G es ts (Ok o)
+  finished : IsConsistent P → MayAllRunAfter P G [] ts → fault ≡ None → ((t : Task) → IsIn t (ran P G) → IsIn t ts)
+      → (o : Outcome) → o ≡ answer P G → IsVerdictOn P G es ts (Ok o)
   finished con may is all o same = (same, subst (IsReadAs P es ts) is read, whole P G con ts may all)
 
-  pub at_end : IsConsistent P → (keys : List Task) → keys ≡ ts → MayAllRunAfter P G [] ts → fault ≡ None → (f : TraceFault) → f ≡ record { row = length ts + 2; code = Unfinished } → (v : Result Outcome TraceFault) → IsEndOf P G keys f v → IsVerdictOn P G es ts v
+  pub at_end : IsConsistent P → (keys : List Task) → keys ≡ ts → MayAllRunAfter P G [] ts → fault ≡ None
+      → (f : TraceFault) → f ≡ record { row = length ts + 2; code = Unfinished } → (v : Result Outcome TraceFault)
+      → IsEndOf P G keys f v → IsVerdictOn P G es ts v
   at_end con keys ks may is f same (Ok o) e = finished con may is (λ t i. subst (IsIn t) ks (e.1 t i)) o e.0
   at_end con keys ks may is f same (Err g) e = unfinished may is (e.1.0, e.1.1, λ i. e.1.2 (subst (IsIn e.1.0) (sym ks) i)) g (e.0 ∙ same)
 
@@ -144,28 +157,36 @@ module _ (P : Plan) (G : Data) (con : IsConsistent P) (text : List ℕ) (ts : Li
   verdict_whole (Err f) v = tt
   verdict_whole (Ok o) v = (ts, list_of_text o v, v.2)
 
-pub verdict_answer : (P : Plan) (G : Data) (es : List TraceRow) (ts : List Task) (v : Result Outcome TraceFault) → IsVerdictOn P G es ts v → IfOk v (λ o. o ≡ answer P G)
+pub verdict_answer : (P : Plan) (G : Data) (es : List TraceRow) (ts : List Task) (v : Result Outcome TraceFault)
+    → IsVerdictOn P G es ts v → IfOk v (λ o. o ≡ answer P G)
 verdict_answer P G es ts (Err f) v = tt
 verdict_answer P G es ts (Ok o) v = v.0
 
 -- how the runs of the tasks ended
-pub stopped_at : (P : Plan) (G : Data) (ts : List Task) (w : WorldView) (o : Option ℕ) (index : ℕ) → MatchOption o (HasRunInOrder P G ts w) (λ i. StopsAt P G ts i) → o ≡ Some index → StopsAt P G ts index
+pub stopped_at : (P : Plan) (G : Data) (ts : List Task) (w : WorldView) (o : Option ℕ) (index : ℕ)
+    → MatchOption o (HasRunInOrder P G ts w) (λ i. StopsAt P G ts i) → o ≡ Some index → StopsAt P G ts index
 stopped_at P G ts w o index h is = subst (λ x. MatchOption x (HasRunInOrder P G ts w) (λ i. StopsAt P G ts i)) is h
 
-pub ran_all : (P : Plan) (G : Data) (ts : List Task) (w : WorldView) (o : Option ℕ) → MatchOption o (HasRunInOrder P G ts w) (λ i. StopsAt P G ts i) → o ≡ None → HasRunInOrder P G ts w
+pub ran_all : (P : Plan) (G : Data) (ts : List Task) (w : WorldView) (o : Option ℕ)
+    → MatchOption o (HasRunInOrder P G ts w) (λ i. StopsAt P G ts i) → o ≡ None → HasRunInOrder P G ts w
 ran_all P G ts w o h is = subst (λ x. MatchOption x (HasRunInOrder P G ts w) (λ i. StopsAt P G ts i)) is h
 
 -- a text that could not be read, as its refusal says
 module _ (P : Plan) (G : Data) (text : List ℕ) {E : Type 0} (r : Result (Result Outcome TraceFault) E) where
-  pub unread_fault : (refusal : Refusal TraceFault) → ((f : TraceFault) → refusal ≡ Fault f → r ≡ Ok (Err f)) → (refusal ≡ refusals.OutOfMemory → IsErr r) → ((f : TraceFault) → refusal ≡ Fault f → IsSpellingFault text f) → IfOk r (λ v. IfErr v (λ f. IsTraceFault P G text f))
-  unread_fault (Fault f) known memory spelling = subst (λ x. IfOk x (λ v. IfErr v (λ g. IsTraceFault P G text g))) (sym (known f refl)) (of_spelling (spelling f refl))
+  pub unread_fault : (refusal : Refusal TraceFault) → ((f : TraceFault) → refusal ≡ Fault f → r ≡ Ok (Err f))
+      → (refusal ≡ refusals.OutOfMemory → IsErr r) → ((f : TraceFault) → refusal ≡ Fault f → IsSpellingFault text f)
+      → IfOk r (λ v. IfErr v (λ f. IsTraceFault P G text f))
+  unread_fault (Fault f) known memory spelling = subst (λ x. IfOk x (λ v. IfErr v (λ g. IsTraceFault P G text g)))
+      (sym (known f refl)) (of_spelling (spelling f refl))
   unread_fault refusals.OutOfMemory known memory spelling = on_err r (memory refl)
     where
       on_err : (x : Result (Result Outcome TraceFault) E) → IsErr x → IfOk x (λ v. IfErr v (λ g. IsTraceFault P G text g))
       on_err (Ok v) h = absurd (false≢true h)
       on_err (Err e) h = tt
 
-  pub unread_only : (refusal : Refusal TraceFault) → ((f : TraceFault) → refusal ≡ Fault f → r ≡ Ok (Err f)) → (refusal ≡ refusals.OutOfMemory → IsErr r) → ((f : TraceFault) → refusal ≡ Fault f → IsSpellingFault text f) → (g : TraceFault) → IsTraceFault P G text g → IfOk r (λ v. v ≡ Err g)
+  pub unread_only : (refusal : Refusal TraceFault) → ((f : TraceFault) → refusal ≡ Fault f → r ≡ Ok (Err f))
+      → (refusal ≡ refusals.OutOfMemory → IsErr r) → ((f : TraceFault) → refusal ≡ Fault f → IsSpellingFault text f)
+      → (g : TraceFault) → IsTraceFault P G text g → IfOk r (λ v. v ≡ Err g)
   unread_only (Fault f) known memory spelling g h =
       subst (λ x. IfOk x (λ v. v ≡ Err g)) (sym (known f refl)) (ap (λ x. Err x) (one_fault P G text f g (of_spelling (spelling f refl)) h))
   unread_only refusals.OutOfMemory known memory spelling g h = on_err r (memory refl)
@@ -174,10 +195,16 @@ module _ (P : Plan) (G : Data) (text : List ℕ) {E : Type 0} (r : Result (Resul
       on_err (Ok v) h = absurd (false≢true h)
       on_err (Err e) h = tt
 
-  pub unread_whole : (refusal : Refusal TraceFault) → ((f : TraceFault) → refusal ≡ Fault f → r ≡ Ok (Err f)) → (refusal ≡ refusals.OutOfMemory → IsErr r) → IfOk r (λ v. OnOk v ((us : List Task) × IsListOf P text us × IsWholeOrder P G us)) × IfOk r (λ v. IfOk v (λ o. o ≡ answer P G))
-  unread_whole (Fault f) known memory = subst (λ x. IfOk x (λ v. OnOk v ((us : List Task) × IsListOf P text us × IsWholeOrder P G us)) × IfOk x (λ v. IfOk v (λ o. o ≡ answer P G))) (sym (known f refl)) (tt, tt)
+  pub unread_whole : (refusal : Refusal TraceFault) → ((f : TraceFault) → refusal ≡ Fault f → r ≡ Ok (Err f))
+      → (refusal ≡ refusals.OutOfMemory → IsErr r) → IfOk r (λ v. OnOk v
+      ((us : List Task) × IsListOf P text us × IsWholeOrder P G us)) × IfOk r (λ v. IfOk v (λ o. o ≡ answer P G))
+  unread_whole (Fault f) known memory = subst (λ x. IfOk x (λ v. OnOk v
+      ((us : List Task) × IsListOf P text us × IsWholeOrder P G us)) × IfOk x (λ v. IfOk v (λ o. o ≡ answer P G)))
+      (sym (known f refl)) (tt, tt)
   unread_whole refusals.OutOfMemory known memory = on_err r (memory refl)
     where
-      on_err : (x : Result (Result Outcome TraceFault) E) → IsErr x → IfOk x (λ v. OnOk v ((us : List Task) × IsListOf P text us × IsWholeOrder P G us)) × IfOk x (λ v. IfOk v (λ o. o ≡ answer P G))
+      on_err : (x : Result (Result Outcome TraceFault) E) → IsErr x
+          → IfOk x (λ v. OnOk v ((us : List Task) × IsListOf P text us × IsWholeOrder P G us))
+          × IfOk x (λ v. IfOk v (λ o. o ≡ answer P G))
       on_err (Ok v) h = absurd (false≢true h)
       on_err (Err e) h = (tt, tt)

@@ -1,5 +1,7 @@
 -- What the runs of tasks leave in a world of one rank.
-use Rattle.std.proofs.Common.{◌≡◌, ℕ, suc, ◌+◌, ◌<◌, ◌==◌, ◌↔◌, Bool, true, false, not, List, [], ◌∷◌, ◌++◌, length, take, drop, slice_get, Some, get_or, ap, sym, ◌∙◌, subst, inl, inr, IsTrue, if◌then◌else◌, arith}
+use Rattle.std.proofs.Common.{◌≡◌, ℕ, suc, ◌+◌, ◌<◌, ◌==◌, ◌↔◌, Bool, true, false, not, List, [], ◌∷◌, ◌++◌, length}
+use Rattle.std.proofs.Common.{take, drop, slice_get, Some, get_or, ap, sym, ◌∙◌, subst, inl, inr, IsTrue, if◌then◌else◌}
+use Rattle.std.proofs.Common.{arith}
 use Rattle.std.proofs.lemmas.Bool.{false≢true}
 use Rattle.std.proofs.lemmas.List.{take_more, take-append-drop}
 use Rattle.ptg_base.specs.Lists.{IsIn}
@@ -60,7 +62,11 @@ module _ (P : Plan) (G : Data) (con : IsConsistent P) (ts : List Task) (w : Worl
         λ may.
             let p = law.0 may in
             record {
-              follows = record { task = job; first_time = λ i. p.0 (subst (IsIn t) (sym h.claims) i); after_sources = λ e i. subst (IsIn e.from) h.claims (p.1 e i).0 };
+              follows = record {
+                task = job;
+                first_time = λ i. p.0 (subst (IsIn t) (sym h.claims) i);
+                after_sources = λ e i. subst (IsIn e.from) h.claims (p.1 e i).0;
+              };
               have_outputs = λ e i. (p.1 e i).1;
             },
         λ may. law.1 (
@@ -72,7 +78,9 @@ module _ (P : Plan) (G : Data) (con : IsConsistent P) (ts : List Task) (w : Worl
   of_plan : (t : Task) → MayClaim w.plan w.state.machine t ↔ MayClaim P w.state.machine t
   of_plan t = (subst (λ p. MayClaim p w.state.machine t) h.world.plan, subst (λ p. MayClaim p w.state.machine t) (sym h.world.plan))
 
-  pub ran_more : (t : Task) (new : WorldView) (b : Bool) → IsTask P t → b ≡ true → IsTrue b ↔ MayClaim w.plan w.state.machine t → new ≡ (if b then with_run t w else w) → IsSoundWorld new.plan new.given new.ranks new.state → HasRunInOrder P G (ts ++ t ∷ []) new
+  pub ran_more : (t : Task) (new : WorldView) (b : Bool) → IsTask P t → b ≡ true
+      → IsTrue b ↔ MayClaim w.plan w.state.machine t → new ≡ (if b then with_run t w else w)
+      → IsSoundWorld new.plan new.given new.ranks new.state → HasRunInOrder P G (ts ++ t ∷ []) new
   ran_more t new b job does exact is sound =
       let same : new ≡ with_run t w = is ∙ ap (λ c. if c then with_run t w else w) does in
       let plan : new.plan ≡ P = ap (λ (v : WorldView). v.plan) same ∙ h.world.plan in
@@ -83,13 +91,16 @@ module _ (P : Plan) (G : Data) (con : IsConsistent P) (ts : List Task) (w : Worl
           plan = plan;
           given = given;
           ranks = ranks;
-          sound = subst (λ p. IsSoundWorld p G 1 new.state) plan (subst (λ g. IsSoundWorld new.plan g 1 new.state) given (subst (λ r. IsSoundWorld new.plan new.given r new.state) ranks sound));
+          sound = subst (λ p. IsSoundWorld p G 1 new.state) plan
+              (subst (λ g. IsSoundWorld new.plan g 1 new.state) given
+              (subst (λ r. IsSoundWorld new.plan new.given r new.state) ranks sound));
         };
         claims = ap (λ (v : WorldView). v.state.machine.claims) same ∙ ap (λ l. l ++ t ∷ []) h.claims;
         may_run = may_push P G [] ts t h.may_run ((runs_or_not t job).0 ((of_plan t).0 (exact.0 does)));
       }
 
-  pub stopped_here : (all later : List Task) (t : Task) (index : ℕ) (b : Bool) → IsTask P t → b ≡ false → IsTrue b ↔ MayClaim w.plan w.state.machine t → all ≡ ts ++ t ∷ later → index ≡ length ts → StopsAt P G all index
+  pub stopped_here : (all later : List Task) (t : Task) (index : ℕ) (b : Bool) → IsTask P t → b ≡ false
+      → IsTrue b ↔ MayClaim w.plan w.state.machine t → all ≡ ts ++ t ∷ later → index ≡ length ts → StopsAt P G all index
   stopped_here all later t index b job not_ran exact split at = record {
     before = ts;
     stopped = t;
@@ -103,17 +114,19 @@ module _ (P : Plan) (G : Data) (con : IsConsistent P) (ts : List Task) (w : Worl
 -- a world of one rank is quiet if and only if each task that runs has run there
 module _ (P : Plan) (G : Data) (con : IsConsistent P) (w : WorldView) (o : IsOfOneRank P G w) where
   pub quiet_all : IsQuiet w.plan w.state → (t : Task) → IsIn t (ran P G) → IsIn t w.state.machine.claims
-  quiet_all quiet t i = (claims_are_ran P G con w.state.machine o.sound.state ((quiet_iff P G con 1 w.state o.sound).0 (subst (λ p. IsQuiet p w.state) o.plan quiet)) t).1 i
+  quiet_all quiet t i = (claims_are_ran P G con w.state.machine o.sound.state
+      ((quiet_iff P G con 1 w.state o.sound).0 (subst (λ p. IsQuiet p w.state) o.plan quiet)) t).1 i
 
   all_quiet : ((t : Task) → IsIn t (ran P G) → IsIn t w.state.machine.claims) → IsQuiet w.plan w.state
-  all_quiet all = subst (λ p. IsQuiet p w.state) (sym o.plan) ((quiet_iff P G con 1 w.state o.sound).1 ((rests P G con w.state.machine o.sound.state).1 (record {
-    none_ready = λ t may.
-        let runs = it_ends P G con w.state.machine o.sound.state t (record { task = may.task; all_arrived = may.all_arrived }) in
-        let claimed = member_claim w.state.machine t (all t ((ran_ends P G con t).1 (may.task, runs))) in
-        let none = may.unclaimed in
-        absurd (omega arith);
-    all_finished = finished P G w.state o.sound;
-  })))
+  all_quiet all = subst (λ p. IsQuiet p w.state) (sym o.plan)
+      ((quiet_iff P G con 1 w.state o.sound).1 ((rests P G con w.state.machine o.sound.state).1 (record {
+        none_ready = λ t may.
+            let runs = it_ends P G con w.state.machine o.sound.state t (record { task = may.task; all_arrived = may.all_arrived }) in
+            let claimed = member_claim w.state.machine t (all t ((ran_ends P G con t).1 (may.task, runs))) in
+            let none = may.unclaimed in
+            absurd (omega arith);
+        all_finished = finished P G w.state o.sound;
+      })))
 
   pub one_missing : (quiet : Bool) → quiet ≡ false → IsTrue quiet ↔ IsQuiet w.plan w.state → (t : Task) × IsIn t (ran P G) × (IsIn t w.state.machine.claims → ⊥)
   one_missing quiet loud exact = elim (all_or_absent w.state.machine.claims (ran P G)) [

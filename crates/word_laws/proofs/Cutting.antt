@@ -1,5 +1,6 @@
 -- A text, cut at its first `=`.
-use Rattle.std.proofs.Common.{◌≡◌, ℕ, suc, ◌+◌, Bool, true, false, cond, not, ◌==◌, ◌||◌, List, [], ◌∷◌, ◌++◌, ◌⊎◌, inl, inr, Some, None, take, drop, refl, ap, ◌∙◌, arith}
+use Rattle.std.proofs.Common.{◌≡◌, ℕ, suc, ◌+◌, Bool, true, false, cond, not, ◌==◌, ◌||◌, List, [], ◌∷◌, ◌++◌, ◌⊎◌, inl}
+use Rattle.std.proofs.Common.{inr, Some, None, take, drop, refl, ap, ◌∙◌, arith}
 use Rattle.std.proofs.lemmas.Bool.{eqb-true}
 use Rattle.std.specs.List.{after_first, before_first, list_any, prefix_len}
 use Rattle.std.specs.Prelude.{if◌then◌else◌}
@@ -28,7 +29,8 @@ one_is c v e =
       text = v;
       is = ap (λ x. x ∷ v) same;
       before = ap (λ n. take n (c ∷ v)) none;
-      after = ap (λ x. if x || list_any (λ b. b == 61) v then Some (after_first (λ b. b == 61) (c ∷ v)) else None) e ∙ ap (λ n. Some (drop (n + 1) (c ∷ v))) none;
+      after = ap (λ x. if x || list_any (λ b. b == 61) v then Some (after_first (λ b. b == 61) (c ∷ v)) else None) e
+          ∙ ap (λ n. Some (drop (n + 1) (c ∷ v))) none;
     }
 
 one_more : (c : ℕ) (v : List ℕ) → (c == 61) ≡ false → prefix_len (λ b. not (b == 61)) (c ∷ v) ≡ suc (prefix_len (λ b. not (b == 61)) v)

@@ -1,15 +1,18 @@
 -- What a word is, from its form.
-use Rattle.std.proofs.Common.{◌≡◌, ℕ, Bool, true, false, not, ◌==◌, ◌&&◌, ◌||◌, List, [], ◌∷◌, ◌++◌, ◌⊎◌, inl, inr, Option, Some, None, is_some, codes, refl, sym, ap, ◌∙◌, subst, eq-eqb}
+use Rattle.std.proofs.Common.{◌≡◌, ℕ, Bool, true, false, not, ◌==◌, ◌&&◌, ◌||◌, List, [], ◌∷◌, ◌++◌, ◌⊎◌, inl, inr}
+use Rattle.std.proofs.Common.{Option, Some, None, is_some, codes, refl, sym, ap, ◌∙◌, subst, eq-eqb}
 use Rattle.std.proofs.lemmas.Bool.{eqb-true, false_from_ne_true, false≢true, and_parts, and_from}
 use Rattle.std.proofs.lemmas.Slice.Eq.{bytes_eq-Decides}
 use Rattle.std.specs.List.{before_first}
 use Rattle.std.specs.Str.{bytes_eq}
 use Rattle.std.specs.Prelude.{if◌then◌else◌}
-use Rattle.ptg_words.specs.Parts.{Form, NumberOption, dashed_form, flag, form_of, has_counts, has_preload, named, option_named, plain, shards, text_after, unknown, workers}
+use Rattle.ptg_words.specs.Parts.{Form, NumberOption, dashed_form, flag, form_of, has_counts, has_preload, named}
+use Rattle.ptg_words.specs.Parts.{option_named, plain, shards, text_after, unknown, workers}
 use Rattle.ptg_words.specs.declared.verbs.Verb.{Verb}
 use Rattle.ptg_words.specs.declared.verbs.Verb.TheVariants.{Run, Show, Check, Demo, Trace, Replay, Certify, Ranks}
 use Rattle.ptg_words.specs.Words.{options_of}
-use Rattle.word_laws.specs.Forms.{HasForm, begins_with_dash, has_flag, has_numbers, operand_or_value, preload_alone, shards_alone, shards_with, takes_next, workers_alone, workers_with}
+use Rattle.word_laws.specs.Forms.{HasForm, begins_with_dash, has_flag, has_numbers, operand_or_value, preload_alone}
+use Rattle.word_laws.specs.Forms.{shards_alone, shards_with, takes_next, workers_alone, workers_with}
 use Rattle.word_laws.proofs.Cutting.{cut}
 use Rattle.list_lemmas.proofs.Truth.{and-false}
 
@@ -136,14 +139,18 @@ module _ (verb : Verb) where
           | inl p ↦ clash (tests workers) (and_from (has_counts (options_of verb)) _ (counts_are verb ∙ p.0) (is_name (codes "workers") p.1)) no_workers
           | inr q ↦ elim q [
             | inl p ↦ clash (tests shards) (and_from (has_counts (options_of verb)) _ (counts_are verb ∙ p.0) (is_name (codes "shards") p.1)) no_shards
-            | inr p ↦ clash tests_flag (and_from (has_preload (options_of verb)) _ (flags_are verb ∙ p.0) (and_from (bytes_eq (codes "preload") (before_first (λ x. x == 61) v)) _ (is_name (codes "preload") p.1) (ap (λ o. not (is_some o)) p.2))) no_flag
+            | inr p ↦ clash tests_flag (and_from (has_preload (options_of verb)) _ (flags_are verb ∙ p.0)
+                (and_from (bytes_eq (codes "preload") (before_first (λ x. x == 61) v)) _ (is_name (codes "preload") p.1)
+                (ap (λ o. not (is_some o)) p.2))) no_flag
           ]
         ]
 
     option_says : (x y z : Bool) → tests workers ≡ x → tests shards ≡ y → tests_flag ≡ z
         → Says verb (b ∷ c ∷ v) (if x then named workers (text_after v) else if y then named shards (text_after v) else if z then flag else unknown)
-    option_says true y z p q r = let k = and_parts (has_counts (options_of verb)) _ p in of_workers (sym (counts_are verb) ∙ k.0) (name_is (codes "workers") k.1)
-    option_says false true z p q r = let k = and_parts (has_counts (options_of verb)) _ q in of_shards (sym (counts_are verb) ∙ k.0) (name_is (codes "shards") k.1)
+    option_says true y z p q r = let k = and_parts (has_counts (options_of verb)) _ p in of_workers
+        (sym (counts_are verb) ∙ k.0) (name_is (codes "workers") k.1)
+    option_says false true z p q r = let k = and_parts (has_counts (options_of verb)) _ q in of_shards
+        (sym (counts_are verb) ∙ k.0) (name_is (codes "shards") k.1)
     option_says false false true p q r =
         let k = and_parts (has_preload (options_of verb)) _ r in
         let l = and_parts (bytes_eq (codes "preload") (before_first (λ x. x == 61) v)) _ k.1 in
@@ -201,15 +208,19 @@ module _ (verb : Verb) (word : List ℕ) where
       let k = and_parts (has_numbers verb) (bytes_eq word (codes "--workers") || bytes_eq word (codes "--shards")) e in
       (k.0, by (bytes_eq word (codes "--workers")) refl k.1)
     where
-      by : (x : Bool) → bytes_eq word (codes "--workers") ≡ x → (x || bytes_eq word (codes "--shards")) ≡ true → (word ≡ codes "--workers") ⊎ (word ≡ codes "--shards")
+      by : (x : Bool) → bytes_eq word (codes "--workers") ≡ x → (x || bytes_eq word (codes "--shards")) ≡ true
+          → (word ≡ codes "--workers") ⊎ (word ≡ codes "--shards")
       by true at k = inl ((bytes_eq-Decides word (codes "--workers")).0 at)
       by false at k = inr ((bytes_eq-Decides word (codes "--shards")).0 k)
 
-  takes_of : has_numbers verb ≡ true → (other : List ℕ) → word ≡ other → (bytes_eq other (codes "--workers") || bytes_eq other (codes "--shards")) ≡ true → takes_next verb word ≡ true
-  takes_of has other is test = and_from (has_numbers verb) (bytes_eq word (codes "--workers") || bytes_eq word (codes "--shards")) has (ap (λ w. bytes_eq w (codes "--workers") || bytes_eq w (codes "--shards")) is ∙ test)
+  takes_of : has_numbers verb ≡ true → (other : List ℕ) → word ≡ other
+      → (bytes_eq other (codes "--workers") || bytes_eq other (codes "--shards")) ≡ true → takes_next verb word ≡ true
+  takes_of has other is test = and_from (has_numbers verb) (bytes_eq word (codes "--workers") || bytes_eq word
+      (codes "--shards")) has (ap (λ w. bytes_eq w (codes "--workers") || bytes_eq w (codes "--shards")) is ∙ test)
 
   not_by : (other : List ℕ) → word ≡ other → (bytes_eq other (codes "--workers") || bytes_eq other (codes "--shards")) ≡ false → takes_next verb word ≡ false
-  not_by other is test = ap (λ w. has_numbers verb && (bytes_eq w (codes "--workers") || bytes_eq w (codes "--shards"))) is ∙ ap (λ x. has_numbers verb && x) test ∙ and-false (has_numbers verb)
+  not_by other is test = ap (λ w. has_numbers verb && (bytes_eq w (codes "--workers") || bytes_eq w (codes "--shards")))
+      is ∙ ap (λ x. has_numbers verb && x) test ∙ and-false (has_numbers verb)
 
   dash_is : (f : Form) → Says verb word f → begins_with_dash word ≡ not (is_plain f)
   dash_is plain s = s
@@ -221,7 +232,11 @@ module _ (verb : Verb) (word : List ℕ) where
   dash_is unknown s = s.0
 
   takes_is : (f : Form) → Says verb word f → takes_next verb word ≡ is_name_alone f
-  takes_is plain s = not_next (λ t. elim (next_cases t).1 [ inl e ↦ clash (begins_with_dash word) (ap begins_with_dash e) s | inr e ↦ clash (begins_with_dash word) (ap begins_with_dash e) s ])
+  takes_is plain s = not_next (λ t. elim (next_cases t).1 [
+    | inl e ↦ clash (begins_with_dash word)
+        (ap begins_with_dash e) s
+    | inr e ↦ clash (begins_with_dash word) (ap begins_with_dash e) s
+  ])
   takes_is (named workers None) s = takes_of s.0 (codes "--workers") s.1 refl
   takes_is (named workers (Some text)) s = not_by (codes "--workers=" ++ text) s.1 refl
   takes_is (named shards None) s = takes_of s.0 (codes "--shards") s.1 refl

@@ -7,8 +7,12 @@ use Rattle.ptg_base.specs.Lists.{IsIn}
 use Rattle.list_lemmas.proofs.Members.{some_member_passes, list_any-from_member}
 use Rattle.ptg_words.specs.Parts.{Part, has_twice, is_lacking, is_stray, operands, parts, shards, texts_of, workers}
 use Rattle.ptg_words.specs.declared.verbs.Verb.{Verb}
-use Rattle.ptg_words.specs.Words.{Breaks, IsUsage, bad_number, has_bad_count, has_bad_number, has_bad_operand, has_no_number, has_wrong_count, improper_word, is_number, lacking_number, no_verb, operand_count, operands_differ, operands_of, option_twice, options_of, read, stray_word, verb_of}
-use Rattle.word_laws.specs.Rules.{BreaksRule, bad_operand, bad_shards, bad_workers, improper, no_form, no_value, other_words, preload_twice, shards_twice, workers_twice, wrong_count}
+use Rattle.ptg_words.specs.Words.{Breaks, IsUsage, bad_number, has_bad_count, has_bad_number, has_bad_operand}
+use Rattle.ptg_words.specs.Words.{has_no_number, has_wrong_count, improper_word, is_number, lacking_number, no_verb}
+use Rattle.ptg_words.specs.Words.{operand_count, operands_differ, operands_of, option_twice, options_of, read}
+use Rattle.ptg_words.specs.Words.{stray_word, verb_of}
+use Rattle.word_laws.specs.Rules.{BreaksRule, bad_operand, bad_shards, bad_workers, improper, no_form, no_value}
+use Rattle.word_laws.specs.Rules.{other_words, preload_twice, shards_twice, workers_twice, wrong_count}
 use Rattle.word_laws.proofs.Reading.{lacks_iff, stray_iff, which}
 use Rattle.word_laws.proofs.Texts.{texts_iff}
 use Rattle.word_laws.proofs.Twice.{twice_iff}
@@ -45,10 +49,13 @@ module _ (verb : Verb) (first : List ℕ) (words : List (List ℕ)) (verb_is : v
   differs_count ne = ap not (ne_eqb (length (operands ps)) (operand_count verb) (λ e. ne (sym (ap length others) ∙ e)))
 
   -- numbers
-  bad_text : (least most : ℕ) (texts : List (List ℕ)) → has_no_number least most texts ≡ true → (text : List ℕ) × IsIn text texts × (is_number least most text ≡ false)
-  bad_text least most texts e = let p = some_member_passes (λ (text : List ℕ). not (is_number least most text)) texts e in (p.0, p.1, not-true (is_number least most p.0) p.2)
+  bad_text : (least most : ℕ) (texts : List (List ℕ)) → has_no_number least most texts ≡ true
+      → (text : List ℕ) × IsIn text texts × (is_number least most text ≡ false)
+  bad_text least most texts e = let p = some_member_passes (λ (text : List ℕ). not (is_number least most text)) texts
+      e in (p.0, p.1, not-true (is_number least most p.0) p.2)
 
-  text_bad : (least most : ℕ) (texts : List (List ℕ)) (text : List ℕ) → IsIn text texts → is_number least most text ≡ false → has_no_number least most texts ≡ true
+  text_bad : (least most : ℕ) (texts : List (List ℕ)) (text : List ℕ) → IsIn text texts
+      → is_number least most text ≡ false → has_no_number least most texts ≡ true
   text_bad least most texts text among e = list_any-from_member (λ (t : List ℕ). not (is_number least most t)) texts text among (ap not e)
 
   from_number : has_bad_number verb ps ≡ true → BreaksRule verb first words
@@ -82,12 +89,15 @@ module _ (verb : Verb) (first : List ℕ) (words : List (List ℕ)) (verb_is : v
   from_words (wrong_count ne) = operands_differ (to_rule has_wrong_count (differs_count ne))
   from_words (bad_workers text given e) =
       bad_number (to_rule has_bad_number (or_left (has_bad_count ps) (has_bad_operand (operands_of verb) (operands ps))
-      (or_left (has_no_number 1 64 (texts_of workers ps)) (has_no_number 1 256 (texts_of shards ps)) (text_bad 1 64 (texts_of workers ps) text ((texts_iff verb workers words text).1 given) e))))
+      (or_left (has_no_number 1 64 (texts_of workers ps)) (has_no_number 1 256 (texts_of shards ps))
+      (text_bad 1 64 (texts_of workers ps) text ((texts_iff verb workers words text).1 given) e))))
   from_words (bad_shards text given e) =
       bad_number (to_rule has_bad_number (or_left (has_bad_count ps) (has_bad_operand (operands_of verb) (operands ps))
-      (or_right (has_no_number 1 64 (texts_of workers ps)) (has_no_number 1 256 (texts_of shards ps)) (text_bad 1 256 (texts_of shards ps) text ((texts_iff verb shards words text).1 given) e))))
+      (or_right (has_no_number 1 64 (texts_of workers ps)) (has_no_number 1 256 (texts_of shards ps))
+      (text_bad 1 256 (texts_of shards ps) text ((texts_iff verb shards words text).1 given) e))))
   from_words (bad_operand e) =
-      bad_number (to_rule has_bad_number (or_right (has_bad_count ps) (has_bad_operand (operands_of verb) (operands ps)) (ap (has_bad_operand (operands_of verb)) others ∙ e)))
+      bad_number (to_rule has_bad_number (or_right (has_bad_count ps) (has_bad_operand (operands_of verb) (operands ps))
+      (ap (has_bad_operand (operands_of verb)) others ∙ e)))
 
 pub rules_iff : (verb : Verb) (first : List ℕ) (words : List (List ℕ)) → verb_of first ≡ Some verb → IsUsage (first ∷ words) ↔ BreaksRule verb first words
 rules_iff verb first words e = (to_words verb first words e, from_words verb first words e)

@@ -1,5 +1,6 @@
 -- The texts of options with a number, from the words that give them.
-use Rattle.std.proofs.Common.{◌≡◌, ℕ, Bool, true, false, cond, List, [], ◌∷◌, ◌++◌, ◌⊎◌, ◌↔◌, ◌==◌, inl, inr, Option, Some, None, drop, codes, refl, sym, ap, ◌∙◌, subst, eq-eqb}
+use Rattle.std.proofs.Common.{◌≡◌, ℕ, Bool, true, false, cond, List, [], ◌∷◌, ◌++◌, ◌⊎◌, ◌↔◌, ◌==◌, inl, inr, Option}
+use Rattle.std.proofs.Common.{Some, None, drop, codes, refl, sym, ap, ◌∙◌, subst, eq-eqb}
 use Rattle.std.proofs.lemmas.Bool.{false≢true}
 use Rattle.std.specs.List.{zip}
 use Rattle.std.specs.Str.{bytes_eq}
@@ -57,7 +58,8 @@ module _ (verb : Verb) (s : NumberOption) where
   own due flag word = []
   own due unknown word = []
 
-  texts_next : (due : Option NumberOption) (f : Form) (word : List ℕ) (rest : Option NumberOption → List Part) → texts_of s (after due f word rest) ≡ own due f word ++ texts_of s (rest (next_due f))
+  texts_next : (due : Option NumberOption) (f : Form) (word : List ℕ) (rest : Option NumberOption → List Part)
+      → texts_of s (after due f word rest) ≡ own due f word ++ texts_of s (rest (next_due f))
   texts_next None plain word rest = refl
   texts_next None (named d None) word rest = refl
   texts_next None (named d (Some text)) word rest = one_more (is_of s d) text (texts_of s (rest None))
@@ -166,14 +168,18 @@ module _ (verb : Verb) (s : NumberOption) where
   later : (previous word : List ℕ) (words : List (List ℕ)) (text : List ℕ) → Given word words text → Given previous (word ∷ words) text
   later previous word words text g = (g.0, elim g.1 [ inl i ↦ inl (inr i) | inr p ↦ inr (inr p.0, p.1) ])
 
-  by_text : (previous word : List ℕ) (words : List (List ℕ)) (text : List ℕ) (d : NumberOption) (given : List ℕ) → Says verb word (named d (Some given)) → IsIn text (one_if (is_of s d) given) → Given previous (word ∷ words) text
+  by_text : (previous word : List ℕ) (words : List (List ℕ)) (text : List ℕ) (d : NumberOption) (given : List ℕ)
+      → Says verb word (named d (Some given)) → IsIn text (one_if (is_of s d) given)
+      → Given previous (word ∷ words) text
   by_text previous word words text d given it i =
       let o = only (is_of s d) given text i in
       let p = text_is word d given it in
       let is : with_text s text ≡ word = ap (with_text s) o.1 ∙ sym (p.1 ∙ ap (λ t. with_text t given) (same_option s d o.0)) in
       (p.0, inl (inl is))
 
-  by_own : (previous word : List ℕ) (words : List (List ℕ)) (text : List ℕ) (due : Option NumberOption) (f : Form) → next_due (form previous) ≡ due → Says verb word f → IsIn text (own due f word) → Given previous (word ∷ words) text
+  by_own : (previous word : List ℕ) (words : List (List ℕ)) (text : List ℕ) (due : Option NumberOption) (f : Form)
+      → next_due (form previous) ≡ due → Says verb word f → IsIn text (own due f word)
+      → Given previous (word ∷ words) text
   by_own previous word words text None plain at it i = absurd i
   by_own previous word words text (Some d) plain at it i =
       let o = only (is_of s d) word text i in
@@ -191,10 +197,11 @@ module _ (verb : Verb) (s : NumberOption) where
 
   to_given : (previous : List ℕ) (words : List (List ℕ)) (text : List ℕ) → IsIn text (all_texts (next_due (form previous)) words) → Given previous words text
   to_given previous [] text i = absurd i
-  to_given previous (word ∷ words) text i = elim (from_append text (own (next_due (form previous)) (form word) word) (all_texts (next_due (form word)) words) i) [
-    | inl own_one ↦ by_own previous word words text (next_due (form previous)) (form word) refl (says verb word) own_one
-    | inr rest ↦ later previous word words text (to_given word words text rest)
-  ]
+  to_given previous (word ∷ words) text i = elim (from_append text (own (next_due (form previous)) (form word) word)
+      (all_texts (next_due (form word)) words) i) [
+        | inl own_one ↦ by_own previous word words text (next_due (form previous)) (form word) refl (says verb word) own_one
+        | inr rest ↦ later previous word words text (to_given word words text rest)
+      ]
 
   own_text : (due : Option NumberOption) (word text : List ℕ) (f : Form) → f ≡ named s (Some text) → IsIn text (own due f word)
   own_text None word text f e = subst (λ g. IsIn text (own None g word)) (sym e) (subst (λ b. IsIn text (one_if b text)) (sym (of_itself s)) (inl refl))
@@ -202,15 +209,18 @@ module _ (verb : Verb) (s : NumberOption) where
 
   own_value : (due : Option NumberOption) (word : List ℕ) (f : Form) → due ≡ Some s → f ≡ plain → IsIn word (own due f word)
   own_value due word f d e =
-      subst (λ u. IsIn word (own u f word)) (sym d) (subst (λ g. IsIn word (own (Some s) g word)) (sym e) (subst (λ b. IsIn word (one_if b word)) (sym (of_itself s)) (inl refl)))
+      subst (λ u. IsIn word (own u f word)) (sym d) (subst (λ g. IsIn word (own (Some s) g word)) (sym e)
+      (subst (λ b. IsIn word (one_if b word)) (sym (of_itself s)) (inl refl)))
 
   from_given : (previous : List ℕ) (words : List (List ℕ)) (text : List ℕ) → Given previous words text → IsIn text (all_texts (next_due (form previous)) words)
   from_given previous [] text g = elim g.1 [ inl i ↦ absurd i | inr p ↦ absurd p.0 ]
   from_given previous (word ∷ words) text g = elim g.1 [
     | inl i ↦ elim i [
       | inl e ↦ IsIn-append_left text (own (next_due (form previous)) (form word) word) (all_texts (next_due (form word)) words)
-          (own_text (next_due (form previous)) word text (form word) (text_form s word text (form word) (says verb word) (text_has s word text g.0 (sym e)) (sym e)))
-      | inr rest ↦ IsIn-append_right text (own (next_due (form previous)) (form word) word) (all_texts (next_due (form word)) words) (from_given word words text (g.0, inl rest))
+          (own_text (next_due (form previous)) word text (form word)
+          (text_form s word text (form word) (says verb word) (text_has s word text g.0 (sym e)) (sym e)))
+      | inr rest ↦ IsIn-append_right text (own (next_due (form previous)) (form word) word)
+          (all_texts (next_due (form word)) words) (from_given word words text (g.0, inl rest))
     ]
     | inr p ↦ elim p.0 [
       | inl e ↦
@@ -219,8 +229,10 @@ module _ (verb : Verb) (s : NumberOption) where
           let named_it = alone_form s previous (form previous) (says verb previous) (alone_has s previous g.0 (sym before)) (sym before) in
           let plain_it = plain_form word (form word) (says verb word) (ap begins_with_dash (sym is) ∙ p.1) in
           IsIn-append_left text (own (next_due (form previous)) (form word) word) (all_texts (next_due (form word)) words)
-          (subst (λ z. IsIn z (own (next_due (form previous)) (form word) word)) (sym is) (own_value (next_due (form previous)) word (form word) (ap next_due named_it) plain_it))
-      | inr rest ↦ IsIn-append_right text (own (next_due (form previous)) (form word) word) (all_texts (next_due (form word)) words) (from_given word words text (g.0, inr (rest, p.1)))
+          (subst (λ z. IsIn z (own (next_due (form previous)) (form word) word)) (sym is)
+          (own_value (next_due (form previous)) word (form word) (ap next_due named_it) plain_it))
+      | inr rest ↦ IsIn-append_right text (own (next_due (form previous)) (form word) word)
+          (all_texts (next_due (form word)) words) (from_given word words text (g.0, inr (rest, p.1)))
     ]
   ]
 
@@ -230,5 +242,8 @@ module _ (verb : Verb) (s : NumberOption) where
     λ g. subst (IsIn text) (sym (texts_are None words)) (from_given [] words text g),
   )
 
-pub texts_iff : (verb : Verb) (s : NumberOption) (words : List (List ℕ)) (text : List ℕ) → IsIn text (texts_of s (parts (options_of verb) words)) ↔ ((has_numbers verb ≡ true) × (IsIn (with_text s text) words ⊎ (IsIn (alone s, text) (with_previous words) × (begins_with_dash text ≡ false))))
+pub texts_iff : (verb : Verb) (s : NumberOption) (words : List (List ℕ)) (text : List ℕ)
+    → IsIn text (texts_of s (parts (options_of verb) words)) ↔
+    ((has_numbers verb ≡ true) × (IsIn (with_text s text) words
+    ⊎ (IsIn (alone s, text) (with_previous words) × (begins_with_dash text ≡ false))))
 texts_iff verb s words text = given_iff verb s words text

@@ -52,7 +52,7 @@ pub trait Board: Sync {
     /// The number of shards that can be scanned.
     ghost shard_count: { Self → ℕ };
 
-    /// Whether all memory was taken before the run.
+    /// Whether the memory of all entries, tiles, write-backs and traps was taken before the run.
     ghost preloaded: { Self → Bool };
 
     /// The job's plan.
@@ -68,7 +68,7 @@ pub trait Board: Sync {
     fn shards(&self) -> u32
         ensures { result ≡ shard_count self.now };
 
-    /// Whether all memory was taken before the run.
+    /// Whether the memory of all entries, tiles, write-backs and traps was taken before the run.
     fn is_preloaded(&self) -> bool
         ensures { result ≡ preloaded self.now };
 

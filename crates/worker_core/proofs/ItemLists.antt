@@ -1,5 +1,6 @@
 -- The items of a task, sent one after another in any order.
-use Rattle.std.proofs.Common.{◌≡◌, ◌+◌, ◌<◌, ◌≤◌, List, [], ◌∷◌, ◌++◌, map, refl, ap, sym, ◌∙◌, subst, append_assoc, IsTrue, arith}
+use Rattle.std.proofs.Common.{◌≡◌, ◌+◌, ◌<◌, ◌≤◌, List, [], ◌∷◌, ◌++◌, map, refl, ap, sym, ◌∙◌, subst, append_assoc}
+use Rattle.std.proofs.Common.{IsTrue, arith}
 use Rattle.std.proofs.lemmas.List.{append-nil, map-append}
 use Rattle.ptg_base.specs.Lists.{HasNoRepeats, IsIn}
 use Rattle.ptg_base.specs.Task.{Task}
@@ -65,12 +66,14 @@ module _ (old sent new : List Item) (once : HasNoRepeats old) (same : HasSameMem
       (IsIn-append_right i sent new h)
 
 module _ (P : Plan) (G : Data) where
-  sent_count : (i : Item) (js : List Item) → weigh (λ (x : SentItem). as_number (same_item i x.item)) (map (with_its_tile P G) js) ≡ count (same_item i) js
+  sent_count : (i : Item) (js : List Item) → weigh (λ (x : SentItem). as_number (same_item i x.item))
+      (map (with_its_tile P G) js) ≡ count (same_item i) js
   sent_count i [] = refl
   sent_count i (j ∷ js) = ap (λ n. as_number (same_item i j) + n) (sent_count i js)
 
   -- after these sends an item was sent as often as before, plus as often as it is among them
-  pub count_after : (is : List Item) (v w : PassRecord) (i : Item) → HasSentAll P G is v w → send_count (done_by w) i ≡ send_count (done_by v) i + count (same_item i) is
+  pub count_after : (is : List Item) (v w : PassRecord) (i : Item) → HasSentAll P G is v w
+      → send_count (done_by w) i ≡ send_count (done_by v) i + count (same_item i) is
   count_after is v w i sent =
       ap (weigh (λ (x : SentItem). as_number (same_item i x.item))) sent.sends
       ∙ weigh-append (λ (x : SentItem). as_number (same_item i x.item)) v.sends (map (with_its_tile P G) is)
@@ -98,12 +101,15 @@ module _ (P : Plan) (G : Data) where
     running = refl;
   })
 
-  pub one_sent : (i : Item) (old new : List Item) (v w : PassRecord) → HasSameMembers old (i ∷ new) → HasSentAll P G (i ∷ []) v w → HasSentFrom P G old new v w
+  pub one_sent : (i : Item) (old new : List Item) (v w : PassRecord) → HasSameMembers old (i ∷ new)
+      → HasSentAll P G (i ∷ []) v w → HasSentFrom P G old new v w
   one_sent i old new v w same sends = record { sent = i ∷ []; others = same; sends = sends }
 
-  both_sends : (is js : List Item) (u v w : PassRecord) → HasSentAll P G is u v → HasSentAll P G js v w → HasSentAll P G (is ++ js) u w
+  both_sends : (is js : List Item) (u v w : PassRecord) → HasSentAll P G is u v → HasSentAll P G js v w
+      → HasSentAll P G (is ++ js) u w
   both_sends is js u v w one two = record {
-    sends = two.sends ∙ ap (λ l. l ++ map (with_its_tile P G) js) one.sends ∙ append_assoc u.sends (map (with_its_tile P G) is) (map (with_its_tile P G) js)
+    sends = two.sends ∙ ap (λ l. l ++ map (with_its_tile P G) js) one.sends
+        ∙ append_assoc u.sends (map (with_its_tile P G) is) (map (with_its_tile P G) js)
         ∙ ap (λ l. u.sends ++ l) (sym (map-append (with_its_tile P G) is js));
     claims = two.claims ∙ one.claims;
     stamps = two.stamps ∙ one.stamps;
@@ -113,23 +119,41 @@ module _ (P : Plan) (G : Data) where
   }
 
   -- some items were sent, and then some of the others
-  pub sent_then : (xs ys zs : List Item) (u v w : PassRecord) → HasSentFrom P G xs ys u v → HasSentFrom P G ys zs v w → HasSentFrom P G xs zs u w
+  pub sent_then : (xs ys zs : List Item) (u v w : PassRecord) → HasSentFrom P G xs ys u v → HasSentFrom P G ys zs v w
+      → HasSentFrom P G xs zs u w
   sent_then xs ys zs u v w one two = record {
     sent = one.sent ++ two.sent;
     others = λ f.
         let first = one.others f in
         let then = two.others f in
-        omega (arith, first, then, weigh-append f one.sent ys, weigh-append f two.sent zs, weigh-append f (one.sent ++ two.sent) zs, weigh-append f one.sent two.sent);
+        omega (
+          arith,
+          first,
+          then,
+          weigh-append f one.sent ys,
+          weigh-append f two.sent zs,
+          weigh-append f
+              (one.sent ++ two.sent) zs,
+          weigh-append f one.sent two.sent,
+        );
     sends = both_sends one.sent two.sent u v w one.sends two.sends;
   }
 
   -- other items beside them stay
-  pub sent_beside : (xs ys rest : List Item) (v w : PassRecord) → HasSentFrom P G xs ys v w → HasSentFrom P G (xs ++ rest) (ys ++ rest) v w
+  pub sent_beside : (xs ys rest : List Item) (v w : PassRecord) → HasSentFrom P G xs ys v w
+      → HasSentFrom P G (xs ++ rest) (ys ++ rest) v w
   sent_beside xs ys rest v w far = record {
     sent = far.sent;
     others = λ f.
         let these = far.others f in
-        omega (arith, these, weigh-append f xs rest, weigh-append f far.sent ys, weigh-append f far.sent (ys ++ rest), weigh-append f ys rest);
+        omega (
+          arith,
+          these,
+          weigh-append f xs rest,
+          weigh-append f far.sent ys,
+          weigh-append f far.sent (ys ++ rest),
+          weigh-append f ys rest,
+        );
     sends = far.sends;
   }
 
@@ -145,10 +169,12 @@ module _ (P : Plan) (G : Data) where
   }
 
   -- what may be sent one after another
-  pub its_sender : (t : Task) (is : List Item) (v : PassRecord) (i : Item) → MaySendAll P G t is v → IsIn i is → sender i ≡ t
+  pub its_sender : (t : Task) (is : List Item) (v : PassRecord) (i : Item) → MaySendAll P G t is v → IsIn i is
+      → sender i ≡ t
   its_sender t is v i may h = item_sender P t i (may.are_items i h)
 
-  pub is_next : (t : Task) (is : List Item) (v : PassRecord) (i : Item) → MaySendAll P G t is v → IsIn i is → IsNext P G i (with_its_tile P G i).tile v
+  pub is_next : (t : Task) (is : List Item) (v : PassRecord) (i : Item) → MaySendAll P G t is v → IsIn i is
+      → IsNext P G i (with_its_tile P G i).tile v
   is_next t is v i may h =
       let by : sender i ≡ t = its_sender t is v i may h in
       record {
@@ -160,7 +186,8 @@ module _ (P : Plan) (G : Data) where
       }
 
   -- the items that are left may still be sent
-  pub may_rest : (t : Task) (old new : List Item) (v w : PassRecord) → MaySendAll P G t old v → HasSentFrom P G old new v w → MaySendAll P G t new w
+  pub may_rest : (t : Task) (old new : List Item) (v w : PassRecord) → MaySendAll P G t old v
+      → HasSentFrom P G old new v w → MaySendAll P G t new w
   may_rest t old new v w may far =
       let among = was_among old far.sent new may.once far.others in
       record {
@@ -175,7 +202,8 @@ module _ (P : Plan) (G : Data) where
       }
 
   -- the first of them alone
-  pub may_first : (t : Task) (is js : List Item) (v : PassRecord) → MaySendAll P G t (is ++ js) v → MaySendAll P G t is v
+  pub may_first : (t : Task) (is js : List Item) (v : PassRecord) → MaySendAll P G t (is ++ js) v
+      → MaySendAll P G t is v
   may_first t is js v may = record {
     runs = may.runs;
     outputs = may.outputs;

@@ -1,5 +1,6 @@
 -- The items of one task: they may be sent one after another, and then the task may end.
-use Rattle.std.proofs.Common.{◌≡◌, ℕ, ℤ, ◌<◌, true, List, [], ◌∙◌, ap, sym, subst, refl, IsTrue, nat_lt, arith, Option, Ok, Some}
+use Rattle.std.proofs.Common.{◌≡◌, ℕ, ℤ, ◌<◌, true, List, [], ◌∙◌, ap, sym, subst, refl, IsTrue, nat_lt, arith, Option}
+use Rattle.std.proofs.Common.{Ok, Some}
 use Rattle.std.proofs.lemmas.Bool.Decides.{nat_tests}
 use Rattle.ptg_base.specs.Lists.{IsIn}
 use Rattle.ptg_base.specs.Task.{Task}
@@ -73,7 +74,8 @@ module _ (P p : Plan) (G : Data) (t : Task) (same : p ≡ P) (job : IsTask p t) 
   its_items = are ∙ ap (λ q. items q t) same
 
   pub all_may : MaySendAll P G t all v
-  all_may = subst (λ l. MaySendAll P G t l v) (sym its_items) (may_send P G runs.consistent t its_job v its_outputs runs)
+  all_may = subst (λ l. MaySendAll P G t l v) (sym its_items)
+      (may_send P G runs.consistent t its_job v its_outputs runs)
 
   pub to_task : (i : Item) → IsIn i (items P t) → GoesToTask P i
   to_task i h = goes_to_task P G runs.consistent t its_job i h

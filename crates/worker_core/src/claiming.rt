@@ -10,7 +10,7 @@ ghost use Rattle.worker_core.specs.Claiming.{SearchAnswers};
 use crate::post::Post;
 use crate::scans::Scans;
 use crossbeam_utils::Backoff;
-use dep_iter::{TaskAt, locals_of, task_locals};
+use dep_iter::{TaskAt, fill_locals, find_locals};
 use dep_shard::Arrivals;
 use ptg_base::{MOST_LOCALS, TaskId};
 use range_space::Numbers;
@@ -92,19 +92,19 @@ pub(crate) fn claim_id<R: Threads + Wait + Sync, B: Board, G>(
     ensures looked { SearchAnswers (B.plan post.now.board.now) (B.job_data post.now.board.now)
         (B.placement post.now.board.now) result found.new (B.shown pass.old) (B.shown pass.new) }
 {
-    let Some(locals) = task_locals(post.board.matched().plan(), &id) else {
+    let plan = post.board.matched().plan();
+    if !find_locals(plan, &id, &mut found.locals) {
         return Search::Nothing;
-    };
+    }
     let shard = post.board.shard_of(&TaskAt {
-        plan: post.board.matched().plan(),
+        plan,
         task: &id,
-        locals: locals.as_slice(),
+        locals: found.locals.as_slice(),
     });
     let Some(arrivals) = claim(post, pass, shard, &id) else {
         return Search::Nothing;
     };
     found.task = id;
-    found.locals = locals;
     found.shard = shard;
     found.arrivals = arrivals;
     Search::Task
@@ -187,7 +187,7 @@ fn fill<R: Threads + Wait + Sync, B: Board, G>(
     ensures shard { found.new.shard ≡ shard }
     ensures arrivals { found.new.arrivals ≡ arrivals }
 {
-    found.locals = locals_of(post.board.matched().plan(), &task);
+    fill_locals(post.board.matched().plan(), &task, &mut found.locals);
     found.task = task;
     found.shard = shard;
     found.arrivals = arrivals;

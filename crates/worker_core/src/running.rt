@@ -50,11 +50,10 @@ fn run_body<R: Threads + Wait + Sync, B: Board, G: Gate>(
     ensures trap { IfErr result (λ cause.
         ended (B.plan post.now.board.now) (B.job_data post.now.board.now) at.now.task.now ≡ Some (Err cause)) }
 {
+    post.board.matched().plan_is_consistent();
     let start = Start {
-        plan: post.board.matched().plan(),
+        at,
         given: post.board.given(),
-        task: at.task,
-        locals: at.locals,
     };
     bench.run(&start, arrivals)
 }

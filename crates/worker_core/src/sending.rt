@@ -1,7 +1,11 @@
 //! Sends of the items of a task.
 
 ghost use Rattle.std.specs.Prelude.{◌≡◌, false, Ok, Some, IfOk, OnOk, OnErr};
+ghost use Rattle.std.specs.Coded.{codes};
 ghost use Rattle.std.specs.Option.{option_copied};
+ghost use Rattle.std.proofs.Props.{props};
+ghost use Rattle.term_core.specs.contracts.expr.Expr.{the_row as expr};
+ghost use Rattle.term_core.specs.contracts.body.Block.{the_row as block};
 ghost use Rattle.ready_deques.specs.Hands.{SameWorker};
 ghost use Rattle.dep_iter.specs.Items.{item_flow};
 ghost use Rattle.flow_meaning.specs.Ending.{output_tile};
@@ -24,15 +28,18 @@ use std::thread::Threads;
 use task_run::Bench;
 use work_board::{Board, Sent};
 
-// What the sends of a task share: the runtime to wait with, the board, the bench with the task's outputs, the task and
-// the number of its shard.
+// What the sends of a task share: the runtime to wait with, the board, the bench with the task's outputs, the task,
+// which is one of the board's job, and the number of its shard.
 #[derive(Drop)]
-pub(crate) struct SendContext<'a, R, B> {
+pub(crate) struct SendContext<'a, R, B: Board> {
     pub(crate) rt: &'a R,
     pub(crate) board: &'a B,
     pub(crate) bench: &'a Bench,
     pub(crate) at: &'a TaskAt<'a>,
     pub(crate) shard: u32,
+    ghost of_job: { at.now.plan.now ≡ B.plan board.now } by { Prim.hlevel (props, codes, expr.coded, block.coded) },
+    ghost of_task: { shard ≡ B.placement board.now at.now.task.now },
+    ghost outputs: { HoldsOutputs (B.plan board.now) (B.job_data board.now) at.now.task.now bench.now },
 }
 
 // The number of the shard that handles an item of the task: for an edge that of its target, for a write-back that of
@@ -42,8 +49,7 @@ fn shard_for<R, B: Board>(
     item: &Item,
     locals: &mut Numbers<MOST_LOCALS>,
 ) -> u32
-    requires plan { context.now.at.now.plan.now ≡ B.plan context.now.board.now }
-    requires shard { context.now.shard ≡ B.placement context.now.board.now (sender item.now) }
+    requires sender { sender item.now ≡ context.now.at.now.task.now }
     requires target { GoesToTask (B.plan context.now.board.now) item.now }
     ensures { result ≡ shard_of_item (B.placement context.now.board.now) item.now }
 {
@@ -90,8 +96,7 @@ pub(crate) fn try_item<R, B: Board>(
     item: &Item,
 ) -> Result<bool, OutOfMemory>
     requires pass { B.is_pass context.now.board.now pass.old }
-    requires tiles { HoldsOutputs (B.plan context.now.board.now) (B.job_data context.now.board.now) (sender item.now)
-        context.now.bench.now }
+    requires sender { sender item.now ≡ context.now.at.now.task.now }
     requires next { IsNext (B.plan context.now.board.now) (B.job_data context.now.board.now) item.now
         (with_its_tile (B.plan context.now.board.now) (B.job_data context.now.board.now) item.now).tile
         (B.shown pass.old) }
@@ -123,10 +128,6 @@ pub(crate) fn send_all<R: Threads + Wait + Sync, B: Board>(
     outbox: &mut Outbox,
 ) -> Result<(), OutOfMemory>
     requires pass { B.is_pass context.now.board.now pass.old }
-    requires plan { context.now.at.now.plan.now ≡ B.plan context.now.board.now }
-    requires shard { context.now.shard ≡ B.placement context.now.board.now context.now.at.now.task.now }
-    requires tiles { HoldsOutputs (B.plan context.now.board.now) (B.job_data context.now.board.now)
-        context.now.at.now.task.now context.now.bench.now }
     requires unsent { RunsUnsent (B.plan context.now.board.now) context.now.at.now.task.now (B.shown pass.old) }
     ensures pass { B.is_pass context.now.board.now pass.new }
     ensures hands { SameWorker hands.old hands.new }

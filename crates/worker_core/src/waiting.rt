@@ -4,7 +4,6 @@ ghost use Rattle.std.specs.Prelude.{◌≡◌, ◌+◌, ◌<◌, [], false, IfOk
 ghost use Rattle.arrayvec.specs.ArrayVec.{array_vec_len};
 ghost use Rattle.list_lemmas.specs.Counting.{as_number};
 ghost use Rattle.ready_deques.specs.Hands.{SameWorker};
-ghost use Rattle.task_run.specs.Bench.{HoldsOutputs};
 ghost use Rattle.worker_core.specs.Sending.{HasSentFrom, MaySendAll};
 ghost use Rattle.worker_core.specs.Waiting.{AreOfTheirShards, items_of, most_waiting};
 
@@ -55,8 +54,6 @@ fn try_waiting<R: Threads + Wait + Sync, B: Board>(
     index: usize,
 ) -> Result<bool, OutOfMemory>
     requires pass { B.is_pass context.now.board.now pass.old }
-    requires tiles { HoldsOutputs (B.plan context.now.board.now) (B.job_data context.now.board.now)
-        context.now.at.now.task.now context.now.bench.now }
     requires may { MaySendAll (B.plan context.now.board.now) (B.job_data context.now.board.now)
         context.now.at.now.task.now (items_of waiting.old.items) (B.shown pass.old) }
     requires shards { AreOfTheirShards (B.placement context.now.board.now) waiting.old.items }
@@ -87,8 +84,6 @@ pub(crate) fn make_room<R: Threads + Wait + Sync, B: Board>(
     waiting: &mut Waiting,
 ) -> Result<(), OutOfMemory>
     requires pass { B.is_pass context.now.board.now pass.old }
-    requires tiles { HoldsOutputs (B.plan context.now.board.now) (B.job_data context.now.board.now)
-        context.now.at.now.task.now context.now.bench.now }
     requires may { MaySendAll (B.plan context.now.board.now) (B.job_data context.now.board.now)
         context.now.at.now.task.now (items_of waiting.old.items) (B.shown pass.old) }
     requires shards { AreOfTheirShards (B.placement context.now.board.now) waiting.old.items }
@@ -122,8 +117,6 @@ fn try_each<R: Threads + Wait + Sync, B: Board>(
     waiting: &mut Waiting,
 ) -> Result<(), OutOfMemory>
     requires pass { B.is_pass context.now.board.now pass.old }
-    requires tiles { HoldsOutputs (B.plan context.now.board.now) (B.job_data context.now.board.now)
-        context.now.at.now.task.now context.now.bench.now }
     requires may { MaySendAll (B.plan context.now.board.now) (B.job_data context.now.board.now)
         context.now.at.now.task.now (items_of waiting.old.items) (B.shown pass.old) }
     requires shards { AreOfTheirShards (B.placement context.now.board.now) waiting.old.items }
@@ -152,8 +145,6 @@ pub(crate) fn send_waiting<R: Threads + Wait + Sync, B: Board>(
     waiting: &mut Waiting,
 ) -> Result<(), OutOfMemory>
     requires pass { B.is_pass context.now.board.now pass.old }
-    requires tiles { HoldsOutputs (B.plan context.now.board.now) (B.job_data context.now.board.now)
-        context.now.at.now.task.now context.now.bench.now }
     requires may { MaySendAll (B.plan context.now.board.now) (B.job_data context.now.board.now)
         context.now.at.now.task.now (items_of waiting.old.items) (B.shown pass.old) }
     requires shards { AreOfTheirShards (B.placement context.now.board.now) waiting.old.items }

@@ -16,7 +16,8 @@ returns-then-not-is_linked c =
     let ts = c.args.tasks.now in
     let at = c.loop-at.at in
     let here = subst (λ l. IsTrue c.is_linked.result ↔ IsLinked P l) (take_rest ts at) c.is_linked.ensures in
-    walk_fails (IsChain P) (IsLinked P) tt (then_linked P) (linked_then P) ts at c.loop-at-test.true c.loop-at.invariant (λ h. false≢true (sym c.if-not-is_linked.true ∙ here.1 h))
+    walk_fails (IsChain P) (IsLinked P) tt (then_linked P) (linked_then P) ts at c.loop-at-test.true c.loop-at.invariant
+    (λ h. false≢true (sym c.if-not-is_linked.true ∙ here.1 h))
 
 pub loop-at-preserved : goal.loop-at-preserved
 loop-at-preserved c =

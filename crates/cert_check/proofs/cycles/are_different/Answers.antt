@@ -15,14 +15,16 @@ returns-then-first_comes_again c =
     let ts = c.args.tasks.now in
     let at = c.loop-at.at in
     let here = subst (λ l. IsTrue c.first_comes_again.result ↔ ComesAgain l) (take_rest ts at) c.first_comes_again.ensures in
-    walk_fails HasNoRepeats (λ (l : List Task). ComesAgain l → ⊥) tt once_split once_join ts at c.loop-at-test.true c.loop-at.invariant (λ h. h (here.0 c.if-first_comes_again.true))
+    walk_fails HasNoRepeats (λ (l : List Task). ComesAgain l → ⊥) tt once_split once_join ts at c.loop-at-test.true
+    c.loop-at.invariant (λ h. h (here.0 c.if-first_comes_again.true))
 
 pub loop-at-preserved : goal.loop-at-preserved
 loop-at-preserved c =
     let ts = c.args.tasks.now in
     let at = c.loop-at.at in
     let here = subst (λ l. IsTrue c.first_comes_again.result ↔ ComesAgain l) (take_rest ts at) c.first_comes_again.ensures in
-    walk_on HasNoRepeats (λ (l : List Task). ComesAgain l → ⊥) tt once_split once_join ts at c.loop-at-test.true c.loop-at.invariant (λ w. false≢true (sym c.if-first_comes_again.false ∙ here.1 w))
+    walk_on HasNoRepeats (λ (l : List Task). ComesAgain l → ⊥) tt once_split once_join ts at c.loop-at-test.true
+    c.loop-at.invariant (λ w. false≢true (sym c.if-first_comes_again.false ∙ here.1 w))
 
 pub returns : goal.returns
 returns c =

@@ -18,7 +18,8 @@ is_high_enough-requires-clause-task c =
     let levels = c.args.levels.now in
     let row = c.row-item.result in
     let here = read_in c.loop-row.row-index levels row c.loop-row-test.true c.row-item.is in
-    subst (λ (p : Plan). IsTask p row.0) (sym c.plan-plan.ensures.same) ((order_task c.args.m.now levels c.requires row.0).0 (IsIn-map (λ (r : Task × ℕ). r.0) levels row here))
+    subst (λ (p : Plan). IsTask p row.0) (sym c.plan-plan.ensures.same)
+    ((order_task c.args.m.now levels c.requires row.0).0 (IsIn-map (λ (r : Task × ℕ). r.0) levels row here))
 
 pub is_high_enough-requires-clause-rising : goal.is_high_enough-requires-clause-rising
 is_high_enough-requires-clause-rising c = order_rising c.args.m.now c.args.levels.now c.requires
@@ -28,14 +29,16 @@ returns-then-not-is_high_enough c =
     let levels = c.args.levels.now in
     let row = c.row-item.result in
     let here = read_in c.loop-row.row-index levels row c.loop-row-test.true c.row-item.is in
-    let high = subst (λ (p : Plan). IsTrue c.is_high_enough.result ↔ IsHighEnough p c.args.weights.now levels row) c.plan-plan.ensures.same c.is_high_enough.ensures in
+    let high = subst (λ (p : Plan). IsTrue c.is_high_enough.result ↔ IsHighEnough p c.args.weights.now levels row)
+    c.plan-plan.ensures.same c.is_high_enough.ensures in
     (λ e. absurd (false≢true e), λ h. sym c.if-not-is_high_enough.true ∙ high.1 (h row here))
 
 pub loop-row-preserved : goal.loop-row-preserved
 loop-row-preserved c =
     let levels = c.args.levels.now in
     let row = c.row-item.result in
-    let high = subst (λ (p : Plan). IsTrue c.is_high_enough.result ↔ IsHighEnough p c.args.weights.now levels row) c.plan-plan.ensures.same c.is_high_enough.ensures in
+    let high = subst (λ (p : Plan). IsTrue c.is_high_enough.result ↔ IsHighEnough p c.args.weights.now levels row)
+    c.plan-plan.ensures.same c.is_high_enough.ensures in
     let more = take_next c.loop-row.row-index levels row c.loop-row-test.true c.row-item.is in
     λ r i. elim (from_append r (take c.loop-row.row-index levels) (row ∷ []) (subst (IsIn r) more i)) [
       | inl old ↦ c.loop-row.invariant r old

@@ -29,7 +29,8 @@ returns-then-not-is_in_place c =
     let rows = c.args.rows.now in
     let at = c.loop-at.at in
     let here = subst (λ l. IsTrue c.is_in_place.result ↔ First P l) (take_rest rows at) c.is_in_place.ensures in
-    walk_fails (All P) (First P) tt (split P) (join P) rows at c.loop-at-test.true c.loop-at.invariant (λ h. false≢true (sym c.if-not-is_in_place.true ∙ here.1 h))
+    walk_fails (All P) (First P) tt (split P) (join P) rows at c.loop-at-test.true c.loop-at.invariant
+    (λ h. false≢true (sym c.if-not-is_in_place.true ∙ here.1 h))
 
 pub loop-at-preserved : goal.loop-at-preserved
 loop-at-preserved c =

@@ -20,7 +20,12 @@ loop-edge-preserved c =
     let n = c.args.row.now.1 in
     let all = c.into_iter-edge-iterator.result in
     let a = subst (AboveSoFar levels c.args.w n all) c.in-Some.ensures.steps c.loop-edge.invariant.above in
-    record { can_next = tt; is_finite = tt; above = above_next levels c.args.w n all c.next.new.self c.in-Some.edge a (c.is_above_source.ensures.0 c.if-not-is_above_source.false) }
+    record {
+      can_next = tt;
+      is_finite = tt;
+      above = above_next levels c.args.w n all c.next.new.self c.in-Some.edge a
+          (c.is_above_source.ensures.0 c.if-not-is_above_source.false);
+    }
 
 pub returns : goal.returns
 returns c =

@@ -12,4 +12,5 @@ pub returns : goal.returns
 returns t c = λ n.
     let w = rw (c.is_data.ensures, c.as_slice.ensures) at (c.any_names.ensures n) in
     rw c.in-Some.ensures.cases.0
-    (flow_rest c.args.env.now n c.in-Some.flow.now c.in-Some.others.now c.args.far.now c.any_flow_names.result (λ h. false≢true (sym c.if-any_names.false ∙ w.1 h)) (c.any_flow_names.ensures (suc n)))
+    (flow_rest c.args.env.now n c.in-Some.flow.now c.in-Some.others.now c.args.far.now c.any_flow_names.result
+    (λ h. false≢true (sym c.if-any_names.false ∙ w.1 h)) (c.any_flow_names.ensures (suc n)))

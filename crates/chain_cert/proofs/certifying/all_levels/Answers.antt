@@ -11,4 +11,5 @@ pub returns : goal.returns
 returns c =
     let table = c.args.table.now.entries in
     IfOk-weaker c.rows_by.result _ _
-    (λ rows is ws h. are_levels c.args.m.now c.args.order.items c.requires.legal (omega (arith, c.requires.all)) ws table h rows.items (is ∙ ap (rows_by table) (c.as_slice.ensures.value ∙ c.sorted.ensures))) c.rows_by.ensures
+    (λ rows is ws h. are_levels c.args.m.now c.args.order.items c.requires.legal (omega (arith, c.requires.all)) ws
+    table h rows.items (is ∙ ap (rows_by table) (c.as_slice.ensures.value ∙ c.sorted.ensures))) c.rows_by.ensures

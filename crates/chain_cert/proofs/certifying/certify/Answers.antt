@@ -40,7 +40,8 @@ returns-then-len-tasks-clause-accepted c =
     let table = c.in_ok-table.table.entries in
     let levels = subst (λ l. HasLevels P c.args.weights.now l table) c.as_slice.ensures c.in_ok-table.ensures in
     let lt : length order < length (all_tasks P) = omega (arith, c.len.ensures, c.tasks.ensures, c.if-len-tasks.true) in
-    printed_is_cycle P c.plan_is_consistent.ensures order c.in_ok-cycle.cycle (c.in_ok-cycle.ensures order (lacks P c.args.weights.now order table c.in_ok-order.ensures levels lt))
+    printed_is_cycle P c.plan_is_consistent.ensures order c.in_ok-cycle.cycle
+    (c.in_ok-cycle.ensures order (lacks P c.args.weights.now order table c.in_ok-order.ensures levels lt))
 
 pub chain_and_levels-requires-clause-all : goal.chain_and_levels-requires-clause-all
 chain_and_levels-requires-clause-all c =
@@ -54,8 +55,14 @@ pub returns-clause-certificate : goal.returns-clause-certificate
 returns-clause-certificate c = λ G is.
     let P = c.args.m.now in
     let order = c.in_ok-order.order in
-    let all : length (all_tasks P) ≤ length order = omega (arith, c.len.ensures, c.tasks.ensures, c.if-len-tasks.false) in
-    (answer_calm P G c.args.outcome.now is (sym c.has_trap.ensures ∙ c.if-has_trap.false), no_cycle P order c.in_ok-order.ensures.legal all, c.in_ok-chain.ensures.0, c.in_ok-chain.ensures.1)
+    let all : length (all_tasks P) ≤ length order = omega (arith, c.len.ensures, c.tasks.ensures, c.if-len-tasks.false) in (
+      answer_calm P G c.args.outcome.now is (sym c.has_trap.ensures ∙ c.if-has_trap.false),
+      no_cycle P order
+          c.in_ok-order.ensures.legal all,
+      c.in_ok-chain.ensures.0,
+      c.in_ok-chain.ensures.1,
+    )
 
 pub returns-clause-accepted : goal.returns-clause-accepted
-returns-clause-accepted c = shows_heaviest c.args.m.now c.plan_is_consistent.ensures c.args.weights.now c.in_ok-chain.chain c.in_ok-chain.levels c.in_ok-chain.ensures.0 c.in_ok-chain.ensures.1
+returns-clause-accepted c = shows_heaviest c.args.m.now c.plan_is_consistent.ensures c.args.weights.now
+    c.in_ok-chain.chain c.in_ok-chain.levels c.in_ok-chain.ensures.0 c.in_ok-chain.ensures.1

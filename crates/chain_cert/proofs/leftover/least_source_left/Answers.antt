@@ -15,5 +15,6 @@ returns c =
     least_where test (sources c.args.plan.now c.args.t.now) c.min.result
     (reduce_from_yields_List lesser c.filter.result c.min.result c.min.ensures.ran
     (YieldsList-from_filter _ test
-    (YieldsList-at c.filter.ensures.source (YieldsList-from_map _ (λ (e : Edge). e.from) (YieldsList-from_first (λ e. e) (λ left. left) edges is) c.map.ensures.closure (λ x r q k. search rules)))
+    (YieldsList-at c.filter.ensures.source (YieldsList-from_map _ (λ (e : Edge). e.from)
+    (YieldsList-from_first (λ e. e) (λ left. left) edges is) c.map.ensures.closure (λ x r q k. search rules)))
     c.filter.ensures.closure (λ x b q k. search (rules, tests))))

@@ -12,8 +12,11 @@ loop-t-init c = subst (HasLevels c.args.m.now c.args.weights.now []) (sym c.new-
 pub note_level-requires-clause-next : goal.note_level-requires-clause-next
 note_level-requires-clause-next c =
     let order = c.args.order.now in
-    let i = c.loop-t.t-index in
-    (take i order, next_task c.args.m.now order c.requires.legal c.plan_is_consistent.ensures c.args.weights.now i c.t-item.result c.loop-t.table.entries c.loop-t-test.true c.t-item.is c.loop-t.invariant)
+    let i = c.loop-t.t-index in (
+      take i order,
+      next_task c.args.m.now order c.requires.legal c.plan_is_consistent.ensures c.args.weights.now i
+          c.t-item.result c.loop-t.table.entries c.loop-t-test.true c.t-item.is c.loop-t.invariant,
+    )
 
 pub loop-t-preserved : goal.loop-t-preserved
 loop-t-preserved c =
@@ -21,8 +24,11 @@ loop-t-preserved c =
     let ws = c.args.weights.now in
     let order = c.args.order.now in
     let i = c.loop-t.t-index in
-    let next = next_task P order c.requires.legal c.plan_is_consistent.ensures ws i c.t-item.result c.loop-t.table.entries c.loop-t-test.true c.t-item.is c.loop-t.invariant in
-    subst (λ l. HasLevels P ws l c.note_level.new.table.entries) (sym (take_next i order c.t-item.result c.loop-t-test.true c.t-item.is)) (c.in_ok-note_level.ensures (take i order) next)
+    let next = next_task P order c.requires.legal c.plan_is_consistent.ensures ws i c.t-item.result
+    c.loop-t.table.entries c.loop-t-test.true c.t-item.is c.loop-t.invariant in
+    subst (λ l. HasLevels P ws l c.note_level.new.table.entries)
+    (sym (take_next i order c.t-item.result c.loop-t-test.true c.t-item.is))
+    (c.in_ok-note_level.ensures (take i order) next)
 
 pub returns : goal.returns
 returns c =

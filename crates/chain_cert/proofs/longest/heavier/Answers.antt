@@ -15,4 +15,6 @@ returns-then-is_heavier c = λ rows h.
     (heaviest_new rows c.args.row.now c.in-Some.old (c.is_heavier.ensures.0 c.if-is_heavier.true) (subst (IsHeaviestRow rows) c.in-Some.is h))
 
 pub returns : goal.returns
-returns c = λ rows h. heaviest_old rows c.args.row.now c.in-Some.old (λ more. false≢true (sym c.if-is_heavier.false ∙ c.is_heavier.ensures.1 more)) (subst (IsHeaviestRow rows) c.in-Some.is h)
+returns c = λ rows h. heaviest_old rows c.args.row.now c.in-Some.old
+    (λ more. false≢true (sym c.if-is_heavier.false ∙ c.is_heavier.ensures.1 more))
+    (subst (IsHeaviestRow rows) c.in-Some.is h)

@@ -8,7 +8,8 @@ pub loop-row-preserved : goal.loop-row-preserved
 loop-row-preserved c =
     let rows = c.args.rows.now in
     let i = c.loop-row.row-index in
-    subst (λ l. IsHeaviestRow l c.heavier-best.result) (sym (take_next i rows c.row-item.result c.loop-row-test.true c.row-item.is)) (c.heavier-best.ensures (take i rows) c.loop-row.invariant)
+    subst (λ l. IsHeaviestRow l c.heavier-best.result) (sym (take_next i rows c.row-item.result c.loop-row-test.true
+    c.row-item.is)) (c.heavier-best.ensures (take i rows) c.loop-row.invariant)
 
 pub returns : goal.returns
 returns c =

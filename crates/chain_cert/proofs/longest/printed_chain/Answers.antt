@@ -3,7 +3,9 @@ use Rattle.chain_cert.proofs.Tracing.{IsChainWith, IsTracing, trace_end, trace_n
 use Rattle.chain_cert.proofs.longest.printed_chain.Goals as goal
 
 pub loop-next-init : goal.loop-next-init
-loop-next-init c = subst (λ l. IsTracing c.args.m.now c.args.weights.now l c.last_task-next.result) (sym c.new-back.ensures.items) (trace_start c.args.m.now c.args.weights.now c.last_task-next.result c.last_task-next.ensures)
+loop-next-init c = subst (λ l. IsTracing c.args.m.now c.args.weights.now l c.last_task-next.result)
+    (sym c.new-back.ensures.items) (trace_start c.args.m.now c.args.weights.now c.last_task-next.result
+    c.last_task-next.ensures)
 
 pub step_back-next-requires-clause-task : goal.step_back-next-requires-clause-task
 step_back-next-requires-clause-task c = (subst (λ o. IsChainWith c.args.m.now o (reverse c.loop-next.back.items)) c.in-Some.is c.loop-next.invariant.chain).0
@@ -19,7 +21,9 @@ loop-next-preserved c =
     let P = c.args.m.now in
     let ws = c.args.weights.now in
     let w = subst (IsTracing P ws c.loop-next.back.items) c.in-Some.is c.loop-next.invariant in
-    subst (λ l. IsTracing P ws l c.step_back-next.result) (sym c.in_ok-push.ensures.items) (trace_next P ws c.plan_is_consistent.ensures c.loop-next.back.items c.in-Some.t c.step_back-next.result w c.step_back-next.ensures)
+    subst (λ l. IsTracing P ws l c.step_back-next.result) (sym c.in_ok-push.ensures.items)
+    (trace_next P ws c.plan_is_consistent.ensures c.loop-next.back.items c.in-Some.t c.step_back-next.result w
+    c.step_back-next.ensures)
 
 pub returns : goal.returns
 returns c =

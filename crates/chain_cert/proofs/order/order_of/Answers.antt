@@ -13,7 +13,8 @@ pass-requires c =
     let table = c.loop-at.builder.lacking.entries in
     let g = c.loop-at.invariant.grown in
     let lt : c.loop-at.at < length order = omega (arith, c.len.ensures, c.loop-at.builder.order.ok.0) in
-    let here : slice_get order c.loop-at.at ≡ Some c.copy-t.result = slice_get_at order c.loop-at.at c.index.result.now lt c.index.ensures ∙ ap Some (sym c.copy-t.ensures) in
+    let here : slice_get order c.loop-at.at ≡ Some c.copy-t.result = slice_get_at order c.loop-at.at c.index.result.now
+    lt c.index.ensures ∙ ap Some (sym c.copy-t.ensures) in
     (edges_of P (take c.loop-at.at order), g, is_next P c.plan_is_consistent.ensures c.loop-at.at order table c.copy-t.result g here)
 
 pub loop-at-smaller : goal.loop-at-smaller
@@ -21,7 +22,8 @@ loop-at-smaller c =
     let P = c.args.m.now in
     let order = c.loop-at.builder.order.items in
     let lt : c.loop-at.at < length order = omega (arith, c.len.ensures, c.loop-at.builder.order.ok.0) in
-    let most = no_longer P c.plan_is_consistent.ensures (edges_of P (take c.loop-at.at order)) order c.loop-at.builder.lacking.entries c.loop-at.invariant.grown in
+    let most = no_longer P c.plan_is_consistent.ensures (edges_of P (take c.loop-at.at order)) order
+    c.loop-at.builder.lacking.entries c.loop-at.invariant.grown in
     omega (arith, lt, most)
 
 pub loop-at-preserved : goal.loop-at-preserved
@@ -32,7 +34,8 @@ loop-at-preserved c =
     let new = c.pass.new.builder.order.items in
     let g = c.loop-at.invariant.grown in
     let lt : c.loop-at.at < length order = omega (arith, c.len.ensures, c.loop-at.builder.order.ok.0) in
-    let here : slice_get order c.loop-at.at ≡ Some c.copy-t.result = slice_get_at order c.loop-at.at c.index.result.now lt c.index.ensures ∙ ap Some (sym c.copy-t.ensures) in
+    let here : slice_get order c.loop-at.at ≡ Some c.copy-t.result = slice_get_at order c.loop-at.at c.index.result.now
+    lt c.index.ensures ∙ ap Some (sym c.copy-t.ensures) in
     let grows = c.in_ok-pass.ensures in
     record {
       within = omega (arith, lt, ap length grows.extends, length-append order grows.more);

@@ -4,10 +4,12 @@ use Rattle.chain_cert.proofs.Grown.{IsNoted, grows_more, grows_same, lacks}
 use Rattle.chain_cert.proofs.order_builder.let_come.Goals as goal
 
 pub note_edge-requires-clause-task : goal.note_edge-requires-clause-task
-note_edge-requires-clause-task c = (lacks c.args.m.now c.plan_is_consistent.ensures c.requires.0 c.args.builder.now.order.items c.args.builder.now.lacking.entries c.args.edge.now c.requires.1 c.requires.2).0
+note_edge-requires-clause-task c = (lacks c.args.m.now c.plan_is_consistent.ensures c.requires.0
+    c.args.builder.now.order.items c.args.builder.now.lacking.entries c.args.edge.now c.requires.1 c.requires.2).0
 
 pub note_edge-requires-clause-lacks : goal.note_edge-requires-clause-lacks
-note_edge-requires-clause-lacks c = (lacks c.args.m.now c.plan_is_consistent.ensures c.requires.0 c.args.builder.now.order.items c.args.builder.now.lacking.entries c.args.edge.now c.requires.1 c.requires.2).1
+note_edge-requires-clause-lacks c = (lacks c.args.m.now c.plan_is_consistent.ensures c.requires.0
+    c.args.builder.now.order.items c.args.builder.now.lacking.entries c.args.edge.now c.requires.1 c.requires.2).1
 
 pub returns-in_ok-push : goal.returns-in_ok-push
 returns-in_ok-push c =
@@ -24,5 +26,7 @@ pub returns-else-left-eq0 : goal.returns-else-left-eq0
 returns-else-left-eq0 c =
     let P = c.args.m.now in
     let e = c.args.edge.now in
-    let noted : IsNoted P e c.args.builder.now.lacking.entries c.note_edge.new.table.entries c.in_ok-left.left = record { left_is = c.in_ok-left.ensures.left; others = c.in_ok-left.ensures.table } in
-    grows_same P c.plan_is_consistent.ensures c.args.builder.now.order.items c.args.builder.now.lacking.entries c.note_edge.new.table.entries e c.in_ok-left.left noted c.if-left-eq0.false
+    let noted : IsNoted P e c.args.builder.now.lacking.entries c.note_edge.new.table.entries
+    c.in_ok-left.left = record { left_is = c.in_ok-left.ensures.left; others = c.in_ok-left.ensures.table } in
+    grows_same P c.plan_is_consistent.ensures c.args.builder.now.order.items c.args.builder.now.lacking.entries
+    c.note_edge.new.table.entries e c.in_ok-left.left noted c.if-left-eq0.false

@@ -9,7 +9,8 @@ use Rattle.chain_cert.proofs.order_builder.pass.Goals as goal
 
 pub out_edges-edge-items-requires : goal.out_edges-edge-items-requires
 out_edges-edge-items-requires c =
-    subst (λ (p : Plan). IsTask p c.args.t.now) (sym c.plan.ensures.same) (legal_tasks c.args.m.now [] c.args.builder.now.order.items c.requires.1.legal c.args.t.now c.requires.2.member)
+    subst (λ (p : Plan). IsTask p c.args.t.now) (sym c.plan.ensures.same)
+    (legal_tasks c.args.m.now [] c.args.builder.now.order.items c.requires.1.legal c.args.t.now c.requires.2.member)
 
 pub loop-edge-init : goal.loop-edge-init
 loop-edge-init c = record { can_next = tt; is_finite = tt; passing = pass_start _ _ _ _ }
@@ -20,9 +21,12 @@ let_come-requires c =
     let order = c.args.builder.now.order.items in
     let table = c.args.builder.now.lacking.entries in
     let now = c.loop-edge.builder in
-    let is = c.into_iter-edge-iterator.ensures.into_iter_gives ∙ c.out_edges-edge-items.ensures ∙ ap (λ (p : Plan). out_edges p c.args.t.now) c.plan.ensures.same in
-    let w = subst (λ l. IsPassing P c.into_iter-edge-iterator.result l order table now.order.items now.lacking.entries) c.in-Some.ensures.steps c.loop-edge.invariant.passing in
-    pass_may P c.plan.ensures.consistent c.requires.0 c.args.t.now c.into_iter-edge-iterator.result c.next.new.self c.in-Some.edge order now.order.items table now.lacking.entries c.requires.1 c.requires.2 is w
+    let is = c.into_iter-edge-iterator.ensures.into_iter_gives ∙ c.out_edges-edge-items.ensures
+    ∙ ap (λ (p : Plan). out_edges p c.args.t.now) c.plan.ensures.same in
+    let w = subst (λ l. IsPassing P c.into_iter-edge-iterator.result l order table now.order.items now.lacking.entries)
+    c.in-Some.ensures.steps c.loop-edge.invariant.passing in
+    pass_may P c.plan.ensures.consistent c.requires.0 c.args.t.now c.into_iter-edge-iterator.result c.next.new.self
+    c.in-Some.edge order now.order.items table now.lacking.entries c.requires.1 c.requires.2 is w
 
 pub loop-edge-preserved : goal.loop-edge-preserved
 loop-edge-preserved c =
@@ -30,11 +34,13 @@ loop-edge-preserved c =
     let order = c.args.builder.now.order.items in
     let table = c.args.builder.now.lacking.entries in
     let now = c.loop-edge.builder in
-    let w = subst (λ l. IsPassing P c.into_iter-edge-iterator.result l order table now.order.items now.lacking.entries) c.in-Some.ensures.steps c.loop-edge.invariant.passing in
+    let w = subst (λ l. IsPassing P c.into_iter-edge-iterator.result l order table now.order.items now.lacking.entries)
+    c.in-Some.ensures.steps c.loop-edge.invariant.passing in
     record {
       can_next = tt;
       is_finite = tt;
-      passing = pass_next P c.into_iter-edge-iterator.result c.next.new.self c.in-Some.edge order now.order.items c.let_come.new.builder.order.items table now.lacking.entries c.let_come.new.builder.lacking.entries w
+      passing = pass_next P c.into_iter-edge-iterator.result c.next.new.self c.in-Some.edge order now.order.items
+          c.let_come.new.builder.order.items table now.lacking.entries c.let_come.new.builder.lacking.entries w
           c.in_ok-let_come.ensures;
     }
 
@@ -44,6 +50,9 @@ returns c =
     let order = c.args.builder.now.order.items in
     let table = c.args.builder.now.lacking.entries in
     let now = c.loop-edge.builder in
-    let is = c.into_iter-edge-iterator.ensures.into_iter_gives ∙ c.out_edges-edge-items.ensures ∙ ap (λ (p : Plan). out_edges p c.args.t.now) c.plan.ensures.same in
-    let w = subst (λ l. IsPassing P c.into_iter-edge-iterator.result l order table now.order.items now.lacking.entries) c.in-None.ensures.steps.0 c.loop-edge.invariant.passing in
-    subst (λ es. GrowsBy P es order table now.order.items now.lacking.entries) is (pass_end P c.into_iter-edge-iterator.result order now.order.items table now.lacking.entries w)
+    let is = c.into_iter-edge-iterator.ensures.into_iter_gives ∙ c.out_edges-edge-items.ensures
+    ∙ ap (λ (p : Plan). out_edges p c.args.t.now) c.plan.ensures.same in
+    let w = subst (λ l. IsPassing P c.into_iter-edge-iterator.result l order table now.order.items now.lacking.entries)
+    c.in-None.ensures.steps.0 c.loop-edge.invariant.passing in
+    subst (λ es. GrowsBy P es order table now.order.items now.lacking.entries) is
+    (pass_end P c.into_iter-edge-iterator.result order now.order.items table now.lacking.entries w)

@@ -8,7 +8,9 @@ pub returns-in-Less : goal.returns-in-Less
 returns-in-Less c = sym (c.in-Less.ensures.task_order.before.0 refl)
 
 pub returns-in-Equal : goal.returns-in-Equal
-returns-in-Equal c = sym (false_from_ne_true (task_before c.args.t.now c.args.u.now) (λ h. let e : Equal ≡ Less = c.in-Equal.ensures.task_order.before.1 h in cc))
+returns-in-Equal c = sym (false_from_ne_true (task_before c.args.t.now c.args.u.now)
+    (λ h. let e : Equal ≡ Less = c.in-Equal.ensures.task_order.before.1 h in cc))
 
 pub returns-in-Greater : goal.returns-in-Greater
-returns-in-Greater c = sym (false_from_ne_true (task_before c.args.t.now c.args.u.now) (λ h. let e : Greater ≡ Less = c.in-Greater.ensures.task_order.before.1 h in cc))
+returns-in-Greater c = sym (false_from_ne_true (task_before c.args.t.now c.args.u.now)
+    (λ h. let e : Greater ≡ Less = c.in-Greater.ensures.task_order.before.1 h in cc))

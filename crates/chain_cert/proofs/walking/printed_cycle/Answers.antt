@@ -58,4 +58,6 @@ loop-next-preserved c = λ order l.
     let unmet : list_any (same_task t) met ≡ false = sym c.in_default-get_full.ensures.found in
     let w = subst (IsWalking P order met) c.in-Some.is (c.loop-next.invariant order l) in
     let h = subst (λ (p : Plan). IsLeastWhere (is_left c.args.table.now.entries) (sources p t) o) c.plan-plan.ensures.same c.least_source_left-next.ensures in
-    walk_on P order met c.insert.new.self.keys t o unmet (inserted_keys t met c.insert.new.self.keys unmet c.in_ok-insert.ensures.keys) w (walk_next P order c.args.table.now.entries l c.plan-plan.ensures.consistent met t o w.walk h)
+    walk_on P order met c.insert.new.self.keys t o unmet (inserted_keys t met c.insert.new.self.keys unmet
+    c.in_ok-insert.ensures.keys) w (walk_next P order c.args.table.now.entries l c.plan-plan.ensures.consistent met
+    t o w.walk h)

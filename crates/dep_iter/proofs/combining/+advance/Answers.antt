@@ -4,10 +4,12 @@ use Rattle.dep_iter.proofs.Odometer.{HasOneEach-end, HasOneEach-push, HasFirst-e
 use Rattle.dep_iter.proofs.combining.+advance.Goals as goal
 
 pub returns-in_default-pop-clause-left : goal.returns-in_default-pop-clause-left
-returns-in_default-pop-clause-left t c = absurd (none_each c.in-Some.outer.now c.in-Some.steps.now (rw (c.in-Some.ensures.cases.0, c.in_default-pop.ensures.0) at c.requires.each))
+returns-in_default-pop-clause-left t c = absurd (none_each c.in-Some.outer.now c.in-Some.steps.now
+    (rw (c.in-Some.ensures.cases.0, c.in_default-pop.ensures.0) at c.requires.each))
 
 pub returns-in_default-pop-clause-each : goal.returns-in_default-pop-clause-each
-returns-in_default-pop-clause-each t c = absurd (none_each c.in-Some.outer.now c.in-Some.steps.now (rw (c.in-Some.ensures.cases.0, c.in_default-pop.ensures.0) at c.requires.each))
+returns-in_default-pop-clause-each t c = absurd (none_each c.in-Some.outer.now c.in-Some.steps.now
+    (rw (c.in-Some.ensures.cases.0, c.in_default-pop.ensures.0) at c.requires.each))
 
 pub returns-in-Some-next_value-clause-left : goal.returns-in-Some-next_value-clause-left
 returns-in-Some-next_value-clause-left t c =
@@ -45,7 +47,14 @@ advance-more-requires t c =
     let l = ap length c.in-Some-pop.ensures ∙ length-append rest (v ∷ []) in
     let m = c.requires.at_most in (
       omega (arith, c.decreases),
-      (omega arith, (HasOneEach-end outer rest s v (rw (c.in-Some.ensures.cases.0, c.in-Some-pop.ensures) at c.requires.each), (HasFirst-end outer s (rw c.in-Some.ensures.cases.0 at c.requires.first)).0)),
+      (
+        omega arith,
+        (
+          HasOneEach-end outer rest s v (rw (c.in-Some.ensures.cases.0, c.in-Some-pop.ensures) at
+              c.requires.each),
+          (HasFirst-end outer s (rw c.in-Some.ensures.cases.0 at c.requires.first)).0,
+        ),
+      ),
     )
 
 pub push-requires-2 : goal.push-requires-2

@@ -10,8 +10,12 @@ use Rattle.std.specs.Result.{result_unwrap_or}
 pub returns-in_default-split_first : goal.returns-in_default-split_first
 returns-in_default-split_first t c =
     let env = c.args.env.now in
-    let e = nil_from_length c.args.params.now c.in_default-split_first.ensures.cases in
-    (λ q. absurd (false≢true q), λ h. absurd (not_product (result_unwrap_or (arg_values c.in-Some.arg.now env) []) (map (λ a. result_unwrap_or (arg_values a env) []) c.in-Some.others.now) (rw (e, c.in-Some.ensures.cases.0) at h)))
+    let e = nil_from_length c.args.params.now c.in_default-split_first.ensures.cases in (
+      λ q. absurd (false≢true q),
+      λ h. absurd (not_product (result_unwrap_or (arg_values c.in-Some.arg.now env) [])
+          (map (λ a. result_unwrap_or (arg_values a env) []) c.in-Some.others.now)
+          (rw (e, c.in-Some.ensures.cases.0) at h)),
+    )
 
 pub returns-then-not-takes_value : goal.returns-then-not-takes_value
 returns-then-not-takes_value t c =
@@ -21,7 +25,9 @@ returns-then-not-takes_value t c =
       λ q. absurd (false≢true q),
       λ h.
           let k = rw (c.in-Some.ensures.cases.0, c.in-Some-split_first.ensures.cases.0) at h in
-          let p = from_product c.in-Some-split_first.v.now c.in-Some-split_first.rest.now (result_unwrap_or (arg_values c.in-Some.arg.now env) []) (map (λ a. result_unwrap_or (arg_values a env) []) c.in-Some.others.now) k in
+          let p = from_product c.in-Some-split_first.v.now c.in-Some-split_first.rest.now
+          (result_unwrap_or (arg_values c.in-Some.arg.now env) [])
+          (map (λ a. result_unwrap_or (arg_values a env) []) c.in-Some.others.now) k in
           sym c.if-not-takes_value.true ∙ w.1 p.0,
     )
 
@@ -34,7 +40,8 @@ returns t c =
     let rest = c.in-Some-split_first.rest.now in
     let ws = result_unwrap_or (arg_values c.in-Some.arg.now env) [] in
     let wss = map (λ a. result_unwrap_or (arg_values a env) []) c.in-Some.others.now in (
-      λ q. rw (c.in-Some.ensures.cases.0, c.in-Some-split_first.ensures.cases.0) (to_product v rest ws wss (w.0 c.if-not-takes_value.false) (c.has_combination.ensures.0 q)),
+      λ q. rw (c.in-Some.ensures.cases.0, c.in-Some-split_first.ensures.cases.0)
+          (to_product v rest ws wss (w.0 c.if-not-takes_value.false) (c.has_combination.ensures.0 q)),
       λ h.
           let k = rw (c.in-Some.ensures.cases.0, c.in-Some-split_first.ensures.cases.0) at h in
           c.has_combination.ensures.1 (from_product v rest ws wss k).1,

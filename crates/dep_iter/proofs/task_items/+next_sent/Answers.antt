@@ -35,7 +35,8 @@ returns-else-push_only-clause-found t c =
     let new = c.next_target.new.p in
     let none = none_first links (sym c.has_next.ensures ∙ c.if-has_next.false) in
     let same = items_to-links task env new.flow c.in-Task.class c.in-Task.flow c.in-Task.args in
-    let left = links_left task env links c.args.p.now new new.flow c.in_ok-target.target.now c.restart.new.self none c.in_ok-target.ensures.found (rw (c.restart.ensures, c.in-Task.is) same) in
+    let left = links_left task env links c.args.p.now new new.flow c.in_ok-target.target.now c.restart.new.self none
+    c.in_ok-target.ensures.found (rw (c.restart.ensures, c.in-Task.is) same) in
     rw left c.next_sent.ensures.found
 
 pub returns-in-Element-clause-found : goal.returns-in-Element-clause-found
@@ -44,4 +45,5 @@ returns-in-Element-clause-found t c =
     let new = c.next_target.new.p in
     let none = none_first links (sym c.has_next.ensures ∙ c.if-has_next.false) in
     rw (c.write_item.ensures, c.as_slice-in-Element.ensures)
-    (one_left c.args.task.now c.args.env.now links c.args.p.now new new.flow c.in_ok-target.target.now _ none c.in_ok-target.ensures.found (rw c.in-Element.is refl))
+    (one_left c.args.task.now c.args.env.now links c.args.p.now new new.flow c.in_ok-target.target.now _ none
+    c.in_ok-target.ensures.found (rw c.in-Element.is refl))

@@ -15,7 +15,8 @@ loop-index-preserved c =
           let ok = sym w.is_err.ensures.value ∙ w.if-is_err.false in
           let heap : IsHeap order (heap_items w.push.new.self) = unrefused _ ok w.push.ensures.heap_order c.loop-index.invariant.heap in
           let below : HasReadyBelow es (n + 1) (heap_items w.push.new.self) =
-          lists_some es n w.in-Some.candidate before (heap_items w.push.new.self) c.loop-index.invariant.below (sym w.in-Some.is ∙ c.candidate_at.ensures) (unrefused _ ok w.push.ensures.permutation) in
+          lists_some es n w.in-Some.candidate before (heap_items w.push.new.self) c.loop-index.invariant.below
+          (sym w.in-Some.is ∙ c.candidate_at.ensures) (unrefused _ ok w.push.ensures.permutation) in
           record {
             heap = subst (λ (cs : List Candidate). IsHeap order cs) (λ i. heap_items (sym w.heap-is i)) heap;
             below = subst (λ (cs : List Candidate). HasReadyBelow es (n + 1) cs) (λ i. heap_items (sym w.heap-is i)) below;

@@ -6,4 +6,5 @@ use Rattle.list_lemmas.proofs.Options.{on_success}
 pub returns-clause-entries : goal.returns-clause-entries
 returns-clause-entries c =
     (λ i. (c.swap.ensures.x_after i).entries)
-    ∙ moved c.args.reserved.now.entries c.args.used.now.entries c.append.new.self.entries c.requires.empty (on_success _ _ c.unwrap.ensures c.append.ensures.entries) c.len-len.ensures.unique
+    ∙ moved c.args.reserved.now.entries c.args.used.now.entries c.append.new.self.entries c.requires.empty
+    (on_success _ _ c.unwrap.ensures c.append.ensures.entries) c.len-len.ensures.unique

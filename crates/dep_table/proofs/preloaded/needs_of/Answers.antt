@@ -13,14 +13,17 @@ loop-t-init c =
     let P = c.args.m.now in
     let ns = c.in_ok-needs.needs.items in
     let none = c.in_ok-needs.ensures in
-    let all : c.into_iter-t-iterator.result ≡ all_tasks P = c.into_iter-t-iterator.ensures.into_iter_gives ∙ c.all_tasks-t-items.ensures ∙ ap (λ (p : Plan). all_tasks p) c.plan.ensures.same in
+    let all : c.into_iter-t-iterator.result ≡ all_tasks P = c.into_iter-t-iterator.ensures.into_iter_gives
+    ∙ c.all_tasks-t-items.ensures ∙ ap (λ (p : Plan). all_tasks p) c.plan.ensures.same in
     record {
       can_next = search rules;
       is_finite = search rules;
       count = none.count;
       types = λ k n at. (none.each k n at).types_count;
       room = subst (λ ts. CanCountEach P ts ns) (sym all) (room_all P c.plan_is_consistent.ensures c.args.shards (length P.elems) ns none);
-      so_far = subst (IsSoFar P (λ ts. AreNeedsOf P (shard_of P c.args.shards) ts ns)) (sym all) (begun P (λ ts. AreNeedsOf P (shard_of P c.args.shards) ts ns) (no_task P (shard_of P c.args.shards) c.args.shards ns none));
+      so_far = subst (IsSoFar P (λ ts. AreNeedsOf P (shard_of P c.args.shards) ts ns)) (sym all)
+          (begun P (λ ts. AreNeedsOf P (shard_of P c.args.shards) ts ns)
+          (no_task P (shard_of P c.args.shards) c.args.shards ns none));
     }
 
 pub need_task-requires-clause-task : goal.need_task-requires-clause-task
@@ -32,7 +35,8 @@ need_task-requires-clause-task c =
 pub need_task-requires-clause-room : goal.need_task-requires-clause-room
 need_task-requires-clause-room c = λ k n at.
     let P = c.args.m.now in
-    room_first P (c.in-Some.t ∷ []) c.next.new.self n (subst (λ ts. CanCountEach P ts c.loop-t.needs.items) c.in-Some.ensures.steps c.loop-t.invariant.room k n at)
+    room_first P (c.in-Some.t ∷ []) c.next.new.self n (subst (λ ts. CanCountEach P ts c.loop-t.needs.items)
+    c.in-Some.ensures.steps c.loop-t.invariant.room k n at)
 
 pub loop-t-preserved : goal.loop-t-preserved
 loop-t-preserved c =

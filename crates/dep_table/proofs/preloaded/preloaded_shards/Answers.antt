@@ -13,10 +13,15 @@ reserve_all-requires-clause-types c =
 
 pub returns-clause-shards : goal.returns-clause-shards
 returns-clause-shards c =
-    let reserved = subst (λ ns. AreReserved ns c.in_ok-opened.opened.items c.reserve_all.new.shards.items) c.as_slice.ensures.value c.in_ok-reserve_all.ensures in
-    kept_shards c.args.m.now c.args.shards c.in_ok-needs.needs.items c.in_ok-opened.opened.items c.reserve_all.new.shards.items c.in_ok-needs.ensures.count c.in_ok-opened.ensures reserved
+    let reserved = subst (λ ns. AreReserved ns c.in_ok-opened.opened.items c.reserve_all.new.shards.items)
+    c.as_slice.ensures.value c.in_ok-reserve_all.ensures in
+    kept_shards c.args.m.now c.args.shards c.in_ok-needs.needs.items c.in_ok-opened.opened.items
+    c.reserve_all.new.shards.items c.in_ok-needs.ensures.count c.in_ok-opened.ensures reserved
 
 pub returns-clause-spares : goal.returns-clause-spares
 returns-clause-spares c =
-    let reserved = subst (λ ns. AreReserved ns c.in_ok-opened.opened.items c.reserve_all.new.shards.items) c.as_slice.ensures.value c.in_ok-reserve_all.ensures in
-    reserved_shards c.args.m.now c.args.shards c.in_ok-needs.needs.items c.in_ok-opened.opened.items c.reserve_all.new.shards.items c.in_ok-needs.ensures.count c.in_ok-opened.ensures reserved c.in_ok-needs.ensures.needs
+    let reserved = subst (λ ns. AreReserved ns c.in_ok-opened.opened.items c.reserve_all.new.shards.items)
+    c.as_slice.ensures.value c.in_ok-reserve_all.ensures in
+    reserved_shards c.args.m.now c.args.shards c.in_ok-needs.needs.items c.in_ok-opened.opened.items
+    c.reserve_all.new.shards.items c.in_ok-needs.ensures.count c.in_ok-opened.ensures reserved
+    c.in_ok-needs.ensures.needs

@@ -15,7 +15,8 @@ pub returns-in_err-require : goal.returns-in_err-require
 returns-in_err-require c = λ earlier.
     let s = c.args.counted.now in
     let of_job = rw c.far_task.ensures at c.is_task.ensures in
-    let far = c.in_err-require.ensures.checked (Is (IsOfJob (far_task c.args.direction c.args.edge.now))) s s (decides (IsOfJob (far_task c.args.direction c.args.edge.now)) of_job) refl in
+    let far = c.in_err-require.ensures.checked (Is (IsOfJob (far_task c.args.direction c.args.edge.now))) s s
+    (decides (IsOfJob (far_task c.args.direction c.args.edge.now)) of_job) refl in
     followed (c.in_ok-check_tile.ensures Connecting s) (stop _ c.from_residual-in_err-require.ensures.1 far)
 
 pub returns : goal.returns

@@ -20,7 +20,8 @@ returns-in_err-check_all-2 c =
     let P = c.args.plan.now in
     let first = c.in_ok-check_all.ensures.after nothing c.requires.nothing in
     let p = err_from_is_err_and c.from_residual-in_err-check_all-2.result c.from_residual-in_err-check_all-2.ensures.1 in
-    rw (p.1, p.2) (failure_after P nothing (phase_marks Connecting P) (phase_marks Matching P) _ first.0 (c.in_err-check_all-2.ensures.after (add_all nothing (phase_marks Connecting P)) first.1))
+    rw (p.1, p.2) (failure_after P nothing (phase_marks Connecting P) (phase_marks Matching P) _ first.0
+    (c.in_err-check_all-2.ensures.after (add_all nothing (phase_marks Connecting P)) first.1))
 
 pub returns : goal.returns
 returns c =
@@ -29,5 +30,12 @@ returns c =
     let second = c.in_ok-check_all-2.ensures.after (add_all nothing (phase_marks Connecting P)) first.1 in
     let w = subst (IsCounted P c.check_all.new.counted) (c.all_edges_and_items_are_counted.ensures P) first.1 in (
       AllPass-append P nothing (phase_marks Connecting P) (phase_marks Matching P) first.0 second.0,
-      record { all_tasks = c.requires.tasks; all_roots = c.root_count.ensures; all_edges = w.ins; all_data_edges = w.data_edges; all_writes = w.writes ∙ length-map (all_writes P) (λ (w : WriteBack). w.place) },
+      record {
+        all_tasks = c.requires.tasks;
+        all_roots = c.root_count.ensures;
+        all_edges = w.ins;
+        all_data_edges = w.data_edges;
+        all_writes = w.writes
+            ∙ length-map (all_writes P) (λ (w : WriteBack). w.place);
+      },
     )

@@ -9,7 +9,11 @@ use Rattle.edge_match.proofs.sending.+send_all.Goals as goal
 
 pub returns-in_default-held_target : goal.returns-in_default-held_target
 returns-in_default-held_target m c = λ t n.
-    rw (c.in-Some.ensures.cases.0, held-none false c.in-Some.d.now c.in-Some.later.now c.args.env.now (sym c.in_default-held_target.ensures)) (c.send_all.ensures t n)
+    rw (
+      c.in-Some.ensures.cases.0,
+      held-none false c.in-Some.d.now c.in-Some.later.now c.args.env.now
+          (sym c.in_default-held_target.ensures),
+    ) (c.send_all.ensures t n)
 
 pub returns : goal.returns
 returns m c = λ t n.

@@ -9,7 +9,8 @@ pub returns-in_default : goal.returns-in_default
 returns-in_default m c =
     let past = rw c.as_slice.ensures at (ltb-false c.args.k (length c.as_slice.result.now) (sym c.in_default.ensures.lookup.0)) in
     let kind = c.takes_tile.ensures in
-    OnTrue_from (not c.takes_tile.result) _ (λ h. takes_nothing c.args.at.now c.args.k c.args.ins.now past (λ takes. false≢true (sym (ap not (kind ∙ takes)) ∙ h)))
+    OnTrue_from (not c.takes_tile.result) _ (λ h. takes_nothing c.args.at.now c.args.k c.args.ins.now past
+    (λ takes. false≢true (sym (ap not (kind ∙ takes)) ∙ h)))
 
 pub returns-in_default-held_target : goal.returns-in_default-held_target
 returns-in_default-held_target m c =

@@ -13,7 +13,8 @@ returns c =
     let t = task_of at in
     let e = c.args.edge.now in
     let before = in_edges_before P t at.number c.args.k in
-    let here : kind_of P.classes e.to.class e.in_flow ≡ Some at.flow.now.kind = rw (c.requires.task, c.requires.flow) (kind_of-here P t at.number at.flow.now at.here) in
+    let here : kind_of P.classes e.to.class e.in_flow ≡ Some at.flow.now.kind = rw (c.requires.task, c.requires.flow)
+    (kind_of-here P t at.number at.flow.now at.here) in
     OnTrue_from _ _ (λ h. taken_one P before c.args.ins.now c.add.new.self e (is_data (Some at.flow.now.kind))
     c.if-not-is_sent.ensures
     (λ k. false≢true (sym c.if-is_repeated.false ∙ c.is_repeated.ensures.1 k))

@@ -17,4 +17,5 @@ run_body-requires c =
     let flows : length c.as_mut_slice.result.now ≡ length class.flows =
     ap length c.as_mut_slice.ensures.value ∙ c.requires ∙ ap (λ o. length (option_map_or (λ (k : ClassPlan). k.flows) o [])) is in
     let well = (c.class-class.ensures.well_made h.space (ap (slice_get P.spaces) c.class.ensures ∙ h.space_is)).body in
-    subst (λ n. IsWellBody n (length c.as_mut_slice.result.now) class.body) (sym locals) (subst (λ n. IsWellBody (length h.space.defs) n class.body) (sym flows) well)
+    subst (λ n. IsWellBody n (length c.as_mut_slice.result.now) class.body) (sym locals)
+    (subst (λ n. IsWellBody (length h.space.defs) n class.body) (sym flows) well)

@@ -39,7 +39,8 @@ claim_if_ready-requires c =
     let r = c.args.runner.now.run in
     let now = c.loop-t.runner.run in
     record {
-      task = next_task P c.in-Some.t c.next.new.self r now (subst (λ l. IsSoFar P (all_tasks P) l [] [] r now) c.in-Some.ensures.steps c.loop-t.invariant.so_far);
+      task = next_task P c.in-Some.t c.next.new.self r now (subst (λ l. IsSoFar P (all_tasks P) l [] [] r now)
+          c.in-Some.ensures.steps c.loop-t.invariant.so_far);
       fits = (c.requires.fits.0, c.loop-t.invariant.so_far.done.fits c.requires.fits.0 c.requires.fits.1);
       running = c.loop-t.invariant.running;
     }

@@ -11,21 +11,26 @@ returns-clause-tiles m c = λ P G t before fs is len old.
     let d = sent_tile c.args.sent.now.edges in
     let h = first_edge P t n fs c.in-Some.edge.now c.in-Some.others.now (sym c.in-Some.ensures.cases.0 ∙ is) in
     let y = starting_tile P G d t n h.flow in
-    let step = c.take_tile.ensures.tiles P G t before h.flow h.others h.first len (subst (λ l. c.args.tiles.now.items ≡ before ++ tiles_from P G nothing_delivered t n l) h.split old) in
+    let step = c.take_tile.ensures.tiles P G t before h.flow h.others h.first len
+    (subst (λ l. c.args.tiles.now.items ≡ before ++ tiles_from P G nothing_delivered t n l) h.split old) in
     let more = c.take_tiles.ensures.tiles P G t (before ++ y ∷ []) h.others h.rest (length_push before y n len) step in
-    let same = tiles_same P G (sent_tile c.take_tile.new.sent.edges) d t (n + 1) (λ e to le. c.take_tile.ensures.others P t h.flow h.first e (λ q. absurd (omega (arith, q, le)))) (n + 1) h.others (omega arith) in
+    let same = tiles_same P G (sent_tile c.take_tile.new.sent.edges) d t (n + 1)
+    (λ e to le. c.take_tile.ensures.others P t h.flow h.first e (λ q. absurd (omega (arith, q, le)))) (n + 1)
+    h.others (omega arith) in
     more ∙ ap (λ l. (before ++ y ∷ []) ++ l) same ∙ append_assoc before (y ∷ []) (tiles_from P G d t (n + 1) h.others)
     ∙ ap (λ k. before ++ y ∷ tiles_from P G d t k h.others) (add-one n) ∙ ap (λ l. before ++ tiles_from P G d t n l) (sym h.split)
 
 pub returns-in_default-clause-tiles : goal.returns-in_default-clause-tiles
 returns-in_default-clause-tiles m c = λ P G t before fs is len old.
     let none = no_edges P t c.args.number fs c.args.edges.now c.in_default.ensures.cases is in
-    old ∙ ap (λ l. before ++ tiles_from P G nothing_delivered t c.args.number l) none ∙ sym (ap (λ l. before ++ tiles_from P G (sent_tile c.args.sent.now.edges) t c.args.number l) none)
+    old ∙ ap (λ l. before ++ tiles_from P G nothing_delivered t c.args.number l) none
+    ∙ sym (ap (λ l. before ++ tiles_from P G (sent_tile c.args.sent.now.edges) t c.args.number l) none)
 
 pub returns-clause-kept : goal.returns-clause-kept
 returns-clause-kept m c = λ P t fs is.
     let h = first_edge P t c.args.number fs c.in-Some.edge.now c.in-Some.others.now (sym c.in-Some.ensures.cases.0 ∙ is) in
-    takes_then t c.args.sent.now.edges c.take_tile.new.sent.edges c.take_tiles.new.sent.edges (c.take_tile.ensures.kept P t h.flow h.first) (c.take_tiles.ensures.kept P t h.others h.rest)
+    takes_then t c.args.sent.now.edges c.take_tile.new.sent.edges c.take_tiles.new.sent.edges
+    (c.take_tile.ensures.kept P t h.flow h.first) (c.take_tiles.ensures.kept P t h.others h.rest)
 
 pub returns-in_default-clause-kept : goal.returns-in_default-clause-kept
 returns-in_default-clause-kept m c = λ P t fs is. takes_none t c.args.sent.now.edges

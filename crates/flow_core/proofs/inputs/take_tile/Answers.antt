@@ -26,14 +26,17 @@ returns-clause-tiles c = λ P G t before f rest is len old.
     let d = sent_tile c.args.sent.now.edges in
     one_done P G d t n f rest before c.set_tile.new.tiles.items c.take.result
     (c.take.ensures.tile ∙ ap (λ i. first_tile i c.args.sent.now.edges) (sym found.2) ∙ sym (edge_tile P G d t n f found.0 found.1))
-    (c.set_tile.ensures ∙ ap (λ l. slice_set l n c.take.result) old ∙ set_at before (tiles_from P G nothing_delivered t (suc n) rest) (starting_tile P G nothing_delivered t n f) c.take.result n len)
+    (c.set_tile.ensures ∙ ap (λ l. slice_set l n c.take.result) old
+    ∙ set_at before (tiles_from P G nothing_delivered t (suc n) rest) (starting_tile P G nothing_delivered t n f)
+    c.take.result n len)
 
 pub returns-clause-others : goal.returns-clause-others
 returns-clause-others c = λ P t f is e differs.
     let n = c.args.number in
     let found = an_item (edge_into P t n f) c.in-Some.edge (sym is ∙ c.in-Some.is) in
     let goes = edge_goes P t n f found.0 found.1 in
-    let other = c.take.ensures.others (item.Edge e) (λ q. differs (sym (ap (λ (x : Edge). x.in_flow) (Edge-injective found.0 e (found.2 ∙ q))) ∙ goes.in_flow)) in
+    let other = c.take.ensures.others (item.Edge e) (λ q. differs
+    (sym (ap (λ (x : Edge). x.in_flow) (Edge-injective found.0 e (found.2 ∙ q))) ∙ goes.in_flow)) in
     other_item c.in-Some.edge (item.Edge e) c.args.sent.now.edges c.take.new.self.edges other
 
 pub returns-clause-kept : goal.returns-clause-kept

@@ -13,4 +13,6 @@ returns c = λ P G r x f con fit well fits i here ctl.
     let job = (fits.sound.claimed_have_all (sender x.item) out.claimed).task in
     let left = with_tiles _ out.outputs in
     let size = ended_sized P G con fit well (sender x.item) job left.0 left.1 (item_flow x.item) f here in
-    out.tile ∙ ap (λ o. output_tile o (item_flow x.item)) left.1 ∙ none_from_option_map length _ (size ∙ ap (λ b. cond b (size_from P f (data_source P (sender x.item) (item_flow x.item))) None) ctl)
+    out.tile ∙ ap (λ o. output_tile o (item_flow x.item)) left.1
+    ∙ none_from_option_map length _ (size ∙ ap (λ b. cond b
+    (size_from P f (data_source P (sender x.item) (item_flow x.item))) None) ctl)

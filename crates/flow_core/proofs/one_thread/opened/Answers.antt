@@ -18,4 +18,5 @@ returns-clause-between c =
     let G = c.args.given.now in
     let r = c.claim_roots.new.runner.run in
     let done = subst (λ a. HasDone P (all_tasks P) [] a c.claim_roots.new.runner.run) c.start.ensures.state (c.in_ok-claim_roots.ensures.done) in
-    all_opened P G r c.claim_roots.new.runner.running.items (subst (Fits P G) c.start.ensures.state (c.start.ensures.fits P G)) done c.in_ok-claim_roots.ensures.running
+    all_opened P G r c.claim_roots.new.runner.running.items (subst (Fits P G) c.start.ensures.state
+    (c.start.ensures.fits P G)) done c.in_ok-claim_roots.ensures.running

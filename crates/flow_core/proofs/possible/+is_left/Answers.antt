@@ -11,4 +11,5 @@ returns-then-eq t c =
 pub returns : goal.returns
 returns t c =
     listed_later c.is_left.result c.args.write.now c.in-Some.other c.args.left.now c.next.new.self c.in-Some.ensures.steps
-    (λ q. false≢true (sym c.if-eq.false ∙ c.eq.ensures ∙ (c.items_compare_field_by_field.ensures.write_backs.same c.in-Some.other c.args.write.now).1 q)) c.is_left.ensures
+    (λ q. false≢true (sym c.if-eq.false ∙ c.eq.ensures ∙ (c.items_compare_field_by_field.ensures.write_backs.same
+    c.in-Some.other c.args.write.now).1 q)) c.is_left.ensures

@@ -7,4 +7,5 @@ returns-in-Edge c =
     edge_by c.args.plan.now c.args.item.now c.in-Edge.e c.has_edge.result c.in-Edge.is has
 
 pub returns-in-Write : goal.returns-in-Write
-returns-in-Write c = write_by c.args.plan.now c.args.item.now c.in-Write.w c.write_backs.result c.is_left.result c.in-Write.is c.write_backs.ensures c.is_left.ensures
+returns-in-Write c = write_by c.args.plan.now c.args.item.now c.in-Write.w c.write_backs.result c.is_left.result
+    c.in-Write.is c.write_backs.ensures c.is_left.ensures

@@ -8,7 +8,8 @@ loop-number-preserved c =
     let new = c.arrive.new.self in
     let up = rw c.edge_to.ensures.to at c.in_ok-_waits.ensures.ok in
     record {
-      waits = first_comes old new c.loop-number.number 2 _ c.edge_to.result.in_flow (Some c.args.tile.now) (omega arith) up c.loop-number.invariant.new c.loop-number.invariant.waits;
+      waits = first_comes old new c.loop-number.number 2 _ c.edge_to.result.in_flow (Some c.args.tile.now) (omega arith)
+          up c.loop-number.invariant.new c.loop-number.invariant.waits;
       new = still_none old new c.loop-number.number _ up c.loop-number.invariant.new;
       elems = c.in_ok-_waits.ensures.rest.elems ∙ c.loop-number.invariant.elems;
     }

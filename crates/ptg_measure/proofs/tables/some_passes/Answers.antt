@@ -6,8 +6,11 @@ use Rattle.ptg_measure.proofs.tables.some_passes.Goals as goal
 
 pub loop-preserved : goal.loop-preserved
 loop-preserved c =
-    let own = IsPassOf (id_of c.args.table.now) in
-    (c.split.ensures.pass, subst (All own) (sym c.in_ok-push.ensures.items) (All-push own c.loop.passes.items c.split.result c.loop.invariant.1 c.split.ensures.new))
+    let own = IsPassOf (id_of c.args.table.now) in (
+      c.split.ensures.pass,
+      subst (All own) (sym c.in_ok-push.ensures.items)
+          (All-push own c.loop.passes.items c.split.result c.loop.invariant.1 c.split.ensures.new),
+    )
 
 pub returns : goal.returns
 returns c =

@@ -39,5 +39,6 @@ returns-in-Rank-clause-ends g c =
 -- a replay reads its trace
 pub returns-in-Replay-clause-ends : goal.returns-in-Replay-clause-ends
 returns-in-Replay-clause-ends g c =
-    replay_acts (g.F.Files.reads c.args.files.now) (g.F.Files.reads c.replay.new.files) (g.F.Files.faults c.args.files.now) (g.F.Files.faults c.replay.new.files)
+    replay_acts (g.F.Files.reads c.args.files.now) (g.F.Files.reads c.replay.new.files)
+    (g.F.Files.faults c.args.files.now) (g.F.Files.faults c.replay.new.files)
     c.args.matched c.args.given c.in-Replay.list c.args.action.now c.replay.result c.in-Replay.is c.replay.ensures.verdict

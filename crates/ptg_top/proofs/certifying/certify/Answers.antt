@@ -9,7 +9,8 @@ pub returns-clause-certified : goal.returns-clause-certified
 returns-clause-certified g c =
     let Q = c.matched.result.now in
     let ws = c.as_slice.result.now in
-    let weights : ws ≡ class_weights c.args.matched c.args.given = c.as_slice.ensures ∙ (c.in_ok-weights.ensures.weights ∙ ap (λ (R : Plan). class_weights R c.args.given) c.plan.ensures.same) in
+    let weights : ws ≡ class_weights c.args.matched c.args.given = c.as_slice.ensures
+    ∙ (c.in_ok-weights.ensures.weights ∙ ap (λ (R : Plan). class_weights R c.args.given) c.plan.ensures.same) in
     certified_of_run c.args.settings c.args.matched c.args.given c.in_ok-receipt.receipt c.in_ok-receipt.outcome c.in_ok-receipt.ensures
     Q ws c.in_ok-certificate.certificate c.certified.result c.matched.ensures weights c.in_ok-certificate.ensures.certificate
     (c.certified.ensures Q ws c.in_ok-certificate.ensures.accepted)

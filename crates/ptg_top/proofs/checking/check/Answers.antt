@@ -31,7 +31,8 @@ returns-in-Ok-clause-verdict g c =
 pub returns-in-Ok-clause-pieces : goal.returns-in-Ok-clause-pieces
 returns-in-Ok-clause-pieces g c =
     let Pieces : Option NamedFiles → Type 0 = λ t. AddsPieces t (g.F.Files.reads c.tree_of_file.new.files) (g.F.Files.reads c.check_data.new.files) in
-    more_pieces (g.F.Files.contents c.args.files.now) (g.F.Files.reads c.args.files.now) (g.F.Files.reads c.tree_of_file.new.files) (g.F.Files.reads c.check_data.new.files)
+    more_pieces (g.F.Files.contents c.args.files.now) (g.F.Files.reads c.args.files.now)
+    (g.F.Files.reads c.tree_of_file.new.files) (g.F.Files.reads c.check_data.new.files)
     c.tree_of_file.ensures.pieces (subst Pieces c.tree_of_file.ensures.stays c.check_data.ensures.pieces)
 
 -- a refusal of the JDF file
@@ -44,7 +45,8 @@ returns-in-Err-clause-verdict g c =
     let Refusal : Result Jdf Verdict → Type 0 = λ r. IfErr r (λ v. TreeIsRefused old new failed failed_since c.in-Files.jdf (denoted v)) in
     let Ends : Source → Type 0 = λ s. CheckEndsWith old new failed failed_since s (denoted c.in-Err.refused) in
     subst Ends (sym c.in-Files.is)
-    (refusal_ends old new failed failed_since c.in-Files.jdf c.in-Files.data_name (denoted c.in-Err.refused) (subst Refusal c.in-Err.is c.in_ok-read-in-Files.ensures.refused))
+    (refusal_ends old new failed failed_since c.in-Files.jdf c.in-Files.data_name (denoted c.in-Err.refused)
+    (subst Refusal c.in-Err.is c.in_ok-read-in-Files.ensures.refused))
 
 -- the made job
 pub returns-in-Made-clause-verdict : goal.returns-in-Made-clause-verdict

@@ -14,11 +14,13 @@ carry_out-requires-clause-valid g c κs within =
 -- the verdict on the command is the one on the arguments
 pub returns-in-Ok-clause-judged : goal.returns-in-Ok-clause-judged
 returns-in-Ok-clause-judged g c =
-    command_ends c.args.list.now (g.F.Files.reads c.args.files.now) (g.F.Files.reads c.carry_out.new.files) c.in-Ok.order c.of.result c.in-Ok.ensures.found c.of.ensures
+    command_ends c.args.list.now (g.F.Files.reads c.args.files.now) (g.F.Files.reads c.carry_out.new.files)
+    c.in-Ok.order c.of.result c.in-Ok.ensures.found c.of.ensures
     (g.F.Files.faults c.args.files.now) (g.F.Files.faults c.carry_out.new.files) c.carry_out.result c.carry_out.ensures.judged
 
 -- and so is its receipt
 pub returns-in-Ok-clause-receipt : goal.returns-in-Ok-clause-receipt
 returns-in-Ok-clause-receipt g c =
-    command_receipted c.args.list.now (g.F.Files.reads c.args.files.now) (g.F.Files.reads c.carry_out.new.files) c.in-Ok.order c.of.result c.in-Ok.ensures.found c.of.ensures
+    command_receipted c.args.list.now (g.F.Files.reads c.args.files.now) (g.F.Files.reads c.carry_out.new.files)
+    c.in-Ok.order c.of.result c.in-Ok.ensures.found c.of.ensures
     c.carry_out.result c.carry_out.ensures.receipt

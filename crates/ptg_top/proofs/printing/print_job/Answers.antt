@@ -11,7 +11,8 @@ use Rattle.ptg_top.proofs.printing.print_job.Goals as goal
 -- the names are those of the plan's class and flow
 pub returns-in-Inconsistent : goal.returns-in-Inconsistent
 returns-in-Inconsistent g c =
-    let Printed : List ℕ → Type 0 = λ t. PrintsText g.O.Sink.bytes g.O.Sink.faults c.refusal-in-Inconsistent.result c.args.out.now c.refusal-in-Inconsistent.new.sink t in
+    let Printed : List ℕ → Type 0 = λ t. PrintsText g.O.Sink.bytes g.O.Sink.faults c.refusal-in-Inconsistent.result
+    c.args.out.now c.refusal-in-Inconsistent.new.sink t in
     let P = c.in-Inconsistent.plan in
     let f = c.in-Inconsistent.fault in
     let line =

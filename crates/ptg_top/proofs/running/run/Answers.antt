@@ -9,7 +9,8 @@ pub returns-in_ok-receipt-in-Ok-clause-answer : goal.returns-in_ok-receipt-in-Ok
 returns-in_ok-receipt-in-Ok-clause-answer g c =
     let ran = c.in_ok-receipt-in-Ok.ensures.ran c.args.matched c.args.given c.args.settings c.in-Ok.ensures.run in
     fitting_is_answer c.args.matched c.args.settings c.args.given _ (λ bytes large. let e = (c.in-Ok.ensures.too_large bytes).1 large in absurd cc)
-    (found_of_run c.args.settings c.args.matched c.args.given c.in_ok-receipt-in-Ok.receipt c.in_ok-receipt-in-Ok.outcome ran Answer (Answer c.in_ok-receipt-in-Ok.outcome) refl)
+    (found_of_run c.args.settings c.args.matched c.args.given c.in_ok-receipt-in-Ok.receipt
+    c.in_ok-receipt-in-Ok.outcome ran Answer (Answer c.in_ok-receipt-in-Ok.outcome) refl)
 
 -- its receipt is of the job
 pub returns-in_ok-receipt-in-Ok-clause-receipt : goal.returns-in_ok-receipt-in-Ok-clause-receipt

@@ -15,7 +15,8 @@ returns-in_ok-text-in-Ok-clause-verdict g c =
     let failed = g.F.Files.faults c.args.files.now in
     let failed_since = g.F.Files.faults c.tree_of_file.new.files in
     let Tree : Result Jdf Verdict → Type 0 = λ r. IfOk r (IsTreeRead old new failed failed_since c.args.jdf.now) in
-    tree_shown old new failed failed_since c.args.jdf.now c.in-Ok.tree c.in_ok-text-in-Ok.text (subst Tree c.in-Ok.is c.in_ok-read.ensures.tree) c.in_ok-text-in-Ok.ensures
+    tree_shown old new failed failed_since c.args.jdf.now c.in-Ok.tree c.in_ok-text-in-Ok.text
+    (subst Tree c.in-Ok.is c.in_ok-read.ensures.tree) c.in_ok-text-in-Ok.ensures
 
 -- a refusal of the JDF file
 pub returns-in-Err-clause-verdict : goal.returns-in-Err-clause-verdict

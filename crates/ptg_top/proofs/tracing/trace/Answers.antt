@@ -13,14 +13,17 @@ trace_text-requires g c =
 
 pub returns-clause-trace : goal.returns-clause-trace
 returns-clause-trace g c =
-    let of = closed_is_run c.args.settings c.args.matched c.args.given c.in_ok-prepared.prepared c.in_ok-tasks.closed c.in_ok-_outcome.receipt c.in_ok-_outcome._outcome c.in_ok-prepared.ensures
+    let of = closed_is_run c.args.settings c.args.matched c.args.given c.in_ok-prepared.prepared c.in_ok-tasks.closed
+    c.in_ok-_outcome.receipt c.in_ok-_outcome._outcome c.in_ok-prepared.ensures
     c.in_ok-tasks.ensures.job c.in_ok-tasks.ensures.passes c.in_ok-_outcome.ensures.receipt c.in_ok-_outcome.ensures.answer in
-    traced_by c.args.settings c.args.matched c.args.given c.in_ok-prepared.prepared c.in_ok-_outcome.receipt c.in_ok-_outcome._outcome c.in_ok-tasks.tasks.items c.as_slice.result.now c.in_ok-text.text c.plan.result.now
+    traced_by c.args.settings c.args.matched c.args.given c.in_ok-prepared.prepared c.in_ok-_outcome.receipt
+    c.in_ok-_outcome._outcome c.in_ok-tasks.tasks.items c.as_slice.result.now c.in_ok-text.text c.plan.result.now
     c.in_ok-prepared.ensures of c.in_ok-tasks.ensures.order (c.plan.ensures.same ∙ c.matched.ensures) c.as_slice.ensures.value c.in_ok-text.ensures
 
 -- its receipt is of the job
 pub returns-clause-receipt : goal.returns-clause-receipt
 returns-clause-receipt g c =
-    let of = closed_is_run c.args.settings c.args.matched c.args.given c.in_ok-prepared.prepared c.in_ok-tasks.closed c.in_ok-_outcome.receipt c.in_ok-_outcome._outcome c.in_ok-prepared.ensures
+    let of = closed_is_run c.args.settings c.args.matched c.args.given c.in_ok-prepared.prepared c.in_ok-tasks.closed
+    c.in_ok-_outcome.receipt c.in_ok-_outcome._outcome c.in_ok-prepared.ensures
     c.in_ok-tasks.ensures.job c.in_ok-tasks.ensures.passes c.in_ok-_outcome.ensures.receipt c.in_ok-_outcome.ensures.answer in
     (of.settings, of.job)

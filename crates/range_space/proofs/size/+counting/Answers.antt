@@ -39,7 +39,8 @@ pub count_among-returns-in_err-count_prefix-clause-fault : goal.count_among-retu
 count_among-returns-in_err-count_prefix-clause-fault t c =
     let i = c.loop-v.invariant in
     let p = err_from_is_err_and c.from_residual.result c.from_residual.ensures.1 in
-    rw (p.1, p.2) (fault_at_prefix _ _ _ _ c.args.class c.args.inner.now c.args.outer.now _ c.loop-v.v-iterator c.in-Some.v c.next.new.self c.in-Some.ensures.steps i.so_far _ c.in_err-count_prefix.ensures.fault)
+    rw (p.1, p.2) (fault_at_prefix _ _ _ _ c.args.class c.args.inner.now c.args.outer.now _ c.loop-v.v-iterator
+    c.in-Some.v c.next.new.self c.in-Some.ensures.steps i.so_far _ c.in_err-count_prefix.ensures.fault)
 
 pub count_among-returns-in_err-count_from-clause-fault : goal.count_among-returns-in_err-count_from-clause-fault
 count_among-returns-in_err-count_from-clause-fault t c =
@@ -48,7 +49,8 @@ count_among-returns-in_err-count_from-clause-fault t c =
     let q : c.push.new.self ≡ c.args.outer.now ++ c.in-Some.v ∷ [] = (simp to_z-of_z at c.push.ensures) ∙ ap (λ l. l ++ c.in-Some.v ∷ []) i.same_values in
     let f = rw q at c.in_err-count_from.ensures.fault in
     let p = err_from_is_err_and c.from_residual-in_err-count_from.result c.from_residual-in_err-count_from.ensures.1 in
-    rw (p.1, p.2) (fault_inside _ _ _ _ c.args.class c.args.inner.now c.args.outer.now _ c.loop-v.v-iterator c.in-Some.v c.next.new.self c.in-Some.ensures.steps i.so_far _ _ c.in_ok-count_prefix.ensures.ok _ f)
+    rw (p.1, p.2) (fault_inside _ _ _ _ c.args.class c.args.inner.now c.args.outer.now _ c.loop-v.v-iterator c.in-Some.v
+    c.next.new.self c.in-Some.ensures.steps i.so_far _ _ c.in_ok-count_prefix.ensures.ok _ f)
 
 pub count_among-loop-v-preserved : goal.count_among-loop-v-preserved
 count_among-loop-v-preserved t c =
@@ -61,5 +63,6 @@ count_among-loop-v-preserved t c =
       can_next = tt;
       is_finite = tt;
       same_values = popped _ _ _ _ r;
-      so_far = one_more _ _ _ _ c.args.class c.args.inner.now c.args.outer.now _ c.loop-v.v-iterator c.in-Some.v c.next.new.self c.in-Some.ensures.steps i.so_far _ _ c.in_ok-count_prefix.ensures.ok _ _ w;
+      so_far = one_more _ _ _ _ c.args.class c.args.inner.now c.args.outer.now _ c.loop-v.v-iterator c.in-Some.v
+          c.next.new.self c.in-Some.ensures.steps i.so_far _ _ c.in_ok-count_prefix.ensures.ok _ _ w;
     }

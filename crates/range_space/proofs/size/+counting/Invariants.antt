@@ -14,5 +14,6 @@ invariant-count_among-loop-v l = record {
   can_next : (goal.iterator-count_among-loop-v).can_next l.v-iterator;
   is_finite : (goal.iterator-count_among-loop-v).is_finite l.v-iterator;
   same_values : l.outer ≡ l.initial.outer;
-  so_far : IsSoFar l.initial.counts.tasks l.initial.counts.prefixes l.counts.tasks l.counts.prefixes l.class l.inner l.initial.outer (values l.steps.lo l.steps.hi l.steps.step) l.v-iterator;
+  so_far : IsSoFar l.initial.counts.tasks l.initial.counts.prefixes l.counts.tasks l.counts.prefixes l.class l.inner
+      l.initial.outer (values l.steps.lo l.steps.hi l.steps.step) l.v-iterator;
 }

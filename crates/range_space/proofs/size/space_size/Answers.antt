@@ -20,4 +20,5 @@ pub returns-clause-sound : goal.returns-clause-sound
 returns-clause-sound c = sound_from_all 0 c.args.spaces.now c.in_ok-count_all.ensures.ok.unstopped.all_have_values
 
 pub returns-in_err-count_all-clause-no_fault : goal.returns-in_err-count_all-clause-no_fault
-returns-in_err-count_all-clause-no_fault c = λ sound tasks_at_most prefixes_at_most. absurd (no_fault c.args.spaces.now _ sound tasks_at_most prefixes_at_most c.in_err-count_all.ensures.fault)
+returns-in_err-count_all-clause-no_fault c = λ sound tasks_at_most prefixes_at_most. absurd
+    (no_fault c.args.spaces.now _ sound tasks_at_most prefixes_at_most c.in_err-count_all.ensures.fault)

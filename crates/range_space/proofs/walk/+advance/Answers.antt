@@ -15,13 +15,15 @@ returns-then-advance-clause-found t c =
     rw e.0 (found_deeper _ _ old depth _ k _ c.if-advance.ensures.found)
 
 -- the locals that are kept, and the one that is taken away
-kept : (t : ℕ) (c : goal.After-first_past t) → (c.pop.new.self ≡ take c.args.depth c.args.locals.now) × (c.in-Some-pop.v ≡ get_or c.args.locals.now c.args.depth (pos 0))
+kept : (t : ℕ) (c : goal.After-first_past t) → (c.pop.new.self ≡ take c.args.depth c.args.locals.now)
+    × (c.in-Some-pop.v ≡ get_or c.args.locals.now c.args.depth (pos 0))
 kept t c =
     let old = c.args.locals.now in
     let depth = c.args.depth in
     let l = ap length c.in-Some.ensures.cases.0 in
     let k = cut old depth (omega arith) in
-    same_from_push c.pop.new.self (take depth old) c.in-Some-pop.v (get_or old depth (pos 0)) (sym (sym k.before ∙ sym c.if-advance.ensures.truncated ∙ c.in-Some-pop.ensures))
+    same_from_push c.pop.new.self (take depth old) c.in-Some-pop.v (get_or old depth (pos 0))
+    (sym (sym k.before ∙ sym c.if-advance.ensures.truncated ∙ c.in-Some-pop.ensures))
 
 pub returns-in-Some-pop-clause-found : goal.returns-in-Some-pop-clause-found
 returns-in-Some-pop-clause-found t c =

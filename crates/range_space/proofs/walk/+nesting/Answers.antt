@@ -24,7 +24,8 @@ first-returns-in-Ok-number-clause-found t c =
     let k = c.in-Value.is in
     let b = rw c.as_slice-in-Value.ensures.same at c.number.ensures in
     let g : FitsSigned w64 c.in-Ok-number.z = search rules in
-    rw (e, k) (on_true_weaker c.first_with.result (first_of_value c.in-Value.e c.in-Some.inner.now c.args.locals.now _ c.in-Ok-number.z (sym b ∙ c.in-Ok-number.is)) (simp to_z-of_z at c.first_with.ensures.found))
+    rw (e, k) (on_true_weaker c.first_with.result (first_of_value c.in-Value.e c.in-Some.inner.now c.args.locals.now _
+    c.in-Ok-number.z (sym b ∙ c.in-Ok-number.is)) (simp to_z-of_z at c.first_with.ensures.found))
 
 pub first-returns-in-Ok-number-clause-none : goal.first-returns-in-Ok-number-clause-none
 first-returns-in-Ok-number-clause-none t c =
@@ -32,14 +33,16 @@ first-returns-in-Ok-number-clause-none t c =
     let k = c.in-Value.is in
     let b = rw c.as_slice-in-Value.ensures.same at c.number.ensures in
     let g : FitsSigned w64 c.in-Ok-number.z = search rules in
-    rw (e, k) (on_false_weaker c.first_with.result (none_of_value c.in-Value.e c.in-Some.inner.now c.args.locals.now [] c.in-Ok-number.z (sym b ∙ c.in-Ok-number.is)) (simp to_z-of_z at c.first_with.ensures.none))
+    rw (e, k) (on_false_weaker c.first_with.result (none_of_value c.in-Value.e c.in-Some.inner.now c.args.locals.now []
+    c.in-Ok-number.z (sym b ∙ c.in-Ok-number.is)) (simp to_z-of_z at c.first_with.ensures.none))
 
 pub first_among-returns-then-first_with-clause-found : goal.first_among-returns-then-first_with-clause-found
 first_among-returns-then-first_with-clause-found t c =
     let i = c.loop-v.invariant in
     let g : FitsSigned w64 c.in-Some.v = search rules in
     let f = rw i.same_locals at (simp to_z-of_z at c.if-first_with.ensures.found) in
-    found_here c.args.inner.now c.args.locals.now _ i.in_steps.0 c.in-Some.v c.loop-v.v-iterator c.next.new.self i.none_behind i.in_steps.1 c.in-Some.ensures.steps _ f
+    found_here c.args.inner.now c.args.locals.now _ i.in_steps.0 c.in-Some.v c.loop-v.v-iterator c.next.new.self
+    i.none_behind i.in_steps.1 c.in-Some.ensures.steps _ f
 
 pub first_among-loop-v-preserved : goal.first_among-loop-v-preserved
 first_among-loop-v-preserved t c =
@@ -50,6 +53,11 @@ first_among-loop-v-preserved t c =
       can_next = tt;
       is_finite = tt;
       same_locals = c.if-first_with.ensures.same ∙ i.same_locals;
-      in_steps = (_, others c.args.inner.now c.args.locals.now _ i.in_steps.0 c.in-Some.v c.loop-v.v-iterator c.next.new.self i.none_behind i.in_steps.1 c.in-Some.ensures.steps);
-      none_behind = none_here c.args.inner.now c.args.locals.now _ i.in_steps.0 c.in-Some.v c.loop-v.v-iterator c.next.new.self i.none_behind i.in_steps.1 c.in-Some.ensures.steps f;
+      in_steps = (
+        _,
+        others c.args.inner.now c.args.locals.now _ i.in_steps.0 c.in-Some.v c.loop-v.v-iterator
+            c.next.new.self i.none_behind i.in_steps.1 c.in-Some.ensures.steps,
+      );
+      none_behind = none_here c.args.inner.now c.args.locals.now _ i.in_steps.0 c.in-Some.v c.loop-v.v-iterator
+          c.next.new.self i.none_behind i.in_steps.1 c.in-Some.ensures.steps f;
     }

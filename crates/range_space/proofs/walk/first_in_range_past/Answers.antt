@@ -12,4 +12,5 @@ returns-in-None-clause-none c =
     let k : FitsSigned w64 s.step = search rules in
     let n = simp to_z-of_z at c.in-None.ensures in
     let b = rw c.as_slice.ensures.same at c.in-Ok.ensures.steps in
-    ap (λ r. lists_over_rest c.args.inner.now c.args.locals.now r c.args.v) b ∙ ap (lists_over c.args.inner.now c.args.locals.now) (values_unfit c.args.v s.hi s.step f g n)
+    ap (λ r. lists_over_rest c.args.inner.now c.args.locals.now r c.args.v) b
+    ∙ ap (lists_over c.args.inner.now c.args.locals.now) (values_unfit c.args.v s.hi s.step f g n)

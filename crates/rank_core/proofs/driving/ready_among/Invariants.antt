@@ -8,4 +8,6 @@ use Rattle.rank_core.proofs.driving.ready_among.Given as goal
 abbrev pub invariant-loop-rank : goal.invariant-loop-rank
 invariant-loop-rank l =
     (l.world ≡ l.initial.world)
-    × ((t : Task) → l.first ≤ rank_of l.initial.world.plan l.initial.world.ranks t → rank_of l.initial.world.plan l.initial.world.ranks t < l.rank → MayClaim l.initial.world.plan l.initial.world.state.machine t → ⊥)
+    × ((t : Task) → l.first ≤ rank_of l.initial.world.plan l.initial.world.ranks t
+    → rank_of l.initial.world.plan l.initial.world.ranks t < l.rank
+    → MayClaim l.initial.world.plan l.initial.world.state.machine t → ⊥)

@@ -6,7 +6,8 @@ use Rattle.flow_meaning.specs.Backward.{ended}
 use Rattle.flow_meaning.specs.Ending.{has_outputs}
 use Rattle.rank_core.specs.RankRoom.{HasRoomFor}
 use Rattle.rank_core.specs.RunningTasks.{data_of, plan_of, task_of}
-use Rattle.rank_core.proofs.LeftWithin.{EdgesLeft, edge_from, edge_may, edge_next, edge_room, edge_to, edges_first, edges_last}
+use Rattle.rank_core.proofs.LeftWithin.{EdgesLeft, edge_from, edge_may, edge_next, edge_room, edge_to, edges_first}
+use Rattle.rank_core.proofs.LeftWithin.{edges_last}
 use Rattle.rank_core.proofs.Parts.{within_among}
 use Rattle.rank_core.proofs.leaving.leave_edges.Goals as goal
 
@@ -14,8 +15,15 @@ pub loop-edge-init : goal.loop-edge-init
 loop-edge-init c =
     let v = c.args.at.now in
     let all = c.into_iter-edge-iterator.result in
-    let are : all ≡ out_edges (plan_of v) (task_of v) = c.into_iter-edge-iterator.ensures.into_iter_gives ∙ c.out_edges-edge-items.ensures ∙ ap (λ (p : Plan). out_edges p (task_of v)) c.requires.runs.plan_is in
-    record { can_next = tt; is_finite = tt; left = edges_first v c.requires.runs (ap has_outputs c.requires.tiles) all c.args.shard.now c.requires.holds (subst (λ es. HasRoomFor (length (within_among v es)) 0 c.args.shard.now) (sym are) c.requires.room) }
+    let are : all ≡ out_edges (plan_of v) (task_of v) = c.into_iter-edge-iterator.ensures.into_iter_gives
+    ∙ c.out_edges-edge-items.ensures ∙ ap (λ (p : Plan). out_edges p (task_of v)) c.requires.runs.plan_is in
+    record {
+      can_next = tt;
+      is_finite = tt;
+      left = edges_first v c.requires.runs (ap has_outputs c.requires.tiles) all
+          c.args.shard.now c.requires.holds (subst (λ es. HasRoomFor (length (within_among v es)) 0 c.args.shard.now)
+          (sym are) c.requires.room);
+    }
 
 pub leave_edge-requires : goal.leave_edge-requires
 leave_edge-requires c =
@@ -23,8 +31,10 @@ leave_edge-requires c =
     let h = c.requires.runs in
     let o = ap has_outputs c.requires.tiles in
     let all = c.into_iter-edge-iterator.result in
-    let are : all ≡ out_edges (plan_of v) (task_of v) = c.into_iter-edge-iterator.ensures.into_iter_gives ∙ c.out_edges-edge-items.ensures ∙ ap (λ (p : Plan). out_edges p (task_of v)) c.requires.runs.plan_is in
-    let l = subst (λ (es : List Edge). EdgesLeft v all es c.loop-edge.shard) c.in-Some.ensures.steps c.loop-edge.invariant.left in
+    let are : all ≡ out_edges (plan_of v) (task_of v) = c.into_iter-edge-iterator.ensures.into_iter_gives
+    ∙ c.out_edges-edge-items.ensures ∙ ap (λ (p : Plan). out_edges p (task_of v)) c.requires.runs.plan_is in
+    let l = subst (λ (es : List Edge). EdgesLeft v all es c.loop-edge.shard) c.in-Some.ensures.steps
+    c.loop-edge.invariant.left in
     let from = edge_from v h o all are c.in-Some.edge c.next.new.self c.loop-edge.shard l in
     record {
       runs = h;
@@ -41,14 +51,23 @@ loop-edge-preserved c =
     let h = c.requires.runs in
     let o = ap has_outputs c.requires.tiles in
     let all = c.into_iter-edge-iterator.result in
-    let are : all ≡ out_edges (plan_of v) (task_of v) = c.into_iter-edge-iterator.ensures.into_iter_gives ∙ c.out_edges-edge-items.ensures ∙ ap (λ (p : Plan). out_edges p (task_of v)) c.requires.runs.plan_is in
-    let l = subst (λ (es : List Edge). EdgesLeft v all es c.loop-edge.shard) c.in-Some.ensures.steps c.loop-edge.invariant.left in
-    record { can_next = tt; is_finite = tt; left = edge_next v h o all are c.in-Some.edge c.next.new.self c.loop-edge.shard l c.leave_edge.new.shard c.leave_edge.ensures.takes c.leave_edge.ensures.same }
+    let are : all ≡ out_edges (plan_of v) (task_of v) = c.into_iter-edge-iterator.ensures.into_iter_gives
+    ∙ c.out_edges-edge-items.ensures ∙ ap (λ (p : Plan). out_edges p (task_of v)) c.requires.runs.plan_is in
+    let l = subst (λ (es : List Edge). EdgesLeft v all es c.loop-edge.shard) c.in-Some.ensures.steps
+    c.loop-edge.invariant.left in
+    record {
+      can_next = tt;
+      is_finite = tt;
+      left = edge_next v h o all are c.in-Some.edge c.next.new.self
+          c.loop-edge.shard l c.leave_edge.new.shard c.leave_edge.ensures.takes c.leave_edge.ensures.same;
+    }
 
 pub returns : goal.returns
 returns c =
     let v = c.args.at.now in
     let all = c.into_iter-edge-iterator.result in
-    let are : all ≡ out_edges (plan_of v) (task_of v) = c.into_iter-edge-iterator.ensures.into_iter_gives ∙ c.out_edges-edge-items.ensures ∙ ap (λ (p : Plan). out_edges p (task_of v)) c.requires.runs.plan_is in
-    let l = subst (λ (es : List Edge). EdgesLeft v all es c.loop-edge.shard) c.in-None.ensures.steps.0 c.loop-edge.invariant.left in
+    let are : all ≡ out_edges (plan_of v) (task_of v) = c.into_iter-edge-iterator.ensures.into_iter_gives
+    ∙ c.out_edges-edge-items.ensures ∙ ap (λ (p : Plan). out_edges p (task_of v)) c.requires.runs.plan_is in
+    let l = subst (λ (es : List Edge). EdgesLeft v all es c.loop-edge.shard) c.in-None.ensures.steps.0
+    c.loop-edge.invariant.left in
     edges_last v c.requires.runs (ap has_outputs c.requires.tiles) all are c.loop-edge.shard l

@@ -7,7 +7,8 @@ use Rattle.rank_core.proofs.leaving.leave_within.Goals as goal
 pub leave_writes-requires-clause-room : goal.leave_writes-requires-clause-room
 leave_writes-requires-clause-room c =
     let v = c.args.at.now in
-    less_room (length (its_edges_within v)) (length (write_backs (plan_of v) (task_of v))) 0 (length (write_backs (plan_of v) (task_of v))) c.args.shard.now c.requires.room (omega arith) (omega arith)
+    less_room (length (its_edges_within v)) (length (write_backs (plan_of v) (task_of v))) 0
+    (length (write_backs (plan_of v) (task_of v))) c.args.shard.now c.requires.room (omega arith) (omega arith)
 
 pub leave_edges-requires-clause-room : goal.leave_edges-requires-clause-room
 leave_edges-requires-clause-room c =

@@ -18,7 +18,8 @@ returns-in_err-put_links g c =
     let plan = c.args.plan.now in
     let found = c.args.found.now in
     let is = ap (λ (ts : List Task). chain_head found ++ rows plan ts found.levels) (sym c.as_slice-chain.ensures) in
-    let cut = puts_cut (flat_map (level_line plan) found.levels) (rows plan c.as_slice-chain.result.now found.levels) c.in_err-put_links.ensures c.from_residual-in_err-put_links.ensures.0 refl in
+    let cut = puts_cut (flat_map (level_line plan) found.levels) (rows plan c.as_slice-chain.result.now found.levels)
+    c.in_err-put_links.ensures c.from_residual-in_err-put_links.ensures.0 refl in
     puts_then _ c.in_ok-put_chain_head.ensures cut is
 
 pub returns : goal.returns
@@ -27,4 +28,5 @@ returns g c =
     let found = c.args.found.now in
     let is = ap (λ (ts : List Task). chain_head found ++ rows plan ts found.levels) (sym c.as_slice-chain.ensures)
     ∙ ap (λ (ls : List (Task × ℕ)). chain_head found ++ rows plan c.as_slice-chain.result.now ls) (sym c.as_slice-levels.ensures) in
-    puts_then _ c.in_ok-put_chain_head.ensures (puts_then (rows plan c.as_slice-chain.result.now c.as_slice-levels.result.now) c.in_ok-put_links.ensures c.put_levels.ensures refl) is
+    puts_then _ c.in_ok-put_chain_head.ensures (puts_then (rows plan c.as_slice-chain.result.now
+    c.as_slice-levels.result.now) c.in_ok-put_links.ensures c.put_levels.ensures refl) is

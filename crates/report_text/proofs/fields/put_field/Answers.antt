@@ -20,7 +20,8 @@ returns-in-Integer g c =
     let n = c.in-Integer.n in
     let fits : SFits w128 n = search rules in
     let same : to_z w128 (of_z w128 n) ≡ n = to_z-of_z w128 n fits in
-    puts_same _ c.put_integer_field.ensures (ap (λ (f : Field). with_commas (field_texts f)) c.in-Integer.is ∙ (one_text (signed_decimal n) ∙ ap (λ (z : ℤ). 44 ∷ signed_decimal z) (sym same)))
+    puts_same _ c.put_integer_field.ensures (ap (λ (f : Field). with_commas (field_texts f)) c.in-Integer.is
+    ∙ (one_text (signed_decimal n) ∙ ap (λ (z : ℤ). 44 ∷ signed_decimal z) (sym same)))
 
 pub returns-in-Integers : goal.returns-in-Integers
 returns-in-Integers g c = puts_same _ c.put_integers.ensures (ap (λ (f : Field). with_commas (field_texts f)) c.in-Integers.is ∙ integer_texts _)

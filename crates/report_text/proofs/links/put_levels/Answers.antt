@@ -5,8 +5,10 @@ use Rattle.report_text.proofs.links.put_levels.Goals as goal
 
 pub returns-in_err-put_level : goal.returns-in_err-put_level
 returns-in_err-put_level g c =
-    loop_cut (level_line c.args.plan.now) c.args.levels.now c.loop-level.level-index _ _ (omega arith) c.level-item.is c.loop-level.invariant c.in_err-put_level.ensures c.from_residual.ensures.0
+    loop_cut (level_line c.args.plan.now) c.args.levels.now c.loop-level.level-index _ _ (omega arith) c.level-item.is
+    c.loop-level.invariant c.in_err-put_level.ensures c.from_residual.ensures.0
 
 pub loop-level-preserved : goal.loop-level-preserved
 loop-level-preserved g c =
-    loop_more (level_line c.args.plan.now) c.args.levels.now c.loop-level.level-index _ _ (omega arith) c.level-item.is c.loop-level.invariant c.in_ok-put_level.ensures
+    loop_more (level_line c.args.plan.now) c.args.levels.now c.loop-level.level-index _ _ (omega arith) c.level-item.is
+    c.loop-level.invariant c.in_ok-put_level.ensures

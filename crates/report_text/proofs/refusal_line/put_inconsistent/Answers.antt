@@ -8,7 +8,8 @@ use Rattle.report_text.proofs.refusal_line.put_inconsistent.Goals as goal
 
 pub returns : goal.returns
 returns g c =
-    let text : List ℕ → List ℤ → List ℕ → List ℕ = λ code numbers flow. line (codes "inconsistent" ∷ code ∷ c.args.class.now ∷ (map signed_decimal numbers ++ flow ∷ [])) in
+    let text : List ℕ → List ℤ → List ℕ → List ℕ = λ code numbers flow. line
+    (codes "inconsistent" ∷ code ∷ c.args.class.now ∷ (map signed_decimal numbers ++ flow ∷ [])) in
     let code = match_code c.args.fault.now.code in
     let numbers = c.args.fault.now.numbers in
     puts_same _ c.put_line.ensures (sym (

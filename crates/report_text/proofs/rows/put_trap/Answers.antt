@@ -17,4 +17,5 @@ returns g c =
     puts_same _ c.put_line.ensures (sym (
     ap (λ (t : List ℕ). text t c.params.result.now c.cause_text.result.now) name
     ∙ ap (λ (ns : List ℤ). text (class_name plan row.task.class) ns c.cause_text.result.now) c.params.ensures.same
-    ∙ ap (λ (t : List ℕ). text (class_name plan row.task.class) row.task.params t) (c.cause_text.ensures ∙ ap (λ (ws : List (List ℕ)). cause_text ws row.cause) words)))
+    ∙ ap (λ (t : List ℕ). text (class_name plan row.task.class) row.task.params t)
+    (c.cause_text.ensures ∙ ap (λ (ws : List (List ℕ)). cause_text ws row.cause) words)))

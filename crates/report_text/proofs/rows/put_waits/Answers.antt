@@ -5,7 +5,8 @@ use Rattle.report_text.proofs.rows.put_waits.Goals as goal
 
 pub returns-in_err-put_wait : goal.returns-in_err-put_wait
 returns-in_err-put_wait g c =
-    loop_cut (wait_line c.args.plan.now) c.args.rows.now c.loop-row.row-index _ _ (omega arith) c.row-item.is c.loop-row.invariant c.in_err-put_wait.ensures c.from_residual.ensures.0
+    loop_cut (wait_line c.args.plan.now) c.args.rows.now c.loop-row.row-index _ _ (omega arith) c.row-item.is
+    c.loop-row.invariant c.in_err-put_wait.ensures c.from_residual.ensures.0
 
 pub loop-row-preserved : goal.loop-row-preserved
 loop-row-preserved g c =

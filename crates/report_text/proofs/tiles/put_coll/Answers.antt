@@ -14,7 +14,9 @@ returns-in_err-put_tile g c =
     let is : tile ≡ get_or coll.tiles n tile = c.index-tiles-n.is ∙ ap (λ (ts : List (List ℤ)). get_or ts n tile) c.as_slice-tiles.ensures in
     let among : n < length coll.tiles = omega (arith, ap length c.as_slice-tiles.ensures) in
     let within : n < length (placed coll) = omega (arith, among, length_placed coll c.requires) in
-    loop_cut (λ (p : List ℕ × List ℤ). tile_line coll.name p.0 p.1) (placed coll) n item item within (placed_tile coll n tile c.requires among is) c.loop-n.invariant c.in_err-put_tile.ensures c.from_residual.ensures.0
+    loop_cut (λ (p : List ℕ × List ℤ). tile_line coll.name p.0 p.1) (placed coll) n item item within
+    (placed_tile coll n tile c.requires among is) c.loop-n.invariant c.in_err-put_tile.ensures
+    c.from_residual.ensures.0
 
 pub loop-n-preserved : goal.loop-n-preserved
 loop-n-preserved g c =
@@ -25,7 +27,8 @@ loop-n-preserved g c =
     let is : tile ≡ get_or coll.tiles n tile = c.index-tiles-n.is ∙ ap (λ (ts : List (List ℤ)). get_or ts n tile) c.as_slice-tiles.ensures in
     let among : n < length coll.tiles = omega (arith, ap length c.as_slice-tiles.ensures) in
     let within : n < length (placed coll) = omega (arith, among, length_placed coll c.requires) in
-    loop_more (λ (p : List ℕ × List ℤ). tile_line coll.name p.0 p.1) (placed coll) n item item within (placed_tile coll n tile c.requires among is) c.loop-n.invariant c.in_ok-put_tile.ensures
+    loop_more (λ (p : List ℕ × List ℤ). tile_line coll.name p.0 p.1) (placed coll) n item item within
+    (placed_tile coll n tile c.requires among is) c.loop-n.invariant c.in_ok-put_tile.ensures
 
 pub returns : goal.returns
 returns g c =

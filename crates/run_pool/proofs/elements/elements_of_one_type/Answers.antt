@@ -10,18 +10,22 @@ use Rattle.run_pool.proofs.elements.elements_of_one_type.Goals.{After-from}
 product : (c : After-from) → c.from.result * (c.data_edges.result + c.writes.result) ≡ sent_elements c.args.m.now
 product c =
     let P = c.args.m.now in
-    let here : slice_get P.elems 0 ≡ Some c.elements-elems.result = ap (λ (Q : Plan). slice_get Q.elems 0) (sym c.plan-plan.ensures.same) ∙ c.elements-elems.ensures.elements in
-    let are : sent_elements P ≡ c.elements-elems.result * (length (all_data P) + length (all_writes P)) = sent_are P c.elements-elems.result (only_one P.elems c.elements-elems.result c.requires here) in
+    let here : slice_get P.elems 0 ≡ Some c.elements-elems.result = ap (λ (Q : Plan). slice_get Q.elems 0)
+    (sym c.plan-plan.ensures.same) ∙ c.elements-elems.ensures.elements in
+    let are : sent_elements P ≡ c.elements-elems.result * (length (all_data P) + length (all_writes P)) = sent_are P
+    c.elements-elems.result (only_one P.elems c.elements-elems.result c.requires here) in
     rw (c.from.ensures, c.data_edges.ensures, c.writes.ensures) (sym are)
 
 pub overflow_add-sent : goal.overflow_add-sent
 overflow_add-sent c =
-    let k : c.data_edges.result + c.writes.result ≤ 8000000 = rw (c.data_edges.ensures, c.writes.ensures) (counts_at_most c.args.m.now c.plan-plan.ensures.consistent) in
+    let k : c.data_edges.result + c.writes.result ≤ 8000000 = rw (c.data_edges.ensures, c.writes.ensures)
+    (counts_at_most c.args.m.now c.plan-plan.ensures.consistent) in
     search (rules, k)
 
 pub overflow_mul-result : goal.overflow_mul-result
 overflow_mul-result c =
-    let k : c.from.result * (c.data_edges.result + c.writes.result) ≤ 32768000000 = subst (λ n. n ≤ 32768000000) (sym (product c)) (sent_at_most c.args.m.now c.plan-plan.ensures.consistent) in
+    let k : c.from.result * (c.data_edges.result + c.writes.result) ≤ 32768000000 = subst (λ n. n ≤ 32768000000)
+    (sym (product c)) (sent_at_most c.args.m.now c.plan-plan.ensures.consistent) in
     search (rules, k)
 
 pub returns : goal.returns

@@ -11,28 +11,33 @@ use Rattle.run_pool.proofs.elements.in_elements.Goals as goal
 
 pub loop-edge-init : goal.loop-edge-init
 loop-edge-init c =
-    let P = c.args.plan.now in
-    let all : c.into_iter-edge-iterator.result ≡ in_edges P c.args.t.now = c.into_iter-edge-iterator.ensures.into_iter_gives ∙ c.in_edges_under-edge-items.ensures in
+    let P = c.args.at.now.plan.now in
+    let all : c.into_iter-edge-iterator.result ≡ in_edges P c.args.at.now.task.now =
+    c.into_iter-edge-iterator.ensures.into_iter_gives ∙ c.in_edges-edge-items.ensures in
     record {
       can_next = search rules;
       is_finite = search rules;
       so_far = zero-add (weigh (carried_elements P) c.into_iter-edge-iterator.result) ∙ ap (weigh (carried_elements P)) all;
-      to = λ e i. in_edge_to P c.args.t.now e (subst (IsIn e) all i);
+      to = λ e i. in_edge_to P c.args.at.now.task.now e (subst (IsIn e) all i);
     }
 
 -- what this edge adds
-added : (c : goal.After-carried_elements-all) → c.loop-edge.all + c.carried_elements-all.result + weigh (carried_elements c.args.plan.now) c.next.new.self ≡ c.loop-edge.all + weigh (carried_elements c.args.plan.now) c.loop-edge.edge-iterator
+added : (c : goal.After-carried_elements-all) → c.loop-edge.all + c.carried_elements-all.result + weigh
+    (carried_elements c.args.at.now.plan.now) c.next.new.self ≡ c.loop-edge.all + weigh
+    (carried_elements c.args.at.now.plan.now) c.loop-edge.edge-iterator
 added c =
-    let P = c.args.plan.now in
+    let P = c.args.at.now.plan.now in
     let e = c.in-Some.edge in
     let step = c.in-Some.ensures.steps in
-    let to : e.to ≡ c.args.t.now = c.loop-edge.invariant.to e (subst (IsIn e) (sym step) (inl refl)) in
-    let here : c.carried_elements-all.result ≡ carried_elements P e = c.carried_elements-all.ensures ∙ ap (λ (u : Task). if is_data (kind_of P.classes u.class e.in_flow) then elements_of P (flow_of P.classes u.class e.in_flow) else 0) (sym to) in
+    let to : e.to ≡ c.args.at.now.task.now = c.loop-edge.invariant.to e (subst (IsIn e) (sym step) (inl refl)) in
+    let here : c.carried_elements-all.result ≡ carried_elements P e = c.carried_elements-all.ensures
+    ∙ ap (λ (u : Task). if is_data (kind_of P.classes u.class e.in_flow) then elements_of P
+    (flow_of P.classes u.class e.in_flow) else 0) (sym to) in
     let all = ap (weigh (carried_elements P)) step in
     omega (arith, here, all)
 
 pub overflow_add-all : goal.overflow_add-all
-overflow_add-all c = omega (arith, added c, c.loop-edge.invariant.so_far, c.requires.at_most)
+overflow_add-all c = omega (arith, added c, c.loop-edge.invariant.so_far, c.requires)
 
 pub loop-edge-preserved : goal.loop-edge-preserved
 loop-edge-preserved c = record {

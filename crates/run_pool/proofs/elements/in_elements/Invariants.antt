@@ -9,6 +9,6 @@ abbrev pub invariant-loop-edge : goal.invariant-loop-edge
 invariant-loop-edge l = record {
   can_next : (goal.iterator-loop-edge).can_next l.edge-iterator;
   is_finite : (goal.iterator-loop-edge).is_finite l.edge-iterator;
-  so_far : l.all + weigh (carried_elements l.plan) l.edge-iterator ≡ in_elements l.plan l.t;
-  to : (e : Edge) → IsIn e l.edge-iterator → e.to ≡ l.t;
+  so_far : l.all + weigh (carried_elements l.at.plan.now) l.edge-iterator ≡ in_elements l.at.plan.now l.at.task.now;
+  to : (e : Edge) → IsIn e l.edge-iterator → e.to ≡ l.at.task.now;
 }

@@ -10,6 +10,6 @@ abbrev pub invariant-loop-write : goal.invariant-loop-write
 invariant-loop-write l = record {
   can_next : (goal.iterator-loop-write).can_next l.write-iterator;
   is_finite : (goal.iterator-loop-write).is_finite l.write-iterator;
-  so_far : l.all + weigh (write_elements l.plan) l.write-iterator ≡ written_elements l.plan l.t;
-  from : (w : WriteBack) → IsIn w l.write-iterator → w.from ≡ l.t;
+  so_far : l.all + weigh (write_elements l.at.plan.now) l.write-iterator ≡ written_elements l.at.plan.now l.at.task.now;
+  from : (w : WriteBack) → IsIn w l.write-iterator → w.from ≡ l.at.task.now;
 }

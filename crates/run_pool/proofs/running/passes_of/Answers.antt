@@ -48,7 +48,14 @@ loop-desk-preserved c =
           ∙ (append_assoc passes (c.into_inner-pass.result.pass ∷ []) (map pass_on rest)
           ∙ (ap (λ p. passes ++ (p ∷ map pass_on rest)) on
           ∙ (ap (λ ds. passes ++ map pass_on ds) (sym steps) ∙ c.loop-desk.invariant.passes)));
-      room = omega (arith, ap length steps, ap length pushed ∙ length-append passes (c.into_inner-pass.result.pass ∷ []), c.push_reserved.ensures.capacity, c.loop-desk.invariant.room);
+      room = omega (
+        arith,
+        ap length steps,
+        ap length pushed
+            ∙ length-append passes (c.into_inner-pass.result.pass ∷ []),
+        c.push_reserved.ensures.capacity,
+        c.loop-desk.invariant.room,
+      );
       done = λ e i. elim (c.loop-desk.invariant.done e i) [
         | inl before ↦ inl before
         | inr later ↦ elim (subst (IsIn e) steps later) [ inl same ↦ inl (subst IsDone (sym same) answered) | inr further ↦ inr further ]

@@ -34,7 +34,8 @@ passes_of-requires-clause-answered g c =
 pub returns-in_err-passes-clause-preloaded : goal.returns-in_err-passes-clause-preloaded
 returns-in_err-passes-clause-preloaded g c = λ yes.
     let job = job_of c.prepared.inside.table in
-    let no : job.preloaded ≡ false = refused_unloaded c.prepared.inside.table job.matched job.given (g.G.Gate.lets c.args.gate.now) job.preloaded c.prepared.inside.desks.items
+    let no : job.preloaded ≡ false = refused_unloaded c.prepared.inside.table job.matched job.given
+    (g.G.Gate.lets c.args.gate.now) job.preloaded c.prepared.inside.desks.items
     c.team.new.desks.items c.team.ensures.count c.team.ensures.worked c.in_err-passes.ensures.refused in
     let same : job.preloaded ≡ c.args.prepared.job.preloaded = ap (λ (r : Run). r.job.preloaded) c.prepared.view_is in
     absurd (false≢true (sym no ∙ (same ∙ yes)))

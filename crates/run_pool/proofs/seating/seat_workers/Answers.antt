@@ -38,7 +38,8 @@ loop-hands-init c =
       fresh = λ d i. absurd (subst (IsIn d) empty i);
       numbered = λ d i. absurd (subst (IsIn d) empty i);
       below = λ h i. c.requires.numbered h (subst (IsIn h) (sym split) (IsIn-append_left h rest (own ∷ []) (subst (IsIn h) same i)));
-      all = subst (λ (w : PassRecord). AreAll (w ∷ map record_on c.new-desks.result.items)) (sym first) (subst (λ ds. AreAll (first_pass ∷ map record_on ds)) (sym empty) c.all_passes_stay_all.ensures.first);
+      all = subst (λ (w : PassRecord). AreAll (w ∷ map record_on c.new-desks.result.items)) (sym first)
+          (subst (λ ds. AreAll (first_pass ∷ map record_on ds)) (sym empty) c.all_passes_stay_all.ensures.first);
       count = omega (arith, ap length split ∙ length-append rest (own ∷ []), ap length same, ap length empty);
     }
 
@@ -54,7 +55,9 @@ loop-hands-preserved c =
     let off : shown c.split-pass.result ≡ split_off v = c.split-pass.ensures.records.1 in
     let on = c.in_ok-new_desk.ensures.pass in
     let pushed = c.in_ok-push.ensures.items in
-    let one = ready_desk table plan d c.split-pass.result on c.split-pass.ensures.new (ap (λ (w : PassRecord). w.running) off) (subst (λ (P : Plan). IsBenchOf P (padded_value d).bench) c.matched.ensures c.in_ok-new_desk.ensures.bench) in
+    let one = ready_desk table plan d c.split-pass.result on c.split-pass.ensures.new
+    (ap (λ (w : PassRecord). w.running) off) (subst (λ (P : Plan). IsBenchOf P (padded_value d).bench)
+    c.matched.ensures c.in_ok-new_desk.ensures.bench) in
     let both = c.all_passes_stay_all.ensures.split v (map record_on ds) c.loop-hands.invariant.pass.clean.one_name c.loop-hands.invariant.all in
     let steps = ap length c.in-Some.ensures.steps.0 in
     let longer = ap length pushed ∙ length-append ds (d ∷ []) in
@@ -77,7 +80,9 @@ loop-hands-preserved c =
       }) pushed;
       numbered = each_more (IsNumbered workers) ds d es c.loop-hands.invariant.numbered number pushed;
       below = λ h i. c.loop-hands.invariant.below h (subst (IsIn h) (sym c.in-Some.ensures.steps.0) (inr i));
-      all = subst (λ (w : PassRecord). AreAll (w ∷ map record_on es)) (sym now) (all_more c.all_passes_stay_all.ensures.order (after_split v) (split_off v) ds d es both (ap shown on ∙ off) pushed);
+      all = subst (λ (w : PassRecord). AreAll (w ∷ map record_on es)) (sym now)
+          (all_more c.all_passes_stay_all.ensures.order (after_split v) (split_off v) ds d es both (ap shown on ∙ off)
+          pushed);
       count = omega (arith, steps, longer, c.loop-hands.invariant.count);
     }
 
@@ -95,8 +100,17 @@ returns-clause-seated c =
     let split = c.pop.ensures.items ∙ ap (λ o. c.pop.new.self.items ++ option_to_list o) c.unwrap-own.ensures in
     let last = subst (IsIn own) (sym split) (IsIn-append_right own c.pop.new.self.items (own ∷ []) (inl refl)) in
     let number = subst (λ (h : Account). h.number < workers) (sym c.in_ok-new_desk-2.ensures.hands) (c.requires.numbered own last) in
-    let count : length es ≡ workers = omega (arith, ap length pushed ∙ length-append ds (d ∷ []), c.in-None.ensures.steps.0, c.loop-hands.hands-iterator.rest.ok.0, c.loop-hands.invariant.count) in
-    let one = ready_desk table plan d c.loop-hands.first on c.loop-hands.invariant.pass c.loop-hands.invariant.idle (subst (λ (P : Plan). IsBenchOf P (padded_value d).bench) c.matched-2.ensures c.in_ok-new_desk-2.ensures.bench) in
+    let count : length es ≡ workers = omega (
+      arith,
+      ap length pushed
+          ∙ length-append ds (d ∷ []),
+      c.in-None.ensures.steps.0,
+      c.loop-hands.hands-iterator.rest.ok.0,
+      c.loop-hands.invariant.count,
+    ) in
+    let one = ready_desk table plan d c.loop-hands.first on c.loop-hands.invariant.pass c.loop-hands.invariant.idle
+    (subst (λ (P : Plan). IsBenchOf P (padded_value d).bench) c.matched-2.ensures c.in_ok-new_desk-2.ensures.bench)
+    in
     record {
       ready = ready_more table plan ds d es c.loop-hands.invariant.ready one pushed;
       fresh = each_more IsFresh ds d es c.loop-hands.invariant.fresh (record {
@@ -104,6 +118,7 @@ returns-clause-seated c =
         no_stamp = ap (λ (q : PassView). (shown q).stamps) on ∙ c.loop-hands.invariant.unused;
         no_log = c.in_ok-new_desk-2.ensures.log;
       }) pushed;
-      numbered = λ x i. subst (λ (n : ℕ). IsNumbered n x) (sym count) (each_more (IsNumbered workers) ds d es c.loop-hands.invariant.numbered number pushed x i);
+      numbered = λ x i. subst (λ (n : ℕ). IsNumbered n x) (sym count)
+          (each_more (IsNumbered workers) ds d es c.loop-hands.invariant.numbered number pushed x i);
       all = all_seated c.all_passes_stay_all.ensures.order (shown c.loop-hands.first) ds d es c.loop-hands.invariant.all (ap shown on) pushed;
     }

@@ -78,7 +78,9 @@ returns-clause-trace g c =
     let ds = c.prepared.inside.desks.items in
     let es = c.team.new.desks.items in
     let l = logs_are ds es c.team.ensures.count (c.team.ensures.logged refl) c.prepared.invariant.0.fresh in
-    let sorted : AreInStampOrder (joined_stamps (map record_on es)) c.in_ok-tasks.tasks.items = c.in_ok-tasks.ensures (joined_stamps (map record_on es)) (c.in_ok-log.ensures ∙ (ap (flat_map log_on) c.as_slice.ensures.value ∙ l)) in
+    let sorted : AreInStampOrder (joined_stamps (map record_on es)) c.in_ok-tasks.tasks.items = c.in_ok-tasks.ensures
+    (joined_stamps (map record_on es)) (c.in_ok-log.ensures ∙ (ap (flat_map log_on) c.as_slice.ensures.value ∙ l))
+    in
     trace_of (job_of c.prepared.inside.table) c.close.result _ es c.in_ok-tasks.tasks.items c.close.ensures.job
     c.in_ok-passes.ensures.passes c.close.ensures.records c.close.ensures.order sorted
 

@@ -10,14 +10,16 @@ use Rattle.shard_answer.proofs.answer.final_data.Goals as goal
 
 pub with_written-given-requires : goal.with_written-given-requires
 with_written-given-requires c =
-    subst (All (IsWritable c.loop-shard.given)) (sym c.into_parts.ensures.written) (c.loop-shard.invariant.writable c.in-Some.shard (in_last _ _ c.in-Some.shard c.in-Some.ensures.items))
+    subst (All (IsWritable c.loop-shard.given)) (sym c.into_parts.ensures.written)
+    (c.loop-shard.invariant.writable c.in-Some.shard (in_last _ _ c.in-Some.shard c.in-Some.ensures.items))
 
 pub loop-shard-preserved : goal.loop-shard-preserved
 loop-shard-preserved c = record {
   writable = λ y i. still_writable c.into_parts.result.written.items y.written c.loop-shard.given c.with_written-given.result c.with_written-given.ensures
       (c.loop-shard.invariant.writable y (in_front _ _ c.in-Some.shard y c.in-Some.ensures.items i));
   same =
-      one_shard c.loop-shard.shards.items c.pop.new.self.items c.in-Some.shard c.into_parts.result.written.items c.loop-shard.given c.with_written-given.result c.in-Some.ensures.items c.into_parts.ensures.written
+      one_shard c.loop-shard.shards.items c.pop.new.self.items c.in-Some.shard c.into_parts.result.written.items
+      c.loop-shard.given c.with_written-given.result c.in-Some.ensures.items c.into_parts.ensures.written
       c.with_written-given.ensures
       ∙ c.loop-shard.invariant.same;
 }

@@ -14,5 +14,7 @@ returns-in_err-push_traps-clause-succeeds c room =
 
 pub traps_in_task_order-requires : goal.traps_in_task_order-requires
 traps_in_task_order-requires c =
-    let are : c.push_traps.new.rows.items ≡ all_traps c.args.shards.now = c.in_ok-push_traps.ensures.ok ∙ ap (λ l. l ++ all_traps c.args.shards.now) c.requires.empty.0 in
-    subst (AreOfDifferentTasks (λ (r : TrapRow). r.task)) (sym are) (rows_differ c.args.m.now c.args.given.now c.plan_is_consistent.ensures c.args.shards.now c.requires.end)
+    let are : c.push_traps.new.rows.items ≡ all_traps c.args.shards.now = c.in_ok-push_traps.ensures.ok
+    ∙ ap (λ l. l ++ all_traps c.args.shards.now) c.requires.empty.0 in
+    subst (AreOfDifferentTasks (λ (r : TrapRow). r.task)) (sym are)
+    (rows_differ c.args.m.now c.args.given.now c.plan_is_consistent.ensures c.args.shards.now c.requires.end)

@@ -13,8 +13,10 @@ loop-index-preserved c =
       | in-Some+in_ok-push w ↦
           record {
             rows = ap (λ v. v.items) w.rows-is
-                ∙ pushed_row wait_row es c.loop-index.index (w.in-Some.task.now, w.in-Some.entry.now) c.args.rows.now.items c.loop-index.rows.items w.push.new.self.items _ (sym w.in-Some.ensures.value)
-                (λ i. record { task = w.copy.ensures i; arrived = w.arrived.ensures i; goal = w.goal.ensures i }) c.loop-index.invariant.rows w.in_ok-push.ensures.items;
+                ∙ pushed_row wait_row es c.loop-index.index (w.in-Some.task.now, w.in-Some.entry.now)
+                c.args.rows.now.items c.loop-index.rows.items w.push.new.self.items _ (sym w.in-Some.ensures.value)
+                (λ i. record { task = w.copy.ensures i; arrived = w.arrived.ensures i; goal = w.goal.ensures i })
+                c.loop-index.invariant.rows w.in_ok-push.ensures.items;
             len = omega (arith, ap (λ v. v.len) w.rows-is, w.in_ok-push.ensures.len, c.loop-index.invariant.len);
             capacity = omega (arith, ap (λ v. v.cap) w.rows-is, w.push.ensures.capacity, c.loop-index.invariant.capacity);
           }

@@ -13,5 +13,6 @@ returns-in-Some-clause-ok c =
     let found = c.in-Some.ensures.some in
     let is = sym (ap (λ o. unwrap_or o (fresh (goal_of c.args.m.now t) (priority c.args.m.now t))) found.is) in
     on_ok_weaker c.arrive_at.result
-    (λ here. subst (λ (e : Entry). Updates c.args.shard.now.entries c.arrive_at.new.self.entries t (Some (with_arrival e c.args.edge.now.in_flow (option_copied c.args.tile)))) is (here t found.entry found.at))
+    (λ here. subst (λ (e : Entry). Updates c.args.shard.now.entries c.arrive_at.new.self.entries t
+    (Some (with_arrival e c.args.edge.now.in_flow (option_copied c.args.tile)))) is (here t found.entry found.at))
     c.arrive_at.ensures.ok

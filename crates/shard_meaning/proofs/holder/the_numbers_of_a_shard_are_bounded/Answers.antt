@@ -7,5 +7,9 @@ returns c = record {
   at_most = λ P G of k R y con sound h. numbers_at_most P G of k R y h con sound;
   entry = λ P G of k R y t e con sound h is. numbers_with_entry P G of k R y h con sound t e is;
   unclaimed = λ P G of k R y t con sound h job free. numbers_below P G of k R y h con sound t job free;
-  running = λ P G of k R y t con sound h at runs. (some_runs P G of k R y h t at runs, omega (arith, numbers_at_most P G of k R y h con sound, some_runs P G of k R y h t at runs));
+  running = λ P G of k R y t con sound h at runs. (
+    some_runs P G of k R y h t at runs,
+    omega
+        (arith, numbers_at_most P G of k R y h con sound, some_runs P G of k R y h t at runs),
+  );
 }

@@ -11,5 +11,7 @@ returns c = record {
   write = λ P G of k R w y con sound may at h. spare-write P G con of k R sound w may at y h;
   write_tile = λ P G of k R w y d con sound may at h type. spare-write_tile P G con of k R sound w may at y d h type;
   trap = λ P G of k R t y sound runs at h.
-      spare-trap P of k R t (sound.state.claimed_have_all t (claim_member R.state t (omega (arith, runs, sound.claimed t)))).task at (omega (arith, runs, sound.claimed t)) (omega (arith, runs, sound.claimed t, sound.state.claimed_once t)) y h;
+      spare-trap P of k R t (sound.state.claimed_have_all t (claim_member R.state t
+      (omega (arith, runs, sound.claimed t)))).task at (omega (arith, runs, sound.claimed t))
+      (omega (arith, runs, sound.claimed t, sound.state.claimed_once t)) y h;
 }

@@ -13,7 +13,8 @@ use Rattle.trace_core.proofs.numbers.read_number.Goals as goal
 is_text : (bs : List ℕ) (z : ℤ) → is_number z ≡ true → bs ≡ signed_decimal z → IsUtf8 bs
 is_text bs z fits is = IsUtf8-from_ascii bs (subst IsAscii (sym is) (IsAscii-signed z (fits_mag z fits)))
 
-read_is : {E : Type 0} (r : Result ℤ E) (text bs : List ℕ) (z : ℤ) → is_number z ≡ true → bs ≡ signed_decimal z → text ≡ bs → ParsesSigned w64 10 text r → r ≡ Ok z
+read_is : {E : Type 0} (r : Result ℤ E) (text bs : List ℕ) (z : ℤ) → is_number z ≡ true → bs ≡ signed_decimal z
+    → text ≡ bs → ParsesSigned w64 10 text r → r ≡ Ok z
 read_is r text bs z fits is same parses = parse-signed_decimal w64 z text r (fits_signed z fits) (fits_mag z fits) (same ∙ is) parses
 
 same_value : {E : Type 0} (r : Result ℤ E) (n z : ℤ) → is_number z ≡ true → r ≡ Ok n → r ≡ Ok z → to_z w64 (of_z w64 n) ≡ z

@@ -15,14 +15,16 @@ rows-preserved c =
     let i = c.rows.invariant in
     let r = c.in-Some-next_row.ensures in (
       i.0 ++ r.entry ∷ [],
-      begin_more c.args.text.now c.in-Some.rows i.0 c.rows.left.now c.in-Some-next_row.field-0-0.name.now c.in-Some-next_row.field-0-0.numbers.now c.in-Some-next_row.later.now i.1 r,
+      begin_more c.args.text.now c.in-Some.rows i.0 c.rows.left.now c.in-Some-next_row.field-0-0.name.now
+          c.in-Some-next_row.field-0-0.numbers.now c.in-Some-next_row.later.now i.1 r,
       length_push i.0 r.entry ∙ ap (λ l. l + 1) i.2,
     )
 
 pub returns-then-is_empty-clause-ok : goal.returns-then-is_empty-clause-ok
 returns-then-is_empty-clause-ok c =
     let i = c.rows.invariant in
-    ended_rows c.args.text.now c.in-Some.rows i.0 c.in-Some.first.now c.rows.left.now c.in-Some.ensures.1 i.1 (omega arith) (sym c.is_empty.ensures ∙ c.if-is_empty.true)
+    ended_rows c.args.text.now c.in-Some.rows i.0 c.in-Some.first.now c.rows.left.now c.in-Some.ensures.1 i.1
+    (omega arith) (sym c.is_empty.ensures ∙ c.if-is_empty.true)
 
 pub returns-else-is_empty-clause-err : goal.returns-else-is_empty-clause-err
 returns-else-is_empty-clause-err c =

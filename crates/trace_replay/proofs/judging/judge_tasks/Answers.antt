@@ -13,7 +13,8 @@ returns-in-Some c = λ es read.
 pub returns-in-Some-fault : goal.returns-in-Some-fault
 returns-in-Some-fault c = λ es read.
     let all = ran_all c.args.m.now c.args.given c.args.tasks.now c.in_ok-world.world c.in_ok-world.early c.in_ok-world.ensures c.in_default.is in
-    read_fault c.args.m.now c.args.given es c.args.tasks.now c.requires.tasks c.requires.once c.args.fault read all.may_run c.in-Some-fault.fault c.in-Some-fault.is
+    read_fault c.args.m.now c.args.given es c.args.tasks.now c.requires.tasks c.requires.once c.args.fault read
+    all.may_run c.in-Some-fault.fault c.in-Some-fault.is
 
 pub judge_end-requires : goal.judge_end-requires
 judge_end-requires c =
@@ -24,5 +25,7 @@ pub returns : goal.returns
 returns c = λ es read.
     let all = ran_all c.args.m.now c.args.given c.args.tasks.now c.in_ok-world.world c.in_ok-world.early c.in_ok-world.ensures c.in_default.is in
     let unfinished : TraceFault = record { row = length c.args.tasks.now + 2; code = Unfinished } in
-    at_end c.args.m.now c.args.given es c.args.tasks.now c.requires.tasks c.requires.once c.args.fault read c.plan_is_consistent.ensures c.in_ok-world.world.state.machine.claims all.claims all.may_run c.in_default-fault.is unfinished refl c.in_ok-verdict.verdict
+    at_end c.args.m.now c.args.given es c.args.tasks.now c.requires.tasks c.requires.once c.args.fault read
+    c.plan_is_consistent.ensures c.in_ok-world.world.state.machine.claims all.claims all.may_run
+    c.in_default-fault.is unfinished refl c.in_ok-verdict.verdict
     (subst (λ g. IsEndOf c.args.m.now g c.in_ok-world.world.state.machine.claims unfinished c.in_ok-verdict.verdict) all.world.given c.in_ok-verdict.ensures)

@@ -3,4 +3,9 @@ use Rattle.work_board.specs.Records.{IsStill}
 use Rattle.worker_core.proofs.next.next_task.Given as goal
 
 abbrev pub invariant-loop : goal.invariant-loop
-invariant-loop g l = record { pass : g.B.Board.is_pass l.post.board.now l.pass; still : IsStill (g.B.Board.shown l.fn.pass) (g.B.Board.shown l.pass); hands : SameWorker l.fn.hands l.hands }
+invariant-loop g l = record {
+  pass : g.B.Board.is_pass l.post.board.now l.pass;
+  still : IsStill
+      (g.B.Board.shown l.fn.pass) (g.B.Board.shown l.pass);
+  hands : SameWorker l.fn.hands l.hands;
+}

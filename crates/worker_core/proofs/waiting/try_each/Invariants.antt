@@ -11,7 +11,8 @@ invariant-loop-index g l = record {
   hands : SameWorker l.initial.hands l.hands;
   shards : AreOfTheirShards (g.B.Board.placement l.context.board.now) l.waiting.items;
   sent : HasSentFrom (g.B.Board.plan l.context.board.now) (g.B.Board.job_data l.context.board.now)
-      (items_of l.initial.waiting.items) (items_of l.waiting.items) (g.B.Board.shown l.initial.pass) (g.B.Board.shown l.pass);
+      (items_of l.initial.waiting.items) (items_of l.waiting.items) (g.B.Board.shown l.initial.pass)
+      (g.B.Board.shown l.pass);
 }
 
 abbrev pub decreases-loop-index : goal.decreases-loop-index

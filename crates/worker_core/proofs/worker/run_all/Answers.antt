@@ -11,7 +11,9 @@ loop-ran-init g c =
       pass = c.requires.pass;
       hands = (refl, refl);
       bench = c.requires.bench;
-      worked = nothing_done P G (g.B.Board.placement c.args.post.now.board.now) (g.G.Gate.lets c.args.post.now.gate.now c.args.post.now.worker) g.L.Log.keeps (g.B.Board.shown c.args.pass.now) (g.L.Log.entries c.args.log.now) c.requires.idle;
+      worked = nothing_done P G (g.B.Board.placement c.args.post.now.board.now)
+          (g.G.Gate.lets c.args.post.now.gate.now c.args.post.now.worker) g.L.Log.keeps
+          (g.B.Board.shown c.args.pass.now) (g.L.Log.entries c.args.log.now) c.requires.idle;
     }
 
 pub loop-ran-preserved : goal.loop-ran-preserved
@@ -28,12 +30,20 @@ loop-ran-preserved g c =
     let mid = g.L.Log.entries c.loop-ran.log in
     let new = g.L.Log.entries c.claim_next.new.log in
     let got : HasGotLogged P G of keeps c.claim_next.new.found w x mid new =
-    subst (λ b. GotLoggedOrQuiet P G of keeps b c.claim_next.new.found w x mid new) c.if-got.true c.in_ok-got.ensures.found in
+    subst (λ b. GotLoggedOrQuiet P G of keeps b c.claim_next.new.found w x mid new) c.if-got.true
+    c.in_ok-got.ensures.found in
     record {
       pass = c.in_ok-run_found.ensures.pass;
-      hands = (c.in_ok-run_found.ensures.hands.0 ∙ c.in_ok-got.ensures.hands.0 ∙ c.loop-ran.invariant.hands.0, c.in_ok-run_found.ensures.hands.1 ∙ c.in_ok-got.ensures.hands.1 ∙ c.loop-ran.invariant.hands.1);
+      hands = (
+        c.in_ok-run_found.ensures.hands.0 ∙ c.in_ok-got.ensures.hands.0
+            ∙ c.loop-ran.invariant.hands.0,
+        c.in_ok-run_found.ensures.hands.1 ∙ c.in_ok-got.ensures.hands.1
+            ∙ c.loop-ran.invariant.hands.1,
+      );
       bench = c.in_ok-run_found.ensures.bench;
-      worked = one_task_more P G of (g.G.Gate.lets c.args.post.now.gate.now c.args.post.now.worker) keeps c.loop-ran.ran c.claim_next.new.found v w x y old mid new c.loop-ran.invariant.worked got c.in_ok-run_found.ensures.some c.in_ok-run_found.ensures.run c.in_ok-run_found.ensures.gate;
+      worked = one_task_more P G of (g.G.Gate.lets c.args.post.now.gate.now c.args.post.now.worker) keeps c.loop-ran.ran
+          c.claim_next.new.found v w x y old mid new c.loop-ran.invariant.worked got c.in_ok-run_found.ensures.some
+          c.in_ok-run_found.ensures.run c.in_ok-run_found.ensures.gate;
     }
 
 pub returns-in_err-run_found-clause-logged : goal.returns-in_err-run_found-clause-logged
@@ -50,5 +60,7 @@ returns-in_err-run_found-clause-logged g c =
     let mid = g.L.Log.entries c.loop-ran.log in
     let new = g.L.Log.entries c.claim_next.new.log in
     let got : HasGotLogged P G of keeps c.claim_next.new.found w x mid new =
-    subst (λ b. GotLoggedOrQuiet P G of keeps b c.claim_next.new.found w x mid new) c.if-got.true c.in_ok-got.ensures.found in
-    logged_claims P G of (g.G.Gate.lets c.args.post.now.gate.now c.args.post.now.worker) keeps c.loop-ran.ran c.claim_next.new.found v w x y old mid new c.loop-ran.invariant.worked got c.run_found.ensures.some
+    subst (λ b. GotLoggedOrQuiet P G of keeps b c.claim_next.new.found w x mid new) c.if-got.true
+    c.in_ok-got.ensures.found in
+    logged_claims P G of (g.G.Gate.lets c.args.post.now.gate.now c.args.post.now.worker) keeps c.loop-ran.ran
+    c.claim_next.new.found v w x y old mid new c.loop-ran.invariant.worked got c.run_found.ensures.some

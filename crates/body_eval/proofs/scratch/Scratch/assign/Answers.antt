@@ -8,4 +8,5 @@ pub returns-then-number-self-clause-slots : goal.returns-then-number-self-clause
 returns-then-number-self-clause-slots c =
     let f : FitsSigned w64 c.args.v = c.ranges.v in
     let slots : take c.self.inside.used c.self.inside.slots ≡ c.args.self.now.slots = ap (λ (frame : Frame). frame.slots) c.self.view_is in
-    simp to_z-of_z (take-set-lt c.self.inside.used c.self.inside.slots c.args.number c.args.v c.if-number-self.true ∙ ap (λ s. slice_set s c.args.number c.args.v) slots)
+    simp to_z-of_z (take-set-lt c.self.inside.used c.self.inside.slots c.args.number c.args.v c.if-number-self.true
+    ∙ ap (λ s. slice_set s c.args.number c.args.v) slots)

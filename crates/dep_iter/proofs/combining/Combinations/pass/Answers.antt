@@ -8,7 +8,8 @@ invariant_of-self c =
     let s = c.self.inside in
     let i = c.self.invariant c.if-self.true in
     let each = rw c.as_slice.ensures.value at c.advance-self-inside.ensures.each in
-    let same : length c.advance-self-inside.new.at ≡ length s.at = sym (length_each s.spans.items c.advance-self-inside.new.at each) ∙ length_each s.spans.items s.at i.1 in
+    let same : length c.advance-self-inside.new.at ≡ length s.at = sym
+    (length_each s.spans.items c.advance-self-inside.new.at each) ∙ length_each s.spans.items s.at i.1 in
     let m = i.0 in
     λ e. (omega (arith, same, m), each, i.2)
 

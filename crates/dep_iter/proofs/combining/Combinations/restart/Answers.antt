@@ -7,7 +7,9 @@ use Rattle.dep_iter.proofs.Odometer.{all_added, length_each, product-first, HasO
 use Rattle.dep_iter.proofs.combining.Combinations.restart.Goals as goal
 use Rattle.dep_iter.proofs.combining.Combinations.restart.Goals.{After-push_first}
 
-added : (c : After-push_first) → (map steps_values c.push_spans-self-inside.new.spans.items ≡ map (λ a. result_unwrap_or (arg_values a c.args.env.now) []) c.args.args.now) × AllByRecursion HasFirst c.push_spans-self-inside.new.spans.items
+added : (c : After-push_first) → (map steps_values c.push_spans-self-inside.new.spans.items
+    ≡ map (λ a. result_unwrap_or (arg_values a c.args.env.now) []) c.args.args.now)
+    × AllByRecursion HasFirst c.push_spans-self-inside.new.spans.items
 added c =
     let found = rw (c.if-self.true, c.clear.ensures) at c.push_spans-self-inside.ensures.found in
     all_added (map (λ a. result_unwrap_or (arg_values a c.args.env.now) []) c.args.args.now) c.push_spans-self-inside.new.spans.items found
@@ -27,4 +29,5 @@ pub returns-then-self : goal.returns-then-self
 returns-then-self c =
     let a = added c in
     let ss = c.push_spans-self-inside.new.spans.items in
-    ap (λ b. combinations_left b ss c.push_first.new.values) c.if-self.true ∙ ap (combinations_left true ss) (values c) ∙ sym (product-first ss a.1) ∙ ap product a.0
+    ap (λ b. combinations_left b ss c.push_first.new.values) c.if-self.true ∙ ap (combinations_left true ss) (values c)
+    ∙ sym (product-first ss a.1) ∙ ap product a.0

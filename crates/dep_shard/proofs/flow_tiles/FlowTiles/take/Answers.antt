@@ -12,4 +12,5 @@ returns-clause-tile c =
 
 pub returns-clause-rest : goal.returns-clause-rest
 returns-clause-rest c =
-    tiles_by_flow-clear 0 c.self.inside.tiles c.args.flow _ c.args.flow c.take.ensures.after (omega arith) (search rules) ∙ ap (without_tile c.args.flow) c.self.view_is
+    tiles_by_flow-clear 0 c.self.inside.tiles c.args.flow _ c.args.flow c.take.ensures.after (omega arith)
+    (search rules) ∙ ap (without_tile c.args.flow) c.self.view_is

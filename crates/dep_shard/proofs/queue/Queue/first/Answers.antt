@@ -15,5 +15,6 @@ pub returns-clause-some : goal.returns-clause-some
 returns-clause-some c =
     let es = c.args.table.now.entries in
     let live = live_front es c.in_ok-best.best.now (heap_items c.drop_stale.new.heap) c.drop_stale.ensures.front c.in_ok-best.ensures.lookup (search rules) in
-    let best = best_from es c.in_ok-best.best.now (heap_items c.drop_stale.new.heap) c.drop_stale.ensures.ready (c.in_ok-best.ensures.greatest c.drop_stale.ensures.heap) live in
+    let best = best_from es c.in_ok-best.best.now (heap_items c.drop_stale.new.heap) c.drop_stale.ensures.ready
+    (c.in_ok-best.ensures.greatest c.drop_stale.ensures.heap) live in
     subst (λ (t : Task). IsBest es t) (sym c.copy.ensures) best

@@ -12,10 +12,12 @@ invariant_of-self c =
     let e : Entry = c.pair_mut-entry.result.1.now in
     let f : Entry = c.add.new.self in
     let at : slice_get es c.args.index ≡ Some (t, e) = c.pair_mut-entry.ensures.value in
-    let asked : slice_get es c.args.index ≡ Some (c.requires.waits.task, c.requires.waits.entry) = ap (λ (y : Content). slice_get y.entries c.args.index) c.self.view_is ∙ c.requires.waits.at in
+    let asked : slice_get es c.args.index ≡ Some (c.requires.waits.task, c.requires.waits.entry) = ap
+    (λ (y : Content). slice_get y.entries c.args.index) c.self.view_is ∙ c.requires.waits.at in
     let waits : IsWaiting e = subst IsWaiting ((one_row es c.args.index _ _ _ _ asked at).1) c.requires.waits.waits in
     let up = updates_at es c.args.index t e f c.pair_mut-entry.ensures.distinct at in
-    lands es (set_value_at es c.args.index f) c.args.index t e f c.self.inside.queue _ c.self.invariant at refl up waits (omega (arith, c.if-arrived-goal.true, c.arrived.ensures, c.goal.ensures))
+    lands es (set_value_at es c.args.index f) c.args.index t e f c.self.inside.queue _ c.self.invariant at refl up waits
+    (omega (arith, c.if-arrived-goal.true, c.arrived.ensures, c.goal.ensures))
 
 pub returns-then-arrived-goal-clause-entries : goal.returns-then-arrived-goal-clause-entries
 returns-then-arrived-goal-clause-entries c =
@@ -38,7 +40,8 @@ returns-clause-entries c =
 pub overflow_sub-self : goal.overflow_sub-self
 overflow_sub-self c =
     let es = c.self.inside.table.entries in
-    let asked : slice_get es c.args.index ≡ Some (c.requires.waits.task, c.requires.waits.entry) = ap (λ (y : Content). slice_get y.entries c.args.index) c.self.view_is ∙ c.requires.waits.at in
+    let asked : slice_get es c.args.index ≡ Some (c.requires.waits.task, c.requires.waits.entry) = ap
+    (λ (y : Content). slice_get y.entries c.args.index) c.self.view_is ∙ c.requires.waits.at in
     some_wait es c.args.index c.requires.waits.task c.requires.waits.entry c.self.inside.queue _ c.self.invariant asked c.requires.waits.waits
 
 pub invariant_of-self-2 : goal.invariant_of-self-2
@@ -48,10 +51,21 @@ invariant_of-self-2 c =
     let e : Entry = c.pair_mut-entry.result.1.now in
     let f : Entry = c.add.new.self in
     let at : slice_get es c.args.index ≡ Some (t, e) = c.pair_mut-entry.ensures.value in
-    let asked : slice_get es c.args.index ≡ Some (c.requires.waits.task, c.requires.waits.entry) = ap (λ (y : Content). slice_get y.entries c.args.index) c.self.view_is ∙ c.requires.waits.at in
-    let positive : 0 < c.self.inside.waiting = some_wait es c.args.index c.requires.waits.task c.requires.waits.entry c.self.inside.queue _ c.self.invariant asked c.requires.waits.waits in
+    let asked : slice_get es c.args.index ≡ Some (c.requires.waits.task, c.requires.waits.entry) = ap
+    (λ (y : Content). slice_get y.entries c.args.index) c.self.view_is ∙ c.requires.waits.at in
+    let positive : 0 < c.self.inside.waiting = some_wait es c.args.index c.requires.waits.task c.requires.waits.entry
+    c.self.inside.queue _ c.self.invariant asked c.requires.waits.waits in
     let waits : IsWaiting e = subst IsWaiting ((one_row es c.args.index _ _ _ _ asked at).1) c.requires.waits.waits in
     let up = updates_at es c.args.index t e f c.pair_mut-entry.ensures.distinct at in
-    let ready : IsReady f = omega (arith, ap (λ (x : Entry). x.arrived) c.add.ensures, ap (λ (x : Entry). x.goal) c.add.ensures, waits, c.if-arrived-goal.false, c.arrived.ensures, c.goal.ensures) in
+    let ready : IsReady f = omega (
+      arith,
+      ap (λ (x : Entry). x.arrived) c.add.ensures,
+      ap (λ (x : Entry). x.goal)
+          c.add.ensures,
+      waits,
+      c.if-arrived-goal.false,
+      c.arrived.ensures,
+      c.goal.ensures,
+    ) in
     fires es (set_value_at es c.args.index f) c.args.index t e f c.self.inside.queue c.add-2.new.self _ _
     c.self.invariant at refl up waits ready (search rules) (omega (arith, positive))

@@ -5,10 +5,14 @@ use Rattle.dep_shard.proofs.stock.Stock.copy_of.Goals as goal
 use Rattle.std.proofs.lemmas.Result.{on_err_weaker}
 
 pub returns-clause-elems : goal.returns-clause-elems
-returns-clause-elems c = elems_stay c.self.inside.types.items c.args.datatype _ _ c.index_mut-stock.ensures.value c.copy_of.ensures.elems ∙ ap (λ (a : AllTiles). a.elems) c.self.view_is
+returns-clause-elems c = elems_stay c.self.inside.types.items c.args.datatype _ _ c.index_mut-stock.ensures.value
+    c.copy_of.ensures.elems ∙ ap (λ (a : AllTiles). a.elems) c.self.view_is
 
 pub returns-clause-spare : goal.returns-clause-spare
-returns-clause-spare c = uses_one c.self.inside.types.items _ c.args.datatype c.copy_of.new.self _ (ap (λ (a : AllTiles). a.spare) c.self.view_is) c.index_mut-stock.ensures.value c.copy_of.ensures.spare
+returns-clause-spare c = uses_one c.self.inside.types.items _ c.args.datatype c.copy_of.new.self _
+    (ap (λ (a : AllTiles). a.spare) c.self.view_is) c.index_mut-stock.ensures.value c.copy_of.ensures.spare
 
 pub returns-clause-err : goal.returns-clause-err
-returns-clause-err c = on_err_weaker c.copy_of.result (λ less. uses_none c.self.inside.types.items _ c.args.datatype c.copy_of.new.self _ (ap (λ (a : AllTiles). a.spare) c.self.view_is) c.index_mut-stock.ensures.value less) c.copy_of.ensures.err
+returns-clause-err c = on_err_weaker c.copy_of.result (λ less. uses_none c.self.inside.types.items _ c.args.datatype
+    c.copy_of.new.self _ (ap (λ (a : AllTiles). a.spare) c.self.view_is) c.index_mut-stock.ensures.value less)
+    c.copy_of.ensures.err

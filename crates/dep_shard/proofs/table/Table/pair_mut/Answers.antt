@@ -14,7 +14,11 @@ returns c =
       (
         refl,
         λ w.
-            let at_len : ℕ → TableContent = λ len. record { entries = set_value_at t.used.entries i w; spare = spare_of len (spare t.used) (spare t.reserved) } in
+            let at_len : ℕ → TableContent = λ len. record {
+              entries = set_value_at t.used.entries i w;
+              spare = spare_of
+                  len (spare t.used) (spare t.reserved);
+            } in
             ap at_len (index_map_len-with_value_at t.used i w) ∙ ap (λ (v : TableContent). with_entry_at v i w) c.self.view_is,
       ),
       record {

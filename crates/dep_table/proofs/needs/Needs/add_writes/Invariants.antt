@@ -8,6 +8,6 @@ abbrev pub invariant-loop-write : goal.invariant-loop-write
 invariant-loop-write l = record {
   can_next : (goal.iterator-loop-write).can_next l.write-iterator;
   is_finite : (goal.iterator-loop-write).is_finite l.write-iterator;
-  from : (w : WriteBack) → IsIn w l.write-iterator → w.from ≡ l.t;
-  left : WritesLeft l.plan l.write-iterator l.initial.write-iterator l.initial.self l.self;
+  from : (w : WriteBack) → IsIn w l.write-iterator → w.from ≡ l.at.task.now;
+  left : WritesLeft l.at.plan.now l.write-iterator l.initial.write-iterator l.initial.self l.self;
 }

@@ -17,7 +17,8 @@ join-last-requires-clause-named c = has_one_name c.in-Some.pass _ (taken_pass _ 
 
 pub loop-pass-preserved : goal.loop-pass-preserved
 loop-pass-preserved c =
-    joined_next _ _ c.loop-pass.passes.items c.pop-in-loop-pass.new.self.items c.in-Some.pass c.loop-pass.last c.join-last.result c.in-Some.ensures.items c.join-last.ensures.of c.join-last.ensures.me c.loop-pass.invariant
+    joined_next _ _ c.loop-pass.passes.items c.pop-in-loop-pass.new.self.items c.in-Some.pass c.loop-pass.last
+    c.join-last.result c.in-Some.ensures.items c.join-last.ensures.of c.join-last.ensures.me c.loop-pass.invariant
 
 pub returns-clause-quiet : goal.returns-clause-quiet
 returns-clause-quiet c =

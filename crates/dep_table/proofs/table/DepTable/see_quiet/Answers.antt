@@ -11,5 +11,19 @@ read_live-requires-clause-no_credit c =
 
 pub returns-clause-pass : goal.returns-clause-pass
 returns-clause-pass c = let e = c.read_live.ensures in dite (ℕ_discrete c.read_live.result 0)
-    (λ z. after_step _ _ _ _ _ (record { of = c.requires.of; clean = c.requires.clean; stamp = c.requires.stamp }) c.pass.view_is e.of refl (e.quiet z).0 refl (record { turns = refl; credit = refl; claims = refl; stamps = refl; running = refl }))
-    (λ nz. after_step _ _ _ _ _ (record { of = c.requires.of; clean = c.requires.clean; stamp = c.requires.stamp }) c.pass.view_is e.of refl (e.busy nz) refl (record { turns = refl; credit = refl; claims = refl; stamps = refl; running = refl }))
+    (λ z. after_step _ _ _ _ _ (record { of = c.requires.of; clean = c.requires.clean; stamp = c.requires.stamp })
+    c.pass.view_is e.of refl (e.quiet z).0 refl (record {
+      turns = refl;
+      credit = refl;
+      claims = refl;
+      stamps = refl;
+      running = refl;
+    }))
+    (λ nz. after_step _ _ _ _ _ (record { of = c.requires.of; clean = c.requires.clean; stamp = c.requires.stamp })
+    c.pass.view_is e.of refl (e.busy nz) refl (record {
+      turns = refl;
+      credit = refl;
+      claims = refl;
+      stamps = refl;
+      running = refl;
+    }))

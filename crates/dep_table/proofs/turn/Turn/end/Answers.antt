@@ -11,10 +11,14 @@ use Rattle.dep_table.proofs.Jobs.{end_for}
 use Rattle.dep_table.proofs.turn.Turn.end.Goals as goal
 
 pub end_task-requires-clause-running : goal.end_task-requires-clause-running
-end_task-requires-clause-running c = let h = c.requires.turn in end_running _ _ _ _ h.3 _ (sym (ap (λ (m : Seated). m.0.running) h.3.me) ∙ c.requires.task.runs) c.requires.shard _ (held_is _ _ _ _ h.3 _ c.pass.view_is _ _ _ c.shard_mut-held.ensures.value)
+end_task-requires-clause-running c = let h = c.requires.turn in end_running _ _ _ _ h.3 _
+    (sym (ap (λ (m : Seated). m.0.running) h.3.me) ∙ c.requires.task.runs) c.requires.shard _
+    (held_is _ _ _ _ h.3 _ c.pass.view_is _ _ _ c.shard_mut-held.ensures.value)
 
 pub end_task-requires-clause-bound : goal.end_task-requires-clause-bound
-end_task-requires-clause-bound c = let h = c.requires.turn in end_bound _ _ _ _ h.3 _ (sym (ap (λ (m : Seated). m.0.running) h.3.me) ∙ c.requires.task.runs) c.requires.shard _ (held_is _ _ _ _ h.3 _ c.pass.view_is _ _ _ c.shard_mut-held.ensures.value)
+end_task-requires-clause-bound c = let h = c.requires.turn in end_bound _ _ _ _ h.3 _
+    (sym (ap (λ (m : Seated). m.0.running) h.3.me) ∙ c.requires.task.runs) c.requires.shard _
+    (held_is _ _ _ _ h.3 _ c.pass.view_is _ _ _ c.shard_mut-held.ensures.value)
 
 pub give_end-requires-clause-ends : goal.give_end-requires-clause-ends
 give_end-requires-clause-ends c =
@@ -32,11 +36,27 @@ give_end-requires-clause-ends c =
     e.spare)
 
 pub returns-clause-pass : goal.returns-clause-pass
-returns-clause-pass c = let h = c.requires.turn in end_pass _ _ _ _ h.3 _ (sym (ap (λ (m : Seated). m.0.running) h.3.me) ∙ c.requires.task.runs) _ c.pass.view_is _ _ (c.lower_live.ensures.me ∙ (λ k. (without_credit (c.give_end.ensures.me k).0, (c.give_end.ensures.me k).1)))
+returns-clause-pass c = let h = c.requires.turn in end_pass _ _ _ _ h.3 _
+    (sym (ap (λ (m : Seated). m.0.running) h.3.me) ∙ c.requires.task.runs) _ c.pass.view_is _ _
+    (c.lower_live.ensures.me ∙ (λ k. (without_credit (c.give_end.ensures.me k).0, (c.give_end.ensures.me k).1)))
     (c.lower_live.ensures.of ∙ c.give_end.ensures.of) (ap (λ (p : PassView). rest p.me.1) c.pass.view_is ∙ ap (λ (m : Seated). rest m.1) h.3.me)
 
 pub returns-clause-ended : goal.returns-clause-ended
-returns-clause-ended c = λ v y z h. has_ended _ v y z h _ (sym (ap (λ (m : Seated). m.0.running) h.me) ∙ c.requires.task.runs) _ c.pass.view_is (record { table = seat_table c.lower_live.new.seat; me = seated c.lower_live.new.seat; stamp = c.pass.inside.stamp }) _ (c.lower_live.ensures.me ∙ (λ k. (without_credit (c.give_end.ensures.me k).0, (c.give_end.ensures.me k).1)))
+returns-clause-ended c = λ v y z h. has_ended _ v y z h _ (sym (ap (λ (m : Seated). m.0.running) h.me)
+    ∙ c.requires.task.runs) _ c.pass.view_is (record {
+      table = seat_table c.lower_live.new.seat;
+      me = seated
+          c.lower_live.new.seat;
+      stamp = c.pass.inside.stamp;
+    }) _ (c.lower_live.ensures.me
+    ∙ (λ k. (without_credit (c.give_end.ensures.me k).0, (c.give_end.ensures.me k).1)))
 
 pub returns-clause-last : goal.returns-clause-last
-returns-clause-last c = λ v y z h. end_last _ v y z h _ (sym (ap (λ (m : Seated). m.0.running) h.me) ∙ c.requires.task.runs) _ c.pass.view_is (record { table = seat_table c.lower_live.new.seat; me = seated c.lower_live.new.seat; stamp = c.pass.inside.stamp }) _ (c.lower_live.ensures.me ∙ (λ k. (without_credit (c.give_end.ensures.me k).0, (c.give_end.ensures.me k).1)))
+returns-clause-last c = λ v y z h. end_last _ v y z h _ (sym (ap (λ (m : Seated). m.0.running) h.me)
+    ∙ c.requires.task.runs) _ c.pass.view_is (record {
+      table = seat_table c.lower_live.new.seat;
+      me = seated
+          c.lower_live.new.seat;
+      stamp = c.pass.inside.stamp;
+    }) _ (c.lower_live.ensures.me
+    ∙ (λ k. (without_credit (c.give_end.ensures.me k).0, (c.give_end.ensures.me k).1)))

@@ -23,7 +23,8 @@ use Rattle.dep_table.proofs.turn.Turn.send.Goals as goal
 use Rattle.dep_table.proofs.turn.Turn.send.Goals.{in-Err, in-Ok}
 
 pub take_item-requires : goal.take_item-requires
-take_item-requires c = let h = c.requires.turn in send_may _ _ _ _ h.3 _ _ c.requires.item c.requires.shard _ (held_is _ _ _ _ h.3 _ c.pass.view_is _ _ _ c.shard_mut-held.ensures.value)
+take_item-requires c = let h = c.requires.turn in send_may _ _ _ _ h.3 _ _ c.requires.item c.requires.shard _
+    (held_is _ _ _ _ h.3 _ c.pass.view_is _ _ _ c.shard_mut-held.ensures.value)
 
 pub raise_for-requires-clause-room : goal.raise_for-requires-clause-room
 raise_for-requires-clause-room c = let h = c.requires.turn in send_room _ _ _ _ h.3 _ _ c.requires.item c.requires.shard _ c.pass.view_is
@@ -40,7 +41,9 @@ give_send-requires-clause-sends c =
     c.in-Ok.ensures.takes _ c.raise_for.ensures.me)
 
 pub give-requires-clause-leaves : goal.give-requires-clause-leaves
-give-requires-clause-leaves c = let h = c.requires.turn in refused _ _ _ _ h.3 _ c.pass.view_is _ _ (held_is _ _ _ _ h.3 _ c.pass.view_is _ _ _ c.shard_mut-held.ensures.value) c.in-Err.ensures.same c.in-Err.ensures.kept
+give-requires-clause-leaves c = let h = c.requires.turn in refused _ _ _ _ h.3 _ c.pass.view_is _ _
+    (held_is _ _ _ _ h.3 _ c.pass.view_is _ _ _ c.shard_mut-held.ensures.value) c.in-Err.ensures.same
+    c.in-Err.ensures.kept
 
 pub returns-clause-pass : goal.returns-clause-pass
 returns-clause-pass c = let h = c.requires.turn in elim c.match-take_item.branch [
@@ -59,8 +62,11 @@ LeftAs t q = (v : PassRecord) → (y z : Content) → IsTurnOf t v y z → OnlyT
 
 pub returns-clause-sent : goal.returns-clause-sent
 returns-clause-sent c = elim c.match-take_item.branch [
-  | in-Ok w ↦ subst (λ o. IfOk o (SentBy c.args.self c.args.item.now (option_copied c.args.tile) c.match-take_item.pass)) (sym w.result-is) (λ v y z h. has_sent _ v y z h _ _ c.requires.item c.requires.shard _ c.pass.view_is w.in-Ok.answer c.match-take_item.pass _
-      (ap (λ (p : PassView). p.me) w.pass-is ∙ w.give_send.ensures.me ∙ ap (after_send record { item = c.args.item.now; tile = option_copied c.args.tile }) w.raise_for.ensures.me)
+  | in-Ok w ↦ subst (λ o. IfOk o (SentBy c.args.self c.args.item.now (option_copied c.args.tile)
+      c.match-take_item.pass)) (sym w.result-is) (λ v y z h. has_sent _ v y z h _ _ c.requires.item c.requires.shard _
+      c.pass.view_is w.in-Ok.answer c.match-take_item.pass _
+      (ap (λ (p : PassView). p.me) w.pass-is ∙ w.give_send.ensures.me
+      ∙ ap (after_send record { item = c.args.item.now; tile = option_copied c.args.tile }) w.raise_for.ensures.me)
       _ (held_is _ _ _ _ h _ c.pass.view_is _ _ _ c.shard_mut-held.ensures.value) w.in-Ok.ensures.answer)
   | in-Err w ↦ subst (λ o. IfOk o (SentBy c.args.self c.args.item.now (option_copied c.args.tile) c.match-take_item.pass)) (sym w.result-is) tt
 ]
@@ -68,18 +74,26 @@ returns-clause-sent c = elim c.match-take_item.branch [
 pub returns-clause-left : goal.returns-clause-left
 returns-clause-left c = elim c.match-take_item.branch [
   | in-Ok w ↦ subst (λ o. OnErr o (LeftAs c.args.self c.match-take_item.pass)) (sym w.result-is) tt
-  | in-Err w ↦ subst (λ o. OnErr o (LeftAs c.args.self c.match-take_item.pass)) (sym w.result-is) (λ v y z h. only_took _ v y z h _ c.match-take_item.pass c.pass.view_is (ap (λ (p : PassView). p.table) w.pass-is ∙ w.give.ensures.of) (ap (λ (p : PassView). p.stamp) w.pass-is) (ap (λ (p : PassView). p.me) w.pass-is ∙ w.give.ensures.me))
+  | in-Err w ↦ subst (λ o. OnErr o (LeftAs c.args.self c.match-take_item.pass)) (sym w.result-is)
+      (λ v y z h. only_took _ v y z h _ c.match-take_item.pass c.pass.view_is
+      (ap (λ (p : PassView). p.table) w.pass-is ∙ w.give.ensures.of) (ap (λ (p : PassView). p.stamp) w.pass-is)
+      (ap (λ (p : PassView). p.me) w.pass-is ∙ w.give.ensures.me))
 ]
 
 pub returns-clause-preloaded : goal.returns-clause-preloaded
 returns-clause-preloaded c = λ pre. let h = c.requires.turn in elim c.match-take_item.branch [
   | in-Ok w ↦ subst IsOk (sym w.result-is) refl
-  | in-Err w ↦ absurd (false≢true (subst IsOk w.in-Err.is (c.take_item.ensures.succeeds (send_spare _ _ _ _ h.3 _ _ c.requires.item c.requires.shard pre _ (held_is _ _ _ _ h.3 _ c.pass.view_is _ _ _ c.shard_mut-held.ensures.value)))))
+  | in-Err w ↦ absurd (false≢true (subst IsOk w.in-Err.is (c.take_item.ensures.succeeds
+      (send_spare _ _ _ _ h.3 _ _ c.requires.item c.requires.shard pre _
+      (held_is _ _ _ _ h.3 _ c.pass.view_is _ _ _ c.shard_mut-held.ensures.value)))))
 ]
 
 pub returns-clause-last : goal.returns-clause-last
 returns-clause-last c = λ v y z h. elim c.match-take_item.branch [
   | in-Ok w ↦ send_last _ v y z h _ _ c.requires.item c.requires.shard _ c.pass.view_is w.in-Ok.answer c.match-take_item.pass _
-      (ap (λ (p : PassView). p.me) w.pass-is ∙ w.give_send.ensures.me ∙ ap (after_send record { item = c.args.item.now; tile = option_copied c.args.tile }) w.raise_for.ensures.me)
-  | in-Err w ↦ left_last _ v y z h _ c.match-take_item.pass c.pass.view_is (ap (λ (p : PassView). p.table) w.pass-is ∙ w.give.ensures.of) (ap (λ (p : PassView). p.stamp) w.pass-is) (ap (λ (p : PassView). p.me) w.pass-is ∙ w.give.ensures.me)
+      (ap (λ (p : PassView). p.me) w.pass-is ∙ w.give_send.ensures.me
+      ∙ ap (after_send record { item = c.args.item.now; tile = option_copied c.args.tile }) w.raise_for.ensures.me)
+  | in-Err w ↦ left_last _ v y z h _ c.match-take_item.pass c.pass.view_is
+      (ap (λ (p : PassView). p.table) w.pass-is ∙ w.give.ensures.of) (ap (λ (p : PassView). p.stamp) w.pass-is)
+      (ap (λ (p : PassView). p.me) w.pass-is ∙ w.give.ensures.me)
 ]

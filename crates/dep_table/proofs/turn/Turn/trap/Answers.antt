@@ -20,10 +20,14 @@ use Rattle.dep_table.proofs.turn.Turn.trap.Goals as goal
 use Rattle.dep_table.proofs.turn.Turn.trap.Goals.{in-Err, in-Ok}
 
 pub trap-requires-clause-running : goal.trap-requires-clause-running
-trap-requires-clause-running c = let h = c.requires.turn in end_running _ _ _ _ h.3 _ (sym (ap (λ (m : Seated). m.0.running) h.3.me) ∙ c.requires.task.runs) c.requires.shard _ (held_is _ _ _ _ h.3 _ c.pass.view_is _ _ _ c.shard_mut-held.ensures.value)
+trap-requires-clause-running c = let h = c.requires.turn in end_running _ _ _ _ h.3 _
+    (sym (ap (λ (m : Seated). m.0.running) h.3.me) ∙ c.requires.task.runs) c.requires.shard _
+    (held_is _ _ _ _ h.3 _ c.pass.view_is _ _ _ c.shard_mut-held.ensures.value)
 
 pub trap-requires-clause-bound : goal.trap-requires-clause-bound
-trap-requires-clause-bound c = let h = c.requires.turn in end_bound _ _ _ _ h.3 _ (sym (ap (λ (m : Seated). m.0.running) h.3.me) ∙ c.requires.task.runs) c.requires.shard _ (held_is _ _ _ _ h.3 _ c.pass.view_is _ _ _ c.shard_mut-held.ensures.value)
+trap-requires-clause-bound c = let h = c.requires.turn in end_bound _ _ _ _ h.3 _
+    (sym (ap (λ (m : Seated). m.0.running) h.3.me) ∙ c.requires.task.runs) c.requires.shard _
+    (held_is _ _ _ _ h.3 _ c.pass.view_is _ _ _ c.shard_mut-held.ensures.value)
 
 pub give_end-requires-clause-ends : goal.give_end-requires-clause-ends
 give_end-requires-clause-ends c =
@@ -39,7 +43,9 @@ give_end-requires-clause-ends c =
 
 pub returns-clause-pass : goal.returns-clause-pass
 returns-clause-pass c = let h = c.requires.turn in elim c.match-trap.branch [
-  | in-Ok w ↦ subst (IsPassOf _) (sym w.pass-is) (end_pass _ _ _ _ h.3 _ (sym (ap (λ (m : Seated). m.0.running) h.3.me) ∙ c.requires.task.runs) _ c.pass.view_is _ _ (w.lower_live.ensures.me ∙ (λ k. (without_credit (w.give_end.ensures.me k).0, (w.give_end.ensures.me k).1)))
+  | in-Ok w ↦ subst (IsPassOf _) (sym w.pass-is) (end_pass _ _ _ _ h.3 _
+      (sym (ap (λ (m : Seated). m.0.running) h.3.me) ∙ c.requires.task.runs) _ c.pass.view_is _ _
+      (w.lower_live.ensures.me ∙ (λ k. (without_credit (w.give_end.ensures.me k).0, (w.give_end.ensures.me k).1)))
       (w.lower_live.ensures.of ∙ w.give_end.ensures.of) (ap (λ (p : PassView). rest p.me.1) c.pass.view_is ∙ ap (λ (m : Seated). rest m.1) h.3.me))
   | in-Err w ↦ subst (IsPassOf _) (sym w.pass-is) (left_pass _ _ _ _ h.3 _ _ c.pass.view_is w.give.ensures.of refl w.give.ensures.me)
 ]
@@ -52,7 +58,9 @@ LeftAs t q = (v : PassRecord) → (y z : Content) → IsTurnOf t v y z → OnlyT
 
 pub returns-clause-ended : goal.returns-clause-ended
 returns-clause-ended c = elim c.match-trap.branch [
-  | in-Ok w ↦ subst (λ o. OnOk o (EndedAs c.args.self c.match-trap.pass)) (sym w.result-is) (λ v y z h. has_ended _ v y z h _ (sym (ap (λ (m : Seated). m.0.running) h.me) ∙ c.requires.task.runs) _ c.pass.view_is c.match-trap.pass _
+  | in-Ok w ↦ subst (λ o. OnOk o (EndedAs c.args.self c.match-trap.pass)) (sym w.result-is)
+      (λ v y z h. has_ended _ v y z h _ (sym (ap (λ (m : Seated). m.0.running) h.me) ∙ c.requires.task.runs) _
+      c.pass.view_is c.match-trap.pass _
       (ap (λ (p : PassView). p.me) w.pass-is ∙ w.lower_live.ensures.me ∙ (λ k. (without_credit (w.give_end.ensures.me k).0, (w.give_end.ensures.me k).1))))
   | in-Err w ↦ subst (λ o. OnOk o (EndedAs c.args.self c.match-trap.pass)) (sym w.result-is) tt
 ]
@@ -60,18 +68,25 @@ returns-clause-ended c = elim c.match-trap.branch [
 pub returns-clause-left : goal.returns-clause-left
 returns-clause-left c = elim c.match-trap.branch [
   | in-Ok w ↦ subst (λ o. OnErr o (LeftAs c.args.self c.match-trap.pass)) (sym w.result-is) tt
-  | in-Err w ↦ subst (λ o. OnErr o (LeftAs c.args.self c.match-trap.pass)) (sym w.result-is) (λ v y z h. only_took _ v y z h _ c.match-trap.pass c.pass.view_is (ap (λ (p : PassView). p.table) w.pass-is ∙ w.give.ensures.of) (ap (λ (p : PassView). p.stamp) w.pass-is) (ap (λ (p : PassView). p.me) w.pass-is ∙ w.give.ensures.me))
+  | in-Err w ↦ subst (λ o. OnErr o (LeftAs c.args.self c.match-trap.pass)) (sym w.result-is)
+      (λ v y z h. only_took _ v y z h _ c.match-trap.pass c.pass.view_is
+      (ap (λ (p : PassView). p.table) w.pass-is ∙ w.give.ensures.of) (ap (λ (p : PassView). p.stamp) w.pass-is)
+      (ap (λ (p : PassView). p.me) w.pass-is ∙ w.give.ensures.me))
 ]
 
 pub returns-clause-preloaded : goal.returns-clause-preloaded
 returns-clause-preloaded c = λ pre. let h = c.requires.turn in elim c.match-trap.branch [
   | in-Ok w ↦ subst IsOk (sym w.result-is) refl
-  | in-Err w ↦ absurd (false≢true (subst IsOk w.in-Err.is (c.trap.ensures.succeeds (trap_spare _ _ _ _ h.3 _ (sym (ap (λ (m : Seated). m.0.running) h.3.me) ∙ c.requires.task.runs) c.requires.shard pre _ (held_is _ _ _ _ h.3 _ c.pass.view_is _ _ _ c.shard_mut-held.ensures.value)))))
+  | in-Err w ↦ absurd (false≢true (subst IsOk w.in-Err.is (c.trap.ensures.succeeds
+      (trap_spare _ _ _ _ h.3 _ (sym (ap (λ (m : Seated). m.0.running) h.3.me) ∙ c.requires.task.runs) c.requires.shard
+      pre _ (held_is _ _ _ _ h.3 _ c.pass.view_is _ _ _ c.shard_mut-held.ensures.value)))))
 ]
 
 pub returns-clause-last : goal.returns-clause-last
 returns-clause-last c = λ v y z h. elim c.match-trap.branch [
   | in-Ok w ↦ end_last _ v y z h _ (sym (ap (λ (m : Seated). m.0.running) h.me) ∙ c.requires.task.runs) _ c.pass.view_is c.match-trap.pass _
       (ap (λ (p : PassView). p.me) w.pass-is ∙ w.lower_live.ensures.me ∙ (λ k. (without_credit (w.give_end.ensures.me k).0, (w.give_end.ensures.me k).1)))
-  | in-Err w ↦ left_last _ v y z h _ c.match-trap.pass c.pass.view_is (ap (λ (p : PassView). p.table) w.pass-is ∙ w.give.ensures.of) (ap (λ (p : PassView). p.stamp) w.pass-is) (ap (λ (p : PassView). p.me) w.pass-is ∙ w.give.ensures.me)
+  | in-Err w ↦ left_last _ v y z h _ c.match-trap.pass c.pass.view_is
+      (ap (λ (p : PassView). p.table) w.pass-is ∙ w.give.ensures.of) (ap (λ (p : PassView). p.stamp) w.pass-is)
+      (ap (λ (p : PassView). p.me) w.pass-is ∙ w.give.ensures.me)
 ]

@@ -22,7 +22,12 @@ returns-then-is_write-clause-ok c =
     let sends : c.with-history.result.sends ≡ s.sends ++ x ∷ [] = c.with-history.ensures ∙ ap (λ (y : SentAndKept). y.sends ++ x ∷ []) c.self.view_is in
     let edges = ap (λ (y : SentAndKept). y.edges) c.self.view_is in
     let writes = c.in_ok-enter.ensures.ok ∙ ap (λ (y : SentAndKept). y.writes ++ x ∷ []) c.self.view_is in
-    λ j. record { sends = sends j; edges = cond (c.if-is_write.ensures j) (edges j) (s.edges ++ x ∷ []); writes = cond (c.if-is_write.ensures j) (writes j) s.writes }
+    λ j. record {
+      sends = sends j;
+      edges = cond (c.if-is_write.ensures j) (edges j) (s.edges ++ x ∷ []);
+      writes = cond
+          (c.if-is_write.ensures j) (writes j) s.writes;
+    }
 
 pub returns-clause-ok : goal.returns-clause-ok
 returns-clause-ok c =
@@ -31,4 +36,9 @@ returns-clause-ok c =
     let sends : c.with-history.result.sends ≡ s.sends ++ x ∷ [] = c.with-history.ensures ∙ ap (λ (y : SentAndKept). y.sends ++ x ∷ []) c.self.view_is in
     let edges = c.in_ok-enter-2.ensures.ok ∙ ap (λ (y : SentAndKept). y.edges ++ x ∷ []) c.self.view_is in
     let writes = ap (λ (y : SentAndKept). y.writes) c.self.view_is in
-    λ j. record { sends = sends j; edges = cond (c.if-is_write.ensures j) s.edges (edges j); writes = cond (c.if-is_write.ensures j) (s.writes ++ x ∷ []) (writes j) }
+    λ j. record {
+      sends = sends j;
+      edges = cond (c.if-is_write.ensures j) s.edges (edges j);
+      writes = cond
+          (c.if-is_write.ensures j) (s.writes ++ x ∷ []) (writes j);
+    }

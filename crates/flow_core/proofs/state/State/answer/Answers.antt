@@ -19,7 +19,8 @@ returns c =
     let meant = sym (c.a_quiescent_state_has_the_meaning.ensures.answer P G (machine r) c.plan_is_consistent.ensures c.requires.fits.sound c.requires.quiet) in
     c.complete_unless.ensures (meaning.answer P G)
     (IfOk-weaker c.incomplete-found.result
-    (λ (found : Option Outcome). (G : Data) → Fits P G r → unwrap_or found (Complete (length (all_tasks P)) (state_data G (machine r))) ≡ state_answer P G (machine r))
+    (λ (found : Option Outcome). (G : Data) → Fits P G r → unwrap_or found
+    (Complete (length (all_tasks P)) (state_data G (machine r))) ≡ state_answer P G (machine r))
     (λ (found : Option Outcome). unwrap_or found (Complete (length (all_tasks P)) (state_data G (machine r))) ≡ meaning.answer P G)
     (λ found h. h G c.requires.fits ∙ meant)
     c.incomplete-found.ensures)

@@ -26,7 +26,8 @@ invariant_of-self-2 c =
     record {
       counts = λ t none.
           counts_push c.self.inside.arrived.entries c.count_item.new.table.entries c.self.inside.claims.entries sent.sends x c.self.invariant.counts
-          (λ u. c.count_item.ensures u ∙ (λ i. number_for (c.in_ok-reserve.ensures.entries i) u + as_number (is_edge_to u (sym c.copy_of_item.ensures i)))) t none
+          (λ u. c.count_item.ensures u ∙ (λ i. number_for (c.in_ok-reserve.ensures.entries i) u + as_number
+          (is_edge_to u (sym c.copy_of_item.ensures i)))) t none
           ∙ ap (λ (s : SentAndKept). edge_count_to t s.sends) (sym c.in_ok-add.ensures.ok);
       tiles = subst (AreKept c.self.inside.claims.entries) (sym c.in_ok-add.ensures.ok) (kept_push c.self.inside.claims.entries sent x c.self.invariant.tiles);
     }

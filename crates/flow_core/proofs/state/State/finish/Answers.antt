@@ -49,7 +49,8 @@ take_tiles-requires c =
     }
 
 pub run_task-ran-requires : goal.run_task-ran-requires
-run_task-ran-requires c = c.take_tiles.ensures.places ∙ ap length c.in_ok-found.ensures.tiles ∙ length-starting_tiles c.plan-plan.result.now c.args.given.now nothing_delivered c.args.t.now
+run_task-ran-requires c = c.take_tiles.ensures.places ∙ ap length c.in_ok-found.ensures.tiles
+    ∙ length-starting_tiles c.plan-plan.result.now c.args.given.now nothing_delivered c.args.t.now
 
 pub invariant_of-self-2 : goal.invariant_of-self-2
 invariant_of-self-2 c =
@@ -60,11 +61,14 @@ invariant_of-self-2 c =
     let P = c.plan-plan.result.now in
     let edges = c.as_slice-2.ensures.value ∙ c.in_ok-found.ensures.edges in
     let running : lookup (same_task t) claims ≡ Some None = ap (λ (s : RunState). mark_of s t) c.self.view_is ∙ c.requires.running in
-    let marks : c.mark.new.claims.entries ≡ set_value (same_task t) claims (Some end) = c.mark.ensures ∙ ap (λ e. set_value (same_task t) claims (Some e)) c.of-end.ensures in
-    let ends = kept_end claims t end running sent c.take_tiles.new.sent c.self.invariant.tiles (c.take_tiles.ensures.kept P t (flows_of P t) edges) c.take_tiles.ensures.sends c.take_tiles.ensures.writes in
+    let marks : c.mark.new.claims.entries ≡ set_value (same_task t) claims (Some end) = c.mark.ensures
+    ∙ ap (λ e. set_value (same_task t) claims (Some e)) c.of-end.ensures in
+    let ends = kept_end claims t end running sent c.take_tiles.new.sent c.self.invariant.tiles
+    (c.take_tiles.ensures.kept P t (flows_of P t) edges) c.take_tiles.ensures.sends c.take_tiles.ensures.writes in
     record {
       counts = λ u none.
-          counts_end c.self.inside.arrived.entries claims sent.sends t end c.self.invariant.counts u (ap (lookup (same_task u)) (sym marks) ∙ none) ∙ ap (edge_count_to u) (sym c.take_tiles.ensures.sends);
+          counts_end c.self.inside.arrived.entries claims sent.sends t end c.self.invariant.counts u
+          (ap (lookup (same_task u)) (sym marks) ∙ none) ∙ ap (edge_count_to u) (sym c.take_tiles.ensures.sends);
       tiles = subst (λ cs. AreKept cs c.take_tiles.new.sent) (sym marks) ends;
     }
 
@@ -80,13 +84,22 @@ returns-clause-ok c =
     let con = c.plan-plan.ensures.consistent in
     let running : lookup (same_task t) claims ≡ Some None = ap (λ (s : RunState). mark_of s t) c.self.view_is ∙ c.requires.running in
     let edges = c.as_slice-2.ensures.value ∙ c.in_ok-found.ensures.edges in
-    let tiles : c.take_tiles.new.tiles.items ≡ starting_tiles P G (sent_tile sent.edges) t = c.take_tiles.ensures.tiles P G t [] (flows_of P t) edges refl c.in_ok-found.ensures.tiles in
-    let same = λ (e : Edge) (to : e.to ≡ t). kept_tile claims sent c.self.invariant.tiles e (unread claims t e running to) ∙ ap (λ (s : RunState). first_tile (item.Edge e) s.sends) c.self.view_is in
-    let end = ran c.args.m.now P G r (sent_tile sent.edges) t c.take_tiles.new.tiles.items c.run_task-ran.result.end c.plan-plan.ensures.same same tiles c.run_task-ran.ensures in
+    let tiles : c.take_tiles.new.tiles.items ≡ starting_tiles P G (sent_tile sent.edges) t = c.take_tiles.ensures.tiles
+    P G t [] (flows_of P t) edges refl c.in_ok-found.ensures.tiles in
+    let same = λ (e : Edge) (to : e.to ≡ t). kept_tile claims sent c.self.invariant.tiles e
+    (unread claims t e running to) ∙ ap (λ (s : RunState). first_tile (item.Edge e) s.sends) c.self.view_is in
+    let end = ran c.args.m.now P G r (sent_tile sent.edges) t c.take_tiles.new.tiles.items c.run_task-ran.result.end
+    c.plan-plan.ensures.same same tiles c.run_task-ran.ensures in
     let meant : ended c.args.m.now G t ≡ Some c.run_task-ran.result.end = running_end c.args.m.now G con r c.requires.fits t c.requires.running ∙ end in
-    let marks : c.mark.new.claims.entries ≡ set_value (same_task t) claims (Some c.run_task-ran.result.end) = c.mark.ensures ∙ ap (λ e. set_value (same_task t) claims (Some e)) c.of-end.ensures in
-    let left : c.keep_tiles.new.table.entries ≡ with_tiles t c.run_task-ran.result.end c.self.inside.outputs.entries = c.keep_tiles.ensures ∙ ap (with_tiles t c.run_task-ran.result.end) c.in_ok-reserve.ensures.entries in
-    let marked = ended_run claims c.mark.new.claims.entries sent.sends c.take_tiles.new.sent.sends c.self.inside.outputs.entries c.keep_tiles.new.table.entries r t c.run_task-ran.result.end c.self.view_is marks c.take_tiles.ensures.sends left in
+    let marks : c.mark.new.claims.entries ≡ set_value (same_task t) claims
+    (Some c.run_task-ran.result.end) = c.mark.ensures ∙ ap (λ e. set_value (same_task t) claims (Some e))
+    c.of-end.ensures in
+    let left : c.keep_tiles.new.table.entries ≡ with_tiles t c.run_task-ran.result.end
+    c.self.inside.outputs.entries = c.keep_tiles.ensures
+    ∙ ap (with_tiles t c.run_task-ran.result.end) c.in_ok-reserve.ensures.entries in
+    let marked = ended_run claims c.mark.new.claims.entries sent.sends c.take_tiles.new.sent.sends
+    c.self.inside.outputs.entries c.keep_tiles.new.table.entries r t c.run_task-ran.result.end c.self.view_is marks
+    c.take_tiles.ensures.sends left in
     record { end = c.run_task-ran.result.end; end_is = meant; marked = marked; trapped = c.trap-trap.ensures ∙ ap result_err c.of-end.ensures }
 
 pub returns-clause-fits : goal.returns-clause-fits
@@ -101,11 +114,20 @@ returns-clause-fits c =
     let con = c.plan-plan.ensures.consistent in
     let running : lookup (same_task t) claims ≡ Some None = ap (λ (s : RunState). mark_of s t) c.self.view_is ∙ c.requires.running in
     let edges = c.as_slice-2.ensures.value ∙ c.in_ok-found.ensures.edges in
-    let tiles : c.take_tiles.new.tiles.items ≡ starting_tiles P G (sent_tile sent.edges) t = c.take_tiles.ensures.tiles P G t [] (flows_of P t) edges refl c.in_ok-found.ensures.tiles in
-    let same = λ (e : Edge) (to : e.to ≡ t). kept_tile claims sent c.self.invariant.tiles e (unread claims t e running to) ∙ ap (λ (s : RunState). first_tile (item.Edge e) s.sends) c.self.view_is in
-    let end = ran c.args.m.now P G r (sent_tile sent.edges) t c.take_tiles.new.tiles.items c.run_task-ran.result.end c.plan-plan.ensures.same same tiles c.run_task-ran.ensures in
+    let tiles : c.take_tiles.new.tiles.items ≡ starting_tiles P G (sent_tile sent.edges) t = c.take_tiles.ensures.tiles
+    P G t [] (flows_of P t) edges refl c.in_ok-found.ensures.tiles in
+    let same = λ (e : Edge) (to : e.to ≡ t). kept_tile claims sent c.self.invariant.tiles e
+    (unread claims t e running to) ∙ ap (λ (s : RunState). first_tile (item.Edge e) s.sends) c.self.view_is in
+    let end = ran c.args.m.now P G r (sent_tile sent.edges) t c.take_tiles.new.tiles.items c.run_task-ran.result.end
+    c.plan-plan.ensures.same same tiles c.run_task-ran.ensures in
     let meant : ended c.args.m.now G t ≡ Some c.run_task-ran.result.end = running_end c.args.m.now G con r c.requires.fits t c.requires.running ∙ end in
-    let marks : c.mark.new.claims.entries ≡ set_value (same_task t) claims (Some c.run_task-ran.result.end) = c.mark.ensures ∙ ap (λ e. set_value (same_task t) claims (Some e)) c.of-end.ensures in
-    let left : c.keep_tiles.new.table.entries ≡ with_tiles t c.run_task-ran.result.end c.self.inside.outputs.entries = c.keep_tiles.ensures ∙ ap (with_tiles t c.run_task-ran.result.end) c.in_ok-reserve.ensures.entries in
-    let marked = ended_run claims c.mark.new.claims.entries sent.sends c.take_tiles.new.sent.sends c.self.inside.outputs.entries c.keep_tiles.new.table.entries r t c.run_task-ran.result.end c.self.view_is marks c.take_tiles.ensures.sends left in
+    let marks : c.mark.new.claims.entries ≡ set_value (same_task t) claims
+    (Some c.run_task-ran.result.end) = c.mark.ensures ∙ ap (λ e. set_value (same_task t) claims (Some e))
+    c.of-end.ensures in
+    let left : c.keep_tiles.new.table.entries ≡ with_tiles t c.run_task-ran.result.end
+    c.self.inside.outputs.entries = c.keep_tiles.ensures
+    ∙ ap (with_tiles t c.run_task-ran.result.end) c.in_ok-reserve.ensures.entries in
+    let marked = ended_run claims c.mark.new.claims.entries sent.sends c.take_tiles.new.sent.sends
+    c.self.inside.outputs.entries c.keep_tiles.new.table.entries r t c.run_task-ran.result.end c.self.view_is marks
+    c.take_tiles.ensures.sends left in
     subst (Fits c.args.m.now G) (sym marked) (end_fits c.args.m.now G con r c.requires.fits t c.run_task-ran.result.end c.requires.running meant)

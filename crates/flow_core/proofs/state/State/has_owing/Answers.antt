@@ -17,9 +17,11 @@ owes-requires c =
 pub returns-then-owes : goal.returns-then-owes
 returns-then-owes c =
     let w = subst (IsSearched (Owes c.args.m.now c.args.self.now.sends) c.args.self.now.claims) c.in-Some.ensures.steps c.loop-t.invariant in
-    search_finds (Owes c.args.m.now c.args.self.now.sends) c.args.self.now.claims c.next.new.self (c.in-Some.t.now, c.in-Some.end.now) w (c.if-owes.ensures.0 refl)
+    search_finds (Owes c.args.m.now c.args.self.now.sends) c.args.self.now.claims c.next.new.self
+    (c.in-Some.t.now, c.in-Some.end.now) w (c.if-owes.ensures.0 refl)
 
 pub loop-t-preserved : goal.loop-t-preserved
 loop-t-preserved c =
     let w = subst (IsSearched (Owes c.args.m.now c.args.self.now.sends) c.args.self.now.claims) c.in-Some.ensures.steps c.loop-t.invariant in
-    search_goes_on (Owes c.args.m.now c.args.self.now.sends) c.args.self.now.claims c.next.new.self (c.in-Some.t.now, c.in-Some.end.now) w (λ o. false≢true (c.if-owes.ensures.1 o))
+    search_goes_on (Owes c.args.m.now c.args.self.now.sends) c.args.self.now.claims c.next.new.self
+    (c.in-Some.t.now, c.in-Some.end.now) w (λ o. false≢true (c.if-owes.ensures.1 o))

@@ -25,7 +25,8 @@ returns c =
     let r = c.args.self.now in
     IfOk-weaker c.stall.result
     (λ (found : Option Outcome). (G : Data) → unwrap_or found (Complete (length (all_tasks P)) (state_data G (machine r))) ≡ state_answer_by P G (machine r) [])
-    (λ (found : Option Outcome). (G : Data) → Fits P G r → unwrap_or found (Complete (length (all_tasks P)) (state_data G (machine r))) ≡ state_answer P G (machine r))
+    (λ (found : Option Outcome). (G : Data) → Fits P G r → unwrap_or found
+    (Complete (length (all_tasks P)) (state_data G (machine r))) ≡ state_answer P G (machine r))
     (λ found h G fits.
     let traps = traps_are P G c.requires.consistent r fits c.requires.idle c.in_ok-traps.traps c.in_ok-traps.ensures in
     h G ∙ answer_untrapped P G (machine r) c.in_ok-traps.traps traps (c.if-not-is_empty.ensures.0 refl))

@@ -7,5 +7,6 @@ use Rattle.flow_core.proofs.state.State.into_writes.Goals as goal
 
 pub returns : goal.returns
 returns c =
-    let are = ap writes_among c.self.invariant.tiles.writes ∙ writes_of_written c.self.inside.sent.sends ∙ ap (λ (r : RunState). writes_among r.sends) c.self.view_is in
+    let are = ap writes_among c.self.invariant.tiles.writes ∙ writes_of_written c.self.inside.sent.sends
+    ∙ ap (λ (r : RunState). writes_among r.sends) c.self.view_is in
     IfOk-weaker c.into_writes.result _ _ (λ writes e. e ∙ are) c.into_writes.ensures

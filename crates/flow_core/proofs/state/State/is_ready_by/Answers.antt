@@ -6,7 +6,8 @@ use Rattle.flow_core.proofs.state.State.is_ready_by.Goals as goal
 
 pub returns-then-contains_key-clause-exact : goal.returns-then-contains_key-clause-exact
 returns-then-contains_key-clause-exact c = λ G fits.
-    let there : is_some (mark_of c.args.self.now c.args.t.now) ≡ true = sym (c.if-contains_key.ensures ∙ ap (λ (r : RunState). is_some (mark_of r c.args.t.now)) c.self.view_is) in
+    let there : is_some (mark_of c.args.self.now c.args.t.now) ≡ true = sym
+    (c.if-contains_key.ensures ∙ ap (λ (r : RunState). is_some (mark_of r c.args.t.now)) c.self.view_is) in
     claimed_already c.args.m.now G c.plan_is_consistent.ensures c.args.self.now fits c.args.t.now there
 
 pub has_all-requires-clause-unclaimed : goal.has_all-requires-clause-unclaimed

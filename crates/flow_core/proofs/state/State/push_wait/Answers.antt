@@ -19,8 +19,11 @@ returns-then-arrived-eq0 c =
     let t = c.args.t.now in
     let none : mark_of r t ≡ None = none_of (mark_of r t) (sym (c.if-contains_key.ensures ∙ ap (λ (s : RunState). is_some (mark_of s t)) c.self.view_is)) in
     let sent : c.number_at-arrived.result ≡ edge_count_to t r.sends =
-    c.number_at-arrived.ensures ∙ c.self.invariant.counts t (ap (λ (s : RunState). mark_of s t) c.self.view_is ∙ none) ∙ ap (λ (s : RunState). edge_count_to t s.sends) c.self.view_is in
-    no_wait c.args.m.now (machine r) t c.args.rows.now.items (waits_not c.args.m.now c.requires.fits.0 c.requires.consistent r c.requires.fits.1 t c.requires.task none c.number_at-arrived.result c.goal-goal.result sent c.goal-goal.ensures (inl (omega arith)))
+    c.number_at-arrived.ensures ∙ c.self.invariant.counts t (ap (λ (s : RunState). mark_of s t) c.self.view_is ∙ none)
+    ∙ ap (λ (s : RunState). edge_count_to t s.sends) c.self.view_is in
+    no_wait c.args.m.now (machine r) t c.args.rows.now.items
+    (waits_not c.args.m.now c.requires.fits.0 c.requires.consistent r c.requires.fits.1 t c.requires.task none
+    c.number_at-arrived.result c.goal-goal.result sent c.goal-goal.ensures (inl (omega arith)))
 
 pub returns-then-arrived-goal : goal.returns-then-arrived-goal
 returns-then-arrived-goal c =
@@ -28,8 +31,11 @@ returns-then-arrived-goal c =
     let t = c.args.t.now in
     let none : mark_of r t ≡ None = none_of (mark_of r t) (sym (c.if-contains_key.ensures ∙ ap (λ (s : RunState). is_some (mark_of s t)) c.self.view_is)) in
     let sent : c.number_at-arrived.result ≡ edge_count_to t r.sends =
-    c.number_at-arrived.ensures ∙ c.self.invariant.counts t (ap (λ (s : RunState). mark_of s t) c.self.view_is ∙ none) ∙ ap (λ (s : RunState). edge_count_to t s.sends) c.self.view_is in
-    no_wait c.args.m.now (machine r) t c.args.rows.now.items (waits_not c.args.m.now c.requires.fits.0 c.requires.consistent r c.requires.fits.1 t c.requires.task none c.number_at-arrived.result c.goal-goal.result sent c.goal-goal.ensures (inr (omega arith)))
+    c.number_at-arrived.ensures ∙ c.self.invariant.counts t (ap (λ (s : RunState). mark_of s t) c.self.view_is ∙ none)
+    ∙ ap (λ (s : RunState). edge_count_to t s.sends) c.self.view_is in
+    no_wait c.args.m.now (machine r) t c.args.rows.now.items
+    (waits_not c.args.m.now c.requires.fits.0 c.requires.consistent r c.requires.fits.1 t c.requires.task none
+    c.number_at-arrived.result c.goal-goal.result sent c.goal-goal.ensures (inr (omega arith)))
 
 pub returns : goal.returns
 returns c =
@@ -37,9 +43,14 @@ returns c =
     let t = c.args.t.now in
     let none : mark_of r t ≡ None = none_of (mark_of r t) (sym (c.if-contains_key.ensures ∙ ap (λ (s : RunState). is_some (mark_of s t)) c.self.view_is)) in
     let sent : c.number_at-arrived.result ≡ edge_count_to t r.sends =
-    c.number_at-arrived.ensures ∙ c.self.invariant.counts t (ap (λ (s : RunState). mark_of s t) c.self.view_is ∙ none) ∙ ap (λ (s : RunState). edge_count_to t s.sends) c.self.view_is in
-    let waits = waits_so c.args.m.now c.requires.fits.0 c.requires.consistent r c.requires.fits.1 t c.requires.task none c.number_at-arrived.result c.goal-goal.result sent c.goal-goal.ensures (omega arith) (omega arith) in
-    let row : record { task = c.copy.result; arrived = c.number_at-arrived.result; goal = c.goal-goal.result } ≡ record { task = t; arrived = c.number_at-arrived.result; goal = c.goal-goal.result } =
+    c.number_at-arrived.ensures ∙ c.self.invariant.counts t (ap (λ (s : RunState). mark_of s t) c.self.view_is ∙ none)
+    ∙ ap (λ (s : RunState). edge_count_to t s.sends) c.self.view_is in
+    let waits = waits_so c.args.m.now c.requires.fits.0 c.requires.consistent r c.requires.fits.1 t c.requires.task none
+    c.number_at-arrived.result c.goal-goal.result sent c.goal-goal.ensures (omega arith) (omega arith) in
+    let row : record { task = c.copy.result; arrived = c.number_at-arrived.result; goal = c.goal-goal.result }
+    ≡ record { task = t; arrived = c.number_at-arrived.result; goal = c.goal-goal.result } =
     λ i. record { task = c.copy.ensures i; arrived = c.number_at-arrived.result; goal = c.goal-goal.result } in
-    c.in_ok-push.ensures.items ∙ ap (λ (w : WaitRow). c.args.rows.now.items ++ w ∷ []) (row ∙ row_is c.args.m.now c.requires.fits.0 c.requires.consistent r c.requires.fits.1 t c.requires.task none c.number_at-arrived.result c.goal-goal.result sent c.goal-goal.ensures)
+    c.in_ok-push.ensures.items ∙ ap (λ (w : WaitRow). c.args.rows.now.items ++ w ∷ [])
+    (row ∙ row_is c.args.m.now c.requires.fits.0 c.requires.consistent r c.requires.fits.1 t c.requires.task none
+    c.number_at-arrived.result c.goal-goal.result sent c.goal-goal.ensures)
     ∙ one_wait c.args.m.now (machine r) t c.args.rows.now.items waits

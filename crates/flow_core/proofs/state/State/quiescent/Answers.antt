@@ -9,4 +9,5 @@ returns-then-has_ready c = λ G fits.
 
 pub returns : goal.returns
 returns c = λ G fits.
-    quiet_by c.args.m.now G c.plan_is_consistent.ensures c.args.self.now fits c.requires.idle c.has_owing.result (λ one. false≢true (c.if-has_ready.ensures.1 one)) c.has_owing.ensures
+    quiet_by c.args.m.now G c.plan_is_consistent.ensures c.args.self.now fits c.requires.idle c.has_owing.result
+    (λ one. false≢true (c.if-has_ready.ensures.1 one)) c.has_owing.ensures

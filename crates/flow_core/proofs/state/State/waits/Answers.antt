@@ -31,4 +31,5 @@ returns c =
     let P = c.args.m.now in
     let S = machine c.args.self.now in
     let rows = c.loop-t.rows.items in
-    c.waits_in_task_order.ensures ∙ waits_all P S rows (sym (append-nil rows) ∙ ap (λ l. rows ++ waits_among P S l) (sym c.in-None.ensures.steps.0) ∙ c.loop-t.invariant.so_far)
+    c.waits_in_task_order.ensures ∙ waits_all P S rows (sym (append-nil rows)
+    ∙ ap (λ l. rows ++ waits_among P S l) (sym c.in-None.ensures.steps.0) ∙ c.loop-t.invariant.so_far)

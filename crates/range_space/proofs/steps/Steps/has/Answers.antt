@@ -1,4 +1,4 @@
-use Rattle.std.proofs.Common.{◌≡◌, ◌%◌, rules, ap, sym, ◌∙◌, FitsSigned, w64, unsigned_abs, eq-eqb, tests}
+use Rattle.std.proofs.Common.{◌≡◌, ◌%◌, rules, ap, sym, ◌∙◌, FitsSigned, w64, unsigned_abs}
 use Rattle.std.proofs.lemmas.Int.{to_z-of_z}
 use Rattle.std.proofs.lemmas.Bool.{false≢true}
 use Rattle.range_space.proofs.Stepping.{gap}
@@ -36,14 +36,14 @@ returns c =
     let m : FitsSigned w64 s.hi = search rules in
     let e = simp to_z-of_z at c.is_within.ensures in
     let e' = simp to_z-of_z at c.is_within-2.ensures in
-    let d = simp to_z-of_z at c.abs_diff-gap.ensures in
+    let d = simp to_z-of_z at c.abs_diff.ensures in
     let u = simp to_z-of_z at c.unsigned_abs.ensures.value in
-    let q : c.abs_diff-gap.result % c.unsigned_abs.result ≡ gap c.args.v s.lo % unsigned_abs s.step =
+    let q : c.abs_diff.result % c.unsigned_abs.result ≡ gap c.args.v s.lo % unsigned_abs s.step =
     ap (λ x. x % c.unsigned_abs.result) d ∙ ap (λ x. gap c.args.v s.lo % x) u in (
       λ t. way_values s.lo s.hi s.step c.args.v (record {
         before_end = sym e ∙ c.if-not-is_within.false;
         after_start = sym e' ∙ c.if-not-is_within-2.false;
-        whole_steps = sym q ∙ (search (rules, tests));
+        whole_steps = sym q ∙ c.is_whole.ensures.0 t;
       }),
-      λ w. eq-eqb _ _ (q ∙ (values_way s.lo s.hi s.step c.args.v w).whole_steps),
+      λ w. c.is_whole.ensures.1 (q ∙ (values_way s.lo s.hi s.step c.args.v w).whole_steps),
     )

@@ -38,9 +38,22 @@ use Rattle.ptg_base.specs.contracts.task.TaskId as row_4
 use Rattle.rank_core.specs.World.{after_run}
 
 abbrev stayed : Stays (f.ended).signature.params (f.ended).kept
-stayed = (stay_none_ref (0 ∷ []) tt (plain (λ _. trail.the_row)) yes, (stay_none_ref (1 ∷ []) tt (plain (λ _. row_1.the_row)) yes, (stay_none_ref (2 ∷ []) tt (plain (λ _. row_2.the_row)) yes, (stay_none_ref (3 ∷ []) tt (plain (λ _. row_3.the_row)) yes, (stay_none_ref (4 ∷ []) tt (plain (λ _. row_4.the_row)) yes, tt)))))
+stayed = (
+  stay_none_ref (0 ∷ []) tt (plain (λ _. trail.the_row)) yes,
+  (
+    stay_none_ref (1 ∷ []) tt (plain (λ _. row_1.the_row)) yes,
+    (
+      stay_none_ref (2 ∷ []) tt (plain (λ _. row_2.the_row)) yes,
+      (
+        stay_none_ref (3 ∷ []) tt (plain (λ _. row_3.the_row)) yes,
+        (stay_none_ref (4 ∷ []) tt (plain (λ _. row_4.the_row)) yes, tt),
+      ),
+    ),
+  ),
+)
 
-module _ {M : Type 1} {𝓤 : Ura M} (𝓛 : Logic 𝓤) (mem : Memory → SProp 𝓤) (run : Routine → Fun 𝓤) (C : Calls 𝓤 𝓛.H) (Λ : Loops 𝓤 𝓛.H) where
+module _ {M : Type 1} {𝓤 : Ura M} (𝓛 : Logic 𝓤) (mem : Memory → SProp 𝓤) (run : Routine → Fun 𝓤) (C : Calls 𝓤 𝓛.H)
+    (Λ : Loops 𝓤 𝓛.H) where
   open 𝓛 use {H}
 
   module _ (κs : Lfts 5) (qs : Shares 5) (a : Args f.signature κs) where
@@ -63,28 +76,67 @@ module _ {M : Type 1} {𝓤 : Ura M} (𝓛 : Logic 𝓤) (mem : Memory → SProp
     bound = ((κs, qs, tt, a, (ref_0 ∷ [], (ref_1 ∷ [], (ref_2 ∷ [], (ref_3 ∷ [], (ref_4 ∷ [], tt)))))), tt)
 
     abbrev passed : Fml
-    passed = owns (types_at f.signature.params κs) a (ref_0 ∷ [], (ref_1 ∷ [], (ref_2 ∷ [], (ref_3 ∷ [], (ref_4 ∷ [], tt)))))
+    passed = owns (types_at f.signature.params κs) a (
+      ref_0 ∷ [],
+      (ref_1 ∷ [], (ref_2 ∷ [], (ref_3 ∷ [], (ref_4 ∷ [], tt)))),
+    )
 
-    walk : ent 𝓤 (on_entry 𝓛 f.signature κs qs a (ref_0 ∷ [], (ref_1 ∷ [], (ref_2 ∷ [], (ref_3 ∷ [], (ref_4 ∷ [], tt))))))
-        (WpFn 𝓤 H C Λ code.function (ref_0 ∷ ref_1 ∷ ref_2 ∷ ref_3 ∷ ref_4 ∷ []) ((walk_of 𝓛 f.ended stayed (f.clauses 𝓛 mem run)).post bound))
+    walk : ent 𝓤 (on_entry 𝓛 f.signature κs qs a (
+      ref_0 ∷ [],
+      (ref_1 ∷ [], (ref_2 ∷ [], (ref_3 ∷ [], (ref_4 ∷ [], tt)))),
+    ))
+        (WpFn 𝓤 H C Λ code.function (ref_0 ∷ ref_1 ∷ ref_2 ∷ ref_3 ∷ ref_4 ∷ [])
+        ((walk_of 𝓛 f.ended stayed (f.clauses 𝓛 mem run)).post bound))
     walk =
-        qed 𝓛 (raw (alive 𝓛 f.signature κs qs) ∷ ‵ passed ∷ []) ∵ enter ! C Λ code.function (ref_0 ∷ ref_1 ∷ ref_2 ∷ ref_3 ∷ ref_4 ∷ []) _ $
-        alloc_all ! (λ l. pass_all ! refl ((tt, tt), ((tt, tt), ((tt, tt), ((tt, tt), ((tt, tt), tt))))) $ sets ! (agg ! (no_more !)) refl (tt, tt) $
+        qed 𝓛 (raw (alive 𝓛 f.signature κs qs) ∷ ‵ passed ∷ []) ∵ enter ! C Λ code.function
+        (ref_0 ∷ ref_1 ∷ ref_2 ∷ ref_3 ∷ ref_4 ∷ []) _ $
+        alloc_all ! (λ l. pass_all ! refl ((tt, tt), ((tt, tt), ((tt, tt), ((tt, tt), ((tt, tt), tt))))) $ sets !
+        (agg ! (no_more !)) refl (tt, tt) $
         returns ! (look_at ! 0 refl) $ free_all ! refl $
-        suffices ! _ (ends_at 𝓛 f.ended stayed (f.clauses 𝓛 mem run) bound (vstruct vnil) (record { state = after_run a.1.0.now a.1.1.0.now a.1.1.1.0.now.value a.0.now.state a.1.1.1.1.0.now }) (tt, (tt, (tt, (tt, (tt, tt))))) (tt, (tt, (tt, (tt, (tt, tt)))))) $
-        says ! refl $ pure_i ! (trail.the_row.own_val (record { state = after_run a.1.0.now a.1.1.0.now a.1.1.1.0.now.value a.0.now.state a.1.1.1.1.0.now }) (vstruct vnil ∷ [])) ((λ vss. (tt, tt)), tt) ((tt, (refl, tt)), tt) $
+        suffices ! _ (ends_at 𝓛 f.ended stayed (f.clauses 𝓛 mem run) bound (vstruct vnil)
+        (record { state = after_run a.1.0.now a.1.1.0.now a.1.1.1.0.now.value a.0.now.state a.1.1.1.1.0.now })
+        (tt, (tt, (tt, (tt, (tt, tt))))) (tt, (tt, (tt, (tt, (tt, tt)))))) $
+        says ! refl $ pure_i ! (trail.the_row.own_val (record
+        { state = after_run a.1.0.now a.1.1.0.now a.1.1.1.0.now.value a.0.now.state a.1.1.1.1.0.now })
+        (vstruct vnil ∷ [])) ((λ vss. (tt, tt)), tt) ((tt, (refl, tt)), tt) $
         move ! (1 ∷ 2 ∷ 0 ∷ []) $ done !)
 
   walks : Walks 𝓛 f.ended stayed (WpFn 𝓤 H C Λ code.function) (f.clauses 𝓛 mem run)
   walks =
-      walked 𝓛 f.ended stayed (f.clauses 𝓛 mem run) (WpFn 𝓤 H C Λ code.function) (λ κs. (shr_vals, (shr_vals, (shr_vals, (shr_vals, (shr_vals, tt))))))
-      (λ κs. (shr_Tells (named 0) κs.0 trail.the_row, (shr_Tells (named 1) κs.1.0 row_1.the_row, (shr_Tells (named 2) κs.1.1.0 row_2.the_row, (shr_Tells (named 3) κs.1.1.1.0 row_3.the_row, (shr_Tells (named 4) κs.1.1.1.1.0 row_4.the_row, tt))))))
+      walked 𝓛 f.ended stayed (f.clauses 𝓛 mem run) (WpFn 𝓤 H C Λ code.function)
+      (λ κs. (shr_vals, (shr_vals, (shr_vals, (shr_vals, (shr_vals, tt))))))
+      (λ κs. (
+        shr_Tells (named 0) κs.0 trail.the_row,
+        (
+          shr_Tells (named 1) κs.1.0 row_1.the_row,
+          (
+            shr_Tells (named 2) κs.1.1.0 row_2.the_row,
+            (
+              shr_Tells (named 3) κs.1.1.1.0 row_3.the_row,
+              (shr_Tells (named 4) κs.1.1.1.1.0 row_4.the_row, tt),
+            ),
+          ),
+        ),
+      ))
       (λ κs qs bounds a g are. via 𝓤 _ (fst∗ 𝓤 _ (emp 𝓤)) (walk κs qs a))
 
 meets : {M : Type 1} {𝓤 : Ura M} (𝓛 : Logic 𝓤) (mem : Memory → SProp 𝓤) (run : Routine → Fun 𝓤) (𝓣 : Tables 𝓤 𝓛.H)
     → Meets 𝓛 f.signature (WpFn 𝓤 𝓛.H 𝓣.C 𝓣.Λ code.function) (f.spec 𝓛 mem run)
 meets {𝓤 = 𝓤} 𝓛 mem run 𝓣 =
-    walk_Meets 𝓛 f.ended stayed (Goes-none_ref 𝓛 5 (0 ∷ []) tt (plain (λ _. trail.the_row)) yes, (Goes-none_ref 𝓛 5 (1 ∷ []) tt (plain (λ _. row_1.the_row)) yes, (Goes-none_ref 𝓛 5 (2 ∷ []) tt (plain (λ _. row_2.the_row)) yes, (Goes-none_ref 𝓛 5 (3 ∷ []) tt (plain (λ _. row_3.the_row)) yes, (Goes-none_ref 𝓛 5 (4 ∷ []) tt (plain (λ _. row_4.the_row)) yes, tt))))) (f.clauses 𝓛 mem run) (WpFn 𝓤 𝓛.H 𝓣.C 𝓣.Λ code.function)
+    walk_Meets 𝓛 f.ended stayed (
+      Goes-none_ref 𝓛 5 (0 ∷ []) tt (plain (λ _. trail.the_row)) yes,
+      (
+        Goes-none_ref 𝓛 5 (1 ∷ []) tt (plain (λ _. row_1.the_row)) yes,
+        (
+          Goes-none_ref 𝓛 5 (2 ∷ []) tt (plain (λ _. row_2.the_row)) yes,
+          (
+            Goes-none_ref 𝓛 5 (3 ∷ []) tt (plain (λ _. row_3.the_row)) yes,
+            (Goes-none_ref 𝓛 5 (4 ∷ []) tt (plain (λ _. row_4.the_row)) yes, tt),
+          ),
+        ),
+      ),
+    ) (f.clauses 𝓛 mem run)
+    (WpFn 𝓤 𝓛.H 𝓣.C 𝓣.Λ code.function)
     (WpFn-mono 𝓤 𝓛.H 𝓛.laws 𝓣 code.function) (walks 𝓛 mem run 𝓣.C 𝓣.Λ)
 
 pub with_run_spec : {M : Type 1} → stated.statement M

@@ -10,4 +10,5 @@ returns-clause-all c = λ quiet.
     let i = c.self.inside in
     let k = c.self.invariant in
     let q = subst (λ (w : WorldView). IsQuiet w.plan w.state) (sym c.self.view_is) quiet in
-    k.mail.sent ∙ messages_counted i.matched.now i.given (length i.ranks.items) k.consistent i.history.state k.sound q ∙ ap (λ (w : WorldView). message_count w.plan w.given w.ranks) c.self.view_is
+    k.mail.sent ∙ messages_counted i.matched.now i.given (length i.ranks.items) k.consistent i.history.state k.sound q
+    ∙ ap (λ (w : WorldView). message_count w.plan w.given w.ranks) c.self.view_is

@@ -18,6 +18,9 @@ loop-elems-preserved c =
     let p = c.in_ok-new_pool.field-0 in
     let made = c.in_ok-new_pool.ensures in
     record {
-      pools = pools_along_left (sym c.in_ok-push.ensures.items) (one_pool pools p c.loop-elems.invariant.pools made.room made.spare (made.zeros ∙ ap (λ n. replicate n (pos 0)) (sym made.elems)));
-      elems = more_elems pools p c.push.new.self.items c.as_slice-elems-items.result.now c.loop-elems.elems-index c.in_ok-push.ensures.items c.loop-elems.invariant.elems c.loop-elems-test.true made.elems;
+      pools = pools_along_left (sym c.in_ok-push.ensures.items)
+          (one_pool pools p c.loop-elems.invariant.pools made.room made.spare
+          (made.zeros ∙ ap (λ n. replicate n (pos 0)) (sym made.elems)));
+      elems = more_elems pools p c.push.new.self.items c.as_slice-elems-items.result.now c.loop-elems.elems-index
+          c.in_ok-push.ensures.items c.loop-elems.invariant.elems c.loop-elems-test.true made.elems;
     }

@@ -1,7 +1,7 @@
 use Rattle.std.proofs.Common.{arith, ap, ◌∙◌}
 use Rattle.table_rule.specs.Words.{stamp_word}
 use Rattle.table_rule.proofs.StepsAt.{draws_at}
-use Rattle.table_rule.proofs.table_words.TableWords.draw_stamp_of.Goals as goal
+use Rattle.table_rule.proofs.table_words.TableWords.draw_stamp.Goals as goal
 
 pub fetch_add-requires : goal.fetch_add-requires
 fetch_add-requires g c =

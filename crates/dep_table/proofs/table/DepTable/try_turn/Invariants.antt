@@ -1,8 +1,8 @@
 use Rattle.std.proofs.Common.{Some, []}
 use Rattle.table_rule.specs.Events.{no_sent, no_task}
 use Rattle.table_rule.specs.Seats.{words_job}
-use Rattle.table_rule.proofs.table_words.TableWords.take.Given as goal
+use Rattle.dep_table.proofs.table.DepTable.try_turn.Given as goal
 
-abbrev pub ghosts-take_of : goal.ghosts-take_of
-ghosts-take_of a =
+abbrev pub ghosts-take : goal.ghosts-take
+ghosts-take a =
     record { job = Some (words_job a.self.now); shard = a.shard; task = no_task; tiles = []; sent = no_sent }

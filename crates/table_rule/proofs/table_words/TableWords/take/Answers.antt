@@ -1,6 +1,6 @@
 use Rattle.std.proofs.Common.{arith}
 use Rattle.table_rule.proofs.StepsAt.{takes_at}
-use Rattle.table_rule.proofs.table_words.TableWords.take_of.Goals as goal
+use Rattle.table_rule.proofs.table_words.TableWords.take.Goals as goal
 
 pub swap-requires : goal.swap-requires
 swap-requires g c =

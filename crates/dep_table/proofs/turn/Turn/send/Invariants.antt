@@ -1,10 +1,10 @@
 use Rattle.std.proofs.Common.{None, []}
 use Rattle.std.specs.Option.{option_copied}
 use Rattle.table_rule.specs.Events.{no_task}
-use Rattle.table_rule.proofs.table_words.TableWords.give_send.Given as goal
+use Rattle.dep_table.proofs.turn.Turn.send.Given as goal
 
-abbrev pub ghosts-give_send_of : goal.ghosts-give_send_of
-ghosts-give_send_of a =
+abbrev pub ghosts-give_send : goal.ghosts-give_send
+ghosts-give_send a =
     record {
       job = None;
       shard = a.shard;

@@ -1,6 +1,6 @@
 use Rattle.std.proofs.Common.{arith}
 use Rattle.table_rule.proofs.SendingAt.{sends_at}
-use Rattle.table_rule.proofs.table_words.TableWords.give_send_of.Goals as goal
+use Rattle.table_rule.proofs.table_words.TableWords.give_send.Goals as goal
 
 pub store-requires : goal.store-requires
 store-requires g c =

@@ -1,7 +1,7 @@
 use Rattle.std.proofs.Common.{arith, ap, ◌∙◌}
 use Rattle.table_rule.specs.Words.{halt_word}
 use Rattle.table_rule.proofs.StepsAt.{reads_halt_at}
-use Rattle.table_rule.proofs.table_words.TableWords.read_halt_of.Goals as goal
+use Rattle.table_rule.proofs.table_words.TableWords.read_halt.Goals as goal
 
 pub load-requires : goal.load-requires
 load-requires g c =
