@@ -1,7 +1,8 @@
 -- What a body does to the tiles of its task, within a budget of units.
 -- Carried by: `run_body`; law `body_laws::more_units_change_nothing`.
 -- Tested by: `body_statements.txt`, `body_variables.txt`, `body_traps.txt`, `body_budget.txt`.
-use Rattle.std.specs.Prelude.{ℕ, zero, suc, ◌-◌, ℤ, pos, ◌+ℤ◌, ◌-ℤ◌, int_lt, unsigned_abs, List, [], ◌∷◌, ◌++◌, length, replicate, Result, Ok, Err, Option, if◌then◌else◌}
+use Rattle.std.specs.Prelude.{ℕ, zero, suc, ◌-◌, ℤ, pos, ◌+ℤ◌, ◌-ℤ◌, int_lt, unsigned_abs, List, [], ◌∷◌, ◌++◌, length, replicate, Result, Ok, Err}
+use Rattle.std.specs.Prelude.{Option, if◌then◌else◌}
 use Rattle.term_core.specs.Term.{Term}
 use Rattle.term_core.specs.Arith.{holds}
 use Rattle.ptg_base.specs.Returns.{and_then}

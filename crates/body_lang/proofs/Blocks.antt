@@ -17,7 +17,7 @@ use Rattle.body_lang.specs.Environment.{Environment}
 use Rattle.expr_names.specs.Symbols.{Resolved}
 use Rattle.body_lang.specs.Bindings.{Bindings}
 use Rattle.body_lang.specs.Statements.{Resolver, follow, resolved, statement_of}
-use Rattle.ptg_base.proofs.Refusals.{refuses_before}
+use Rattle.ptg_base.proofs.CallerLemmas.{refuses_before}
 
 -- a list of statements, and then others
 abbrev steps_onto : List Stmt → StatementList → StatementList
@@ -58,7 +58,8 @@ one_more front s k rest = go (rest k)
     go (Ok y) = ap (λ (t : StatementList). with_known y.1 t) (sym (onto_one front s y.0))
     go (Err e) = refl
 
-pub resolved-then : (scope : Environment) (s : StmtTree) (rest : Statements) (k : Bindings) → resolved scope (then s rest) k ≡ follow (statement_of scope s k) (resolved scope rest)
+pub resolved-then : (scope : Environment) (s : StmtTree) (rest : Statements) (k : Bindings)
+    → resolved scope (then s rest) k ≡ follow (statement_of scope s k) (resolved scope rest)
 resolved-then scope (tree.Declare w e) rest k = refl
 resolved-then scope (tree.Set w e) rest k = refl
 resolved-then scope (tree.Put w at e) rest k = refl
@@ -69,11 +70,14 @@ resolved-then scope (tree.Trap w) rest k = refl
 resolved-drop : (scope : Environment) (ss : List StmtTree) (i : ℕ) (s : StmtTree) → i < length ss → s ≡ get_or ss i s → (k : Bindings)
     → resolved scope (statements_of (drop i ss)) k ≡ follow (statement_of scope s k) (resolved scope (statements_of (drop (i + 1) ss)))
 resolved-drop scope ss i s below is k =
-    ap (λ xs. resolved scope (statements_of xs) k) (drop_more ss i s below ∙ ap (λ x. x ∷ drop (i + 1) ss) (sym is)) ∙ resolved-then scope s (statements_of (drop (i + 1) ss)) k
+    ap (λ xs. resolved scope (statements_of xs) k) (drop_more ss i s below ∙ ap (λ x. x ∷ drop (i + 1) ss) (sym is))
+    ∙ resolved-then scope s (statements_of (drop (i + 1) ss)) k
 
-module _ (scope : Environment) (ss : List StmtTree) (i : ℕ) (s : StmtTree) (below : i < length ss) (is : s ≡ get_or ss i s) (front : List Stmt) (k : Bindings) (total : Resolved (StatementList × Bindings))
+module _ (scope : Environment) (ss : List StmtTree) (i : ℕ) (s : StmtTree) (below : i < length ss)
+    (is : s ≡ get_or ss i s) (front : List Stmt) (k : Bindings) (total : Resolved (StatementList × Bindings))
     (before : so_far front (resolved scope (statements_of (drop i ss)) k) ≡ total) where
-  pub goes_on : (x : Stmt) (m : Bindings) (new : List Stmt) → new ≡ front ++ x ∷ [] → statement_of scope s k ≡ Ok (x, m) → so_far new (resolved scope (statements_of (drop (i + 1) ss)) m) ≡ total
+  pub goes_on : (x : Stmt) (m : Bindings) (new : List Stmt) → new ≡ front ++ x ∷ []
+      → statement_of scope s k ≡ Ok (x, m) → so_far new (resolved scope (statements_of (drop (i + 1) ss)) m) ≡ total
   goes_on x m new e h =
       ap (λ (l : List Stmt). so_far l (resolved scope (statements_of (drop (i + 1) ss)) m)) e
       ∙ (sym (one_more front x m (resolved scope (statements_of (drop (i + 1) ss))))
@@ -91,7 +95,8 @@ pub ends : (scope : Environment) (ss : List StmtTree) (i : ℕ) (front : List St
     → so_far front (resolved scope (statements_of (drop i ss)) k) ≡ total → total ≡ Ok (statement_list front, k)
 unfolding so_far
 ends scope ss i front k total all before =
-    sym before ∙ (ap (λ (l : List StmtTree). so_far front (resolved scope (statements_of l) k)) (drop_all i ss all) ∙ ap (λ (t : StatementList). Ok (t, k)) (onto_done front))
+    sym before ∙ (ap (λ (l : List StmtTree). so_far front (resolved scope (statements_of l) k)) (drop_all i ss all)
+    ∙ ap (λ (t : StatementList). Ok (t, k)) (onto_done front))
 
 -- ---- how many statements there are
 

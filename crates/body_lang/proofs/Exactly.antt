@@ -57,7 +57,8 @@ module _ (scope : Environment) (tokens : List Token) (finish : Spot) where
   of_tree t (Err OutOfMemory) h e = exactly (Err OutOfMemory) tt (λ f i. absurd cc)
 
   -- the result for a text that has a fault
-  pub of_broken : (x : ReadFault) (r : Refusal JdfFault) → IsFaultBefore tokens x → ReturnsRefusal r (broken_fault scope tokens finish (length tokens - x.left) x.code) → IsExact (Err r)
+  pub of_broken : (x : ReadFault) (r : Refusal JdfFault) → IsFaultBefore tokens x
+      → ReturnsRefusal r (broken_fault scope tokens finish (length tokens - x.left) x.code) → IsExact (Err r)
   of_broken x (Fault g) h e =
       exactly (Err (Fault g)) tt
       (λ f i. let same : g ≡ f = cc in inr (record { token_index = length tokens - x.left; code = x.code; broken = h.first; first = e ∙ ap failed same }))

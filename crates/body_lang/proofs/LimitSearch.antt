@@ -1,5 +1,6 @@
 -- The search for the first token that is too many, one token after the other.
-use Rattle.std.proofs.Common.{◌≡◌, ℕ, zero, suc, ◌+◌, ◌-◌, ◌≤◌, ◌<◌, Bool, true, false, cond, List, [], ◌∷◌, ◌++◌, length, take, drop, refl, sym, ap, ◌∙◌, arith, add-one}
+use Rattle.std.proofs.Common.{◌≡◌, ℕ, zero, suc, ◌+◌, ◌-◌, ◌≤◌, ◌<◌, Bool, true, false, cond, List, [], ◌∷◌, ◌++◌, length, take, drop, refl, sym, ap}
+use Rattle.std.proofs.Common.{◌∙◌, arith, add-one}
 use Rattle.std.specs.Prelude.{nat_le, ◌&&◌}
 use Rattle.std.proofs.lemmas.List.{drop_all, length-drop}
 use Rattle.std.proofs.lemmas.List.Sums.{sum_by_push}
@@ -17,11 +18,14 @@ module _ (p : List Token → Token → Bool) (s : List Token) (i total : ℕ) (s
   unfolding index_by
   stops_at x r e h = let k : index_by p (take i s) (x ∷ r) ≡ 0 = rw h refl in omega (arith, same, ap (index_by p (take i s)) e, k)
 
-  pub goes_on : (x : Token) (r : List Token) → drop i s ≡ x ∷ r → take (i + 1) s ≡ take i s ++ x ∷ [] → drop (i + 1) s ≡ r → p (take i s) x ≡ false → i + 1 + index_by p (take (i + 1) s) (drop (i + 1) s) ≡ total
+  pub goes_on : (x : Token) (r : List Token) → drop i s ≡ x ∷ r → take (i + 1) s ≡ take i s ++ x ∷ []
+      → drop (i + 1) s ≡ r → p (take i s) x ≡ false → i + 1 + index_by p (take (i + 1) s) (drop (i + 1) s) ≡ total
   unfolding index_by
   goes_on x r e front back h =
       let k : index_by p (take i s) (x ∷ r) ≡ suc (index_by p (take i s ++ x ∷ []) r) = rw h refl in
-      let m : index_by p (take (i + 1) s) (drop (i + 1) s) ≡ index_by p (take i s ++ x ∷ []) r = ap (λ (l : List Token). index_by p l (drop (i + 1) s)) front ∙ ap (index_by p (take i s ++ x ∷ [])) back in
+      let m : index_by p (take (i + 1) s) (drop (i + 1) s) ≡ index_by p (take i s ++ x ∷ []) r =
+      ap (λ (l : List Token). index_by p l (drop (i + 1) s)) front
+      ∙ ap (index_by p (take i s ++ x ∷ [])) back in
       omega (arith, same, ap (index_by p (take i s)) e, k, m)
 
   pub none_comes : length s ≤ i → i + 1 ≡ total
@@ -39,7 +43,11 @@ split_at (y ∷ s) zero x r e =
     let same : y ≡ x = cc in let rest : s ≡ r = cc in
     (ap (λ (z : Token). z ∷ []) same, rest)
 split_at [] (suc i) x r e = absurd cc
-split_at (y ∷ s) (suc i) x r e = let k = split_at s i x r e in (rw (add-one) (ap (λ (l : List Token). y ∷ l) (ap (λ (n : ℕ). take n s) (sym (add-one i)) ∙ k.0)), rw (add-one) (ap (λ (n : ℕ). drop n s) (sym (add-one i)) ∙ k.1))
+split_at (y ∷ s) (suc i) x r e = let k = split_at s i x r e in (
+  rw (add-one) (ap (λ (l : List Token). y ∷ l) (ap (λ (n : ℕ). take n s) (sym (add-one i)) ∙ k.0)),
+  rw (add-one)
+      (ap (λ (n : ℕ). drop n s) (sym (add-one i)) ∙ k.1),
+)
 
 -- one more is counted if it is one of these terminals
 more_of : (q : Terminal → Bool) (front : List Token) (x : Token) → how_many q (front ++ x ∷ []) ≡ how_many q front + cond (q (terminal_of x)) 1 0
@@ -90,14 +98,16 @@ module _ (s : List Token) (i opened closed : ℕ) (far : BlocksSoFar s i opened 
   pub blocks_end : length s ≤ i → i + 1 ≡ block_limit.at s
   blocks_end h = none_comes is_too_deep s i (block_limit.at s) far.same h
 
-  pub blocks_stop : (opens : Bool) → i < length s → opens ≡ starts (is terminal.LeftBrace) (drop i s) → opens ≡ true → nat_le (most_blocks s) (opened - closed) ≡ true → i ≡ block_limit.at s
+  pub blocks_stop : (opens : Bool) → i < length s → opens ≡ starts (is terminal.LeftBrace) (drop i s) → opens ≡ true
+      → nat_le (most_blocks s) (opened - closed) ≡ true → i ≡ block_limit.at s
   blocks_stop opens lt h here deep = go (drop i s) refl
     where
       go : (rest : List Token) → drop i s ≡ rest → i ≡ block_limit.at s
       go [] e = absurd (none_left s i lt e)
       go (x ∷ r) e = stops_at is_too_deep s i (block_limit.at s) far.same x r e (tests_alike opens x r e h ∙ rw (here, deep) refl)
 
-  pub blocks_go_on : (opens closes : Bool) → i < length s → opens ≡ starts (is terminal.LeftBrace) (drop i s) → closes ≡ starts (is terminal.RightBrace) (drop i s)
+  pub blocks_go_on : (opens closes : Bool) → i < length s → opens ≡ starts (is terminal.LeftBrace) (drop i s)
+      → closes ≡ starts (is terminal.RightBrace) (drop i s)
       → (opens && nat_le (most_blocks s) (opened - closed)) ≡ false → BlocksSoFar s (i + 1) (opened + cond opens 1 0) (closed + cond closes 1 0)
   blocks_go_on opens closes lt h k fits = go (drop i s) refl
     where
@@ -110,8 +120,16 @@ module _ (s : List Token) (i opened closed : ℕ) (far : BlocksSoFar s i opened 
       go (x ∷ r) e =
           let cut = split_at s i x r e in
           record {
-            opens = ap (λ (n : ℕ). n + cond opens 1 0) far.opens ∙ (ap (λ (b : Bool). how_many (is terminal.LeftBrace) (take i s) + cond b 1 0) (sym (next_of (is terminal.LeftBrace) opens x r (drop i s) e h)) ∙ (sym (more_of (is terminal.LeftBrace) (take i s) x) ∙ ap (how_many (is terminal.LeftBrace)) (sym cut.0)));
-            closes = ap (λ (n : ℕ). n + cond closes 1 0) far.closes ∙ (ap (λ (b : Bool). how_many (is terminal.RightBrace) (take i s) + cond b 1 0) (sym (next_of (is terminal.RightBrace) closes x r (drop i s) e k)) ∙ (sym (more_of (is terminal.RightBrace) (take i s) x) ∙ ap (how_many (is terminal.RightBrace)) (sym cut.0)));
+            opens = ap (λ (n : ℕ). n + cond opens 1 0) far.opens
+                ∙ (ap (λ (b : Bool). how_many (is terminal.LeftBrace) (take i s) + cond b 1 0)
+                (sym (next_of (is terminal.LeftBrace) opens x r (drop i s) e h))
+                ∙ (sym (more_of (is terminal.LeftBrace) (take i s) x)
+                ∙ ap (how_many (is terminal.LeftBrace)) (sym cut.0)));
+            closes = ap (λ (n : ℕ). n + cond closes 1 0) far.closes
+                ∙ (ap (λ (b : Bool). how_many (is terminal.RightBrace) (take i s) + cond b 1 0)
+                (sym (next_of (is terminal.RightBrace) closes x r (drop i s) e k))
+                ∙ (sym (more_of (is terminal.RightBrace) (take i s) x)
+                ∙ ap (how_many (is terminal.RightBrace)) (sym cut.0)));
             opened_at_most = omega (arith, small opens, far.opened_at_most);
             closed_at_most = omega (arith, small closes, far.closed_at_most);
             same = goes_on is_too_deep s i (block_limit.at s) far.same x r e cut.0 cut.1 (tests_alike opens x r e h ∙ fits);
@@ -128,7 +146,8 @@ unfolding variable_limit
 variables_begin s = record { declares_so_far = refl; at_most = omega arith; same = omega arith }
 
 module _ (s : List Token) (i declared : ℕ) (far : VariablesSoFar s i declared) where
-  tests_many : (here : Bool) (x : Token) (r : List Token) → drop i s ≡ x ∷ r → here ≡ starts declares (drop i s) → is_too_many (take i s) x ≡ (here && nat_le 256 declared)
+  tests_many : (here : Bool) (x : Token) (r : List Token) → drop i s ≡ x ∷ r → here ≡ starts declares (drop i s)
+      → is_too_many (take i s) x ≡ (here && nat_le 256 declared)
   unfolding is_too_many
   tests_many here x r e h =
       ap (λ (b : Bool). b && nat_le 256 (how_many declares (take i s))) (next_of declares here x r (drop i s) e h)
@@ -144,7 +163,8 @@ module _ (s : List Token) (i declared : ℕ) (far : VariablesSoFar s i declared)
       go [] e = absurd (none_left s i lt e)
       go (x ∷ r) e = stops_at is_too_many s i (variable_limit.at s) far.same x r e (tests_many here x r e h ∙ rw (one, many) refl)
 
-  pub variables_go_on : (here : Bool) → i < length s → here ≡ starts declares (drop i s) → (here && nat_le 256 declared) ≡ false → VariablesSoFar s (i + 1) (declared + cond here 1 0)
+  pub variables_go_on : (here : Bool) → i < length s → here ≡ starts declares (drop i s)
+      → (here && nat_le 256 declared) ≡ false → VariablesSoFar s (i + 1) (declared + cond here 1 0)
   variables_go_on here lt h fits = go (drop i s) refl
     where
       small : (b : Bool) → cond b 1 0 ≤ 1
@@ -156,7 +176,10 @@ module _ (s : List Token) (i declared : ℕ) (far : VariablesSoFar s i declared)
       go (x ∷ r) e =
           let cut = split_at s i x r e in
           record {
-            declares_so_far = ap (λ (n : ℕ). n + cond here 1 0) far.declares_so_far ∙ (ap (λ (b : Bool). how_many declares (take i s) + cond b 1 0) (sym (next_of declares here x r (drop i s) e h)) ∙ (sym (more_of declares (take i s) x) ∙ ap (how_many declares) (sym cut.0)));
+            declares_so_far = ap (λ (n : ℕ). n + cond here 1 0) far.declares_so_far
+                ∙ (ap (λ (b : Bool). how_many declares (take i s) + cond b 1 0)
+                (sym (next_of declares here x r (drop i s) e h))
+                ∙ (sym (more_of declares (take i s) x) ∙ ap (how_many declares) (sym cut.0)));
             at_most = omega (arith, small here, far.at_most);
             same = goes_on is_too_many s i (variable_limit.at s) far.same x r e cut.0 cut.1 (tests_many here x r e h ∙ fits);
           }

@@ -1,5 +1,6 @@
 -- The two limits of a body as one: the smaller of their indices, and its code.
-use Rattle.std.proofs.Common.{◌≡◌, ℕ, ◌-◌, ◌+◌, ◌≤◌, ◌<◌, Bool, true, false, cond, List, ◌∷◌, ◌++◌, length, take, drop, Ok, Err, refl, inl, inr, sym, ap, ◌∙◌, arith}
+use Rattle.std.proofs.Common.{◌≡◌, ℕ, ◌-◌, ◌+◌, ◌≤◌, ◌<◌, Bool, true, false, cond, List, ◌∷◌, ◌++◌, length, take, drop, Ok, Err, refl, inl, inr, sym}
+use Rattle.std.proofs.Common.{ap, ◌∙◌, arith}
 use Rattle.std.specs.Prelude.{◌==◌, nat_lt, nat_le, min, if◌then◌else◌}
 use Rattle.std.proofs.lemmas.Bool.{le-ltb, lt-ltb, cases_lt, le-leb, lt-leb}
 use Rattle.std.proofs.lemmas.Bool.Decides.{nat_tests}
@@ -10,19 +11,22 @@ use Rattle.jdf_lex.specs.Codes.{TooDeep, TooManyVars}
 use Rattle.grammar_core.specs.Production.{Limit, Derives, Derived}
 use Rattle.grammar_core.specs.Predictive.{is_fine}
 use Rattle.grammar_core.specs.Reading.{Read, judge, reading, fault_from_end}
-use Rattle.grammar_core.proofs.Sound.{Sound}
-use Rattle.grammar_core.proofs.Whole.{sound}
+use Rattle.grammar_core.proofs.CallerLemmas.{Sound, sound}
 use Rattle.jdf_lex.specs.Terminals.{terminal_at}
 use Rattle.jdf_tree.specs.BodyLimits.{block_limit, variable_limit}
-use Rattle.jdf_tree.specs.ExpressionGrammar.{number, parens, index, reference, signed, unary, product, sum, relation, equality, conjunction, disjunction, branches, expr, outer}
-use Rattle.jdf_tree.specs.BodyGrammar.{block, value, declaration, element, assignment, condition, otherwise, choice, for_loop, trap_statement, statement, statements, text, body}
+use Rattle.jdf_tree.specs.ExpressionGrammar.{number, parens, index, reference, signed, unary, product, sum, relation, equality, conjunction}
+use Rattle.jdf_tree.specs.ExpressionGrammar.{disjunction, branches, expr, outer}
+use Rattle.jdf_tree.specs.BodyGrammar.{block, value, declaration, element, assignment, condition, otherwise, choice, for_loop, trap_statement}
+use Rattle.jdf_tree.specs.BodyGrammar.{statement, statements, text, body}
 use Rattle.jdf_tree.specs.Grammar.{productions, claims}
 use Rattle.jdf_tree.specs.Statements.{Statements}
-use Rattle.jdf_tree.proofs.Fine.{productions_fine}
-use Rattle.expr_read.proofs.Windows as windows
+use Rattle.jdf_tree.proofs.CallerLemmas.{productions_fine}
+use Rattle.expr_read.proofs.CallerLemmas as windows
 
 pub text_fine : is_fine claims text ≡ true
-unfolding terminal_at text block statements statement declaration choice for_loop trap_statement assignment element value condition otherwise outer expr branches disjunction conjunction equality relation sum product unary signed number reference index parens
+unfolding terminal_at text block statements statement declaration choice for_loop trap_statement assignment element
+    value condition otherwise outer expr branches disjunction conjunction equality relation sum product unary signed
+    number reference index parens
 text_fine = refl
 
 text_sound : (s : List Token) → Sound (Derives (Derived productions) text) (reading productions text) s
@@ -74,7 +78,9 @@ abbrev limit : {A : Type 0} → ℕ → ℕ → Code → ℕ → Read A → Read
 limit size l e n r = cond (nat_lt l n) (Err (fault_from_end (size - l) e)) r
 
 module _ {A : Type 0} (a b size : ℕ) (c d : Code) where
-  passed : (n : ℕ) → n ≤ size → (r : Read A) → a < n → limit {A = A} size b d (size - (size - a)) (Err (fault_from_end (size - a) c)) ≡ limit size (min a b) (cond (nat_le a b) c d) n r
+  passed : (n : ℕ) → n ≤ size → (r : Read A) → a < n
+      → limit {A = A} size b d (size - (size - a)) (Err (fault_from_end (size - a) c))
+      ≡ limit size (min a b) (cond (nat_le a b) c d) n r
   passed n fits r h = elim (cases_lt b a) [
     | inl lt ↦
         let low : min a b ≡ b = omega (arith, lt) in
@@ -112,27 +118,36 @@ judged s = one_limit (block_limit.at s) (variable_limit.at s) TooDeep TooManyVar
 
 pub within_limit : (s : List Token) → length s ≤ min (block_limit.at s) (variable_limit.at s) → reading productions body s ≡ reading productions text s
 unfolding both
-within_limit s le = windows.within_limit both code_of (Derives (Derived productions) text) (reading productions text) text_sound (reading productions body) judged s le
+within_limit s le = windows.within_limit both code_of (Derives (Derived productions) text)
+    (reading productions text) text_sound (reading productions body) judged s le
 
 pub text_within : (s : List Token) (f : ReadFault) → reading productions text s ≡ Err f → f.left ≤ length s
-text_within s f e = windows.fault_within both code_of (Derives (Derived productions) text) (reading productions text) text_sound (reading productions body) judged s f e
+text_within s f e = windows.fault_within both code_of (Derives (Derived productions) text)
+    (reading productions text) text_sound (reading productions body) judged s f e
 
-module _ (s w v : List Token) (limit : ℕ) (is_limit : limit ≡ min (block_limit.at s) (variable_limit.at s)) (front : w ≡ take (limit + 1) s) (back : v ≡ drop (limit + 1) s) (long : limit < length s) where
+module _ (s w v : List Token) (limit : ℕ) (is_limit : limit ≡ min (block_limit.at s) (variable_limit.at s))
+    (front : w ≡ take (limit + 1) s) (back : v ≡ drop (limit + 1) s) (long : limit < length s) where
   pub slice : (t : Statements) (rest : List Token) → reading productions text w ≡ Ok (t, rest) → false ≡ (length rest == 0)
       → reading productions body s ≡ Ok (t, take (length s - (length w - length rest)) (drop (length w - length rest) s))
   unfolding both
-  slice t rest e some = windows.slice both code_of (Derives (Derived productions) text) (reading productions text) text_sound (reading productions body) judged s w v limit is_limit front back long t rest e some
+  slice t rest e some = windows.slice both code_of (Derives (Derived productions) text) (reading productions text)
+      text_sound (reading productions body) judged s w v limit is_limit front back long t rest e some
 
   pub fault : (f : ReadFault) → 0 < f.left → reading productions text w ≡ Err f → reading productions body s ≡ Err (fault_from_end (f.left + length v) f.code)
   unfolding both
-  fault f some e = windows.fault both code_of (Derives (Derived productions) text) (reading productions text) text_sound (reading productions body) judged s w v limit is_limit front back long f some e
+  fault f some e = windows.fault both code_of (Derives (Derived productions) text) (reading productions text)
+      text_sound (reading productions body) judged s w v limit is_limit front back long f some e
 
-  cut : ((t : Statements) (rest : List Token) → 0 < length rest → reading productions text w ≡ Ok (t, rest) → ⊥) → ((n : ReadFault) → 0 < n.left → reading productions text w ≡ Err n → ⊥) → reading productions body s ≡ Err (fault_from_end (length s - limit) (code_of s))
+  cut : ((t : Statements) (rest : List Token) → 0 < length rest → reading productions text w ≡ Ok (t, rest) → ⊥)
+      → ((n : ReadFault) → 0 < n.left → reading productions text w ≡ Err n → ⊥)
+      → reading productions body s ≡ Err (fault_from_end (length s - limit) (code_of s))
   unfolding both
-  cut a b = windows.cut both code_of (Derives (Derived productions) text) (reading productions text) text_sound (reading productions body) judged s w v limit is_limit front back long a b
+  cut a b = windows.cut both code_of (Derives (Derived productions) text) (reading productions text) text_sound
+      (reading productions body) judged s w v limit is_limit front back long a b
 
   -- the tokens were read up to the end of the window and no further
-  pub cut_after : (t : Statements) (rest : List Token) → reading productions text w ≡ Ok (t, rest) → true ≡ (length rest == 0) → reading productions body s ≡ Err (fault_from_end (length s - limit) (code_of s))
+  pub cut_after : (t : Statements) (rest : List Token) → reading productions text w ≡ Ok (t, rest)
+      → true ≡ (length rest == 0) → reading productions body s ≡ Err (fault_from_end (length s - limit) (code_of s))
   cut_after t rest e none = cut (λ t' rest' some e'. absurd (some_left t' rest' some e')) (λ n some e'. absurd (no_err n e'))
     where
       same : (x y : Statements × List Token) → reading productions text w ≡ Ok x → reading productions text w ≡ Ok y → x ≡ y
@@ -146,7 +161,8 @@ module _ (s w v : List Token) (limit : ℕ) (is_limit : limit ≡ min (block_lim
       no_err : (n : ReadFault) → reading productions text w ≡ Err n → ⊥
       no_err n e' = cc
 
-  pub cut_at_fault : (f : ReadFault) → reading productions text w ≡ Err f → f.left ≡ 0 → reading productions body s ≡ Err (fault_from_end (length s - limit) (code_of s))
+  pub cut_at_fault : (f : ReadFault) → reading productions text w ≡ Err f → f.left ≡ 0
+      → reading productions body s ≡ Err (fault_from_end (length s - limit) (code_of s))
   cut_at_fault f e none = cut (λ t rest some e'. absurd (no_ok t rest e')) (λ n some e'. absurd (left n some e'))
     where
       no_ok : (t : Statements) (rest : List Token) → reading productions text w ≡ Ok (t, rest) → ⊥

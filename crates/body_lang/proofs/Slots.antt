@@ -30,7 +30,8 @@ slots_reverse first end (v ∷ vs) h =
     subst (λ (l : List Variable). AreSlots first end l) (sym e) (slots_append first end (reverse vs) (v ∷ []) (slots_reverse first end vs h.2) (h.0, h.1, tt))
 
 -- the slot of a variable that is found is within the same bounds
-slot_found : (first end : ℕ) (p : Variable → Bool) (xs : List Variable) (v : Variable) → AreSlots first end xs → find p xs ≡ Some v → (first ≤ v.slot) × (v.slot < end)
+slot_found : (first end : ℕ) (p : Variable → Bool) (xs : List Variable) (v : Variable) → AreSlots first end xs
+    → find p xs ≡ Some v → (first ≤ v.slot) × (v.slot < end)
 slot_found first end p [] v h e = absurd cc
 slot_found first end p (x ∷ xs) v h e = first_or (p x) e (slot_found first end p xs v h.2)
   where
@@ -38,5 +39,6 @@ slot_found first end p (x ∷ xs) v h e = first_or (p x) e (slot_found first end
     first_or true e later = let same : x ≡ v = cc in subst (λ (y : Variable). (first ≤ y.slot) × (y.slot < end)) same (h.0, h.1)
     first_or false e later = later e
 
-pub last_found : (first end : ℕ) (p : Variable → Bool) (xs : List Variable) (v : Variable) → AreSlots first end xs → find p (reverse xs) ≡ Some v → (first ≤ v.slot) × (v.slot < end)
+pub last_found : (first end : ℕ) (p : Variable → Bool) (xs : List Variable) (v : Variable) → AreSlots first end xs
+    → find p (reverse xs) ≡ Some v → (first ≤ v.slot) × (v.slot < end)
 last_found first end p xs v h e = slot_found first end p (reverse xs) v (slots_reverse first end xs h) e

@@ -20,7 +20,7 @@ use Rattle.body_lang.specs.declared.variable.Variable.{Variable}
 use Rattle.body_lang.specs.Meanings.{last_named, variable_or, collection_or_nothing, meaning_of, flow_named, outer_meaning}
 use Rattle.expr_names.specs.Symbols.{Resolved}
 use Rattle.body_lang.specs.Expressions.{value_of, slot_of, readable, writable, if_flow, flow_by, read_flow, written_flow, symbols_of, term_of}
-use Rattle.expr_names.proofs.Closed as closed
+use Rattle.expr_names.proofs.CallerLemmas as closed
 use Rattle.body_lang.proofs.Slots.{AreSlots, last_found}
 use Rattle.list_lemmas.proofs.Places.{position_within}
 use Rattle.list_lemmas.proofs.Options.{same_Ok}
@@ -46,7 +46,9 @@ module _ (scope : Environment) (end : ℕ) (room : length scope.locals ≤ end) 
   local_there None m below h = h
   local_there (Some n) m below h = below n refl
 
-  variable_there : (o : Option Variable) (m : Meaning) → ((v : Variable) → o ≡ Some v → (length scope.locals ≤ v.slot) × (v.slot < end)) → IsThere m → IsThere (variable_or o m)
+  variable_there : (o : Option Variable) (m : Meaning)
+      → ((v : Variable) → o ≡ Some v → (length scope.locals ≤ v.slot) × (v.slot < end)) → IsThere m
+      → IsThere (variable_or o m)
   variable_there None m found h = h
   variable_there (Some v) m found h = go v.is_loop_variable
     where
@@ -93,20 +95,26 @@ module _ (scope : Environment) (end : ℕ) (room : length scope.locals ≤ end) 
     writable_is w n m kind.Read e = absurd cc
     writable_is w n m _ e = same_Ok n m e
 
-    flow_is : (use_of : Word → FlowKind → ℕ → Resolved ℕ) → ((w : Word) (n m : ℕ) (k : FlowKind) → use_of w k n ≡ Ok m → n ≡ m) → (w : Word) (n m : ℕ) (o : Option FlowName) → if_flow use_of w n o ≡ Ok m → n ≡ m
+    flow_is : (use_of : Word → FlowKind → ℕ → Resolved ℕ)
+        → ((w : Word) (n m : ℕ) (k : FlowKind) → use_of w k n ≡ Ok m → n ≡ m)
+        → (w : Word) (n m : ℕ) (o : Option FlowName) → if_flow use_of w n o ≡ Ok m → n ≡ m
     flow_is use_of same w n m None e = absurd cc
     flow_is use_of same w n m (Some flow) e = same w n m flow.kind e
 
-    flow_below : (use_of : Word → FlowKind → ℕ → Resolved ℕ) → ((w : Word) (n m : ℕ) (k : FlowKind) → use_of w k n ≡ Ok m → n ≡ m) → (w : Word) (m : ℕ) (o : Option ℕ) → ((n : ℕ) → o ≡ Some n → n < length scope.flows)
+    flow_below : (use_of : Word → FlowKind → ℕ → Resolved ℕ)
+        → ((w : Word) (n m : ℕ) (k : FlowKind) → use_of w k n ≡ Ok m → n ≡ m) → (w : Word) (m : ℕ) (o : Option ℕ)
+        → ((n : ℕ) → o ≡ Some n → n < length scope.flows)
         → flow_by use_of scope w o ≡ Ok m → m < length scope.flows
     flow_below use_of same w m None below e = absurd cc
     flow_below use_of same w m (Some n) below e = let k = flow_is use_of same w n m (slice_get scope.flows n) e in let b = below n refl in omega (arith, k, b)
 
     pub read_below : (w : Word) (m : ℕ) → read_flow scope w ≡ Ok m → m < length scope.flows
-    read_below w m e = flow_below readable readable_is w m (flow_named scope w.text) (λ n h. position_within (λ (x : FlowName). bytes_eq x.name w.text) scope.flows n h) e
+    read_below w m e = flow_below readable readable_is w m (flow_named scope w.text)
+        (λ n h. position_within (λ (x : FlowName). bytes_eq x.name w.text) scope.flows n h) e
 
     pub written_below : (w : Word) (m : ℕ) → written_flow scope w ≡ Ok m → m < length scope.flows
-    written_below w m e = flow_below writable writable_is w m (flow_named scope w.text) (λ n h. position_within (λ (x : FlowName). bytes_eq x.name w.text) scope.flows n h) e
+    written_below w m e = flow_below writable writable_is w m (flow_named scope w.text)
+        (λ n h. position_within (λ (x : FlowName). bytes_eq x.name w.text) scope.flows n h) e
 
     -- ---- expressions
 

@@ -11,14 +11,13 @@ use Rattle.ptg_base.specs.declared.refusal.Refusal.TheVariants as errors
 use Rattle.grammar_core.specs.declared.fault.ReadFault.{ReadFault}
 use Rattle.grammar_core.specs.Refusing.{ReadRefusal}
 use Rattle.grammar_core.specs.Reading.{whole, fault_from_end}
-use Rattle.grammar_core.proofs.Whole.{text_found, text_only, fault_index, fault_is, fault_within, one_fault}
+use Rattle.grammar_core.proofs.CallerLemmas.{fault_index, fault_is_of_whole as fault_is, fault_within, one_fault, text_found, text_only}
 use Rattle.ptg_base.specs.Returns.{FindsOrRefuses, Returns, ReturnsRefusal}
 use Rattle.jdf_lex.specs.declared.fault.JdfFault.{JdfFault}
 use Rattle.jdf_tree.specs.BodyGrammar.{body}
 use Rattle.jdf_tree.specs.Grammar.{productions, claims}
 use Rattle.jdf_tree.specs.Statements.{Statements}
-use Rattle.jdf_tree.proofs.Fine.{productions_fine}
-use Rattle.jdf_tree.proofs.Limits.{productions_limits, body_text_limits}
+use Rattle.jdf_tree.proofs.CallerLemmas.{body_text_limits, productions_fine, productions_limits}
 use Rattle.expr_read.specs.Front.{fault_at}
 use Rattle.body_lang.specs.Text.{IsTree, IsFaultBefore, IsTreeFault}
 use Rattle.body_lang.proofs.Limited.{text_fine}
@@ -40,7 +39,8 @@ faulty s n c e = fault_is productions claims productions_fine productions_limits
 fault_left : (s : List Token) (n : ReadFault) → whole productions body s ≡ Err n → n.left ≤ length s
 fault_left s n e = fault_within productions claims productions_fine productions_limits body body_fine body_text_limits s n e
 
-pub fault_read : (s : List Token) (place : ℕ) (c : Code) → IsFirstFault productions body s place c → whole productions body s ≡ Err (fault_from_end (length s - place) c)
+pub fault_read : (s : List Token) (place : ℕ) (c : Code) → IsFirstFault productions body s place c
+    → whole productions body s ≡ Err (fault_from_end (length s - place) c)
 fault_read s place c h = one_fault productions claims productions_fine productions_limits body body_fine body_text_limits s place c h
 
 -- ---- the result is the only one
@@ -54,7 +54,8 @@ no_fault s t p c e h = Ok≢Err t (fault_from_end (length s - p) c) (sym e ∙ f
 pub no_tree : (s : List Token) (n : ReadFault) (t : Statements) → whole productions body s ≡ Err n → IsText productions body s t None → ⊥
 no_tree s n t e h = Ok≢Err t n (sym (only s t h) ∙ e)
 
-pub one_place : (s : List Token) (left p : ℕ) (d c : Code) → whole productions body s ≡ Err (fault_from_end left d) → IsFirstFault productions body s p c → (length s - left ≡ p) × (d ≡ c)
+pub one_place : (s : List Token) (left p : ℕ) (d c : Code) → whole productions body s ≡ Err (fault_from_end left d)
+    → IsFirstFault productions body s p c → (length s - left ≡ p) × (d ≡ c)
 one_place s left p d c e h =
     let same = same_Err (fault_from_end left d) (fault_from_end (length s - p) c) (sym e ∙ fault_read s p c h) in
     let n = ap (λ (m : ReadFault). m.left) same in
@@ -135,7 +136,8 @@ module _ (s : List Token) (finish : Spot) where
   pub read_no_memory : Reads (Err errors.OutOfMemory)
   read_no_memory = record { found = tt; only = λ t h. inr refl; fault = λ f h. absurd cc; refused = λ f h. inr refl }
 
-  pub read_fault : (n : ℕ) (d : Code) (f : JdfFault) → whole productions body s ≡ Err (fault_from_end n d) → f ≡ fault_at s finish (length s - n) d → Reads (Err (errors.Fault f))
+  pub read_fault : (n : ℕ) (d : Code) (f : JdfFault) → whole productions body s ≡ Err (fault_from_end n d)
+      → f ≡ fault_at s finish (length s - n) d → Reads (Err (errors.Fault f))
   read_fault n d f e at =
       record {
         found = tt;

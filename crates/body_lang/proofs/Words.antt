@@ -74,7 +74,9 @@ traps_of_both k m q ws vs ns ms a b =
       own = λ more.
           map-append (λ (n : ℕ). slice_get (q.words ++ more) n) ns ms
           ∙ (ap (λ (l : List (Option (List ℕ))). l ++ looked_up (q.words ++ more) ms)
-          (ap (λ (l : List (List ℕ)). looked_up (l ++ more) ns) (b.words ∙ l.is) ∙ (ap (λ (l : List (List ℕ)). looked_up l ns) (append_assoc m.words l.more more) ∙ a.own (l.more ++ more)))
+          (ap (λ (l : List (List ℕ)). looked_up (l ++ more) ns) (b.words ∙ l.is)
+          ∙ (ap (λ (l : List (List ℕ)). looked_up l ns) (append_assoc m.words l.more more)
+          ∙ a.own (l.more ++ more)))
           ∙ (ap (λ (l : List (Option (List ℕ))). each_some ws ++ l) (b.own more) ∙ sym (map-append (λ (w : List ℕ). Some w) ws vs)));
     }
 
@@ -85,7 +87,8 @@ abbrev pub IfValue : {A : Type 0} → (A → Type 0) → Resolved A → Type 0
 IfValue P (Ok x) = P x
 IfValue P (Err f) = Unit {0}
 
-pub after_if_value : {A B : Type 0} (P : A → Type 0) (Q : B → Type 0) (r : Resolved A) (f : A → Resolved B) → IfValue P r → ((x : A) → P x → IfValue Q (f x)) → IfValue Q (and_then r f)
+pub after_if_value : {A B : Type 0} (P : A → Type 0) (Q : B → Type 0) (r : Resolved A) (f : A → Resolved B)
+    → IfValue P r → ((x : A) → P x → IfValue Q (f x)) → IfValue Q (and_then r f)
 after_if_value P Q (Ok x) f h k = k x h
 after_if_value P Q (Err e) f h k = tt
 
@@ -122,11 +125,15 @@ abbrev GivesTraps : Resolver → List (List ℕ) → Type 0
 GivesTraps block ws = (k : Bindings) → IfValue (HasTrapsOfAll k ws) (block k)
 
 -- the word of a trap and its number, by what looking it up returned
-traps_of_trap_by : (text : List ℕ) (k : Bindings) (o : Option ℕ) → position (λ (v : List ℕ). bytes_eq v text) k.words ≡ o → HasTraps k (numbered text k o).1 (text ∷ []) ((numbered text k o).0 ∷ [])
+traps_of_trap_by : (text : List ℕ) (k : Bindings) (o : Option ℕ)
+    → position (λ (v : List ℕ). bytes_eq v text) k.words ≡ o
+    → HasTraps k (numbered text k o).1 (text ∷ []) ((numbered text k o).0 ∷ [])
 traps_of_trap_by text k None e =
     record {
       words = sym (ap (with_word k.words text) e);
-      own = λ more. ap (λ (x : Option (List ℕ)). x ∷ []) (ap (λ (l : List (List ℕ)). slice_get l (length k.words)) (append_assoc k.words (text ∷ []) more) ∙ at_end k.words more);
+      own = λ more. ap (λ (x : Option (List ℕ)). x ∷ [])
+          (ap (λ (l : List (List ℕ)). slice_get l (length k.words)) (append_assoc k.words (text ∷ []) more)
+          ∙ at_end k.words more);
     }
   where
     at_end : (xs more : List (List ℕ)) → slice_get (xs ++ text ∷ more) (length xs) ≡ Some text
@@ -149,41 +156,57 @@ traps_of_trap_by text k (Some n) e =
 module _ (scope : Environment) where
   traps_of_declare : (w : Word) (e : Expression) (k : Bindings) → IfValue (HasTrapsOfOne k []) (declare scope w e k)
   traps_of_declare w e k =
-      past (HasTrapsOfOne k []) (require_room w k) _ (λ _. past (HasTrapsOfOne k []) (require_fresh w k) _ (λ _. past (HasTrapsOfOne k []) (term_of scope k.seen e) _ (λ x. no_traps k _ refl)))
+      past (HasTrapsOfOne k []) (require_room w k) _
+      (λ _. past (HasTrapsOfOne k []) (require_fresh w k) _
+      (λ _. past (HasTrapsOfOne k []) (term_of scope k.seen e) _ (λ x. no_traps k _ refl)))
 
   traps_of_set : (w : Word) (e : Expression) (k : Bindings) → IfValue (HasTrapsOfOne k []) (set scope w e k)
-  traps_of_set w e k = past (HasTrapsOfOne k []) (slot_of w (meaning_of scope k.seen w.text)) _ (λ n. past (HasTrapsOfOne k []) (term_of scope k.seen e) _ (λ x. no_traps k _ refl))
+  traps_of_set w e k = past (HasTrapsOfOne k []) (slot_of w (meaning_of scope k.seen w.text)) _
+      (λ n. past (HasTrapsOfOne k []) (term_of scope k.seen e) _ (λ x. no_traps k _ refl))
 
   traps_of_put : (w : Word) (i e : Expression) (k : Bindings) → IfValue (HasTrapsOfOne k []) (put scope w i e k)
   traps_of_put w i e k =
-      past (HasTrapsOfOne k []) (written_flow scope w) _ (λ flow. past (HasTrapsOfOne k []) (term_of scope k.seen i) _ (λ x. past (HasTrapsOfOne k []) (term_of scope k.seen e) _ (λ y. no_traps k _ refl)))
+      past (HasTrapsOfOne k []) (written_flow scope w) _
+      (λ flow. past (HasTrapsOfOne k []) (term_of scope k.seen i) _
+      (λ x. past (HasTrapsOfOne k []) (term_of scope k.seen e) _ (λ y. no_traps k _ refl)))
 
-  traps_inside : (opening : Bindings → Bindings) (block : Resolver) (ws : List (List ℕ)) → GivesTraps block ws → (k : Bindings) → (opening k).words ≡ k.words → IfValue (HasTrapsOfAll k ws) (in_block opening block k)
+  traps_inside : (opening : Bindings → Bindings) (block : Resolver) (ws : List (List ℕ)) → GivesTraps block ws
+      → (k : Bindings) → (opening k).words ≡ k.words → IfValue (HasTrapsOfAll k ws) (in_block opening block k)
   traps_inside opening block ws h k e =
-      after_if_value (HasTrapsOfAll (opening k) ws) (HasTrapsOfAll k ws) (block (opening k)) _ (h (opening k)) (λ x t. record { words = t.words ∙ ap (λ (f : List (List ℕ)). words_in_order f ws) e; own = t.own })
+      after_if_value (HasTrapsOfAll (opening k) ws) (HasTrapsOfAll k ws) (block (opening k)) _ (h (opening k))
+      (λ x t. record { words = t.words ∙ ap (λ (f : List (List ℕ)). words_in_order f ws) e; own = t.own })
 
-  traps_of_choice : (c : Expression) (first second : Resolver) (ws vs : List (List ℕ)) → GivesTraps first ws → GivesTraps second vs → (k : Bindings) → IfValue (HasTrapsOfOne k (ws ++ vs)) (if_else scope c first second k)
+  traps_of_choice : (c : Expression) (first second : Resolver) (ws vs : List (List ℕ)) → GivesTraps first ws
+      → GivesTraps second vs → (k : Bindings)
+      → IfValue (HasTrapsOfOne k (ws ++ vs)) (if_else scope c first second k)
   traps_of_choice c first second ws vs one two k =
       past (HasTrapsOfOne k (ws ++ vs)) (term_of scope k.seen c) _
       (λ x. after_if_value (HasTrapsOfAll k ws) (HasTrapsOfOne k (ws ++ vs)) (in_block block_opened first k) _ (traps_inside block_opened first ws one k refl)
-      (λ a s. after_if_value (HasTrapsOfAll a.1 vs) (HasTrapsOfOne k (ws ++ vs)) (in_block block_opened second a.1) _ (traps_inside block_opened second vs two a.1 refl)
+      (λ a s. after_if_value (HasTrapsOfAll a.1 vs) (HasTrapsOfOne k (ws ++ vs)) (in_block block_opened second a.1)
+      _ (traps_inside block_opened second vs two a.1 refl)
       (λ b t. traps_of_both k a.1 b.1 ws vs (numbers_of a.0) (numbers_of b.0) s t)))
 
-  traps_of_loop : (w : Word) (lo hi : Expression) (turn : Resolver) (ws : List (List ℕ)) → GivesTraps turn ws → (k : Bindings) → IfValue (HasTrapsOfOne k ws) (for_loop scope w lo hi turn k)
+  traps_of_loop : (w : Word) (lo hi : Expression) (turn : Resolver) (ws : List (List ℕ)) → GivesTraps turn ws
+      → (k : Bindings) → IfValue (HasTrapsOfOne k ws) (for_loop scope w lo hi turn k)
   traps_of_loop w lo hi turn ws h k =
       past (HasTrapsOfOne k ws) (require_room w k) _
       (λ _. past (HasTrapsOfOne k ws) (term_of scope k.seen lo) _
       (λ x. past (HasTrapsOfOne k ws) (term_of scope k.seen hi) _
-      (λ y. after_if_value (HasTrapsOfAll k ws) (HasTrapsOfOne k ws) (in_block (λ m. with_variable scope w.text true (block_opened m)) turn k) _ (traps_inside (λ m. with_variable scope w.text true (block_opened m)) turn ws h k refl) (λ t s. s))))
+      (λ y. after_if_value (HasTrapsOfAll k ws) (HasTrapsOfOne k ws)
+      (in_block (λ m. with_variable scope w.text true (block_opened m)) turn k) _
+      (traps_inside (λ m. with_variable scope w.text true (block_opened m)) turn ws h k refl) (λ t s. s))))
 
   traps_of_trap : (w : Word) (k : Bindings) → IfValue (HasTrapsOfOne k (w.text ∷ [])) (trap w k)
   traps_of_trap w k = traps_of_trap_by w.text k (position (λ (v : List ℕ). bytes_eq v w.text) k.words) refl
 
-  traps_of_follow : (k : Bindings) (ws vs : List (List ℕ)) (first : Resolved (Stmt × Bindings)) (rest : Resolver) → IfValue (HasTrapsOfOne k ws) first → GivesTraps rest vs → IfValue (HasTrapsOfAll k (ws ++ vs)) (follow first rest)
+  traps_of_follow : (k : Bindings) (ws vs : List (List ℕ)) (first : Resolved (Stmt × Bindings)) (rest : Resolver)
+      → IfValue (HasTrapsOfOne k ws) first → GivesTraps rest vs
+      → IfValue (HasTrapsOfAll k (ws ++ vs)) (follow first rest)
   traps_of_follow k ws vs first rest one more =
       after_if_value (HasTrapsOfOne k ws) (HasTrapsOfAll k (ws ++ vs)) first _ one
       (λ x s. after_if_value (HasTrapsOfAll x.1 vs) (HasTrapsOfAll k (ws ++ vs)) (rest x.1) _ (more x.1)
-      (λ y t. subst (λ (ns : List ℕ). HasTraps k y.1 (ws ++ vs) ns) (sym (numbers_then x.0 y.0)) (traps_of_both k x.1 y.1 ws vs (numbers_in x.0) (numbers_of y.0) s t)))
+      (λ y t. subst (λ (ns : List ℕ). HasTraps k y.1 (ws ++ vs) ns) (sym (numbers_then x.0 y.0))
+      (traps_of_both k x.1 y.1 ws vs (numbers_in x.0) (numbers_of y.0) s t)))
 
   traps_of : (t : Statements) → GivesTraps (resolved scope t) (words_of t)
   traps_of Done k = no_traps k k refl
@@ -191,10 +214,13 @@ module _ (scope : Environment) where
   traps_of (SetThen w e rest) k = traps_of_follow k [] (words_of rest) (set scope w e k) (resolved scope rest) (traps_of_set w e k) (traps_of rest)
   traps_of (PutThen w i e rest) k = traps_of_follow k [] (words_of rest) (put scope w i e k) (resolved scope rest) (traps_of_put w i e k) (traps_of rest)
   traps_of (IfThen c first second rest) k =
-      traps_of_follow k (words_of first ++ words_of second) (words_of rest) (if_else scope c (resolved scope first) (resolved scope second) k) (resolved scope rest)
+      traps_of_follow k (words_of first ++ words_of second) (words_of rest)
+      (if_else scope c (resolved scope first) (resolved scope second) k) (resolved scope rest)
       (traps_of_choice c (resolved scope first) (resolved scope second) (words_of first) (words_of second) (traps_of first) (traps_of second) k) (traps_of rest)
   traps_of (ForThen w lo hi turn rest) k =
-      traps_of_follow k (words_of turn) (words_of rest) (for_loop scope w lo hi (resolved scope turn) k) (resolved scope rest) (traps_of_loop w lo hi (resolved scope turn) (words_of turn) (traps_of turn) k) (traps_of rest)
+      traps_of_follow k (words_of turn) (words_of rest) (for_loop scope w lo hi (resolved scope turn) k)
+      (resolved scope rest) (traps_of_loop w lo hi (resolved scope turn) (words_of turn) (traps_of turn) k)
+      (traps_of rest)
   traps_of (TrapThen w rest) k = traps_of_follow k (w.text ∷ []) (words_of rest) (trap w k) (resolved scope rest) (traps_of_trap w k) (traps_of rest)
 
   -- ---- a whole body
@@ -210,7 +236,8 @@ module _ (scope : Environment) where
   of_body : (t : Statements) (x : Body × List (List ℕ)) → body_of scope t ≡ Ok x → HasTrapsOfBody t x
   of_body t x e = subst (λ (r : Resolved (Body × List (List ℕ))). IfValue (HasTrapsOfBody t) r) e (traps_of_body t)
 
-  pub own_words : (t : Statements) (x : Body × List (List ℕ)) → body_of scope t ≡ Ok x → map (λ (n : ℕ). slice_get x.1 n) (numbers_of x.0.statements) ≡ map (λ (w : List ℕ). Some w) (words_of t)
+  pub own_words : (t : Statements) (x : Body × List (List ℕ)) → body_of scope t ≡ Ok x
+      → map (λ (n : ℕ). slice_get x.1 n) (numbers_of x.0.statements) ≡ map (λ (w : List ℕ). Some w) (words_of t)
   own_words t x e = (of_body t x e).0
 
   pub words_once : (t : Statements) (x : Body × List (List ℕ)) → body_of scope t ≡ Ok x → x.1 ≡ words_in_order [] (words_of t)

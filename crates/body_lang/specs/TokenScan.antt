@@ -2,7 +2,8 @@
 -- by the tokens beside it.
 -- Carried by: `front_fault`; law `body_laws::names_agree`.
 -- Tested by: `body_broken.txt`.
-use Rattle.std.specs.Prelude.{ℕ, suc, zero, ◌-◌, Bool, true, false, ◌&&◌, ◌||◌, List, [], ◌∷◌, ◌++◌, length, take, Option, Some, None, Ok, if◌then◌else◌, slice_get}
+use Rattle.std.specs.Prelude.{ℕ, suc, zero, ◌-◌, Bool, true, false, ◌&&◌, ◌||◌, List, [], ◌∷◌, ◌++◌, length, take, Option, Some, None, Ok}
+use Rattle.std.specs.Prelude.{if◌then◌else◌, slice_get}
 use Rattle.grammar_core.specs.declared.token.Token.{Token}
 use Rattle.jdf_lex.specs.declared.terminal.Terminal.{Terminal}
 use Rattle.jdf_lex.specs.declared.terminal.Terminal.TheVariants as terminal

@@ -8,7 +8,7 @@ use Rattle.jdf_lex.specs.declared.terminal.Terminal.TheVariants as terminal
 use Rattle.grammar_core.specs.Production.{seq, map, opt, Fault, Language, Many, Derives, DerivedWithin, Derived}
 use Rattle.jdf_lex.specs.Sets.{one_of, starts}
 use Rattle.jdf_lex.specs.Terminals.{terminal_of, is}
-use Rattle.text_laws.proofs.Disjoint.{are_disjoint, disjoint_at}
+use Rattle.text_laws.proofs.CallerLemmas.{are_disjoint, disjoint_at}
 use Rattle.term_core.specs.declared.operator.BinOp.{BinOp}
 use Rattle.term_core.specs.Term.{Term}
 use Rattle.term_core.specs.Term as term

@@ -12,7 +12,7 @@ use Rattle.body_eval.specs.State.{State, spent, assigned, value_in, put}
 use Rattle.body_eval.specs.Element.{put_element}
 use Rattle.body_eval.specs.Meaning.{first_then, set_meaning, put_meaning, if_meaning, turns, turn_values, for_meaning, run, opening}
 use Rattle.body_laws.specs.MoreUnits.{DoesTheSame}
-use Rattle.body_eval.proofs.Units.{state_with, spent_one}
+use Rattle.body_eval.proofs.CallerLemmas.{spent_one, state_with}
 
 module _ (m : ℕ) where
   -- the same state with m more units

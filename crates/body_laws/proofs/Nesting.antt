@@ -33,7 +33,7 @@ use Rattle.body_lang.specs.Expressions.{term_of}
 use Rattle.body_lang.specs.Bindings.{Bindings, no_bindings, block_opened, block_closed, next_slot, with_variable, require_room}
 use Rattle.body_lang.specs.Statements.{in_block, resolved, statement_of, body_of}
 use Rattle.body_lang.specs.Statements as resolving
-use Rattle.body_lang.proofs.Blocks.{resolved-then}
+use Rattle.body_lang.proofs.CallerLemmas.{resolved-then}
 use Rattle.body_lang.specs.TokenScan.{TokenScan, at_first, declared_by, declared, block_entered, block_left_by, block_left, fault_of, front_fault}
 use Rattle.body_laws.specs.Declarations.{declarations}
 use Rattle.body_laws.proofs.Along.{along, along_append, after_after, after_same, among_all, with_previous, is_inside}

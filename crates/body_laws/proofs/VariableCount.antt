@@ -19,7 +19,7 @@ use Rattle.ptg_base.specs.Returns.{and_then}
 use Rattle.jdf_tree.specs.declared.expression.Word.{Word}
 use Rattle.jdf_tree.specs.Expression.{Expression, Num, Name, Elem, Unary, Binary, Choose}
 use Rattle.jdf_tree.specs.Statements.{Statements, Done, DeclareThen, SetThen, PutThen, IfThen, ForThen, TrapThen}
-use Rattle.body_lang.proofs.Words.{Anything}
+use Rattle.body_lang.proofs.CallerLemmas.{Anything}
 use Rattle.expr_names.specs.declared.meaning.Meaning.{Meaning}
 use Rattle.expr_names.specs.declared.meaning.Meaning.TheVariants as meaning
 use Rattle.body_lang.specs.declared.scope.FlowName.{FlowName}

@@ -8,8 +8,7 @@ use Rattle.chain_cert.specs.declared.certificate.Certificate.{Certificate}
 use Rattle.chain_cert.specs.declared.certificate.Certificate.TheVariants.{Chain, Cycle, Trapped}
 use Rattle.chain_cert.specs.Certificates.{IsCertificate}
 use Rattle.chain_cert.specs.Finding.{IsAccepted}
-use Rattle.chain_cert.proofs.Turning.{printed_is_cycle}
-use Rattle.chain_cert.proofs.Accepting.{shows_heaviest}
+use Rattle.chain_cert.proofs.CallerLemmas.{printed_is_cycle, shows_heaviest}
 
 pub accepted : (P : Plan) (G : Data) (ws : List ℕ) (c : Certificate) → IsConsistent P → IsCertificate P G ws c → IsAccepted P ws c
 accepted P G ws (Chain c l) con a = shows_heaviest P con ws c l a.2 a.3

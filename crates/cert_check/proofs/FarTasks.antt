@@ -17,8 +17,7 @@ use Rattle.dep_iter.specs.declared.link.Link.{Link}
 use Rattle.dep_iter.specs.Active.{by_flow, flow_ins, flow_targets, held_target, held_targets}
 use Rattle.dep_iter.specs.Edges.{sources}
 use Rattle.dep_iter.specs.Links.{all_links, edge_of_link, link, links_to, task_links}
-use Rattle.dep_iter.proofs.Belonging.{by_flow-links, from_links, held-first, held-more, held-none, to_links}
-use Rattle.dep_iter.proofs.Joining.{in_edges-links}
+use Rattle.dep_iter.proofs.CallerLemmas.{by_flow-links, from_links, held-first, held-more, held-none, in_edges-links, to_links}
 
 -- the task at the other end of a link
 abbrev pub far_of : Link → Task

@@ -12,7 +12,7 @@ use Rattle.std.proofs.lemmas.List.{same_from_push}
 use Rattle.dep_iter.specs.Tasks.{IsTask}
 use Rattle.chain_cert.specs.Chains.{IsChain, IsCycle, IsSourceOf}
 use Rattle.cert_check.specs.Checking.{IsLinked}
-use Rattle.chain_cert.proofs.Linking.{chain_task}
+use Rattle.chain_cert.proofs.CallerLemmas.{chain_task}
 
 -- a chain, from its first task and the others
 pub linked_then : (P : Plan) (t : Task) (ts : List Task) → IsLinked P (t ∷ ts) → IsChain P ts → IsChain P (t ∷ ts)

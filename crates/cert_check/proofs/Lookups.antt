@@ -17,7 +17,7 @@ use Rattle.dep_iter.specs.Edges.{in_edges}
 use Rattle.chain_cert.specs.Chains.{IsSourceOf}
 use Rattle.cert_check.specs.Checking.{IsAboveSource}
 use Rattle.chain_cert.specs.Checking.{IsRising}
-use Rattle.chain_cert.proofs.TaskSorting.{not_both, not_itself}
+use Rattle.chain_cert.proofs.CallerLemmas.{not_both, not_itself}
 
 row_task : (t : Task) (k : ℕ) (rows : List (Task × ℕ)) → IsIn (t, k) rows → IsIn t (keys_of rows)
 row_task t k rows i = IsIn-map (λ (row : Task × ℕ). row.0) rows (t, k) i

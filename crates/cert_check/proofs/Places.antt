@@ -10,11 +10,11 @@ use Rattle.list_lemmas.proofs.Truth.{by_test}
 use Rattle.list_lemmas.proofs.Tasks.{before_trans}
 use Rattle.list_lemmas.proofs.Distinct.{onto}
 use Rattle.dep_iter.specs.Tasks.{IsTask, all_tasks}
-use Rattle.dep_iter.proofs.Listing.{listed}
+use Rattle.dep_iter.proofs.CallerLemmas.{listed}
 use Rattle.chain_cert.specs.Certificates.{HasTasksInOrder, tasks_in_order}
 use Rattle.cert_check.specs.Checking.{AreInPlace, IsBeforeFirst}
 use Rattle.chain_cert.specs.Checking.{IsRising}
-use Rattle.chain_cert.proofs.TaskSorting.{here, in_order, not_itself, one_rising, past, sorted_rising, sorted_task}
+use Rattle.chain_cert.proofs.CallerLemmas.{here, in_order, not_itself, one_rising, past, sorted_rising, sorted_task}
 
 length_insert : (t : Task) (us : List Task) → length (insert_by (λ (v : Task). v) t us) ≡ suc (length us)
 length_insert t [] = refl

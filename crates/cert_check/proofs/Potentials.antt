@@ -9,7 +9,7 @@ use Rattle.chain_cert.specs.Chains.{IsChain}
 use Rattle.chain_cert.specs.Weights.{chain_weight, weight}
 use Rattle.chain_cert.specs.Checked.{ShowsHeaviest, greatest_level}
 use Rattle.cert_check.specs.Checking.{AreHighEnough}
-use Rattle.chain_cert.proofs.Potentials.{at_most_greatest, row_of}
+use Rattle.chain_cert.proofs.CallerLemmas.{at_most_greatest, row_of}
 
 module _ (P : Plan) (ws : List ℕ) (levels : List (Task × ℕ)) (order : HasTasksInOrder P levels) where
   module _ (high : AreHighEnough P ws levels levels) where

@@ -10,14 +10,11 @@ use Rattle.list_lemmas.proofs.Tasks.{member_or_not}
 use Rattle.dep_iter.specs.Tasks.{IsTask, all_tasks}
 use Rattle.dep_iter.specs.Edges.{in_edges}
 use Rattle.dep_iter.specs.Consistent.{IsConsistent}
-use Rattle.dep_iter.proofs.Listing.{listed}
-use Rattle.dep_iter.proofs.Once.{once-all_tasks}
+use Rattle.dep_iter.proofs.CallerLemmas.{listed, once-all_tasks}
 use Rattle.chain_cert.specs.Greatest.{IsGreatestOrder}
-use Rattle.chain_cert.proofs.Orders.{from_outside}
+use Rattle.chain_cert.proofs.CallerLemmas.{IsBackFrom, from_outside, no_cycle, order_at_most, source_task}
 use Rattle.chain_cert.specs.Chains.{HasNoCycle, IsSourceOf}
-use Rattle.chain_exists.proofs.Completeness.{long_walk}
-use Rattle.chain_cert.proofs.Turning.{IsBackFrom, source_task}
-use Rattle.chain_cert.proofs.Whole.{no_cycle, order_at_most}
+use Rattle.chain_exists.proofs.CallerLemmas.{long_walk}
 
 module _ (P : Plan) (con : IsConsistent P) (order : List Task) (g : IsGreatestOrder P order) where
   source_outside : (t : Task) → IsTask P t → (IsIn t order → ⊥) → (s : Task) × IsSourceOf P s t × (IsIn s order → ⊥)

@@ -7,7 +7,7 @@ use Rattle.ptg_base.specs.Task.{Task}
 use Rattle.plan_core.specs.declared.plan.Plan.{Plan}
 use Rattle.dep_iter.specs.Tasks.{IsTask, all_tasks}
 use Rattle.dep_iter.specs.Consistent.{IsConsistent}
-use Rattle.dep_iter.proofs.Listing.{listed}
+use Rattle.dep_iter.proofs.CallerLemmas.{listed}
 use Rattle.chain_cert.specs.Certificates.{AreLevels}
 use Rattle.chain_cert.specs.Chains.{IsChain}
 use Rattle.chain_cert.specs.Checked.{ShowsHeaviest, greatest_level}

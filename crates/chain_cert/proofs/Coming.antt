@@ -14,11 +14,10 @@ use Rattle.dep_iter.specs.Tasks.{IsTask, all_tasks}
 use Rattle.dep_iter.specs.Edges.{goal, in_edges}
 use Rattle.dep_iter.specs.Items.{out_edges}
 use Rattle.dep_iter.specs.Consistent.{IsConsistent}
-use Rattle.dep_iter.proofs.Listing.{listed}
-use Rattle.dep_iter.proofs.Once.{once-in_edges}
+use Rattle.dep_iter.proofs.CallerLemmas.{listed, once-in_edges}
 use Rattle.list_lemmas.specs.Counting.{as_number}
 use Rattle.flow_meaning.specs.Order.{IsLegalOrder}
-use Rattle.flow_meaning.proofs.Members.{in_edge_to, out_edge_from}
+use Rattle.flow_meaning.proofs.CallerLemmas.{in_edge_to, out_edge_from}
 use Rattle.chain_cert.specs.Growing.{HaveCome, MayCome, edge_count_to}
 use Rattle.chain_cert.proofs.Orders.{legal_tasks}
 

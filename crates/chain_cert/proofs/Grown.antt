@@ -18,12 +18,10 @@ use Rattle.dep_iter.specs.Tasks.{IsTask, all_tasks}
 use Rattle.dep_iter.specs.Edges.{goal, in_edges}
 use Rattle.dep_iter.specs.Items.{out_edges}
 use Rattle.dep_iter.specs.Consistent.{IsConsistent, roots}
-use Rattle.dep_iter.proofs.Listing.{listed}
-use Rattle.dep_iter.proofs.Once.{once-all_tasks, once-out_edges}
+use Rattle.dep_iter.proofs.CallerLemmas.{listed, once-all_tasks, once-out_edges}
 use Rattle.list_lemmas.specs.Counting.{as_number}
 use Rattle.flow_meaning.specs.Order.{IsLegalAfter, MayFollow}
-use Rattle.flow_meaning.proofs.Members.{out_edge_from}
-use Rattle.flow_meaning.proofs.Orders.{legal_push}
+use Rattle.flow_meaning.proofs.CallerLemmas.{legal_push, out_edge_from}
 use Rattle.chain_cert.specs.Greatest.{IsGreatestOrder}
 use Rattle.chain_cert.specs.Growing.{GrowsBy, HasGrown, HaveCome, IsNext, MayCome, edges_of, edge_count_to, lacking}
 use Rattle.chain_cert.proofs.Orders.{legal_once, legal_tasks}

@@ -19,3 +19,4 @@ pub mod WalkingBack
 pub mod Accepting
 pub mod Found
 pub mod Weighing
+pub mod CallerLemmas

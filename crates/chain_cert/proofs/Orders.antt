@@ -10,7 +10,7 @@ use Rattle.dep_iter.specs.Tasks.{IsTask}
 use Rattle.dep_iter.specs.Edges.{in_edges}
 use Rattle.flow_meaning.specs.Order.{IsLegalAfter}
 use Rattle.chain_cert.specs.Greatest.{IsGreatestOrder}
-pub use Rattle.flow_meaning.proofs.Orders.{legal_push}
+pub use Rattle.flow_meaning.proofs.CallerLemmas.{legal_push}
 
 -- the members are tasks of the job
 pub legal_tasks : (P : Plan) (before ts : List Task) → IsLegalAfter P before ts → (t : Task) → IsIn t ts → IsTask P t

@@ -14,15 +14,13 @@ use Rattle.list_lemmas.proofs.Options.{some_value}
 use Rattle.dep_iter.specs.Tasks.{IsTask, all_tasks}
 use Rattle.dep_iter.specs.Edges.{in_edges}
 use Rattle.dep_iter.specs.Consistent.{IsConsistent}
-use Rattle.dep_iter.proofs.Listing.{listed}
+use Rattle.dep_iter.proofs.CallerLemmas.{listed}
 use Rattle.flow_meaning.specs.declared.outcome.TrapRow.{TrapRow}
 use Rattle.flow_meaning.specs.Ending.{Ended, has_outputs}
 use Rattle.flow_meaning.specs.Backward.{ended, ended_within}
 use Rattle.flow_meaning.specs.Answer.{ran, trap_rows, trapped}
 use Rattle.flow_meaning.specs.Order.{IsLegalAfter}
-use Rattle.flow_meaning.proofs.Enough.{ends_after, with_outputs}
-use Rattle.flow_meaning.proofs.Members.{source_is_task}
-use Rattle.flow_meaning.proofs.Rounds.{has_sources}
+use Rattle.flow_meaning.proofs.CallerLemmas.{ends_after, has_sources, source_is_task, with_outputs}
 use Rattle.chain_cert.specs.Greatest.{IsGreatestOrder}
 use Rattle.chain_cert.proofs.Orders.{joins, legal_tasks}
 

@@ -13,8 +13,7 @@ use Rattle.plan_core.specs.declared.plan.Plan.{Plan}
 use Rattle.list_lemmas.proofs.Truth.{by_test}
 use Rattle.list_lemmas.proofs.Tasks.{before_trans}
 use Rattle.dep_iter.specs.Tasks.{IsTask, all_tasks}
-use Rattle.dep_iter.proofs.Listing.{listed}
-use Rattle.dep_iter.proofs.Once.{once-all_tasks}
+use Rattle.dep_iter.proofs.CallerLemmas.{listed, once-all_tasks}
 use Rattle.chain_cert.specs.Certificates.{HasTasksInOrder, tasks_in_order}
 use Rattle.chain_cert.specs.Checking.{IsRising}
 

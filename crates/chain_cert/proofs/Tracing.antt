@@ -14,7 +14,7 @@ use Rattle.list_lemmas.proofs.Distinct.{no_longer as at_most}
 use Rattle.dep_iter.specs.Tasks.{IsTask, all_tasks}
 use Rattle.dep_iter.specs.Edges.{sources}
 use Rattle.dep_iter.specs.Consistent.{IsConsistent}
-use Rattle.dep_iter.proofs.Listing.{listed}
+use Rattle.dep_iter.proofs.CallerLemmas.{listed}
 use Rattle.chain_cert.specs.Certificates.{AreLevels}
 use Rattle.chain_cert.specs.Chains.{HasNoCycle, IsChain, IsSourceOf}
 use Rattle.chain_cert.specs.Finding.{HasAllLevels, IsHeaviestRow, IsLeastWhere, is_heaviest_source}

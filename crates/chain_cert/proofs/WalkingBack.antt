@@ -20,8 +20,7 @@ use Rattle.list_lemmas.proofs.Places.{drop_from}
 use Rattle.dep_iter.specs.Tasks.{IsTask, all_tasks}
 use Rattle.dep_iter.specs.Edges.{in_edges, sources}
 use Rattle.dep_iter.specs.Consistent.{IsConsistent}
-use Rattle.dep_iter.proofs.Listing.{listed}
-use Rattle.dep_iter.proofs.Once.{once-all_tasks}
+use Rattle.dep_iter.proofs.CallerLemmas.{listed, once-all_tasks}
 use Rattle.chain_cert.proofs.Orders.{from_outside}
 use Rattle.indexmap.specs.IndexSet.{insert_key}
 use Rattle.chain_cert.specs.Greatest.{IsGreatestOrder}

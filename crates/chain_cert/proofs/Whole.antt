@@ -15,7 +15,7 @@ use Rattle.list_lemmas.proofs.Tasks.{once_each}
 use Rattle.dep_iter.specs.Tasks.{IsTask, all_tasks}
 use Rattle.dep_iter.specs.Edges.{in_edges}
 use Rattle.dep_iter.specs.Consistent.{IsConsistent}
-use Rattle.dep_iter.proofs.Listing.{listed}
+use Rattle.dep_iter.proofs.CallerLemmas.{listed}
 use Rattle.flow_meaning.specs.Order.{IsLegalAfter, IsLegalOrder}
 use Rattle.run_answer.specs.Rows.{AreOfDifferentTasks}
 use Rattle.chain_cert.proofs.Orders.{legal_once, legal_tasks}

@@ -1,5 +1,6 @@
 -- How a certificate is found: a table of levels by task, and the least of some tasks.
-use Rattle.std.specs.Prelude.{◌≡◌, ◌≤◌, ◌<◌, ◌+◌, ◌*◌, ◌↔◌, ◌==◌, ℕ, max, Bool, true, false, not, List, [], ◌∷◌, length, map, Option, Some, None, is_some, IsSomeAnd}
+use Rattle.std.specs.Prelude.{◌≡◌, ◌≤◌, ◌<◌, ◌+◌, ◌*◌, ◌↔◌, ◌==◌, ℕ, max, Bool, true, false, not, List, [], ◌∷◌, length, map, Option, Some, None}
+use Rattle.std.specs.Prelude.{is_some, IsSomeAnd}
 use Rattle.std.specs.Map.{lookup}
 use Rattle.ptg_base.specs.Limits.{most_tasks, most_weight}
 use Rattle.ptg_base.specs.Lists.{IsIn}

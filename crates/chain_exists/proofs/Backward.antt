@@ -13,14 +13,14 @@ use Rattle.list_lemmas.proofs.Pigeonhole.{cut_at}
 use Rattle.dep_iter.specs.Tasks.{IsTask, all_tasks}
 use Rattle.dep_iter.specs.Edges.{sources}
 use Rattle.dep_iter.specs.Consistent.{IsConsistent}
-use Rattle.dep_iter.proofs.Listing.{listed}
+use Rattle.dep_iter.proofs.CallerLemmas.{listed}
 use Rattle.chain_cert.specs.Certificates.{AreLevels}
 use Rattle.chain_cert.specs.Chains.{HasNoCycle}
 use Rattle.chain_cert.specs.Finding.{HasAllLevels, IsHeaviestRow, LacksTasks, is_heaviest_source, is_left}
 use Rattle.chain_cert.specs.Printed.{IsChainBack, IsPrintedChain, IsPrintedCycle, IsWalkBack}
 use Rattle.chain_cert.specs.Weights.{weight}
-use Rattle.chain_cert.proofs.Tracing.{IsTracing, StepBack, last_is, no_row, step_by, step_ends, trace_end, trace_next, trace_room, trace_start}
-use Rattle.chain_cert.proofs.WalkingBack.{IsWalking, walk_left, walk_next, walk_start}
+use Rattle.chain_cert.proofs.CallerLemmas.{IsTracing, IsWalking, StepBack, last_is, no_row, step_by, step_ends, trace_end, trace_next, trace_room}
+use Rattle.chain_cert.proofs.CallerLemmas.{trace_start, walk_left, walk_next, walk_start}
 use Rattle.chain_exists.proofs.Rows.{heaviest_of, least_of}
 use Rattle.flow_meaning.specs.Numbers.{number_for}
 

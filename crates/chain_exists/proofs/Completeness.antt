@@ -17,7 +17,7 @@ use Rattle.list_lemmas.proofs.Distinct.{no_longer}
 use Rattle.dep_iter.specs.Tasks.{IsTask, all_tasks, locals_of}
 use Rattle.dep_iter.specs.Edges.{in_edges}
 use Rattle.dep_iter.specs.Consistent.{IsConsistent}
-use Rattle.dep_iter.proofs.Listing.{listed}
+use Rattle.dep_iter.proofs.CallerLemmas.{listed}
 use Rattle.flow_meaning.specs.declared.outcome.TrapRow.{TrapRow}
 use Rattle.flow_meaning.specs.declared.outcome.Outcome.TheVariants.{Complete, Stalled}
 use Rattle.flow_meaning.specs.Starting.{starting_tiles}
@@ -26,16 +26,11 @@ use Rattle.flow_meaning.specs.Backward.{ended, has_all_sources, source_tile}
 use Rattle.flow_meaning.specs.Answer.{answer, answer_by, ran, trapped, waiting}
 use Rattle.list_lemmas.specs.Counting.{count}
 use Rattle.flow_meaning.specs.Final.{final_data}
-use Rattle.flow_meaning.proofs.Members.{source_is_task}
-use Rattle.flow_meaning.proofs.Enough.{fixed}
-use Rattle.flow_meaning.proofs.SourceEdges.{class_of}
-use Rattle.chain_cert.proofs.Running.{all_outputs}
+use Rattle.flow_meaning.proofs.CallerLemmas.{class_of, fixed, source_is_task}
+use Rattle.chain_cert.proofs.CallerLemmas.{IsBackFrom, Repeats, all_outputs, chain_task, last_of, loop_is_cycle, repeats_or_not, source_task, turned}
 use Rattle.chain_cert.specs.Chains.{HasNoCycle, IsCycle, IsSourceOf}
 use Rattle.chain_exists.specs.Completing.{IsComplete}
-use Rattle.chain_cert.proofs.Linking.{chain_task}
 use Rattle.chain_exists.proofs.Cycles.{never_ends}
-use Rattle.chain_cert.proofs.Turning.{IsBackFrom, last_of, loop_is_cycle, source_task, turned}
-use Rattle.chain_cert.proofs.Completeness.{Repeats, repeats_or_not}
 
 module _ (P : Plan) (con : IsConsistent P) where
   back_left : (t : Task) (ss more : List Task) (u : Task) → IsBackFrom P con t (ss ++ u ∷ more) → IsBackFrom P con t ss × IsSourceOf P u (last_of P con t ss)

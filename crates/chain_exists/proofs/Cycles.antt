@@ -12,7 +12,7 @@ use Rattle.dep_iter.specs.Edges.{in_edges}
 use Rattle.flow_meaning.specs.Ending.{Ended, has_outputs, ended_on}
 use Rattle.flow_meaning.specs.Backward.{ended, ended_within, has_all_sources, source_tile}
 use Rattle.chain_cert.specs.Chains.{IsCycle}
-use Rattle.chain_cert.proofs.Linking.{cycle_source}
+use Rattle.chain_cert.proofs.CallerLemmas.{cycle_source}
 
 no_outputs : (o : Option Ended) → o ≡ None → has_outputs o ≡ true → ⊥
 no_outputs o e h = false≢true (sym (ap has_outputs e) ∙ h)

@@ -6,22 +6,17 @@ use Rattle.plan_core.specs.declared.plan.Plan.{Plan}
 use Rattle.coll_data.specs.Data.{Data}
 use Rattle.dep_iter.specs.Tasks.{all_tasks}
 use Rattle.dep_iter.specs.Consistent.{IsConsistent}
-use Rattle.dep_iter.proofs.Listing.{listed}
-use Rattle.dep_iter.proofs.Once.{once-all_tasks}
+use Rattle.dep_iter.proofs.CallerLemmas.{listed, once-all_tasks}
 use Rattle.flow_meaning.specs.declared.outcome.TrapRow.{TrapRow}
 use Rattle.flow_meaning.specs.Answer.{ran, trapped}
 use Rattle.chain_cert.specs.Greatest.{IsGreatestOrder}
 use Rattle.list_lemmas.proofs.Distinct.{no_longer}
 use Rattle.list_lemmas.proofs.Tasks.{all_or_absent}
-use Rattle.chain_cert.proofs.Orders.{legal_once, legal_tasks}
-use Rattle.chain_cert.proofs.Running.{members_ran}
+use Rattle.chain_cert.proofs.CallerLemmas.{legal_once, legal_tasks, members_ran, no_cycle, same_printed, sorted_task}
 use Rattle.chain_cert.specs.declared.certificate.Certificate.{Certificate}
 use Rattle.chain_cert.specs.declared.certificate.Certificate.TheVariants.{Chain, Cycle, Trapped}
 use Rattle.chain_cert.specs.Certificates.{AreLevels, IsCertificate, tasks_in_order}
 use Rattle.chain_cert.specs.Finding.{LacksTasks}
-use Rattle.chain_cert.proofs.TaskSorting.{sorted_task}
-use Rattle.chain_cert.proofs.WalkingBack.{same_printed}
-use Rattle.chain_cert.proofs.Whole.{no_cycle}
 use Rattle.chain_exists.proofs.Growing.{greatest_order, levels_in}
 use Rattle.chain_exists.proofs.Rows.{level_rows, rows_have}
 use Rattle.chain_exists.proofs.Backward.{some_chain, some_cycle}

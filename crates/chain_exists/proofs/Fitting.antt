@@ -15,7 +15,7 @@ use Rattle.chain_cert.specs.declared.certificate.Certificate.TheVariants.{Chain,
 use Rattle.chain_cert.specs.Certificates.{IsCertificate}
 use Rattle.chain_exists.specs.Completing.{IsComplete}
 use Rattle.chain_exists.proofs.Completeness.{complete_exactly}
-use Rattle.chain_cert.proofs.Turning.{printed_is_cycle}
+use Rattle.chain_cert.proofs.CallerLemmas.{printed_is_cycle}
 use Rattle.chain_exists.specs.Fitting.{Fits}
 
 module _ (P : Plan) (G : Data) where

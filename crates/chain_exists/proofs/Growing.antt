@@ -12,15 +12,13 @@ use Rattle.list_lemmas.proofs.Growing.{all_or_one, grown_to_the_end}
 use Rattle.list_lemmas.proofs.Tasks.{member_or_not}
 use Rattle.dep_iter.specs.Tasks.{IsTask, all_tasks}
 use Rattle.dep_iter.specs.Edges.{in_edges, sources}
-use Rattle.dep_iter.proofs.Listing.{listed}
+use Rattle.dep_iter.proofs.CallerLemmas.{listed}
 use Rattle.flow_meaning.specs.Order.{IsLegalAfter, IsLegalOrder, MayFollow}
 use Rattle.chain_cert.specs.Greatest.{IsGreatestOrder}
-use Rattle.chain_cert.proofs.Orders.{legal_push}
+use Rattle.chain_cert.proofs.CallerLemmas.{legal_push, level_from, order_at_most}
 use Rattle.chain_cert.specs.Chains.{IsSourceOf}
 use Rattle.chain_cert.specs.Levels.{IsLevel}
 use Rattle.chain_cert.specs.Weights.{weight}
-use Rattle.chain_cert.proofs.TableLevels.{level_from}
-use Rattle.chain_cert.proofs.Whole.{order_at_most}
 
 module _ (P : Plan) where
   -- a task may not follow these, or it may

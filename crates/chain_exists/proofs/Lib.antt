@@ -6,3 +6,4 @@ pub mod Fitting
 pub mod Cycles
 pub mod Completeness
 pub mod Unique
+pub mod CallerLemmas

@@ -14,7 +14,7 @@ use Rattle.plan_core.specs.declared.plan.Plan.{Plan}
 use Rattle.list_lemmas.proofs.Truth.{by_test}
 use Rattle.chain_cert.specs.Finding.{IsHeaviestRow, IsLeastWhere}
 use Rattle.chain_cert.specs.Levels.{IsLevel}
-use Rattle.chain_cert.proofs.Leasts.{heaviest_first, heaviest_new, heaviest_old, least_first, least_new, least_old, least_skips}
+use Rattle.chain_cert.proofs.CallerLemmas.{heaviest_first, heaviest_new, heaviest_old, least_first, least_new, least_old, least_skips}
 
 -- rows with the levels of these tasks
 pub record HasLevelRows (P : Plan) (ws : List ℕ) (ts : List Task) (rows : List (Task × ℕ)) : Type 0 where

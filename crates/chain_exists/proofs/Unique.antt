@@ -11,7 +11,7 @@ use Rattle.list_lemmas.proofs.Members.{IsIn-append_right}
 use Rattle.list_lemmas.proofs.Distinct.{HasNoRepeats-apart}
 use Rattle.dep_iter.specs.Tasks.{IsTask, all_tasks}
 use Rattle.dep_iter.specs.Consistent.{IsConsistent}
-use Rattle.dep_iter.proofs.Listing.{listed}
+use Rattle.dep_iter.proofs.CallerLemmas.{listed}
 use Rattle.flow_meaning.specs.Answer.{ran}
 use Rattle.chain_cert.specs.declared.certificate.Certificate.{Certificate}
 use Rattle.chain_cert.specs.declared.certificate.Certificate.TheVariants.{Chain, Cycle, Trapped}
@@ -19,9 +19,7 @@ use Rattle.chain_cert.specs.Certificates.{AreLevels, IsCertificate}
 use Rattle.chain_cert.specs.Levels.{IsLevel}
 use Rattle.chain_cert.specs.Printed.{IsChainBack, IsHeaviestSource, HasGreatestLevel, IsLeast, IsPrintedChain}
 use Rattle.chain_cert.specs.Printed.{IsPrintedCycle, IsSourceLeft, IsTaskLeft, IsTracedBack, IsWalkBack, IsWalkedBack}
-use Rattle.chain_cert.proofs.TaskSorting.{Before, Same, After, ordered}
-use Rattle.chain_cert.proofs.Turning.{printed_is_cycle}
-use Rattle.chain_cert.proofs.Unique.{level_one, last_or_none}
+use Rattle.chain_cert.proofs.CallerLemmas.{After, Before, Same, last_or_none, level_one, ordered, printed_is_cycle}
 
 -- at most one task is the least of a kind
 pub least_one : (Kind : Task → Type 0) (a b : Task) → IsLeast Kind a → IsLeast Kind b → a ≡ b

@@ -9,7 +9,7 @@ use Rattle.type_rules.specs.Repeats.{repeats}
 use Rattle.type_rules.specs.Names.{Job}
 use Rattle.type_rules.specs.Expressions.{option_faults, option_term}
 use Rattle.type_rules.specs.Definitions.{space_of, space_faults}
-use Rattle.type_rules.proofs.First.{first_none}
+use Rattle.type_rules.proofs.CallerLemmas.{first_none}
 use Rattle.list_lemmas.proofs.Joins.{first_nil}
 use Rattle.list_lemmas.proofs.Options.{some_value}
 use Rattle.check_laws.proofs.AllThere.{both_there, each_there}
@@ -21,8 +21,7 @@ use Rattle.type_check.specs.Bodies.{BodyResult}
 use Rattle.type_check.specs.Classes.{flows_of, flows_faults, head_from, head_of, head_faults, class_from, class_plan, class_faults}
 use Rattle.type_check.specs.Check.{ReadBodies, classes_faults, classes_plan, names_faults, faults_of, AreResolved}
 use Rattle.check_laws.specs.Laws.{HasPlanOrFault, EachHasPlanOrFault}
-use Rattle.type_check.proofs.ClassesRead.{Plans, plan_first}
-use Rattle.type_check.proofs.Plans.{plan_there}
+use Rattle.type_check.proofs.CallerLemmas.{Plans, plan_first, plan_there}
 use Rattle.check_laws.proofs.Readings.{bodies_read}
 
 -- ---- a class

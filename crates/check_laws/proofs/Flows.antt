@@ -27,8 +27,7 @@ use Rattle.type_rules.specs.Expressions.{option_faults, option_term}
 use Rattle.type_rules.specs.Faults.{fault_if}
 use Rattle.type_rules.specs.Names.{Job}
 use Rattle.type_rules.specs.Returns.{both, each, each_option}
-use Rattle.type_rules.proofs.Closed.{pair_parts}
-use Rattle.type_rules.proofs.NoFaults.{holds_not, option_there, parts_of}
+use Rattle.type_rules.proofs.CallerLemmas.{IsWellTarget, allowed, dep_from, ends, holds_not, of_direction, option_there, pair_parts, parts_of}
 use Rattle.type_rules.specs.Kinds.{is_control}
 use Rattle.coll_data.specs.Types.{default_type}
 use Rattle.type_rules.specs.Datatypes.{allowed_type, first_written, flow_type, type_of_flow, type_of_written, written_faults}
@@ -37,9 +36,6 @@ use Rattle.type_rules.specs.Dependences.{dependence_faults, dependence_of, depen
 use Rattle.type_rules.specs.Dependences.{directions_faults, directions_of, flow_faults, flow_from, flow_plan}
 use Rattle.type_rules.specs.Dependences.{is_of_direction, target_faults, type_faults, type_spot}
 use Rattle.type_rules.specs.PartsOfJob.{HaveParts}
-use Rattle.type_rules.proofs.Ways.{dep_from}
-use Rattle.type_rules.proofs.WellTargets.{IsWellTarget, allowed}
-use Rattle.type_rules.proofs.WellFlows.{of_direction, ends}
 use Rattle.check_laws.specs.Datatypes.{HasOneDatatype}
 use Rattle.check_laws.proofs.Resolved.{none_joined, option_no_fault}
 use Rattle.check_laws.proofs.Targets.{target_fits}

@@ -31,8 +31,7 @@ use Rattle.type_rules.specs.Rules.{rule_faults}
 use Rattle.type_rules.specs.Dependences.{target_faults, type_faults, dependence_faults, dependence_of, is_of_direction}
 use Rattle.type_rules.specs.Dependences.{dependences_of, dependences_faults, directions_of, directions_faults}
 use Rattle.type_rules.specs.Dependences.{flow_faults, flow_from, flow_plan}
-use Rattle.type_rules.proofs.Tasks.{task_from}
-use Rattle.type_rules.proofs.Ways.{dep_from}
+use Rattle.type_rules.proofs.CallerLemmas.{dep_from, task_from}
 
 -- ---- elements
 

@@ -4,8 +4,7 @@ use Rattle.std.proofs.lemmas.Option.{same_Some}
 use Rattle.ptg_base.specs.Lists.{IsIn}
 use Rattle.type_rules.specs.TreesAndFaults.{JdfFault}
 use Rattle.type_rules.specs.Faults.{is_before, earlier_of, first_fault}
-use Rattle.type_rules.proofs.Order.{before-trans, before-cotrans, before-irrefl}
-use Rattle.type_rules.proofs.First.{the-later, the-former, first_none}
+use Rattle.type_rules.proofs.CallerLemmas.{before-cotrans, before-irrefl, before-trans, first_none, the-former, the-later}
 
 no_fault : {A : Type 0} (f : JdfFault) → None ≡ Some f → A
 no_fault f e = absurd cc

@@ -9,3 +9,4 @@ pub mod Resolved
 pub mod Types
 pub mod Targets
 pub mod Flows
+pub mod CallerLemmas

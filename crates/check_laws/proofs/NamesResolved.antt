@@ -18,9 +18,7 @@ use Rattle.type_rules.specs.Repeats.{repeats}
 use Rattle.list_lemmas.proofs.Joins.{first_nil, rest_nil}
 use Rattle.list_lemmas.proofs.Options.{IsSome-option_map}
 use Rattle.check_laws.proofs.AllThere.{some_both, not_none, no_nil, both_there, each_there, maybe_there}
-use Rattle.type_rules.proofs.OneResolver.{agrees, faultless_there}
-use Rattle.type_rules.proofs.Ranges.{range_from}
-use Rattle.type_rules.proofs.Spaces.{space_from}
+use Rattle.type_rules.proofs.CallerLemmas.{agrees, faultless_there, range_from, space_from}
 
 pub term_there : (job : Job) (seen : List DefTree) (e : Expression) → expression_faults job seen e ≡ [] → IsSome (term_of job seen e)
 term_there job seen e h = faultless_there _ _ _ (agrees job seen e) h

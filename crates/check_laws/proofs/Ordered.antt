@@ -9,7 +9,7 @@ use Rattle.type_rules.specs.TreesAndFaults.{LocalTwice, ParamUndefined, RangedLo
 use Rattle.type_rules.specs.TreesAndFaults.{Arity, CtlMixed, WriteInput, NewSent, RangeInDataInput, RangeInPlace}
 use Rattle.type_rules.specs.TreesAndFaults.{Datatype, MixedTypes, TypeDiffers, ReadAssigned, NotAssignable}
 use Rattle.type_rules.specs.Faults.{code_number, is_before}
-use Rattle.type_rules.proofs.Order.{lex, lex-less, lex-same}
+use Rattle.type_rules.proofs.CallerLemmas.{lex, lex-less, lex-same}
 
 -- all codes, each at the index that is its number
 abbrev codes_by_number : List JdfCode

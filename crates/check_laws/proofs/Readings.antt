@@ -13,7 +13,7 @@ use Rattle.jdf_tree.specs.BodyGrammar.{body}
 use Rattle.jdf_tree.specs.Grammar.{productions}
 use Rattle.jdf_tree.specs.Statements.{Statements}
 use Rattle.jdf_tree.specs.TreeLimits.{IsClassWithinLimits}
-use Rattle.body_lang.proofs.WholeText.{found, faulty}
+use Rattle.body_lang.proofs.CallerLemmas.{faulty, found}
 use Rattle.body_lang.specs.Environment.{Environment}
 use Rattle.expr_names.specs.Symbols.{Resolved}
 use Rattle.body_lang.specs.Statements.{body_of}

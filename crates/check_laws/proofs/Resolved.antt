@@ -14,10 +14,7 @@ use Rattle.type_rules.specs.Arguments.{index_of, indices_faults, indices_of, ran
 use Rattle.type_rules.specs.Expressions.{expression_faults, option_faults, option_term, term_of}
 use Rattle.type_rules.specs.Names.{Job}
 use Rattle.type_rules.specs.Returns.{both, each}
-use Rattle.type_rules.proofs.Closed.{pair_parts}
-use Rattle.type_rules.proofs.OneResolver.{agrees, there_faultless}
-use Rattle.type_rules.proofs.NoFaults.{option_there, parts_of}
-use Rattle.type_rules.proofs.Ranges.{range_from}
+use Rattle.type_rules.proofs.CallerLemmas.{agrees, option_there, pair_parts, parts_of, range_from, there_faultless}
 use Rattle.list_lemmas.proofs.Options.{from_option_map}
 use Rattle.std.proofs.lemmas.Bool.{or_parts}
 

@@ -32,9 +32,7 @@ use Rattle.type_rules.specs.TreesAndFaults.{RangeInDataInput, Spot, TargetTree, 
 use Rattle.type_rules.specs.Faults.{fault_if}
 use Rattle.type_rules.specs.Names.{Job, class_named, class_of, coll_named, flow_named}
 use Rattle.type_rules.specs.Arguments.{argument_of, arguments_faults, arguments_of, index_of, indices_faults, indices_of, ranges_faults}
-use Rattle.type_rules.proofs.Closed.{pair_parts}
-use Rattle.type_rules.proofs.NoFaults.{parts_of}
-use Rattle.type_rules.proofs.Parts.{each_length}
+use Rattle.type_rules.proofs.CallerLemmas.{IsWellTarget, TaskThere, allowed, coll_there, data_type, each_length, kind_there, pair_parts, parts_of, task_there}
 use Rattle.type_rules.specs.Kinds.{are_mixed, is_control}
 use Rattle.type_rules.specs.Datatypes.{flow_type, type_number, type_of_flow}
 use Rattle.type_rules.specs.Elements.{collection_faults, dimensions_of, element_faults, element_of}
@@ -42,10 +40,6 @@ use Rattle.type_rules.specs.Targets.{first_spot, named_faults, target_of, task_f
 use Rattle.type_rules.specs.Rules.{has_other_type, in_faults, is_mixed, is_other_flow, kind_faults, mixes_flows, rule_faults, type_differs}
 use Rattle.type_rules.specs.Dependences.{target_faults}
 use Rattle.type_rules.specs.PartsOfJob.{HaveParts}
-use Rattle.type_rules.proofs.Elements.{coll_there}
-use Rattle.type_rules.proofs.TaskTargets.{TaskThere, task_there}
-use Rattle.type_rules.proofs.WellTargets.{IsWellTarget, allowed, kind_there}
-use Rattle.type_rules.proofs.TypeRules.{data_type}
 use Rattle.check_laws.proofs.Resolved.{arguments_no_fault, indices_no_fault, no_ranges, none_joined}
 use Rattle.check_laws.proofs.Types.{one_name}
 use Rattle.std.proofs.lemmas.Option.{same_Some}

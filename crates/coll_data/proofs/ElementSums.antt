@@ -1,5 +1,6 @@
 -- Sums of joined lists, and how many elements well made data have.
-use Rattle.std.proofs.Common.{◌≡◌, ℕ, ◌+◌, ◌*◌, ◌^◌, ◌<◌, ◌≤◌, ℤ, pos, ◌+ℤ◌, unsigned_abs, fold, List, [], ◌∷◌, ◌++◌, length, length-append, slice_index, get_or, take, FitsSigned, refl, ap, sym, ◌∙◌, arith}
+use Rattle.std.proofs.Common.{◌≡◌, ℕ, ◌+◌, ◌*◌, ◌^◌, ◌<◌, ◌≤◌, ℤ, pos, ◌+ℤ◌, unsigned_abs, fold, List, [], ◌∷◌, ◌++◌, length, length-append}
+use Rattle.std.proofs.Common.{slice_index, get_or, take, FitsSigned, refl, ap, sym, ◌∙◌, arith}
 use Rattle.std.specs.List.{AllByRecursion, flat_map}
 use Rattle.std.specs.Int.{w128}
 use Rattle.std.proofs.lemmas.Int.{ints}
@@ -31,7 +32,9 @@ pub record IsSumOf (sum : ℤ) (numbers : List ℤ) : Type 0 where
   pub fits : FitsSigned w128 sum
 
 -- the sum of a list and of the next one, if together they are not too long
-joined : (before part : List ℤ) (a b : ℤ) → a ≡ sum_of before → b ≡ sum_of part → unsigned_abs a ≤ 2 ^ 63 * length before → unsigned_abs b ≤ 2 ^ 63 * length part → length before + length part ≤ 2 ^ 24 → IsSumOf (a +ℤ b) (before ++ part)
+joined : (before part : List ℤ) (a b : ℤ) → a ≡ sum_of before → b ≡ sum_of part
+    → unsigned_abs a ≤ 2 ^ 63 * length before → unsigned_abs b ≤ 2 ^ 63 * length part
+    → length before + length part ≤ 2 ^ 24 → IsSumOf (a +ℤ b) (before ++ part)
 joined before part a b d e h k most =
     let n = length-append before part in
     record {
@@ -41,10 +44,15 @@ joined before part a b d e h k most =
     }
 
 -- the sum of the parts before an index, and of the part at it
-pub next_sum : {X : Type 0} (g : X → List ℤ) (xs : List X) (i : ℕ) (x : X) (a b : ℤ) → i < length xs → x ≡ get_or xs i x → length (flat_map g xs) ≤ 2 ^ 24 → a ≡ sum_of (flat_map g (take i xs)) → unsigned_abs a ≤ 2 ^ 63 * length (flat_map g (take i xs)) → b ≡ sum_of (g x) → unsigned_abs b ≤ 2 ^ 63 * length (g x) → IsSumOf (a +ℤ b) (flat_map g (take (i + 1) xs))
+pub next_sum : {X : Type 0} (g : X → List ℤ) (xs : List X) (i : ℕ) (x : X) (a b : ℤ) → i < length xs
+    → x ≡ get_or xs i x → length (flat_map g xs) ≤ 2 ^ 24 → a ≡ sum_of (flat_map g (take i xs))
+    → unsigned_abs a ≤ 2 ^ 63 * length (flat_map g (take i xs)) → b ≡ sum_of (g x)
+    → unsigned_abs b ≤ 2 ^ 63 * length (g x) → IsSumOf (a +ℤ b) (flat_map g (take (i + 1) xs))
 next_sum g xs i x a b within at most d h e k =
     let split : flat_map g (take (i + 1) xs) ≡ flat_map g (take i xs) ++ g x =
-    ap (flat_map g) (take_more xs i x within) ∙ flat_map-append g (take i xs) (get_or xs i x ∷ []) ∙ ap (λ z. flat_map g (take i xs) ++ (g z ++ [])) (sym at) ∙ ap (λ l. flat_map g (take i xs) ++ l) (append-nil (g x)) in
+    ap (flat_map g) (take_more xs i x within) ∙ flat_map-append g (take i xs) (get_or xs i x ∷ [])
+    ∙ ap (λ z. flat_map g (take i xs) ++ (g z ++ [])) (sym at)
+    ∙ ap (λ l. flat_map g (take i xs) ++ l) (append-nil (g x)) in
     let n : length (flat_map g (take i xs)) + length (g (get_or xs i x)) ≤ length (flat_map g xs) = length-flat_map-take g xs i x within in
     let m : length (g (get_or xs i x)) ≡ length (g x) = ap (λ z. length (g z)) (sym at) in
     rw split (joined (flat_map g (take i xs)) (g x) a b d e h k (omega arith))
@@ -57,7 +65,8 @@ part_at_most g xs i x within at =
     omega arith
 
 -- the elements of tiles that have n elements each
-tile_elements_count : (n : ℕ) (tiles : List (List ℤ)) → AllByRecursion (λ (tile : List ℤ). length tile ≡ n) tiles → length (tile_elements tiles) ≡ length tiles * n
+tile_elements_count : (n : ℕ) (tiles : List (List ℤ)) → AllByRecursion (λ (tile : List ℤ). length tile ≡ n) tiles
+    → length (tile_elements tiles) ≡ length tiles * n
 tile_elements_count n [] w = omega arith
 tile_elements_count n (t ∷ ts) w =
     let e = length-append t (tile_elements ts) in
@@ -66,7 +75,8 @@ tile_elements_count n (t ∷ ts) w =
     grind arith
 
 -- the collections have as many elements as their tiles and types say
-elements_count : (elements : List ℕ) (colls : List Coll) → AllByRecursion (IsWellColl elements) colls → length (all_elements colls) ≡ element_total elements colls
+elements_count : (elements : List ℕ) (colls : List Coll) → AllByRecursion (IsWellColl elements) colls
+    → length (all_elements colls) ≡ element_total elements colls
 elements_count elements [] w = refl
 elements_count elements (c ∷ cs) w =
     let e = length-append (tile_elements c.tiles) (all_elements cs) in

@@ -3,3 +3,4 @@ pub mod OneIndex
 pub mod Found
 pub mod Replaced
 pub mod ElementSums
+pub mod CallerLemmas

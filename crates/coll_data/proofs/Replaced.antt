@@ -1,5 +1,6 @@
 -- Data stay well made if a tile is replaced by one with as many numbers.
-use Rattle.std.proofs.Common.{◌≡◌, ℕ, zero, suc, ◌+◌, ◌*◌, ℤ, List, [], ◌∷◌, length, set, get_or, Option, Some, None, IfSome, IsSomeAnd, slice_get, slice_index, refl, sym, ap, ◌∙◌, subst, arith}
+use Rattle.std.proofs.Common.{◌≡◌, ℕ, zero, suc, ◌+◌, ◌*◌, ℤ, List, [], ◌∷◌, length, set, get_or, Option, Some, None, IfSome, IsSomeAnd, slice_get}
+use Rattle.std.proofs.Common.{slice_index, refl, sym, ap, ◌∙◌, subst, arith}
 use Rattle.std.specs.Option.{option_map_or}
 use Rattle.std.specs.List.{sum_by}
 use Rattle.std.proofs.lemmas.List.{length-set}
@@ -24,7 +25,9 @@ sum_same f (z ∷ zs) (suc k) x y there e =
     sum_by-cons f z (set zs k y) ∙ ap (λ n. f z + n) (sum_same f zs k x y there e) ∙ sym (sum_by-cons f z zs)
 
 -- a collection with a tile replaced by one with as many numbers
-well_with : (elements : List ℕ) (c : Coll) (o : Option ℕ) (tile : List ℤ) → IsWellColl elements c → length tile ≡ slice_index elements c.datatype → IsWellColl elements (record c { tiles = option_map_or (λ k. set c.tiles k tile) o c.tiles })
+well_with : (elements : List ℕ) (c : Coll) (o : Option ℕ) (tile : List ℤ) → IsWellColl elements c
+    → length tile ≡ slice_index elements c.datatype
+    → IsWellColl elements (record c { tiles = option_map_or (λ k. set c.tiles k tile) o c.tiles })
 well_with elements c None tile w fits = w
 well_with elements c (Some k) tile w fits = record {
   datatype = w.datatype;
@@ -72,23 +75,29 @@ pub record IsReplaced (inside d : Data) (p : Place) (tile : List ℤ) (colls : L
   pub well_made : IsWellMade (having inside colls)
   pub is : having inside colls ≡ with_tile_at d p tile
 
-module _ (inside d : Data) (view : inside ≡ d) (well : IsWellMade inside) (p : Place) (tile : List ℤ) (exists : HasPlace d.colls p) (fits : IsTileOf d p.coll tile) where
-  replaced_inside : (colls : List Coll) (old new : Coll) → old ≡ get_or inside.colls p.coll old → new ≡ coll_with old p.i p.j tile → colls ≡ set inside.colls p.coll new → IsReplaced inside d p tile colls
+module _ (inside d : Data) (view : inside ≡ d) (well : IsWellMade inside) (p : Place) (tile : List ℤ)
+    (exists : HasPlace d.colls p) (fits : IsTileOf d p.coll tile) where
+  replaced_inside : (colls : List Coll) (old new : Coll) → old ≡ get_or inside.colls p.coll old
+      → new ≡ coll_with old p.i p.j tile → colls ≡ set inside.colls p.coll new → IsReplaced inside d p tile colls
   replaced_inside colls old new at put is = by (slice_get inside.colls p.coll) refl (subst (λ (x : Data). HasPlace x.colls p) (sym view) exists)
     where
       fits_inside : IsTileOf inside p.coll tile
       fits_inside = subst (λ (x : Data). IsTileOf x p.coll tile) (sym view) fits
 
-      by : (o : Option Coll) → slice_get inside.colls p.coll ≡ o → IsSomeAnd o (λ (c : Coll). IsRow c.shape.0 p.i × IsColumn c.shape.1 p.j) → IsReplaced inside d p tile colls
+      by : (o : Option Coll) → slice_get inside.colls p.coll ≡ o
+          → IsSomeAnd o (λ (c : Coll). IsRow c.shape.0 p.i × IsColumn c.shape.1 p.j)
+          → IsReplaced inside d p tile colls
       by None e h = absurd h
       by (Some c) e h =
           let same : old ≡ c = at ∙ get_or_from_slice_get inside.colls p.coll c old e in
-          let all : colls ≡ set inside.colls p.coll (coll_with c p.i p.j tile) = is ∙ ap (set inside.colls p.coll) (put ∙ ap (λ x. coll_with x p.i p.j tile) same) in
+          let all : colls ≡ set inside.colls p.coll (coll_with c p.i p.j tile) = is
+          ∙ ap (set inside.colls p.coll) (put ∙ ap (λ x. coll_with x p.i p.j tile) same) in
           record {
             well_made = subst (λ xs. IsWellMade (having inside xs)) (sym all) (well_replaced inside well p tile fits_inside c e);
             is = ap (having inside) all ∙ replaced_is inside well p tile fits_inside c e ∙ ap (λ x. with_tile_at x p tile) view;
           }
 
-  pub replaced : (was colls : List Coll) (old new : Coll) → was ≡ inside.colls → old ≡ get_or was p.coll old → new ≡ coll_with old p.i p.j tile → colls ≡ set was p.coll new → IsReplaced inside d p tile colls
+  pub replaced : (was colls : List Coll) (old new : Coll) → was ≡ inside.colls → old ≡ get_or was p.coll old
+      → new ≡ coll_with old p.i p.j tile → colls ≡ set was p.coll new → IsReplaced inside d p tile colls
   replaced was colls old new same at put is =
       replaced_inside colls old new (at ∙ ap (λ xs. get_or xs p.coll old) same) put (is ∙ ap (λ xs. set xs p.coll new) same)

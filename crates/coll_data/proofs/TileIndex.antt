@@ -1,5 +1,6 @@
 -- Exactly the places of a collection have indices, and these are below the number of tiles.
-use Rattle.std.proofs.Common.{◌≡◌, ℕ, zero, suc, ◌+◌, ◌*◌, ◌<◌, ◌≤◌, ◌↔◌, ℤ, pos, negsuc, ◌⊎◌, inl, inr, get_or, nat_lt, List, [], length, Option, Some, None, IsSome, slice_get, option_and_then, refl, subst, rules, arith}
+use Rattle.std.proofs.Common.{◌≡◌, ℕ, zero, suc, ◌+◌, ◌*◌, ◌<◌, ◌≤◌, ◌↔◌, ℤ, pos, negsuc, ◌⊎◌, inl, inr, get_or, nat_lt, List, [], length, Option}
+use Rattle.std.proofs.Common.{Some, None, IsSome, slice_get, option_and_then, refl, subst, rules, arith}
 use Rattle.std.proofs.lemmas.Int.{ints}
 use Rattle.std.proofs.lemmas.Nat.{row_fits}
 use Rattle.std.proofs.lemmas.Option.{slice_get-get_or}
@@ -49,7 +50,14 @@ index_cases rows None i j = elim (index_in_cases 1 j) [
 ]
 index_cases rows (Some cols) i j = elim (index_in_cases cols j) [
   | inl p ↦ elim (index_in_cases rows i) [
-    | inl q ↦ inl (record { index = q.0 * cols + p.0; is = rw (p.1.is, q.1.is) refl; within = row_and_column q.0 p.0 rows cols q.1.within p.1.within; row = q.1.row; column = p.1.row })
+    | inl q ↦ inl (record {
+      index = q.0 * cols + p.0;
+      is = rw (p.1.is, q.1.is) refl;
+      within =
+          row_and_column q.0 p.0 rows cols q.1.within p.1.within;
+      row = q.1.row;
+      column = p.1.row;
+    })
     | inr n ↦ inr (rw (p.1.is, n.0) refl, λ r c. n.1 r)
   ]
   | inr n ↦ inr (rw (n.0) refl, λ r c. n.1 c)
@@ -64,10 +72,13 @@ none_of None e h = absurd cc
 none_of (Some y) e h = absurd cc
 
 -- a collection with a tile for each place has a tile exactly at its rows and columns
-pub tile_exists : (rows : ℕ) (cols : Option ℕ) (i j : ℤ) (tiles : List (List ℤ)) → length tiles ≡ tile_count rows cols → IsSome (option_and_then (slice_get tiles) (tile_index rows cols i j)) ↔ (IsRow rows i × IsColumn cols j)
+pub tile_exists : (rows : ℕ) (cols : Option ℕ) (i j : ℤ) (tiles : List (List ℤ))
+    → length tiles ≡ tile_count rows cols
+    → IsSome (option_and_then (slice_get tiles) (tile_index rows cols i j)) ↔ (IsRow rows i × IsColumn cols j)
 tile_exists rows cols i j tiles e = elim (index_cases rows cols i j) [
   | inl p ↦
-      let found : option_and_then (slice_get tiles) (tile_index rows cols i j) ≡ Some (get_or tiles p.index []) = rw (p.is) (slice_get-get_or tiles p.index [] (omega (arith, p.within))) in
+      let found : option_and_then (slice_get tiles) (tile_index rows cols i j) ≡ Some (get_or tiles p.index []) =
+      rw (p.is) (slice_get-get_or tiles p.index [] (omega (arith, p.within))) in
       (λ s. (p.row, p.column), λ w. some_of _ _ found)
   | inr n ↦
       let nothing : option_and_then (slice_get tiles) (tile_index rows cols i j) ≡ None = rw (n.0) refl in

@@ -9,7 +9,7 @@ use Rattle.data_read.specs.Reading.{all_records, as_data, data_of, later_records
 use Rattle.data_laws.specs.WholeRecords.{Record, data_of_records}
 use Rattle.data_laws.specs.WholeTexts.{NoneFits, AreByRecords}
 use Rattle.data_laws.proofs.FirstCodes.{no_code, no_fault}
-use Rattle.data_read.proofs.Choices.{no_value}
+use Rattle.data_read.proofs.CallerLemmas.{no_value}
 use Rattle.data_laws.proofs.OneMore.{AreOrdered, one_more}
 use Rattle.list_lemmas.proofs.Options.{by_result, same_Ok}
 

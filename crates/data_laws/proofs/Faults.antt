@@ -10,7 +10,7 @@ use Rattle.data_laws.specs.WholeRecords.{Record, data_of_records}
 use Rattle.data_laws.specs.WholeTexts.{HasFaultAfter, HasNoRecord, IsFirstFault}
 use Rattle.data_laws.proofs.FirstCodes.{code_is_fault, code_is_fault_at_start, fault_at_start_has_code, fault_has_code}
 use Rattle.data_laws.proofs.AllRecords.{are_read, read_all}
-use Rattle.data_read.proofs.Choices.{no_value}
+use Rattle.data_read.proofs.CallerLemmas.{no_value}
 use Rattle.list_lemmas.proofs.Options.{by_result, same_Ok, same_Err}
 
 -- the fault of one of these records, numbered from `row` on

@@ -14,7 +14,7 @@ use Rattle.data_read.specs.Records.{coll_of, coll_record, collof_record, column,
 use Rattle.data_read.specs.Records.{first_value, int_record, later_record, numbers, shape_of, tile_record, type_record}
 use Rattle.data_laws.specs.WholeRecords.{Record}
 use Rattle.data_laws.specs.Codes.{all_codes, both_pass, first_code, first_code_at_start}
-use Rattle.data_read.proofs.Choices.{by_option}
+use Rattle.data_read.proofs.CallerLemmas.{by_option}
 use Rattle.list_lemmas.proofs.Truth.{by_test}
 use Rattle.list_lemmas.proofs.Options.{by_result}
 use Rattle.list_lemmas.proofs.Texts.{bytes_eq-apart}

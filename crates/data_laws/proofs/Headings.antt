@@ -8,8 +8,7 @@ use Rattle.coll_data.specs.Tiles.{tile_count}
 use Rattle.data_read.specs.Draft.{GrowingColl, coll_index, type_among}
 use Rattle.data_read.specs.Fields.{field, begins}
 use Rattle.data_laws.specs.WholeRecords.{Heading, Record, declares, given_tile, heading_at, heading_in, name_at, tile_in, type_name_in, with_tiles}
-use Rattle.data_read.proofs.Choices.{by_option}
-use Rattle.data_read.proofs.Meanings.{any_push}
+use Rattle.data_read.proofs.CallerLemmas.{any_push, by_option}
 use Rattle.data_laws.proofs.WholeLists.{all_of, left_out, map_same, none_kept, range_constant, range_same}
 use Rattle.list_lemmas.proofs.Truth.{by_test, chosen}
 use Rattle.list_lemmas.proofs.Texts.{bytes_eq-sym_false}

@@ -6,3 +6,4 @@ pub mod FirstCodes
 pub mod AllRecords
 pub mod Faults
 pub mod Integers
+pub mod CallerLemmas

@@ -16,13 +16,11 @@ use Rattle.data_read.specs.Records.{free_index, int_record, later_record, new_ti
 use Rattle.data_laws.specs.WholeRecords.{Heading, Record, all_types, data_of_records, declares, elements_of, heading_at}
 use Rattle.data_laws.specs.WholeRecords.{heading_in, headings_of, tile_index_in, int_in, ints_of, name_at, shape_in}
 use Rattle.data_laws.specs.WholeRecords.{type_in, type_name_in, types_of, with_tiles}
-use Rattle.data_read.proofs.Choices.{by_option, no_value}
-use Rattle.data_read.proofs.Accepted.{IsAsked, IsNewTile, accepted_tile, asked}
+use Rattle.data_read.proofs.CallerLemmas.{IsAsked, IsNewTile, accepted_tile, asked, by_option, coll_is_there, no_value}
 use Rattle.list_lemmas.proofs.Truth.{by_test}
 use Rattle.list_lemmas.proofs.Options.{by_result, same_Ok}
 use Rattle.list_lemmas.proofs.Places.{each_push, each_weaker}
 use Rattle.list_lemmas.proofs.Texts.{bytes_eq-apart}
-use Rattle.data_read.proofs.SoundTiles.{coll_is_there}
 use Rattle.data_laws.proofs.WholeLists.{kept_push, kept_same, left_out}
 use Rattle.data_laws.proofs.Headings.{AreApart, HasKnownType, IsOfKnown, apart_push, colls_kept, heading_kept}
 use Rattle.data_laws.proofs.Headings.{name_kept, new_coll, no_name, some_name, type_kept}

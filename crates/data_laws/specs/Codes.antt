@@ -1,13 +1,16 @@
 -- When each code of a fault fits a record, whatever the other codes do, and the order of the codes.
 -- Carried by: laws `faults_are_first`, `data_are_by_records`, `the_first_code_is_the_fault`.
-use Rattle.std.specs.Prelude.{◌≡◌, ℕ, ◌+◌, ◌-◌, ◌*◌, Bool, false, not, ◌&&◌, ◌||◌, ◌==◌, nat_le, nat_lt, List, [], ◌∷◌, length, drop, codes, find, Option, is_some, is_none, if◌then◌else◌}
+use Rattle.std.specs.Prelude.{◌≡◌, ℕ, ◌+◌, ◌-◌, ◌*◌, Bool, false, not, ◌&&◌, ◌||◌, ◌==◌, nat_le, nat_lt, List, [], ◌∷◌, length, drop, codes, find}
+use Rattle.std.specs.Prelude.{Option, is_some, is_none, if◌then◌else◌}
 use Rattle.std.specs.Option.{option_and_then, option_map, option_map_or}
 use Rattle.std.specs.Result.{result_err}
 use Rattle.ptg_base.specs.Limits.{most_elements, most_named_types}
 use Rattle.coll_data.specs.Types.{default_type}
 use Rattle.coll_data.specs.Tiles.{tile_count}
 use Rattle.coll_data.specs.declared.fault.DataCode.{DataCode}
-use Rattle.coll_data.specs.declared.fault.DataCode.TheVariants.{TooLong, NoElems, ElemsTwice, UnknownRow, FieldCount, BadElems, BadName, NameTwice, TypeTwice, TooManyTypes, UnknownType, UnknownColl, TileCount, BadNumber, TooManyTiles, TooManyElements, BadIndex, TileTwice, MissingName}
+use Rattle.coll_data.specs.declared.fault.DataCode.TheVariants.{TooLong, NoElems, ElemsTwice, UnknownRow, FieldCount, BadElems, BadName, NameTwice}
+use Rattle.coll_data.specs.declared.fault.DataCode.TheVariants.{TypeTwice, TooManyTypes, UnknownType, UnknownColl, TileCount, BadNumber}
+use Rattle.coll_data.specs.declared.fault.DataCode.TheVariants.{TooManyTiles, TooManyElements, BadIndex, TileTwice, MissingName}
 use Rattle.data_read.specs.Fields.{field, is_name, whole, begins}
 use Rattle.data_read.specs.Draft.{GrowingColl, Draft, type_named, coll_named, is_new, slot_at}
 use Rattle.data_read.specs.Records.{column, columns, element_count, first_record, first_value, later_record, numbers, shape_of}

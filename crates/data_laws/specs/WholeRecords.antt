@@ -1,7 +1,8 @@
 -- The data of a list of records, from the whole list at once. The types, the integers and the collections come in the
 -- order of their records. A place of a collection has the tile of that place's record.
 -- Carried by: laws `faults_are_first`, `data_are_by_records`, `the_first_code_is_the_fault`.
-use Rattle.std.specs.Prelude.{ℕ, ◌+◌, ◌*◌, ℤ, Bool, ◌&&◌, ◌||◌, List, ◌∷◌, map, drop, codes, bytes_eq, slice_get, sum_by, Option, None, option_map, option_and_then, if◌then◌else◌, Some, nat_eq}
+use Rattle.std.specs.Prelude.{ℕ, ◌+◌, ◌*◌, ℤ, Bool, ◌&&◌, ◌||◌, List, ◌∷◌, map, drop, codes, bytes_eq, slice_get, sum_by, Option, None, option_map}
+use Rattle.std.specs.Prelude.{option_and_then, if◌then◌else◌, Some, nat_eq}
 use Rattle.std.specs.List.{filter_map, range_with_len}
 use Rattle.std.specs.Option.{option_eq}
 use Rattle.coll_data.specs.Types.{default_type}

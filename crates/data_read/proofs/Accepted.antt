@@ -22,7 +22,8 @@ pub record IsAsked (d : Draft) (type : List ℕ) (fields : List (List ℕ)) (at 
   pub room : nat_le (d.elements + tile_count shape.0 shape.1 * known.1) 16777216 ≡ true
   pub made : size ≡ record { shape = shape; datatype = known.0; elements = known.1 }
 
-pub asked : (d : Draft) (type : List ℕ) (fields : List (List ℕ)) (at : ℕ) (size : AskedColl) → asked_coll d type fields at ≡ Ok size → IsAsked d type fields at size
+pub asked : (d : Draft) (type : List ℕ) (fields : List (List ℕ)) (at : ℕ) (size : AskedColl)
+    → asked_coll d type fields at ≡ Ok size → IsAsked d type fields at size
 asked d type fields at size is =
     by_option (type_named d type)
     (λ h. let s = rw h at is in no_value s)

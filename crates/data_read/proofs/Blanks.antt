@@ -6,7 +6,8 @@ use Rattle.std.specs.Prelude.{◌==◌}
 use Rattle.data_read.specs.Fields.{is_blank, after_blanks, content_length}
 
 -- a blank before the rest is dropped
-pub first_blank : (bytes : List ℕ) (i : ℕ) → i < length bytes → is_blank (get_or bytes i 0) ≡ true → after_blanks (drop i bytes) ≡ after_blanks (drop (i + 1) bytes)
+pub first_blank : (bytes : List ℕ) (i : ℕ) → i < length bytes → is_blank (get_or bytes i 0) ≡ true
+    → after_blanks (drop i bytes) ≡ after_blanks (drop (i + 1) bytes)
 unfolding after_blanks
 first_blank bytes i lt w = rw (drop_more bytes i 0 lt, w) refl
 

@@ -11,3 +11,4 @@ pub mod Digits
 pub mod FieldsAt
 pub mod SoFar
 pub mod TileSteps
+pub mod CallerLemmas

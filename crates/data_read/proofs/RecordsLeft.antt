@@ -1,10 +1,12 @@
 -- How a read of a record changes the records that a reader has left.
 use Rattle.std.specs.Prelude.{◌==◌, ◌&&◌}
-use Rattle.std.proofs.Common.{◌≡◌, ℕ, zero, suc, ◌+◌, ◌<◌, ◌≤◌, Bool, true, false, cond, List, [], ◌∷◌, ◌++◌, length, Option, Some, None, refl, sym, ◌∙◌, ap, inl, arith}
+use Rattle.std.proofs.Common.{◌≡◌, ℕ, zero, suc, ◌+◌, ◌<◌, ◌≤◌, Bool, true, false, cond, List, [], ◌∷◌, ◌++◌, length, Option, Some, None, refl, sym}
+use Rattle.std.proofs.Common.{◌∙◌, ap, inl, arith}
 use Rattle.std.proofs.lemmas.Bool.{cond-false}
 use Rattle.std.proofs.lemmas.Option.{cond_some, same_Some}
 use denote.Ref.{Bor}
-use Rattle.csv.specs.Machine.{Read, after_end, ends_at_end, fields_after, field_after, in_field, is_end, next_record, start_field, start_record, step, ends_with, is_byte}
+use Rattle.csv.specs.Machine.{Read, after_end, ends_at_end, fields_after, field_after, in_field, is_end, next_record, start_field, start_record}
+use Rattle.csv.specs.Machine.{step, ends_with, is_byte}
 use Rattle.csv.specs.Reading.{ExplainsRead, Reached, ReadRecord, default_config, is_flexible, reader_state, records_from, records_next, took_first}
 use Rattle.csv.specs.declared.error.ErrorKind.{ErrorKind}
 use Rattle.csv.specs.declared.error.ErrorKind.TheVariants as kind
@@ -91,10 +93,13 @@ took cfg s fields field (c ∷ rest) p e =
     record { between = more.between; fewer = omega arith })
 
 -- between two records the next one takes at least a byte
-took_some : (cfg : Config) (s : State) (fields : List (List ℕ)) (field xs : List ℕ) (p : Read) → ends_at_end s ≡ false → next_record cfg s fields field xs ≡ Some p → length p.2 < length xs
+took_some : (cfg : Config) (s : State) (fields : List (List ℕ)) (field xs : List ℕ) (p : Read)
+    → ends_at_end s ≡ false → next_record cfg s fields field xs ≡ Some p → length p.2 < length xs
 unfolding next_record
 took_some cfg s fields field [] p between e =
-    let none : ◌≡◌ {A = Option Read} None (Some p) = sym (cond-false (ends_at_end s) (Some (fields ++ (field ∷ []), st.StartRecord, [])) None between) ∙ e in absurd cc
+    let none : ◌≡◌ {A = Option Read} None (Some p) =
+    sym (cond-false (ends_at_end s) (Some (fields ++ (field ∷ []), st.StartRecord, [])) None between)
+    ∙ e in absurd cc
 took_some cfg s fields field (c ∷ rest) p between e =
     by_test (is_end (step cfg s c).1)
     (λ h.
@@ -109,7 +114,8 @@ took_some cfg s fields field (c ∷ rest) p between e =
 
 -- ---- the records do not depend on the bound, if it is large enough
 
-same_records : (cfg : Config) (n m : ℕ) (s : State) (xs : List ℕ) → ends_at_end s ≡ false → length xs < n → length xs < m → records_from cfg n s xs ≡ records_from cfg m s xs
+same_records : (cfg : Config) (n m : ℕ) (s : State) (xs : List ℕ) → ends_at_end s ≡ false → length xs < n
+    → length xs < m → records_from cfg n s xs ≡ records_from cfg m s xs
 unfolding records_from
 same_records cfg zero m s xs between h k = absurd (omega arith)
 same_records cfg (suc n) zero s xs between h k = absurd (omega arith)
@@ -139,15 +145,19 @@ record ReachedOne (cfg : Config) (s : State) (xs : List ℕ) (fields : List (Lis
   state : p.1 ≡ s2
   rest : p.2 ≡ ys
 
-one_reached : (cfg : Config) (s : State) (xs : List ℕ) (fields : List (List ℕ)) (s2 : State) (ys : List ℕ) → Reached cfg s xs (fields ∷ []) s2 ys → ReachedOne cfg s xs fields s2 ys
+one_reached : (cfg : Config) (s : State) (xs : List ℕ) (fields : List (List ℕ)) (s2 : State) (ys : List ℕ)
+    → Reached cfg s xs (fields ∷ []) s2 ys → ReachedOne cfg s xs fields s2 ys
 unfolding Reached
 one_reached cfg s xs fields s2 ys h = record { p = h.0; next = h.1; fields_are = h.2; state = h.3.0; rest = h.3.1 }
 
 -- a record that was read was the next one
-pub record_found : (a b : Reader (Bor (List ℕ))) (records : List (List (List ℕ))) (fields : List (List ℕ)) → HasRecords a records → took_first b ≡ true → is_flexible b ≡ is_flexible a → ReadRecord bytes_of a b true fields
+pub record_found : (a b : Reader (Bor (List ℕ))) (records : List (List (List ℕ))) (fields : List (List ℕ))
+    → HasRecords a records → took_first b ≡ true → is_flexible b ≡ is_flexible a
+    → ReadRecord bytes_of a b true fields
     → (rest : List (List (List ℕ))) × (records ≡ fields ∷ rest) × HasRecords b rest
 record_found a b records fields has first same_flexible r =
-    let more = rows-more bytes_of a b fields default_config (reader_state a) has.rest has.rest [] has.config has.source (nothing_reached default_config (reader_state a) has.rest) r in
+    let more = rows-more bytes_of a b fields default_config (reader_state a) has.rest has.rest [] has.config
+    has.source (nothing_reached default_config (reader_state a) has.rest) r in
     let z = more.0 in
     let one = one_reached default_config (reader_state a) has.rest fields (reader_state b) z more.2 in
     let less = took_some default_config (reader_state a) [] [] has.rest one.p has.between one.next in
@@ -156,9 +166,11 @@ record_found a b records fields has first same_flexible r =
     let later = records_from default_config (length z + 1) (reader_state b) z in
     let same : records_from default_config (length has.rest) one.p.1 one.p.2 ≡ later =
     same_records default_config (length has.rest) (length z + 1) one.p.1 one.p.2 end less (omega arith)
-    ∙ ap (λ (s : State). records_from default_config (length z + 1) s one.p.2) one.state ∙ ap (λ (ys : List ℕ). records_from default_config (length z + 1) (reader_state b) ys) one.rest in (
+    ∙ ap (λ (s : State). records_from default_config (length z + 1) s one.p.2) one.state
+    ∙ ap (λ (ys : List ℕ). records_from default_config (length z + 1) (reader_state b) ys) one.rest in (
       later,
-      has.records_are ∙ records_by default_config (length has.rest) (reader_state a) has.rest ∙ ap (records_next (records_from default_config (length has.rest))) one.next
+      has.records_are ∙ records_by default_config (length has.rest) (reader_state a) has.rest
+          ∙ ap (records_next (records_from default_config (length has.rest))) one.next
           ∙ ap (λ fs. fs ∷ records_from default_config (length has.rest) one.p.1 one.p.2) (sym one.fields_are) ∙ ap (λ rs. fields ∷ rs) same,
       record {
         untrimmed = r.3 ∙ has.untrimmed;
@@ -173,18 +185,22 @@ record_found a b records fields has first same_flexible r =
     )
 
 -- if no record was found, none is left
-pub records_ended : (a b : Reader (Bor (List ℕ))) (records : List (List (List ℕ))) (fields : List (List ℕ)) → HasRecords a records → ReadRecord bytes_of a b false fields → records ≡ []
+pub records_ended : (a b : Reader (Bor (List ℕ))) (records : List (List (List ℕ))) (fields : List (List ℕ))
+    → HasRecords a records → ReadRecord bytes_of a b false fields → records ≡ []
 records_ended a b records fields has r =
     has.records_are ∙ records_by default_config (length has.rest) (reader_state a) has.rest
     ∙ ap (records_next (records_from default_config (length has.rest))) (rows-end bytes_of a b fields default_config has.rest has.config has.source r)
 
 -- a read of a record, whether it found one or not
-pub record_read : (a b : Reader (Bor (List ℕ))) (records : List (List (List ℕ))) (found : Bool) (fields : List (List ℕ)) → HasRecords a records → took_first b ≡ true → is_flexible b ≡ is_flexible a → ReadRecord bytes_of a b found fields → NextRecord records found fields b
+pub record_read : (a b : Reader (Bor (List ℕ))) (records : List (List (List ℕ))) (found : Bool)
+    (fields : List (List ℕ)) → HasRecords a records → took_first b ≡ true → is_flexible b ≡ is_flexible a
+    → ReadRecord bytes_of a b found fields → NextRecord records found fields b
 record_read a b records true fields has first same_flexible r = record_found a b records fields has first same_flexible r
 record_read a b records false fields has first same_flexible r = records_ended a b records fields has r
 
 -- why a read of a record failed
-pub of_reading : (a b : Reader (Bor (List ℕ))) (records : List (List (List ℕ))) (error : ErrorKind) → HasRecords a records → ExplainsRead bytes_of a b false error → IsOfReading error
+pub of_reading : (a b : Reader (Bor (List ℕ))) (records : List (List (List ℕ))) (error : ErrorKind)
+    → HasRecords a records → ExplainsRead bytes_of a b false error → IsOfReading error
 of_reading a b records (kind.Io e) has why = tt
 of_reading a b records kind.OutOfMemory has why = tt
 of_reading a b records (kind.UnequalLengths pos expected len) has why = absurd (let both : true ≡ false = sym has.flexible ∙ why.0 in cc)

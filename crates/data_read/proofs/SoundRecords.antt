@@ -1,6 +1,8 @@
 -- Each record keeps the data so far sound.
 use Rattle.std.specs.Prelude.{◌==◌, ◌&&◌, ◌||◌, nat_le, nat_lt}
-use Rattle.std.proofs.Common.{◌≡◌, ℕ, suc, ◌+◌, ◌*◌, ◌<◌, ◌≤◌, ℤ, pos, negsuc, true, List, [], ◌∷◌, ◌++◌, length, map, get_or, replicate, codes, bytes_eq, Option, Some, None, option_map, option_and_then, Ok, IsTrue, refl, sym, ◌∙◌, ap, subst, inl, inr, arith, mul-pos}
+use Rattle.std.proofs.Common.{◌≡◌, ℕ, suc, ◌+◌, ◌*◌, ◌<◌, ◌≤◌, ℤ, pos, negsuc, true, List, [], ◌∷◌, ◌++◌, length, map, get_or, replicate, codes}
+use Rattle.std.proofs.Common.{bytes_eq, Option, Some, None, option_map, option_and_then, Ok, IsTrue, refl, sym, ◌∙◌, ap, subst, inl, inr, arith}
+use Rattle.std.proofs.Common.{mul-pos}
 use Rattle.std.specs.List.{list_all, AllByRecursion}
 use Rattle.std.proofs.lemmas.Bool.{leb-true, ltb-true, and_parts}
 use Rattle.std.proofs.lemmas.List.{length-replicate, length-map, length_push, map-append}
@@ -13,7 +15,8 @@ use Rattle.data_read.specs.declared.growing.GrowingColl.{GrowingColl}
 use Rattle.data_read.specs.declared.growing.AskedColl.{AskedColl}
 use Rattle.data_read.specs.Fields.{field, is_name, whole}
 use Rattle.data_read.specs.Draft.{Draft, begun, is_new, type_among, type_named, with_coll, with_type}
-use Rattle.data_read.specs.Records.{as_element_count, coll_of, coll_record, collof_record, element_count, first_record, int_record, shape_of, side, asked_coll, type_record}
+use Rattle.data_read.specs.Records.{as_element_count, coll_of, coll_record, collof_record, element_count, first_record, int_record, shape_of, side}
+use Rattle.data_read.specs.Records.{asked_coll, type_record}
 use Rattle.data_read.proofs.Choices.{by_option, no_value}
 use Rattle.data_read.proofs.Accepted.{asked}
 use Rattle.data_read.proofs.Soundness.{HasLength, IsSound, IsSoundColl, all_replicate, all_true_push, at_push, counts_of, elements_in}
@@ -74,7 +77,9 @@ with_type_sound d name n sound count room =
     record {
       types_at_most = omega (arith, length_push d.types (name, n));
       counts = subst (λ ns. IsTrue (list_all is_element_count ns)) same (all_true_push is_element_count (counts_of d) n sound.counts count);
-      colls = subst (λ ns. AllByRecursion (IsSoundColl ns) d.colls) same (each_weaker (IsSoundColl (counts_of d)) (IsSoundColl (counts_of d ++ n ∷ [])) d.colls (coll_grown (counts_of d) n) sound.colls);
+      colls = subst (λ ns. AllByRecursion (IsSoundColl ns) d.colls) same
+          (each_weaker (IsSoundColl (counts_of d)) (IsSoundColl (counts_of d ++ n ∷ [])) d.colls
+          (coll_grown (counts_of d) n) sound.colls);
       total = sound.total;
       at_most = sound.at_most;
     }
@@ -114,7 +119,14 @@ int_sound d e fields sound is =
     by_option (whole (field fields 2))
     (λ h. let s = rw h at is in no_value s)
     (λ v hv. let is = rw hv at is in
-    subst IsSound (same_Ok _ _ is) (record { types_at_most = sound.types_at_most; counts = sound.counts; colls = sound.colls; total = sound.total; at_most = sound.at_most })))
+    subst IsSound (same_Ok _ _ is) (record {
+      types_at_most = sound.types_at_most;
+      counts = sound.counts;
+      colls = sound.colls;
+      total =
+          sound.total;
+      at_most = sound.at_most;
+    })))
     (λ h. let s = rw h at is in no_value s))
     (λ h. let s = rw h at is in no_value s))
     (λ h. let s = rw h at is in no_value s)
@@ -142,8 +154,11 @@ type_at name number (t ∷ ts) known e = elim (chosen (bytes_eq name t.0) (Some 
       record { place = suc rest.place; within = omega arith; is_number = omega arith; is_count = rest.is_count }
 ]
 
-with_coll_sound : (d : Draft) (name : List ℕ) (shape : ℕ × Option ℕ) (datatype elements : ℕ) → IsSound d → datatype < length (counts_of d) → get_or (counts_of d) datatype 0 ≡ elements
-    → 1 ≤ tile_count shape.0 shape.1 → tile_count shape.0 shape.1 ≤ 65536 → d.elements + tile_count shape.0 shape.1 * elements ≤ 16777216 → IsSound (with_coll d name shape datatype elements)
+with_coll_sound : (d : Draft) (name : List ℕ) (shape : ℕ × Option ℕ) (datatype elements : ℕ) → IsSound d
+    → datatype < length (counts_of d) → get_or (counts_of d) datatype 0 ≡ elements
+    → 1 ≤ tile_count shape.0 shape.1 → tile_count shape.0 shape.1 ≤ 65536
+    → d.elements + tile_count shape.0 shape.1 * elements ≤ 16777216
+    → IsSound (with_coll d name shape datatype elements)
 with_coll_sound d name shape datatype elements sound within is some few room =
     let count = tile_count shape.0 shape.1 in
     let coll : GrowingColl = record { name = name; shape = shape; datatype = datatype; elements = elements; tiles = replicate count None } in
@@ -152,7 +167,15 @@ with_coll_sound d name shape datatype elements sound within is some few room =
       types_at_most = sound.types_at_most;
       counts = sound.counts;
       colls = each_push (IsSoundColl (counts_of d)) d.colls coll sound.colls
-          (record { datatype = within; elements = is; has_tiles = some; tiles_at_most = few; all_tiles = size; lengths = all_replicate (HasLength elements) count None (length-replicate elements (pos 0)) });
+          (record {
+            datatype = within;
+            elements = is;
+            has_tiles = some;
+            tiles_at_most = few;
+            all_tiles =
+                size;
+            lengths = all_replicate (HasLength elements) count None (length-replicate elements (pos 0));
+          });
       total = sum_by_push elements_in d.colls coll ∙ ap (λ n. n + elements_in coll) sound.total ∙ ap (λ n. d.elements + n * elements) size;
       at_most = room;
     }
@@ -216,7 +239,8 @@ sized_is d type fields at size is =
     let place = type_at type 0 ((default_type, d.elems) ∷ d.types) known a.is_type in
     let number = place.is_number in
     let within = place.within in
-    let count : length (counts_of d) ≡ length ((default_type, d.elems) ∷ d.types) = length-map ((default_type, d.elems) ∷ d.types) (λ (type : List ℕ × ℕ). type.1) in
+    let count : length (counts_of d) ≡ length ((default_type, d.elems) ∷ d.types) =
+    length-map ((default_type, d.elems) ∷ d.types) (λ (type : List ℕ × ℕ). type.1) in
     let here : known.0 ≡ place.place = omega arith in
     subst (IsSizeOf d) (sym a.made)
     (record {
@@ -235,7 +259,8 @@ coll_of_sound d e type fields at sound is =
     by_result (asked_coll d type fields (at + 1))
     (λ size hs. let is = rw hs at is in
     let parts = sized_is d type fields (at + 1) size hs in
-    subst IsSound (same_Ok _ _ is) (with_coll_sound d (field fields at) size.shape size.datatype size.elements sound parts.within parts.is parts.tiles.some parts.tiles.few parts.room))
+    subst IsSound (same_Ok _ _ is) (with_coll_sound d (field fields at) size.shape size.datatype size.elements sound
+    parts.within parts.is parts.tiles.some parts.tiles.few parts.room))
     (λ code hs. let s = rw hs at is in no_value s))
     (λ h. let s = rw h at is in no_value s))
     (λ h. let s = rw h at is in no_value s)

@@ -1,6 +1,7 @@
 -- Records of tiles, and so all records, keep the data so far sound.
 use Rattle.std.specs.Prelude.{nat_le}
-use Rattle.std.proofs.Common.{◌≡◌, ℕ, ◌+◌, ◌-◌, ◌*◌, ℤ, List, length, drop, get_or, set, slice_get, codes, bytes_eq, Option, Some, None, option_map, Ok, refl, ◌∙◌, ap, subst, arith, length-set}
+use Rattle.std.proofs.Common.{◌≡◌, ℕ, ◌+◌, ◌-◌, ◌*◌, ℤ, List, length, drop, get_or, set, slice_get, codes, bytes_eq, Option, Some, None, option_map}
+use Rattle.std.proofs.Common.{Ok, refl, ◌∙◌, ap, subst, arith, length-set}
 use Rattle.std.specs.List.{sum_by}
 use Rattle.std.proofs.lemmas.Bool.{leb-true, and_parts}
 use Rattle.std.proofs.lemmas.List.{length-drop}
@@ -25,11 +26,13 @@ tile_length : (fields : List (List ℕ)) (coll : GrowingColl) (tile : ℕ × Lis
 tile_length fields coll tile is =
     let first = first_value coll.shape.1 in
     let a = accepted_tile fields coll tile is in
-    let few = leb-true (length fields - first) coll.elements (and_parts (nat_le 1 (length fields - first)) (nat_le (length fields - first) coll.elements) a.few).1 in
+    let few = leb-true (length fields - first) coll.elements
+    (and_parts (nat_le 1 (length fields - first)) (nat_le (length fields - first) coll.elements) a.few).1 in
     let size : length a.values ≡ length fields - first = numbers_length (drop first fields) a.values a.are_values ∙ length-drop first fields in
     ap (λ (t : ℕ × List ℤ). length t.1) a.made ∙ length_opened coll.elements a.values (omega arith)
 
-with_tile_sound : (d : Draft) (at : ℕ) (coll : GrowingColl) (index : ℕ) (tile : List ℤ) → IsSound d → slice_get d.colls at ≡ Some coll → length tile ≡ coll.elements → IsSound (with_tile d at coll index tile)
+with_tile_sound : (d : Draft) (at : ℕ) (coll : GrowingColl) (index : ℕ) (tile : List ℤ) → IsSound d
+    → slice_get d.colls at ≡ Some coll → length tile ≡ coll.elements → IsSound (with_tile d at coll index tile)
 with_tile_sound d at coll index tile sound got size =
     let old = each_at (IsSoundColl (counts_of d)) d.colls at coll sound.colls got in
     let new : GrowingColl = record coll { tiles = set coll.tiles index (Some tile) } in
@@ -50,7 +53,8 @@ with_tile_sound d at coll index tile sound got size =
             all_tiles = same_size ∙ old.all_tiles;
             lengths = each_set (HasLength coll.elements) coll.tiles index (Some tile) old.lengths size;
           });
-      total = unchanged (sum_by elements_in (set d.colls at new)) (elements_in (get_or d.colls at coll)) (sum_by elements_in d.colls) (elements_in new) (elements_in coll) change before after ∙ was;
+      total = unchanged (sum_by elements_in (set d.colls at new)) (elements_in (get_or d.colls at coll))
+          (sum_by elements_in d.colls) (elements_in new) (elements_in coll) change before after ∙ was;
       at_most = sound.at_most;
     }
   where
@@ -62,7 +66,8 @@ coll_is_there d name known e =
     option_and_then_some (λ at. option_map (λ (coll : GrowingColl). (at, coll)) (slice_get d.colls at)) (coll_index name d.colls) known e
     (λ at is more. there at (slice_get d.colls at) refl more)
   where
-    there : (at : ℕ) (o : Option GrowingColl) → slice_get d.colls at ≡ o → option_map (λ (coll : GrowingColl). (at, coll)) o ≡ Some known → slice_get d.colls known.0 ≡ Some known.1
+    there : (at : ℕ) (o : Option GrowingColl) → slice_get d.colls at ≡ o
+        → option_map (λ (coll : GrowingColl). (at, coll)) o ≡ Some known → slice_get d.colls known.0 ≡ Some known.1
     there at None is more = absurd cc
     there at (Some coll) is more =
         let same : (at, coll) ≡ known = (let s : ◌≡◌ {A = Option (ℕ × GrowingColl)} (Some (at, coll)) (Some known) = more in cc) in
@@ -79,7 +84,8 @@ tile_sound d e fields sound is =
     (λ known hk. let is = rw hk at is in
     by_result (new_tile fields known.1)
     (λ tile ht. let is = rw ht at is in
-    subst IsSound (same_Ok _ _ is) (with_tile_sound d known.0 known.1 tile.0 tile.1 sound (coll_is_there d (field fields 1) known hk) (tile_length fields known.1 tile ht)))
+    subst IsSound (same_Ok _ _ is) (with_tile_sound d known.0 known.1 tile.0 tile.1 sound
+    (coll_is_there d (field fields 1) known hk) (tile_length fields known.1 tile ht)))
     (λ code ht. let s = rw ht at is in no_value s)))
     (λ h. let s = rw h at is in no_value s))
     (λ h. let s = rw h at is in no_value s)

@@ -1,6 +1,7 @@
 -- What holds for the data so far after each record, and that at the end the data are well made.
 use Rattle.std.specs.Prelude.{◌&&◌}
-use Rattle.std.proofs.Common.{◌≡◌, ℕ, zero, suc, ◌+◌, ◌*◌, ◌<◌, ◌≤◌, ℤ, pos, Bool, true, false, List, [], ◌∷◌, ◌++◌, length, map, get_or, replicate, unwrap_or, Option, IsTrue, refl, sym, ◌∙◌, ap, arith}
+use Rattle.std.proofs.Common.{◌≡◌, ℕ, zero, suc, ◌+◌, ◌*◌, ◌<◌, ◌≤◌, ℤ, pos, Bool, true, false, List, [], ◌∷◌, ◌++◌, length, map, get_or, replicate}
+use Rattle.std.proofs.Common.{unwrap_or, Option, IsTrue, refl, sym, ◌∙◌, ap, arith}
 use Rattle.std.specs.List.{list_all, AllByRecursion, sum_by}
 use Rattle.std.proofs.lemmas.List.{length-map}
 use Rattle.std.proofs.lemmas.List.Sums.{sum_by-cons}
@@ -12,7 +13,8 @@ use Rattle.data_read.specs.Draft.{Draft, data_after, finished}
 
 -- ---- lists
 
-all_map : {A B : Type 0} (f : A → B) (P : A → Type 0) (Q : B → Type 0) (xs : List A) → ((x : A) → P x → Q (f x)) → AllByRecursion P xs → AllByRecursion Q (map f xs)
+all_map : {A B : Type 0} (f : A → B) (P : A → Type 0) (Q : B → Type 0) (xs : List A) → ((x : A) → P x → Q (f x))
+    → AllByRecursion P xs → AllByRecursion Q (map f xs)
 all_map f P Q [] each all = tt
 all_map f P Q (x ∷ xs) each all = (each x all.0, all_map f P Q xs each all.1)
 
@@ -69,17 +71,22 @@ well_coll counts c sound =
       datatype = sound.datatype;
       whole = record { has_tiles = sound.has_tiles; all_tiles = length-map c.tiles zeros ∙ sound.all_tiles };
       tiles_at_most = sound.tiles_at_most;
-      tile_lengths = all_map zeros (HasLength c.elements) (λ (tile : List ℤ). length tile ≡ get_or counts c.datatype 0) c.tiles (λ tile h. h ∙ sym sound.elements) sound.lengths;
+      tile_lengths = all_map zeros (HasLength c.elements)
+          (λ (tile : List ℤ). length tile ≡ get_or counts c.datatype 0) c.tiles (λ tile h. h ∙ sym sound.elements)
+          sound.lengths;
     }
 
-same_total : (counts : List ℕ) (colls : List GrowingColl) → AllByRecursion (IsSoundColl counts) colls → element_total counts (map finished colls) ≡ sum_by elements_in colls
+same_total : (counts : List ℕ) (colls : List GrowingColl) → AllByRecursion (IsSoundColl counts) colls
+    → element_total counts (map finished colls) ≡ sum_by elements_in colls
 same_total counts [] all = refl
 same_total counts (c ∷ cs) all =
     let f = λ (coll : Coll). length coll.tiles * get_or counts coll.datatype 0 in
     let rest = same_total counts cs all.1 in
     let zeros = λ (tile : Option (List ℤ)). unwrap_or tile (replicate c.elements (pos 0)) in
-    let one : f (finished c) ≡ elements_in c = ap (λ n. n * get_or counts c.datatype 0) (length-map c.tiles zeros) ∙ ap (λ n. length c.tiles * n) all.0.elements in
-    sum_by-cons f (finished c) (map finished cs) ∙ ap (λ n. n + sum_by f (map finished cs)) one ∙ ap (λ n. elements_in c + n) rest ∙ sym (sum_by-cons elements_in c cs)
+    let one : f (finished c) ≡ elements_in c = ap (λ n. n * get_or counts c.datatype 0) (length-map c.tiles zeros)
+    ∙ ap (λ n. length c.tiles * n) all.0.elements in
+    sum_by-cons f (finished c) (map finished cs) ∙ ap (λ n. n + sum_by f (map finished cs)) one
+    ∙ ap (λ n. elements_in c + n) rest ∙ sym (sum_by-cons elements_in c cs)
 
 pub well_made : (d : Draft) (records : ℕ) → IsSound d → IsWellMade (data_after records d)
 well_made d records sound =

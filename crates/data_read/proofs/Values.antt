@@ -1,5 +1,6 @@
 -- The values of a tile, one field after another.
-use Rattle.std.proofs.Common.{◌≡◌, ℕ, zero, suc, ◌+◌, ◌-◌, ◌<◌, ◌≤◌, ℤ, pos, List, [], ◌∷◌, ◌++◌, length, take, get_or, set, replicate, Option, Some, None, option_map, option_and_then, refl, sym, ◌∙◌, ap, arith, append_assoc, length-append}
+use Rattle.std.proofs.Common.{◌≡◌, ℕ, zero, suc, ◌+◌, ◌-◌, ◌<◌, ◌≤◌, ℤ, pos, List, [], ◌∷◌, ◌++◌, length, take, get_or, set, replicate, Option, Some}
+use Rattle.std.proofs.Common.{None, option_map, option_and_then, refl, sym, ◌∙◌, ap, arith, append_assoc, length-append}
 use Rattle.std.proofs.lemmas.List.{take_more, take_all, set_at, length_push, length-replicate, length-take-le}
 use Rattle.data_read.specs.Fields.{whole, without_blanks}
 use Rattle.data_read.specs.Draft.{opened}
@@ -26,12 +27,14 @@ joined_none : (o : Option ℤ) (p : Option (List ℤ)) → p ≡ None → joined
 joined_none None p e = refl
 joined_none (Some z) p e = rw e refl
 
-numbers_push : (fields : List (List ℕ)) (zs : List ℤ) (bytes : List ℕ) (z : ℤ) → numbers fields ≡ Some zs → whole (without_blanks bytes) ≡ Some z → numbers (fields ++ bytes ∷ []) ≡ Some (zs ++ z ∷ [])
+numbers_push : (fields : List (List ℕ)) (zs : List ℤ) (bytes : List ℕ) (z : ℤ) → numbers fields ≡ Some zs
+    → whole (without_blanks bytes) ≡ Some z → numbers (fields ++ bytes ∷ []) ≡ Some (zs ++ z ∷ [])
 numbers_push [] zs bytes z all one = let none : [] ≡ zs = cc in ap (λ o. joined o (Some [])) one ∙ ap (λ (ys : List ℤ). Some (ys ++ z ∷ [])) none
 numbers_push (g ∷ fields) zs bytes z all one =
     let parts = joined_parts (whole (without_blanks g)) (numbers fields) zs all in
     let more = numbers_push fields parts.rest bytes z parts.is_rest one in
-    ap (joined (whole (without_blanks g))) more ∙ ap (λ o. joined o (Some (parts.rest ++ z ∷ []))) parts.is_first ∙ ap (λ (ys : List ℤ). Some (ys ++ z ∷ [])) parts.is_all
+    ap (joined (whole (without_blanks g))) more ∙ ap (λ o. joined o (Some (parts.rest ++ z ∷ []))) parts.is_first
+    ∙ ap (λ (ys : List ℤ). Some (ys ++ z ∷ [])) parts.is_all
 
 pub numbers_length : (fields : List (List ℕ)) (zs : List ℤ) → numbers fields ≡ Some zs → length zs ≡ length fields
 numbers_length [] zs all = let none : [] ≡ zs = cc in ap length (sym none)
@@ -55,9 +58,15 @@ pub record IsOpening (elements : ℕ) (fields : List (List ℕ)) (tile : List �
   pub made : tile ≡ opened elements values
 
 pub length_opened : (elements : ℕ) (values : List ℤ) → length values ≤ elements → length (opened elements values) ≡ elements
-length_opened elements values few = omega (arith, length-append values (replicate (elements - length values) (pos 0)), length-replicate (elements - length values) (pos 0))
+length_opened elements values few = omega (
+  arith,
+  length-append values (replicate (elements - length values) (pos 0)),
+  length-replicate
+      (elements - length values) (pos 0),
+)
 
-opened_more : (elements : ℕ) (values : List ℤ) (z : ℤ) → length values < elements → set (opened elements values) (length values) z ≡ opened elements (values ++ z ∷ [])
+opened_more : (elements : ℕ) (values : List ℤ) (z : ℤ) → length values < elements
+    → set (opened elements values) (length values) z ≡ opened elements (values ++ z ∷ [])
 opened_more elements values z room =
     let left : elements - length values ≡ suc (elements - length (values ++ z ∷ [])) = omega (arith, length_push values z) in
     let zeros = replicate (elements - length (values ++ z ∷ [])) (pos 0) in
@@ -66,10 +75,16 @@ opened_more elements values z room =
     ∙ sym (append_assoc values (z ∷ []) zeros)
 
 pub opening_first : (elements : ℕ) (tile : List ℤ) → tile ≡ replicate elements (pos 0) → IsOpening elements [] tile
-opening_first elements tile zeros = record { values = []; all = refl; made = zeros ∙ ap (λ n. replicate n (pos 0)) (let all : elements ≡ elements - 0 = omega arith in all) }
+opening_first elements tile zeros = record {
+  values = [];
+  all = refl;
+  made = zeros
+      ∙ ap (λ n. replicate n (pos 0)) (let all : elements ≡ elements - 0 = omega arith in all);
+}
 
 pub opening_more : (elements : ℕ) (fields : List (List ℕ)) (i : ℕ) (z : ℤ) (tile next : List ℤ) → i < length fields → length fields ≤ elements
-    → IsOpening elements (take i fields) tile → whole (without_blanks (get_or fields i [])) ≡ Some z → next ≡ set tile i z → IsOpening elements (take (i + 1) fields) next
+    → IsOpening elements (take i fields) tile → whole (without_blanks (get_or fields i [])) ≡ Some z
+    → next ≡ set tile i z → IsOpening elements (take (i + 1) fields) next
 opening_more elements fields i z tile next within few opening one is =
     let front : length (take i fields) ≡ i = length-take-le i fields (omega arith) in
     let size : length opening.values ≡ i = numbers_length (take i fields) opening.values opening.all ∙ front in
@@ -81,7 +96,9 @@ opening_more elements fields i z tile next within few opening one is =
           ∙ opened_more elements opening.values z (omega (arith, size));
     }
 
-pub opening_last : (elements : ℕ) (fields : List (List ℕ)) (tile : List ℤ) (n : ℕ) → IsOpening elements (take n fields) tile → length fields ≤ n → Some tile ≡ option_map (opened elements) (numbers fields)
+pub opening_last : (elements : ℕ) (fields : List (List ℕ)) (tile : List ℤ) (n : ℕ)
+    → IsOpening elements (take n fields) tile → length fields ≤ n
+    → Some tile ≡ option_map (opened elements) (numbers fields)
 opening_last elements fields tile n opening all =
     ap (λ (t : List ℤ). Some t) opening.made
     ∙ ap (option_map (opened elements)) (sym (ap numbers (sym (take_all n fields all)) ∙ opening.all))

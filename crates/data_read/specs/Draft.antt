@@ -2,7 +2,8 @@
 -- Carried by: `read_data`; laws `data_laws::faults_are_first`, `data_laws::data_are_by_records`,
 -- `data_laws::the_first_code_is_the_fault`.
 -- Tested by: `data_codes.txt`, `data_forms.txt`, `data_limits.txt`, `data_orders.txt`.
-use Rattle.std.specs.Prelude.{ℕ, ◌+◌, ◌-◌, ◌*◌, ℤ, pos, Bool, not, ◌||◌, List, [], ◌∷◌, ◌++◌, length, map, replicate, Option, Some, None, is_some, slice_get, slice_set, bytes_eq, option_map, option_and_then, unwrap_or, if◌then◌else◌}
+use Rattle.std.specs.Prelude.{ℕ, ◌+◌, ◌-◌, ◌*◌, ℤ, pos, Bool, not, ◌||◌, List, [], ◌∷◌, ◌++◌, length, map, replicate, Option, Some, None, is_some}
+use Rattle.std.specs.Prelude.{slice_get, slice_set, bytes_eq, option_map, option_and_then, unwrap_or, if◌then◌else◌}
 use Rattle.std.specs.List.{list_any}
 use Rattle.coll_data.specs.Types.{default_type}
 use Rattle.coll_data.specs.Data.{Data}

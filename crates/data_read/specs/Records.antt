@@ -3,14 +3,17 @@
 -- Carried by: `read_data`; laws `data_laws::faults_are_first`, `data_laws::data_are_by_records`,
 -- `data_laws::the_first_code_is_the_fault`.
 -- Tested by: `data_codes.txt`, `data_forms.txt`, `data_limits.txt`, `data_orders.txt`.
-use Rattle.std.specs.Prelude.{ℕ, ◌+◌, ◌-◌, ◌*◌, ℤ, pos, negsuc, Bool, not, ◌&&◌, ◌||◌, ◌==◌, nat_le, nat_lt, List, [], ◌∷◌, length, drop, codes, Option, Some, None, is_some, Result, Ok, Err, option_map, option_and_then, if◌then◌else◌, ok_or}
+use Rattle.std.specs.Prelude.{ℕ, ◌+◌, ◌-◌, ◌*◌, ℤ, pos, negsuc, Bool, not, ◌&&◌, ◌||◌, ◌==◌, nat_le, nat_lt, List, [], ◌∷◌, length, drop, codes}
+use Rattle.std.specs.Prelude.{Option, Some, None, is_some, Result, Ok, Err, option_map, option_and_then, if◌then◌else◌, ok_or}
 use Rattle.ptg_base.specs.Limits.{most_elements, most_named_types, most_tiles}
 use Rattle.ptg_base.specs.Returns.{and_then}
 use Rattle.coll_data.specs.Types.{default_type}
 use Rattle.coll_data.specs.Tiles.{tile_count}
 use Rattle.coll_data.specs.WellMade.{is_element_count}
 use Rattle.coll_data.specs.declared.fault.DataCode.{DataCode}
-use Rattle.coll_data.specs.declared.fault.DataCode.TheVariants.{NoElems, ElemsTwice, UnknownRow, FieldCount, BadElems, BadName, NameTwice, TypeTwice, TooManyTypes, UnknownType, UnknownColl, TileCount, BadNumber, TooManyTiles, TooManyElements, BadIndex, TileTwice}
+use Rattle.coll_data.specs.declared.fault.DataCode.TheVariants.{NoElems, ElemsTwice, UnknownRow, FieldCount, BadElems, BadName, NameTwice, TypeTwice}
+use Rattle.coll_data.specs.declared.fault.DataCode.TheVariants.{TooManyTypes, UnknownType, UnknownColl, TileCount, BadNumber, TooManyTiles}
+use Rattle.coll_data.specs.declared.fault.DataCode.TheVariants.{TooManyElements, BadIndex, TileTwice}
 use Rattle.data_read.specs.declared.growing.GrowingColl.{GrowingColl}
 use Rattle.data_read.specs.declared.growing.AskedColl.{AskedColl as AskedStruct}
 use Rattle.data_read.specs.Fields.{field, is_name, whole, without_blanks, begins}

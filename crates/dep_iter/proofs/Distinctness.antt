@@ -6,7 +6,7 @@ use Rattle.ptg_base.specs.Lists.{HasNoRepeats}
 use Rattle.ptg_base.specs.Task.{Task}
 use Rattle.term_core.specs.declared.direction.Direction.TheVariants.{In, Out}
 use Rattle.range_space.specs.Fault.{bounds, number}
-use Rattle.range_space.proofs.Distinct.{distinct_number, distinct_range}
+use Rattle.range_space.proofs.CallerLemmas.{distinct_number, distinct_range}
 use Rattle.list_lemmas.proofs.Members.{from_map}
 use Rattle.list_lemmas.proofs.Distinct.{HasNoRepeats-flat_map, HasNoRepeats-map}
 use Rattle.plan_core.specs.declared.target.Arg.{Arg}

@@ -10,3 +10,4 @@ pub mod Directed
 pub mod Writing
 pub mod OwnLocals
 pub mod Sending
+pub mod CallerLemmas

@@ -6,8 +6,7 @@ use Rattle.std.specs.List.{AllByRecursion, flat_map}
 use Rattle.range_space.specs.declared.fault.SpanFault.{SpanFault}
 use Rattle.range_space.specs.declared.steps.Steps.{Steps}
 use Rattle.range_space.specs.Values.{is_within, values}
-use Rattle.range_space.proofs.Stepping.{values_in, values_past}
-use Rattle.range_space.proofs.Nesting.{values-one}
+use Rattle.range_space.proofs.CallerLemmas.{values-one, values_in, values_past}
 use Rattle.ptg_base.specs.Returns.{and_then}
 use Rattle.dep_iter.specs.Arguments.{product}
 use Rattle.dep_iter.specs.Combining.{steps_values, HasFirst, HasOneEach, first_values, product_after, combinations_left, AddsSteps}

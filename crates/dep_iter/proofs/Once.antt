@@ -9,7 +9,7 @@ use Rattle.ptg_base.specs.declared.edge.Item.TheVariants as item
 use Rattle.term_core.specs.declared.space.ClassSpace.{ClassSpace}
 use Rattle.term_core.specs.WellSpace.{IsWellSpace}
 use Rattle.range_space.specs.Tasks.{tasks}
-use Rattle.range_space.proofs.Distinct.{distinct_tasks}
+use Rattle.range_space.proofs.CallerLemmas.{distinct_tasks}
 use Rattle.list_lemmas.proofs.Members.{from_append, from_map}
 use Rattle.list_lemmas.proofs.Distinct.{HasNoRepeats-append, HasNoRepeats-from_map, HasNoRepeats-map, HasNoRepeats-part}
 use Rattle.plan_core.specs.declared.plan.Plan.{Plan}

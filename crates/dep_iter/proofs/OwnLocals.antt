@@ -8,7 +8,7 @@ use Rattle.ptg_base.specs.Task.{Task}
 use Rattle.term_core.specs.declared.space.ClassSpace.{ClassSpace}
 use Rattle.range_space.specs.Locals.{IsLocalsOf}
 use Rattle.range_space.specs.Tasks.{all_locals, params_of, tasks}
-use Rattle.range_space.proofs.MemberLists.{length-locals, locals_from_full}
+use Rattle.range_space.proofs.CallerLemmas.{length-locals, locals_from_full}
 use Rattle.list_lemmas.proofs.Members.{from_map}
 use Rattle.plan_core.specs.declared.plan.Plan.{Plan}
 use Rattle.dep_iter.specs.Tasks.{IsTask, counts_from, locals_of, locals_with, params_are_locals}

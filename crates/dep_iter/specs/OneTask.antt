@@ -13,7 +13,7 @@ use Rattle.term_core.specs.declared.space.ClassSpace.{ClassSpace}
 use Rattle.term_core.specs.WellSpace.{IsWellSpace}
 use Rattle.list_lemmas.proofs.Places.{slice_get_there}
 use Rattle.range_space.specs.Tasks.{tasks}
-use Rattle.range_space.proofs.Distinct.{distinct_tasks}
+use Rattle.range_space.proofs.CallerLemmas.{distinct_tasks}
 use Rattle.plan_core.specs.declared.plan.Plan.{Plan}
 use Rattle.dep_iter.specs.Tasks.{IsTask}
 

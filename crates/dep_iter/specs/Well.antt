@@ -2,7 +2,8 @@
 -- documentation; the order in which a fault is looked for is this project's own choice.
 -- Carried by: `well_task`.
 -- Tested by: `edges.txt`, `edges_cholesky.txt`.
-use Rattle.std.specs.Prelude.{◌≡◌, ℕ, suc, ℤ, List, [], ◌∷◌, Bool, true, false, ◌&&◌, Option, Some, None, Result, Ok, Err, is_ok, slice_get, if◌then◌else◌, option_map, option_and_then}
+use Rattle.std.specs.Prelude.{◌≡◌, ℕ, suc, ℤ, List, [], ◌∷◌, Bool, true, false, ◌&&◌, Option, Some, None, Result, Ok, Err, is_ok, slice_get}
+use Rattle.std.specs.Prelude.{if◌then◌else◌, option_map, option_and_then}
 use Rattle.std.specs.List.{list_all}
 use Rattle.std.specs.Option.{option_map_or}
 use Rattle.ptg_base.specs.Task.{Task}

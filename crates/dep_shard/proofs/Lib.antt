@@ -5,3 +5,4 @@ pub mod Waiting
 pub mod QueueLemmas
 pub mod Searches
 pub mod TableLemmas
+pub mod CallerLemmas

@@ -6,7 +6,7 @@ use Rattle.ptg_base.specs.Task.{Task}
 use Rattle.ptg_base.specs.TaskComparing.{same_task}
 use Rattle.dep_shard.specs.Content.{Content, Takes, entry_in, entry_of, HasNoReadyOf}
 use Rattle.list_lemmas.specs.Counting.{as_number}
-use Rattle.shard_meaning.proofs.Holding.{numbers_with_entry, ready_may}
+use Rattle.shard_meaning.proofs.CallerLemmas.{numbers_with_entry, ready_may}
 use Rattle.work_board.specs.Claims.{FoundGone, HasClaimed, MayStart}
 use Rattle.work_board.specs.Records.{IsClean}
 use Rattle.work_board.specs.declared.record.PassRecord.{PassRecord}
@@ -15,9 +15,7 @@ use Rattle.table_rule.specs.Live.{own_claims, own_stamps}
 use Rattle.shard_meaning.specs.Placing.{shard_of}
 use Rattle.table_rule.specs.Plays.{Seated}
 use Rattle.table_rule.specs.Records.{joined}
-use Rattle.table_rule.proofs.SameMembers.{joined_parts}
-use Rattle.table_rule.proofs.Seeing.{seen_share}
-use Rattle.table_rule.proofs.Weighing.{term_le}
+use Rattle.table_rule.proofs.CallerLemmas.{joined_parts, seen_share, term_le}
 use Rattle.dep_table.specs.declared.turn.Turn.{Turn}
 use Rattle.dep_table.specs.Passes.{IsPassOf}
 use Rattle.dep_table.specs.Tables.{id_of, job_of}

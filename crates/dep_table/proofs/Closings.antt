@@ -25,9 +25,7 @@ use Rattle.table_rule.specs.Live.{own_claims, own_stamps}
 use Rattle.table_rule.specs.Plays.{HasName, WereLeft}
 use Rattle.table_rule.specs.Records.{joined, joined_handed, moment_of}
 use Rattle.table_rule.specs.Rule.{Parts, Share}
-use Rattle.table_rule.proofs.Handing.{handed_same}
-use Rattle.table_rule.proofs.AllNames.{join_all, order_all}
-use Rattle.table_rule.proofs.Alone.{alone_free, alone_parts, alone_stamps}
+use Rattle.table_rule.proofs.CallerLemmas.{alone_free, alone_parts, alone_stamps, handed_same, join_all, order_all}
 use Rattle.dep_table.specs.Closing.{AreAllPasses, IsClosedAt}
 use Rattle.dep_table.specs.Passes.{IsPassOf}
 use Rattle.dep_table.specs.StampOrders.{AreInStampOrder, IsClaimOrder, joined_stamps}

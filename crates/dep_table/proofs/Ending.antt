@@ -8,7 +8,7 @@ use Rattle.dep_shard.specs.Content.{Content, Ends, KeepsEntriesAndWritten, Uses}
 use Rattle.term_core.specs.declared.trap.Trap.{Trap}
 use Rattle.list_lemmas.specs.Counting.{as_number, weigh}
 use Rattle.list_lemmas.proofs.Counts.{weigh-push}
-use Rattle.shard_meaning.proofs.Holding.{numbers_at_most, some_runs}
+use Rattle.shard_meaning.proofs.CallerLemmas.{numbers_at_most, some_runs, spare-trap}
 use Rattle.work_board.specs.Records.{IsClean}
 use Rattle.work_board.specs.Sends.{HasEnded, MayEnd, MayTrap}
 use Rattle.work_board.specs.declared.record.PassRecord.{PassRecord}
@@ -17,12 +17,9 @@ use Rattle.table_rule.specs.Live.{own_stamps}
 use Rattle.shard_meaning.specs.Placing.{shard_of}
 use Rattle.table_rule.specs.Plays.{HasName, Seated}
 use Rattle.table_rule.specs.Records.{joined}
-use Rattle.table_rule.proofs.SameMembers.{joined_parts}
+use Rattle.table_rule.proofs.CallerLemmas.{joined_parts, seen_reserve, seen_runs, seen_share, sound_moment}
 use Rattle.flow_meaning.specs.Machine.{claim_count}
-use Rattle.flow_meaning.proofs.Events.{claim_member}
-use Rattle.shard_meaning.proofs.Reserving.{spare-trap}
-use Rattle.table_rule.proofs.Ending.{sound_moment}
-use Rattle.table_rule.proofs.Seeing.{seen_reserve, seen_runs, seen_share}
+use Rattle.flow_meaning.proofs.CallerLemmas.{claim_member}
 use Rattle.table_rule.specs.GivingBack.{MayGiveEnd}
 use Rattle.dep_table.specs.declared.turn.Turn.{Turn}
 use Rattle.dep_table.specs.Passes.{IsPassOf}

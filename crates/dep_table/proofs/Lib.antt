@@ -18,3 +18,4 @@ pub mod Sharing
 pub mod Working
 pub mod Scans
 pub mod Tried
+pub mod CallerLemmas

@@ -9,7 +9,7 @@ use Rattle.ptg_base.specs.declared.edge.Edge.{Edge}
 use Rattle.ptg_base.specs.declared.edge.WriteBack.{WriteBack}
 use Rattle.ptg_base.specs.declared.edge.Item.{Item}
 use Rattle.ptg_base.specs.declared.edge.Item.TheVariants as item
-use Rattle.ptg_base.proofs.Comparisons.{same_edge-decides}
+use Rattle.ptg_base.proofs.CallerLemmas.{same_edge-decides}
 use Rattle.list_lemmas.proofs.Members.{IsIn-flat_map, IsIn-map, from_flat_map, from_map}
 use Rattle.list_lemmas.proofs.Truth.{by_test}
 use Rattle.list_lemmas.proofs.Counts.{count-le, count-some, one_le, some_passes, weigh-append, same_counts, count-once}
@@ -20,19 +20,14 @@ use Rattle.dep_shard.specs.Content.{Content}
 use Rattle.dep_iter.specs.Consistent.{IsConsistent, all_items, all_out, all_writes}
 use Rattle.dep_iter.specs.Items.{edge_of, items, out_edges, write_backs, write_of}
 use Rattle.dep_iter.specs.Tasks.{IsTask, all_tasks}
-use Rattle.dep_iter.proofs.Listing.{listed}
+use Rattle.dep_iter.proofs.CallerLemmas.{listed}
 use Rattle.flow_meaning.specs.Backward.{ended}
 use Rattle.flow_meaning.specs.Comparing.{same_edge, same_item}
 use Rattle.list_lemmas.specs.Counting.{as_number, count}
 use Rattle.flow_meaning.specs.Ending.{has_outputs}
 use Rattle.flow_meaning.specs.Machine.{IsQuiescent, MachineState, SentItem, same_sent_item, same_tile, sender}
 use Rattle.flow_meaning.specs.Sound.{IsSoundState, with_its_tile}
-use Rattle.flow_meaning.proofs.Comparing.{same_item-decides}
-use Rattle.flow_meaning.proofs.Events.{has_inputs, send_member}
-use Rattle.flow_meaning.proofs.Once.{claims_members}
-use Rattle.flow_meaning.proofs.Quiet.{sent_are_items}
-use Rattle.flow_meaning.proofs.Reordering.{same_sent_item-decides}
-use Rattle.flow_meaning.proofs.Rest.{item_sender}
+use Rattle.flow_meaning.proofs.CallerLemmas.{claims_members, has_inputs, item_sender, same_item-decides, same_sent_item-decides, send_member, sent_are_items}
 use Rattle.shard_meaning.specs.Calm.{HaveNoWork}
 use Rattle.work_board.specs.declared.record.PassRecord.{PassRecord}
 use Rattle.table_rule.specs.declared.table_job.TableJob.{TableJob}

@@ -14,8 +14,7 @@ use Rattle.list_lemmas.specs.Counting.{as_number, count, weigh}
 use Rattle.list_lemmas.proofs.Counts.{count-all, weigh-append, weigh-push, count-same, weigh-zero}
 use Rattle.list_lemmas.proofs.Members.{IsIn-filter}
 use Rattle.list_lemmas.proofs.Joins.{flat_map_push}
-use Rattle.flow_meaning.proofs.Members.{in_edge_to}
-use Rattle.flow_meaning.proofs.Rest.{write_from}
+use Rattle.flow_meaning.proofs.CallerLemmas.{in_edge_to, write_from}
 use Rattle.shard_meaning.specs.Opening.{has_edges, is_edge_to, is_to_enter, is_write_from}
 use Rattle.shard_meaning.specs.Reserve.{is_edge_of_type, is_write_of_type}
 use Rattle.shard_meaning.specs.Share.{Placement, is_of}

@@ -20,13 +20,11 @@ use Rattle.dep_iter.specs.Active.{flow_ins}
 use Rattle.dep_iter.specs.Consistent.{IsConsistent, is_data_edge}
 use Rattle.dep_iter.specs.Edges.{data_source, in_edges, source_among}
 use Rattle.dep_iter.specs.Tasks.{IsTask, all_tasks, flows_of, locals_of}
-use Rattle.dep_iter.proofs.Listing.{listed}
+use Rattle.dep_iter.proofs.CallerLemmas.{listed}
 use Rattle.list_lemmas.specs.Counting.{as_number, count, weigh}
-use Rattle.flow_meaning.proofs.Members.{in_edge_to}
-use Rattle.flow_meaning.proofs.SourceEdges.{only_source, source_at_flow, source_in}
-use Rattle.flow_meaning.proofs.Starting.{known_datatype}
+use Rattle.flow_meaning.proofs.CallerLemmas.{in_edge_to, known_datatype, only_source, source_at_flow, source_in}
 use Rattle.shard_meaning.specs.Reserve.{is_edge_of_type}
-use Rattle.shard_meaning.proofs.Destinations.{flow_is}
+use Rattle.shard_meaning.proofs.CallerLemmas.{flow_is}
 use Rattle.dep_table.specs.Needs.{begins_with_edge, edge_tiles, flow_tiles, flows_tiles}
 use Rattle.dep_table.proofs.NeedsOne.{carried}
 

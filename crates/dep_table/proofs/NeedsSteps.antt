@@ -17,7 +17,7 @@ use Rattle.shard_calls.specs.Opened.{AreOpeningShards}
 use Rattle.dep_table.specs.Opened.{HaveOpeningReserve}
 use Rattle.dep_table.proofs.NeedsCounts.{need_other, need_own}
 use Rattle.dep_table.proofs.NeedsRoom.{room_task}
-use Rattle.shard_calls.proofs.TaskWalks.{IsSoFar, one_more}
+use Rattle.shard_calls.proofs.CallerLemmas.{IsSoFar, one_more}
 use Rattle.list_lemmas.proofs.Places.{slice_get_push, slice_get_there}
 use Rattle.std.proofs.lemmas.Option.{slice_get_within}
 

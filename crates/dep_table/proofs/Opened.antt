@@ -17,7 +17,7 @@ use Rattle.shard_calls.specs.Opened.{AreOpeningShards}
 use Rattle.table_rule.specs.declared.table_job.TableJob.{TableJob}
 use Rattle.table_rule.specs.Opening.{AreOpeningWords, IsOpening}
 use Rattle.dep_table.specs.Opened.{HaveOpeningReserve}
-use Rattle.shard_meaning.proofs.Openings.{none_arrived}
+use Rattle.shard_meaning.proofs.CallerLemmas.{none_arrived}
 
 -- a look-up that finds something, in both forms
 pub found_both : {A : Type 0} (xs : List A) (k : ℕ) (x : A) → get_elem? xs k ≡ some x → slice_get xs k ≡ Some x

@@ -4,12 +4,11 @@ use Rattle.dep_shard.specs.Content.{Content}
 use Rattle.flow_meaning.specs.Machine.{IsQuiescent}
 use Rattle.shard_meaning.specs.Calm.{HaveNoWork, IsCalm}
 use Rattle.work_board.specs.declared.record.PassRecord.{PassRecord}
-use Rattle.shard_meaning.proofs.Calming.{calm_by_shards, calm_quiescent, calm_shard}
+use Rattle.shard_meaning.proofs.CallerLemmas.{calm_by_shards, calm_quiescent, calm_shard, shard_below}
 use Rattle.shard_answer.specs.Ending.{HoldAnEnd}
 use Rattle.table_rule.specs.declared.table_job.TableJob.{TableJob}
 use Rattle.table_rule.specs.Records.{joined}
 use Rattle.shard_meaning.specs.Placing.{shard_of}
-use Rattle.shard_meaning.proofs.Placing.{shard_below}
 use Rattle.dep_table.specs.Closing.{IsClosedAt}
 use Rattle.std.proofs.lemmas.Option.{slice_get-get_or}
 

@@ -12,7 +12,7 @@ use Rattle.coll_data.specs.Data.{Data}
 use Rattle.table_rule.specs.Changes.{with_turn}
 use Rattle.shard_meaning.specs.Placing.{shard_of}
 use Rattle.table_rule.specs.Plays.{WasSeen}
-use Rattle.table_rule.proofs.Seeing.{seen_share}
+use Rattle.table_rule.proofs.CallerLemmas.{seen_share}
 use Rattle.dep_table.specs.declared.table.DepTable.{DepTable}
 use Rattle.dep_table.specs.declared.turn.Turn.{Turn}
 use Rattle.dep_table.specs.Tables.{id_of, job_of}

@@ -22,9 +22,8 @@ use Rattle.list_lemmas.specs.Counting.{as_number, weigh}
 use Rattle.flow_meaning.specs.Machine.{MaySend, sender}
 use Rattle.shard_meaning.specs.Moment.{Moment}
 use Rattle.shard_meaning.specs.Share.{Placement}
-use Rattle.shard_meaning.proofs.SendReserving.{spare-edge_tile, spare-entry, spare-write, spare-write_tile}
-use Rattle.shard_meaning.proofs.Targets.{target_entry, target_flow, target_goal, target_is_task, target_waits}
-use Rattle.shard_meaning.proofs.Typing.{edge_empty, edge_flow, edge_typed, write_typed}
+use Rattle.shard_meaning.proofs.CallerLemmas.{edge_empty, edge_flow, edge_typed, spare-edge_tile, spare-entry, spare-write, spare-write_tile, target_entry}
+use Rattle.shard_meaning.proofs.CallerLemmas.{target_flow, target_goal, target_is_task, target_waits, write_typed}
 use Rattle.work_board.specs.Records.{IsClean}
 use Rattle.work_board.specs.Sends.{AnswersFor, HasSent, IsNext, arrived_in, shard_of_item}
 use Rattle.work_board.specs.declared.answers.Sent.{Sent as Answer}
@@ -37,8 +36,7 @@ use Rattle.shard_meaning.specs.Placing.{shard_of}
 use Rattle.table_rule.specs.Plays.{HasName, Seated, fires}
 use Rattle.table_rule.specs.Records.{joined}
 use Rattle.table_rule.specs.Rule.{Parts, Reserve, Share}
-use Rattle.table_rule.proofs.SameMembers.{joined_parts}
-use Rattle.table_rule.proofs.Seeing.{seen_next, seen_reserve, seen_share}
+use Rattle.table_rule.proofs.CallerLemmas.{joined_parts, seen_next, seen_reserve, seen_share}
 use Rattle.table_rule.specs.GivingBack.{MayGiveBack, MayGiveSend, TakesItem, spends}
 use Rattle.dep_table.specs.declared.turn.Turn.{Turn}
 use Rattle.dep_table.specs.Passes.{IsPassOf}

@@ -4,8 +4,8 @@ use denote.Struct.Struct.{Struct}
 use denote.Struct.Declared.{shape}
 use Rattle.std.proofs.Crossing.{crosses}
 use Rattle.crossbeam_utils.specs.contracts.sync.event_count.EventCount.{the_type as events_type}
-use Rattle.shard_meaning.proofs.Sharing.{declared_sync, shard_sync}
-use Rattle.table_rule.proofs.Sharing.{job_fields, seat_fields, words_fields}
+use Rattle.shard_meaning.proofs.CallerLemmas.{declared_sync, shard_sync}
+use Rattle.table_rule.proofs.CallerLemmas.{job_fields, seat_fields, words_fields}
 use Rattle.dep_table.specs.contracts.closing_room.ClosingRoom.{the_type as closing_type}
 use Rattle.dep_table.specs.contracts.pass.Pass.{the_row as pass_row}
 use Rattle.dep_table.specs.contracts.table.DepTable.{the_row as table_row, the_type as table_type}

@@ -22,11 +22,10 @@ use Rattle.list_lemmas.proofs.Places.{index_of_member}
 use Rattle.flow_meaning.specs.Machine.{claim_count, sender}
 use Rattle.flow_meaning.specs.Order.{IsLegalAfter, MayFollow}
 use Rattle.flow_meaning.specs.Sound.{IsSoundState}
-use Rattle.flow_meaning.proofs.Events.{claim_member, each_arrived, send_member}
-use Rattle.flow_meaning.proofs.Members.{in_edge_to}
+use Rattle.flow_meaning.proofs.CallerLemmas.{claim_member, each_arrived, in_edge_to, send_member}
 use Rattle.shard_meaning.specs.Moment.{Moment}
 use Rattle.table_rule.specs.Live.{AreStamps}
-use Rattle.table_rule.proofs.Living.{same_stamp, same_stamp-decides}
+use Rattle.table_rule.proofs.CallerLemmas.{same_stamp, same_stamp-decides}
 use Rattle.dep_table.specs.StampOrders.{AreInStampOrder, IsClaimOrder, number_of}
 use Rattle.work_board.specs.Stamps.{StampedTask}
 

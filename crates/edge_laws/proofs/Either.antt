@@ -8,14 +8,13 @@ use Rattle.ptg_base.specs.TaskComparing.{same_task}
 use Rattle.ptg_base.specs.TaskLaws.{same_task-decides}
 use Rattle.ptg_base.specs.declared.edge.Edge.{Edge}
 use Rattle.ptg_base.specs.declared.place.Place.{Place}
-use Rattle.ptg_base.proofs.Comparisons.{same_edge, same_edge-decides}
+use Rattle.ptg_base.proofs.CallerLemmas.{same_edge, same_edge-decides}
 use Rattle.term_core.specs.Directions.{opposite}
 use Rattle.range_space.specs.declared.fault.SpaceFault.{SpaceFault}
 use Rattle.range_space.specs.declared.fault.SpaceFault.TheVariants.{BadExpr, TooManyTasks}
 use Rattle.range_space.specs.Walk as walk
 use Rattle.range_space.specs.Walk.{IsWalked, NoValue, Prefix, Visit, walk_all}
-use Rattle.range_space.proofs.Counting.{fault_after, fault_before, stops_at_once, task_count-walk_all}
-use Rattle.range_space.proofs.Soundness.{prefix_count-walk_all, sound_from_all}
+use Rattle.range_space.proofs.CallerLemmas.{fault_after, fault_before, prefix_count-walk_all, sound_from_all, stops_at_once, task_count-walk_all}
 use Rattle.plan_core.specs.Place.{HasPlace, IsColumn, IsRow}
 use Rattle.plan_core.specs.declared.plan.Plan.{Plan}
 use Rattle.plan_core.specs.declared.shape.Shape.{Shape}
@@ -25,13 +24,13 @@ use Rattle.dep_iter.specs.Consistent.{IsConsistent, takes_tile}
 use Rattle.dep_iter.specs.Directions.{edges_of, far_task}
 use Rattle.dep_iter.specs.Tasks.{IsTask, all_tasks}
 use Rattle.dep_iter.specs.Well.{ill_part}
-use Rattle.dep_iter.proofs.Listing.{length-tasks_from, listed}
+use Rattle.dep_iter.proofs.CallerLemmas.{length-tasks_from, listed}
 use Rattle.edge_match.specs.declared.fault.MatchFault.{MatchFault}
 use Rattle.edge_match.specs.Faults.{fault_at, space_fault}
 use Rattle.edge_match.specs.Marks.{AllPass, Before, Check, CountsIn, CountsItem, Fact, HasInput, HasOther, HasSource, HasTile}
 use Rattle.edge_match.specs.Marks.{HasValues, Holds, Is, IsNewEdge, IsNewPlace, IsOfJob, IsPlace, Mark, Passes, add, marks, nothing}
 use Rattle.edge_match.specs.FirstFault.{IsFirstFailure, IsFirstFault, code_of}
-use Rattle.edge_match.proofs.Consistency.{passes_consistent}
+use Rattle.edge_match.proofs.CallerLemmas.{passes_consistent}
 use Rattle.std.proofs.lemmas.Int.{by_lt_z, ints}
 use Rattle.std.specs.Cmp.{unsigned_Decides, signed_Decides}
 use Rattle.ptg_base.specs.Lists.{IsIn}

@@ -5,3 +5,4 @@ pub mod Tasks
 pub mod Named
 pub mod Either
 pub mod FaultNames
+pub mod CallerLemmas

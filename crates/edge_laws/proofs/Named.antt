@@ -24,7 +24,7 @@ use Rattle.edge_match.specs.declared.phase.Phase.TheVariants.{Connecting, Matchi
 use Rattle.edge_match.specs.FirstFault.{IsTaskFault}
 use Rattle.edge_match.specs.Marks.{Mark, edge_marks, flow_items, flow_start, ill_flow, item_marks, phase_marks, task_start}
 use Rattle.edge_match.specs.Marks.{write_marks}
-use Rattle.edge_match.proofs.Holding.{AtFlow, join, of_phase, parts}
+use Rattle.edge_match.proofs.CallerLemmas.{AtFlow, join, of_phase, parts}
 
 -- a mark is at a task of the job, and its flow, if it names one, is one of that task
 abbrev pub IsNamed : Plan → Mark → Type 0

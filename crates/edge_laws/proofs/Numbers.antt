@@ -31,7 +31,7 @@ use Rattle.range_space.specs.Tasks.{all_locals, def_values, full_lists, params_o
 use Rattle.range_space.specs.Values.{is_within, values}
 use Rattle.range_space.specs.declared.fault.SpanFault.{SpanFault}
 use Rattle.range_space.specs.declared.fault.SpanFault.TheVariants.{Expr}
-use Rattle.range_space.proofs.Members.{values_way}
+use Rattle.range_space.proofs.CallerLemmas.{values_way}
 use Rattle.edge_laws.specs.Numbers.{def_has_numbers, has_numbers, range_has_numbers}
 
 -- ---- values of expressions

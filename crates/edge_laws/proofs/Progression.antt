@@ -3,8 +3,7 @@ use Rattle.std.proofs.Common.{◌≡◌, ℕ, zero, suc, ℤ, ◌+ℤ◌, false,
 use Rattle.std.specs.Prelude.{if◌then◌else◌}
 use Rattle.range_space.specs.Values.{is_within, values}
 use Rattle.edge_laws.specs.Steps.{steps_from}
-use Rattle.range_space.proofs.Stepping.{values_in, values_past}
-use Rattle.range_space.proofs.Members.{past_step}
+use Rattle.range_space.proofs.CallerLemmas.{past_step, values_in, values_past}
 use Rattle.list_lemmas.proofs.Truth.{by_test}
 
 module _ (hi step : ℤ) where

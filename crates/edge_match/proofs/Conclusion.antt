@@ -18,9 +18,7 @@ use Rattle.dep_iter.specs.Tasks.{IsTask, all_tasks, flows_of, locals_of}
 use Rattle.dep_iter.specs.Consistent.{IsConsistent, IsWellConnected, all_in, all_items, all_out, all_writes}
 use Rattle.dep_iter.specs.Edges.{data_source, in_edges}
 use Rattle.dep_iter.specs.Items.{edge_of, item_flow, items, out_edges, write_backs, write_of}
-use Rattle.dep_iter.proofs.Belonging.{in_edge_is}
-use Rattle.dep_iter.proofs.Listing.{listed}
-use Rattle.dep_iter.proofs.Once.{once-all_tasks}
+use Rattle.dep_iter.proofs.CallerLemmas.{in_edge_is, listed, once-all_tasks}
 use Rattle.edge_match.specs.declared.tally.Tally.{Tally}
 use Rattle.edge_match.specs.Sets.{IsSetOf}
 use Rattle.edge_match.specs.Flows.{IsSoundSource, IsSoundTask, edges_into_flow, items_of_flow}

@@ -21,9 +21,7 @@ use Rattle.dep_iter.specs.Directions.{HasOtherEnd, edges_of, far_task, near_flow
 use Rattle.dep_iter.specs.Edges.{data_source}
 use Rattle.dep_iter.specs.Items.{item_flow, items}
 use Rattle.dep_iter.specs.Tasks.{IsTask, all_tasks, flows_of, locals_of}
-use Rattle.dep_iter.proofs.Belonging.{in_edge_is, out_edge_is}
-use Rattle.dep_iter.proofs.Listing.{listed}
-use Rattle.dep_iter.proofs.Once.{once-all_tasks}
+use Rattle.dep_iter.proofs.CallerLemmas.{in_edge_is, listed, once-all_tasks, out_edge_is}
 use Rattle.edge_match.proofs.TaskFlows.{from_by_number, item_flow-sends, items-flows, once_by_number, sent_flow_is, source_flow}
 use Rattle.edge_match.specs.declared.phase.Phase.{Phase}
 use Rattle.edge_match.specs.declared.phase.Phase.TheVariants.{Connecting, Matching}

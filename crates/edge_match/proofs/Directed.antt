@@ -33,8 +33,7 @@ use Rattle.dep_iter.specs.Directions.{edge_at, edges_of, near_flow}
 use Rattle.dep_iter.specs.Edges.{data_source, edges_into, in_edges_before}
 use Rattle.dep_iter.specs.Items.{edge_of, out_edges_before, write_of}
 use Rattle.dep_iter.specs.Arguments.{combinations}
-use Rattle.dep_iter.proofs.Belonging.{held-none}
-use Rattle.dep_iter.proofs.Distinctness.{distinct_in, distinct_out}
+use Rattle.dep_iter.proofs.CallerLemmas.{distinct_in, distinct_out, held-none}
 use Rattle.edge_match.specs.Flows.{edges_into_flow}
 use Rattle.edge_match.proofs.SentItems.{edges_only}
 use Rattle.edge_match.proofs.TakenEdges.{held-next_none, held-next_some}

@@ -16,7 +16,7 @@ use Rattle.term_core.specs.ValueBounds.{HasBound, IsBoundOf, IsWithin}
 use Rattle.term_core.specs.declared.fault.ExprFault.{ExprFault}
 use Rattle.term_core.specs.declared.space.Range.{Range}
 use Rattle.term_core.specs.declared.value_bound.ValueBound.{ValueBound}
-use Rattle.term_core.proofs.WithinBounds.{is_nonzero}
+use Rattle.term_core.proofs.CallerLemmas.{is_nonzero}
 use Rattle.range_space.specs.Fault.{Bounds, nonzero, number, range_values, step_number}
 use Rattle.range_space.specs.Values.{values}
 use Rattle.range_space.specs.declared.fault.SpanFault.{SpanFault}

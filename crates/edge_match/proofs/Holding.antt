@@ -19,7 +19,7 @@ use Rattle.dep_iter.specs.declared.source.Source.TheVariants as source
 use Rattle.dep_iter.specs.Directions.{HasOtherEnd, far_task}
 use Rattle.dep_iter.specs.Items.{edge_of}
 use Rattle.dep_iter.specs.Tasks.{IsTask, all_tasks, flows_of}
-use Rattle.dep_iter.proofs.Listing.{listed}
+use Rattle.dep_iter.proofs.CallerLemmas.{listed}
 use Rattle.edge_match.specs.declared.phase.Phase.{Phase}
 use Rattle.edge_match.specs.declared.phase.Phase.TheVariants.{Connecting, Matching}
 use Rattle.edge_match.specs.Marks.{AllPass, Before, Check, CountsIn, CountsItem, Holds, Is, IsNewPlace, Mark, Passes, add, add_all}

@@ -13,3 +13,4 @@ pub mod Added
 pub mod Holding
 pub mod Consistency
 pub mod OneFault
+pub mod CallerLemmas

@@ -4,11 +4,9 @@ use Rattle.plan_core.specs.declared.plan.Plan.{Plan}
 use Rattle.range_space.specs.declared.fault.SpaceFault.{SpaceFault}
 use Rattle.range_space.specs.Walk as walk
 use Rattle.range_space.specs.Walk.{walk_all}
-use Rattle.range_space.proofs.Counting.{task_count-walk_all}
-use Rattle.range_space.proofs.FirstFault.{one_fault}
-use Rattle.range_space.proofs.Soundness.{no_fault, prefix_count-walk_all, sound_from_all}
+use Rattle.range_space.proofs.CallerLemmas.{no_fault, one_fault, prefix_count-walk_all, sound_from_all, task_count-walk_all}
 use Rattle.dep_iter.specs.Consistent.{IsConsistent}
-use Rattle.dep_iter.proofs.Listing.{length-tasks_from}
+use Rattle.dep_iter.proofs.CallerLemmas.{length-tasks_from}
 use Rattle.edge_match.specs.declared.fault.MatchFault.{MatchFault}
 use Rattle.edge_match.specs.declared.fault.MatchRefusal.{MatchRefusal}
 use Rattle.edge_match.specs.declared.fault.MatchRefusal.TheVariants as refusal

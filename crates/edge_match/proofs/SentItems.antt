@@ -18,7 +18,7 @@ use Rattle.plan_core.specs.declared.shape.Shape.{Shape}
 use Rattle.list_lemmas.proofs.Members.{from_append}
 use Rattle.dep_iter.specs.Directions.{IsNearFlow, edges_before}
 use Rattle.dep_iter.specs.Items.{edge_of, out_edges, write_of}
-use Rattle.dep_iter.proofs.Belonging.{IsGiven, before-by, edge-by}
+use Rattle.dep_iter.proofs.CallerLemmas.{IsGiven, before-by, edge-by}
 use Rattle.edge_match.specs.declared.outs.Outs.{Outs}
 use Rattle.edge_match.specs.Tallies.{AreSent, IsOnceIn, places_of}
 use Rattle.edge_match.proofs.TaskFlows.{length-items}

@@ -21,7 +21,7 @@ use Rattle.plan_core.specs.Kinds.{kind_of}
 use Rattle.list_lemmas.proofs.Members.{IsIn-append_left, IsIn-append_right, from_append}
 use Rattle.list_lemmas.proofs.Distinct.{HasNoRepeats-append}
 use Rattle.list_lemmas.proofs.Places.{drop_from}
-use Rattle.dep_iter.proofs.Belonging.{held-more}
+use Rattle.dep_iter.proofs.CallerLemmas.{held-more}
 use Rattle.dep_iter.specs.Tasks.{flows_of, task}
 use Rattle.dep_iter.specs.Arguments.{combinations}
 use Rattle.dep_iter.specs.Combining.{AddsOnly}

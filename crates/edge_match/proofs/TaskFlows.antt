@@ -25,8 +25,7 @@ use Rattle.dep_iter.specs.Arguments.{combinations}
 use Rattle.dep_iter.specs.Edges.{data_source, edge, edges_into, in_edges, source_among}
 use Rattle.dep_iter.specs.Items.{edge_of, item_flow, items, items_to, write_of}
 use Rattle.dep_iter.specs.Links.{links_to}
-use Rattle.dep_iter.proofs.Belonging.{from_edges_in, link_in, near_among}
-use Rattle.dep_iter.proofs.Joining.{edges_into-among}
+use Rattle.dep_iter.proofs.CallerLemmas.{edges_into-among, from_edges_in, link_in, near_among}
 use Rattle.edge_match.specs.Flows.{edges_into_flow, items_of_flow}
 
 by_flow-is : {X : Type 0} (g : ℕ → Target → List X) (targets : FlowPlan → List Target) (n : ℕ) (fs : List FlowPlan)

@@ -30,7 +30,9 @@ abbrev refused : JdfFault → Answer
 refused f = Err (Fault f)
 
 -- reading the code's slice is reading the tokens from this index on
-at_front : (tokens : List Token) (from : ℕ) (a b : Part) (r : Read ExprWithSpot) → a ≡ b → reading productions (outer a) (take (length tokens - from) (drop from tokens)) ≡ r → reading productions (outer b) (drop from tokens) ≡ r
+at_front : (tokens : List Token) (from : ℕ) (a b : Part) (r : Read ExprWithSpot) → a ≡ b
+    → reading productions (outer a) (take (length tokens - from) (drop from tokens)) ≡ r
+    → reading productions (outer b) (drop from tokens) ≡ r
 at_front tokens from a b r same e =
     ap (λ (p : Part). reading productions (outer p) (drop from tokens)) (sym same) ∙ (ap (reading productions (outer a)) (sym (take_rest tokens from)) ∙ e)
 
@@ -66,7 +68,8 @@ module _ (tokens : List Token) (from : ℕ) (within : from ≤ length tokens) (a
     pub found_no_fault : (p : ℕ) (d : Code) → IsFirstFaultOf part (drop from tokens) p d → ⊥
     found_no_fault p d h = no_fault part (drop from tokens) (t, rest) here p d h
 
-    pub found_exact : (finish : Spot) → FindsOrRefuses (IsExpressionFrom part tokens from) (IsFaultFrom part tokens from finish) (answer (t.tree, length tokens - length rest))
+    pub found_exact : (finish : Spot) → FindsOrRefuses (IsExpressionFrom part tokens from)
+        (IsFaultFrom part tokens from finish) (answer (t.tree, length tokens - length rest))
     found_exact finish =
         record {
           found = record { after = (let w = rest_within in omega (arith, w)); expression = found_at };

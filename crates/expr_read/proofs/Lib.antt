@@ -5,3 +5,4 @@ pub mod Windows
 pub mod InWindow
 pub mod Loops
 pub mod Named
+pub mod CallerLemmas

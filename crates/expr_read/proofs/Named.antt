@@ -2,7 +2,7 @@
 use Rattle.std.proofs.Common.{◌≡◌, List}
 use Rattle.grammar_core.specs.declared.token.Token.{Token}
 use Rattle.grammar_core.specs.Reading.{nonterminal_at, reading}
-use Rattle.grammar_core.proofs.Fuel.{nonterminal_is}
+use Rattle.grammar_core.proofs.CallerLemmas.{nonterminal_is}
 use Rattle.jdf_tree.specs.declared.part.Part.{Part}
 use Rattle.jdf_tree.specs.Nonterminal.{an_expr, a_unary}
 use Rattle.jdf_tree.specs.ExpressionGrammar.{expr, unary}

@@ -5,7 +5,8 @@ use Rattle.jdf_tree.specs.declared.expression.ExprWithSpot.{ExprWithSpot}
 use Rattle.jdf_tree.specs.declared.part.Part.{Part}
 use Rattle.jdf_tree.specs.declared.part.Part.TheVariants.{Class}
 use Rattle.jdf_tree.specs.Nonterminal.{Grammar}
-use Rattle.jdf_tree.specs.ExpressionGrammar.{unary, product, sum, relation, equality, conjunction, disjunction, expr, outer, guard, is_product, is_sum, is_relation, is_equality, is_conjunction, is_disjunction}
+use Rattle.jdf_tree.specs.ExpressionGrammar.{unary, product, sum, relation, equality, conjunction, disjunction, expr, outer, guard, is_product}
+use Rattle.jdf_tree.specs.ExpressionGrammar.{is_sum, is_relation, is_equality, is_conjunction, is_disjunction}
 use Rattle.expr_read.specs.declared.precedence.Precedence.{Precedence}
 use Rattle.expr_read.specs.declared.precedence.Precedence.TheVariants as precedence
 use Rattle.expr_read.specs.declared.window.Outermost.{Outermost}

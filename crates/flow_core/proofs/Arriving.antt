@@ -16,14 +16,12 @@ use Rattle.dep_iter.specs.Tasks.{IsTask}
 use Rattle.dep_iter.specs.Edges.{in_edges}
 use Rattle.dep_iter.specs.Items.{items}
 use Rattle.dep_iter.specs.Consistent.{IsConsistent}
-use Rattle.dep_iter.proofs.Once.{once-in_edges}
+use Rattle.dep_iter.proofs.CallerLemmas.{once-in_edges}
 use Rattle.list_lemmas.specs.Counting.{as_number, count, weigh}
 use Rattle.flow_meaning.specs.Comparing.{same_item}
 use Rattle.flow_meaning.specs.Machine.{MachineState, SentItem, arrived, is_sent, send_count, sender}
 use Rattle.flow_meaning.specs.Sound.{IsSoundState}
-use Rattle.flow_meaning.proofs.Comparing.{same_item-decides}
-use Rattle.flow_meaning.proofs.Members.{in_edge_to}
-use Rattle.flow_meaning.proofs.Arriving.{edge_once, no_edge, sent_edge_in}
+use Rattle.flow_meaning.proofs.CallerLemmas.{edge_once, in_edge_to, no_edge, same_item-decides, sent_edge_in}
 use Rattle.flow_core.specs.Arrivals.{edge_count_to, is_edge_to}
 
 weigh-none : {A : Type 0} (xs : List A) → weigh (λ _. 0) xs ≡ 0

@@ -26,18 +26,14 @@ use Rattle.dep_iter.specs.Tasks.{IsTask, all_tasks}
 use Rattle.dep_iter.specs.Edges.{goal, in_edges}
 use Rattle.dep_iter.specs.Items.{items, out_edges, write_backs}
 use Rattle.dep_iter.specs.Consistent.{IsConsistent}
-use Rattle.dep_iter.proofs.Listing.{listed}
-use Rattle.dep_iter.proofs.Items.{edge_item, item_edge, item_write, write_item}
+use Rattle.dep_iter.proofs.CallerLemmas.{edge_item, item_edge, item_write, listed, write_item}
 use Rattle.list_lemmas.specs.Counting.{as_number, count}
 use Rattle.flow_meaning.specs.Ending.{Ended, has_outputs}
 use Rattle.flow_meaning.specs.Backward.{ended}
 use Rattle.flow_meaning.specs.Comparing.{same_item}
 use Rattle.flow_meaning.specs.Machine.{Claim, MachineState, MayClaim, Send, SentItem, arrived, end_in, is_sent, send_count, sender, state_after, item_from}
 use Rattle.flow_meaning.specs.Sound.{IsSoundState}
-use Rattle.flow_meaning.proofs.Events.{ends_so, event_sound}
-use Rattle.flow_meaning.proofs.Arriving.{arrives}
-use Rattle.flow_meaning.proofs.Enough.{with_outputs}
-use Rattle.flow_meaning.proofs.Sizes.{with_tiles as ended_with}
+use Rattle.flow_meaning.proofs.CallerLemmas.{arrives, ends_so, event_sound, with_outputs, with_tiles as ended_with}
 use Rattle.flow_core.specs.RunState.{HasLetGo, IsRunning, KeepsTiles, RunState, Tiles, end_of, machine, mark_of}
 use Rattle.flow_core.specs.RunState.{send_of, with_claim, with_end, with_send, with_tiles}
 use Rattle.flow_core.specs.Fits.{Fits, HasSentAll, MaySendNow}

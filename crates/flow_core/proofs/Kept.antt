@@ -16,7 +16,7 @@ use Rattle.ptg_base.specs.declared.edge.Item.TheVariants as item
 use Rattle.list_lemmas.proofs.Truth.{by_test}
 use Rattle.list_lemmas.proofs.Lookups.{apart, set_other, set_same}
 use Rattle.list_lemmas.specs.Counting.{as_number}
-use Rattle.dep_iter.proofs.Items.{Edge-injective}
+use Rattle.dep_iter.proofs.CallerLemmas.{Edge-injective}
 use Rattle.flow_meaning.specs.Comparing.{same_item}
 use Rattle.flow_meaning.specs.Ending.{Ended}
 use Rattle.flow_meaning.specs.Machine.{SentItem, first_tile}

@@ -16,7 +16,7 @@ use Rattle.std.proofs.lemmas.List.{map-append}
 use Rattle.list_lemmas.specs.Counting.{as_number, count}
 use Rattle.flow_meaning.specs.Comparing.{same_item}
 use Rattle.flow_meaning.specs.Ending.{Ended}
-use Rattle.flow_meaning.proofs.Comparing.{same_item-decides}
+use Rattle.flow_meaning.proofs.CallerLemmas.{same_item-decides}
 use Rattle.flow_core.specs.SentItems.{all_sent}
 use Rattle.flow_meaning.specs.Numbers.{number_for}
 

@@ -26,18 +26,12 @@ use Rattle.range_space.specs.Tasks.{tasks}
 use Rattle.dep_iter.specs.Tasks.{IsTask, all_tasks}
 use Rattle.dep_iter.specs.Items.{items}
 use Rattle.dep_iter.specs.Consistent.{IsConsistent}
-use Rattle.dep_iter.proofs.Listing.{listed}
-use Rattle.dep_iter.proofs.Items.{item_edge}
+use Rattle.dep_iter.proofs.CallerLemmas.{item_edge, listed}
 use Rattle.list_lemmas.specs.Counting.{as_number}
 use Rattle.flow_meaning.specs.Ending.{Ended, has_outputs}
 use Rattle.flow_meaning.specs.Machine.{IsQuiescent, MayClaim, MachineState, claim_count, is_sent, send_count, sender, state_after, Send}
 use Rattle.flow_meaning.specs.Sound.{IsFinished}
-use Rattle.flow_meaning.proofs.Comparing.{same_item-decides}
-use Rattle.flow_meaning.proofs.Arriving.{arrives_not, writes_not}
-use Rattle.flow_meaning.proofs.Events.{unsent}
-use Rattle.flow_meaning.proofs.Rest.{item_sender, rests}
-use Rattle.flow_meaning.proofs.Once.{claims_at_most}
-use Rattle.flow_meaning.proofs.Sizes.{with_tiles}
+use Rattle.flow_meaning.proofs.CallerLemmas.{arrives_not, claims_at_most, item_sender, rests, same_item-decides, unsent, with_tiles, writes_not}
 use Rattle.flow_core.specs.RunState.{HasLetGo, IsRunning, RunState, Tiles, end_of, machine, opening_run, with_claim, with_end, with_send}
 use Rattle.flow_core.specs.Fits.{Fits, HasFinished, MaySendNow}
 use Rattle.flow_core.specs.Possible.{IsOutputItem}

@@ -16,7 +16,7 @@ use Rattle.list_lemmas.proofs.Members.{IsIn-filter}
 use Rattle.dep_iter.specs.Tasks.{IsTask, all_tasks}
 use Rattle.dep_iter.specs.Edges.{goal, in_edges}
 use Rattle.dep_iter.specs.Consistent.{roots}
-use Rattle.dep_iter.proofs.Listing.{listed}
+use Rattle.dep_iter.proofs.CallerLemmas.{listed}
 use Rattle.list_lemmas.specs.Counting.{as_number, count}
 use Rattle.flow_meaning.specs.Machine.{SentItem, arrived, is_sent}
 use Rattle.flow_core.specs.RunState.{RunState, machine, opening_run}

@@ -19,14 +19,12 @@ use Rattle.list_lemmas.proofs.Counts.{count-some}
 use Rattle.dep_iter.specs.Tasks.{IsTask, all_tasks}
 use Rattle.dep_iter.specs.Items.{items, out_edges, write_backs}
 use Rattle.dep_iter.specs.Consistent.{IsConsistent}
-use Rattle.dep_iter.proofs.Listing.{listed}
-use Rattle.dep_iter.proofs.Items.{edge_item, item_edge, item_write, write_item}
+use Rattle.dep_iter.proofs.CallerLemmas.{edge_item, item_edge, item_write, listed, write_item}
 use Rattle.list_lemmas.specs.Counting.{as_number, count}
 use Rattle.flow_meaning.specs.Ending.{Ended, has_outputs}
 use Rattle.flow_meaning.specs.Machine.{Claim, IsQuiescent, MayClaim, Send, SentItem, is_sent, sender}
 use Rattle.flow_meaning.specs.Sound.{IsFinished}
-use Rattle.flow_meaning.proofs.Events.{unsent}
-use Rattle.flow_meaning.proofs.Rest.{item_sender, rests}
+use Rattle.flow_meaning.proofs.CallerLemmas.{item_sender, rests, unsent}
 use Rattle.flow_core.specs.RunState.{IsRunning, RunState, end_of, machine}
 use Rattle.flow_core.specs.Fits.{Fits}
 use Rattle.flow_core.specs.SentItems.{IsUnsent}

@@ -27,7 +27,7 @@ use Rattle.flow_meaning.specs.Ending.{Ended}
 use Rattle.flow_meaning.specs.Machine.{MachineState, arrived, claim_count, end_in}
 use Rattle.flow_meaning.specs.StateAnswer.{state_answer, state_answer_by, state_traps}
 use Rattle.flow_meaning.specs.Table.{is_waiting, wait_row, waiting_rows, waiting_tasks}
-use Rattle.flow_meaning.proofs.Once.{tasks_once}
+use Rattle.flow_meaning.proofs.CallerLemmas.{tasks_once}
 use Rattle.run_answer.specs.Rows.{AreOfDifferentTasks}
 use Rattle.flow_core.specs.RunState.{IsRunning, RunState, end_of, machine, mark_of}
 use Rattle.flow_core.specs.Fits.{Fits}

@@ -12,10 +12,9 @@ use Rattle.plan_core.specs.Flows.{is_flow}
 use Rattle.coll_data.specs.Data.{Data}
 use Rattle.dep_iter.specs.Tasks.{IsTask, flows_of, locals_of}
 use Rattle.flow_meaning.specs.Starting.{Delivery, starting_tiles, tiles_from}
-use Rattle.flow_meaning.proofs.SourceEdges.{class_of}
+use Rattle.flow_meaning.proofs.CallerLemmas.{class_of, known_type}
 use Rattle.flow_meaning.specs.Ending.{Ended, ended_on}
 use Rattle.flow_meaning.specs.Machine.{end_in, sent_tile}
-use Rattle.flow_meaning.proofs.Starting.{known_type}
 use Rattle.flow_core.specs.RunState.{RunState, machine}
 use Rattle.flow_core.specs.Inputs.{has_datatype, have_datatypes}
 use Rattle.flow_core.proofs.Taking.{tiles_same}

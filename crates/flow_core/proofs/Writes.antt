@@ -16,7 +16,7 @@ use Rattle.flow_meaning.specs.Machine.{SentItem}
 use Rattle.flow_meaning.specs.StateAnswer.{first_written, state_data}
 use Rattle.flow_meaning.specs.Table.{written_by}
 use Rattle.run_answer.specs.Written.{IsWritable, with_tiles}
-use Rattle.run_answer.proofs.Writable.{write_sent}
+use Rattle.run_answer.proofs.CallerLemmas.{write_sent}
 use Rattle.flow_core.specs.RunState.{RunState, machine}
 use Rattle.flow_core.specs.Fits.{Fits}
 use Rattle.flow_core.specs.Rows.{write_with, writes_among}

@@ -21,8 +21,7 @@ use Rattle.list_lemmas.proofs.Distinct.{one_from_map}
 use Rattle.dep_iter.specs.Tasks.{IsTask, all_tasks}
 use Rattle.dep_iter.specs.Items.{item_flow, items, write_backs}
 use Rattle.dep_iter.specs.Consistent.{IsConsistent, all_writes}
-use Rattle.dep_iter.proofs.Listing.{listed}
-use Rattle.dep_iter.proofs.Items.{item_write, write_item}
+use Rattle.dep_iter.proofs.CallerLemmas.{item_write, listed, write_item}
 use Rattle.flow_meaning.specs.declared.outcome.TrapRow.{TrapRow}
 use Rattle.flow_meaning.specs.declared.outcome.Outcome.TheVariants.{Complete, Stalled}
 use Rattle.flow_meaning.specs.Ending.{Ended, has_outputs, output_tile}

@@ -16,9 +16,7 @@ use Rattle.dep_iter.specs.Tasks.{IsTask, all_tasks}
 use Rattle.dep_iter.specs.Edges.{in_edges}
 use Rattle.dep_iter.specs.Items.{items, out_edges}
 use Rattle.dep_iter.specs.Consistent.{IsConsistent}
-use Rattle.dep_iter.proofs.Listing.{listed}
-use Rattle.dep_iter.proofs.Items.{Edge-injective, item_edge}
-use Rattle.dep_iter.proofs.Once.{once-in_edges}
+use Rattle.dep_iter.proofs.CallerLemmas.{Edge-injective, item_edge, listed, once-in_edges}
 use Rattle.list_lemmas.specs.Counting.{as_number, count}
 use Rattle.flow_meaning.specs.Comparing.{same_item}
 use Rattle.flow_meaning.specs.Machine.{MachineState, MaySend, Send, SentItem, arrived, is_sent, send_count, sent_with}

@@ -5,8 +5,8 @@ use Rattle.ptg_base.specs.declared.edge.Edge.{Edge}
 use Rattle.ptg_base.specs.declared.edge.WriteBack.{WriteBack}
 use Rattle.ptg_base.specs.declared.edge.Item.{Item}
 use Rattle.ptg_base.specs.declared.edge.Item.TheVariants as item
-use Rattle.ptg_base.proofs.Comparisons.{same_edge-decides, same_write_back-decides}
-use Rattle.dep_iter.proofs.Items.{Edge-injective, Write-injective}
+use Rattle.ptg_base.proofs.CallerLemmas.{same_edge-decides, same_write_back-decides}
+use Rattle.dep_iter.proofs.CallerLemmas.{Edge-injective, Write-injective}
 use Rattle.flow_meaning.specs.Comparing.{same_item}
 
 pub same_item-decides : (a b : Item) → IsTrue (same_item a b) ↔ (a ≡ b)

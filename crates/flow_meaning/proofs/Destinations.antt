@@ -32,7 +32,7 @@ use Rattle.dep_iter.specs.Items.{items, items_to}
 use Rattle.flow_meaning.proofs.Sizes.{coll_at}
 use Rattle.flow_meaning.proofs.SourceEdges.{class_of, passing}
 use Rattle.flow_meaning.proofs.Starting.{flow_well}
-use Rattle.dep_iter.proofs.Belonging.{from_by_flow}
+use Rattle.dep_iter.proofs.CallerLemmas.{from_by_flow}
 
 module _ (passes : Target → Bool) (locals : ℕ) (env : List ℤ) (x : Target) where
   by_guard : (d : DepPlan) → is_dependence locals passes d ≡ true → (g : Result Bool ExprFault)

@@ -17,3 +17,4 @@ pub mod Once
 pub mod PlaceIndex
 pub mod Answered
 pub mod Arriving
+pub mod CallerLemmas

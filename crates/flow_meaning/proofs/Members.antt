@@ -10,9 +10,7 @@ use Rattle.dep_iter.specs.Edges.{in_edges}
 use Rattle.dep_iter.specs.Items.{items, out_edges}
 use Rattle.dep_iter.specs.Consistent.{IsConsistent}
 use Rattle.list_lemmas.proofs.Members.{IsIn-flat_map, from_flat_map}
-use Rattle.dep_iter.proofs.Listing.{listed}
-use Rattle.dep_iter.proofs.Belonging.{in_edge_is, out_edge_is}
-use Rattle.dep_iter.proofs.Items.{edge_item}
+use Rattle.dep_iter.proofs.CallerLemmas.{edge_item, in_edge_is, listed, out_edge_is}
 
 -- the edges into a task go to it
 pub in_edge_to : (P : Plan) (t : Task) (e : Edge) → IsIn e (in_edges P t) → e.to ≡ t

@@ -16,8 +16,7 @@ use Rattle.plan_core.specs.declared.plan.Plan.{Plan}
 use Rattle.coll_data.specs.Data.{Data}
 use Rattle.dep_iter.specs.Tasks.{all_tasks}
 use Rattle.dep_iter.specs.Consistent.{IsConsistent}
-use Rattle.dep_iter.proofs.Listing.{listed}
-use Rattle.dep_iter.proofs.Once.{once-all_tasks}
+use Rattle.dep_iter.proofs.CallerLemmas.{listed, once-all_tasks}
 use Rattle.flow_meaning.specs.declared.outcome.TrapRow.{TrapRow}
 use Rattle.list_lemmas.specs.Counting.{HasSameMembers, count}
 use Rattle.flow_meaning.specs.Ending.{Ended}

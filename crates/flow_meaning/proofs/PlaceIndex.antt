@@ -6,7 +6,7 @@ use Rattle.ptg_base.specs.declared.place.Place.{Place}
 use Rattle.coll_data.specs.declared.coll.Coll.{Coll}
 use Rattle.coll_data.specs.Tiles.{tile_index}
 use Rattle.flow_meaning.specs.Final.{is_place_of}
-use Rattle.coll_data.proofs.OneIndex.{one_index}
+use Rattle.coll_data.proofs.CallerLemmas.{one_index}
 
 index_is : (o : Option ℕ) (k : ℕ) → option_eq eqb o (Some k) ≡ true → o ≡ Some k
 index_is None k h = absurd (false≢true h)

@@ -18,7 +18,7 @@ use Rattle.dep_iter.specs.Arguments.{combinations}
 use Rattle.dep_iter.specs.Edges.{edge}
 use Rattle.dep_iter.specs.Items.{items, items_to, write_backs}
 use Rattle.dep_iter.specs.Consistent.{IsConsistent}
-use Rattle.dep_iter.proofs.Items.{write_item}
+use Rattle.dep_iter.proofs.CallerLemmas.{write_item}
 use Rattle.flow_meaning.specs.Ending.{has_outputs}
 use Rattle.flow_meaning.specs.Backward.{ended}
 use Rattle.flow_meaning.specs.Machine.{Claim, Event, IsPossible, IsQuiescent, MachineState, Send, send_count, sender}

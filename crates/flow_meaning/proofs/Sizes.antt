@@ -35,9 +35,9 @@ use Rattle.coll_data.specs.WellMade.{IsWellColl, IsWellMade, elements_by_type}
 use Rattle.list_lemmas.proofs.Places.{each_at, length-zeros}
 use Rattle.list_lemmas.proofs.Members.{member_passes}
 use Rattle.list_lemmas.proofs.Options.{from_is_some_and, some_value}
-use Rattle.coll_data.proofs.TileIndex.{tile_exists}
+use Rattle.coll_data.proofs.CallerLemmas.{tile_exists}
 use Rattle.plan_data.specs.Fit.{DataFit, shape_of}
-use Rattle.plan_data.proofs.Places.{same_places}
+use Rattle.plan_data.proofs.CallerLemmas.{same_places}
 use Rattle.dep_iter.specs.declared.source.Source.{Source}
 use Rattle.dep_iter.specs.declared.source.Source.TheVariants as source
 use Rattle.dep_iter.specs.Tasks.{IsTask, all_tasks, flows_of, locals_of, task}

@@ -41,7 +41,7 @@ use Rattle.dep_iter.specs.Arguments.{arg_values, combinations, single_value}
 use Rattle.dep_iter.specs.Edges.{data_source, edge, edges_into, in_edges, source_among, source_at}
 use Rattle.dep_iter.specs.Well.{IsWellTask, are_well, first_ill_flow, has_arg, has_arguments, has_hints, ill_part, ill_part_of, is_well_flow, is_well_then}
 use Rattle.dep_iter.specs.Links.{link, links_to}
-use Rattle.dep_iter.proofs.Belonging.{in_edge_is, link_in}
+use Rattle.dep_iter.proofs.CallerLemmas.{in_edge_is, link_in}
 
 -- the values of an argument that is no range: one value, or its fault
 abbrev listed_number : Result ℤ ExprFault → Result (List ℤ) SpanFault

@@ -12,8 +12,7 @@ use Rattle.term_core.specs.declared.flow.FlowKind.TheVariants.{Read, Write, Rw, 
 use Rattle.term_core.specs.declared.space.ClassSpace.{ClassSpace}
 use Rattle.range_space.specs.Locals.{IsLocalsOf}
 use Rattle.range_space.specs.Tasks.{all_locals, params_of, tasks}
-use Rattle.range_space.proofs.Distinct.{one_locals}
-use Rattle.range_space.proofs.MemberLists.{length-locals, locals_from_full}
+use Rattle.range_space.proofs.CallerLemmas.{length-locals, locals_from_full, one_locals}
 use Rattle.list_lemmas.proofs.Members.{from_map}
 use Rattle.list_lemmas.proofs.Places.{passes_at}
 use Rattle.plan_core.specs.declared.flow.FlowPlan.{FlowPlan}
@@ -21,7 +20,7 @@ use Rattle.plan_core.specs.declared.plan.Plan.{Plan}
 use Rattle.plan_core.specs.Flows.{is_datatype, is_flow}
 use Rattle.coll_data.specs.Data.{Data}
 use Rattle.dep_iter.specs.Tasks.{IsTask, flows_of, locals_of, locals_with}
-use Rattle.dep_iter.proofs.Fitting.{locals_with-only}
+use Rattle.dep_iter.proofs.CallerLemmas.{locals_with-only}
 use Rattle.flow_meaning.specs.Starting.{Delivery, starting_tiles, tiles_from}
 use Rattle.flow_meaning.proofs.SourceEdges.{class_of, flows_are}
 

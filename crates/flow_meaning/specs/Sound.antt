@@ -12,7 +12,8 @@ use Rattle.dep_iter.specs.Items.{items, item_flow}
 use Rattle.list_lemmas.specs.Counting.{HasSameMembers}
 use Rattle.flow_meaning.specs.Ending.{has_outputs, output_tile}
 use Rattle.flow_meaning.specs.Backward.{ended}
-use Rattle.flow_meaning.specs.Machine.{Event, Happen, MachineState, MayClaim, SentItem, arrived, claim_count, is_sent, opening_state, send_count, sender, item_from}
+use Rattle.flow_meaning.specs.Machine.{Event, Happen, MachineState, MayClaim, SentItem, arrived, claim_count, is_sent, opening_state, send_count}
+use Rattle.flow_meaning.specs.Machine.{sender, item_from}
 
 -- all edges into a task of the job were sent
 pub record HasAllArrived (P : Plan) (S : MachineState) (t : Task) : Type 0 where

@@ -18,3 +18,4 @@ pub mod Whole
 pub mod Refusals
 pub mod Loops
 pub mod Ends
+pub mod CallerLemmas

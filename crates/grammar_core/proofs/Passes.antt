@@ -23,7 +23,8 @@ use Rattle.list_lemmas.proofs.Options.{same_Ok, Ok≢Err}
 abbrev pub FaultsWithin : {A : Type 0} → (List Token → Read A) → Type 0
 FaultsWithin p = (s : List Token) (n : ReadFault) → p s ≡ Err n → n.left ≤ length s
 
-many_faults : {A : Type 0} (full : ℕ → Option Code) (f : Terminal → Bool) (p : List Token → Read A) → Shrinks p → FaultsWithin p → (k i : ℕ) → FaultsWithin (many_at full f p i k)
+many_faults : {A : Type 0} (full : ℕ → Option Code) (f : Terminal → Bool) (p : List Token → Read A) → Shrinks p
+    → FaultsWithin p → (k i : ℕ) → FaultsWithin (many_at full f p i k)
 unfolding many_at
 many_faults full f p h l zero i s n e = absurd (Ok≢Err ([], s) n e)
 many_faults full f p h l (suc k) i s n e =
@@ -41,7 +42,9 @@ many_faults full f p h l (suc k) i s n e =
       | inr u ↦ absurd (Ok≢Err _ n u.1)
     ]
 
-pub run_faults : {N : Type 0} {Tree : N → Type 0} (p : (n : N) → List Token → Read (Tree n)) → ((n : N) → Shrinks (p n)) → ((n : N) → FaultsWithin (p n)) → {A : Type 0} (g : Production N Tree A) → FaultsWithin (run p g)
+pub run_faults : {N : Type 0} {Tree : N → Type 0} (p : (n : N) → List Token → Read (Tree n))
+    → ((n : N) → Shrinks (p n)) → ((n : N) → FaultsWithin (p n)) → {A : Type 0} (g : Production N Tree A)
+    → FaultsWithin (run p g)
 run_faults p h l (one_of q) s n e = let t = left_is (token_err q s n e).0 in omega (arith, t)
 run_faults p h l (checked q good c) s n e =
     elim (bind_err (token_at q s) (check good c s) n e) [
@@ -63,8 +66,11 @@ run_faults p h l (seq g k) s n e =
       ]
     ]
 run_faults p h l (map f g) s n e = elim (bind_err (run p g s) (λ a. Ok (f a.0, a.1)) n e) [ inl u ↦ run_faults p h l g s n u | inr u ↦ absurd (Ok≢Err _ n u.2) ]
-run_faults p h l (alt g k) s n e = elim (chosen (starts (first g) s) (run p g s) (run p k s) (Err n) e) [ inl u ↦ run_faults p h l g s n u.1 | inr u ↦ run_faults p h l k s n u.1 ]
-run_faults p h l (pick q g k) s n e = elim (chosen (picks (first g) (first k) q s) (run p g s) (run p k s) (Err n) e) [ inl u ↦ run_faults p h l g s n u.1 | inr u ↦ run_faults p h l k s n u.1 ]
+run_faults p h l (alt g k) s n e = elim (chosen (starts (first g) s) (run p g s) (run p k s) (Err n) e)
+    [ inl u ↦ run_faults p h l g s n u.1 | inr u ↦ run_faults p h l k s n u.1 ]
+run_faults p h l (pick q g k) s n e = elim
+    (chosen (picks (first g) (first k) q s) (run p g s) (run p k s) (Err n) e)
+    [ inl u ↦ run_faults p h l g s n u.1 | inr u ↦ run_faults p h l k s n u.1 ]
 run_faults p h l (opt g) s n e =
     elim (chosen (starts (first g) s) (run p g s >>= λ a. Ok (Some a.0, a.1)) (Ok (None, s)) (Err n) e) [
       | inl u ↦ elim (bind_err (run p g s) (λ a. Ok (Some a.0, a.1)) n u.1) [ inl v ↦ run_faults p h l g s n v | inr v ↦ absurd (Ok≢Err _ n v.2) ]
@@ -81,11 +87,13 @@ run_faults p h l (after_token q m) s n e =
     ]
 
 abbrev pub Passes : Bool → {A : Type 0} → (List Token → Read A) → List Token → Type 0
-Passes w {A} r s = ((n : ReadFault) → r s ≡ Err n → (w ≡ true → n.code ≡ Syntax) → n.left < length s) × ((x : A × List Token) → r s ≡ Ok x → length x.1 < length s)
+Passes w {A} r s = ((n : ReadFault) → r s ≡ Err n → (w ≡ true → n.code ≡ Syntax) → n.left < length s)
+    × ((x : A × List Token) → r s ≡ Ok x → length x.1 < length s)
 
 picked_left : (a b q : Terminal → Bool) (s : List Token) → picks a b q s ≡ true → starts a s ≡ true
 picked_left a b q [] e = absurd cc
-picked_left a b q (x ∷ s) e = elim (chosen (b (terminal_of x)) (a (terminal_of x) && starts q s) (a (terminal_of x)) true e) [ inl u ↦ (and_parts (a (terminal_of x)) (starts q s) u.1).0 | inr u ↦ u.1 ]
+picked_left a b q (x ∷ s) e = elim (chosen (b (terminal_of x)) (a (terminal_of x) && starts q s) (a (terminal_of x))
+    true e) [ inl u ↦ (and_parts (a (terminal_of x)) (starts q s) u.1).0 | inr u ↦ u.1 ]
 
 picked_right : (a b q : Terminal → Bool) (s : List Token) → picks a b q s ≡ false → starts (λ x. a x || b x) s ≡ true → starts b s ≡ true
 picked_right a b q [] e h = absurd cc
@@ -95,9 +103,11 @@ picked_right a b q (x ∷ s) e h =
       | inr u ↦ elim (or_cases (a (terminal_of x)) (b (terminal_of x)) h) [ inl v ↦ absurd (both_ways (a (terminal_of x)) u.1 v) | inr v ↦ v ]
     ]
 
-module _ {N : Type 0} {Tree : N → Type 0} (c : Claims N) (p : (n : N) → List Token → Read (Tree n)) (h : (n : N) → Shrinks (p n)) (l : (n : N) → FaultsWithin (p n)) where
+module _ {N : Type 0} {Tree : N → Type 0} (c : Claims N) (p : (n : N) → List Token → Read (Tree n))
+    (h : (n : N) → Shrinks (p n)) (l : (n : N) → FaultsWithin (p n)) where
   -- if the next token is not in the first set, and a text may be empty, an empty text is read
-  stays : {A : Type 0} (g : Production N Tree A) → is_fine c g ≡ true → (s : List Token) → starts (first g) s ≡ false → may_be_empty g ≡ true → (t : A) × (run p g s ≡ Ok (t, s))
+  stays : {A : Type 0} (g : Production N Tree A) → is_fine c g ≡ true → (s : List Token)
+      → starts (first g) s ≡ false → may_be_empty g ≡ true → (t : A) × (run p g s ≡ Ok (t, s))
   stays (one_of q) fine s e empty = absurd cc
   stays (checked q good d) fine s e empty = absurd cc
   stays (limited d b g) fine s e empty =
@@ -146,13 +156,20 @@ module _ {N : Type 0} {Tree : N → Type 0} (c : Claims N) (p : (n : N) → List
   not_limit : (d : Code) → d ≡ Syntax → is_limit d ≡ true → ⊥
   not_limit d e h = both_ways (is_limit d) (rw e refl) h
 
-  full_bad : (w : Bool) (o : Option Code) (d : Code) → (w || is_none o) ≡ true → are_limits o ≡ true → {n : ReadFault} {m : ℕ} → (w ≡ true → n.code ≡ Syntax) → o ≡ Some d → n ≡ fault_from_end m d → ⊥
+  full_bad : (w : Bool) (o : Option Code) (d : Code) → (w || is_none o) ≡ true → are_limits o ≡ true
+      → {n : ReadFault} {m : ℕ} → (w ≡ true → n.code ≡ Syntax) → o ≡ Some d → n ≡ fault_from_end m d → ⊥
   full_bad true o d safe limits y e k = not_limit d (ap (λ (x : ReadFault). x.code) (sym k) ∙ y refl) (ap are_limits (sym e) ∙ limits)
   full_bad false None d safe limits y e k = absurd cc
   full_bad false (Some d') d safe limits y e k = absurd cc
 
-  pub passes : (w : Bool) (b0 : Terminal → Bool) {A : Type 0} (g : Production N Tree A) → is_fine c g ≡ true → is_safe w b0 g ≡ true → (s : List Token) → (w ≡ false → starts b0 s ≡ true) → starts (first g) s ≡ true → Passes w (run p g) s
-  passes w b0 (one_of q) fine safe s at b = (λ n e y. absurd (token_passes q s b n e), λ x e. let t = ap (λ (y : List Token). length y) (token_ok q s x e).0 in omega (arith, t))
+  pub passes : (w : Bool) (b0 : Terminal → Bool) {A : Type 0} (g : Production N Tree A) → is_fine c g ≡ true
+      → is_safe w b0 g ≡ true → (s : List Token) → (w ≡ false → starts b0 s ≡ true) → starts (first g) s ≡ true
+      → Passes w (run p g) s
+  passes w b0 (one_of q) fine safe s at b = (
+    λ n e y. absurd (token_passes q s b n e),
+    λ x e. let t =
+        ap (λ (y : List Token). length y) (token_ok q s x e).0 in omega (arith, t),
+  )
   passes w b0 (checked q good d) fine safe s at b = (
     λ n e y. elim (bind_err (token_at q s) (check good d s) n e) [
       | inl u ↦ absurd (token_passes q s b n u)
@@ -161,7 +178,8 @@ module _ {N : Type 0} {Tree : N → Type 0} (c : Claims N) (p : (n : N) → List
     λ x e. (run_shrinks p h (checked q good d) s x e).1 refl,
   )
     where
-      bad : (w : Bool) → (w || are_disjoint b0 q) ≡ true → (w ≡ false → starts b0 s ≡ true) → {n : ReadFault} → (w ≡ true → n.code ≡ Syntax) → n ≡ fault_from_end (length s) d → ⊥
+      bad : (w : Bool) → (w || are_disjoint b0 q) ≡ true → (w ≡ false → starts b0 s ≡ true) → {n : ReadFault}
+          → (w ≡ true → n.code ≡ Syntax) → n ≡ fault_from_end (length s) d → ⊥
       bad true safe at y e = not_limit d (ap (λ (x : ReadFault). x.code) (sym e) ∙ y refl) (and_parts (some_is q terminal_count) (is_limit d) fine).1
       bad false safe at y e = both_ways (starts b0 s) (starts_disjoint b0 q s safe b) (at refl)
   passes w b0 (limited d d0 g) fine safe s at b =
@@ -198,7 +216,9 @@ module _ {N : Type 0} {Tree : N → Type 0} (c : Claims N) (p : (n : N) → List
                   rw (← same) (omega (arith, y, z)),
             )
         | inr t ↦
-            let u : (may_be_empty g ≡ true) × (starts (first k) s ≡ true) = elim (and_if_cases (may_be_empty g) (first g) (first k) s b) [ inl w ↦ absurd (both_ways (starts (first g) s) t w) | inr w ↦ w ] in
+            let u : (may_be_empty g ≡ true) × (starts (first k) s ≡ true) =
+            elim (and_if_cases (may_be_empty g) (first g) (first k) s b)
+            [ inl w ↦ absurd (both_ways (starts (first g) s) t w) | inr w ↦ w ] in
             let a = stays g f.0 s t u.0 in
             let two = passes w b0 k f'.0 sf.1 s at u.1 in
             let goes : run p (seq g k) s ≡ (run p k s >>= λ b. Ok ((a.0, b.0), b.1)) = rw a.1 refl in (
@@ -224,7 +244,9 @@ module _ {N : Type 0} {Tree : N → Type 0} (c : Claims N) (p : (n : N) → List
       elim (cases_Bool (starts (first g) s)) [
         | inl t ↦ let one = passes w b0 g f.0 sf.0 s at t in (λ n e y. one.0 n (sym (rw t refl) ∙ e) y, λ x e. one.1 x (sym (rw t refl) ∙ e))
         | inr t ↦
-            let u : starts (first k) s ≡ true = elim (start_cases (first g) (first k) s b) [ inl w ↦ absurd (both_ways (starts (first g) s) t w) | inr w ↦ w ] in
+            let u : starts (first k) s ≡ true =
+            elim (start_cases (first g) (first k) s b)
+            [ inl w ↦ absurd (both_ways (starts (first g) s) t w) | inr w ↦ w ] in
             let one = passes w b0 k f'.0 sf.1 s at u in (λ n e y. one.0 n (sym (rw t refl) ∙ e) y, λ x e. one.1 x (sym (rw t refl) ∙ e))
       ]
   passes w b0 (pick q g k) fine safe s at b =
@@ -258,9 +280,12 @@ module _ {N : Type 0} {Tree : N → Type 0} (c : Claims N) (p : (n : N) → List
       let never = not-true (may_be_empty g) (and_parts (not (may_be_empty g)) _ f.1).0 in
       let one = passes w b0 g f.0 sf.0 s at b in
       let rest : A1 × List Token → Read (List A1) = λ a. many_at full (first g) (run p g) 1 (length a.1) a.1 >>= λ more. Ok (a.0 ∷ more.0, more.1) in
-      let goes : run p (star full g) s ≡ refuse (full 0) s (run p g s >>= rest) = many_is full (first g) (run p g) (λ s' x e'. (run_shrinks p h g s' x e').1 never) 0 s ∙ rw b refl in
+      let goes : run p (star full g) s ≡ refuse (full 0) s (run p g s >>= rest) =
+      many_is full (first g) (run p g) (λ s' x e'. (run_shrinks p h g s' x e').1 never) 0 s ∙ rw b refl in
       let limits = (and_parts (are_disjoint (continuing c g) (first g)) _ (and_parts (not (may_be_empty g)) _ f.1).1).1 in
-      let later : FaultsWithin (λ l. many_at full (first g) (run p g) 1 (length l) l) = λ l' n e. many_faults full (first g) (run p g) (λ s' x e'. (run_shrinks p h g s' x e').0) (run_faults p h l g) (length l') 1 l' n e in (
+      let later : FaultsWithin (λ l. many_at full (first g) (run p g) 1 (length l) l) =
+      λ l' n e. many_faults full (first g) (run p g) (λ s' x e'. (run_shrinks p h g s' x e').0)
+      (run_faults p h l g) (length l') 1 l' n e in (
         λ n e y. elim (refuse_err (full 0) s (run p g s >>= rest) n (sym goes ∙ e)) [
           | inl u ↦ absurd (full_bad w (full 0) u.0 sf.1 limits y u.1 u.2)
           | inr ge ↦ elim (bind_err (run p g s) rest n ge.1) [

@@ -11,6 +11,7 @@ abbrev failed : {A : Type 0} → ReadFault → Result A ReadFault
 failed f = Err f
 
 -- If the code refuses with a fault, reading returns that fault.
-pub fault_is : {A : Type 0} (r : Result A ReadFault) (e : ReadRefusal) (n : ℕ) (d : Code) → ReturnsRefusal e r → e ≡ fault_with n d → r ≡ Err (fault_from_end n d)
+pub fault_is : {A : Type 0} (r : Result A ReadFault) (e : ReadRefusal) (n : ℕ) (d : Code) → ReturnsRefusal e r
+    → e ≡ fault_with n d → r ≡ Err (fault_from_end n d)
 fault_is r refusal.OutOfMemory n d f is = absurd cc
 fault_is {A} r (refusal.Fault m) n d f is = let same : m ≡ fault_from_end n d = cc in f ∙ ap (λ (x : ReadFault). failed {A = A} x) same

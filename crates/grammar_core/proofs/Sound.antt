@@ -90,7 +90,11 @@ late_then c w n (Some f) y le l = l
 pub late_after : (c : Code) (w v n : ℕ) (y : Fault) → w ≡ n + v → Late c v y → Late c w (then_fault None n y)
 late_after c w v n None e l = record { from = tt; exact = λ h. absurd (none-some _ (l.exact h)) }
 late_after c w v n (Some f) e l =
-    record { from = let k = l.from in omega (arith, k, e); exact = λ h. let same : f ≡ (v, c) = same_Some f (v, c) (l.exact h) in ap (λ (g : ℕ × Code). Some (n + g.0, g.1)) same ∙ rw e refl }
+    record {
+      from = let k = l.from in omega (arith, k, e);
+      exact = λ h. let same : f ≡ (v, c) =
+          same_Some f (v, c) (l.exact h) in ap (λ (g : ℕ × Code). Some (n + g.0, g.1)) same ∙ rw e refl;
+    }
 
 pub late_syntax : (c : Code) (w : ℕ) (o : Fault) → c ≡ Syntax → IsFrom w o → Late c w o
 late_syntax c w o e h = record { from = h; exact = λ n. absurd (n e) }

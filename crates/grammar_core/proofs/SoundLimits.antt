@@ -1,5 +1,6 @@
 -- A text of limited length is read soundly.
-use Rattle.std.proofs.Common.{◌≡◌, ℕ, zero, suc, ◌+◌, ◌-◌, ◌<◌, ◌≤◌, Bool, true, false, cond, List, [], ◌∷◌, ◌++◌, length, Ok, Err, refl, inl, inr, sym, ap, ◌∙◌, append_assoc, length-append, arith, subst}
+use Rattle.std.proofs.Common.{◌≡◌, ℕ, zero, suc, ◌+◌, ◌-◌, ◌<◌, ◌≤◌, Bool, true, false, cond, List, [], ◌∷◌, ◌++◌, length, Ok, Err, refl, inl, inr}
+use Rattle.std.proofs.Common.{sym, ap, ◌∙◌, append_assoc, length-append, arith, subst}
 use Rattle.std.specs.Prelude.{Some, None, nat_lt}
 use Rattle.std.proofs.lemmas.Bool.{le-ltb, lt-ltb, ltb-true, ltb-false, cases_lt}
 use Rattle.grammar_core.specs.declared.fault.ReadFault.{ReadFault}
@@ -57,11 +58,19 @@ module _ {A : Type 0} (L : Limit) (c : Code) (G : Language A) (p : List Token �
   judge_accepted s x e le =
       let t = (sound s).accepted x e in
       let n : length s - length x.1 ≡ length t.word = ap (λ (l : List Token). length l - length x.1) t.parts ∙ taken_is t.word x.1 in
-      let fits : (z : List Token) → length t.word ≤ L.at (t.word ++ z) = λ z. L.keeps t.word x.1 z (subst (λ (l : List Token). length t.word ≤ L.at l) t.parts (omega (arith, n, le))) in
+      let fits : (z : List Token) → length t.word ≤ L.at (t.word ++ z) =
+      λ z. L.keeps t.word x.1 z (subst (λ (l : List Token). length t.word ≤ L.at l) t.parts
+      (omega (arith, n, le))) in
       record {
         word = t.word;
         parts = t.parts;
-        derives = λ z. (None, t.derives z, sym (cut_none (L.at (t.word ++ z)) c (taken (t.word ++ z) z) (let k = taken_is t.word z in let f = fits z in omega (arith, k, f))));
+        derives = λ z. (
+          None,
+          t.derives z,
+          sym
+              (cut_none (L.at (t.word ++ z)) c (taken (t.word ++ z) z)
+              (let k = taken_is t.word z in let f = fits z in omega (arith, k, f))),
+        );
         same = λ r same.
             let k = taken_is t.word r in let f = fits r in
             let low : nat_lt (L.at (t.word ++ r)) (length (t.word ++ r) - length r) ≡ false = le-ltb _ _ (omega (arith, k, f)) in
@@ -71,8 +80,11 @@ module _ {A : Type 0} (L : Limit) (c : Code) (G : Language A) (p : List Token �
   judge_inside : (s : List Token) (n : ReadFault) → p s ≡ Err n → length s - n.left ≤ L.at s → Faulted (Limited L c G) judged s n
   judge_inside s n e le =
       let t = (sound s).faulted n e in
-      let m : length s - n.left ≡ length t.word = ap (λ (l : List Token). length l - n.left) t.parts ∙ ap (λ (k : ℕ). length (t.word ++ t.rest) - k) (sym t.left) ∙ taken_is t.word t.rest in
-      let fits : (z : List Token) → length t.word ≤ L.at (t.word ++ z) = λ z. L.keeps t.word t.rest z (subst (λ (l : List Token). length t.word ≤ L.at l) t.parts (omega (arith, m, le))) in
+      let m : length s - n.left ≡ length t.word = ap (λ (l : List Token). length l - n.left) t.parts
+      ∙ ap (λ (k : ℕ). length (t.word ++ t.rest) - k) (sym t.left) ∙ taken_is t.word t.rest in
+      let fits : (z : List Token) → length t.word ≤ L.at (t.word ++ z) =
+      λ z. L.keeps t.word t.rest z (subst (λ (l : List Token). length t.word ≤ L.at l) t.parts
+      (omega (arith, m, le))) in
       record {
         word = t.word;
         rest = t.rest;
@@ -103,10 +115,18 @@ module _ {A : Type 0} (L : Limit) (c : Code) (G : Language A) (p : List Token �
       len = length-append u (y ∷ r)
 
       -- what is read from one list is read from the other
-      meets : (w a : List Token) → u ++ y ∷ r ≡ w ++ a → length w ≤ length u → (v' : List Token) × (SameHead a (v' ++ y ∷ v)) × (s ≡ w ++ (v' ++ y ∷ v)) × (suc (length v) ≤ length (v' ++ y ∷ v))
+      meets : (w a : List Token) → u ++ y ∷ r ≡ w ++ a → length w ≤ length u
+          → (v' : List Token) × (SameHead a (v' ++ y ∷ v)) × (s ≡ w ++ (v' ++ y ∷ v))
+          × (suc (length v) ≤ length (v' ++ y ∷ v))
       meets w a e le =
-          let f = longer_front w a u (y ∷ r) (sym e) le in
-          (f.0, subst (λ (l : List Token). SameHead l (f.0 ++ y ∷ v)) (sym f.2) (same_head_after f.0 (y ∷ r) (y ∷ v) refl), parts ∙ ap (λ (l : List Token). l ++ y ∷ v) f.1 ∙ append_assoc w f.0 (y ∷ v), omega (arith, length-append f.0 (y ∷ v)))
+          let f = longer_front w a u (y ∷ r) (sym e) le in (
+            f.0,
+            subst (λ (l : List Token). SameHead l (f.0 ++ y ∷ v)) (sym f.2)
+                (same_head_after f.0 (y ∷ r) (y ∷ v) refl),
+            parts ∙ ap (λ (l : List Token). l ++ y ∷ v) f.1
+                ∙ append_assoc w f.0 (y ∷ v),
+            omega (arith, length-append f.0 (y ∷ v)),
+          )
 
       high : (n : ℕ) → (n ≤ length u → ⊥) → nat_lt (L.at (u ++ y ∷ r)) n ≡ true
       high n never = lt-ltb _ _ (above n (L.at (u ++ y ∷ r)) (length u) at never)
@@ -125,7 +145,8 @@ module _ {A : Type 0} (L : Limit) (c : Code) (G : Language A) (p : List Token �
           rw (e, high (length (u ++ y ∷ r) - length x.1) never) out
       go (Err d) e =
           let t = (sound (u ++ y ∷ r)).faulted d e in
-          let n : length (u ++ y ∷ r) - d.left ≡ length t.word = ap (λ (l : List Token). length l - d.left) t.parts ∙ ap (λ (k : ℕ). length (t.word ++ t.rest) - k) (sym t.left) ∙ taken_is t.word t.rest in
+          let n : length (u ++ y ∷ r) - d.left ≡ length t.word = ap (λ (l : List Token). length l - d.left) t.parts
+          ∙ ap (λ (k : ℕ). length (t.word ++ t.rest) - k) (sym t.left) ∙ taken_is t.word t.rest in
           let never : length (u ++ y ∷ r) - d.left ≤ length u → ⊥ = λ le.
           let m = meets t.word t.rest t.parts (omega (arith, n, le)) in
           let k = err (fault_from_end (length (m.0 ++ y ∷ v)) d.code) (ap p m.2 ∙ t.same (m.0 ++ y ∷ v) m.1) in
@@ -133,7 +154,9 @@ module _ {A : Type 0} (L : Limit) (c : Code) (G : Language A) (p : List Token �
           rw (e, high (length (u ++ y ∷ r) - d.left) never) out
 
   -- a text that is longer than its limit
-  judge_past : (s : List Token) (n : ReadFault) (word rest more : List Token) (tree : A) (fault : List Token → Fault) → s ≡ word ++ rest → L.at s < length word → n ≡ fault_from_end (length s - L.at s) c
+  judge_past : (s : List Token) (n : ReadFault) (word rest more : List Token) (tree : A)
+      (fault : List Token → Fault) → s ≡ word ++ rest → L.at s < length word
+      → n ≡ fault_from_end (length s - L.at s) c
       → ((z : List Token) → IsFrom (length word) (fault z)) → ((z : List Token) → G (word ++ (more ++ z)) tree (fault z) z)
       → ((x : A × List Token) → p s ≡ Ok x → length x.1 ≤ length rest) → ((d : ReadFault) → p s ≡ Err d → d.left ≤ length rest)
       → Faulted (Limited L c G) judged s n
@@ -158,11 +181,19 @@ module _ {A : Type 0} (L : Limit) (c : Code) (G : Language A) (p : List Token �
         extends = λ d. record { head = y; rest_tail = v ++ rest; more_tail = v ++ more; rest_is = refl; more_is = refl };
         derives = λ z.
             let along : u ++ ((y ∷ (v ++ more)) ++ z) ≡ word ++ (more ++ z) =
-            ap (λ (l : List Token). u ++ (y ∷ l)) (append_assoc v more z) ∙ sym (append_assoc u (y ∷ v) (more ++ z)) ∙ ap (λ (l : List Token). l ++ (more ++ z)) (sym k.3) in
+            ap (λ (l : List Token). u ++ (y ∷ l)) (append_assoc v more z) ∙ sym (append_assoc u (y ∷ v) (more ++ z))
+            ∙ ap (λ (l : List Token). l ++ (more ++ z)) (sym k.3) in
             let g : G (u ++ ((y ∷ (v ++ more)) ++ z)) tree (fault z) z = subst (λ (l : List Token). G l tree (fault z) z) (sym along) (derives z) in
-            let size : taken (u ++ ((y ∷ (v ++ more)) ++ z)) z ≡ length word + length more = ap (λ (l : List Token). taken l z) along ∙ omega (arith, length-append word (more ++ z), length-append more z) in
-            let lim : L.at (u ++ ((y ∷ (v ++ more)) ++ z)) ≡ length u = at ((v ++ more) ++ z) in
-            (fault z, g, sym (ap (λ (l : ℕ). cut_at l c (taken (u ++ ((y ∷ (v ++ more)) ++ z)) z) (fault z)) lim ∙ cut_here (length u) c _ (fault z) (omega (arith, size, long)) (from_less (length word) (suc (length u)) (fault z) (omega (arith, long)) (from z))));
+            let size : taken (u ++ ((y ∷ (v ++ more)) ++ z)) z ≡ length word + length more =
+            ap (λ (l : List Token). taken l z) along
+            ∙ omega (arith, length-append word (more ++ z), length-append more z) in
+            let lim : L.at (u ++ ((y ∷ (v ++ more)) ++ z)) ≡ length u = at ((v ++ more) ++ z) in (
+              fault z,
+              g,
+              sym (ap (λ (l : ℕ). cut_at l c (taken (u ++ ((y ∷ (v ++ more)) ++ z)) z) (fault z)) lim
+                  ∙ cut_here (length u) c _ (fault z) (omega (arith, size, long))
+                  (from_less (length word) (suc (length u)) (fault z) (omega (arith, long)) (from z))),
+            );
         same = λ r same. again u y (v ++ rest) r whole at same
             (λ x e. let f = ok x e in omega (arith, f, back)) (λ d e. let f = err d e in omega (arith, f, back))
             ∙ ap (λ (d : Code). Err (fault_from_end (length r) d)) (sym code);
@@ -173,9 +204,13 @@ module _ {A : Type 0} (L : Limit) (c : Code) (G : Language A) (p : List Token �
       from_less w m (Some f) le h = omega (arith, le, h)
 
       again : (u : List Token) (y : Token) (v r : List Token) → s ≡ u ++ y ∷ v → ((r : List Token) → L.at (u ++ y ∷ r) ≡ length u) → SameHead (y ∷ v) r
-          → ((x : A × List Token) → p s ≡ Ok x → length x.1 < suc (length v)) → ((d : ReadFault) → p s ≡ Err d → d.left < suc (length v)) → judged (u ++ r) ≡ Err (fault_from_end (length r) c)
+          → ((x : A × List Token) → p s ≡ Ok x → length x.1 < suc (length v))
+          → ((d : ReadFault) → p s ≡ Err d → d.left < suc (length v))
+          → judged (u ++ r) ≡ Err (fault_from_end (length r) c)
       again u y v [] e at same ok err = absurd same
-      again u y v (y' ∷ r) e at same ok err = subst (λ (t : Token). judged (u ++ t ∷ r) ≡ Err (fault_from_end (suc (length r)) c)) same (past s u y v r e (at r) ok err)
+      again u y v (y' ∷ r) e at same ok err =
+          subst (λ (t : Token). judged (u ++ t ∷ r) ≡ Err (fault_from_end (suc (length r)) c)) same
+          (past s u y v r e (at r) ok err)
 
   pub limited_sound : (s : List Token) → Sound (Limited L c G) judged s
   limited_sound s =
@@ -192,7 +227,8 @@ module _ {A : Type 0} (L : Limit) (c : Code) (G : Language A) (p : List Token �
                   (λ d e'. absurd (Ok≢Err u.0 d (sym u.1 ∙ e')))
               | inr (inl u) ↦
                   let t = (sound s).faulted u.0 u.1 in
-                  let k : length s - u.0.left ≡ length t.word = ap (λ (l : List Token). length l - u.0.left) t.parts ∙ ap (λ (m : ℕ). length (t.word ++ t.rest) - m) (sym t.left) ∙ taken_is t.word t.rest in
+                  let k : length s - u.0.left ≡ length t.word = ap (λ (l : List Token). length l - u.0.left) t.parts
+                  ∙ ap (λ (m : ℕ). length (t.word ++ t.rest) - m) (sym t.left) ∙ taken_is t.word t.rest in
                   let lt = ltb-true _ _ u.2 in
                   judge_past s n t.word t.rest t.more t.tree t.fault t.parts (omega (arith, k, lt)) u.3 (λ z. (t.late z).from) t.derives
                   (λ x e'. absurd (Ok≢Err x u.0 (sym e' ∙ u.1)))

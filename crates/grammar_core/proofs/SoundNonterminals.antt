@@ -15,7 +15,9 @@ use Rattle.list_lemmas.proofs.Options.{same_Ok, Ok≢Err}
 abbrev pub AfterToken : {A : Type 0} → (Terminal → Bool) → Language A → Language (Token × A)
 AfterToken q G s t o r = (m : List Token) × (y : Fault) × IsOne q s t.0 m × G m t.1 y r × (o ≡ then_fault None 1 y)
 
-pub after_token_sound : {A : Type 0} (q : Terminal → Bool) (G : Language A) (p : List Token → Read A) → some_is q terminal_count ≡ true → ((s : List Token) → Sound G p s) → Text G → (s : List Token) → Sound (AfterToken q G) (λ l. token_at q l >>= λ x. p x.1 >>= λ b. Ok ((x.0, b.0), b.1)) s
+pub after_token_sound : {A : Type 0} (q : Terminal → Bool) (G : Language A) (p : List Token → Read A)
+    → some_is q terminal_count ≡ true → ((s : List Token) → Sound G p s) → Text G → (s : List Token)
+    → Sound (AfterToken q G) (λ l. token_at q l >>= λ x. p x.1 >>= λ b. Ok ((x.0, b.0), b.1)) s
 after_token_sound q G p some g text s =
     record {
       accepted = λ x e.
@@ -46,7 +48,8 @@ after_token_sound q G p some g text s =
                   late = λ z. late_syntax n.code 0 _ syntax (from_zero (then_fault None 1 (text.fault z)));
                   extends = λ d. absurd (d syntax);
                   derives = λ z. (text.word ++ z, text.fault z, one.1 (text.word ++ z), text.derives z, refl);
-                  same = λ r same. rw (token_refuses q r (sym (starts_same q s r same) ∙ t.1)) (ap (λ (c : Code). Err (fault_from_end (length r) c)) (sym syntax));
+                  same = λ r same. rw (token_refuses q r (sym (starts_same q s r same) ∙ t.1))
+                      (ap (λ (c : Code). Err (fault_from_end (length r) c)) (sym syntax));
                 }
             | inr a ↦ elim (bind_err (p a.0.1) (λ b. Ok ((a.0.0, b.0), b.1)) n a.2) [
               | inl v ↦

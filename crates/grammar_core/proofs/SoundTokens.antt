@@ -56,7 +56,8 @@ token_sound q s h =
 abbrev pub Valued : (Terminal → Bool) → (Token → Bool) → Code → Language Token
 Valued q good c s t o r = IsOne q s t r × (o ≡ bad_unless (good t) c)
 
-pub checked_sound : (q : Terminal → Bool) (good : Token → Bool) (c : Code) (s : List Token) → some_is q terminal_count ≡ true → Sound (Valued q good c) (λ l. token_at q l >>= check good c l) s
+pub checked_sound : (q : Terminal → Bool) (good : Token → Bool) (c : Code) (s : List Token)
+    → some_is q terminal_count ≡ true → Sound (Valued q good c) (λ l. token_at q l >>= check good c l) s
 checked_sound q good c s h =
     record {
       accepted = λ x e.
@@ -82,7 +83,8 @@ checked_sound q good c s h =
                   late = λ z. late_syntax n.code 0 _ syntax (from_zero (bad_unless (good one.0) c));
                   extends = λ d. absurd (d syntax);
                   derives = λ z. (one.1 z, refl);
-                  same = λ r same. rw (token_refuses q r (sym (starts_same q s r same) ∙ t.1)) (ap (λ (c : Code). Err (fault_from_end (length r) c)) (sym syntax));
+                  same = λ r same. rw (token_refuses q r (sym (starts_same q s r same) ∙ t.1))
+                      (ap (λ (c : Code). Err (fault_from_end (length r) c)) (sym syntax));
                 }
             | inr a ↦
                 let t = token_ok q s a.0 a.1 in
@@ -104,7 +106,8 @@ checked_sound q good c s h =
           ];
     }
   where
-    bad_again : (x : Token) (m r : List Token) → s ≡ x ∷ m → q (terminal_of x) ≡ true → good x ≡ false → SameHead s r → (token_at q r >>= check good c r) ≡ Err (fault_from_end (length r) c)
+    bad_again : (x : Token) (m r : List Token) → s ≡ x ∷ m → q (terminal_of x) ≡ true → good x ≡ false
+        → SameHead s r → (token_at q r >>= check good c r) ≡ Err (fault_from_end (length r) c)
     bad_again x m [] e qx bad same = absurd (subst (λ (l : List Token). SameHead l []) e same)
     bad_again x m (y ∷ r) e qx bad same =
         let is : x ≡ y = subst (λ (l : List Token). SameHead l (y ∷ r)) e same in

@@ -1,5 +1,6 @@
 -- Reading only the tokens up to a limit (a window) returns what reading all of them returns.
-use Rattle.std.proofs.Common.{◌≡◌, ℕ, suc, ◌+◌, ◌-◌, ◌<◌, ◌≤◌, false, List, [], ◌∷◌, ◌++◌, length, Ok, Err, refl, sym, ap, ◌∙◌, append_assoc, length-append, arith, subst}
+use Rattle.std.proofs.Common.{◌≡◌, ℕ, suc, ◌+◌, ◌-◌, ◌<◌, ◌≤◌, false, List, [], ◌∷◌, ◌++◌, length, Ok, Err, refl, sym, ap, ◌∙◌, append_assoc}
+use Rattle.std.proofs.Common.{length-append, arith, subst}
 use Rattle.std.specs.Prelude.{nat_lt}
 use Rattle.std.proofs.lemmas.Bool.{le-ltb, lt-ltb}
 use Rattle.list_lemmas.proofs.Joins.{longer_front}
@@ -11,7 +12,9 @@ use Rattle.grammar_core.specs.Reading.{Read, judge, fault_from_end}
 use Rattle.grammar_core.proofs.Sound.{SameHead, Sound, taken_is}
 use Rattle.grammar_core.proofs.SoundLimits.{above}
 
-module _ {A : Type 0} (L : Limit) (c : Code) (G : Language A) (p : List Token → Read A) (sound : (s : List Token) → Sound G p s) (s w v : List Token) (parts : s ≡ w ++ v) (wide : length w ≡ suc (L.at s)) where
+module _ {A : Type 0} (L : Limit) (c : Code) (G : Language A) (p : List Token → Read A)
+    (sound : (s : List Token) → Sound G p s) (s w v : List Token) (parts : s ≡ w ++ v)
+    (wide : length w ≡ suc (L.at s)) where
   inside_window : (word rest : List Token) → w ≡ word ++ rest → 0 < length rest → nat_lt (L.at s) (length s - length (rest ++ v)) ≡ false
   inside_window word rest e some =
       let a = ap (λ (l : List Token). length l) parts in
@@ -36,11 +39,16 @@ module _ {A : Type 0} (L : Limit) (c : Code) (G : Language A) (p : List Token �
   window_err n some e =
       let k = (sound w).faulted n e in
       let more : 0 < length k.rest = let l = k.left in omega (arith, l, some) in
-      let at : p s ≡ Err (fault_from_end (length (k.rest ++ v)) n.code) = ap p (sym (whole_is k.word k.rest k.parts)) ∙ k.same (k.rest ++ v) (head_kept k.rest more) in
-      rw (at, inside_window k.word k.rest k.parts more) (ap (λ (m : ℕ). Err (fault_from_end m n.code)) (length-append k.rest v ∙ ap (λ (m : ℕ). m + length v) k.left))
+      let at : p s ≡ Err (fault_from_end (length (k.rest ++ v)) n.code) =
+      ap p (sym (whole_is k.word k.rest k.parts)) ∙ k.same (k.rest ++ v) (head_kept k.rest more) in
+      rw (at, inside_window k.word k.rest k.parts more)
+      (ap (λ (m : ℕ). Err (fault_from_end m n.code))
+      (length-append k.rest v ∙ ap (λ (m : ℕ). m + length v) k.left))
 
   -- a text that does not end inside the window is too long
-  pub window_long : ((t : A) (rest : List Token) → 0 < length rest → p w ≡ Ok (t, rest) → ⊥) → ((n : ReadFault) → 0 < n.left → p w ≡ Err n → ⊥) → judge (L.at s) c s (p s) ≡ Err (fault_from_end (length s - L.at s) c)
+  pub window_long : ((t : A) (rest : List Token) → 0 < length rest → p w ≡ Ok (t, rest) → ⊥)
+      → ((n : ReadFault) → 0 < n.left → p w ≡ Err n → ⊥)
+      → judge (L.at s) c s (p s) ≡ Err (fault_from_end (length s - L.at s) c)
   window_long no_tree no_fault = go (p s) refl
     where
       -- an end inside the window leaves some of its tokens
@@ -64,7 +72,8 @@ module _ {A : Type 0} (L : Limit) (c : Code) (G : Language A) (p : List Token �
           rw (e, lt-ltb _ _ (above (length s - length x.1) (L.at s) (L.at s) refl never)) refl
       go (Err d) e =
           let k = (sound s).faulted d e in
-          let n : length s - d.left ≡ length k.word = ap (λ (l : List Token). length l - d.left) k.parts ∙ ap (λ (m : ℕ). length (k.word ++ k.rest) - m) (sym k.left) ∙ taken_is k.word k.rest in
+          let n : length s - d.left ≡ length k.word = ap (λ (l : List Token). length l - d.left) k.parts
+          ∙ ap (λ (m : ℕ). length (k.word ++ k.rest) - m) (sym k.left) ∙ taken_is k.word k.rest in
           let never : length s - d.left ≤ L.at s → ⊥ = λ le.
           let u = left_of k.word k.rest k.parts (omega (arith, n, le)) in
           no_fault (fault_from_end (length u.0) d.code) u.3 (ap p u.1 ∙ k.same u.0 (back u.0 k.rest u.2 u.3)) in

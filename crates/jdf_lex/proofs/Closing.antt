@@ -1,5 +1,6 @@
 -- A unit with a closing mark ends at the first byte that ends it.
-use Rattle.std.proofs.Common.{◌≡◌, ℕ, suc, ◌+◌, ◌<◌, ◌≤◌, Bool, true, List, [], ◌∷◌, ◌++◌, length, take, Option, Some, None, refl, sym, ◌∙◌, subst, inl, inr, arith}
+use Rattle.std.proofs.Common.{◌≡◌, ℕ, suc, ◌+◌, ◌<◌, ◌≤◌, Bool, true, List, [], ◌∷◌, ◌++◌, length, take, Option, Some, None, refl, sym, ◌∙◌, subst}
+use Rattle.std.proofs.Common.{inl, inr, arith}
 use Rattle.std.proofs.lemmas.Bool.{cases_Bool, false≢true, cond-true, cond-false}
 use Rattle.std.specs.Option.{option_map}
 use Rattle.jdf_lex.specs.declared.lexical_unit.LexicalUnit.{LexicalUnit}
@@ -85,5 +86,6 @@ closed_none p h (x ∷ xs) e (b ∷ w) after is closed =
     let here : is_closed p h (x ∷ w) ≡ true = subst (λ z. is_closed p h (z ∷ w) ≡ true) (sym heads) closed in
     elim (chosen t (some_length 1) (option_map (λ len. 1 + len) (closed_len p affected xs)) no_length e) [
       | inl ends ↦ (let never : some_length 1 ≡ no_length = ends.1 in cc)
-      | inr goes ↦ closed_none p affected xs (add_length_none 1 (closed_len p affected xs) goes.1) w after tails (sym (cond-false t (is_empty w) (is_closed p affected w) goes.0) ∙ here)
+      | inr goes ↦ closed_none p affected xs (add_length_none 1 (closed_len p affected xs) goes.1) w after tails
+          (sym (cond-false t (is_empty w) (is_closed p affected w) goes.0) ∙ here)
     ]

@@ -32,8 +32,10 @@ module _ (q : ℕ → Bool) (s : List Token) (cap n i m : ℕ) (same : get_or (t
     unfolding limit_at
     stops_here few e t = let k = rw (here, indices_kept q i (get_or s i d) (drop (i + 1) s) t, e) at same in omega (arith, k)
 
-    pub one_counted : (l : ℕ) → m ≡ suc l → q (numbered.terminal_of (get_or s i d)) ≡ true → get_or (token_indices q (i + 1) (drop (i + 1) s)) l cap ≡ get_or (token_indices q 0 s) n cap
+    pub one_counted : (l : ℕ) → m ≡ suc l → q (numbered.terminal_of (get_or s i d)) ≡ true
+        → get_or (token_indices q (i + 1) (drop (i + 1) s)) l cap ≡ get_or (token_indices q 0 s) n cap
     one_counted l e t = rw (here, indices_kept q i (get_or s i d) (drop (i + 1) s) t, e) at same
 
-    pub one_passed : q (numbered.terminal_of (get_or s i d)) ≡ false → get_or (token_indices q (i + 1) (drop (i + 1) s)) m cap ≡ get_or (token_indices q 0 s) n cap
+    pub one_passed : q (numbered.terminal_of (get_or s i d)) ≡ false
+        → get_or (token_indices q (i + 1) (drop (i + 1) s)) m cap ≡ get_or (token_indices q 0 s) n cap
     one_passed f = rw (here, indices_passed q i (get_or s i d) (drop (i + 1) s) f) at same

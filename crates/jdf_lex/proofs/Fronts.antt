@@ -1,6 +1,7 @@
 -- The unit found at a position is the longest one there; if none is found, the text does not end the unit that begins
 -- there.
-use Rattle.std.proofs.Common.{◌≡◌, ℕ, suc, ◌+◌, ◌<◌, ◌≤◌, true, false, cond, eqb, List, [], ◌∷◌, ◌++◌, length, take, drop, Option, Some, None, refl, sym, ◌∙◌, ap, subst, inl, inr, arith}
+use Rattle.std.proofs.Common.{◌≡◌, ℕ, suc, ◌+◌, ◌<◌, ◌≤◌, true, false, cond, eqb, List, [], ◌∷◌, ◌++◌, length, take, drop, Option, Some, None, refl}
+use Rattle.std.proofs.Common.{sym, ◌∙◌, ap, subst, inl, inr, arith}
 use Rattle.std.specs.List.{list_all, prefix_len}
 use Rattle.std.specs.Prelude.{codes}
 use Rattle.std.specs.List.{starts_with}
@@ -11,7 +12,8 @@ use Rattle.std.specs.Option.{option_map}
 use Rattle.jdf_lex.specs.declared.lexical_unit.LexicalUnit.{LexicalUnit}
 use Rattle.jdf_lex.specs.declared.lexical_unit.LexicalUnit.TheVariants.{Blank, LineComment, BlockComment, TokenOf}
 use Rattle.jdf_lex.specs.declared.kind.TokenKind.TheVariants.{Name, Number, Quoted, Raw, OptionLine, Mark, Other}
-use Rattle.jdf_lex.specs.Spelling.{is_blank, is_letter, is_digit, is_mark, begins_mark, begins_option, plain_unit, first_unit, unit_at, continues, is_closed, is_spelling}
+use Rattle.jdf_lex.specs.Spelling.{is_blank, is_letter, is_digit, is_mark, begins_mark, begins_option, plain_unit, first_unit, unit_at, continues}
+use Rattle.jdf_lex.specs.Spelling.{is_closed, is_spelling}
 use Rattle.jdf_lex.specs.Reading.{mark_len, closed_len, unit_len, front_unit}
 use Rattle.jdf_lex.proofs.Closing.{one_more, add_length_found, add_length_none, closed_found, closed_once, closed_none}
 use Rattle.jdf_lex.proofs.Runs.{prefix_passes, run_longest}
@@ -26,7 +28,8 @@ pub record IsFront (unit : LexicalUnit) (rest : List ℕ) (n : ℕ) : Type 0 whe
 
 -- ---- units without a closing mark
 
-run_front : (p : LexicalUnit) → ((b : ℕ) (w : List ℕ) → is_spelling p (b ∷ w) ≡ list_all (continues p) w) → (b : ℕ) (bs : List ℕ) → IsFront p (b ∷ bs) (1 + prefix_len (continues p) bs)
+run_front : (p : LexicalUnit) → ((b : ℕ) (w : List ℕ) → is_spelling p (b ∷ w) ≡ list_all (continues p) w)
+    → (b : ℕ) (bs : List ℕ) → IsFront p (b ∷ bs) (1 + prefix_len (continues p) bs)
 run_front p spells b bs =
     let n = prefix_len (continues p) bs in
     let front : IsFront p (b ∷ bs) (suc n) = record {
@@ -64,7 +67,8 @@ opened_front p spells b (c ∷ cs) m e =
     } in
     subst (λ n. IsFront p (b ∷ c ∷ cs) n) size front
 
-opened_none : (p : LexicalUnit) → ((b : ℕ) (w : List ℕ) → is_spelling p (b ∷ w) ≡ is_closed p false (drop 1 w)) → (bs : List ℕ) → closed_len p false (drop 1 bs) ≡ None
+opened_none : (p : LexicalUnit) → ((b : ℕ) (w : List ℕ) → is_spelling p (b ∷ w) ≡ is_closed p false (drop 1 w))
+    → (bs : List ℕ) → closed_len p false (drop 1 bs) ≡ None
     → (b : ℕ) (w after : List ℕ) → bs ≡ w ++ after → is_spelling p (b ∷ w) ≡ true → ⊥
 opened_none p spells bs e b [] after is spelled = false≢true (sym (spells b []) ∙ spelled)
 opened_none p spells [] e b (d ∷ w) after is spelled = cc
@@ -78,7 +82,8 @@ long_longest : (a b : ℕ) (rest more after : List ℕ) → rest ≡ more ++ aft
 long_longest a b rest [] after e spelled = refl
 long_longest a b rest (m ∷ more) after e spelled = absurd (false≢true spelled)
 
-short_longest : (a b : ℕ) (rest : List ℕ) → is_mark (a ∷ b ∷ []) ≡ false → (more after : List ℕ) → b ∷ rest ≡ more ++ after → is_mark (a ∷ more) ≡ true → more ≡ []
+short_longest : (a b : ℕ) (rest : List ℕ) → is_mark (a ∷ b ∷ []) ≡ false → (more after : List ℕ)
+    → b ∷ rest ≡ more ++ after → is_mark (a ∷ more) ≡ true → more ≡ []
 short_longest a b rest short [] after e spelled = refl
 short_longest a b rest short (m ∷ []) after e spelled =
     let same : m ≡ b = cc in
@@ -177,7 +182,8 @@ some_unit p = Some p
 at_length : (p : LexicalUnit) (rest : List ℕ) (m n : ℕ) → IsFront p rest m → ◌≡◌ {A = Option ℕ} (Some m) (Some n) → IsFront p rest n
 at_length p rest m n front e = let same : m ≡ n = cc in subst (λ k. IsFront p rest k) same front
 
-at_more : (p : LexicalUnit) (rest : List ℕ) (o : Option ℕ) (k n : ℕ) → ((m : ℕ) → o ≡ Some m → IsFront p rest (k + m)) → (m : ℕ) × (o ≡ Some m) × (n ≡ k + m) → IsFront p rest n
+at_more : (p : LexicalUnit) (rest : List ℕ) (o : Option ℕ) (k n : ℕ)
+    → ((m : ℕ) → o ≡ Some m → IsFront p rest (k + m)) → (m : ℕ) × (o ≡ Some m) × (n ≡ k + m) → IsFront p rest n
 at_more p rest o k n front found = subst (λ m. IsFront p rest m) (sym found.2) (front found.0 found.1)
 
 run_at : (p : LexicalUnit) → ((b : ℕ) (w : List ℕ) → is_spelling p (b ∷ w) ≡ list_all (continues p) w) → (b : ℕ) (bs : List ℕ) (n : ℕ)
@@ -194,7 +200,9 @@ unit_is_front LineComment b bs n first e = run_at LineComment (λ b w. refl) b b
 unit_is_front BlockComment b bs n first e = opened_at BlockComment (λ b w. refl) b bs n (add_length_found 2 (closed_len BlockComment false (drop 1 bs)) n e)
 unit_is_front (TokenOf Name) b bs n first e = run_at (TokenOf Name) (λ b w. refl) b bs n e
 unit_is_front (TokenOf Number) b bs n first e = run_at (TokenOf Number) (λ b w. refl) b bs n e
-unit_is_front (TokenOf Quoted) b bs n first e = at_more (TokenOf Quoted) (b ∷ bs) (closed_len (TokenOf Quoted) false bs) 1 n (quoted_front b bs) (add_length_found 1 (closed_len (TokenOf Quoted) false bs) n e)
+unit_is_front (TokenOf Quoted) b bs n first e =
+    at_more (TokenOf Quoted) (b ∷ bs) (closed_len (TokenOf Quoted) false bs) 1 n (quoted_front b bs)
+    (add_length_found 1 (closed_len (TokenOf Quoted) false bs) n e)
 unit_is_front (TokenOf Raw) b bs n first e = opened_at (TokenOf Raw) (λ b w. refl) b bs n (add_length_found 2 (closed_len (TokenOf Raw) false (drop 1 bs)) n e)
 unit_is_front (TokenOf OptionLine) b bs n first e = run_at (TokenOf OptionLine) (λ b w. refl) b bs n e
 unit_is_front (TokenOf Mark) b bs n first e = at_length (TokenOf Mark) (b ∷ bs) (mark_len (b ∷ bs)) n (mark_is_front (b ∷ bs) (first_mark b bs first)) e
@@ -213,20 +221,28 @@ spelling_is_some (TokenOf OptionLine) e = false≢true e
 spelling_is_some (TokenOf Mark) e = false≢true e
 spelling_is_some (TokenOf Other) e = false≢true e
 
-no_word_after : (p : LexicalUnit) (bs : List ℕ) (d : ℕ) (w after : List ℕ) → (b : ℕ) → unit_len p (b ∷ bs) ≡ None → bs ≡ w ++ after → is_spelling p (d ∷ w) ≡ true → ⊥
+no_word_after : (p : LexicalUnit) (bs : List ℕ) (d : ℕ) (w after : List ℕ) → (b : ℕ) → unit_len p (b ∷ bs) ≡ None
+    → bs ≡ w ++ after → is_spelling p (d ∷ w) ≡ true → ⊥
 no_word_after Blank bs d w after b e is spelled = none-some _ (sym e)
 no_word_after LineComment bs d w after b e is spelled = none-some _ (sym e)
-no_word_after BlockComment bs d w after b e is spelled = opened_none BlockComment (λ b w. refl) bs (add_length_none 2 (closed_len BlockComment false (drop 1 bs)) e) d w after is spelled
+no_word_after BlockComment bs d w after b e is spelled =
+    opened_none BlockComment (λ b w. refl) bs (add_length_none 2 (closed_len BlockComment false (drop 1 bs)) e) d w
+    after is spelled
 no_word_after (TokenOf Name) bs d w after b e is spelled = none-some _ (sym e)
 no_word_after (TokenOf Number) bs d w after b e is spelled = none-some _ (sym e)
-no_word_after (TokenOf Quoted) bs d w after b e is spelled = closed_none (TokenOf Quoted) false bs (add_length_none 1 (closed_len (TokenOf Quoted) false bs) e) w after is spelled
-no_word_after (TokenOf Raw) bs d w after b e is spelled = opened_none (TokenOf Raw) (λ b w. refl) bs (add_length_none 2 (closed_len (TokenOf Raw) false (drop 1 bs)) e) d w after is spelled
+no_word_after (TokenOf Quoted) bs d w after b e is spelled =
+    closed_none (TokenOf Quoted) false bs (add_length_none 1 (closed_len (TokenOf Quoted) false bs) e) w after is
+    spelled
+no_word_after (TokenOf Raw) bs d w after b e is spelled =
+    opened_none (TokenOf Raw) (λ b w. refl) bs (add_length_none 2 (closed_len (TokenOf Raw) false (drop 1 bs)) e) d
+    w after is spelled
 no_word_after (TokenOf OptionLine) bs d w after b e is spelled = none-some _ (sym e)
 no_word_after (TokenOf Mark) bs d w after b e is spelled = none-some _ (sym e)
 no_word_after (TokenOf Other) bs d w after b e is spelled = none-some _ (sym e)
 
 -- A unit without a length has no word at the front.
-unit_is_none : (p : LexicalUnit) (b : ℕ) (bs : List ℕ) → unit_len p (b ∷ bs) ≡ None → (word after : List ℕ) → b ∷ bs ≡ word ++ after → is_spelling p word ≡ true → ⊥
+unit_is_none : (p : LexicalUnit) (b : ℕ) (bs : List ℕ) → unit_len p (b ∷ bs) ≡ None → (word after : List ℕ)
+    → b ∷ bs ≡ word ++ after → is_spelling p word ≡ true → ⊥
 unit_is_none p b bs e [] after is spelled = spelling_is_some p spelled
 unit_is_none p b bs e (d ∷ w) after is spelled =
     let tails : bs ≡ w ++ after = cc in
@@ -268,5 +284,6 @@ front_found (b ∷ bs) p n e =
     (ap some_unit parts.0, unit_is_front p b bs n parts.0 len)
 
 -- If none is found, no front is spelled as the unit that begins here.
-pub front_none : (b : ℕ) (bs : List ℕ) → front_unit (b ∷ bs) ≡ nothing → (word after : List ℕ) → b ∷ bs ≡ word ++ after → is_spelling (first_unit b bs) word ≡ true → ⊥
+pub front_none : (b : ℕ) (bs : List ℕ) → front_unit (b ∷ bs) ≡ nothing → (word after : List ℕ)
+    → b ∷ bs ≡ word ++ after → is_spelling (first_unit b bs) word ≡ true → ⊥
 front_none b bs e = unit_is_none (first_unit b bs) b bs (with_length_none (first_unit b bs) (unit_len (first_unit b bs) (b ∷ bs)) e)

@@ -7,3 +7,4 @@ pub mod Runs
 pub mod Scanning
 pub mod Spots
 pub mod Uniqueness
+pub mod CallerLemmas

@@ -17,7 +17,8 @@ pub prefix_passes : (q : ℕ → Bool) (xs : List ℕ) → list_all q (take (pre
 prefix_passes q [] = refl
 prefix_passes q (x ∷ xs) =
     elim (cases_Bool (q x)) [
-      | inl passes ↦ subst (λ n. list_all q (take n (x ∷ xs)) ≡ true) (prefix_more q x xs passes) (and_from (q x) (list_all q (take (prefix_len q xs) xs)) passes (prefix_passes q xs))
+      | inl passes ↦ subst (λ n. list_all q (take n (x ∷ xs)) ≡ true) (prefix_more q x xs passes)
+          (and_from (q x) (list_all q (take (prefix_len q xs) xs)) passes (prefix_passes q xs))
       | inr fails ↦ subst (λ n. list_all q (take n (x ∷ xs)) ≡ true) (prefix_none q x xs fails) refl
     ]
 
@@ -37,7 +38,8 @@ list_all_middle q [] m ys all = (and_parts (q m) (list_all q ys) all).0
 list_all_middle q (x ∷ xs) m ys all = list_all_middle q xs m ys (and_parts (q x) (list_all q (xs ++ (m ∷ ys))) all).1
 
 -- So no longer front passes.
-pub run_longest : (q : ℕ → Bool) (bs more after : List ℕ) → drop (prefix_len q bs) bs ≡ more ++ after → list_all q (take (prefix_len q bs) bs ++ more) ≡ true → more ≡ []
+pub run_longest : (q : ℕ → Bool) (bs more after : List ℕ) → drop (prefix_len q bs) bs ≡ more ++ after
+    → list_all q (take (prefix_len q bs) bs ++ more) ≡ true → more ≡ []
 run_longest q bs [] after e all = refl
 run_longest q bs (m ∷ more) after e all =
     absurd (prefix_stops q bs m (more ++ after) e (list_all_middle q (take (prefix_len q bs) bs) m more all))

@@ -4,7 +4,11 @@ use Rattle.std.specs.Prelude.{◌==◌}
 use denote.Enum.Bare.{sameb}
 use denote.Enum.Declared.{tag_of}
 use Rattle.jdf_lex.specs.declared.terminal.Terminal.{Terminal}
-use Rattle.jdf_lex.specs.declared.terminal.Terminal.TheVariants.{Name, TypeWord, Int, If, Else, For, Trap, Number, Quoted, Raw, OptionLine, Other, Extern, Body, End, Read, Write, Rw, Ctl, New, Null, LeftParen, RightParen, LeftBracket, RightBracket, LeftBrace, RightBrace, Comma, Semicolon, Colon, Question, Assign, Dots, Inward, Outward, Plus, Minus, Star, Slash, Percent, Equal, NotEqual, Less, AtMost, Greater, AtLeast, And, AndAnd, Or, OrOr, Not}
+use Rattle.jdf_lex.specs.declared.terminal.Terminal.TheVariants.{Name, TypeWord, Int, If, Else, For, Trap, Number, Quoted, Raw, OptionLine, Other}
+use Rattle.jdf_lex.specs.declared.terminal.Terminal.TheVariants.{Extern, Body, End, Read, Write, Rw, Ctl, New, Null, LeftParen, RightParen}
+use Rattle.jdf_lex.specs.declared.terminal.Terminal.TheVariants.{LeftBracket, RightBracket, LeftBrace, RightBrace, Comma, Semicolon, Colon, Question}
+use Rattle.jdf_lex.specs.declared.terminal.Terminal.TheVariants.{Assign, Dots, Inward, Outward, Plus, Minus, Star, Slash, Percent, Equal, NotEqual}
+use Rattle.jdf_lex.specs.declared.terminal.Terminal.TheVariants.{Less, AtMost, Greater, AtLeast, And, AndAnd, Or, OrOr, Not}
 use Rattle.jdf_lex.specs.contracts.terminal.Terminal.{the_type}
 use Rattle.jdf_lex.specs.Terminals.{number_of, is}
 

@@ -1,5 +1,6 @@
 -- Steps of the scanner from unit to unit, and its results.
-use Rattle.std.proofs.Common.{◌≡◌, ℕ, ◌+◌, ◌-◌, ◌<◌, ◌≤◌, true, List, [], ◌∷◌, ◌++◌, length, take, drop, get_or, refl, sym, ◌∙◌, ap, subst, inl, inr, arith, length-drop}
+use Rattle.std.proofs.Common.{◌≡◌, ℕ, ◌+◌, ◌-◌, ◌<◌, ◌≤◌, true, List, [], ◌∷◌, ◌++◌, length, take, drop, get_or, refl, sym, ◌∙◌, ap, subst, inl, inr}
+use Rattle.std.proofs.Common.{arith, length-drop}
 use Rattle.std.proofs.Math.Seq.{take-add}
 use Rattle.std.proofs.lemmas.List.{append-nil, take-append-drop, drop-drop, drop_more, drop_all, length-take-le, length_push, take_rest}
 use Rattle.jdf_lex.specs.declared.cursor.Cursor.{Cursor}
@@ -17,7 +18,8 @@ use Rattle.jdf_lex.proofs.Fronts.{front_found, front_none, Found, found_unit, no
 use Rattle.std.proofs.lemmas.Bool.{false_from_ne_true}
 
 -- Two scans, of which the second begins at the end of the first, are one scan.
-joined : (mid mid_left front left before rest : List ℕ) (ts us : List Token) → IsLexedTo mid mid_left before rest ts → IsLexedTo front left mid mid_left us → IsLexedTo front left before rest (ts ++ us)
+joined : (mid mid_left front left before rest : List ℕ) (ts us : List Token) → IsLexedTo mid mid_left before rest ts
+    → IsLexedTo front left mid mid_left us → IsLexedTo front left before rest (ts ++ us)
 joined mid mid_left front left before rest ts us (nothing_more) second = second
 joined mid mid_left front left before rest ts us (dropped_then _ _ _ p w x dropped is unit on) second =
     dropped_then before rest (ts ++ us) p w x dropped is unit (joined mid mid_left front left (before ++ w) x ts us on second)
@@ -64,7 +66,8 @@ no_token_is_dropped (TokenOf kind) never = absurd (never kind refl)
 
 -- ---- a step
 
-step_dropped : (text : List ℕ) (i : ℕ) (p : LexicalUnit) (n : ℕ) → IsHere text i p n → is_dropped p ≡ true → IsLexedTo (take (i + n) text) (drop (i + n) text) (take i text) (drop i text) []
+step_dropped : (text : List ℕ) (i : ℕ) (p : LexicalUnit) (n : ℕ) → IsHere text i p n → is_dropped p ≡ true
+    → IsLexedTo (take (i + n) text) (drop (i + n) text) (take i text) (drop i text) []
 step_dropped text i p n here dropped =
     let word = take n (drop i text) in
     let left = drop (i + n) text in
@@ -98,7 +101,8 @@ token_made text here kind n cursor found =
 
 -- ---- the state before the next unit
 
-pub scanned_at_start : (text : List ℕ) (tokens : List Token) (here : Cursor) → tokens ≡ [] → here.index ≡ 0 → here.spot ≡ record { line = 1; column = 1 } → IsScanned text tokens here
+pub scanned_at_start : (text : List ℕ) (tokens : List Token) (here : Cursor) → tokens ≡ [] → here.index ≡ 0
+    → here.spot ≡ record { line = 1; column = 1 } → IsScanned text tokens here
 scanned_at_start text tokens here none index spot =
     let start : IsScanned text [] (record { index = 0; spot = record { line = 1; column = 1 } }) =
     record { cursor = record { within = omega arith; spot = refl }; at_most = omega arith; lexed = nothing_more } in
@@ -106,11 +110,13 @@ scanned_at_start text tokens here none index spot =
     (let same : here ≡ record { index = 0; spot = record { line = 1; column = 1 } } = (λ i. record { index = index i; spot = spot i }) in
     subst (λ (c : Cursor). IsScanned text [] c) (sym same) start)
 
-pub scanned_dropped : (text : List ℕ) (tokens : List Token) (here next : Cursor) (p : LexicalUnit) (n : ℕ) → IsScanned text tokens here → front_unit (drop here.index text) ≡ found_unit p n → is_dropped p ≡ true
+pub scanned_dropped : (text : List ℕ) (tokens : List Token) (here next : Cursor) (p : LexicalUnit) (n : ℕ)
+    → IsScanned text tokens here → front_unit (drop here.index text) ≡ found_unit p n → is_dropped p ≡ true
     → IsCursorIn text next → next.index ≡ here.index + n → IsScanned text tokens next
 scanned_dropped text tokens here next p n state found dropped cursor index =
     let is = unit_here text here.index p n state.cursor.within found in
-    let on = joined (take here.index text) (drop here.index text) (take (here.index + n) text) (drop (here.index + n) text) [] text tokens [] state.lexed (step_dropped text here.index p n is dropped) in
+    let on = joined (take here.index text) (drop here.index text) (take (here.index + n) text)
+    (drop (here.index + n) text) [] text tokens [] state.lexed (step_dropped text here.index p n is dropped) in
     record {
       cursor = cursor;
       at_most = state.at_most;
@@ -119,14 +125,17 @@ scanned_dropped text tokens here next p n state found dropped cursor index =
           (subst (λ ts. IsLexedTo (take (here.index + n) text) (drop (here.index + n) text) [] text ts) (append-nil tokens) on);
     }
 
-pub scanned_token : (text : List ℕ) (tokens more : List Token) (here next : Cursor) (kind : TokenKind) (n : ℕ) → IsScanned text tokens here → front_unit (drop here.index text) ≡ found_unit (TokenOf kind) n
+pub scanned_token : (text : List ℕ) (tokens more : List Token) (here next : Cursor) (kind : TokenKind) (n : ℕ)
+    → IsScanned text tokens here → front_unit (drop here.index text) ≡ found_unit (TokenOf kind) n
     → length tokens < 1000000 → more ≡ tokens ++ token_here text here kind n ∷ []
     → IsCursorIn text next → next.index ≡ here.index + n → IsScanned text more next
 scanned_token text tokens more here next kind n state found at_most pushed cursor index =
     let token : Token = token_here text here kind n in
     let is = unit_here text here.index (TokenOf kind) n state.cursor.within found in
     let made = token_made text here kind n state.cursor is in
-    let on = joined (take here.index text) (drop here.index text) (take (here.index + n) text) (drop (here.index + n) text) [] text tokens (token ∷ []) state.lexed (step_token text here.index n token made) in
+    let on = joined (take here.index text) (drop here.index text) (take (here.index + n) text)
+    (drop (here.index + n) text) [] text tokens (token ∷ []) state.lexed
+    (step_token text here.index n token made) in
     let size : length (tokens ++ token ∷ []) ≡ length tokens + 1 = length_push tokens token in
     subst (λ ts. IsScanned text ts next) (sym pushed)
     (record {
@@ -140,8 +149,13 @@ scanned_token text tokens more here next kind n state found at_most pushed curso
 pub lexed_at_end : (text : List ℕ) (tokens : List Token) (here : Cursor) → IsScanned text tokens here → length text ≤ here.index → IsLexed text tokens here.spot
 lexed_at_end text tokens here state past =
     let none : drop here.index text ≡ [] = drop_all here.index text past in
-    let all : take here.index text ≡ text = sym (append-nil (take here.index text)) ∙ ap (λ z. take here.index text ++ z) (sym none) ∙ take-append-drop here.index text in
-    (subst (λ z. IsLexedTo z [] [] text tokens) all (subst (λ z. IsLexedTo (take here.index text) z [] text tokens) none state.lexed), state.cursor.spot ∙ ap spot_after all)
+    let all : take here.index text ≡ text = sym (append-nil (take here.index text))
+    ∙ ap (λ z. take here.index text ++ z) (sym none) ∙ take-append-drop here.index text in (
+      subst (λ z. IsLexedTo z [] [] text tokens) all
+          (subst (λ z. IsLexedTo (take here.index text) z [] text tokens) none state.lexed),
+      state.cursor.spot
+          ∙ ap spot_after all,
+    )
 
 pub unclosed_here : (rest : List ℕ) (b : ℕ) (bs : List ℕ) → rest ≡ b ∷ bs → front_unit rest ≡ nothing → IsUnclosed rest
 unclosed_here rest b bs is none =
@@ -152,7 +166,8 @@ unclosed_here rest b bs is none =
     } in
     subst (λ z. IsUnclosed z) (sym is) here
 
-pub fault_unclosed : (text : List ℕ) (tokens : List Token) (here : Cursor) → IsScanned text tokens here → here.index < length text → front_unit (drop here.index text) ≡ nothing
+pub fault_unclosed : (text : List ℕ) (tokens : List Token) (here : Cursor) → IsScanned text tokens here
+    → here.index < length text → front_unit (drop here.index text) ≡ nothing
     → IsTokenFault text (record { spot = here.spot; code = Unclosed })
 fault_unclosed text tokens here state within none = record {
   tokens = tokens;
@@ -160,10 +175,17 @@ fault_unclosed text tokens here state within none = record {
   left = drop here.index text;
   lexed = state.lexed;
   spot = state.cursor.spot;
-  wrong = inl (refl, unclosed_here (drop here.index text) (get_or text here.index 0) (drop (here.index + 1) text) (drop_more text here.index 0 within) none, state.at_most);
+  wrong = inl (
+    refl,
+    unclosed_here (drop here.index text) (get_or text here.index 0) (drop (here.index + 1) text)
+        (drop_more text here.index 0 within) none,
+    state.at_most,
+  );
 }
 
-pub fault_many : (text : List ℕ) (tokens : List Token) (here : Cursor) (kind : TokenKind) (n : ℕ) → IsScanned text tokens here → front_unit (drop here.index text) ≡ found_unit (TokenOf kind) n → 1000000 ≤ length tokens
+pub fault_many : (text : List ℕ) (tokens : List Token) (here : Cursor) (kind : TokenKind) (n : ℕ)
+    → IsScanned text tokens here → front_unit (drop here.index text) ≡ found_unit (TokenOf kind) n
+    → 1000000 ≤ length tokens
     → IsTokenFault text (record { spot = here.spot; code = TooManyTokens })
 fault_many text tokens here kind n state found many =
     let is = unit_here text here.index (TokenOf kind) n state.cursor.within found in
@@ -174,5 +196,16 @@ fault_many text tokens here kind n state found many =
       left = drop here.index text;
       lexed = state.lexed;
       spot = state.cursor.spot;
-      wrong = inr (refl, record { kind = kind; word = take n (drop here.index text); after = drop (here.index + n) text; whole = rest_of text here.index n; unit = is.unit }, all);
+      wrong = inr (
+        refl,
+        record {
+          kind = kind;
+          word = take n (drop here.index text);
+          after =
+              drop (here.index + n) text;
+          whole = rest_of text here.index n;
+          unit = is.unit;
+        },
+        all,
+      );
     }

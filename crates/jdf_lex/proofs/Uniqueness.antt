@@ -1,6 +1,7 @@
 -- A text has at most one list of tokens and at most one first fault. At most one unit is at a position, so two scans of
 -- a text agree as far as both go.
-use Rattle.std.proofs.Common.{◌≡◌, ℕ, ◌+◌, ◌<◌, ◌≤◌, ◌⊎◌, true, List, [], ◌∷◌, ◌++◌, length, Option, Some, None, refl, sym, ◌∙◌, ap, subst, inl, inr, arith, length-append}
+use Rattle.std.proofs.Common.{◌≡◌, ℕ, ◌+◌, ◌<◌, ◌≤◌, ◌⊎◌, true, List, [], ◌∷◌, ◌++◌, length, Option, Some, None, refl, sym, ◌∙◌, ap, subst, inl, inr}
+use Rattle.std.proofs.Common.{arith, length-append}
 use Rattle.std.proofs.lemmas.Bool.{both_ways, cases_lt, false≢true}
 use Rattle.std.proofs.lemmas.List.{append_cancel_left, append-nil}
 use Rattle.list_lemmas.proofs.Joins.{longer_front}
@@ -80,7 +81,8 @@ token_is_past left token p w x is unit dropped =
 -- ---- a step of a scan
 
 -- The rest of a scan after a dropped unit.
-after_dropped : (far last before rest : List ℕ) (us : List Token) (p : LexicalUnit) (w x : List ℕ) → HasNoDropped last → is_dropped p ≡ true → rest ≡ w ++ x → IsUnit p w x
+after_dropped : (far last before rest : List ℕ) (us : List Token) (p : LexicalUnit) (w x : List ℕ)
+    → HasNoDropped last → is_dropped p ≡ true → rest ≡ w ++ x → IsUnit p w x
     → IsLexedTo far last before rest us → IsLexedTo far last (before ++ w) x us
 after_dropped far last before rest us p w x past dropped is unit (nothing_more) = absurd (past p w x is unit dropped)
 after_dropped far last before rest us p w x past dropped is unit (dropped_then _ _ _ q v y _ whole other on) =
@@ -102,7 +104,8 @@ same_token before w x t u one other =
     λ i. record { terminal = terminal i; text = text i; start = start i; end = end i; spot = spot i }
 
 -- The rest of a scan after its first token.
-after_token : (far last before rest : List ℕ) (us : List Token) (t : Token) (w x : List ℕ) → HasNoDropped last → HasNoUnit last ⊎ (0 < length us) → rest ≡ w ++ x → IsToken before w x t
+after_token : (far last before rest : List ℕ) (us : List Token) (t : Token) (w x : List ℕ) → HasNoDropped last
+    → HasNoUnit last ⊎ (0 < length us) → rest ≡ w ++ x → IsToken before w x t
     → IsLexedTo far last before rest us → (vs : List Token) × (us ≡ t ∷ vs) × IsLexedTo far last (before ++ w) x vs
 after_token far last before rest us t w x past (inl final) is token (nothing_more) = absurd (final (TokenOf token.kind) w x is token.unit)
 after_token far last before rest us t w x past (inr some) is token (nothing_more) = absurd (omega arith)
@@ -143,7 +146,8 @@ no_more_units far last front left vs final (nothing_more) = record { none = refl
 no_more_units far last front left vs final (dropped_then _ _ _ p w x dropped is unit on) = absurd (final p w x is unit)
 no_more_units far last front left vs final (token_then _ _ _ t w x is token on) = absurd (final (TokenOf token.kind) w x is token.unit)
 
-next_token : (far last front left : List ℕ) (vs : List Token) → HasToken left → IsLexedTo far last front left vs → IsEmptyScan far last front left vs ⊎ (0 < length vs)
+next_token : (far last front left : List ℕ) (vs : List Token) → HasToken left → IsLexedTo far last front left vs
+    → IsEmptyScan far last front left vs ⊎ (0 < length vs)
 next_token far last front left vs token (nothing_more) = inl (record { none = refl; fronts = refl; lefts = refl })
 next_token far last front left vs token (dropped_then _ _ _ p w x dropped is unit on) = absurd (token_is_past left token p w x is unit dropped)
 next_token far last front left vs token (token_then _ _ _ t w x is other on) = inr (omega arith)
@@ -192,7 +196,8 @@ same_faults f g front other spot other_spot fronts code =
     let spots : f.spot ≡ g.spot = spot ∙ ap spot_after fronts ∙ sym other_spot in
     λ i. record { spot = spots i; code = code i }
 
-same_end : (text front left far last : List ℕ) (ts us : List Token) → HasNoUnit left → HasNoUnit last → IsLexedTo front left [] text ts → IsLexedTo far last [] text us → front ≡ far
+same_end : (text front left far last : List ℕ) (ts us : List Token) → HasNoUnit left → HasNoUnit last
+    → IsLexedTo front left [] text ts → IsLexedTo far last [] text us → front ≡ far
 same_end text front left far last ts us final other_final one other =
     let found = continues_after front left far last [] text ts us (no_unit_no_dropped last other_final) (inl other_final) one other in
     (no_more_units far last front left found.0 final found.2).fronts
@@ -215,20 +220,27 @@ one_fault text f g one other =
           elim other.wrong [
             | inl open_other ↦
                 same_faults f g one.front other.front one.spot other.spot
-                (same_end text one.front one.left other.front other.left one.tokens other.tokens (unclosed_is_final one.left open_one.1) (unclosed_is_final other.left open_other.1) one.lexed other.lexed)
+                (same_end text one.front one.left other.front other.left one.tokens other.tokens
+                (unclosed_is_final one.left open_one.1) (unclosed_is_final other.left open_other.1) one.lexed
+                other.lexed)
                 (open_one.0 ∙ sym open_other.0)
             | inr many_other ↦
                 absurd
-                (too_many one.front one.left other.front other.left text other.tokens one.tokens (unclosed_is_final one.left open_one.1) many_other.1 (omega (arith, open_one.2, many_other.2)) other.lexed one.lexed)
+                (too_many one.front one.left other.front other.left text other.tokens one.tokens
+                (unclosed_is_final one.left open_one.1) many_other.1 (omega (arith, open_one.2, many_other.2))
+                other.lexed one.lexed)
           ]
       | inr many_one ↦
           elim other.wrong [
             | inl open_other ↦
                 absurd
-                (too_many other.front other.left one.front one.left text one.tokens other.tokens (unclosed_is_final other.left open_other.1) many_one.1 (omega (arith, open_other.2, many_one.2)) one.lexed other.lexed)
+                (too_many other.front other.left one.front one.left text one.tokens other.tokens
+                (unclosed_is_final other.left open_other.1) many_one.1 (omega (arith, open_other.2, many_one.2))
+                one.lexed other.lexed)
             | inr many_other ↦
                 same_faults f g one.front other.front one.spot other.spot
-                (same_count text one.front one.left other.front other.left one.tokens other.tokens many_one.1 many_other.1 (many_one.2 ∙ sym many_other.2) one.lexed other.lexed)
+                (same_count text one.front one.left other.front other.left one.tokens other.tokens many_one.1
+                many_other.1 (many_one.2 ∙ sym many_other.2) one.lexed other.lexed)
                 (many_one.0 ∙ sym many_other.0)
           ]
     ]

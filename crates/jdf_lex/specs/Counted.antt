@@ -3,7 +3,9 @@
 -- Tested by: `body_limits.txt`, `too_many.txt`, `long_expressions.txt`.
 use Rattle.std.specs.Prelude.{ℕ, pred, Bool, ◌||◌}
 use Rattle.jdf_lex.specs.declared.terminal.Terminal.{Terminal}
-use Rattle.jdf_lex.specs.declared.terminal.Terminal.TheVariants.{Name, TypeWord, Int, If, Else, For, Trap, Number, Question, Plus, Minus, Star, Slash, Percent, Equal, NotEqual, Less, AtMost, Greater, AtLeast, And, AndAnd, Or, OrOr, Not}
+use Rattle.jdf_lex.specs.declared.terminal.Terminal.TheVariants.{Name, TypeWord, Int, If, Else, For, Trap, Number, Question, Plus, Minus, Star}
+use Rattle.jdf_lex.specs.declared.terminal.Terminal.TheVariants.{Slash, Percent, Equal, NotEqual, Less, AtMost, Greater, AtLeast, And, AndAnd, Or}
+use Rattle.jdf_lex.specs.declared.terminal.Terminal.TheVariants.{OrOr, Not}
 use Rattle.jdf_lex.specs.Terminals.{is, set}
 use Rattle.grammar_core.specs.Production.{Limit}
 use Rattle.grammar_core.specs.CountedLimit.{limit_one, limit_keeps, limit_stays}

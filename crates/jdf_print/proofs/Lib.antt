@@ -1,2 +1,3 @@
 pub mod Separated
 mod Lines
+pub mod CallerLemmas

@@ -5,14 +5,18 @@ use Rattle.jdf_print.specs.Fragments.{Fragment, token, blank, text, line, newlin
 
 class_text : (old : List ℕ) (head defs affinity flows priority body : List Fragment)
     → ((((((((old ++ 10 ∷ []) ++ text head) ++ text defs) ++ text affinity) ++ text flows) ++ text priority) ++ codes "BODY\n") ++ text body) ++ codes "END\n"
-    ≡ old ++ text (newline ∷ (head ++ (defs ++ (affinity ++ (flows ++ (priority ++ (line (token (codes "BODY") ∷ []) ++ (body ++ line (token (codes "END") ∷ [])))))))))
+    ≡ old ++ text (newline ∷ (head ++ (defs ++
+    (affinity ++ (flows ++ (priority ++
+    (line (token (codes "BODY") ∷ []) ++ (body ++ line (token (codes "END") ∷ [])))))))))
 class_text old head defs affinity flows priority body = simp (flat_map-append, append_assoc)
 
 -- The parts of a class, appended to `old` one after the other.
 pub class_written : (old a b c d e f g h : List ℕ) (head defs affinity flows priority body : List Fragment)
     → a ≡ old ++ 10 ∷ [] → b ≡ a ++ text head → c ≡ b ++ text defs → d ≡ c ++ text affinity → e ≡ d ++ text flows → f ≡ e ++ text priority
     → g ≡ f ++ codes "BODY\n" → h ≡ g ++ text body
-    → h ++ codes "END\n" ≡ old ++ text (newline ∷ (head ++ (defs ++ (affinity ++ (flows ++ (priority ++ (line (token (codes "BODY") ∷ []) ++ (body ++ line (token (codes "END") ∷ [])))))))))
+    → h ++ codes "END\n" ≡ old ++ text (newline ∷
+    (head ++ (defs ++ (affinity ++ (flows ++
+    (priority ++ (line (token (codes "BODY") ∷ []) ++ (body ++ line (token (codes "END") ∷ [])))))))))
 class_written old a b c d e f g h head defs affinity flows priority body ea eb ec ed ee ef eg eh =
     rw (eh, eg, ef, ee, ed, ec, eb, ea) (class_text old head defs affinity flows priority body)
 

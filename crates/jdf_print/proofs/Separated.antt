@@ -5,7 +5,8 @@ use Rattle.std.proofs.lemmas.List.{append-nil}
 use Rattle.std.proofs.lemmas.Grind.{flat_map-append}
 use Rattle.jdf_print.specs.Fragments.{Fragment, bytes_of, text, separated, line}
 
-pub separated_is : {A : Type 0} (s : List Fragment) (f : A → List Fragment) (x : A) (xs : List A) → separated s (map f (x ∷ xs)) ≡ f x ++ flat_map (λ a. s ++ f a) xs
+pub separated_is : {A : Type 0} (s : List Fragment) (f : A → List Fragment) (x : A) (xs : List A)
+    → separated s (map f (x ∷ xs)) ≡ f x ++ flat_map (λ a. s ++ f a) xs
 separated_is s f x [] = sym (append-nil (f x))
 separated_is s f x (y ∷ ys) =
     ap (λ (w : List Fragment). f x ++ (s ++ w)) (separated_is s f y ys)

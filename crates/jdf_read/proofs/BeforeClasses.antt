@@ -13,8 +13,7 @@ use Rattle.grammar_core.specs.Production.{star, opt}
 use Rattle.jdf_lex.specs.Sets.{one_of, starts, token_at}
 use Rattle.grammar_core.specs.Reading.{◌>>=◌, Read, nonterminal_at, reading}
 use Rattle.grammar_core.specs.Refusing.{ReadRefusal}
-use Rattle.grammar_core.proofs.Fuel.{nonterminal_is}
-use Rattle.grammar_core.proofs.Loops.{pair_with, applied, reading_consumes}
+use Rattle.grammar_core.proofs.CallerLemmas.{applied, nonterminal_is, pair_with, reading_consumes}
 use Rattle.jdf_tree.specs.declared.expression.Word.{Word}
 use Rattle.jdf_tree.specs.declared.part.Part.TheVariants.{Class}
 use Rattle.jdf_tree.specs.declared.tree.ClassTree.{ClassTree}
@@ -22,7 +21,8 @@ use Rattle.jdf_tree.specs.declared.tree.Jdf.{Jdf}
 use Rattle.jdf_tree.specs.Nonterminal.{a_file}
 use Rattle.jdf_tree.specs.GrammarParts.{any, name, word_of}
 use Rattle.jdf_tree.specs.ClassGrammar.{properties, head, class, is_no_right_bracket}
-use Rattle.jdf_tree.specs.Grammar.{productions, skip, class_and_skips, classes, without_globals, with_global, file_after_extern, file_after_option, file_after_properties, file_after_global, file}
+use Rattle.jdf_tree.specs.Grammar.{productions, skip, class_and_skips, classes, without_globals, with_global, file_after_extern, file_after_option}
+use Rattle.jdf_tree.specs.Grammar.{file_after_properties, file_after_global, file}
 use Rattle.jdf_read.specs.Next.{past, is_class, is_skip, leading}
 use Rattle.jdf_read.proofs.Parts.{with_rest}
 
@@ -50,7 +50,8 @@ first_of_three x = x.0
 abbrev none_of : Token → Option Word
 none_of x = None
 
-after_raw : (x b : Token) (raw : Read Token) (later : List Token → Read Jdf) → ((((raw >>= λ r. later r.1 >>= pair_with r.0) >>= pair_with b) >>= pair_with x) >>= applied last_of_four)
+after_raw : (x b : Token) (raw : Read Token) (later : List Token → Read Jdf)
+    → ((((raw >>= λ r. later r.1 >>= pair_with r.0) >>= pair_with b) >>= pair_with x) >>= applied last_of_four)
     ≡ (((((raw >>= pair_with b) >>= pair_with x) >>= applied first_of_three) >>= applied none_of) >>= λ a. later a.1 >>= applied (led a.0))
 after_raw x b (Err e) later = refl
 after_raw x b (Ok r) later = go (later r.1)
@@ -61,7 +62,8 @@ after_raw x b (Ok r) later = go (later r.1)
 
 extern_same : (x : Token) (quoted : Read Token) (raw : List Token → Read Token) (later : List Token → Read Jdf)
     → (((quoted >>= λ b. (raw b.1 >>= λ r. later r.1 >>= pair_with r.0) >>= pair_with b.0) >>= pair_with x) >>= applied last_of_four)
-    ≡ (((((quoted >>= λ b. raw b.1 >>= pair_with b.0) >>= pair_with x) >>= applied first_of_three) >>= applied none_of) >>= λ a. later a.1 >>= applied (led a.0))
+    ≡ (((((quoted >>= λ b. raw b.1 >>= pair_with b.0) >>= pair_with x) >>= applied first_of_three) >>= applied
+    none_of) >>= λ a. later a.1 >>= applied (led a.0))
 extern_same x (Ok b) raw later = after_raw x b.0 (raw b.1) later
 extern_same x (Err e) raw later = refl
 
@@ -96,7 +98,8 @@ abbrev props : Read Token → (List Token → Read (List Token)) → (List Token
 props left tokens right = (left >>= λ b. ((tokens b.1 >>= λ c. right c.1 >>= pair_with c.0) >>= applied front_of) >>= pair_with b.0) >>= applied back_of
 
 properties_same : (w : Word) (left : Read Token) (tokens : List Token → Read (List Token)) (right : List Token → Read Token) (later : List Token → Read Jdf)
-    → (((left >>= λ b. (tokens b.1 >>= λ c. (right c.1 >>= λ d. later d.1 >>= pair_with d.0) >>= pair_with c.0) >>= pair_with b.0) >>= pair_with w) >>= applied last_of_five)
+    → (((left >>= λ b. (tokens b.1 >>= λ c. (right c.1 >>= λ d. later d.1 >>= pair_with d.0) >>= pair_with c.0) >>=
+    pair_with b.0) >>= pair_with w) >>= applied last_of_five)
     ≡ ((((props left tokens right >>= applied Some) >>= pair_with w) >>= applied global_of) >>= λ a. later a.1 >>= applied (led a.0))
 properties_same w (Err e) tokens right later = refl
 properties_same w (Ok b) tokens right later = after_left (tokens b.1)
@@ -108,13 +111,16 @@ properties_same w (Ok b) tokens right later = after_left (tokens b.1)
 
     after_tokens : (c : List Token) (r : Read Token)
         → (((((r >>= λ d. later d.1 >>= pair_with d.0) >>= pair_with c) >>= pair_with b.0) >>= pair_with w) >>= applied last_of_five)
-        ≡ (((((((r >>= pair_with c) >>= applied front_of) >>= pair_with b.0) >>= applied back_of) >>= applied Some) >>= pair_with w) >>= applied global_of >>= λ a. later a.1 >>= applied (led a.0))
+        ≡ (((((((r >>= pair_with c) >>= applied front_of) >>= pair_with b.0) >>= applied back_of) >>= applied Some)
+        >>= pair_with w) >>= applied global_of >>= λ a. later a.1 >>= applied (led a.0))
     after_tokens c (Ok d) = after_right c d.0 (later d.1)
     after_tokens c (Err e) = refl
 
     after_left : (t : Read (List Token))
         → ((((t >>= λ c. (right c.1 >>= λ d. later d.1 >>= pair_with d.0) >>= pair_with c.0) >>= pair_with b.0) >>= pair_with w) >>= applied last_of_five)
-        ≡ (((((((t >>= λ c. right c.1 >>= pair_with c.0) >>= applied front_of) >>= pair_with b.0) >>= applied back_of) >>= applied Some) >>= pair_with w) >>= applied global_of >>= λ a. later a.1 >>= applied (led a.0))
+        ≡ (((((((t >>= λ c. right c.1 >>= pair_with c.0) >>= applied front_of) >>= pair_with b.0) >>= applied
+        back_of) >>= applied Some) >>= pair_with w) >>= applied global_of >>= λ a. later a.1 >>= applied
+        (led a.0))
     after_left (Ok c) = after_tokens c.0 (right c.1)
     after_left (Err e) = refl
 
@@ -152,7 +158,9 @@ classes_alone s = reading productions classes s >>= applied without_globals
 
 -- the choices of a file, by the terminal of its first token and the terminals of the second
 abbrev chosen : Bool → Bool → Bool → Bool → Bool → Read Jdf → Read Jdf → Read Jdf → Read Jdf → Read Jdf → Read Jdf
-chosen extern option is_named paren bracket e o c p g = cond extern e (cond option o (cond (cond (is_named || is_named) (is_named && paren) is_named) c (cond (cond is_named (is_named && bracket) is_named) p g)))
+chosen extern option is_named paren bracket e o c p g =
+    cond extern e (cond option o (cond (cond (is_named || is_named) (is_named && paren) is_named) c
+    (cond (cond is_named (is_named && bracket) is_named) p g)))
 
 abbrev paren_next : List Token → Bool
 paren_next s = starts (is terminal.LeftParen) s
@@ -162,27 +170,37 @@ bracket_next s = starts (is terminal.LeftBracket) s
 
 file_shape : (x : Token) (s : List Token) → reading productions file (x ∷ s)
     ≡ chosen (is terminal.Extern (terminal_of x)) (is terminal.OptionLine (terminal_of x)) (is_name (terminal_of x)) (paren_next s) (bracket_next s)
-    (reading productions file_after_extern (x ∷ s)) (reading productions file_after_option (x ∷ s)) (classes_alone (x ∷ s)) (reading productions file_after_properties (x ∷ s)) (reading productions file_after_global (x ∷ s))
+    (reading productions file_after_extern (x ∷ s)) (reading productions file_after_option (x ∷ s))
+    (classes_alone (x ∷ s)) (reading productions file_after_properties (x ∷ s))
+    (reading productions file_after_global (x ∷ s))
 unfolding file file_after_extern file_after_option file_after_properties file_after_global classes class_and_skips class head
 file_shape x s = refl
 
-extern_led : (x : Token) (s : List Token) → TerminalIs (terminal_of x) true false false → reading productions file_after_extern (x ∷ s) ≡ led_by (reading productions leading (x ∷ s))
+extern_led : (x : Token) (s : List Token) → TerminalIs (terminal_of x) true false false
+    → reading productions file_after_extern (x ∷ s) ≡ led_by (reading productions leading (x ∷ s))
 unfolding file_after_extern leading skip opened
 extern_led x s t = rw t.extern_is (extern_same x (token_at (is terminal.Quoted) s) (token_at (is terminal.Raw)) (nonterminal_at productions a_file))
 
-option_led : (x : Token) (s : List Token) → TerminalIs (terminal_of x) false true false → reading productions file_after_option (x ∷ s) ≡ led_by (reading productions leading (x ∷ s))
+option_led : (x : Token) (s : List Token) → TerminalIs (terminal_of x) false true false
+    → reading productions file_after_option (x ∷ s) ≡ led_by (reading productions leading (x ∷ s))
 unfolding file_after_option leading skip opened
 option_led x s t = rw (t.extern_is, t.option_is) (option_same x (nonterminal_at productions a_file s))
 
-other_led : (x : Token) (s : List Token) → TerminalIs (terminal_of x) false false false → reading productions file_after_global (x ∷ s) ≡ led_by (reading productions leading (x ∷ s))
+other_led : (x : Token) (s : List Token) → TerminalIs (terminal_of x) false false false
+    → reading productions file_after_global (x ∷ s) ≡ led_by (reading productions leading (x ∷ s))
 unfolding file_after_global leading skip
 other_led x s t = rw (t.extern_is, t.option_is, t.named_is) refl
 
-properties_led : (x : Token) (s : List Token) → TerminalIs (terminal_of x) false false true → bracket_next s ≡ true → reading productions file_after_properties (x ∷ s) ≡ led_by (reading productions leading (x ∷ s))
+properties_led : (x : Token) (s : List Token) → TerminalIs (terminal_of x) false false true → bracket_next s ≡ true
+    → reading productions file_after_properties (x ∷ s) ≡ led_by (reading productions leading (x ∷ s))
 unfolding file_after_properties leading skip properties opened
-properties_led x s t b = rw (t.extern_is, t.option_is, t.named_is, b) (properties_same (word_of x) (token_at (is terminal.LeftBracket) s) (reading productions (star any (one_of is_no_right_bracket))) (token_at (is terminal.RightBracket)) (nonterminal_at productions a_file))
+properties_led x s t b = rw (t.extern_is, t.option_is, t.named_is, b)
+    (properties_same (word_of x) (token_at (is terminal.LeftBracket) s)
+    (reading productions (star any (one_of is_no_right_bracket))) (token_at (is terminal.RightBracket))
+    (nonterminal_at productions a_file))
 
-global_led : (x : Token) (s : List Token) → TerminalIs (terminal_of x) false false true → bracket_next s ≡ false → reading productions file_after_global (x ∷ s) ≡ led_by (reading productions leading (x ∷ s))
+global_led : (x : Token) (s : List Token) → TerminalIs (terminal_of x) false false true → bracket_next s ≡ false
+    → reading productions file_after_global (x ∷ s) ≡ led_by (reading productions leading (x ∷ s))
 unfolding file_after_global leading skip properties opened
 global_led x s t b = rw (t.extern_is, t.option_is, t.named_is, b) (global_same x (nonterminal_at productions a_file s))
 
@@ -190,19 +208,26 @@ global_led x s t b = rw (t.extern_is, t.option_is, t.named_is, b) (global_same x
 abbrev either : Bool → Bool → Read Jdf → Read Jdf → Read Jdf
 either is_named paren c l = cond (is_named && paren) c l
 
-by_kind : (is_named paren bracket : Bool) (e o c p g l : Read Jdf) → is_named ≡ true → (bracket ≡ true → p ≡ l) → (bracket ≡ false → g ≡ l) → chosen false false is_named paren bracket e o c p g ≡ either is_named paren c l
+by_kind : (is_named paren bracket : Bool) (e o c p g l : Read Jdf) → is_named ≡ true → (bracket ≡ true → p ≡ l)
+    → (bracket ≡ false → g ≡ l) → chosen false false is_named paren bracket e o c p g ≡ either is_named paren c l
 by_kind true true bracket e o c p g l n h k = refl
 by_kind true false true e o c p g l n h k = h refl
 by_kind true false false e o c p g l n h k = k refl
 by_kind false paren bracket e o c p g l n h k = absurd cc
 
-file_by : (x : Token) (s : List Token) → Kinds (terminal_of x) → reading productions file (x ∷ s) ≡ either (is_name (terminal_of x)) (paren_next s) (classes_alone (x ∷ s)) (led_by (reading productions leading (x ∷ s)))
+file_by : (x : Token) (s : List Token) → Kinds (terminal_of x)
+    → reading productions file (x ∷ s) ≡ either (is_name (terminal_of x)) (paren_next s) (classes_alone (x ∷ s))
+    (led_by (reading productions leading (x ∷ s)))
 file_by x s (an_extern t) = file_shape x s ∙ rw (t.extern_is, t.named_is) (extern_led x s t)
 file_by x s (an_option t) = file_shape x s ∙ rw (t.extern_is, t.option_is, t.named_is) (option_led x s t)
 file_by x s (another t) = file_shape x s ∙ rw (t.extern_is, t.option_is, t.named_is) (other_led x s t)
 file_by x s (a_name t) =
     file_shape x s
-    ∙ rw (t.extern_is, t.option_is) (by_kind (is_name (terminal_of x)) (paren_next s) (bracket_next s) (reading productions file_after_extern (x ∷ s)) (reading productions file_after_option (x ∷ s)) (classes_alone (x ∷ s)) (reading productions file_after_properties (x ∷ s)) (reading productions file_after_global (x ∷ s)) (led_by (reading productions leading (x ∷ s))) t.named_is (properties_led x s t) (global_led x s t))
+    ∙ rw (t.extern_is, t.option_is) (by_kind (is_name (terminal_of x)) (paren_next s) (bracket_next s)
+    (reading productions file_after_extern (x ∷ s)) (reading productions file_after_option (x ∷ s))
+    (classes_alone (x ∷ s)) (reading productions file_after_properties (x ∷ s))
+    (reading productions file_after_global (x ∷ s)) (led_by (reading productions leading (x ∷ s))) t.named_is
+    (properties_led x s t) (global_led x s t))
 
 file_reads : (s : List Token) → reading productions file s ≡ cond (is_class s) (classes_alone s) (led_by (reading productions leading s))
 unfolding file file_after_extern file_after_option file_after_properties file_after_global leading skip
@@ -238,33 +263,46 @@ one_more : (front : List Word) (a : Option Word) (r : Read Jdf) → with_front f
 unfolding with_front
 one_more front None (Ok x) = refl
 one_more front None (Err e) = refl
-one_more front (Some name) (Ok x) = ap (λ (l : List Word). Ok (record { globals = l; classes = x.0.classes }, x.1)) (sym (append_assoc front (name ∷ []) x.0.globals))
+one_more front (Some name) (Ok x) = ap (λ (l : List Word). Ok (record { globals = l; classes = x.0.classes }, x.1))
+    (sym (append_assoc front (name ∷ []) x.0.globals))
 one_more front (Some name) (Err e) = refl
 
-pub file_goes_on : (front : List Word) (s : List Token) (a : Option Word) (next : List Token) (total : Read Jdf) → is_class s ≡ false → reading productions leading s ≡ Ok (a, next)
+pub file_goes_on : (front : List Word) (s : List Token) (a : Option Word) (next : List Token) (total : Read Jdf)
+    → is_class s ≡ false → reading productions leading s ≡ Ok (a, next)
     → with_front front (opened s) ≡ total → with_front (longer_by front a) (opened next) ≡ total
 file_goes_on front s a next total c e before =
     sym (ap (λ (r : Read Jdf). with_front front r) (opened_step s) ∙ rw (c, e) (one_more front a (opened next))) ∙ before
 
 -- the same for a skipped part, and for a global
-pub skipped_goes_on : (front : List Word) (s next : List Token) (total : Read Jdf) → is_class s ≡ false → reading productions leading s ≡ Ok (None, next) → with_front front (opened s) ≡ total → with_front front (opened next) ≡ total
+pub skipped_goes_on : (front : List Word) (s next : List Token) (total : Read Jdf) → is_class s ≡ false
+    → reading productions leading s ≡ Ok (None, next) → with_front front (opened s) ≡ total
+    → with_front front (opened next) ≡ total
 skipped_goes_on front s next total c e before = file_goes_on front s None next total c e before
 
-pub global_goes_on : (front : List Word) (s : List Token) (w : Word) (next : List Token) (total : Read Jdf) (new : List Word) → new ≡ front ++ w ∷ [] → is_class s ≡ false → reading productions leading s ≡ Ok (Some w, next)
+pub global_goes_on : (front : List Word) (s : List Token) (w : Word) (next : List Token) (total : Read Jdf)
+    (new : List Word) → new ≡ front ++ w ∷ [] → is_class s ≡ false
+    → reading productions leading s ≡ Ok (Some w, next)
     → with_front front (opened s) ≡ total → with_front new (opened next) ≡ total
 global_goes_on front s w next total new n c e before = rw n (file_goes_on front s (Some w) next total c e before)
 
-pub file_fails : (e : ReadRefusal) (front : List Word) (s : List Token) (total : Read Jdf) → is_class s ≡ false → ReturnsRefusal e (reading productions leading s) → with_front front (opened s) ≡ total → ReturnsRefusal e total
+pub file_fails : (e : ReadRefusal) (front : List Word) (s : List Token) (total : Read Jdf) → is_class s ≡ false
+    → ReturnsRefusal e (reading productions leading s) → with_front front (opened s) ≡ total
+    → ReturnsRefusal e total
 unfolding with_front
 file_fails errors.OutOfMemory front s total c f before = tt
 file_fails (errors.Fault x) front s total c f before = sym before ∙ (ap (λ (r : Read Jdf). with_front front r) (opened_step s) ∙ rw (c, f) refl)
 
-pub file_ends : (front : List Word) (s : List Token) (found : List ClassTree) (next : List Token) (total : Read Jdf) → is_class s ≡ true → reading productions classes s ≡ Ok (found, next) → with_front front (opened s) ≡ total → total ≡ Ok (record { globals = front; classes = found }, next)
+pub file_ends : (front : List Word) (s : List Token) (found : List ClassTree) (next : List Token) (total : Read Jdf)
+    → is_class s ≡ true → reading productions classes s ≡ Ok (found, next) → with_front front (opened s) ≡ total
+    → total ≡ Ok (record { globals = front; classes = found }, next)
 unfolding with_front
 file_ends front s found next total c e before =
-    sym before ∙ (ap (λ (r : Read Jdf). with_front front r) (opened_step s) ∙ rw (c, e) (ap (λ (l : List Word). Ok (record { globals = l; classes = found }, next)) (append-nil front)))
+    sym before ∙ (ap (λ (r : Read Jdf). with_front front r) (opened_step s)
+    ∙ rw (c, e) (ap (λ (l : List Word). Ok (record { globals = l; classes = found }, next)) (append-nil front)))
 
-pub file_stops : (e : ReadRefusal) (front : List Word) (s : List Token) (total : Read Jdf) → is_class s ≡ true → ReturnsRefusal e (reading productions classes s) → with_front front (opened s) ≡ total → ReturnsRefusal e total
+pub file_stops : (e : ReadRefusal) (front : List Word) (s : List Token) (total : Read Jdf) → is_class s ≡ true
+    → ReturnsRefusal e (reading productions classes s) → with_front front (opened s) ≡ total
+    → ReturnsRefusal e total
 unfolding with_front
 file_stops errors.OutOfMemory front s total c f before = tt
 file_stops (errors.Fault x) front s total c f before = sym before ∙ (ap (λ (r : Read Jdf). with_front front r) (opened_step s) ∙ rw (c, f) refl)
@@ -275,14 +313,20 @@ leading_moves s a next e = reading_consumes productions leading refl s a next e
 
 -- ---- how one part is read
 
-leading_is : (s : List Token) → reading productions leading s ≡ cond (starts is_skip s) (reading productions skip s >>= applied none_of) ((reading productions (name Class) s >>= λ a. reading productions (opt properties) a.1 >>= pair_with a.0) >>= applied global_of)
+leading_is : (s : List Token) → reading productions leading s
+    ≡ cond (starts is_skip s) (reading productions skip s >>= applied none_of)
+    ((reading productions (name Class) s >>= λ a. reading productions (opt properties) a.1 >>= pair_with a.0) >>=
+    applied global_of)
 unfolding leading skip
 leading_is s = refl
 
-pub leading_reads : (s : List Token) → reading productions leading s ≡ cond (starts is_skip s) (past skip s >>= λ r. with_rest None r) (reading productions (name Class) s >>= λ a. past (opt properties) a.1 >>= λ r. with_rest (Some a.0) r)
+pub leading_reads : (s : List Token) → reading productions leading s
+    ≡ cond (starts is_skip s) (past skip s >>= λ r. with_rest None r)
+    (reading productions (name Class) s >>= λ a. past (opt properties) a.1 >>= λ r. with_rest (Some a.0) r)
 leading_reads s = leading_is s ∙ go (starts is_skip s) (reading productions skip s) (reading productions (name Class) s)
   where
-    with_properties : (w : Word) (r : Read (Option (List Token))) → ((r >>= pair_with w) >>= applied global_of) ≡ ((r >>= λ x. Ok x.1) >>= λ t. with_rest (Some w) t)
+    with_properties : (w : Word) (r : Read (Option (List Token)))
+        → ((r >>= pair_with w) >>= applied global_of) ≡ ((r >>= λ x. Ok x.1) >>= λ t. with_rest (Some w) t)
     with_properties w (Ok x) = refl
     with_properties w (Err e) = refl
 

@@ -11,14 +11,15 @@ use Rattle.jdf_lex.specs.Sets.{pick, starts}
 use Rattle.grammar_core.specs.Reading.{Read, ◌>>=◌, first, picks, reading}
 use Rattle.grammar_core.specs.Reading as numbered
 use Rattle.grammar_core.specs.Terminals as terminals
-use Rattle.grammar_core.proofs.Sets.{alike_at}
-use Rattle.grammar_core.proofs.Loops.{pair_with, applied}
+use Rattle.grammar_core.proofs.CallerLemmas.{alike_at, applied, pair_with}
 use Rattle.term_core.specs.declared.direction.Direction.{Direction}
 use Rattle.jdf_tree.specs.declared.expression.Word.{Word}
 use Rattle.jdf_tree.specs.declared.tree.DepTree.{DepTree}
 use Rattle.jdf_tree.specs.declared.part.Part.TheVariants.{Class}
-use Rattle.jdf_tree.specs.ExpressionGrammar.{number, parens, reference, signed, unary, product, sum, relation, equality, conjunction, disjunction, expr, outer, guard}
-use Rattle.jdf_tree.specs.ClassGrammar.{argument, arguments, called, target, Choice, unguarded, guarded, may_follow_target_name, arrow, datatype, dependence_of, dependence, parameters, properties}
+use Rattle.jdf_tree.specs.ExpressionGrammar.{number, parens, reference, signed, unary, product, sum, relation, equality, conjunction, disjunction}
+use Rattle.jdf_tree.specs.ExpressionGrammar.{expr, outer, guard}
+use Rattle.jdf_tree.specs.ClassGrammar.{argument, arguments, called, target, Choice, unguarded, guarded, may_follow_target_name, arrow, datatype}
+use Rattle.jdf_tree.specs.ClassGrammar.{dependence_of, dependence, parameters, properties}
 use Rattle.jdf_tree.specs.GrammarParts.{names}
 use Rattle.jdf_tree.specs.Grammar.{productions, begins_operand}
 use Rattle.jdf_read.specs.Next.{is_target}
@@ -51,7 +52,8 @@ pub target_begins : (s : List Token) → picks (first unguarded) (first guarded)
 target_begins [] = refl
 target_begins (x ∷ s) = rw (target_goes_on s) (target_begins_by (starts is_name s || starts (is terminal.LeftParen) s) x)
 
-pub choice_reads : (s : List Token) → reading productions (pick may_follow_target_name unguarded guarded) s ≡ cond (is_target s) (reading productions unguarded s) (reading productions guarded s)
+pub choice_reads : (s : List Token) → reading productions (pick may_follow_target_name unguarded guarded) s
+    ≡ cond (is_target s) (reading productions unguarded s) (reading productions guarded s)
 choice_reads s = rw (target_begins s) refl
 
 -- ---- dependences
@@ -62,7 +64,8 @@ datatype_begins s = refl
 
 -- three productions, one after another
 pub thrice : {A B C D : Type 0} (r : Read A) (q : List Token → Read B) (p : List Token → Read C) (f : A × (B × C) → D)
-    → ((r >>= λ a. (q a.1 >>= λ b. p b.1 >>= pair_with b.0) >>= pair_with a.0) >>= applied f) ≡ (r >>= λ a. q a.1 >>= λ b. p b.1 >>= applied (λ (c : C). f (a.0, (b.0, c))))
+    → ((r >>= λ a. (q a.1 >>= λ b. p b.1 >>= pair_with b.0) >>= pair_with a.0) >>= applied f)
+    ≡ (r >>= λ a. q a.1 >>= λ b. p b.1 >>= applied (λ (c : C). f (a.0, (b.0, c))))
 thrice {A} {B} {C} {D} (Ok a) q p f = go (q a.1)
   where
     last : (b : B) (c : Read C) → (((c >>= pair_with b) >>= pair_with a.0) >>= applied f) ≡ (c >>= applied (λ (z : C). f (a.0, (b, z))))
@@ -77,9 +80,13 @@ thrice (Err e) q p f = refl
 abbrev after_arrow : Direction → Choice → Option Word → DepTree
 after_arrow direction x datatype = dependence_of (direction, (x, datatype))
 
-pub dependence_reads : (s : List Token) → reading productions dependence s ≡ (reading productions arrow s >>= λ a. reading productions (pick may_follow_target_name unguarded guarded) a.1 >>= λ b. reading productions (opt datatype) b.1 >>= applied (λ c. after_arrow a.0 b.0 c))
+pub dependence_reads : (s : List Token) → reading productions dependence s
+    ≡ (reading productions arrow s >>= λ a. reading productions (pick may_follow_target_name unguarded guarded) a.1
+    >>= λ b. reading productions (opt datatype) b.1 >>= applied (λ c. after_arrow a.0 b.0 c))
 unfolding dependence
-dependence_reads s = thrice (reading productions arrow s) (reading productions (pick may_follow_target_name unguarded guarded)) (reading productions (opt datatype)) dependence_of
+dependence_reads s = thrice (reading productions arrow s)
+    (reading productions (pick may_follow_target_name unguarded guarded)) (reading productions (opt datatype))
+    dependence_of
 
 -- ---- classes
 

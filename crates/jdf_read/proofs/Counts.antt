@@ -2,7 +2,7 @@
 use Rattle.std.proofs.Common.{◌≡◌, ℕ, suc, ◌<◌, ◌≤◌, ◌-◌, List, [], ◌∷◌, ◌++◌, length, Ok, ap, ◌∙◌, arith}
 use Rattle.grammar_core.specs.declared.token.Token.{Token}
 use Rattle.grammar_core.specs.Reading.{reading}
-use Rattle.grammar_core.proofs.Loops.{so_far}
+use Rattle.grammar_core.proofs.CallerLemmas.{so_far}
 use Rattle.jdf_lex.specs.Codes.{TooManyClasses}
 use Rattle.jdf_tree.specs.declared.tree.ClassTree.{ClassTree}
 use Rattle.jdf_tree.specs.Grammar.{productions, class_and_skips, classes}
@@ -15,7 +15,8 @@ pub record First (s next : List Token) (list : List ClassTree) : Type 0 where
   pub at_most : length list ≤ 64
   pub some : 1 ≤ length list
 
-pub first_within : (s : List Token) (x : ClassTree) (next : List Token) (empty list : List ClassTree) → empty ≡ [] → list ≡ empty ++ x ∷ [] → reading productions class_and_skips s ≡ Ok (x, next) → First s next list
+pub first_within : (s : List Token) (x : ClassTree) (next : List Token) (empty list : List ClassTree) → empty ≡ []
+    → list ≡ empty ++ x ∷ [] → reading productions class_and_skips s ≡ Ok (x, next) → First s next list
 first_within s x next empty list none added read =
     let alone : list ≡ [] ++ x ∷ [] = added ∙ ap (λ (l : List ClassTree). l ++ x ∷ []) none in
     let one : length list ≡ 1 = ap length alone in

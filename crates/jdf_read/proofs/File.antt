@@ -36,7 +36,8 @@ read_is text lexed slice jdf at_most_bytes utf8 is slices e =
 
 -- the fault that reading met is the first one of the text
 pub fault_is_named : (text : List ℕ) (lexed : Lexed) (slice : List Token) (left : ℕ) (code : Code) (f : JdfFault) → length text ≤ 16777216 → IsUtf8 text
-    → IsLexed text lexed.tokens lexed.end × (length lexed.tokens ≤ 1000000) → slice ≡ lexed.tokens → whole productions file slice ≡ Err (fault_from_end left code)
+    → IsLexed text lexed.tokens lexed.end × (length lexed.tokens ≤ 1000000) → slice ≡ lexed.tokens
+    → whole productions file slice ≡ Err (fault_from_end left code)
     → ((token : Token) → slice_get lexed.tokens (length lexed.tokens - left) ≡ Some token → f ≡ record { spot = token.spot; code = code_at_token code })
     → (slice_get lexed.tokens (length lexed.tokens - left) ≡ None → f ≡ record { spot = lexed.end; code = jdf.Truncated }) → IsJdfFault text f
 fault_is_named text lexed slice left code f at_most_bytes utf8 is slices e at_token at_end =
@@ -47,7 +48,14 @@ fault_is_named text lexed slice left code f at_most_bytes utf8 is slices e at_to
       end = lexed.end;
       lexed = is.0;
       tokens_at_most = is.1;
-      fault_is = record { token_index = token_index; code = code; first = faulty lexed.tokens left code (ap (whole productions file) (sym slices) ∙ e); fault_is = go (slice_get lexed.tokens token_index) refl };
+      fault_is = record {
+        token_index = token_index;
+        code = code;
+        first =
+            faulty lexed.tokens left code (ap (whole productions file) (sym slices) ∙ e);
+        fault_is =
+            go (slice_get lexed.tokens token_index) refl;
+      };
     })))
   where
     token_index : ℕ
@@ -72,7 +80,8 @@ at_most n m h = go (nat_lt m n) refl
     go true e = absurd (h (grind (arith, nat_tests)))
     go false e = grind (arith, nat_tests)
 
-pub no_utf8 : (bytes : List ℕ) (at : ℕ) (f : JdfFault) → length bytes ≤ 16777216 → IsValidUpTo bytes at → f ≡ record { spot = spot_after (take at bytes); code = jdf.NotUtf8 } → IsJdfFault bytes f
+pub no_utf8 : (bytes : List ℕ) (at : ℕ) (f : JdfFault) → length bytes ≤ 16777216 → IsValidUpTo bytes at
+    → f ≡ record { spot = spot_after (take at bytes); code = jdf.NotUtf8 } → IsJdfFault bytes f
 no_utf8 bytes at f at_most_bytes valid e =
     inr (inl (record {
       bytes_at_most = at_most_bytes;
@@ -81,9 +90,12 @@ no_utf8 bytes at f at_most_bytes valid e =
       fault_is = e;
     }))
 
-pub no_utf8_at : (bytes : List ℕ) (at n : ℕ) (spot : Spot) → length bytes ≤ 16777216 → IsValidUpTo bytes n → at ≡ n → spot ≡ spot_after (take at bytes) → IsJdfFault bytes (record { spot = spot; code = jdf.NotUtf8 })
+pub no_utf8_at : (bytes : List ℕ) (at n : ℕ) (spot : Spot) → length bytes ≤ 16777216 → IsValidUpTo bytes n → at ≡ n
+    → spot ≡ spot_after (take at bytes) → IsJdfFault bytes (record { spot = spot; code = jdf.NotUtf8 })
 no_utf8_at bytes at n spot at_most_bytes valid same e =
-    no_utf8 bytes at (record { spot = spot; code = jdf.NotUtf8 }) at_most_bytes (subst (λ (k : ℕ). IsValidUpTo bytes k) (sym same) valid) (ap (λ (s : Spot). record { spot = s; code = jdf.NotUtf8 }) e)
+    no_utf8 bytes at (record { spot = spot; code = jdf.NotUtf8 }) at_most_bytes
+    (subst (λ (k : ℕ). IsValidUpTo bytes k) (sym same) valid)
+    (ap (λ (s : Spot). record { spot = s; code = jdf.NotUtf8 }) e)
 
 -- ---- there is one result
 
@@ -99,12 +111,16 @@ refused e = Err e
 pub same_fault : (f g : JdfFault) → refused (Fault f) ≡ refused (Fault g) → f ≡ g
 same_fault f g e = cc
 
-pub only_tree : (bytes : List ℕ) (r : Answer) → IfOk r (λ jdf. IsJdf bytes jdf) → ((f : JdfFault) → r ≡ Err (Fault f) → IsJdfFault bytes f) → (jdf : Jdf) → IsJdf bytes jdf → (r ≡ Ok jdf) ⊎ (r ≡ Err OutOfMemory)
+pub only_tree : (bytes : List ℕ) (r : Answer) → IfOk r (λ jdf. IsJdf bytes jdf)
+    → ((f : JdfFault) → r ≡ Err (Fault f) → IsJdfFault bytes f) → (jdf : Jdf) → IsJdf bytes jdf
+    → (r ≡ Ok jdf) ⊎ (r ≡ Err OutOfMemory)
 only_tree bytes (Ok t) is wrong jdf j = inl (ap (λ (x : Jdf). read x) (one_tree bytes t jdf is j))
 only_tree bytes (Err (Fault f)) is wrong jdf j = absurd (not_both bytes jdf f j (wrong f refl))
 only_tree bytes (Err OutOfMemory) is wrong jdf j = inr refl
 
-pub only_fault : (bytes : List ℕ) (r : Answer) → IfOk r (λ jdf. IsJdf bytes jdf) → ((f : JdfFault) → r ≡ Err (Fault f) → IsJdfFault bytes f) → (f : JdfFault) → IsJdfFault bytes f → (r ≡ Err (Fault f)) ⊎ (r ≡ Err OutOfMemory)
+pub only_fault : (bytes : List ℕ) (r : Answer) → IfOk r (λ jdf. IsJdf bytes jdf)
+    → ((f : JdfFault) → r ≡ Err (Fault f) → IsJdfFault bytes f) → (f : JdfFault) → IsJdfFault bytes f
+    → (r ≡ Err (Fault f)) ⊎ (r ≡ Err OutOfMemory)
 only_fault bytes (Ok t) is wrong f w = absurd (not_both bytes t f is w)
 only_fault bytes (Err (Fault g)) is wrong f w = inl (ap (λ (x : JdfFault). refused (Fault x)) (one_fault bytes g f (wrong g refl) w))
 only_fault bytes (Err OutOfMemory) is wrong f w = inr refl

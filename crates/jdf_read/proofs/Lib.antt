@@ -9,3 +9,4 @@ pub mod BeforeClasses
 pub mod Parts
 pub mod Runs
 pub mod Skips
+pub mod CallerLemmas

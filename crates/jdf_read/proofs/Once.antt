@@ -10,11 +10,11 @@ use Rattle.grammar_core.specs.declared.fault.ReadFault.{ReadFault}
 use Rattle.grammar_core.specs.declared.token.Spot.{Spot}
 use Rattle.grammar_core.specs.declared.token.Token.{Token}
 use Rattle.jdf_lex.specs.Tokens.{spot_after}
-use Rattle.jdf_lex.proofs.Uniqueness.{one_list, no_fault}
-use Rattle.jdf_lex.proofs.Uniqueness as lex
+use Rattle.jdf_lex.proofs.CallerLemmas.{no_fault, one_list}
+use Rattle.jdf_lex.proofs.CallerLemmas as lex
 use Rattle.grammar_core.specs.declared.code.Code.{Code}
 use Rattle.grammar_core.specs.Reading.{whole}
-use Rattle.grammar_core.proofs.Whole.{fault_index}
+use Rattle.grammar_core.proofs.CallerLemmas.{fault_index}
 use Rattle.jdf_tree.specs.declared.tree.Jdf.{Jdf}
 use Rattle.jdf_tree.specs.Grammar.{productions, file}
 use Rattle.jdf_tree.specs.Jdf.{IsJdf}
@@ -73,7 +73,8 @@ too_short : (bytes : List ℕ) → 16777216 < length bytes → length bytes ≤ 
 too_short bytes a b = omega (arith, a, b)
 
 -- there is one JDF fault for a token index and a code
-same_named : (tokens : List Token) (end : Spot) (token_index : ℕ) (c : Code) (f g : JdfFault) → IsNamed tokens end token_index c f → IsNamed tokens end token_index c g → f ≡ g
+same_named : (tokens : List Token) (end : Spot) (token_index : ℕ) (c : Code) (f g : JdfFault)
+    → IsNamed tokens end token_index c f → IsNamed tokens end token_index c g → f ≡ g
 same_named tokens end token_index c f g (inl x) (inl y) =
     let same : x.0 ≡ y.0 = same_Some x.0 y.0 (sym x.1 ∙ y.1) in
     x.2 ∙ (ap (λ (t : Token). record { spot = t.spot; code = code_at_token c }) same ∙ sym y.2)
@@ -89,12 +90,16 @@ same_wrong tokens end f g x y =
     let a = fault_index productions file tokens x.token_index x.code x.first in
     let b = fault_index productions file tokens y.token_index y.code y.first in
     let token_index : x.token_index ≡ y.token_index = omega (arith, left, a, b) in
-    same_named tokens end y.token_index y.code f g (subst (λ (c : Code). IsNamed tokens end y.token_index c f) code (subst (λ (p : ℕ). IsNamed tokens end p x.code f) token_index x.fault_is)) y.fault_is
+    same_named tokens end y.token_index y.code f g
+    (subst (λ (c : Code). IsNamed tokens end y.token_index c f) code
+    (subst (λ (p : ℕ). IsNamed tokens end p x.code f) token_index x.fault_is)) y.fault_is
 
 same_no_text : (bytes : List ℕ) (f g : JdfFault) → HasGrammarFault bytes f → HasGrammarFault bytes g → f ≡ g
 same_no_text bytes f g x y =
     let same = one_list bytes x.tokens y.tokens x.end y.end x.lexed y.lexed in
-    let moved : IsGrammarFault y.tokens y.end f = subst (λ (e : Spot). IsGrammarFault y.tokens e f) same.1 (subst (λ (t : List Token). IsGrammarFault t x.end f) same.0 x.fault_is) in
+    let moved : IsGrammarFault y.tokens y.end f =
+    subst (λ (e : Spot). IsGrammarFault y.tokens e f) same.1
+    (subst (λ (t : List Token). IsGrammarFault t x.end f) same.0 x.fault_is) in
     same_wrong y.tokens y.end f g moved y.fault_is
 
 pub one_fault : OneFault
@@ -103,7 +108,9 @@ one_fault bytes f g (inl x) (inr (inl y)) = absurd (too_short bytes x.long y.byt
 one_fault bytes f g (inl x) (inr (inr (inl y))) = absurd (too_short bytes x.long y.bytes_at_most)
 one_fault bytes f g (inl x) (inr (inr (inr y))) = absurd (too_short bytes x.long y.bytes_at_most)
 one_fault bytes f g (inr (inl x)) (inl y) = absurd (too_short bytes y.long x.bytes_at_most)
-one_fault bytes f g (inr (inl x)) (inr (inl y)) = x.fault_is ∙ (ap (λ (n : ℕ). record { spot = spot_after (take n bytes); code = jdf.NotUtf8 }) (one_end_of_utf8 bytes x.at y.at x.stops y.stops) ∙ sym y.fault_is)
+one_fault bytes f g (inr (inl x)) (inr (inl y)) = x.fault_is
+    ∙ (ap (λ (n : ℕ). record { spot = spot_after (take n bytes); code = jdf.NotUtf8 })
+    (one_end_of_utf8 bytes x.at y.at x.stops y.stops) ∙ sym y.fault_is)
 one_fault bytes f g (inr (inl x)) (inr (inr (inl y))) = absurd (not_utf8 bytes x.at x.stops y.utf8)
 one_fault bytes f g (inr (inl x)) (inr (inr (inr y))) = absurd (not_utf8 bytes x.at x.stops y.utf8)
 one_fault bytes f g (inr (inr (inl x))) (inl y) = absurd (too_short bytes y.long x.bytes_at_most)

@@ -8,7 +8,7 @@ use Rattle.jdf_lex.specs.Terminals.{is}
 use Rattle.grammar_core.specs.Production.{seq, map, opt}
 use Rattle.grammar_core.specs.Reading.{Read, ◌>>=◌, reading}
 use Rattle.jdf_lex.specs.Sets.{token_at}
-use Rattle.grammar_core.proofs.Loops.{applied, regroup}
+use Rattle.grammar_core.proofs.CallerLemmas.{applied, regroup}
 use Rattle.jdf_tree.specs.declared.expression.Word.{Word}
 use Rattle.jdf_tree.specs.declared.part.Part.TheVariants.{Class}
 use Rattle.jdf_tree.specs.GrammarParts.{name, word, maybe}
@@ -30,15 +30,20 @@ snd x = x.1
 abbrev kept : Word → List Word → Option (List Token) → Word × List Word
 kept a b z = (a, b)
 
-pub signature_reads : (s : List Token) → reading productions signature s ≡ (reading productions (name Class) s >>= λ a. reading productions parameter_list a.1 >>= λ b. past (opt properties) b.1 >>= λ r. with_rest (a.0, b.0) r)
+pub signature_reads : (s : List Token) → reading productions signature s
+    ≡ (reading productions (name Class) s >>= λ a. reading productions parameter_list a.1 >>= λ b. past
+    (opt properties) b.1 >>= λ r. with_rest (a.0, b.0) r)
 unfolding head
-signature_reads s = thrice (reading productions (name Class) s) (reading productions parameter_list) (reading productions (opt properties)) signed ∙ go (reading productions (name Class) s)
+signature_reads s = thrice (reading productions (name Class) s) (reading productions parameter_list)
+    (reading productions (opt properties)) signed ∙ go (reading productions (name Class) s)
   where
     last : (a : Word) (b : List Word) (c : Read (Option (List Token))) → (c >>= applied (kept a b)) ≡ ((c >>= λ x. Ok x.1) >>= λ r. with_rest (a, b) r)
     last a b (Ok c) = refl
     last a b (Err e) = refl
 
-    next : (a : Word) (b : Read (List Word)) → (b >>= λ y. reading productions (opt properties) y.1 >>= applied (kept a y.0)) ≡ (b >>= λ y. past (opt properties) y.1 >>= λ r. with_rest (a, y.0) r)
+    next : (a : Word) (b : Read (List Word))
+        → (b >>= λ y. reading productions (opt properties) y.1 >>= applied (kept a y.0))
+        ≡ (b >>= λ y. past (opt properties) y.1 >>= λ r. with_rest (a, y.0) r)
     next a (Ok b) = last a b.0 (reading productions (opt properties) b.1)
     next a (Err e) = refl
 
@@ -51,7 +56,9 @@ pub class_reads : (s : List Token) → reading productions class s ≡ (reading 
 unfolding class
 class_reads s = regroup (reading productions head s) (reading productions rest) class_of ∙ go (reading productions head s)
   where
-    go : (a : Read (Word × (List Word × Option (List Token)))) → (a >>= λ x. reading productions rest x.1 >>= applied (λ (y : Rest). class_of (x.0, y))) ≡ ((a >>= applied signed) >>= λ x. reading productions (class_rest x.0) x.1)
+    go : (a : Read (Word × (List Word × Option (List Token))))
+        → (a >>= λ x. reading productions rest x.1 >>= applied (λ (y : Rest). class_of (x.0, y)))
+        ≡ ((a >>= applied signed) >>= λ x. reading productions (class_rest x.0) x.1)
     go (Ok a) = refl
     go (Err e) = refl
 
@@ -66,15 +73,21 @@ with_end tokens x = Ok ((tokens, x.0.spot), x.1)
 inside : List Token → Read (List Token × Spot)
 inside t = reading productions (maybe body_tokens) t >>= λ b. token_at (is terminal.End) b.1 >>= with_end b.0
 
-pub body_reads : (s : List Token) → reading productions body s ≡ (token_at (is terminal.Body) s >>= λ a. past (opt properties) a.1 >>= λ r. reading productions (maybe body_tokens) r >>= λ b. token_at (is terminal.End) b.1 >>= with_end b.0)
+pub body_reads : (s : List Token) → reading productions body s
+    ≡ (token_at (is terminal.Body) s >>= λ a. past (opt properties) a.1 >>= λ r. reading productions
+    (maybe body_tokens) r >>= λ b. token_at (is terminal.End) b.1 >>= with_end b.0)
 unfolding body inside
-body_reads s = regroup (token_at (is terminal.Body) s) (reading productions (map body_of (seq (opt properties) (seq (maybe body_tokens) (word terminal.End))))) snd ∙ go (token_at (is terminal.Body) s)
+body_reads s = regroup (token_at (is terminal.Body) s)
+    (reading productions (map body_of (seq (opt properties) (seq (maybe body_tokens) (word terminal.End))))) snd
+    ∙ go (token_at (is terminal.Body) s)
   where
     same : (r : Read (List Token × Spot)) → (r >>= applied (λ (x : List Token × Spot). x)) ≡ r
     same (Ok x) = refl
     same (Err e) = refl
 
-    go : (a : Read Token) → (a >>= λ x. reading productions (map body_of (seq (opt properties) (seq (maybe body_tokens) (word terminal.End)))) x.1 >>= applied (λ (y : List Token × Spot). y)) ≡ (a >>= λ x. past (opt properties) x.1 >>= inside)
+    go : (a : Read Token) → (a >>= λ x. reading productions
+        (map body_of (seq (opt properties) (seq (maybe body_tokens) (word terminal.End)))) x.1 >>= applied
+        (λ (y : List Token × Spot). y)) ≡ (a >>= λ x. past (opt properties) x.1 >>= inside)
     go (Ok a) =
         same (reading productions (map body_of (seq (opt properties) (seq (maybe body_tokens) (word terminal.End)))) a.1)
         ∙ (thrice (reading productions (opt properties) a.1) (reading productions (maybe body_tokens)) (token_at (is terminal.End)) body_of

@@ -11,7 +11,7 @@ use Rattle.grammar_core.specs.declared.code.Code.TheVariants.{Syntax}
 use Rattle.grammar_core.specs.Production.{star}
 use Rattle.jdf_lex.specs.Sets.{one_of, starts}
 use Rattle.grammar_core.specs.Reading.{◌>>=◌, Read, reading, fault_from_end}
-use Rattle.grammar_core.proofs.Loops.{pair_with, applied, IsListed, many_from, many_step}
+use Rattle.grammar_core.proofs.CallerLemmas.{IsListed, applied, many_from, many_step, pair_with}
 use Rattle.jdf_tree.specs.Nonterminal.{Grammar}
 use Rattle.jdf_tree.specs.GrammarParts.{any, maybe}
 use Rattle.jdf_tree.specs.Grammar.{productions}
@@ -50,7 +50,8 @@ run_reads q s = run_from q 0 s
 -- ---- properties
 
 -- splitting off the run is reading a list of tokens of the set
-pub split_is : (q : Terminal → Bool) (s front back : List Token) → front ≡ take (run_len q s) s → back ≡ drop (run_len q s) s → reading productions (star any (one_of q)) s ≡ Ok (front, back)
+pub split_is : (q : Terminal → Bool) (s front back : List Token) → front ≡ take (run_len q s) s
+    → back ≡ drop (run_len q s) s → reading productions (star any (one_of q)) s ≡ Ok (front, back)
 split_is q s front back f b = run_reads q s ∙ sym (rw (f, b) refl)
 
 -- ---- bodies
@@ -62,7 +63,8 @@ no_body s h = rw h refl
 abbrev first_and : Token × List Token → List Token
 first_and y = y.0 ∷ y.1
 
-pub body_is : (s front back : List Token) → starts begins_body s ≡ true → front ≡ take (run_len is_in_body s) s → back ≡ drop (run_len is_in_body s) s → reading productions (maybe body_tokens) s ≡ Ok (front, back)
+pub body_is : (s front back : List Token) → starts begins_body s ≡ true → front ≡ take (run_len is_in_body s) s
+    → back ≡ drop (run_len is_in_body s) s → reading productions (maybe body_tokens) s ≡ Ok (front, back)
 unfolding body_tokens
 body_is [] front back h f b = absurd cc
 body_is (x ∷ s) front back h f b =
@@ -71,9 +73,13 @@ body_is (x ∷ s) front back h f b =
     let up : run_len is_in_body (x ∷ s) ≡ suc n = ap (λ (c : Bool). cond c (1 + n) 0) g ∙ omega arith in
     let front_is : front ≡ x ∷ take n s = f ∙ ap (λ (m : ℕ). take m (x ∷ s)) up in
     let back_is : back ≡ drop n s = b ∙ ap (λ (m : ℕ). drop m (x ∷ s)) up in
-    let read : reading productions (maybe body_tokens) (x ∷ s) ≡ Ok (x ∷ take n s, drop n s) = go (starts begins_body (x ∷ s)) (reading productions (star any (one_of is_in_body))) h (run_reads is_in_body s) in
+    let read : reading productions (maybe body_tokens) (x ∷ s) ≡ Ok (x ∷ take n s, drop n s) =
+    go (starts begins_body (x ∷ s)) (reading productions (star any (one_of is_in_body))) h
+    (run_reads is_in_body s) in
     rw (front_is, back_is) read
   where
     go : (c : Bool) (r : List Token → Read (List Token)) → c ≡ true → r s ≡ Ok (take (run_len is_in_body s) s, drop (run_len is_in_body s) s)
-        → (cond c (((token_if c x s >>= λ a. r a.1 >>= pair_with a.0) >>= applied first_and) >>= applied Some) (Ok (None, x ∷ s)) >>= applied (λ o. unwrap_or o [])) ≡ Ok (x ∷ take (run_len is_in_body s) s, drop (run_len is_in_body s) s)
+        → (cond c (((token_if c x s >>= λ a. r a.1 >>= pair_with a.0) >>= applied first_and) >>= applied Some)
+        (Ok (None, x ∷ s)) >>= applied (λ o. unwrap_or o []))
+        ≡ Ok (x ∷ take (run_len is_in_body s) s, drop (run_len is_in_body s) s)
     go c r e h = rw (e, h) refl

@@ -8,13 +8,13 @@ use Rattle.grammar_core.specs.Production.{star}
 use Rattle.grammar_core.specs.Reading.{◌>>=◌, Read, reading}
 use Rattle.jdf_lex.specs.Sets.{starts}
 use Rattle.grammar_core.specs.Refusing.{ReadRefusal}
-use Rattle.grammar_core.proofs.Loops.{applied, regroup, many_from, reading_consumes}
+use Rattle.grammar_core.proofs.CallerLemmas.{applied, many_from, reading_consumes, regroup}
 use Rattle.jdf_tree.specs.declared.tree.ClassTree.{ClassTree}
 use Rattle.jdf_tree.specs.GrammarParts.{any}
 use Rattle.jdf_tree.specs.ClassGrammar.{class}
 use Rattle.jdf_tree.specs.Grammar.{productions, skip, class_and_skips}
 use Rattle.jdf_read.specs.Next.{past, is_skip}
-use Rattle.jdf_tree.proofs.Lists.{rest_of}
+use Rattle.jdf_tree.proofs.CallerLemmas.{rest_of}
 use Rattle.jdf_read.proofs.ListSteps.{rest_step}
 use Rattle.jdf_read.proofs.Listed.{skips_listed}
 use Rattle.jdf_read.proofs.Parts.{with_rest}
@@ -39,15 +39,19 @@ past_step s = ap (λ (r : Read (List Token)). rest_after r) (rest_step skips_lis
     next x (Ok y) = refl
     next x (Err e) = refl
 
-    go : (b : Bool) (r : Read Token) → rest_after (cond b (r >>= λ a. rest_of skip a.1 >>= applied (λ (more : List Token). a.0 ∷ more)) (Ok ([], s))) ≡ cond b (rest_after r >>= λ t. rest_after (rest_of skip t)) (Ok s)
+    go : (b : Bool) (r : Read Token) → rest_after
+        (cond b (r >>= λ a. rest_of skip a.1 >>= applied (λ (more : List Token). a.0 ∷ more)) (Ok ([], s)))
+        ≡ cond b (rest_after r >>= λ t. rest_after (rest_of skip t)) (Ok s)
     go false r = refl
     go true (Ok a) = next a.0 (rest_of skip a.1)
     go true (Err e) = refl
 
-pub skips_go_on : (s next : List Token) (total : Result (List Token) ReadFault) → starts is_skip s ≡ true → past skip s ≡ Ok next → past_all s ≡ total → past_all next ≡ total
+pub skips_go_on : (s next : List Token) (total : Result (List Token) ReadFault) → starts is_skip s ≡ true
+    → past skip s ≡ Ok next → past_all s ≡ total → past_all next ≡ total
 skips_go_on s next total t e before = sym (past_step s ∙ rw (t, e) refl) ∙ before
 
-pub skips_fail : (e : ReadRefusal) (s : List Token) (total : Result (List Token) ReadFault) → starts is_skip s ≡ true → ReturnsRefusal e (past skip s) → past_all s ≡ total → ReturnsRefusal e total
+pub skips_fail : (e : ReadRefusal) (s : List Token) (total : Result (List Token) ReadFault)
+    → starts is_skip s ≡ true → ReturnsRefusal e (past skip s) → past_all s ≡ total → ReturnsRefusal e total
 skips_fail errors.OutOfMemory s total t f before = tt
 skips_fail (errors.Fault x) s total t f before = sym before ∙ (past_step s ∙ rw (t, f) refl)
 
@@ -67,7 +71,9 @@ first_of_two x = x.0
 abbrev alone : ClassTree → List Token → ClassTree
 alone a skipped = a
 
-pub class_and_skips_reads : (s : List Token) → reading productions class_and_skips s ≡ (reading productions class s >>= λ a. past (star any skip) a.1 >>= λ r. with_rest a.0 r)
+pub class_and_skips_reads : (s : List Token)
+    → reading productions class_and_skips s
+    ≡ (reading productions class s >>= λ a. past (star any skip) a.1 >>= λ r. with_rest a.0 r)
 unfolding class_and_skips
 class_and_skips_reads s = regroup (reading productions class s) (reading productions (star any skip)) first_of_two ∙ go (reading productions class s)
   where
@@ -75,6 +81,7 @@ class_and_skips_reads s = regroup (reading productions class s) (reading product
     next a (Ok y) = refl
     next a (Err e) = refl
 
-    go : (r : Read ClassTree) → (r >>= λ a. reading productions (star any skip) a.1 >>= applied (alone a.0)) ≡ (r >>= λ a. past (star any skip) a.1 >>= λ r. with_rest a.0 r)
+    go : (r : Read ClassTree) → (r >>= λ a. reading productions (star any skip) a.1 >>= applied (alone a.0))
+        ≡ (r >>= λ a. past (star any skip) a.1 >>= λ r. with_rest a.0 r)
     go (Ok a) = next a.0 (reading productions (star any skip) a.1)
     go (Err e) = refl

@@ -4,3 +4,4 @@ pub mod Lists
 pub mod Numbers
 pub mod Predictive
 pub mod TreeLimits
+pub mod CallerLemmas

@@ -3,14 +3,19 @@ use Rattle.std.proofs.Common.{◌≡◌, ℕ, Bool, true, false, cond, refl}
 use Rattle.std.specs.Prelude.{Some, None, nat_le}
 use Rattle.grammar_core.specs.declared.code.Code.{Code}
 use Rattle.grammar_core.specs.Predictive.{is_limit, are_limits}
-use Rattle.grammar_core.proofs.Whole.{LimitsOnly}
+use Rattle.grammar_core.proofs.CallerLemmas.{LimitsOnly}
 use Rattle.jdf_tree.specs.declared.part.Part.{Part}
 use Rattle.jdf_tree.specs.declared.part.Part.TheVariants.{Class, Body}
 use Rattle.jdf_tree.specs.Nonterminal.{Nonterminal, an_expr, a_unary, a_file, a_block}
-use Rattle.jdf_tree.specs.ExpressionGrammar.{number, parens, index, reference, signed, unary, product, sum, relation, equality, conjunction, disjunction, branches, expr, outer, guard}
-use Rattle.jdf_tree.specs.ClassGrammar.{full_at, argument, arguments, call, called, target, unguarded, guarded, arrow, datatype, dependence, dependences, kind_of_flow, flow, flows, parameters, parameter_list, definition, definitions, affinity, priority, properties, body_tokens, body, head, rest, class}
-use Rattle.jdf_tree.specs.BodyGrammar.{block, value, declaration, element, assignment, condition, otherwise, choice, for_loop, trap_statement, statement, statements, block_rest, text, body as body_text}
-use Rattle.jdf_tree.specs.Grammar.{skip, class_and_skips, classes, file_after_extern, file_after_option, file_after_properties, file_after_global, file, productions}
+use Rattle.jdf_tree.specs.ExpressionGrammar.{number, parens, index, reference, signed, unary, product, sum, relation, equality, conjunction}
+use Rattle.jdf_tree.specs.ExpressionGrammar.{disjunction, branches, expr, outer, guard}
+use Rattle.jdf_tree.specs.ClassGrammar.{full_at, argument, arguments, call, called, target, unguarded, guarded, arrow, datatype, dependence}
+use Rattle.jdf_tree.specs.ClassGrammar.{dependences, kind_of_flow, flow, flows, parameters, parameter_list, definition, definitions, affinity}
+use Rattle.jdf_tree.specs.ClassGrammar.{priority, properties, body_tokens, body, head, rest, class}
+use Rattle.jdf_tree.specs.BodyGrammar.{block, value, declaration, element, assignment, condition, otherwise, choice, for_loop, trap_statement}
+use Rattle.jdf_tree.specs.BodyGrammar.{statement, statements, block_rest, text, body as body_text}
+use Rattle.jdf_tree.specs.Grammar.{skip, class_and_skips, classes, file_after_extern, file_after_option, file_after_properties, file_after_global}
+use Rattle.jdf_tree.specs.Grammar.{file, productions}
 
 -- ---- expressions
 

@@ -21,8 +21,11 @@ use Rattle.jdf_lex.specs.Terminals.{is}
 use Rattle.jdf_lex.specs.Counted.{is_name}
 use Rattle.jdf_lex.specs.Sets.{one_of, pick, after_token}
 use Rattle.jdf_tree.specs.GrammarParts.{word, prefixed_by, suffixed_by, any, maybe, name, word_of}
-use Rattle.jdf_tree.specs.ClassGrammar.{full_at, Choice, unguarded, guarded, arrow, datatype, may_follow_target_name, dependence, dependences, kind_of_flow, flow, flows, parameters, parameter_list, definition, definitions, affinity, priority, is_no_right_bracket, properties, body, head, rest, class}
-use Rattle.jdf_tree.specs.Grammar.{skip, class_and_skips, classes, without_globals, with_global, file_after_extern, file_after_option, file_after_properties, file_after_global, file, productions}
+use Rattle.jdf_tree.specs.ClassGrammar.{full_at, Choice, unguarded, guarded, arrow, datatype, may_follow_target_name, dependence, dependences}
+use Rattle.jdf_tree.specs.ClassGrammar.{kind_of_flow, flow, flows, parameters, parameter_list, definition, definitions, affinity, priority}
+use Rattle.jdf_tree.specs.ClassGrammar.{is_no_right_bracket, properties, body, head, rest, class}
+use Rattle.jdf_tree.specs.Grammar.{skip, class_and_skips, classes, without_globals, with_global, file_after_extern, file_after_option}
+use Rattle.jdf_tree.specs.Grammar.{file_after_properties, file_after_global, file, productions}
 use Rattle.jdf_tree.specs.Jdf.{IsJdf}
 use Rattle.jdf_tree.specs.TreeLimits.{HasGuardForSecond, IsFlowWithinLimits, IsClassWithinLimits, IsWithinLimits}
 
@@ -100,12 +103,14 @@ module _ (R : (n : Nonterminal) → Language (TreeOf n)) where
       let none = both_none d.1 (taken s d.0) d.2 d.5 in
       (d.0, subst (λ (o : Fault). Derives R g s t.0 o d.0) none.0 d.3, subst (λ (o : Fault). Derives R h d.0 t.1 o r) none.1 d.4)
 
-  prefixed_none : {A : Type 0} (k : Terminal) (g : Grammar A) (s : List Token) (t : A) (r : List Token) → Derives R (prefixed_by k g) s t None r → (m : List Token) × Derives R g m t None r
+  prefixed_none : {A : Type 0} (k : Terminal) (g : Grammar A) (s : List Token) (t : A) (r : List Token)
+      → Derives R (prefixed_by k g) s t None r → (m : List Token) × Derives R g m t None r
   prefixed_none {A} k g s t r d =
       let parts = seq_none (word k) g s d.0 r d.1 in
       (parts.0, subst (λ (u : A). Derives R g parts.0 u None r) d.2 parts.2)
 
-  suffixed_none : {A : Type 0} (k : Terminal) (g : Grammar A) (s : List Token) (t : A) (r : List Token) → Derives R (suffixed_by k g) s t None r → (m : List Token) × Derives R g s t None m
+  suffixed_none : {A : Type 0} (k : Terminal) (g : Grammar A) (s : List Token) (t : A) (r : List Token)
+      → Derives R (suffixed_by k g) s t None r → (m : List Token) × Derives R g s t None m
   suffixed_none {A} k g s t r d =
       let parts = seq_none g (word k) s d.0 r d.1 in
       (parts.0, subst (λ (u : A). Derives R g s u None parts.0) d.2 parts.1)
@@ -184,7 +189,13 @@ module _ (R : (n : Nonterminal) → Language (TreeOf n)) where
       let flowing = seq_none flows (seq (opt priority) body) placed.0 d.0.1.1.1 r placed.2 in
       let defs = many_within 16 TooManyLocals (Derives R definition) (λ _. Unit {0}) (λ s' t' r' d'. tt) 0 parts.0 d.0.1.0 defined.0 defined.1 (omega arith) in
       let all_flows = many_within 8 TooManyFlows (Derives R flow) IsFlowWithinLimits flow_within 0 placed.0 d.0.1.1.1.0 flowing.0 flowing.1 (omega arith) in
-      subst IsClassWithinLimits d.2 (record { params = parameter_list_within named.0 d.0.0.1.0 listed.0 listed.1; defs = omega (arith, defs.0); count = omega (arith, all_flows.0); flows = all_flows.1 })
+      subst IsClassWithinLimits d.2 (record {
+        params = parameter_list_within named.0 d.0.0.1.0 listed.0 listed.1;
+        defs =
+            omega (arith, defs.0);
+        count = omega (arith, all_flows.0);
+        flows = all_flows.1;
+      })
 
   class_and_skips_within : (s : List Token) (t : ClassTree) (r : List Token) → Derives R class_and_skips s t None r → IsClassWithinLimits t
   unfolding class_and_skips
@@ -199,7 +210,8 @@ module _ (R : (n : Nonterminal) → Language (TreeOf n)) where
   classes_within s t r d =
       let parts = seq_none class_and_skips (star (full_at 63 TooManyClasses) class_and_skips) s d.0 r d.1 in
       let first = class_and_skips_within s d.0.0 parts.0 parts.1 in
-      let others = many_within 63 TooManyClasses (Derives R class_and_skips) IsClassWithinLimits class_and_skips_within 0 parts.0 d.0.1 r parts.2 (omega arith) in
+      let others = many_within 63 TooManyClasses (Derives R class_and_skips) IsClassWithinLimits
+      class_and_skips_within 0 parts.0 d.0.1 r parts.2 (omega arith) in
       subst (λ (ts : List ClassTree). IsWithinLimits (without_globals ts)) d.2 (record { count = omega (arith, others.0); classes = (first, others.1) })
 
   abbrev with_global_within : {jdf : Jdf} (name : Word) → IsWithinLimits jdf → IsWithinLimits (with_global name jdf)

@@ -1,16 +1,16 @@
 -- Two texts denote a verdict: each step finds what the next one needs, or a fault.
 use Rattle.std.proofs.Common.{◌≡◌, ℕ, ◌≤◌, List, length, Result, Ok, Err, refl, ◌⊎◌, inl, inr}
 use Rattle.std.proofs.lemmas.Bool.{cases_Bool, cases_lt}
-use Rattle.jdf_tree.proofs.TreeLimits.{texts_within}
-use Rattle.text_laws.proofs.TreeOrFault.{tree_or_fault}
+use Rattle.jdf_tree.proofs.CallerLemmas.{texts_within}
+use Rattle.text_laws.proofs.CallerLemmas.{tree_or_fault}
 use Rattle.coll_data.specs.Data.{Data}
 use Rattle.coll_data.specs.declared.fault.DataFault.{DataFault}
 use Rattle.data_read.specs.Reading.{data_of}
 use Rattle.plan_core.specs.declared.plan.Plan.{Plan}
 use Rattle.type_rules.specs.Names.{Job}
 use Rattle.type_check.specs.Given.{is_missing}
-use Rattle.check_laws.proofs.ClassesResolved.{plan_or_first_fault}
-use Rattle.edge_laws.proofs.Either.{consistent_or_fault}
+use Rattle.check_laws.proofs.CallerLemmas.{plan_or_first_fault}
+use Rattle.edge_laws.proofs.CallerLemmas.{consistent_or_fault}
 use Rattle.job_stages.specs.declared.verdict.JobVerdict.{JobVerdict}
 use Rattle.job_stages.specs.declared.verdict.JobVerdict.TheVariants as verdicts
 use Rattle.job_stages.specs.DataText.{IsData, IsDataFault, too_long}

@@ -2,7 +2,7 @@
 use Rattle.std.proofs.Common.{sym, subst, inl, inr}
 use Rattle.plan_data.specs.Fit.{DataFit}
 use Rattle.job_laws.specs.Laws.{JdfIsJudgedAlone, DataFitPlan}
-use Rattle.job_stages.proofs.Once.{texts_once}
+use Rattle.job_stages.proofs.CallerLemmas.{texts_once}
 
 pub judged_alone : JdfIsJudgedAlone
 judged_alone jdf_text data_text v w h k = sym (texts_once jdf_text data_text v w (inl h) k)

@@ -26,7 +26,7 @@ use Rattle.term_core.specs.declared.space.Def.TheVariants as def
 use Rattle.term_core.specs.declared.space.Range.{Range}
 use Rattle.range_space.specs.Tasks.{tasks}
 use Rattle.edge_laws.specs.Numbers as terms
-use Rattle.edge_laws.proofs.Numbers.{parameters_numbers}
+use Rattle.edge_laws.proofs.CallerLemmas.{parameters_numbers}
 use Rattle.jdf_lex.specs.declared.fault.JdfFault.{JdfFault}
 use Rattle.jdf_tree.specs.Expression.{Expression, Num, Name, Elem, Unary, Binary, Choose}
 use Rattle.jdf_tree.specs.declared.expression.Word.{Word}
@@ -35,7 +35,7 @@ use Rattle.jdf_tree.specs.declared.tree.ArgTree.TheVariants as tree
 use Rattle.jdf_tree.specs.declared.tree.ClassTree.{ClassTree}
 use Rattle.jdf_tree.specs.declared.tree.DefTree.{DefTree}
 use Rattle.print_laws.specs.Spelled.{IsSpelledClass, argument_has_numbers, def_has_numbers, has_numbers}
-use Rattle.print_laws.proofs.Spelled.{tree_spelled}
+use Rattle.print_laws.proofs.CallerLemmas.{tree_spelled}
 use Rattle.expr_names.specs.Expressions as expression
 use Rattle.expr_names.specs.Expressions.{together}
 use Rattle.expr_names.specs.Meanings.{collection_or_nothing, outer_meaning, value_of}
@@ -47,19 +47,18 @@ use Rattle.plan_core.specs.NamesByNumber.{class_name}
 use Rattle.plan_core.specs.declared.plan.Plan.{Plan}
 use Rattle.coll_data.specs.Data.{Data}
 use Rattle.data_laws.specs.Integers.{has_64_bits}
-use Rattle.data_laws.proofs.Integers.{integers_numbers}
+use Rattle.data_laws.proofs.CallerLemmas.{integers_numbers}
 use Rattle.dep_iter.specs.Tasks.{IsTask}
 use Rattle.type_rules.specs.Arguments.{range_of}
 use Rattle.type_rules.specs.Definitions.{definition_of, definitions_of, parameter_of, space_of}
 use Rattle.type_rules.specs.Expressions.{option_term, symbols_of, term_of}
 use Rattle.type_rules.specs.Names.{Job, coll_named, int_named, is_declared, local_named, meaning_of}
 use Rattle.type_rules.specs.Returns.{both, each, each_option}
-use Rattle.type_rules.proofs.NoFaults.{option_there, parts_of}
-use Rattle.type_rules.proofs.WellSpaces.{pair_of}
+use Rattle.type_rules.proofs.CallerLemmas.{option_there, pair_of, parts_of}
 use Rattle.type_check.specs.Bodies.{BodyResult}
 use Rattle.type_check.specs.Check.{classes_plan}
 use Rattle.type_check.specs.Classes.{class_plan}
-use Rattle.type_check.proofs.WellClasses.{class_of}
+use Rattle.type_check.proofs.CallerLemmas.{class_of}
 use Rattle.job_stages.specs.Verdict.{TextsDenote}
 use Rattle.job_stages.specs.declared.verdict.JobVerdict.TheVariants as verdicts
 

@@ -7,9 +7,7 @@ use Rattle.data_read.specs.Draft.{Draft, begun, data_after}
 use Rattle.data_read.specs.Records.{first_record, later_record}
 use Rattle.data_read.specs.Reading.{all_records, as_data, data_of, later_records, records_of}
 use Rattle.list_lemmas.proofs.Options.{by_result, same_Ok}
-use Rattle.data_read.proofs.Soundness.{IsSound, well_made}
-use Rattle.data_read.proofs.SoundRecords.{begun_sound}
-use Rattle.data_read.proofs.SoundTiles.{later_sound}
+use Rattle.data_read.proofs.CallerLemmas.{IsSound, begun_sound, later_sound, well_made}
 
 later_all_sound : (row : ℕ) (d e : Draft) (rows : List (List (List ℕ))) → IsSound d → later_records row d rows ≡ Ok e → IsSound e
 later_all_sound row d e [] sound is = subst IsSound (same_Ok d e is) sound

@@ -1,17 +1,16 @@
 -- Two texts denote at most one verdict: each step finds only one thing, and never both a fault and what the next step
 -- needs.
 use Rattle.std.proofs.Common.{◌≡◌, ℕ, List, Result, Ok, Err, sym, ◌∙◌, ap, subst, inl, inr, arith}
-use Rattle.jdf_read.proofs.Once.{one_tree, one_fault, not_both}
+use Rattle.jdf_read.proofs.CallerLemmas.{not_both, one_fault, one_tree}
 use Rattle.coll_data.specs.Data.{Data}
 use Rattle.coll_data.specs.declared.fault.DataFault.{DataFault}
 use Rattle.data_read.specs.Reading.{data_of}
 use Rattle.type_rules.specs.Names.{Job}
-use Rattle.type_check.proofs.Unique.{one_first_fault}
-use Rattle.type_check.proofs.Plans.{one_plan, a_plan_has_no_fault}
+use Rattle.type_check.proofs.CallerLemmas.{a_plan_has_no_fault, one_first_fault, one_plan}
 use Rattle.plan_core.specs.declared.plan.Plan.{Plan}
 use Rattle.edge_match.specs.declared.fault.MatchFault.{MatchFault}
 use Rattle.edge_match.specs.FirstFault.{IsFirstFault}
-use Rattle.edge_match.proofs.OneFault.{one_first, consistent_none}
+use Rattle.edge_match.proofs.CallerLemmas.{consistent_none, one_first}
 use Rattle.job_stages.specs.declared.verdict.JobVerdict.{JobVerdict}
 use Rattle.job_stages.specs.declared.verdict.JobVerdict.TheVariants as verdicts
 use Rattle.job_stages.specs.DataText.{IsData, IsDataFault}

@@ -104,7 +104,13 @@ pub count-falls : {A : Type 0} (p q : A → Bool) (xs : List A) (x : A) → HasN
     → q x ≡ false → ((y : A) → (y ≡ x → ⊥) → q y ≡ p y) → count q xs + 1 ≡ count p xs
 count-falls p q [] x once i was is others = absurd i
 count-falls p q (y ∷ ys) x once i was is others = elim i [
-  | inl e ↦ omega (arith, ap as_number (ap p (sym e) ∙ was), ap as_number (ap q (sym e) ∙ is), count-same p q ys (λ z j. others z (λ same. once.0 (subst (λ u. IsIn u ys) (same ∙ e) j))))
+  | inl e ↦ omega (
+    arith,
+    ap as_number (ap p (sym e) ∙ was),
+    ap as_number (ap q (sym e) ∙ is),
+    count-same p q ys
+        (λ z j. others z (λ same. once.0 (subst (λ u. IsIn u ys) (same ∙ e) j))),
+  )
   | inr t ↦ omega (arith, ap as_number (others y (λ same. once.0 (subst (λ u. IsIn u ys) (sym same) t))), count-falls p q ys x once.1 t was is others)
 ]
 

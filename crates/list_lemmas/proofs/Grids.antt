@@ -21,7 +21,8 @@ length_rows cols a zero = omega arith
 length_rows cols a (suc rows) =
     let first : length (cells cols a) ≡ cols = length-map-range_with_len (λ j. a ∷ j ∷ []) 0 cols in
     let rest : length (rows_from cols (a + 1) rows) ≡ rows * cols = length_rows cols (a + 1) rows in
-    let all : length (rows_from cols a (suc rows)) ≡ length (cells cols a) + length (rows_from cols (a + 1) rows) = length-append (cells cols a) (rows_from cols (a + 1) rows) in
+    let all : length (rows_from cols a (suc rows)) ≡ length (cells cols a) + length (rows_from cols (a + 1) rows) =
+    length-append (cells cols a) (rows_from cols (a + 1) rows) in
     omega (arith, first, rest, all, suc-mul rows cols)
 
 pub in_first_row : (cols a n : ℕ) → n < cols → a ∷ n ∷ [] ≡ (a + n / cols) ∷ n % cols ∷ []

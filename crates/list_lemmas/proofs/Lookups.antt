@@ -16,8 +16,11 @@ module _ {X : Type 0} where
       by_test (test e.0)
       (λ k.
       let none = apart e.0 k in
-      ap (λ b. lookup other (cond b ((e.0, x) ∷ es) (e ∷ set_value test es x))) k ∙ ap (λ b. cond b (Some x) (lookup other es)) none ∙ sym (ap (λ b. cond b (Some e.1) (lookup other es)) none))
-      (λ k. ap (λ b. lookup other (cond b ((e.0, x) ∷ es) (e ∷ set_value test es x))) k ∙ ap (λ o. cond (other e.0) (Some e.1) o) (set_other test other apart es x))
+      ap (λ b. lookup other (cond b ((e.0, x) ∷ es) (e ∷ set_value test es x))) k
+      ∙ ap (λ b. cond b (Some x) (lookup other es)) none
+      ∙ sym (ap (λ b. cond b (Some e.1) (lookup other es)) none))
+      (λ k. ap (λ b. lookup other (cond b ((e.0, x) ∷ es) (e ∷ set_value test es x))) k
+      ∙ ap (λ o. cond (other e.0) (Some e.1) o) (set_other test other apart es x))
 
   -- a look-up finds what was written under its key
   pub set_same : (test : Task → Bool) (es : List (Task × X)) (old x : X) → lookup test es ≡ Some old

@@ -48,7 +48,8 @@ pigeonhole (x ∷ xs) ys w among short =
     let l = ap length c.2 in
     let m = length-append us (x ∷ vs) in
     let n = length-append us vs in
-    let r = pigeonhole xs (us ++ vs) w.1 (λ z h. without_this x z us vs (λ e. w.0 (subst (λ u. IsIn u xs) e h)) (subst (IsIn z) c.2 (among z (inr h)))) (omega arith) in (
+    let r = pigeonhole xs (us ++ vs) w.1 (λ z h. without_this x z us vs (λ e. w.0 (subst (λ u. IsIn u xs) e h))
+    (subst (IsIn z) c.2 (among z (inr h)))) (omega arith) in (
       subst HasNoRepeats (sym c.2) (once-inserted us x vs r.0 (λ k. w.0 (r.1 x k))),
       λ y h. with_this x xs us vs r.1 y (subst (IsIn y) c.2 h),
     )

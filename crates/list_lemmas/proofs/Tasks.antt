@@ -82,5 +82,6 @@ module _ {A : Type 0} (key : A → Task) where
   from_insert w x [] i = i
   from_insert w x (y ∷ ys) i =
       by_test (task_before (key y) (key x))
-      (λ h. elim (subst (IsIn w) (insert_past x y ys h) i) [ inl e ↦ inr (inl e) | inr t ↦ elim (from_insert w x ys t) [ inl e ↦ inl e | inr k ↦ inr (inr k) ] ])
+      (λ h. elim (subst (IsIn w) (insert_past x y ys h) i)
+      [ inl e ↦ inr (inl e) | inr t ↦ elim (from_insert w x ys t) [ inl e ↦ inl e | inr k ↦ inr (inr k) ] ])
       (λ h. subst (IsIn w) (insert_here x y ys h) i)

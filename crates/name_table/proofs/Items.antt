@@ -35,14 +35,16 @@ module _ {X : Type 0} where
   last_at (x ∷ xs) y = last_at xs y
 
   -- what a list with one more item has at an index, the list has there, or it is that item at the end
-  pub old_or_last : (P : Type 0) (xs : List X) (y x : X) (i : ℕ) → slice_get (xs ++ y ∷ []) i ≡ Some x → (slice_get xs i ≡ Some x → P) → (i ≡ length xs → y ≡ x → P) → P
+  pub old_or_last : (P : Type 0) (xs : List X) (y x : X) (i : ℕ) → slice_get (xs ++ y ∷ []) i ≡ Some x
+      → (slice_get xs i ≡ Some x → P) → (i ≡ length xs → y ≡ x → P) → P
   old_or_last P [] y x zero h old last = last refl (same_Some y x h)
   old_or_last P [] y x (suc i) h old last = absurd cc
   old_or_last P (z ∷ xs) y x zero h old last = old h
   old_or_last P (z ∷ xs) y x (suc i) h old last = old_or_last P xs y x i h old (λ e s. last (ap suc e) s)
 
 -- one more name changes no number of another name
-pub number_kept : (names : List (List ℕ)) (new name : List ℕ) (i : ℕ) → bytes_eq new name ≡ false → has_number (names ++ new ∷ []) name i ≡ has_number names name i
+pub number_kept : (names : List (List ℕ)) (new name : List ℕ) (i : ℕ) → bytes_eq new name ≡ false
+    → has_number (names ++ new ∷ []) name i ≡ has_number names name i
 number_kept [] new name zero e = e
 number_kept [] new name (suc i) e = refl
 number_kept (n ∷ names) new name zero e = refl

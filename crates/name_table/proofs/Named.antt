@@ -18,7 +18,8 @@ pub has_is : {V : Type 0} (name : List ℕ) (table : List (List ℕ × V)) → i
 has_is name [] = refl
 has_is name (p ∷ ps) = go (bytes_eq name p.0) (bytes_eq p.0 name) (bytes_eq-sym name p.0) (has_is name ps)
   where
-    go : (b d : Bool) → b ≡ d → is_some (value_named ps name) ≡ has_name (keys_of ps) name → is_some (cond b (Some p.1) (value_named ps name)) ≡ (d || has_name (keys_of ps) name)
+    go : (b d : Bool) → b ≡ d → is_some (value_named ps name) ≡ has_name (keys_of ps) name
+        → is_some (cond b (Some p.1) (value_named ps name)) ≡ (d || has_name (keys_of ps) name)
     go true true e ih = refl
     go true false e ih = absurd cc
     go false true e ih = absurd cc
@@ -28,7 +29,8 @@ some_from : (test : List ℕ → Bool) (k : ℕ) (names : List (List ℕ)) → i
 some_from test k [] = refl
 some_from test k (n ∷ names) = go (test n) (some_from test (k + 1) names)
   where
-    go : (b : Bool) → is_some (position_from test (k + 1) names) ≡ list_any test names → is_some (cond b (Some k) (position_from test (k + 1) names)) ≡ (b || list_any test names)
+    go : (b : Bool) → is_some (position_from test (k + 1) names) ≡ list_any test names
+        → is_some (cond b (Some k) (position_from test (k + 1) names)) ≡ (b || list_any test names)
     go true ih = refl
     go false ih = ih
 

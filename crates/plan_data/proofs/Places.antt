@@ -11,7 +11,9 @@ use Rattle.coll_data.specs.Tiles as tiles
 use Rattle.plan_data.specs.Fit.{shape_of, DataFit}
 
 -- the same for the collection with the number n in a list
-at_places : (cs : List Coll) (n : ℕ) (i j : ℤ) → IsSomeAnd (slice_get (map shape_of cs) n) (λ (s : Shape). IsRow s.rows i × IsColumn s.cols j) ↔ IsSomeAnd (slice_get cs n) (λ (c : Coll). IsRow c.shape.0 i × IsColumn c.shape.1 j)
+at_places : (cs : List Coll) (n : ℕ) (i j : ℤ)
+    → IsSomeAnd (slice_get (map shape_of cs) n) (λ (s : Shape). IsRow s.rows i × IsColumn s.cols j) ↔ IsSomeAnd
+    (slice_get cs n) (λ (c : Coll). IsRow c.shape.0 i × IsColumn c.shape.1 j)
 at_places [] zero i j = (λ w. w, λ w. w)
 at_places [] (suc n) i j = (λ w. w, λ w. w)
 at_places (c ∷ cs) zero i j = (λ w. w, λ w. w)

@@ -38,7 +38,7 @@ use Rattle.print_laws.specs.Same.{nowhere}
 use Rattle.print_laws.proofs.Depth.{named}
 use Rattle.print_laws.proofs.Readable.{IsLike, IsWritten, Reads, reads_both, terminal_at, like_terminal, is_one}
 use Rattle.print_laws.proofs.Limits.{no_cut}
-use Rattle.jdf_print.proofs.Separated.{separated_is}
+use Rattle.jdf_print.proofs.CallerLemmas.{separated_is}
 use Rattle.print_laws.proofs.Spent.{cover}
 use Rattle.print_laws.proofs.Expressions.{DerivesTree, IsName, left_paren, right_paren, colon}
 use Rattle.print_laws.proofs.Forms.{ReadsBackAs, Every, EachReadsBack, IsOuter, outer_reads_back, listed_reads_back}

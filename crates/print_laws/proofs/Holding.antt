@@ -16,7 +16,7 @@ use Rattle.jdf_tree.specs.GrammarParts.{word, prefixed_by, suffixed_by, any, lis
 use Rattle.jdf_tree.specs.ClassGrammar.{full_at}
 use Rattle.print_laws.proofs.Expressions.{IsName}
 use Rattle.print_laws.proofs.Forms.{Every}
-use Rattle.jdf_tree.proofs.TreeLimits.{both_none}
+use Rattle.jdf_tree.proofs.CallerLemmas.{both_none}
 use Rattle.print_laws.proofs.Ends.{Shortens, derives_has_end, none_or}
 use Rattle.print_laws.proofs.Known.{IsKnown, name_known}
 use Rattle.print_laws.proofs.WellFormedExpressions.{known_rest}

@@ -20,3 +20,4 @@ pub mod Lexable
 pub mod Tokens
 pub mod Back
 pub mod Spelled
+pub mod CallerLemmas

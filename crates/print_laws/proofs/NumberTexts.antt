@@ -6,7 +6,7 @@ use Rattle.std.proofs.lemmas.Bool.{and_parts, not-true}
 use Rattle.std.proofs.lemmas.Bool.Decides.{nat_tests}
 use Rattle.ptg_base.specs.Decimal.{is_digit, decimal, is_decimal}
 use Rattle.jdf_tree.specs.Numbers.{has_leading_zero, is_number}
-use Rattle.jdf_tree.proofs.Numbers.{decimal_parts}
+use Rattle.jdf_tree.proofs.CallerLemmas.{decimal_parts}
 
 decimal_from : (most : ℕ) (text : List ℕ) → 0 < length text → list_all is_digit text ≡ true → decimal text ≤ most → is_decimal most text ≡ true
 unfolding is_decimal

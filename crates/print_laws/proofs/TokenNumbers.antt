@@ -14,7 +14,7 @@ use Rattle.jdf_lex.specs.declared.terminal.Terminal.TheVariants.{Inward, Outward
 use Rattle.jdf_lex.specs.declared.terminal.Terminal.TheVariants.{Equal, NotEqual, Less, AtMost, Greater, AtLeast, And}
 use Rattle.jdf_lex.specs.declared.terminal.Terminal.TheVariants.{AndAnd, Or, OrOr, Not}
 use Rattle.jdf_lex.specs.Terminals.{number_of, terminal_at, terminal_of}
-use Rattle.text_laws.proofs.Numbers.{terminal_of_number}
+use Rattle.text_laws.proofs.CallerLemmas.{terminal_of_number}
 
 -- the number of each terminal is below 64
 below : (k : Terminal) → number_of k < 64

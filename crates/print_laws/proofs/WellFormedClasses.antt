@@ -32,7 +32,7 @@ use Rattle.print_laws.proofs.Expressions.{IsName}
 use Rattle.print_laws.proofs.Forms.{Every, IsOuter}
 use Rattle.print_laws.proofs.Targets.{IsArgument, IsTarget, IsChoice, IsDependence}
 use Rattle.print_laws.proofs.Classes.{IsFlow, IsDefinition, IsParameter, IsPriority, IsInBody, IsBody, IsClass, IsJob}
-use Rattle.jdf_tree.proofs.TreeLimits.{both_none, cut_none}
+use Rattle.jdf_tree.proofs.CallerLemmas.{both_none, cut_none}
 use Rattle.print_laws.proofs.Ends.{Shortens, derives_has_end}
 use Rattle.print_laws.proofs.Known.{IsKnown, name_known, body_known}
 use Rattle.print_laws.proofs.WellFormedExpressions as expression

@@ -11,7 +11,7 @@ use Rattle.jdf_lex.specs.Terminals.{terminal_of, is}
 use Rattle.jdf_lex.specs.Counted.{is_name, is_counted}
 use Rattle.jdf_lex.specs.Sets.{limit_at, one_of, IsOne}
 use Rattle.grammar_core.specs.Production.{map, seq, opt, Fault, Language, Many, Derives, taken, bad_unless}
-use Rattle.text_laws.proofs.Disjoint.{is_within, within_at}
+use Rattle.text_laws.proofs.CallerLemmas.{is_within, within_at}
 use Rattle.jdf_tree.specs.declared.expression.Word.{Word}
 use Rattle.jdf_tree.specs.declared.expression.ExprWithSpot.{ExprWithSpot}
 use Rattle.jdf_tree.specs.declared.part.Part.TheVariants.{Class}
@@ -29,7 +29,7 @@ use Rattle.print_laws.proofs.Limits.{number_of, fit_few, number_of-append}
 use Rattle.print_laws.proofs.Spent.{weight}
 use Rattle.print_laws.proofs.Expressions.{IsWellFormed, IsName}
 use Rattle.print_laws.proofs.Forms.{Every, IsOuter}
-use Rattle.jdf_tree.proofs.TreeLimits.{both_none, cut_none}
+use Rattle.jdf_tree.proofs.CallerLemmas.{both_none, cut_none}
 use Rattle.print_laws.proofs.Ends.{IsNone, HasEnd, Shortens, derives_has_end}
 use Rattle.print_laws.proofs.Known.{IsKnown, name_known}
 

@@ -42,12 +42,22 @@ same_edge a b = same_task a.from b.from && (nat_eq a.out_flow b.out_flow && (sam
 
 -- the test `same_edge` holds if and only if the edges are the same
 pub same_edge-decides : (a b : Edge) → IsTrue (same_edge a b) ↔ (a ≡ b)
-same_edge-decides a b =
-    (λ h. one (fields.0 h), λ e. fields.1 (ap (λ (x : Edge). x.from) e, (ap (λ (x : Edge). x.out_flow) e, (ap (λ (x : Edge). x.to) e, ap (λ (x : Edge). x.in_flow) e))))
+same_edge-decides a b = (
+  λ h. one (fields.0 h),
+  λ e. fields.1 (
+    ap (λ (x : Edge). x.from) e,
+    (
+      ap (λ (x : Edge). x.out_flow) e,
+      (ap (λ (x : Edge). x.to) e, ap (λ (x : Edge). x.in_flow) e),
+    ),
+  ),
+)
   where
     fields : IsTrue (same_edge a b) ↔ ((a.from ≡ b.from) × ((a.out_flow ≡ b.out_flow) × ((a.to ≡ b.to) × (a.in_flow ≡ b.in_flow))))
     fields =
-        both_decide (same_task a.from b.from) (nat_eq a.out_flow b.out_flow && (same_task a.to b.to && nat_eq a.in_flow b.in_flow)) (same_task-decides a.from b.from)
+        both_decide (same_task a.from b.from)
+        (nat_eq a.out_flow b.out_flow && (same_task a.to b.to && nat_eq a.in_flow b.in_flow))
+        (same_task-decides a.from b.from)
         (both_decide (nat_eq a.out_flow b.out_flow) (same_task a.to b.to && nat_eq a.in_flow b.in_flow) (unsigned_Decides a.out_flow b.out_flow)
         (both_decide (same_task a.to b.to) (nat_eq a.in_flow b.in_flow) (same_task-decides a.to b.to) (unsigned_Decides a.in_flow b.in_flow)))
 
@@ -55,7 +65,9 @@ same_edge-decides a b =
     one p = λ k. record { from = p.0 k; out_flow = p.1.0 k; to = p.1.1.0 k; in_flow = p.1.1.1 k }
 
 -- the fields' comparisons one after another are the order of edges
-pub edge_cmp-fields : (a b : Edge) → ordering_then (task_cmp a.from b.from) (ordering_then (nat_cmp a.out_flow b.out_flow) (ordering_then (task_cmp a.to b.to) (nat_cmp a.in_flow b.in_flow))) ≡ edge_cmp a b
+pub edge_cmp-fields : (a b : Edge) → ordering_then (task_cmp a.from b.from)
+    (ordering_then (nat_cmp a.out_flow b.out_flow)
+    (ordering_then (task_cmp a.to b.to) (nat_cmp a.in_flow b.in_flow))) ≡ edge_cmp a b
 edge_cmp-fields a b =
     ap (λ o. ordering_then (task_cmp a.from b.from) (ordering_then (nat_cmp a.out_flow b.out_flow) (ordering_then (task_cmp a.to b.to) o)))
     (then_equal (nat_cmp a.in_flow b.in_flow))
@@ -77,8 +89,13 @@ same_write_back-decides a b =
     one p = λ k. record { from = p.0 k; flow = p.1.0 k; place = p.1.1 k }
 
 -- the fields' comparisons one after another are the order of write-backs
-pub write_back_cmp-fields : (a b : WriteBack) → ordering_then (task_cmp a.from b.from) (ordering_then (nat_cmp a.flow b.flow) (ordering_then (nat_cmp a.place.coll b.place.coll) (ordering_then (int_cmp a.place.i b.place.i) (int_cmp a.place.j b.place.j)))) ≡ write_back_cmp a b
+pub write_back_cmp-fields : (a b : WriteBack)
+    → ordering_then (task_cmp a.from b.from)
+    (ordering_then (nat_cmp a.flow b.flow)
+    (ordering_then (nat_cmp a.place.coll b.place.coll)
+    (ordering_then (int_cmp a.place.i b.place.i) (int_cmp a.place.j b.place.j)))) ≡ write_back_cmp a b
 write_back_cmp-fields a b =
-    let place : ordering_then (nat_cmp a.place.coll b.place.coll) (ordering_then (int_cmp a.place.i b.place.i) (int_cmp a.place.j b.place.j)) ≡ place_cmp a.place b.place
+    let place : ordering_then (nat_cmp a.place.coll b.place.coll)
+    (ordering_then (int_cmp a.place.i b.place.i) (int_cmp a.place.j b.place.j)) ≡ place_cmp a.place b.place
     = ap (λ o. ordering_then (nat_cmp a.place.coll b.place.coll) (ordering_then (int_cmp a.place.i b.place.i) o)) (then_equal (int_cmp a.place.j b.place.j)) in
     ap (λ o. ordering_then (task_cmp a.from b.from) (ordering_then (nat_cmp a.flow b.flow) o)) (place ∙ then_equal (place_cmp a.place b.place))

@@ -1,5 +1,6 @@
 -- The value of decimal digits that are read one after another.
-use Rattle.std.proofs.Common.{◌≡◌, ℕ, suc, ◌+◌, ◌-◌, ◌*◌, ◌/◌, ◌^◌, ◌<◌, ◌≤◌, Bool, true, false, List, [], ◌∷◌, length, drop, get_or, refl, sym, ap, ◌∙◌, ◌⊎◌, inl, inr, arith}
+use Rattle.std.proofs.Common.{◌≡◌, ℕ, suc, ◌+◌, ◌-◌, ◌*◌, ◌/◌, ◌^◌, ◌<◌, ◌≤◌, Bool, true, false, List, [], ◌∷◌, length, drop, get_or, refl, sym, ap}
+use Rattle.std.proofs.Common.{◌∙◌, ◌⊎◌, inl, inr, arith}
 use Rattle.std.specs.Prelude.{◌&&◌, nat_le}
 use Rattle.std.specs.List.{list_all}
 use Rattle.std.proofs.Math.Nat.{mul-one, zero-mul, add-mul, pow-suc, mul_assoc, mul_comm}
@@ -22,7 +23,8 @@ continued_is n (b ∷ bs) = continued_is (10 * n + (b - 48)) bs ∙ step n (b - 
     step n d k rest =
         let p : 10 ^ suc k ≡ 10 ^ k * 10 = pow-suc 10 k in
         let a : (10 * n + d) * 10 ^ k ≡ 10 * n * 10 ^ k + d * 10 ^ k = add-mul (10 * n) d (10 ^ k) in
-        let b : n * 10 ^ suc k ≡ 10 * n * 10 ^ k = ap (λ (x : ℕ). n * x) p ∙ (sym (mul_assoc n (10 ^ k) 10) ∙ (mul_comm (n * 10 ^ k) 10 ∙ sym (mul_assoc 10 n (10 ^ k)))) in
+        let b : n * 10 ^ suc k ≡ 10 * n * 10 ^ k = ap (λ (x : ℕ). n * x) p
+        ∙ (sym (mul_assoc n (10 ^ k) 10) ∙ (mul_comm (n * 10 ^ k) 10 ∙ sym (mul_assoc 10 n (10 ^ k)))) in
         omega (arith, a, b)
 
 pub begins : (text : List ℕ) → continued 0 text ≡ decimal text
@@ -60,19 +62,23 @@ no_digits most [] h = refl
 no_digits most (b ∷ bs) h = absurd (omega (arith, h))
 
 module _ (most : ℕ) (text : List ℕ) (i : ℕ) where
-  pub bad_digit : list_all is_digit (drop i text) ≡ list_all is_digit text → i < length text → (get_or text i 0 < 48) ⊎ (57 < get_or text i 0) → is_decimal most text ≡ false
+  pub bad_digit : list_all is_digit (drop i text) ≡ list_all is_digit text → i < length text
+      → (get_or text i 0 < 48) ⊎ (57 < get_or text i 0) → is_decimal most text ≡ false
   bad_digit same h bad =
       let here : list_all is_digit (drop i text) ≡ false = ap (list_all is_digit) (drop-cons text i 0 h) ∙ left_false _ _ (no_digit _ bad) in
       fits_is most text (omega (arith, h)) ∙ left_false _ _ (sym same ∙ here)
 
-  pub too_large : (v : ℕ) → continued v (drop i text) ≡ decimal text → i < length text → (most < get_or text i 0 - 48) ⊎ ((most - (get_or text i 0 - 48)) / 10 < v) → is_decimal most text ≡ false
+  pub too_large : (v : ℕ) → continued v (drop i text) ≡ decimal text → i < length text
+      → (most < get_or text i 0 - 48) ⊎ ((most - (get_or text i 0 - 48)) / 10 < v) → is_decimal most text ≡ false
   too_large v same h over =
       let next : continued v (drop i text) ≡ continued (10 * v + (get_or text i 0 - 48)) (drop (suc i) text) = ap (continued v) (drop-cons text i 0 h) in
       let more = grows (10 * v + (get_or text i 0 - 48)) (drop (suc i) text) in
       let large : most < decimal text = elim over [ inl o ↦ omega (arith, next, more, same, o) | inr o ↦ omega (arith, next, more, same, o) ] in
       fits_is most text (omega (arith, h)) ∙ both_false (list_all is_digit text) (nat_le (decimal text) most) (grind (arith, nat_tests, large))
 
-  pub all_fit : (v : ℕ) → 0 < length text → continued v (drop i text) ≡ decimal text → list_all is_digit (drop i text) ≡ list_all is_digit text → length text ≤ i → v ≤ most → (is_decimal most text ≡ true) × (v ≡ decimal text)
+  pub all_fit : (v : ℕ) → 0 < length text → continued v (drop i text) ≡ decimal text
+      → list_all is_digit (drop i text) ≡ list_all is_digit text → length text ≤ i → v ≤ most
+      → (is_decimal most text ≡ true) × (v ≡ decimal text)
   all_fit v some same digits h fit =
       let value : v ≡ decimal text = sym (ap (continued v) (drop_all i text h)) ∙ same in
       let good : list_all is_digit text ≡ true = sym digits ∙ ap (list_all is_digit) (drop_all i text h) in

@@ -4,7 +4,8 @@ use Rattle.std.proofs.Common.{refl, sym, ap, ◌∙◌, true≢false}
 use Rattle.std.specs.declared.cmp.Ordering.{Ordering}
 use Rattle.std.specs.declared.cmp.Ordering.TheVariants.{Less, Equal, Greater}
 use Rattle.std.specs.Ordering.{nat_cmp, int_cmp, int_eq, is_lt, is_eq, ordering_then, ordering_reverse}
-use Rattle.std.specs.Cmp.{IsTotalOrder, Equal-is, both_tied, first_so, second_so, unsigned_ties, unsigned_Decides, then_total, on_total, nat_cmp_total, int_cmp_total}
+use Rattle.std.specs.Cmp.{IsTotalOrder, Equal-is, both_tied, first_so, second_so, unsigned_ties, unsigned_Decides, then_total, on_total}
+use Rattle.std.specs.Cmp.{nat_cmp_total, int_cmp_total}
 use Rattle.std.specs.Cmp.Lexicographic.{pointwise, slice_cmp, lists_ties, lists_total}
 use Rattle.std.specs.Cmp.Rules.{signed_items}
 use Rattle.ptg_base.specs.Task.{Task}

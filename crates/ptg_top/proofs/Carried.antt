@@ -8,7 +8,7 @@ use Rattle.run_pool.specs.declared.settings.Settings.{Settings}
 use Rattle.ptg_words.specs.declared.order.Order.{Order}
 use Rattle.ptg_words.specs.Laws.{files_of}
 use Rattle.ptg_words.specs.Words.{Orders}
-use Rattle.ptg_words.proofs.OneCommand.{one_command}
+use Rattle.ptg_words.proofs.CallerLemmas.{one_command}
 use Rattle.ptg_top.specs.declared.command.Command.{Command}
 use Rattle.ptg_top.specs.declared.verdict.Verdict.{Verdict}
 use Rattle.ptg_top.specs.Commands.{command_of, files_of_steps}

@@ -12,3 +12,4 @@ pub mod Actions
 pub mod Carried
 pub mod Ending
 pub mod Receipts
+pub mod CallerLemmas

@@ -11,7 +11,7 @@ use Rattle.flow_meaning.specs.declared.outcome.Outcome.{Outcome}
 use Rattle.trace_core.specs.Faults.{IsTraceFault, of_spelling}
 use Rattle.trace_core.specs.Reading.{over_length, too_long}
 use Rattle.trace_core.specs.declared.fault.TraceFault.{TraceFault}
-use Rattle.trace_core.proofs.Either.{fault_or_trace}
+use Rattle.trace_core.proofs.CallerLemmas.{fault_or_trace}
 use Rattle.ptg_top.specs.declared.verdict.Finding.TheVariants.{Answer}
 use Rattle.ptg_top.specs.declared.verdict.Verdict.{Verdict}
 use Rattle.ptg_top.specs.Denotation as verdicts

@@ -11,7 +11,7 @@ use Rattle.flow_meaning.specs.Order.{IsWholeOrder}
 use Rattle.run_pool.specs.Runs.{Run, run_of}
 use Rattle.run_pool.specs.declared.settings.Settings.{Settings}
 use Rattle.trace_core.specs.Text.{trace_text}
-use Rattle.trace_core.proofs.Either.{order_tasks}
+use Rattle.trace_core.proofs.CallerLemmas.{order_tasks}
 use Rattle.ptg_top.specs.declared.verdict.Finding.TheVariants.{Trace}
 use Rattle.ptg_top.specs.Denotation as verdicts
 use Rattle.ptg_top.specs.Tables.{IsTableAnswer}

@@ -3,7 +3,8 @@
 -- Tested by: all rows.
 use Rattle.std.specs.Prelude.{ℕ}
 use Rattle.ptg_top.specs.declared.status.Status.{Status}
-use Rattle.ptg_top.specs.declared.status.Status.TheVariants.{Complete, Usage, JdfRefused, DataRefused, Inconsistent, Trapped, Stalled, ReadFault, WriteFault, OutOfMemory, PreloadTooLarge, TraceRefused}
+use Rattle.ptg_top.specs.declared.status.Status.TheVariants.{Complete, Usage, JdfRefused, DataRefused, Inconsistent, Trapped, Stalled, ReadFault}
+use Rattle.ptg_top.specs.declared.status.Status.TheVariants.{WriteFault, OutOfMemory, PreloadTooLarge, TraceRefused}
 
 -- the exit status as a number
 abbrev pub code_of : Status → ℕ

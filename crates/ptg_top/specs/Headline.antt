@@ -7,7 +7,8 @@ use Rattle.report_text.specs.Puts.{HasPrefix}
 use Rattle.report_text.specs.Refusal.{preload_line, refusal_text, unread_line, usage_line}
 use Rattle.report_text.specs.declared.refusal_line.Line.TheVariants as line_of
 use Rattle.ptg_top.specs.declared.status.Status.{Status}
-use Rattle.ptg_top.specs.declared.status.Status.TheVariants.{Complete, Usage, JdfRefused, DataRefused, Inconsistent, Trapped, Stalled, ReadFault, WriteFault, OutOfMemory, PreloadTooLarge, TraceRefused}
+use Rattle.ptg_top.specs.declared.status.Status.TheVariants.{Complete, Usage, JdfRefused, DataRefused, Inconsistent, Trapped, Stalled, ReadFault}
+use Rattle.ptg_top.specs.declared.status.Status.TheVariants.{WriteFault, OutOfMemory, PreloadTooLarge, TraceRefused}
 use Rattle.ptg_top.specs.Denotation as verdicts
 use Rattle.ptg_top.specs.Denotation.{Denotation}
 use Rattle.ptg_top.specs.Findings.{finding_text, status_of_finding}

@@ -1,5 +1,6 @@
 -- The steps that build a command and gather its operands.
-use Rattle.std.proofs.Common.{◌≡◌, ℕ, zero, suc, ◌+◌, ◌<◌, ◌≤◌, false, List, [], ◌∷◌, ◌++◌, map, take, length, get_or, Option, Some, None, Result, Ok, Err, IfOk, IsErrAnd, refl, sym, ap, ap₂, ◌∙◌, append_assoc, arith}
+use Rattle.std.proofs.Common.{◌≡◌, ℕ, zero, suc, ◌+◌, ◌<◌, ◌≤◌, false, List, [], ◌∷◌, ◌++◌, map, take, length, get_or, Option, Some, None, Result}
+use Rattle.std.proofs.Common.{Ok, Err, IfOk, IsErrAnd, refl, sym, ap, ap₂, ◌∙◌, append_assoc, arith}
 use Rattle.std.specs.Borrow.{Bor}
 use Rattle.std.proofs.lemmas.List.{length-map, map_more, map-append}
 use Rattle.std.specs.declared.alloc.AllocError.{AllocError}
@@ -38,9 +39,12 @@ pub values_more : (g : Text → Option Text) (ids : List (Bor Text)) (i : ℕ) (
 values_more g ids i d old new word lt before is pushed =
     ap (map g) (texts_more ids i d lt) ∙ map-append g (texts (take i ids)) ((get_or ids i d).now ∷ [])
     ∙ ap₂ (λ (xs : List (Option Text)) (x : Option Text). xs ++ x ∷ []) before (sym is)
-    ∙ sym (ap (λ xs. map Some (texts xs)) pushed ∙ ap (map Some) (map-append (λ (s : Bor Text). s.now) old (word ∷ [])) ∙ map-append Some (texts old) (word.now ∷ []))
+    ∙ sym (ap (λ xs. map Some (texts xs)) pushed
+    ∙ ap (map Some) (map-append (λ (s : Bor Text). s.now) old (word ∷ []))
+    ∙ map-append Some (texts old) (word.now ∷ []))
 
-pub all_have_values : (g : Text → Option Text) (ids : List (Bor Text)) (values : List Text) (i : ℕ) (d : Bor Text) → i < length ids → map g (texts ids) ≡ map Some values
+pub all_have_values : (g : Text → Option Text) (ids : List (Bor Text)) (values : List Text) (i : ℕ) (d : Bor Text)
+    → i < length ids → map g (texts ids) ≡ map Some values
     → None ≡ g (get_or ids i d).now → ⊥
 all_have_values g [] values i d lt h e = absurd (omega (arith, lt))
 all_have_values g (x ∷ xs) [] i d lt h e = absurd cc

@@ -1,5 +1,6 @@
 -- What clap finds in the words of a verb with these operands and options.
-use Rattle.std.proofs.Common.{◌≡◌, ◌≢◌, ℕ, ◌+◌, ◌≤◌, Bool, true, false, not, cond, ◌&&◌, ◌||◌, List, [], ◌∷◌, ◌++◌, map, length, Option, Some, None, is_some, refl, sym, ap, ◌∙◌, arith, codes}
+use Rattle.std.proofs.Common.{◌≡◌, ◌≢◌, ℕ, ◌+◌, ◌≤◌, Bool, true, false, not, cond, ◌&&◌, ◌||◌, List, [], ◌∷◌, ◌++◌, map, length, Option, Some, None}
+use Rattle.std.proofs.Common.{is_some, refl, sym, ap, ◌∙◌, arith, codes}
 use Rattle.std.specs.Prelude.{slice_get, nat_le, ◌==◌, drop, find, option_map, option_and_then}
 use Rattle.std.specs.List.{list_any, list_all, AllByRecursion}
 use Rattle.std.specs.Str.{bytes_eq}
@@ -20,9 +21,11 @@ use Rattle.ptg_words.specs.Commands.{verb_command}
 use Rattle.ptg_words.proofs.ClapUses.{Use, use_row, fresh, none}
 use Rattle.ptg_words.proofs.ClapStates.{uses, shape}
 use Rattle.ptg_words.proofs.ClapViews.{view, option_view}
-use Rattle.ptg_words.proofs.PartsOfUses.{Apart, NoneIs, fresh_once, free_at, good_is, value_in, operand_at, all_there, all_values, number_option_value, preload_value}
+use Rattle.ptg_words.proofs.PartsOfUses.{Apart, NoneIs, fresh_once, free_at, good_is, value_in, operand_at, all_there, all_values}
+use Rattle.ptg_words.proofs.PartsOfUses.{number_option_value, preload_value}
 use Rattle.ptg_words.proofs.ClapEnd.{Fits, passes, level_passes, final_rows, settle_terms, seen, or_seen, seen_append, first_seen}
-use Rattle.ptg_words.proofs.ClapRules.{rules_from, filled_is, simple_new, simple_built, free_built, none_early, by_short, by_long, option_value, positions, quiet_rules, off_row, tail_of, finished, nothing_added, required}
+use Rattle.ptg_words.proofs.ClapRules.{rules_from, filled_is, simple_new, simple_built, free_built, none_early, by_short, by_long, option_value}
+use Rattle.ptg_words.proofs.ClapRules.{positions, quiet_rules, off_row, tail_of, finished, nothing_added, required}
 use Rattle.ptg_words.proofs.ValuesRead.{none_is, some_is, counted}
 use Rattle.std.specs.Cmp.{first_so}
 use Rattle.std.proofs.lemmas.Bool.{not-true, and_parts}
@@ -45,7 +48,8 @@ apart_ids (i ∷ is) h =
     let of_preload = not-true _ frees.1 in
     (own of_workers of_shards, of_preload, bytes_eq-sym_false (codes "preload") i of_preload, not-true _ rest.0, apart_ids is rest.1)
   where
-    own : bytes_eq (codes "workers") i ≡ false → bytes_eq (codes "shards") i ≡ false → (s : NumberOption) → (bytes_eq (name_of s) i ≡ false) × (bytes_eq i (name_of s) ≡ false)
+    own : bytes_eq (codes "workers") i ≡ false → bytes_eq (codes "shards") i ≡ false → (s : NumberOption)
+        → (bytes_eq (name_of s) i ≡ false) × (bytes_eq i (name_of s) ≡ false)
     own w k workers = (w, bytes_eq-sym_false (codes "workers") i w)
     own w k shards = (k, bytes_eq-sym_false (codes "shards") i k)
 
@@ -116,7 +120,9 @@ has_first : (id : Text) (us : List Use) → has_row id (map use_row us) ≡ is_s
 has_first id [] = refl
 has_first id (u ∷ us) = go (bytes_eq u.0 id) (has_first id us)
   where
-    go : (b : Bool) → has_row id (map use_row us) ≡ is_some (value_in id us) → (b || has_row id (map use_row us)) ≡ is_some (option_map (λ (v : Use). v.1) (cond b (Some u) (find (λ (v : Use). bytes_eq v.0 id) us)))
+    go : (b : Bool) → has_row id (map use_row us) ≡ is_some (value_in id us)
+        → (b || has_row id (map use_row us))
+        ≡ is_some (option_map (λ (v : Use). v.1) (cond b (Some u) (find (λ (v : Use). bytes_eq v.0 id) us)))
     go true e = refl
     go false e = e
 
@@ -142,17 +148,23 @@ flag_found o us b e =
     bare (Some u) false e = absurd cc
 
     with_off : (f : Option Use) (b : Bool) → option_map (λ (u : Use). u.1) f ≡ cond b (Some (codes "true")) None
-        → option_and_then row_text (or_seen (option_map use_row f) (seen (codes "preload") (cond (is_some (option_map (λ (u : Use). u.1) f)) [] (off_row ∷ [])))) ≡ flag_text CountsAndPreload b
+        → option_and_then row_text (or_seen (option_map use_row f)
+        (seen (codes "preload") (cond (is_some (option_map (λ (u : Use). u.1) f)) [] (off_row ∷ []))))
+        ≡ flag_text CountsAndPreload b
     with_off None true e = absurd cc
     with_off None false e = refl
     with_off (Some u) true e = e
     with_off (Some u) false e = absurd cc
 
-    by : (o : Options) → option_and_then row_text (or_seen (option_map use_row (find (λ (u : Use). bytes_eq u.0 (codes "preload")) us)) (seen (codes "preload") (tail_of o (map use_row us)))) ≡ flag_text o b
+    by : (o : Options) → option_and_then row_text
+        (or_seen (option_map use_row (find (λ (u : Use). bytes_eq u.0 (codes "preload")) us))
+        (seen (codes "preload") (tail_of o (map use_row us)))) ≡ flag_text o b
     by NoOptions = bare (find (λ (u : Use). bytes_eq u.0 (codes "preload")) us) b e
     by Counts = bare (find (λ (u : Use). bytes_eq u.0 (codes "preload")) us) b e
     by CountsAndPreload =
-        ap (λ h. option_and_then row_text (or_seen (option_map use_row (find (λ (u : Use). bytes_eq u.0 (codes "preload")) us)) (seen (codes "preload") (cond h [] (off_row ∷ [])))))
+        ap (λ h. option_and_then row_text
+        (or_seen (option_map use_row (find (λ (u : Use). bytes_eq u.0 (codes "preload")) us))
+        (seen (codes "preload") (cond h [] (off_row ∷ [])))))
         (has_first (codes "preload") us)
         ∙ with_off (find (λ (u : Use). bytes_eq u.0 (codes "preload")) us) b e
 
@@ -163,7 +175,8 @@ pub record WordsFound (f : Found) (ids : List Text) (o : Options) (ps : List Par
   pub number_text : (s : NumberOption) → first_value f (name_of s) ≡ slice_get (texts_of s ps) 0
   pub preload_text : one_text f (codes "preload") ≡ flag_text o (list_any is_preload ps)
 
-module _ (app : App) (name : Text) (ids : List Text) (o : Options) (ws : List Text) (is : app ≡ verb_command name ids o) (are : are_ids ids ≡ true) (few : length ids ≤ 4)
+module _ (app : App) (name : Text) (ids : List Text) (o : Options) (ws : List Text)
+    (is : app ≡ verb_command name ids o) (are : are_ids ids ≡ true) (few : length ids ≤ 4)
     (proper : AllByRecursion IsProper (drop 1 ws)) where
   in_bound : 1 + length ids ≤ 100
   in_bound = omega (arith, few)

@@ -1,5 +1,6 @@
 -- What clap does with all words of a command: which it refuses, and the values that it finds.
-use Rattle.std.proofs.Common.{◌≡◌, ℕ, Bool, true, false, not, cond, ◌&&◌, List, [], ◌∷◌, ◌++◌, map, Option, Some, None, is_some, refl, sym, ap, ◌∙◌, codes, append_assoc}
+use Rattle.std.proofs.Common.{◌≡◌, ℕ, Bool, true, false, not, cond, ◌&&◌, List, [], ◌∷◌, ◌++◌, map, Option, Some, None, is_some, refl, sym, ap, ◌∙◌}
+use Rattle.std.proofs.Common.{codes, append_assoc}
 use Rattle.std.specs.Prelude.{find, fold, option_map, option_and_then, slice_get}
 use Rattle.std.specs.Option.{option_map_or}
 use Rattle.std.specs.List.{list_any, list_all, AllByRecursion}
@@ -38,7 +39,8 @@ seen_append id [] t = refl
 seen_append id (u ∷ us) t = go (bytes_eq u.0 id) (seen_append id us t)
   where
     go : (b : Bool) → seen id (map use_row us ++ t) ≡ or_seen (option_map use_row (find (λ (u : Use). bytes_eq u.0 id) us)) (seen id t)
-        → cond b (Some (use_row u)) (seen id (map use_row us ++ t)) ≡ or_seen (option_map use_row (cond b (Some u) (find (λ (u : Use). bytes_eq u.0 id) us))) (seen id t)
+        → cond b (Some (use_row u)) (seen id (map use_row us ++ t))
+        ≡ or_seen (option_map use_row (cond b (Some u) (find (λ (u : Use). bytes_eq u.0 id) us))) (seen id t)
     go true e = refl
     go false e = e
 
@@ -53,20 +55,23 @@ module _ (id : Text) (us : List Use) (t : List Row) (absent : seen id t ≡ None
   given_seen : is_given id (map use_row us ++ t) ≡ is_some (value_in id us)
   given_seen = ap (λ o. option_map_or (λ (r : Row). explicit_source r.source) o false) (seen_append id us t) ∙ go (find (λ (u : Use). bytes_eq u.0 id) us)
     where
-      go : (o : Option Use) → option_map_or (λ (r : Row). explicit_source r.source) (or_seen (option_map use_row o) (seen id t)) false ≡ is_some (option_map (λ (u : Use). u.1) o)
+      go : (o : Option Use) → option_map_or (λ (r : Row). explicit_source r.source)
+          (or_seen (option_map use_row o) (seen id t)) false ≡ is_some (option_map (λ (u : Use). u.1) o)
       go None = ap (λ o. option_map_or (λ (r : Row). explicit_source r.source) o false) absent
       go (Some u) = refl
 
 -- ---- defaults
 
-pub value_default : (rows : List Row) (id : Text) (long : Option Text) (index : Option ℕ) (required : Bool) → default_fault rows (value_rule id long index required) ≡ []
+pub value_default : (rows : List Row) (id : Text) (long : Option Text) (index : Option ℕ) (required : Bool)
+    → default_fault rows (value_rule id long index required) ≡ []
 value_default rows id long index required = go (has_row id rows) refl
   where
     go : (b : Bool) → has_row id rows ≡ b → default_fault rows (value_rule id long index required) ≡ []
     go true e = rw e refl
     go false e = rw e refl
 
-pub value_kept : (rows : List Row) (id : Text) (long : Option Text) (index : Option ℕ) (required : Bool) → with_default rows (value_rule id long index required) ≡ rows
+pub value_kept : (rows : List Row) (id : Text) (long : Option Text) (index : Option ℕ) (required : Bool)
+    → with_default rows (value_rule id long index required) ≡ rows
 value_kept rows id long index required = go (has_row id rows) refl
   where
     go : (b : Bool) → has_row id rows ≡ b → with_default rows (value_rule id long index required) ≡ rows
@@ -124,7 +129,8 @@ module _ (name : Text) (c : List Rule) (ids : List Text) (opts : Options) (fits 
   unfolding none
   check_is rows = go (list_any (λ (a : Rule). a.required && not (is_given a.id rows)) c) refl
     where
-      go : (b : Bool) → list_any (λ (a : Rule). a.required && not (is_given a.id rows)) c ≡ b → none (check_fault (shape name c opts) rows false) ≡ list_all (λ i. is_given i rows) ids
+      go : (b : Bool) → list_any (λ (a : Rule). a.required && not (is_given a.id rows)) c ≡ b
+          → none (check_fault (shape name c opts) rows false) ≡ list_all (λ i. is_given i rows) ids
       go true e = rw e (sym (flip (sym (fits.required rows) ∙ e)))
         where
           flip : not (list_all (λ i. is_given i rows) ids) ≡ true → list_all (λ i. is_given i rows) ids ≡ false
@@ -147,24 +153,28 @@ module _ (name : Text) (c : List Rule) (ids : List Text) (opts : Options) (fits 
       ∙ sym (and_assoc (none W) (none S) (none C)) ∙ ap (λ b. b && none C) (sym (none_else W S))
       ∙ ap (λ b. none (or_else W S) && b) (check_is (rows_at_end ws))
 
-  pub ends : (ws : List Text) → AllByRecursion IsProper ws → Ends (total name c opts (here [] (quiet None) 1) ws) (final name c opts (here [] (quiet None) 1) ws)
+  pub ends : (ws : List Text) → AllByRecursion IsProper ws
+      → Ends (total name c opts (here [] (quiet None) 1) ws) (final name c opts (here [] (quiet None) 1) ws)
       (added [] (uses ids (parts opts ws))) (good ids (parts opts ws) && fresh [] (uses ids (parts opts ws)))
   ends ws p = walks name c opts ws (all_views ws p) [] (quiet None) 1 ids tt fits.positions
 
   pub final_rows : (ws : List Text) → AllByRecursion IsProper ws → (good ids (parts opts ws) && fresh [] (uses ids (parts opts ws))) ≡ true
       → rows_at_end ws ≡ map use_row (uses ids (parts opts ws)) ++ fits.tail (map use_row (uses ids (parts opts ws)))
   final_rows ws p h =
-      ap (λ rows. fold with_default rows c) ((ends ws p).rows h ∙ added_is [] (uses ids (parts opts ws))) ∙ fits.finished_is (map use_row (uses ids (parts opts ws)))
+      ap (λ rows. fold with_default rows c) ((ends ws p).rows h ∙ added_is [] (uses ids (parts opts ws)))
+      ∙ fits.finished_is (map use_row (uses ids (parts opts ws)))
 
   pub level_passes : (ws : List Text) → AllByRecursion IsProper ws → none (level_fault (shape name c opts) [] nothing_held ws false []) ≡ passes ws
-  level_passes ws p = level_is ws ∙ ap (λ b. b && list_all (λ i. is_given i (rows_at_end ws)) ids) (ends ws p).sound ∙ go (good ids (parts opts ws) && fresh [] (uses ids (parts opts ws))) refl
+  level_passes ws p = level_is ws ∙ ap (λ b. b && list_all (λ i. is_given i (rows_at_end ws)) ids) (ends ws p).sound
+      ∙ go (good ids (parts opts ws) && fresh [] (uses ids (parts opts ws))) refl
     where
       go : (b : Bool) → (good ids (parts opts ws) && fresh [] (uses ids (parts opts ws))) ≡ b
           → ((good ids (parts opts ws) && fresh [] (uses ids (parts opts ws))) && list_all (λ i. is_given i (rows_at_end ws)) ids) ≡ passes ws
       go false e = rw e refl
       go true e = ap (λ rows. (good ids (parts opts ws) && fresh [] (uses ids (parts opts ws))) && list_all (λ i. is_given i rows) ids) (final_rows ws p e)
           ∙ ap (λ b. (good ids (parts opts ws) && fresh [] (uses ids (parts opts ws))) && b)
-          (each_given ids (uses ids (parts opts ws)) (fits.tail (map use_row (uses ids (parts opts ws)))) (fits.absent (map use_row (uses ids (parts opts ws)))) fits.apart)
+          (each_given ids (uses ids (parts opts ws)) (fits.tail (map use_row (uses ids (parts opts ws))))
+          (fits.absent (map use_row (uses ids (parts opts ws)))) fits.apart)
 
 -- ---- the same in terms of the parts
 

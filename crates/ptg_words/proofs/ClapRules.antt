@@ -1,5 +1,6 @@
 -- The rules of a verb's command: those of its operands, then those of its options.
-use Rattle.std.proofs.Common.{◌≡◌, ℕ, ◌+◌, ◌≤◌, Bool, true, false, not, cond, ◌&&◌, ◌||◌, List, [], ◌∷◌, ◌++◌, map, length, Some, None, refl, sym, ap, ◌∙◌, arith, codes}
+use Rattle.std.proofs.Common.{◌≡◌, ℕ, ◌+◌, ◌≤◌, Bool, true, false, not, cond, ◌&&◌, ◌||◌, List, [], ◌∷◌, ◌++◌, map, length, Some, None, refl, sym}
+use Rattle.std.proofs.Common.{ap, ◌∙◌, arith, codes}
 use Rattle.std.specs.Prelude.{fold, min, ◌==◌}
 use Rattle.std.specs.List.{list_any, list_all}
 use Rattle.std.specs.Str.{bytes_eq}
@@ -92,10 +93,16 @@ by_short n (i ∷ is) o x = by_short (n + 1) is o x
 pub by_long : (n : ℕ) (ids : List Text) (o : Options) (name : Text) → arg_by_long (rules_from n ids o) name ≡ long_rule o name
 by_long n [] NoOptions name = refl
 by_long n [] Counts name = rw (or-false (bytes_eq (codes "workers") name), or-false (bytes_eq (codes "shards") name)) refl
-by_long n [] CountsAndPreload name = rw (or-false (bytes_eq (codes "workers") name), or-false (bytes_eq (codes "shards") name), or-false (bytes_eq (codes "preload") name)) refl
+by_long n [] CountsAndPreload name = rw (
+  or-false (bytes_eq (codes "workers") name),
+  or-false
+      (bytes_eq (codes "shards") name),
+  or-false (bytes_eq (codes "preload") name),
+) refl
 by_long n (i ∷ is) o name = by_long (n + 1) is o name
 
-option_by_id : (n : ℕ) (ids : List Text) (o : Options) (s : NumberOption) → Apart ids → has_counts o ≡ true → arg_by_id (rules_from n ids o) (name_of s) ≡ Some (number_option_rule s)
+option_by_id : (n : ℕ) (ids : List Text) (o : Options) (s : NumberOption) → Apart ids → has_counts o ≡ true
+    → arg_by_id (rules_from n ids o) (name_of s) ≡ Some (number_option_rule s)
 option_by_id n [] NoOptions s a h = absurd cc
 option_by_id n [] Counts workers a h = refl
 option_by_id n [] Counts shards a h = refl
@@ -115,7 +122,8 @@ all_same : (c : List Rule) (ids : List Text) → SameIds c c ids
 all_same c [] = tt
 all_same c (i ∷ is) = (refl, all_same c is)
 
-still_same : (c d : List Rule) (i : Text) (n : ℕ) (ids : List Text) → SameIds c (value_rule i None (Some n) true ∷ d) ids → list_any (bytes_eq i) ids ≡ false → SameIds c d ids
+still_same : (c d : List Rule) (i : Text) (n : ℕ) (ids : List Text)
+    → SameIds c (value_rule i None (Some n) true ∷ d) ids → list_any (bytes_eq i) ids ≡ false → SameIds c d ids
 still_same c d i n [] h e = tt
 still_same c d i n (j ∷ js) h e =
     let two = or_parts (bytes_eq i j) (list_any (bytes_eq i) js) e in
@@ -132,14 +140,16 @@ no_option_index NoOptions k = refl
 no_option_index Counts k = refl
 no_option_index CountsAndPreload k = refl
 
-pub positions_from : (c : List Rule) (n : ℕ) (ids : List Text) (o : Options) → n + length ids ≤ 100 → ((k : ℕ) → n ≤ k → arg_by_index c k ≡ arg_by_index (rules_from n ids o) k)
+pub positions_from : (c : List Rule) (n : ℕ) (ids : List Text) (o : Options) → n + length ids ≤ 100
+    → ((k : ℕ) → n ≤ k → arg_by_index c k ≡ arg_by_index (rules_from n ids o) k)
     → SameIds c (rules_from n ids o) ids → Apart ids → Positions c n ids
 positions_from c n [] o h by found a = by n (omega arith) ∙ no_option_index o n
 positions_from c n (i ∷ is) o h by found a = (
   by n (omega arith) ∙ rw (itself n) refl,
   record { long = None; index = Some n; required = true; found = found.0 ∙ rw (bytes_eq-self i) refl },
   counted_here n is i h,
-  positions_from c (n + 1) is o (omega (arith, h)) (λ k le. by k (omega (arith, le)) ∙ rw (below n k le) refl) (still_same c (rules_from (n + 1) is o) i n is found.1 a.3) a.4,
+  positions_from c (n + 1) is o (omega (arith, h)) (λ k le. by k (omega (arith, le)) ∙ rw (below n k le) refl)
+      (still_same c (rules_from (n + 1) is o) i n is found.1 a.3) a.4,
 )
 
 pub positions : (ids : List Text) (o : Options) → 1 + length ids ≤ 100 → Apart ids → Positions (rules_from 1 ids o) 1 ids
@@ -149,16 +159,22 @@ positions ids o h a = positions_from (rules_from 1 ids o) 1 ids o h (λ k le. re
 
 pub quiet_rules : (n : ℕ) (ids : List Text) (o : Options) → Quiet (rules_from n ids o)
 quiet_rules n [] NoOptions = tt
-quiet_rules n [] Counts = ((λ rows. value_default rows (codes "workers") (Some (codes "workers")) None false), ((λ rows. value_default rows (codes "shards") (Some (codes "shards")) None false), tt))
-quiet_rules n [] CountsAndPreload =
-    ((λ rows. value_default rows (codes "workers") (Some (codes "workers")) None false), ((λ rows. value_default rows (codes "shards") (Some (codes "shards")) None false), (preload_default, tt)))
+quiet_rules n [] Counts = (
+  (λ rows. value_default rows (codes "workers") (Some (codes "workers")) None false),
+  ((λ rows. value_default rows (codes "shards") (Some (codes "shards")) None false), tt),
+)
+quiet_rules n [] CountsAndPreload = (
+  (λ rows. value_default rows (codes "workers") (Some (codes "workers")) None false),
+  ((λ rows. value_default rows (codes "shards") (Some (codes "shards")) None false), (preload_default, tt)),
+)
 quiet_rules n (i ∷ is) o = ((λ rows. value_default rows i None (Some n) true), quiet_rules (n + 1) is o)
 
 -- the row that clap adds if `--preload` is not given
 abbrev pub off_row : Row
 off_row = record { id = codes "preload"; values = codes "false" ∷ []; count = None; source = Some DefaultValue; reading = AsWritten }
 
-off_is : (rows : List Row) → has_row (codes "preload") rows ≡ false → with_values (codes "preload") AsWritten DefaultValue (codes "false" ∷ []) rows ≡ rows ++ off_row ∷ []
+off_is : (rows : List Row) → has_row (codes "preload") rows ≡ false
+    → with_values (codes "preload") AsWritten DefaultValue (codes "false" ∷ []) rows ≡ rows ++ off_row ∷ []
 off_is [] h = refl
 off_is (r ∷ rs) h = let p = other_head (codes "preload") r rs h in rw (p.0, off_is rs p.1) refl
 
@@ -196,7 +212,9 @@ nothing_added CountsAndPreload rows id h = go (has_row (codes "preload") rows)
     go true = refl
     go false = rw h refl
 
-pub required : (rows : List Row) (n : ℕ) (ids : List Text) (o : Options) → list_any (λ (a : Rule). a.required && not (is_given a.id rows)) (rules_from n ids o) ≡ not (list_all (λ i. is_given i rows) ids)
+pub required : (rows : List Row) (n : ℕ) (ids : List Text) (o : Options)
+    → list_any (λ (a : Rule). a.required && not (is_given a.id rows)) (rules_from n ids o)
+    ≡ not (list_all (λ i. is_given i rows) ids)
 required rows n [] NoOptions = refl
 required rows n [] Counts = refl
 required rows n [] CountsAndPreload = refl

@@ -3,7 +3,8 @@ use Rattle.std.proofs.Common.{◌≡◌, ℕ, ◌+◌, Bool, true, false, not, �
 use Rattle.std.specs.Prelude.{fold, min}
 use Rattle.std.specs.Option.{option_map_or}
 use Rattle.std.specs.Str.{bytes_eq}
-use Rattle.clap.specs.Walk.{Held, Row, Rule, Text, Waiting, Walk, idle, option, arg_by_id, arg_by_index, arg_by_long, has_row, settled, settled_rows, used_by_id, walked}
+use Rattle.clap.specs.Walk.{Held, Row, Rule, Text, Waiting, Walk, idle, option, arg_by_id, arg_by_index, arg_by_long, has_row, settled, settled_rows}
+use Rattle.clap.specs.Walk.{used_by_id, walked}
 use Rattle.clap.specs.Simple.{Shape, new_shape}
 use Rattle.clap.specs.Kinds.{Kinds, or_else}
 use Rattle.clap.specs.Faults.{use_fault, settle_fault, turn_fault, walk_fault, flag_word_fault}
@@ -11,7 +12,8 @@ use Rattle.clap.specs.Lexer.{usize_max}
 use Rattle.clap.specs.Lexer.{long_of, short_of}
 use Rattle.ptg_words.specs.declared.options.Options.{Options}
 use Rattle.ptg_words.specs.Parts.{NumberOption, Part, name_of, after, form_of, operand, given, lacking, preload, stray, plain, named, flag, unknown}
-use Rattle.ptg_words.proofs.ClapUses.{none, none_else, value_rule, preload_rule, number_option_rule, Use, added, fresh, value_fault, value_used, and_true, and_assoc}
+use Rattle.ptg_words.proofs.ClapUses.{none, none_else, value_rule, preload_rule, number_option_rule, Use, added, fresh, value_fault, value_used}
+use Rattle.ptg_words.proofs.ClapUses.{and_true, and_assoc}
 
 -- ---- the walk between two words
 

@@ -9,7 +9,8 @@ use Rattle.clap.specs.Lexer.{usize_max}
 use Rattle.clap.specs.Lexer.{long_of, short_of}
 use Rattle.ptg_words.specs.declared.options.Options.{Options}
 use Rattle.ptg_words.specs.Parts.{NumberOption, name_of, workers, shards}
-use Rattle.ptg_words.proofs.ClapUses.{none, none_else, value_rule, preload_rule, number_option_rule, Use, use_row, added, fresh, and_true, and_swap, fresh_split, added_split}
+use Rattle.ptg_words.proofs.ClapUses.{none, none_else, value_rule, preload_rule, number_option_rule, Use, use_row, added, fresh, and_true, and_swap}
+use Rattle.ptg_words.proofs.ClapUses.{fresh_split, added_split}
 use Rattle.ptg_words.proofs.ClapStates.{Pend, pending_of, uses_of, held, here, IsValue, Known, quiet, due, shape, settle_none, settle_rows}
 use Rattle.list_lemmas.proofs.Truth.{and-false}
 use Rattle.std.proofs.lemmas.Bool.{and_left}
@@ -23,7 +24,8 @@ module _ (name : Text) (c : List Rule) (opts : Options) where
   turn_operand w i rows None n found dd l sh = rw (dd, l, sh, found) refl
   turn_operand w i rows (Some u) n found dd l sh = rw (dd, l, sh, found, and-false (bytes_eq u.0 i)) refl
 
-  pub operand_leads : (w i : Text) (rows : List Row) (q : Option Use) (n : ℕ) → arg_by_index c n ≡ Some (value_rule i None (Some n) true) → min (n + 1) usize_max ≡ n + 1
+  pub operand_leads : (w i : Text) (rows : List Row) (q : Option Use) (n : ℕ)
+      → arg_by_index c n ≡ Some (value_rule i None (Some n) true) → min (n + 1) usize_max ≡ n + 1
       → bytes_eq w (45 ∷ 45 ∷ []) ≡ false → long_of w ≡ None → short_of w ≡ None
       → walked c [] (here rows (quiet q) n) w ≡ here (settled_rows c (pending_of (quiet q)) rows) (quiet (Some (i, w))) (n + 1)
   unfolding walked
@@ -50,20 +52,23 @@ module _ (name : Text) (c : List Rule) (opts : Options) where
   turn_name w s rows (quiet q) n dd l found = rw (dd, l, found) refl
   turn_name w s rows (due d) n dd l found = rw (dd, l, found) refl
 
-  pub name_leads : (w : Text) (s : NumberOption) (rows : List Row) (q : Option Use) (n : ℕ) → bytes_eq w (45 ∷ 45 ∷ []) ≡ false → long_of w ≡ Some (name_of s, None)
+  pub name_leads : (w : Text) (s : NumberOption) (rows : List Row) (q : Option Use) (n : ℕ)
+      → bytes_eq w (45 ∷ 45 ∷ []) ≡ false → long_of w ≡ Some (name_of s, None)
       → arg_by_long c (name_of s) ≡ Some (number_option_rule s)
       → walked c [] (here rows (quiet q) n) w ≡ here (settled_rows c (pending_of (quiet q)) rows) (due s) n
   unfolding walked
   name_leads w s rows q n dd l found = rw (dd, l, found) refl
 
-  pub turn_text : (w t : Text) (s : NumberOption) (rows : List Row) (p : Pend) (n : ℕ) → bytes_eq w (45 ∷ 45 ∷ []) ≡ false → long_of w ≡ Some (name_of s, Some t)
+  pub turn_text : (w t : Text) (s : NumberOption) (rows : List Row) (p : Pend) (n : ℕ)
+      → bytes_eq w (45 ∷ 45 ∷ []) ≡ false → long_of w ≡ Some (name_of s, Some t)
       → arg_by_long c (name_of s) ≡ Some (number_option_rule s)
       → turn_fault (shape name c opts) [] (here rows p n) w
       ≡ or_else (or_else (settle_fault c false (held rows p)) (use_fault false (number_option_rule s) (t ∷ []) (settled_rows c (pending_of p) rows))) []
   turn_text w t s rows (quiet q) n dd l found = rw (dd, l, found) refl
   turn_text w t s rows (due d) n dd l found = rw (dd, l, found) refl
 
-  pub text_leads : (w t : Text) (s : NumberOption) (rows : List Row) (q : Option Use) (n : ℕ) → bytes_eq w (45 ∷ 45 ∷ []) ≡ false → long_of w ≡ Some (name_of s, Some t)
+  pub text_leads : (w t : Text) (s : NumberOption) (rows : List Row) (q : Option Use) (n : ℕ)
+      → bytes_eq w (45 ∷ 45 ∷ []) ≡ false → long_of w ≡ Some (name_of s, Some t)
       → arg_by_long c (name_of s) ≡ Some (number_option_rule s)
       → walked c [] (here rows (quiet q) n) w ≡ here (used (number_option_rule s) (t ∷ []) (settled_rows c (pending_of (quiet q)) rows)) (quiet None) n
   unfolding walked
@@ -83,7 +88,8 @@ module _ (name : Text) (c : List Rule) (opts : Options) where
   flag_leads w rows q n dd l found = rw (dd, l, found) refl
 
   pub turn_refused : (w : Text) (rows : List Row) (p : Pend) (n : ℕ) → bytes_eq w (45 ∷ 45 ∷ []) ≡ false
-      → ((rows : List Row) (p : Pend) → none (flag_word_fault c false (long_of w) w (held rows p)) ≡ false) → none (turn_fault (shape name c opts) [] (here rows p n) w) ≡ false
+      → ((rows : List Row) (p : Pend) → none (flag_word_fault c false (long_of w) w (held rows p)) ≡ false)
+      → none (turn_fault (shape name c opts) [] (here rows p n) w) ≡ false
   turn_refused w rows (quiet q) n dd bad =
       let word : none (word_fault (shape name c opts) [] false idle w (held rows (quiet q))) ≡ false = rw dd (bad rows (quiet q)) in
       none_else (word_fault (shape name c opts) [] false idle w (held rows (quiet q))) _ ∙ and_left _ _ word
@@ -95,7 +101,8 @@ module _ (name : Text) (c : List Rule) (opts : Options) where
       → turn_fault (shape name c opts) [] (here rows (due s) n) w ≡ []
   turn_value w s rows n dd l sh = rw (dd, l, sh) refl
 
-  pub value_leads : (w : Text) (s : NumberOption) (rows : List Row) (n : ℕ) → IsValue c (name_of s) → bytes_eq w (45 ∷ 45 ∷ []) ≡ false → long_of w ≡ None → short_of w ≡ None
+  pub value_leads : (w : Text) (s : NumberOption) (rows : List Row) (n : ℕ) → IsValue c (name_of s)
+      → bytes_eq w (45 ∷ 45 ∷ []) ≡ false → long_of w ≡ None → short_of w ≡ None
       → walked c [] (here rows (due s) n) w ≡ here rows (quiet (Some (name_of s, w))) n
   unfolding walked
   value_leads w workers rows n k dd l sh = rw (dd, l, sh, k.found) refl
@@ -108,7 +115,8 @@ module _ (name : Text) (c : List Rule) (opts : Options) where
   react_none rows q u F k fails = go (fresh rows (uses_of (quiet q))) refl
     where
       go : (b : Bool) → fresh rows (uses_of (quiet q)) ≡ b
-          → (none (settle_fault c false (held rows (quiet q))) && none (F (settled_rows c (pending_of (quiet q)) rows))) ≡ fresh rows (uses_of (quiet q) ++ u ∷ [])
+          → (none (settle_fault c false (held rows (quiet q))) && none
+          (F (settled_rows c (pending_of (quiet q)) rows))) ≡ fresh rows (uses_of (quiet q) ++ u ∷ [])
       go false e = ap (λ b. b && none (F (settled_rows c (pending_of (quiet q)) rows))) (settle_none name c opts rows q k ∙ e)
           ∙ sym (fresh_split rows (uses_of (quiet q)) (u ∷ []) ∙ ap (λ b. b && fresh (added rows (uses_of (quiet q))) (u ∷ [])) e)
       go true e = ap (λ b. b && none (F (settled_rows c (pending_of (quiet q)) rows))) (settle_none name c opts rows q k ∙ e)
@@ -125,7 +133,8 @@ module _ (name : Text) (c : List Rule) (opts : Options) where
 
       go : (a b : Bool) → fresh rows (uses_of (quiet q)) ≡ a → has_row u.0 (added rows (uses_of (quiet q))) ≡ b
           → G (settled_rows c (pending_of (quiet q)) rows) ≡ added rows (uses_of (quiet q) ++ u ∷ [])
-      go true false e f = ap G (settle_rows name c opts rows q k e) ∙ adds (added rows (uses_of (quiet q))) f ∙ sym (added_split rows (uses_of (quiet q)) (u ∷ []))
+      go true false e f = ap G (settle_rows name c opts rows q k e) ∙ adds (added rows (uses_of (quiet q))) f
+          ∙ sym (added_split rows (uses_of (quiet q)) (u ∷ []))
       go true true e f = let bad : false ≡ true = sym (split ∙ rw (e, f) refl) ∙ h in absurd cc
       go false b e f = let bad : false ≡ true = sym (split ∙ rw e refl) ∙ h in absurd cc
 

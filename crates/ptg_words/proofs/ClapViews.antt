@@ -1,5 +1,6 @@
 -- What clap sees in a proper word: UTF-8 that is not empty, `-` or `--`.
-use Rattle.std.proofs.Common.{◌≡◌, ℕ, suc, Bool, true, false, cond, List, [], ◌∷◌, ◌++◌, length, Option, Some, None, refl, sym, ap, ap₂, ◌∙◌, subst, arith, codes}
+use Rattle.std.proofs.Common.{◌≡◌, ℕ, suc, Bool, true, false, cond, List, [], ◌∷◌, ◌++◌, length, Option, Some, None, refl, sym, ap, ap₂, ◌∙◌, subst}
+use Rattle.std.proofs.Common.{arith, codes}
 use Rattle.std.specs.Prelude.{◌==◌, slice_get, drop, encode_utf8}
 use Rattle.std.specs.List.{before_first}
 use Rattle.std.specs.Str.{bytes_eq, chars, IsUtf8, encode_utf8_all}
@@ -48,7 +49,9 @@ module _ (c : List Rule) (no_short : (x : ℕ) → arg_by_short c x ≡ None) wh
     dashed (x ∷ xs) p = go (x == 45) refl
       where
         go : (b : Bool) → (x == 45) ≡ b → View c opts (45 ∷ x ∷ xs)
-        go false e = is_refused (rw e refl) (rw e refl) (short_fails x xs (IsUtf8-past_char (45 ∷ x ∷ xs) (x ∷ xs) 45 p.0 (sym (ap (λ l. l ++ (x ∷ xs)) (encode_ascii 45 (omega arith))))) e)
+        go false e = is_refused (rw e refl) (rw e refl)
+            (short_fails x xs (IsUtf8-past_char (45 ∷ x ∷ xs) (x ∷ xs) 45 p.0
+            (sym (ap (λ l. l ++ (x ∷ xs)) (encode_ascii 45 (omega arith))))) e)
         go true e =
             let is_dash : x ≡ 45 = grind (arith, nat_tests) in
             again xs (subst (λ z. IsProper (45 ∷ z ∷ xs)) is_dash p) (λ v. subst (λ z. View c opts (45 ∷ z ∷ xs)) (sym is_dash) v)
@@ -73,8 +76,10 @@ name_part y ys = before_first (λ b. b == 61) (y ∷ ys)
 -- the rule of the option of this name, if these options have one
 abbrev pub long_rule : Options → Text → Option Rule
 long_rule NoOptions name = None
-long_rule Counts name = cond (bytes_eq (codes "workers") name) (Some (number_option_rule workers)) (cond (bytes_eq (codes "shards") name) (Some (number_option_rule shards)) None)
-long_rule CountsAndPreload name = cond (bytes_eq (codes "workers") name) (Some (number_option_rule workers)) (cond (bytes_eq (codes "shards") name) (Some (number_option_rule shards))
+long_rule Counts name = cond (bytes_eq (codes "workers") name) (Some (number_option_rule workers))
+    (cond (bytes_eq (codes "shards") name) (Some (number_option_rule shards)) None)
+long_rule CountsAndPreload name = cond (bytes_eq (codes "workers") name) (Some (number_option_rule workers))
+    (cond (bytes_eq (codes "shards") name) (Some (number_option_rule shards))
     (cond (bytes_eq (codes "preload") name) (Some preload_rule) None))
 
 module _ (c : List Rule) where
@@ -87,7 +92,8 @@ module _ (c : List Rule) where
       is_text s t (f ∙ ap (named s) e) refl (ap₂ (λ (a : Text) (t : Option Text). Some (a, t)) (sym n) e) found
 
   -- a word that begins with `--`
-  pub option_view : (opts : Options) → ((name : Text) → arg_by_long c name ≡ long_rule opts name) → (has_counts opts ≡ true → (s : NumberOption) → IsValue c (name_of s))
+  pub option_view : (opts : Options) → ((name : Text) → arg_by_long c name ≡ long_rule opts name)
+      → (has_counts opts ≡ true → (s : NumberOption) → IsValue c (name_of s))
       → (y : ℕ) (ys : List ℕ) → View c opts (45 ∷ 45 ∷ y ∷ ys)
   unfolding none
   option_view NoOptions by_long by_id y ys = is_refused refl refl (λ rows p. rw (by_long (name_part y ys)) refl)
@@ -98,17 +104,24 @@ module _ (c : List Rule) where
       go false true ea eb = named_view Counts shards y ys _ refl ((bytes_eq-Decides _ _).0 eb) (rw (ea, eb) refl) (by_long (codes "shards")) (by_id refl shards)
       go false false ea eb = is_refused (rw (ea, eb) refl) refl (λ rows p. rw (by_long (name_part y ys), ea, eb) refl)
   option_view CountsAndPreload by_long by_id y ys =
-      go (bytes_eq (codes "workers") (name_part y ys)) (bytes_eq (codes "shards") (name_part y ys)) (bytes_eq (codes "preload") (name_part y ys)) (text_after (y ∷ ys)) refl refl refl refl
+      go (bytes_eq (codes "workers") (name_part y ys)) (bytes_eq (codes "shards") (name_part y ys))
+      (bytes_eq (codes "preload") (name_part y ys)) (text_after (y ∷ ys)) refl refl refl refl
     where
-      go : (a b d : Bool) (text : Option Text) → bytes_eq (codes "workers") (name_part y ys) ≡ a → bytes_eq (codes "shards") (name_part y ys) ≡ b → bytes_eq (codes "preload") (name_part y ys) ≡ d
+      go : (a b d : Bool) (text : Option Text) → bytes_eq (codes "workers") (name_part y ys) ≡ a
+          → bytes_eq (codes "shards") (name_part y ys) ≡ b → bytes_eq (codes "preload") (name_part y ys) ≡ d
           → text_after (y ∷ ys) ≡ text → View c CountsAndPreload (45 ∷ 45 ∷ y ∷ ys)
-      go true b d text ea eb ed e = named_view CountsAndPreload workers y ys text e ((bytes_eq-Decides _ _).0 ea) (rw ea refl) (by_long (codes "workers")) (by_id refl workers)
-      go false true d text ea eb ed e = named_view CountsAndPreload shards y ys text e ((bytes_eq-Decides _ _).0 eb) (rw (ea, eb) refl) (by_long (codes "shards")) (by_id refl shards)
+      go true b d text ea eb ed e = named_view CountsAndPreload workers y ys text e ((bytes_eq-Decides _ _).0 ea)
+          (rw ea refl) (by_long (codes "workers")) (by_id refl workers)
+      go false true d text ea eb ed e = named_view CountsAndPreload shards y ys text e ((bytes_eq-Decides _ _).0 eb)
+          (rw (ea, eb) refl) (by_long (codes "shards")) (by_id refl shards)
       go false false true None ea eb ed e =
-          is_flag (rw (ea, eb, ed, e) refl) refl (ap₂ (λ (a : Text) (t : Option Text). Some (a, t)) (sym ((bytes_eq-Decides _ _).0 ed)) e) (by_long (codes "preload"))
+          is_flag (rw (ea, eb, ed, e) refl) refl
+          (ap₂ (λ (a : Text) (t : Option Text). Some (a, t)) (sym ((bytes_eq-Decides _ _).0 ed)) e)
+          (by_long (codes "preload"))
       go false false true (Some t) ea eb ed e =
           is_refused (rw (ea, eb, ed, e) refl) refl
-          (λ rows p. ap (λ o. none (flag_word_fault c false o (45 ∷ 45 ∷ y ∷ ys) (held rows p))) (ap₂ (λ (a : Text) (t : Option Text). Some (a, t)) (sym ((bytes_eq-Decides _ _).0 ed)) e)
+          (λ rows p. ap (λ o. none (flag_word_fault c false o (45 ∷ 45 ∷ y ∷ ys) (held rows p)))
+          (ap₂ (λ (a : Text) (t : Option Text). Some (a, t)) (sym ((bytes_eq-Decides _ _).0 ed)) e)
           ∙ ap (λ r. none (long_fault c false r (Some t) (held rows p))) (by_long (codes "preload")))
       go false false false text ea eb ed e =
           is_refused (rw (ea, eb, ed) refl) refl (λ rows p. rw (by_long (name_part y ys), ea, eb, ed) refl)

@@ -1,5 +1,6 @@
 -- The files of a command are text, and its numbers are in range.
-use Rattle.std.proofs.Common.{◌≡◌, ◌∙◌, ℕ, ◌≤◌, ◌<◌, ◌^◌, Bool, true, false, not, ◌&&◌, List, [], ◌∷◌, Option, Some, None, refl, sym, ap, subst, inl, inr, arith}
+use Rattle.std.proofs.Common.{◌≡◌, ◌∙◌, ℕ, ◌≤◌, ◌<◌, ◌^◌, Bool, true, false, not, ◌&&◌, List, [], ◌∷◌, Option, Some, None, refl, sym, ap, subst, inl}
+use Rattle.std.proofs.Common.{inr, arith}
 use Rattle.ptg_base.specs.Limits.{AreRunCounts, most_rows}
 use Rattle.std.specs.Prelude.{◌⊎◌, nat_le, length, option_map}
 use Rattle.std.specs.List.{All, Any, AllByRecursion}
@@ -10,7 +11,8 @@ use Rattle.ptg_words.specs.declared.order.Order.{Order}
 use Rattle.ptg_words.specs.Parts.{Part, NumberOption, Form, plain, named, flag, unknown, workers, shards, after, form_of, parts, parts_from, operands, texts_of}
 use Rattle.ptg_words.specs.declared.verbs.Verb.TheVariants as verbs
 use Rattle.ptg_words.specs.declared.verbs.Verb.{Verb}
-use Rattle.ptg_words.specs.Words.{IsProper, bad_number, improper_word, formed, has_bad_count, has_bad_number, has_bad_operand, has_no_number, is_number, number_or, operands_of, options_of, read, shards_of, verb_of, workers_of}
+use Rattle.ptg_words.specs.Words.{IsProper, bad_number, improper_word, formed, has_bad_count, has_bad_number, has_bad_operand, has_no_number}
+use Rattle.ptg_words.specs.Words.{is_number, number_or, operands_of, options_of, read, shards_of, verb_of, workers_of}
 use Rattle.ptg_words.specs.Laws.{FilesAreText, HasNumbersInRange, NumbersInRange, files_of}
 use Rattle.ptg_words.proofs.Rules.{all_proper, number_at_most, to_rule}
 use Rattle.ptg_words.proofs.Proper.{all_or_any}
@@ -20,7 +22,8 @@ use Rattle.list_lemmas.proofs.Places.{each_weaker}
 
 -- ---- the operands of proper words are proper
 
-by_form : (due : Option NumberOption) (f : Form) (w : List ℕ) (rest : Option NumberOption → List Part) → IsProper w → ((d : Option NumberOption) → AllByRecursion IsProper (operands (rest d)))
+by_form : (due : Option NumberOption) (f : Form) (w : List ℕ) (rest : Option NumberOption → List Part) → IsProper w
+    → ((d : Option NumberOption) → AllByRecursion IsProper (operands (rest d)))
     → AllByRecursion IsProper (operands (after due f w rest))
 by_form None plain w rest p more = (p, more None)
 by_form None (named s None) w rest p more = more (Some s)
@@ -33,7 +36,8 @@ by_form (Some s) (named t (Some x)) w rest p more = more None
 by_form (Some s) flag w rest p more = more None
 by_form (Some s) unknown w rest p more = more None
 
-operands_proper : (opts : Options) (due : Option NumberOption) (ws : List (List ℕ)) → AllByRecursion IsProper ws → AllByRecursion IsProper (operands (parts_from opts due ws))
+operands_proper : (opts : Options) (due : Option NumberOption) (ws : List (List ℕ)) → AllByRecursion IsProper ws
+    → AllByRecursion IsProper (operands (parts_from opts due ws))
 unfolding parts_from
 operands_proper opts None [] h = tt
 operands_proper opts (Some s) [] h = tt
@@ -50,7 +54,8 @@ of_order : (P : Order → Type 0) (x : Option Order) (o : Order) → x ≡ Some 
 unfolding OnOrder
 of_order P x o e h = subst (OnOrder P) e h
 
-named_texts : (v : Verb) (ops : List (List ℕ)) (ps : List Part) → AllByRecursion IsUtf8 ops → OnOrder (λ o. AllByRecursion IsUtf8 (files_of o)) (formed v ops ps)
+named_texts : (v : Verb) (ops : List (List ℕ)) (ps : List Part) → AllByRecursion IsUtf8 ops
+    → OnOrder (λ o. AllByRecursion IsUtf8 (files_of o)) (formed v ops ps)
 unfolding OnOrder
 named_texts verbs.Run (jdf ∷ data_name ∷ []) ps t = t
 named_texts verbs.Show (jdf ∷ []) ps t = t
@@ -84,7 +89,9 @@ files_are_text (w ∷ ws) o h = go (all_or_any (w ∷ ws))
     go (inl all) =
         let proper = operands_proper (options_of h.verb) None ws (all_proper (w ∷ ws) all).1 in
         let ops = subst (λ (ps : List Part). AllByRecursion IsProper (operands ps)) (sym (parts_of w ws h.verb h.rest h.reads)) proper in
-        of_order (λ x. AllByRecursion IsUtf8 (files_of x)) (formed h.verb (operands h.rest) h.rest) o h.asks (named_texts h.verb (operands h.rest) h.rest (each_weaker IsProper IsUtf8 (operands h.rest) (λ w p. p.0) ops))
+        of_order (λ x. AllByRecursion IsUtf8 (files_of x)) (formed h.verb (operands h.rest) h.rest) o h.asks
+        (named_texts h.verb (operands h.rest) h.rest
+        (each_weaker IsProper IsUtf8 (operands h.rest) (λ w p. p.0) ops))
 
 -- ---- numbers
 
@@ -100,7 +107,8 @@ numbered least most text h =
     last true false c e = absurd cc
     last false b c e = absurd cc
 
-counted : (most default : ℕ) (texts : List (List ℕ)) → 1 ≤ default → default ≤ most → has_no_number 1 most texts ≡ false → (1 ≤ number_or default texts) × (number_or default texts ≤ most)
+counted : (most default : ℕ) (texts : List (List ℕ)) → 1 ≤ default → default ≤ most
+    → has_no_number 1 most texts ≡ false → (1 ≤ number_or default texts) × (number_or default texts ≤ most)
 counted most default [] low high h = (low, high)
 counted most default (text ∷ texts) low high h = numbered 1 most text (or_parts _ _ h).0
 
@@ -111,7 +119,8 @@ are_counts ps h =
     let s = counted 256 16 (texts_of shards ps) (omega arith) (omega arith) two.1 in
     (w, s)
 
-in_ranges : (v : Verb) (ops : List (List ℕ)) (ps : List Part) → has_bad_count ps ≡ false → has_bad_operand (operands_of v) ops ≡ false → OnOrder HasNumbersInRange (formed v ops ps)
+in_ranges : (v : Verb) (ops : List (List ℕ)) (ps : List Part) → has_bad_count ps ≡ false
+    → has_bad_operand (operands_of v) ops ≡ false → OnOrder HasNumbersInRange (formed v ops ps)
 unfolding OnOrder
 in_ranges verbs.Run (jdf ∷ data_name ∷ []) ps c h = are_counts ps c
 in_ranges verbs.Demo (rows ∷ []) ps c h = numbered 1 most_rows rows (or_parts _ _ h).0

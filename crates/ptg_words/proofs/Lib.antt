@@ -13,3 +13,4 @@ pub mod Rules
 pub mod OneCommand
 pub mod Proper
 mod CommandFacts
+pub mod CallerLemmas

@@ -1,11 +1,13 @@
 -- What clap keeps of the words agrees with their parts: each option occurs at most once, and the positionals are the
 -- operands.
-use Rattle.std.proofs.Common.{◌≡◌, ℕ, zero, suc, Bool, true, false, not, cond, ◌&&◌, ◌||◌, List, [], ◌∷◌, ◌++◌, length, map, Option, Some, None, is_some, refl, sym, ap, ◌∙◌, subst, arith, codes}
+use Rattle.std.proofs.Common.{◌≡◌, ℕ, zero, suc, Bool, true, false, not, cond, ◌&&◌, ◌||◌, List, [], ◌∷◌, ◌++◌, length, map, Option, Some, None}
+use Rattle.std.proofs.Common.{is_some, refl, sym, ap, ◌∙◌, subst, arith, codes}
 use Rattle.std.specs.Prelude.{find, option_map, slice_get, nat_le}
 use Rattle.std.specs.List.{list_any, list_all}
 use Rattle.std.specs.Str.{bytes_eq}
 use Rattle.clap.specs.Walk.{Row, Text, has_row}
-use Rattle.ptg_words.specs.Parts.{NumberOption, Part, name_of, workers, shards, operand, given, lacking, preload, stray, operands, texts_of, is_preload, is_lacking, is_stray, is_named, has_twice}
+use Rattle.ptg_words.specs.Parts.{NumberOption, Part, name_of, workers, shards, operand, given, lacking, preload, stray, operands, texts_of}
+use Rattle.ptg_words.specs.Parts.{is_preload, is_lacking, is_stray, is_named, has_twice}
 use Rattle.std.proofs.lemmas.Bool.Decides.{nat_tests}
 use Rattle.ptg_words.proofs.ClapUses.{Use, use_row, fresh}
 use Rattle.ptg_words.proofs.ClapStates.{good, uses}
@@ -21,12 +23,14 @@ has_more : (id : Text) (rows : List Row) (u : Use) → has_row id (rows ++ use_r
 has_more id [] u = or-false (bytes_eq u.0 id)
 has_more id (r ∷ rs) u = go (bytes_eq r.id id) (has_more id rs u)
   where
-    go : (b : Bool) → has_row id (rs ++ use_row u ∷ []) ≡ (has_row id rs || bytes_eq u.0 id) → (b || has_row id (rs ++ use_row u ∷ [])) ≡ ((b || has_row id rs) || bytes_eq u.0 id)
+    go : (b : Bool) → has_row id (rs ++ use_row u ∷ []) ≡ (has_row id rs || bytes_eq u.0 id)
+        → (b || has_row id (rs ++ use_row u ∷ [])) ≡ ((b || has_row id rs) || bytes_eq u.0 id)
     go true e = refl
     go false e = e
 
 none_more : (us : List Use) (rows : List Row) (u : Use)
-    → list_all (λ (v : Use). not (has_row v.0 (rows ++ use_row u ∷ []))) us ≡ (list_all (λ (v : Use). not (has_row v.0 rows)) us && not (list_any (λ (v : Use). bytes_eq u.0 v.0) us))
+    → list_all (λ (v : Use). not (has_row v.0 (rows ++ use_row u ∷ []))) us
+    ≡ (list_all (λ (v : Use). not (has_row v.0 rows)) us && not (list_any (λ (v : Use). bytes_eq u.0 v.0) us))
 none_more [] rows u = refl
 none_more (v ∷ vs) rows u =
     ap (λ b. not b && list_all (λ (v : Use). not (has_row v.0 (rows ++ use_row u ∷ []))) vs) (has_more v.0 rows u)
@@ -74,7 +78,8 @@ not_later i a b is [] e = refl
 not_later i a b [] (operand w ∷ ps) e = not_later i a b [] ps e
 not_later i a b (j ∷ js) (operand w ∷ ps) e = go (bytes_eq i j) refl (not_later i a b js ps (second_false (bytes_eq i j) _ e))
   where
-    go : (t : Bool) → bytes_eq i j ≡ t → list_any (λ (v : Use). bytes_eq i v.0) (uses js ps) ≡ false → (bytes_eq i j || list_any (λ (v : Use). bytes_eq i v.0) (uses js ps)) ≡ false
+    go : (t : Bool) → bytes_eq i j ≡ t → list_any (λ (v : Use). bytes_eq i v.0) (uses js ps) ≡ false
+        → (bytes_eq i j || list_any (λ (v : Use). bytes_eq i v.0) (uses js ps)) ≡ false
     go false t r = rw t r
     go true t r = let bad : true ≡ false = sym (rw t refl) ∙ e in absurd cc
 not_later i a b is (given s t ∷ ps) e = rw (a s) (not_later i a b is ps e)
@@ -125,9 +130,12 @@ abbrev pub value_in : Text → List Use → Option Text
 value_in id us = option_map (λ u. u.1) (find (λ u. bytes_eq u.0 id) us)
 
 -- no positional's id is the name of an option
-pub free_at : (ids : List Text) (k : ℕ) (id : Text) → Apart ids → slice_get ids k ≡ Some id → ((s : NumberOption) → bytes_eq (name_of s) id ≡ false) × (bytes_eq (codes "preload") id ≡ false)
+pub free_at : (ids : List Text) (k : ℕ) (id : Text) → Apart ids → slice_get ids k ≡ Some id
+    → ((s : NumberOption) → bytes_eq (name_of s) id ≡ false) × (bytes_eq (codes "preload") id ≡ false)
 free_at [] k id a e = absurd cc
-free_at (i ∷ is) zero id a e = let here : i ≡ id = cc in subst (λ (x : Text). ((s : NumberOption) → bytes_eq (name_of s) x ≡ false) × (bytes_eq (codes "preload") x ≡ false)) here ((λ s. (a.0 s).0), a.1)
+free_at (i ∷ is) zero id a e = let here : i ≡ id = cc in
+    subst (λ (x : Text). ((s : NumberOption) → bytes_eq (name_of s) x ≡ false)
+    × (bytes_eq (codes "preload") x ≡ false)) here ((λ s. (a.0 s).0), a.1)
 free_at (i ∷ is) (suc k) id a e = free_at is k id a.4 e
 
 differs_at : (i : Text) (ids : List Text) (k : ℕ) (id : Text) → list_any (bytes_eq i) ids ≡ false → slice_get ids k ≡ Some id → bytes_eq i id ≡ false
@@ -136,7 +144,8 @@ differs_at i (j ∷ js) zero id d e = let here : j ≡ id = cc in ap (bytes_eq i
 differs_at i (j ∷ js) (suc k) id d e = differs_at i js k id (second_false (bytes_eq i j) _ d) e
 
 -- each operand is the first value of its id
-pub operand_at : (ids : List Text) (ps : List Part) (k : ℕ) (id : Text) → Apart ids → slice_get ids k ≡ Some id → value_in id (uses ids ps) ≡ slice_get (operands ps) k
+pub operand_at : (ids : List Text) (ps : List Part) (k : ℕ) (id : Text) → Apart ids → slice_get ids k ≡ Some id
+    → value_in id (uses ids ps) ≡ slice_get (operands ps) k
 operand_at ids [] k id a e = refl
 operand_at [] (operand w ∷ ps) k id a e = absurd cc
 operand_at (i ∷ is) (operand w ∷ ps) zero id a e = let here : i ≡ id = cc in rw (ap (bytes_eq i) (sym here) ∙ bytes_eq-self i) refl
@@ -165,10 +174,12 @@ pub all_there : (ids ops : List Text) (g : Text → Option Text) → ((k : ℕ) 
 all_there [] ops g at = sym (zero_le (length ops))
 all_there (i ∷ is) [] g at = rw (at 0 i refl, none_below (length is)) refl
 all_there (i ∷ is) (w ∷ ws) g at =
-    ap (λ o. is_some o && list_all (λ j. is_some (g j)) is) (at 0 i refl) ∙ all_there is ws g (λ k id e. at (suc k) id e) ∙ sym (both_more (length is) (length ws))
+    ap (λ o. is_some o && list_all (λ j. is_some (g j)) is) (at 0 i refl)
+    ∙ all_there is ws g (λ k id e. at (suc k) id e) ∙ sym (both_more (length is) (length ws))
 
 -- and the values are the operands if there are as many
-pub all_values : (ids ops : List Text) (g : Text → Option Text) → length ops ≡ length ids → ((k : ℕ) (id : Text) → slice_get ids k ≡ Some id → g id ≡ slice_get ops k)
+pub all_values : (ids ops : List Text) (g : Text → Option Text) → length ops ≡ length ids
+    → ((k : ℕ) (id : Text) → slice_get ids k ≡ Some id → g id ≡ slice_get ops k)
     → map g ids ≡ map Some ops
 all_values [] [] g n at = refl
 all_values [] (w ∷ ws) g n at = absurd (omega (arith, n))
@@ -182,7 +193,8 @@ abbrev pub NoneIs : Text → List Text → Type 0
 NoneIs name [] = Unit {0}
 NoneIs name (i ∷ is) = (bytes_eq i name ≡ false) × NoneIs name is
 
-pub number_option_value : (s : NumberOption) (ids : List Text) (ps : List Part) → NoneIs (name_of s) ids → value_in (name_of s) (uses ids ps) ≡ slice_get (texts_of s ps) 0
+pub number_option_value : (s : NumberOption) (ids : List Text) (ps : List Part) → NoneIs (name_of s) ids
+    → value_in (name_of s) (uses ids ps) ≡ slice_get (texts_of s ps) 0
 number_option_value s ids [] h = refl
 number_option_value s [] (operand w ∷ ps) h = number_option_value s [] ps h
 number_option_value s (i ∷ is) (operand w ∷ ps) h = rw (h.0) (number_option_value s is ps h.1)
@@ -216,7 +228,9 @@ pub good_is : (ids : List Text) (ps : List Part)
     → good ids ps ≡ (not (list_any is_stray ps) && (not (list_any is_lacking ps) && nat_le (length (operands ps)) (length ids)))
 good_is ids [] = sym (zero_le (length ids))
 good_is [] (operand w ∷ ps) = rw (none_below (length (operands ps))) (both_false (list_any is_stray ps) (list_any is_lacking ps))
-good_is (i ∷ is) (operand w ∷ ps) = good_is is ps ∙ ap (λ b. not (list_any is_stray ps) && (not (list_any is_lacking ps) && b)) (sym (both_more (length (operands ps)) (length is)))
+good_is (i ∷ is) (operand w ∷ ps) = good_is is ps
+    ∙ ap (λ b. not (list_any is_stray ps) && (not (list_any is_lacking ps) && b))
+    (sym (both_more (length (operands ps)) (length is)))
 good_is ids (given s t ∷ ps) = good_is ids ps
 good_is ids (lacking s ∷ ps) = go (list_any is_stray ps)
   where

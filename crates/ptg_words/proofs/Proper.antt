@@ -19,7 +19,8 @@ text_or_not w = go (is_utf8 w) refl
 proper_or_not : (w : List ℕ) → IsProper w ⊎ (IsProper w → ⊥)
 proper_or_not w = go (text_or_not w) (same_or_not w []) (same_or_not w (codes "-")) (same_or_not w (codes "--"))
   where
-    go : IsUtf8 w ⊎ (IsUtf8 w → ⊥) → (w ≡ []) ⊎ (w ≢ []) → (w ≡ codes "-") ⊎ (w ≢ codes "-") → (w ≡ codes "--") ⊎ (w ≢ codes "--") → IsProper w ⊎ (IsProper w → ⊥)
+    go : IsUtf8 w ⊎ (IsUtf8 w → ⊥) → (w ≡ []) ⊎ (w ≢ []) → (w ≡ codes "-") ⊎ (w ≢ codes "-")
+        → (w ≡ codes "--") ⊎ (w ≢ codes "--") → IsProper w ⊎ (IsProper w → ⊥)
     go (inl text) (inr some) (inr dash) (inr dashes) = inl (text, some, dash, dashes)
     go (inr bad) b c d = inr (λ p. bad p.0)
     go (inl text) (inl e) c d = inr (λ p. p.1 e)

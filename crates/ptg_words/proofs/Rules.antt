@@ -1,5 +1,6 @@
 -- Which rules the words break, from their parts.
-use Rattle.std.proofs.Common.{◌≡◌, ℕ, Bool, true, false, not, ◌&&◌, List, [], ◌∷◌, ◌++◌, ◌+◌, take, length, get_or, Some, Result, Ok, Err, IfOk, refl, sym, ap, ◌∙◌, subst, arith, ◌<◌, ◌≤◌}
+use Rattle.std.proofs.Common.{◌≡◌, ℕ, Bool, true, false, not, ◌&&◌, List, [], ◌∷◌, ◌++◌, ◌+◌, take, length, get_or, Some, Result, Ok, Err, IfOk}
+use Rattle.std.proofs.Common.{refl, sym, ap, ◌∙◌, subst, arith, ◌<◌, ◌≤◌}
 use Rattle.std.specs.Prelude.{◌==◌, drop, option_map, nat_le}
 use Rattle.std.specs.List.{All, list_any, list_all, slice_index_or, AllByRecursion}
 use Rattle.std.specs.Option.{option_map_or}
@@ -11,7 +12,9 @@ use Rattle.ptg_words.specs.Parts.{Part, parts, operands, is_lacking, is_stray, h
 use Rattle.ptg_words.specs.declared.options.Options.{Options}
 use Rattle.ptg_words.specs.declared.order.Order.{Order}
 use Rattle.ptg_words.specs.declared.verbs.Verb.{Verb}
-use Rattle.ptg_words.specs.Words.{Breaks, Orders, IsProper, IsUsage, no_verb, improper_word, stray_word, lacking_number, option_twice, operands_differ, bad_number, formed, read, verb_of, options_of, operands_of, operand_count, has_bad_count, has_bad_operand, has_bad_number, has_wrong_count, is_number}
+use Rattle.ptg_words.specs.Words.{Breaks, Orders, IsProper, IsUsage, no_verb, improper_word, stray_word, lacking_number, option_twice}
+use Rattle.ptg_words.specs.Words.{operands_differ, bad_number, formed, read, verb_of, options_of, operands_of, operand_count, has_bad_count}
+use Rattle.ptg_words.specs.Words.{has_bad_operand, has_bad_number, has_wrong_count, is_number}
 use Rattle.ptg_words.specs.Readings.{Forms, HasBadOperand, IsOf, IsReadOf, is_read, texts}
 use Rattle.ptg_words.specs.declared.order.WordsRefusal.{WordsRefusal}
 use Rattle.ptg_words.specs.declared.verb.ReadVerb.{ReadVerb}
@@ -43,11 +46,13 @@ four false true c d e = absurd cc
 four true b c d e = absurd cc
 
 kept : (v : Verb) (ps : List Part) → is_read (operand_count v) ps ≡ true
-    → (not (list_any is_stray ps) ≡ true) × (not (list_any is_lacking ps) ≡ true) × (not (has_twice ps) ≡ true) × ((length (operands ps) == operand_count v) ≡ true)
+    → (not (list_any is_stray ps) ≡ true) × (not (list_any is_lacking ps) ≡ true) × (not (has_twice ps) ≡ true)
+    × ((length (operands ps) == operand_count v) ≡ true)
 kept v ps good = four (list_any is_stray ps) (list_any is_lacking ps) (has_twice ps) (length (operands ps) == operand_count v) good
 
 -- arguments whose parts break no rule break none
-pub breaks_none : (ws : List (List ℕ)) (v : Verb) (ps : List Part) → read ws ≡ Some (v, ps) → All IsProper ws → is_read (operand_count v) ps ≡ true → has_bad_number v ps ≡ false
+pub breaks_none : (ws : List (List ℕ)) (v : Verb) (ps : List Part) → read ws ≡ Some (v, ps) → All IsProper ws
+    → is_read (operand_count v) ps ≡ true → has_bad_number v ps ≡ false
     → IsUsage ws → ⊥
 breaks_none ws v ps e proper good number (no_verb h) = absurd cc
 breaks_none ws v ps e proper good number (improper_word any) = any.4 (subst IsProper any.3 (proper any.0 any.1 any.2))
@@ -84,7 +89,8 @@ module _ (v : Verb) (ws : List (List ℕ)) (of : IsOf v ws) where
   abbrev pub rest_of : List Part
   rest_of = parts (options_of v) (drop 1 ws)
 
-  pub order_of : (order : Order) → is_read (operand_count v) rest_of ≡ true → has_bad_count rest_of ≡ false → has_bad_operand (operands_of v) (operands rest_of) ≡ false
+  pub order_of : (order : Order) → is_read (operand_count v) rest_of ≡ true → has_bad_count rest_of ≡ false
+      → has_bad_operand (operands_of v) (operands rest_of) ≡ false
       → formed v (operands rest_of) rest_of ≡ Some order → Orders ws order
   order_of order good counts numbers asks = record {
     verb = v;
@@ -101,13 +107,16 @@ module _ (v : Verb) (ws : List (List ℕ)) (of : IsOf v ws) where
       order_of order good counts (ap (has_bad_operand (operands_of v)) (sym same) ∙ numbers) (ap (λ xs. formed v xs rest_of) (sym same) ∙ asks)
 
   -- what was read with the ids and options of the verb
-  pub read_with : (n : ℕ) (opts : Options) (r : ReadVerb) → n ≡ operand_count v → opts ≡ options_of v → IsReadOf n (parts opts (drop 1 ws)) r → IsReadOf (operand_count v) rest_of r
+  pub read_with : (n : ℕ) (opts : Options) (r : ReadVerb) → n ≡ operand_count v → opts ≡ options_of v
+      → IsReadOf n (parts opts (drop 1 ws)) r → IsReadOf (operand_count v) rest_of r
   read_with n opts r count options read =
       subst (λ m. IsReadOf m rest_of r) count (subst (λ o. IsReadOf n (parts o (drop 1 ws)) r) options read)
 
   -- the command of what was read
-  pub orders : (r : ReadVerb) (result : Result Order WordsRefusal) → IsReadOf (operand_count v) rest_of r → IfOk result (Forms v r) → IfOk result (λ order. Orders ws order)
-  orders r (Ok order) read forms = order_from order (texts r.operands.items) read.good read.counts read.operand_texts forms.good (forms.asks rest_of read.options)
+  pub orders : (r : ReadVerb) (result : Result Order WordsRefusal) → IsReadOf (operand_count v) rest_of r
+      → IfOk result (Forms v r) → IfOk result (λ order. Orders ws order)
+  orders r (Ok order) read forms = order_from order (texts r.operands.items) read.good read.counts
+      read.operand_texts forms.good (forms.asks rest_of read.options)
   orders r (Err e) read forms = tt
 
   -- words with an operand that is a bad number are a usage error
@@ -115,7 +124,8 @@ module _ (v : Verb) (ws : List (List ℕ)) (of : IsOf v ws) where
   refused_operand r read bad = breaks_number ws v rest_of of.reads (rw read.counts (ap (has_bad_operand (operands_of v)) (sym read.operand_texts) ∙ bad))
 
 -- proper words whose first one names this verb
-pub begins : (ws : List (Bor (List ℕ))) (d : Bor (List ℕ)) (v : Verb) → 1 ≤ length ws → All IsProper (texts ws) → Some v ≡ verb_of (get_or ws 0 d).now → IsOf v (texts ws)
+pub begins : (ws : List (Bor (List ℕ))) (d : Bor (List ℕ)) (v : Verb) → 1 ≤ length ws → All IsProper (texts ws)
+    → Some v ≡ verb_of (get_or ws 0 d).now → IsOf v (texts ws)
 begins [] d v some proper is = absurd (omega (arith, some))
 begins (w ∷ ws) d v some proper is = record {
   reads = ap (option_map (λ verb. (verb, parts (options_of verb) (texts ws)))) (sym is);
@@ -123,10 +133,13 @@ begins (w ∷ ws) d v some proper is = record {
 }
 
 -- one more word
-pub texts_more : (xs ys : List (Bor (List ℕ))) (list : List (List ℕ)) (i : ℕ) (d : List ℕ) (x : Bor (List ℕ)) → ys ≡ xs ++ x ∷ [] → texts xs ≡ take i list → i < length list → x.now ≡ slice_index_or list i d
+pub texts_more : (xs ys : List (Bor (List ℕ))) (list : List (List ℕ)) (i : ℕ) (d : List ℕ) (x : Bor (List ℕ))
+    → ys ≡ xs ++ x ∷ [] → texts xs ≡ take i list → i < length list → x.now ≡ slice_index_or list i d
     → texts ys ≡ take (i + 1) list
 texts_more xs ys list i d x pushed same lt is =
-    ap texts pushed ∙ map-append (λ (s : Bor (List ℕ)). s.now) xs (x ∷ []) ∙ ap (λ zs. zs ++ x.now ∷ []) same ∙ ap (λ z. take i list ++ z ∷ []) is ∙ sym (take_more list i d lt)
+    ap texts pushed ∙ map-append (λ (s : Bor (List ℕ)). s.now) xs (x ∷ []) ∙ ap (λ zs. zs ++ x.now ∷ []) same
+    ∙ ap (λ z. take i list ++ z ∷ []) is ∙ sym (take_more list i d lt)
 
-pub proper_more : (list : List (List ℕ)) (i : ℕ) (d : List ℕ) → All IsProper (take i list) → i < length list → IsProper (slice_index_or list i d) → All IsProper (take (i + 1) list)
+pub proper_more : (list : List (List ℕ)) (i : ℕ) (d : List ℕ) → All IsProper (take i list) → i < length list
+    → IsProper (slice_index_or list i d) → All IsProper (take (i + 1) list)
 proper_more list i d all lt p = subst (All IsProper) (sym (take_more list i d lt)) (All-push IsProper (take i list) (slice_index_or list i d) all p)

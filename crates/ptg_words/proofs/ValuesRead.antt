@@ -6,7 +6,8 @@ use Rattle.std.specs.Borrow.{Bor}
 use Rattle.std.proofs.lemmas.Bool.Decides.{nat_tests}
 use Rattle.clap.specs.Walk.{Text}
 use Rattle.clap.specs.Kinds.{Kinds}
-use Rattle.ptg_words.specs.Parts.{NumberOption, Part, name_of, workers, shards, operand, given, lacking, preload, stray, operands, texts_of, is_lacking, is_stray, is_named, has_twice}
+use Rattle.ptg_words.specs.Parts.{NumberOption, Part, name_of, workers, shards, operand, given, lacking, preload, stray, operands, texts_of}
+use Rattle.ptg_words.specs.Parts.{is_lacking, is_stray, is_named, has_twice}
 use Rattle.ptg_words.specs.Readings.{is_read, texts_in}
 use Rattle.ptg_words.proofs.ClapUses.{none}
 use Rattle.std.proofs.lemmas.Bool.{or_parts, not-true}

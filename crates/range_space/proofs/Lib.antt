@@ -6,3 +6,4 @@ pub mod Counting
 pub mod Soundness
 pub mod Distinct
 pub mod FirstFault
+pub mod CallerLemmas

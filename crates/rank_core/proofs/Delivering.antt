@@ -28,13 +28,11 @@ use Rattle.flow_meaning.specs.Ending.{output_tile}
 use Rattle.flow_meaning.specs.Machine.{MachineState, MaySend, Send, SentItem, is_sent, send_count, sent_with}
 use Rattle.flow_meaning.specs.Machine.{state_after}
 use Rattle.flow_meaning.specs.Sound.{IsSoundState}
-use Rattle.flow_meaning.proofs.Comparing.{same_item-decides}
+use Rattle.flow_meaning.proofs.CallerLemmas.{same_item-decides}
 use Rattle.shard_meaning.specs.Moment.{Moment, with_send}
 use Rattle.shard_meaning.specs.Share.{IsShardOf, Placement}
-use Rattle.shard_meaning.proofs.Sends.{edge_away, edge_here}
-use Rattle.shard_meaning.proofs.SoundMoments.{sent_is}
-use Rattle.shard_meaning.proofs.Targets.{target_flow, target_goal, target_is_task, target_waits}
-use Rattle.shard_meaning.proofs.Typing.{edge_empty, edge_flow, edge_typed}
+use Rattle.shard_meaning.proofs.CallerLemmas.{edge_away, edge_empty, edge_flow, edge_here, edge_typed, sent_is, target_flow, target_goal, target_is_task}
+use Rattle.shard_meaning.proofs.CallerLemmas.{target_waits}
 use Rattle.rank_core.specs.declared.message.Message.{Message}
 use Rattle.rank_core.specs.Sound.{IsSoundWorld}
 use Rattle.rank_core.specs.World.{WorldState, after_delivery, rank_of, is_delivered, with_message}

@@ -21,16 +21,13 @@ use Rattle.flow_meaning.specs.Ending.{Ended, has_outputs, output_tile}
 use Rattle.flow_meaning.specs.Machine.{Claim, Event, Happen, MachineState, MayClaim, MaySend, Send, SentItem}
 use Rattle.flow_meaning.specs.Machine.{claim_count, end_in, send_count, sender, sent_with, state_after, item_from}
 use Rattle.flow_meaning.specs.Sound.{HasAllArrived, IsSoundState}
-use Rattle.flow_meaning.proofs.Comparing.{same_item-decides}
-use Rattle.flow_meaning.proofs.Events.{claim_sound, ends_so, send_sound, unsent}
-use Rattle.flow_meaning.proofs.Rest.{item_sender}
-use Rattle.flow_meaning.proofs.Members.{out_edge_from}
+use Rattle.flow_meaning.proofs.CallerLemmas.{claim_sound, ends_so, item_sender, out_edge_from, same_item-decides, send_sound, unsent}
 use Rattle.rank_core.specs.declared.message.Message.{Message}
 use Rattle.rank_core.specs.World.{WorldState, after_run, edges_between, items_by, items_within, message_from}
 use Rattle.rank_core.specs.World.{messages_by, is_delivered, with_message}
 use Rattle.rank_core.specs.Sound.{IsSoundWorld}
 use Rattle.rank_core.proofs.Items.{between_is_out, out_is_item, within_is_item, within_once}
-pub use Rattle.flow_meaning.proofs.Events.{unclaimed_unsent}
+pub use Rattle.flow_meaning.proofs.CallerLemmas.{unclaimed_unsent}
 
 -- the items and the messages that are sent after a task has ended so
 pub items_with : (P : Plan) (r : ℕ) (t : Task) (end : Option Ended) → has_outputs end ≡ true

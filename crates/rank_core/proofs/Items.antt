@@ -10,14 +10,13 @@ use Rattle.plan_core.specs.declared.plan.Plan.{Plan}
 use Rattle.dep_iter.specs.Consistent.{IsConsistent}
 use Rattle.dep_iter.specs.Items.{items, out_edges, write_backs}
 use Rattle.dep_iter.specs.Tasks.{IsTask}
-use Rattle.dep_iter.proofs.Items.{Edge-injective, Write-injective, edge_item, item_edge, item_write, write_item}
-use Rattle.dep_iter.proofs.Once.{once-out_edges, once-write_backs}
+use Rattle.dep_iter.proofs.CallerLemmas.{Edge-injective, Write-injective, edge_item, item_edge, item_write, once-out_edges, once-write_backs, write_item}
 use Rattle.list_lemmas.proofs.Members.{IsIn-append_left, IsIn-append_right, IsIn-map, from_append, from_map}
 use Rattle.list_lemmas.proofs.Members.{IsIn-filter}
 use Rattle.list_lemmas.proofs.Truth.{by_test}
 use Rattle.list_lemmas.proofs.Distinct.{HasNoRepeats-append, HasNoRepeats-filter, HasNoRepeats-map}
 use Rattle.rank_core.specs.World.{edges_between, edges_within, is_between, items_within}
-pub use Rattle.flow_meaning.proofs.Members.{out_edge_from as out_from}
+pub use Rattle.flow_meaning.proofs.CallerLemmas.{out_edge_from as out_from}
 
 module _ (P : Plan) (t : Task) where
   -- an edge out of a task is one of its items, and conversely

@@ -13,12 +13,10 @@ use Rattle.list_lemmas.proofs.Places.{slice_get_there, place_of_member, IsIn-sli
 use Rattle.dep_iter.specs.Consistent.{IsConsistent}
 use Rattle.dep_shard.specs.Content.{Content, IsReady, entry_of}
 use Rattle.flow_meaning.specs.Machine.{MachineState, MayClaim}
-use Rattle.flow_meaning.proofs.Rest.{rests}
+use Rattle.flow_meaning.proofs.CallerLemmas.{rests}
 use Rattle.shard_meaning.specs.Calm.{HaveNoWork}
 use Rattle.shard_meaning.specs.Opening.{IsOpeningShard}
-use Rattle.shard_meaning.proofs.Holding.{may_ready, ready_may}
-use Rattle.shard_meaning.proofs.Openings.{opening_share}
-use Rattle.shard_meaning.proofs.Placing.{home_below}
+use Rattle.shard_meaning.proofs.CallerLemmas.{home_below, may_ready, opening_share, ready_may}
 use Rattle.shard_answer.specs.Ending.{HoldAnEnd}
 use Rattle.rank_core.specs.declared.message.Message.{Message}
 use Rattle.rank_core.specs.Sound.{IsSoundWorld}

@@ -13,9 +13,7 @@ use Rattle.dep_iter.specs.Tasks.{IsTask}
 use Rattle.dep_shard.specs.Content.{Content, HasNoReady, IsBest}
 use Rattle.flow_meaning.specs.Machine.{MayClaim}
 use Rattle.shard_meaning.specs.Share.{IsShardOf}
-use Rattle.shard_meaning.proofs.Ends.{unchanged}
-use Rattle.shard_meaning.proofs.Holding.{ready_may}
-use Rattle.shard_meaning.proofs.Targets.{target_is_task}
+use Rattle.shard_meaning.proofs.CallerLemmas.{home_below, ready_may, target_is_task, unchanged}
 use Rattle.task_run.specs.Bench.{IsBenchOf, Laid}
 use Rattle.rank_core.specs.declared.message.Message.{Message}
 use Rattle.rank_core.specs.Sound.{IsSoundWorld}
@@ -27,7 +25,6 @@ use Rattle.rank_core.specs.Keeping.{IsUnderWay, Keeps, idle_moment}
 use Rattle.shard_calls.specs.Opened.{AreOpeningRanks}
 use Rattle.shard_calls.specs.Taken.{MayTakeEdge}
 use Rattle.rank_core.proofs.Delivering.{away, here, its_tile, mail_then, may, may_take_edge}
-use Rattle.shard_meaning.proofs.Placing.{home_below}
 use Rattle.rank_core.proofs.Keeping.{opening_mail, opening_shares, ready_at}
 use Rattle.list_lemmas.proofs.Places.{slice_get_there}
 

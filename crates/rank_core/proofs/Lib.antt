@@ -13,3 +13,4 @@ pub mod Kept
 pub mod Ran
 pub mod Setting
 pub mod Turns
+pub mod CallerLemmas

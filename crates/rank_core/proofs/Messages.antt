@@ -23,9 +23,8 @@ use Rattle.flow_meaning.specs.Backward.{ended}
 use Rattle.flow_meaning.specs.Comparing.{same_edge}
 use Rattle.list_lemmas.specs.Counting.{HasSameMembers, as_number, count, weigh}
 use Rattle.flow_meaning.specs.Ending.{Ended, has_outputs, output_tile}
-use Rattle.ptg_base.proofs.Comparisons.{same_edge-decides}
-use Rattle.flow_meaning.proofs.Once.{claims_members}
-use Rattle.flow_meaning.proofs.Members.{out_edge_from}
+use Rattle.ptg_base.proofs.CallerLemmas.{same_edge-decides}
+use Rattle.flow_meaning.proofs.CallerLemmas.{claims_members, out_edge_from}
 use Rattle.rank_core.specs.declared.message.Message.{Message}
 use Rattle.rank_core.specs.World.{IsQuiet, WorldState, edges_between, is_between, message_from, messages_by}
 use Rattle.rank_core.specs.Sound.{IsSoundWorld, message_count}

@@ -17,11 +17,11 @@ use Rattle.coll_data.specs.Data.{Data}
 use Rattle.dep_iter.specs.Consistent.{IsConsistent, all_in, all_out}
 use Rattle.dep_iter.specs.Items.{items, out_edges}
 use Rattle.dep_iter.specs.Tasks.{IsTask, all_tasks}
-use Rattle.dep_iter.proofs.Listing.{listed}
+use Rattle.dep_iter.proofs.CallerLemmas.{listed}
 use Rattle.flow_meaning.specs.Backward.{ended}
 use Rattle.flow_meaning.specs.Ending.{has_outputs, output_tile}
 use Rattle.flow_meaning.specs.Machine.{MaySend, claim_count, end_in, send_count}
-use Rattle.shard_meaning.proofs.Typing.{edge_empty, edge_flow, edge_typed}
+use Rattle.shard_meaning.proofs.CallerLemmas.{edge_empty, edge_flow, edge_typed}
 use Rattle.rank_core.specs.declared.message.Message.{Message}
 use Rattle.rank_core.specs.Sound.{IsSoundWorld}
 use Rattle.rank_core.specs.World.{Run, WorldState, edges_between, is_between, items_within, message_from, messages_by}

@@ -25,16 +25,11 @@ use Rattle.flow_meaning.specs.Ending.{has_outputs, output_tile}
 use Rattle.flow_meaning.specs.Machine.{Claim, Event, Happen, end_in, IsPossible, MachineState, MaySend, Send, SentItem}
 use Rattle.flow_meaning.specs.Machine.{sender, sent_with, state_after, item_from}
 use Rattle.flow_meaning.specs.Sound.{IsSoundState}
-use Rattle.flow_meaning.proofs.Events.{claim_sound, happen_sound}
-use Rattle.flow_meaning.proofs.Rest.{item_sender}
+use Rattle.flow_meaning.proofs.CallerLemmas.{claim_sound, happen_sound, item_sender}
 use Rattle.shard_meaning.specs.Moment.{Moment, run_count, with_claim, with_end, with_send, without_task}
 use Rattle.shard_meaning.specs.Share.{IsShardOf}
-use Rattle.shard_meaning.proofs.Claims.{claim_away, claim_here}
-use Rattle.shard_meaning.proofs.Ends.{end_away, end_here, trap_here}
-use Rattle.shard_meaning.proofs.Holding.{numbers_at_most, some_runs}
-use Rattle.shard_meaning.proofs.Sends.{edge_away, edge_here, write_away, write_here}
-use Rattle.shard_meaning.proofs.SoundMoments.{sent_is}
-use Rattle.shard_meaning.proofs.Typing.{write_typed}
+use Rattle.shard_meaning.proofs.CallerLemmas.{claim_away, claim_here, edge_away, edge_here, end_away, end_here, numbers_at_most, sent_is, some_runs}
+use Rattle.shard_meaning.proofs.CallerLemmas.{trap_here, write_away, write_here, write_typed}
 use Rattle.rank_core.specs.World.{edges_within, is_between, items_by, items_within, rank_of}
 use Rattle.rank_core.proofs.Items.{within_is_item, within_once}
 use Rattle.rank_core.proofs.Happening.{items_with, items_without, part_happens, run_ends}

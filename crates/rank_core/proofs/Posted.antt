@@ -19,9 +19,7 @@ use Rattle.flow_meaning.specs.Comparing.{same_item}
 use Rattle.list_lemmas.specs.Counting.{as_number, weigh}
 use Rattle.flow_meaning.specs.Ending.{Ended, has_outputs}
 use Rattle.flow_meaning.specs.Machine.{MachineState, SentItem, claim_count, end_in, send_count, sender, item_from}
-use Rattle.flow_meaning.proofs.Comparing.{same_item-decides}
-use Rattle.flow_meaning.proofs.Events.{member_claim}
-use Rattle.flow_meaning.proofs.Rest.{item_sender}
+use Rattle.flow_meaning.proofs.CallerLemmas.{item_sender, member_claim, same_item-decides}
 use Rattle.rank_core.specs.declared.message.Message.{Message}
 use Rattle.rank_core.specs.World.{edges_between, edges_within, is_between, items_by, items_within, message_from}
 use Rattle.rank_core.specs.World.{is_delivered}

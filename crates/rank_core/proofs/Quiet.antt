@@ -16,7 +16,7 @@ use Rattle.flow_meaning.specs.Backward.{ended}
 use Rattle.flow_meaning.specs.Ending.{has_outputs}
 use Rattle.flow_meaning.specs.Machine.{IsQuiescent, is_sent}
 use Rattle.flow_meaning.specs.Sound.{IsAtRest}
-use Rattle.flow_meaning.proofs.Rest.{rests}
+use Rattle.flow_meaning.proofs.CallerLemmas.{rests}
 use Rattle.rank_core.specs.declared.message.Message.{Message}
 use Rattle.rank_core.specs.World.{IsQuiet, WorldState, edges_between, message_from, messages_by}
 use Rattle.rank_core.specs.Sound.{IsSoundWorld}

@@ -5,7 +5,7 @@ use Rattle.std.proofs.lemmas.Bool.{cases_eq, false≢true}
 use Rattle.dep_shard.specs.Content.{Content}
 use Rattle.flow_meaning.specs.Backward.{ended}
 use Rattle.flow_meaning.specs.Ending.{Ended, has_outputs}
-use Rattle.flow_meaning.proofs.Events.{it_ends}
+use Rattle.flow_meaning.proofs.CallerLemmas.{it_ends}
 use Rattle.shard_meaning.specs.Share.{IsShardOf}
 use Rattle.task_run.specs.Bench.{IsBenchOf, Laid}
 use Rattle.rank_core.specs.Sound.{IsSoundWorld}

@@ -15,13 +15,13 @@ use Rattle.list_lemmas.proofs.Counts.{count-at_most, count-le, weigh-append, wei
 use Rattle.list_lemmas.proofs.Tasks.{distinct_once}
 use Rattle.list_lemmas.proofs.Places.{slice_get_member}
 use Rattle.dep_iter.specs.Tasks.{all_tasks}
-use Rattle.dep_iter.proofs.Listing.{listed}
+use Rattle.dep_iter.proofs.CallerLemmas.{listed}
 use Rattle.flow_meaning.specs.Comparing.{same_item}
 use Rattle.list_lemmas.specs.Counting.{as_number, count, weigh}
 use Rattle.flow_meaning.specs.Ending.{Ended, has_outputs}
 use Rattle.flow_meaning.specs.Machine.{MachineState, MayClaim, SentItem, end_in, send_count}
 use Rattle.flow_meaning.specs.Sound.{IsSoundState}
-use Rattle.flow_meaning.proofs.Comparing.{same_item-decides}
+use Rattle.flow_meaning.proofs.CallerLemmas.{same_item-decides}
 use Rattle.rank_core.specs.declared.message.Message.{Message}
 use Rattle.rank_core.specs.Sound.{IsSoundWorld}
 use Rattle.rank_core.specs.World.{Deliver, HappenIn, Run, WorldEvent, WorldState, edges_between, items_by, message_from}
@@ -29,7 +29,7 @@ use Rattle.rank_core.specs.World.{messages_by, rank_of, is_delivered, with_messa
 use Rattle.rank_core.proofs.Worlds.{delivery_claims, delivery_keeps, still_sent}
 use Rattle.rank_core.specs.Driving.{IsLaterWorld, turns_left, turns_of}
 use Rattle.rank_core.specs.Views.{WorldView, with_delivery, with_run}
-use Rattle.shard_meaning.proofs.Placing.{home_below}
+use Rattle.shard_meaning.proofs.CallerLemmas.{home_below}
 
 -- events that happen after others
 happen-append : (P : Plan) (G : Data) (r : ℕ) (es fs : List WorldEvent) (w v u : WorldState) → HappenIn P G r es w v

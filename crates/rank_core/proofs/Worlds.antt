@@ -21,7 +21,7 @@ use Rattle.flow_meaning.specs.Comparing.{same_item}
 use Rattle.list_lemmas.specs.Counting.{as_number}
 use Rattle.flow_meaning.specs.Ending.{has_outputs}
 use Rattle.flow_meaning.specs.Machine.{MachineState, MayClaim, SentItem, end_in, is_sent, send_count, item_from}
-use Rattle.flow_meaning.proofs.Events.{happen_sound, member_send, opening_sound}
+use Rattle.flow_meaning.proofs.CallerLemmas.{happen_sound, member_send, opening_sound}
 use Rattle.rank_core.specs.declared.message.Message.{Message}
 use Rattle.rank_core.specs.World.{Deliver, IsPossibleIn, Run, WorldEvent, WorldState, after_delivery, after_run}
 use Rattle.rank_core.specs.World.{items_by, items_within, messages_by, opening_world, is_delivered, with_message}

@@ -1,5 +1,6 @@
 -- How an account changes with the ends that it is a view of.
-use Rattle.std.proofs.Common.{◌≡◌, ◌≢◌, ℕ, ◌+◌, ◌<◌, List, [], ◌∷◌, ◌++◌, length, map, set, get_or, Option, Some, None, MatchOption, sym, refl, ap, subst, ◌∙◌, arith}
+use Rattle.std.proofs.Common.{◌≡◌, ◌≢◌, ℕ, ◌+◌, ◌<◌, List, [], ◌∷◌, ◌++◌, length, map, set, get_or, Option, Some, None, MatchOption, sym, refl, ap}
+use Rattle.std.proofs.Common.{subst, ◌∙◌, arith}
 use Rattle.std.specs.Prelude.{⊤, IfNone, slice_get, option_map}
 use Rattle.std.proofs.lemmas.Option.{same_Some, slice_get-map, slice_get_read}
 use Rattle.std.proofs.lemmas.List.{map-set, length-map, length-set, get_or-map, get_or-set_same, get_or-set_other, set-set, set_comm, set-get_or}
@@ -51,21 +52,27 @@ taken_there n from own thieves f ne within here =
     get_or-set_other (map (λ (x : Thief). x.taken) thieves) n from own.taken [] ne
     ∙ (get_or-map (λ (x : Thief). x.taken) thieves from f [] within ∙ sym (ap (λ (x : Thief). x.taken) here))
 
-pub stolen : (result : Stolen) (n from : ℕ) (own : Owner) (thieves : List Thief) (f f' : Thief) (E : Type 0) → from ≢ n → from < length thieves → f ≡ get_or thieves from f
+pub stolen : (result : Stolen) (n from : ℕ) (own : Owner) (thieves : List Thief) (f f' : Thief) (E : Type 0)
+    → from ≢ n → from < length thieves → f ≡ get_or thieves from f
     → MatchStolen result (λ id. f' ≡ record f { taken = f.taken ++ id ∷ [] }) ((f' ≡ f) × E)
-    → MatchStolen result (λ id. account n own (set thieves from f') ≡ after_take from (account n own thieves) id) (account n own (set thieves from f') ≡ account n own thieves)
+    → MatchStolen result (λ id. account n own (set thieves from f') ≡ after_take from (account n own thieves) id)
+    (account n own (set thieves from f') ≡ account n own thieves)
 stolen (Task id) n from own thieves f f' E ne within here h =
     let ds = same_deques thieves from f f' here (ap (λ (x : Thief). x.deque) h) in
     let ts = map (λ (x : Thief). x.taken) thieves in
-    let taken : set (map (λ (x : Thief). x.taken) (set thieves from f')) n own.taken ≡ set (set ts n own.taken) from (get_or (set ts n own.taken) from [] ++ id ∷ []) =
+    let taken : set (map (λ (x : Thief). x.taken) (set thieves from f')) n own.taken
+    ≡ set (set ts n own.taken) from (get_or (set ts n own.taken) from [] ++ id ∷ []) =
     ap (λ xs. set xs n own.taken) (map-set (λ (x : Thief). x.taken) thieves from f')
     ∙ (set_comm ts from n f'.taken own.taken ne
-    ∙ ap (λ ids. set (set ts n own.taken) from ids) (ap (λ (x : Thief). x.taken) h ∙ ap (λ ids. ids ++ id ∷ []) (sym (taken_there n from own thieves f ne within here)))) in
+    ∙ ap (λ ids. set (set ts n own.taken) from ids)
+    (ap (λ (x : Thief). x.taken) h ∙ ap (λ ids. ids ++ id ∷ [])
+    (sym (taken_there n from own thieves f ne within here)))) in
     λ i. record (account n own thieves) { deques = ds i; taken = taken i }
 stolen Empty n from own thieves f f' E ne within here h =
     ap (λ xs. account n own xs) (ap (λ x. set thieves from x) (h.0 ∙ here) ∙ set-get_or thieves from f)
 
-pub stolen_empty : (result : Stolen) (n from : ℕ) (own : Owner) (thieves : List Thief) (f : Thief) (P : List TheTask → Type 0) (A : TheTask → Type 0) (B : Type 0)
+pub stolen_empty : (result : Stolen) (n from : ℕ) (own : Owner) (thieves : List Thief) (f : Thief)
+    (P : List TheTask → Type 0) (A : TheTask → Type 0) (B : Type 0)
     → from ≢ n → from < length thieves → f ≡ get_or thieves from f
     → MatchStolen result A (B × P f.taken)
     → MatchStolen result (λ _. ⊤) (P (get_or (account n own thieves).taken from []))
@@ -73,7 +80,8 @@ stolen_empty (Task id) n from own thieves f P A B ne within here h = tt
 stolen_empty Empty n from own thieves f P A B ne within here h = subst P (sym (taken_there n from own thieves f ne within here)) h.1
 
 -- the condition of a steal, said of the ends
-pub another : (n from : ℕ) (own : Owner) (thieves : List Thief) (a : Account) → account n own thieves ≡ a → (from < length a.deques) × (from ≢ a.number) → (from ≢ n) × (from < length thieves)
+pub another : (n from : ℕ) (own : Owner) (thieves : List Thief) (a : Account) → account n own thieves ≡ a
+    → (from < length a.deques) × (from ≢ a.number) → (from ≢ n) × (from < length thieves)
 another n from own thieves a is h =
     let other = subst (λ (x : Account). (from < length x.deques) × (from ≢ x.number)) (sym is) h in
     (other.1, subst (λ k. from < k) (length-map thieves (λ (x : Thief). x.deque)) other.0)
@@ -111,7 +119,8 @@ keeps_parts (Task id) f f' E h = ap (λ (x : Thief). x.parts) h
 keeps_parts Empty f f' E h = ap (λ (x : Thief). x.parts) h.0
 
 -- an end of another deque has a part
-pub has_part : (n from : ℕ) (thieves : List Thief) (f : Thief) → OthersHaveParts n thieves → from ≢ n → from < length thieves → f ≡ get_or thieves from f → f.parts ≡ 1
+pub has_part : (n from : ℕ) (thieves : List Thief) (f : Thief) → OthersHaveParts n thieves → from ≢ n
+    → from < length thieves → f ≡ get_or thieves from f → f.parts ≡ 1
 has_part n from thieves f others ne within here =
     let there : slice_get thieves from ≡ Some f = slice_get_read thieves (length thieves) from f refl within here in
     same_Some _ _ (sym (ap (option_map (λ (x : Thief). x.parts)) there) ∙ (sym (slice_get-map (λ (x : Thief). x.parts) thieves from) ∙ others from within ne))
@@ -119,7 +128,9 @@ has_part n from thieves f others ne within here =
 -- the invariant of the ends holds after a thief's end changed and kept its deque and its parts
 pub stay : (n from parts : ℕ) (deque : DequeId) (thieves : List Thief) (f f' : Thief) → f ≡ get_or thieves from f → f'.deque ≡ f.deque → f'.parts ≡ f.parts
     → (n < length thieves) × (parts + length thieves ≡ 66) × (slice_get (map (λ (x : Thief). x.deque) thieves) n ≡ Some deque) × OthersHaveParts n thieves
-    → (n < length (set thieves from f')) × (parts + length (set thieves from f') ≡ 66) × (slice_get (map (λ (x : Thief). x.deque) (set thieves from f')) n ≡ Some deque) × OthersHaveParts n (set thieves from f')
+    → (n < length (set thieves from f')) × (parts + length (set thieves from f') ≡ 66)
+    × (slice_get (map (λ (x : Thief). x.deque) (set thieves from f')) n ≡ Some deque)
+    × OthersHaveParts n (set thieves from f')
 stay n from parts deque thieves f f' here same kept h =
     let long = length-set thieves from f' in (
       omega arith,

@@ -1,5 +1,6 @@
 -- Each call keeps the rule of a deque.
-use Rattle.std.proofs.Common.{◌≡◌, ℕ, ◌+◌, ◌-◌, ◌<◌, List, [], ◌∷◌, ◌++◌, set, min, sum_by, if◌then◌else◌, zero, suc, ◌⊎◌, inl, inr, length, sym, refl, ap, subst, ◌∙◌, arith}
+use Rattle.std.proofs.Common.{◌≡◌, ℕ, ◌+◌, ◌-◌, ◌<◌, List, [], ◌∷◌, ◌++◌, set, min, sum_by, if◌then◌else◌, zero, suc, ◌⊎◌, inl, inr, length, sym}
+use Rattle.std.proofs.Common.{refl, ap, subst, ◌∙◌, arith}
 use Rattle.std.proofs.lemmas.List.Sums.{sum_by-append}
 use Rattle.std.proofs.lemmas.List.Elements.{All-set, All-append, All-nil, All-cons}
 use Rattle.std.proofs.lemmas.List.{length-set}
@@ -16,7 +17,8 @@ pub times-append : (id : Task) (xs ys : List Task) → times id (xs ++ ys) ≡ t
 times-append id xs ys = sum_by-append (λ x. if same_task id x then 1 else 0) xs ys
 
 -- only the first tally pushes, after one tally changed
-still_first : (tallies : List Tally) (port : ℕ) (v w : Tally) → get_elem? tallies port ≡ some v → (port ≡ 0) ⊎ (w.pushed ≡ v.pushed) → OnlyFirstPushes tallies → OnlyFirstPushes (set tallies port w)
+still_first : (tallies : List Tally) (port : ℕ) (v w : Tally) → get_elem? tallies port ≡ some v
+    → (port ≡ 0) ⊎ (w.pushed ≡ v.pushed) → OnlyFirstPushes tallies → OnlyFirstPushes (set tallies port w)
 still_first [] port v w at who first = tt
 still_first (t ∷ ts) zero v w at who first = first
 still_first (t ∷ ts) (suc port) v w at (inl zeroth) first = absurd (omega (arith, zeroth))
@@ -47,7 +49,8 @@ some_at : (views : List Tally) (port : ℕ) (v : Tally) → get_elem? views port
 some_at [] port v at = absurd (some-ne-none v (sym at))
 some_at (t ∷ ts) port v at = omega arith
 
-pub pushes : (port : ℕ) (v : Tally) (id : Task) → port ≡ 0 → 0 < v.parts → Pushes Balanced port v (id ∷ []) (λ w. w ≡ tally v.parts (v.pushed ++ id ∷ []) v.taken)
+pub pushes : (port : ℕ) (v : Tally) (id : Task) → port ≡ 0 → 0 < v.parts
+    → Pushes Balanced port v (id ∷ []) (λ w. w ≡ tally v.parts (v.pushed ++ id ∷ []) v.taken)
 pushes port v id own some_part items views b at =
     let w = tally v.parts (v.pushed ++ id ∷ []) v.taken in (
       w,
@@ -94,7 +97,9 @@ finds port v own views b at = first_of views b (subst (λ k. get_elem? views k �
     first_of (t ∷ ts) balanced here = (ts, subst (λ (first : Tally). Balanced [] (first ∷ ts)) (some-injective t v here) balanced)
 
 -- one tally is changed and another one is added, and neither pushes
-with_new_end : (views : List Tally) (port : ℕ) (v left right : Tally) → get_elem? views port ≡ some v → left.pushed ≡ v.pushed → right.pushed ≡ [] → OnlyFirstPushes views → OnlyFirstPushes (set views port left ++ right ∷ [])
+with_new_end : (views : List Tally) (port : ℕ) (v left right : Tally) → get_elem? views port ≡ some v
+    → left.pushed ≡ v.pushed → right.pushed ≡ [] → OnlyFirstPushes views
+    → OnlyFirstPushes (set views port left ++ right ∷ [])
 with_new_end views port v left right at same none first =
     let nonempty : 0 < length views = some_at views port v at in
     still_first_with (set views port left) right (omega (arith, nonempty, length-set views port left)) none (still_first views port v left at (inr same) first)
@@ -162,7 +167,8 @@ merges port v other w own some_part items views b at apart at' =
           let h = b.ids id in
           omega (arith, times-append id v.pushed w.pushed, times-append id v.taken w.taken);
       parts = (let p = first (λ t. t.parts) in let p' = second (λ t. t.parts) in let h = b.parts in omega arith);
-      idle = All-set IdleIsEmpty (set views port both) other spent (λ _. (refl, refl)) (All-set IdleIsEmpty views port both (λ none. absurd (omega arith)) b.idle);
+      idle = All-set IdleIsEmpty (set views port both) other spent (λ _. (refl, refl))
+          (All-set IdleIsEmpty views port both (λ none. absurd (omega arith)) b.idle);
       pushes = spent_last (set views port both) other spent (λ zeroth. apart (zeroth ∙ sym own)) refl (still_first views port v both at (inl own) b.pushes);
     }
 

@@ -16,7 +16,9 @@ all_of_one P x holds zero d below = holds
 all_of_one P x holds (suc k) d below = absurd (omega (arith, below))
 
 -- the last of a team of two, and the one before it
-pub of_two : (deques : List DequeId) (team before rest : List Account) (first last : Account) → AreFresh 2 deques team → team ≡ before ++ last ∷ [] → before ≡ rest ++ first ∷ [] → AreTheOthers last (first ∷ [])
+pub of_two : (deques : List DequeId) (team before rest : List Account) (first last : Account)
+    → AreFresh 2 deques team → team ≡ before ++ last ∷ [] → before ≡ rest ++ first ∷ []
+    → AreTheOthers last (first ∷ [])
 of_two deques team before rest first last made popped popped_again =
     let whole : team ≡ (rest ++ first ∷ []) ++ last ∷ [] = popped ∙ ap (λ b. b ++ last ∷ []) popped_again in
     let none = none_before rest first last (sym (ap length whole) ∙ made.all) in

@@ -1,5 +1,6 @@
 -- A list whose first elements are changed, as a loop over an index leaves it.
-use Rattle.std.proofs.Common.{◌≡◌, ◌≢◌, ℕ, zero, suc, ◌+◌, ◌-◌, ◌<◌, ◌≤◌, List, [], ◌∷◌, ◌++◌, length, map, set, get_or, take, drop, replicate, Some, All, sym, refl, ap, subst, ◌∙◌, arith, add-one}
+use Rattle.std.proofs.Common.{◌≡◌, ◌≢◌, ℕ, zero, suc, ◌+◌, ◌-◌, ◌<◌, ◌≤◌, List, [], ◌∷◌, ◌++◌, length, map, set, get_or, take, drop, replicate, Some}
+use Rattle.std.proofs.Common.{All, sym, refl, ap, subst, ◌∙◌, arith, add-one}
 use Rattle.std.proofs.lemmas.List.{length-set, map-set, set-set}
 use Rattle.std.proofs.lemmas.List.Elements.{All-head, All-tail, All-nil, All-cons, All-append, All-get_or}
 use Rattle.std.proofs.lemmas.Option.{slice_get-map}
@@ -65,7 +66,8 @@ pub more_than_one : (owners : List Owner) (k n : ℕ) → k < n → All (λ (b :
 more_than_one [] k n within all = All-nil _
 more_than_one (b ∷ owners) k n within all =
     let first = All-head (λ (x : Owner). n < x.parts) b owners all in
-    All-cons (λ (x : Owner). 1 < x.parts) (less k b) (map (less k) owners) (omega arith) (more_than_one owners k n within (All-tail (λ (x : Owner). n < x.parts) b owners all))
+    All-cons (λ (x : Owner). 1 < x.parts) (less k b) (map (less k) owners) (omega arith)
+    (more_than_one owners k n within (All-tail (λ (x : Owner). n < x.parts) b owners all))
 
 -- the ends of a worker whose own thief's end gave its part back
 pub record IsKept (n : ℕ) (own : Owner) (thieves : List Thief) (own' : Owner) (thieves' : List Thief) : Type 0 where
@@ -106,7 +108,8 @@ kept n own own' thieves f f' within new untaken whole there here owns partless =
     let pushed : own'.pushed ≡ [] = ap (λ (b : Owner). b.pushed) owns ∙ new.pushed in
     let ts = map (λ (x : Thief). x.taken) thieves in
     let all_taken : set (map (λ (x : Thief). x.taken) (set thieves n f')) n own'.taken ≡ replicate (length (map (λ (x : Thief). x.deque) thieves)) [] =
-    ap (λ xs. set xs n own'.taken) (map-set (λ (x : Thief). x.taken) thieves n f') ∙ (set-set ts n f'.taken own'.taken ∙ (ap (λ ids. set ts n ids) took ∙ none_taken thieves n untaken)) in
+    ap (λ xs. set xs n own'.taken) (map-set (λ (x : Thief). x.taken) thieves n f')
+    ∙ (set-set ts n f'.taken own'.taken ∙ (ap (λ ids. set ts n ids) took ∙ none_taken thieves n untaken)) in
     record {
       account_is = (λ i. record { number = n; deques = ds i; pushed = pushed i; taken = all_taken i });
       within = omega (arith, within, long);
@@ -123,7 +126,9 @@ pub one_more : (init owners : List Owner) (thieves thieves' : List Thief) (k : �
 one_more init owners thieves thieves' k b b' f within owners_are thieves_are here gave new added =
     let was : b ≡ get_or init k b = here ∙ (ap (λ xs. get_or xs k b) owners_are ∙ get_or-partly (less 1) init k b) in (
       ap (λ xs. set xs k b') owners_are ∙ (ap (λ x. set (partly (less 1) k init) k x) (gave ∙ ap (less 1) was) ∙ partly-more (less 1) init k b within),
-      added ∙ (ap (λ xs. xs ++ f ∷ []) thieves_are ∙ (ap (λ x. map new_thief (take k init) ++ x ∷ []) (new ∙ ap new_thief was) ∙ mapped-more new_thief init k b within)),
+      added ∙ (ap (λ xs. xs ++ f ∷ []) thieves_are
+          ∙ (ap (λ x. map new_thief (take k init) ++ x ∷ []) (new ∙ ap new_thief was)
+          ∙ mapped-more new_thief init k b within)),
     )
 
 pub less-none : (owners : List Owner) → map (less 0) owners ≡ owners
@@ -152,9 +157,11 @@ pub record IsNext {X : Type 0} (xs : List X) (n : ℕ) (x : X) (rest : List X) :
   pub after : drop (n + 1) xs ≡ rest
 
 pub next : {X : Type 0} (xs : List X) (n : ℕ) (x : X) (rest : List X) → drop n xs ≡ x ∷ rest → IsNext xs n x rest
-next xs n x rest e = let found = look xs n x rest e in record { within = found.0; here = found.1; after = subst (λ m. drop m xs ≡ rest) (sym (add-one n)) found.2 }
+next xs n x rest e = let found = look xs n x rest e in
+    record { within = found.0; here = found.1; after = subst (λ m. drop m xs ≡ rest) (sym (add-one n)) found.2 }
   where
-    look : {X : Type 0} (ys : List X) (m : ℕ) (y : X) (others : List X) → drop m ys ≡ y ∷ others → (m < length ys) × (slice_get ys m ≡ Some y) × (drop (suc m) ys ≡ others)
+    look : {X : Type 0} (ys : List X) (m : ℕ) (y : X) (others : List X) → drop m ys ≡ y ∷ others
+        → (m < length ys) × (slice_get ys m ≡ Some y) × (drop (suc m) ys ≡ others)
     look [] zero y others e' = absurd (cc e')
     look [] (suc m) y others e' = absurd (cc e')
     look (z ∷ ys) zero y others e' = (omega arith, ap Some (cc e'), cc e')
@@ -192,4 +199,6 @@ given_away [] given within all = All-nil (IsNew given)
 given_away (b ∷ owners) given within all =
     let new = All-head (IsNew 0) b owners all in
     let whole = new.parts in
-    All-cons (IsNew given) (less given b) (map (less given) owners) (record { parts = omega arith; pushed = new.pushed; taken = new.taken }) (given_away owners given within (All-tail (IsNew 0) b owners all))
+    All-cons (IsNew given) (less given b) (map (less given) owners)
+    (record { parts = omega arith; pushed = new.pushed; taken = new.taken })
+    (given_away owners given within (All-tail (IsNew 0) b owners all))

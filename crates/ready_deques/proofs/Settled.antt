@@ -10,12 +10,14 @@ use Rattle.ready_deques.specs.Hands.{Account, taken_from}
 use Rattle.ready_deques.proofs.Keeps.{times-append}
 use Rattle.ready_deques.proofs.Accounts.{account}
 
-pub thief_deque : (thieves : List Thief) (worker : ℕ) (f : Thief) → worker < length thieves → f ≡ get_or thieves worker f → slice_get (map (λ (x : Thief). x.deque) thieves) worker ≡ Some f.deque
+pub thief_deque : (thieves : List Thief) (worker : ℕ) (f : Thief) → worker < length thieves
+    → f ≡ get_or thieves worker f → slice_get (map (λ (x : Thief). x.deque) thieves) worker ≡ Some f.deque
 thief_deque [] worker f within here = absurd (omega arith)
 thief_deque (x ∷ thieves) zero f within here = ap (λ (y : Thief). Some y.deque) (sym here)
 thief_deque (x ∷ thieves) (suc worker) f within here = thief_deque thieves worker f (omega arith) here
 
-pub has_thief : (n : ℕ) (own : Owner) (thieves : List Thief) (a : Account) (worker : ℕ) → account n own thieves ≡ a → worker < length a.deques → worker < length thieves
+pub has_thief : (n : ℕ) (own : Owner) (thieves : List Thief) (a : Account) (worker : ℕ) → account n own thieves ≡ a
+    → worker < length a.deques → worker < length thieves
 has_thief n own thieves a worker is within =
     let long : length (map (λ (x : Thief). x.deque) thieves) ≡ length a.deques = ap (λ (x : Account). length x.deques) is in
     omega (arith, length-map thieves (λ (x : Thief). x.deque))

@@ -8,8 +8,7 @@ use Rattle.std.proofs.lemmas.Nat.{div-mul-add, mod-mul-add, div-add-mod'}
 use Rattle.std.proofs.Math.Nat.{div-lt_iff_lt-mul, mod-lt}
 use Rattle.ptg_base.specs.Index.{index_in}
 use Rattle.coll_data.specs.Tiles.{tile_count, IsRow, IsColumn, tile_index}
-use Rattle.coll_data.proofs.OneIndex.{index_in_is}
-use Rattle.coll_data.proofs.TileIndex.{row_and_column}
+use Rattle.coll_data.proofs.CallerLemmas.{index_in_is, row_and_column}
 use Rattle.report_text.specs.Places.{place_after}
 use Rattle.report_laws.specs.Listed.{listed_index}
 

@@ -8,7 +8,7 @@ use Rattle.coll_data.specs.declared.coll.Coll.{Coll}
 use Rattle.coll_data.specs.Tiles.{tile_count}
 use Rattle.report_text.specs.Places.{places, place_after}
 use Rattle.report_laws.specs.Listed.{listed_index}
-use Rattle.report_text.proofs.Placing.{length_places, place_at}
+use Rattle.report_text.proofs.CallerLemmas.{length_places, place_at}
 use Rattle.report_laws.proofs.Indexes.{index_after, after_index}
 
 -- elements that are paired have the same index in both lists

@@ -16,7 +16,7 @@ use Rattle.plan_core.specs.Bodies.{has_words}
 use Rattle.coll_data.specs.Data.{Data}
 use Rattle.body_eval.specs.Meaning.{body_meaning}
 use Rattle.dep_iter.specs.Tasks.{IsTask, all_tasks, locals_of}
-use Rattle.dep_iter.proofs.Listing.{listed}
+use Rattle.dep_iter.proofs.CallerLemmas.{listed}
 use Rattle.list_lemmas.proofs.Members.{from_flat_map, All-from_members}
 use Rattle.list_lemmas.proofs.Tasks.{from_insert}
 use Rattle.flow_meaning.specs.declared.outcome.TrapRow.{TrapRow}
@@ -27,7 +27,7 @@ use Rattle.flow_meaning.specs.Backward.{ended, ended_within, has_all_sources, so
 use Rattle.flow_meaning.specs.declared.outcome.Outcome.TheVariants.{Complete, Stalled}
 use Rattle.flow_meaning.specs.Final.{final_data}
 use Rattle.flow_meaning.specs.Answer.{answer, answer_by, ran, satisfied, trap_rows as rows_of_end, trapped, wait_rows, waiting}
-use Rattle.flow_meaning.proofs.SourceEdges.{class_of}
+use Rattle.flow_meaning.proofs.CallerLemmas.{class_of}
 use Rattle.report_text.specs.Rows.{trap_words}
 use Rattle.report_laws.specs.RowNames.{HasClass, HasRowsOf, HasWord, IsTrapOf}
 use Rattle.report_laws.proofs.TrapWords.{Allows, IsAllowed, allows-body}

@@ -1,3 +1,4 @@
 pub mod Sorting
 pub mod Replacing
 pub mod Writable
+pub mod CallerLemmas

@@ -14,17 +14,16 @@ use Rattle.coll_data.specs.declared.coll.Coll.{Coll}
 use Rattle.coll_data.specs.Data.{Data}
 use Rattle.coll_data.specs.WellMade.{IsTileOf, IsWellMade, elements_by_type}
 use Rattle.plan_data.specs.Fit.{DataFit, shape_of}
-use Rattle.plan_data.proofs.Places.{same_places}
+use Rattle.plan_data.proofs.CallerLemmas.{same_places}
 use Rattle.dep_iter.specs.Tasks.{IsTask}
 use Rattle.dep_iter.specs.Items.{item_flow, items}
 use Rattle.dep_iter.specs.Consistent.{IsConsistent}
 use Rattle.flow_meaning.specs.Ending.{has_outputs, output_tile}
 use Rattle.flow_meaning.specs.Backward.{ended}
 use Rattle.flow_meaning.specs.Machine.{MachineState, SentItem, sender}
-use Rattle.flow_meaning.proofs.Destinations.{writing_flow}
-use Rattle.flow_meaning.proofs.Sizes.{item_sized}
+use Rattle.flow_meaning.proofs.CallerLemmas.{item_sized, writing_flow}
 use Rattle.run_answer.specs.Written.{IsWritable}
-use Rattle.dep_iter.proofs.Items.{item_write}
+use Rattle.dep_iter.proofs.CallerLemmas.{item_write}
 use Rattle.flow_meaning.specs.Sound.{IsSoundState}
 
 -- a tile of a collection's datatype may be a tile of that collection

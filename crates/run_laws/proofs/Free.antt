@@ -29,13 +29,10 @@ use Rattle.dep_shard.specs.Content.{Content, entry_before}
 use Rattle.flow_meaning.specs.Machine.{MaySend, sent_tile}
 use Rattle.flow_meaning.specs.Sound.{IsSoundState}
 use Rattle.flow_meaning.specs.Starting.{Delivery, delivered_from, delivered_tile, delivered_tiles, delivered_to}
-use Rattle.flow_meaning.proofs.Arriving.{sent_edge_in}
-use Rattle.flow_meaning.proofs.SourceEdges.{only_source}
+use Rattle.flow_meaning.proofs.CallerLemmas.{only_source, sent_edge_in}
 use Rattle.shard_meaning.specs.Moment.{Moment}
 use Rattle.shard_meaning.specs.Share.{IsShardOf, Placement}
-use Rattle.shard_meaning.proofs.Claims.{entries_of}
-use Rattle.shard_meaning.proofs.Entries.{finds, nothing_yet}
-use Rattle.shard_meaning.proofs.Targets.{target_is_task}
+use Rattle.shard_meaning.proofs.CallerLemmas.{entries_of, finds, nothing_yet, target_is_task}
 
 lookup_past : (flow : ℕ) (xs ys : List FlowTile) → lookup (nat_eq flow) xs ≡ None → lookup (nat_eq flow) (xs ++ ys) ≡ lookup (nat_eq flow) ys
 lookup_past flow [] ys none = refl

@@ -6,7 +6,7 @@ use Rattle.plan_core.specs.declared.plan.Plan.{Plan}
 use Rattle.list_lemmas.proofs.Members.{from_append}
 use Rattle.flow_meaning.specs.Order.{IsLegalAfter}
 use Rattle.chain_cert.specs.Greatest.{IsGreatestOrder}
-use Rattle.chain_cert.proofs.Orders.{joins, legal_once}
+use Rattle.chain_cert.proofs.CallerLemmas.{joins, legal_once, members_ran}
 use Rattle.std.specs.List.{filter}
 use Rattle.ptg_base.specs.TaskComparing.{same_task}
 use Rattle.ptg_base.specs.TaskLaws.{same_task-decides}
@@ -16,11 +16,10 @@ use Rattle.list_lemmas.proofs.Distinct.{HasNoRepeats-filter}
 use Rattle.list_lemmas.proofs.Tasks.{member_or_not, uncounted, once_each}
 use Rattle.dep_iter.specs.Tasks.{all_tasks}
 use Rattle.dep_iter.specs.Consistent.{IsConsistent}
-use Rattle.dep_iter.proofs.Once.{once-all_tasks}
+use Rattle.dep_iter.proofs.CallerLemmas.{once-all_tasks}
 use Rattle.list_lemmas.specs.Counting.{HasSameMembers, count}
 use Rattle.flow_meaning.specs.Backward.{ended}
 use Rattle.flow_meaning.specs.Answer.{ran, trapped}
-use Rattle.chain_cert.proofs.Running.{members_ran}
 
 module _ (P : Plan) (ts : List Task) (g : IsGreatestOrder P ts) where
   -- the members of any legal order are members of this one

@@ -8,23 +8,20 @@ use Rattle.coll_data.specs.Data.{Data}
 use Rattle.dep_iter.specs.Tasks.{IsTask, all_tasks}
 use Rattle.dep_iter.specs.Edges.{in_edges}
 use Rattle.dep_iter.specs.Consistent.{IsConsistent}
-use Rattle.dep_iter.proofs.Listing.{listed}
+use Rattle.dep_iter.proofs.CallerLemmas.{listed}
 use Rattle.flow_meaning.specs.Answer.{ran}
 use Rattle.flow_meaning.specs.Backward.{ended, ended_within}
 use Rattle.flow_meaning.specs.Ending.{Ended, has_outputs}
-use Rattle.flow_meaning.proofs.Enough.{with_outputs}
-use Rattle.flow_meaning.proofs.Members.{source_is_task}
-use Rattle.flow_meaning.proofs.Rounds.{has_sources}
+use Rattle.flow_meaning.proofs.CallerLemmas.{has_sources, source_is_task, with_outputs}
 use Rattle.list_lemmas.proofs.Options.{some_value}
 use Rattle.list_lemmas.proofs.Members.{member_passes}
 use Rattle.list_lemmas.proofs.Distinct.{no_longer}
 use Rattle.list_lemmas.proofs.Growing.{grown_to_the_end}
 use Rattle.list_lemmas.proofs.Tasks.{member_or_not}
-use Rattle.chain_cert.proofs.Orders.{legal_once, legal_tasks}
+use Rattle.chain_cert.proofs.CallerLemmas.{legal_once, legal_tasks}
 use Rattle.flow_meaning.specs.Order.{IsWholeOrder}
 use Rattle.trace_core.specs.Orders.{MayAllRunAfter, MayRunAfter}
-use Rattle.trace_core.proofs.OneFault.{not_missing}
-use Rattle.trace_core.proofs.Wholes.{all_or_missing, may_legal, may_push, ran_ends, sources_end, whole}
+use Rattle.trace_core.proofs.CallerLemmas.{all_or_missing, may_legal, may_push, not_missing, ran_ends, sources_end, whole}
 
 module _ (P : Plan) (G : Data) where
   -- a task may not run next, or it may

@@ -12,3 +12,4 @@ pub mod Worlds
 pub mod Growing
 pub mod Texts
 pub mod Traces
+pub mod CallerLemmas

@@ -11,9 +11,9 @@ use Rattle.coll_data.specs.Data.{Data}
 use Rattle.dep_iter.specs.Consistent.{IsConsistent}
 use Rattle.list_lemmas.specs.Counting.{as_number}
 use Rattle.flow_meaning.specs.Machine.{MayClaim, MaySend, claim_count}
-use Rattle.flow_meaning.proofs.Events.{claim_sound, opening_sound, send_sound}
+use Rattle.flow_meaning.proofs.CallerLemmas.{claim_sound, opening_sound, send_sound}
 use Rattle.shard_meaning.specs.Moment.{IsSoundMoment, Moment, opening_moment, run_count, with_claim, with_end, with_send}
-use Rattle.shard_meaning.proofs.Due.{runs_as_before, runs_once_less}
+use Rattle.shard_meaning.proofs.CallerLemmas.{runs_as_before, runs_once_less}
 
 pub opening_moment_sound : (P : Plan) (G : Data) → IsSoundMoment P G opening_moment
 opening_moment_sound P G = record { state = opening_sound P G; claimed = λ t. omega arith }

@@ -8,8 +8,7 @@ use Rattle.dep_iter.specs.Consistent.{IsConsistent}
 use Rattle.flow_meaning.specs.Machine.{Event, Claim, Send, Happen, IsLater, IsPossible, MachineState, MayClaim, state_after, sent_with}
 use Rattle.flow_meaning.specs.Order.{IsLegalOrder, MayFollow}
 use Rattle.flow_meaning.specs.Sound.{IsSoundState}
-use Rattle.flow_meaning.proofs.Orders.{legal_push}
-use Rattle.flow_meaning.proofs.Events.{delivers, each_arrived, event_sound, member_claim}
+use Rattle.flow_meaning.proofs.CallerLemmas.{delivers, each_arrived, event_sound, legal_push, member_claim}
 
 later_same : (S : MachineState) → IsLater S S
 later_same S = record { more_claims = []; more_sends = []; claims = sym (append-nil S.claims); sends = sym (append-nil S.sends) }

@@ -27,12 +27,8 @@ use Rattle.flow_meaning.specs.Machine.{Claim, Event, Happen, IsPossible, Machine
 use Rattle.flow_meaning.specs.Machine.{SentItem, state_after, claim_count, end_in, is_sent, opening_state, send_count}
 use Rattle.flow_meaning.specs.Machine.{sender, sent_with, same_sent_item}
 use Rattle.flow_meaning.specs.Sound.{IsReached, IsSoundState}
-use Rattle.flow_meaning.proofs.Comparing.{same_item-decides}
-use Rattle.flow_meaning.proofs.Enough.{with_outputs}
-use Rattle.flow_meaning.proofs.Events.{each_arrived, ends_so, happen_sound, member_send, opening_sound, send_member, unsent}
-use Rattle.flow_meaning.proofs.Quiet.{claimed_ends}
-use Rattle.flow_meaning.proofs.Reordering.{same_sent_item-decides}
-use Rattle.flow_meaning.proofs.Rounds.{has_sources}
+use Rattle.flow_meaning.proofs.CallerLemmas.{claimed_ends, each_arrived, ends_so, happen_sound, has_sources, member_send, opening_sound, same_item-decides}
+use Rattle.flow_meaning.proofs.CallerLemmas.{same_sent_item-decides, send_member, unsent, with_outputs}
 
 -- one more member is done, and one fewer is left
 one_done : {A : Type 0} (all done left : List A) (x : A) (i : IsIn x left) → HasSameMembers all (done ++ left)

@@ -5,13 +5,13 @@ use Rattle.list_lemmas.proofs.Counts.{count-some}
 use Rattle.plan_core.specs.declared.plan.Plan.{Plan}
 use Rattle.dep_iter.specs.Edges.{goal}
 use Rattle.dep_iter.specs.Tasks.{all_tasks}
-use Rattle.dep_iter.proofs.Listing.{listed}
+use Rattle.dep_iter.proofs.CallerLemmas.{listed}
 use Rattle.list_lemmas.specs.Counting.{count}
 use Rattle.flow_meaning.specs.Machine.{arrived, claim_count}
 use Rattle.flow_meaning.specs.Table.{is_ready, is_unclaimed, ready_tasks}
 use Rattle.shard_meaning.specs.Calm.{IsCalm}
 use Rattle.shard_meaning.specs.Moment.{Moment}
-use Rattle.shard_meaning.proofs.ReadyCount.{ready_count}
+use Rattle.shard_meaning.proofs.CallerLemmas.{ready_count}
 
 -- if no task is ready and none runs, the moment is calm
 pub calm_by_count : (P : Plan) (R : Moment) → length (ready_tasks P R.state) ≡ 0 → R.running ≡ [] → IsCalm P R

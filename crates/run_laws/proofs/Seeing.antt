@@ -9,8 +9,7 @@ use Rattle.dep_iter.specs.Hints.{priority}
 use Rattle.dep_shard.specs.Content.{Content, entry_before}
 use Rattle.flow_meaning.specs.Machine.{IsQuiescent, arrived}
 use Rattle.shard_meaning.specs.Calm.{IsCalm}
-use Rattle.shard_meaning.proofs.Calming.{calm_quiescent}
-use Rattle.shard_meaning.proofs.Targets.{target_fires}
+use Rattle.shard_meaning.proofs.CallerLemmas.{calm_quiescent, target_fires}
 use Rattle.work_board.specs.Sends.{IsNext}
 use Rattle.work_board.specs.declared.record.PassRecord.{PassRecord}
 use Rattle.table_rule.specs.declared.table_job.TableJob.{TableJob}
@@ -18,8 +17,7 @@ use Rattle.shard_meaning.specs.Placing.{shard_of}
 use Rattle.table_rule.specs.Plays.{WasSeen, fires}
 use Rattle.table_rule.specs.Records.{joined}
 use Rattle.table_rule.specs.Rule.{Rule, Table}
-use Rattle.table_rule.proofs.SameMembers.{joined_parts}
-use Rattle.table_rule.proofs.Seeing.{seen_next, seen_share}
+use Rattle.table_rule.proofs.CallerLemmas.{joined_parts, seen_next, seen_share}
 
 module _ (j : TableJob) (k : ℕ) (v : PassRecord) (y : Content) (w : WasSeen j k v y) where
   -- an edge fires its target if and only if all other edges into it were sent

@@ -7,13 +7,12 @@ use Rattle.plan_core.specs.declared.plan.Plan.{Plan}
 use Rattle.dep_iter.specs.Tasks.{IsTask, all_tasks}
 use Rattle.trace_core.specs.Spelling.{IsSpelled, IsWellSpelled}
 use Rattle.trace_core.specs.Text.{row_of, head_line, rows_text, trace_text}
-use Rattle.trace_core.proofs.OneText.{one_spelling}
-use Rattle.trace_core.proofs.Lists.{same_list}
+use Rattle.trace_core.proofs.CallerLemmas.{one_spelling, same_list}
 use Rattle.coll_data.specs.Data.{Data}
 use Rattle.list_lemmas.proofs.Distinct.{no_longer}
 use Rattle.dep_iter.specs.Consistent.{IsConsistent}
-use Rattle.dep_iter.proofs.Listing.{listed}
-use Rattle.chain_cert.proofs.Orders.{legal_once, legal_tasks}
+use Rattle.dep_iter.proofs.CallerLemmas.{listed}
+use Rattle.chain_cert.proofs.CallerLemmas.{legal_once, legal_tasks}
 use Rattle.flow_meaning.specs.Order.{IsWholeOrder}
 
 pub spelled_text : (P : Plan) (ts : List Task) → AllByRecursion IsSpelled (map (row_of P) ts) → length ts ≤ 1000000

@@ -4,16 +4,13 @@ use Rattle.ptg_base.specs.Task.{Task}
 use Rattle.plan_core.specs.declared.plan.Plan.{Plan}
 use Rattle.coll_data.specs.Data.{Data}
 use Rattle.dep_iter.specs.Consistent.{IsConsistent}
-use Rattle.chain_cert.proofs.Orders.{legal_once}
+use Rattle.chain_cert.proofs.CallerLemmas.{legal_once}
 use Rattle.trace_core.specs.declared.fault.TraceFault.{TraceFault}
 use Rattle.trace_core.specs.Faults.{IsTraceFault}
 use Rattle.trace_core.specs.Reading.{IsListOf}
 use Rattle.trace_core.specs.Text.{row_of}
-use Rattle.trace_core.proofs.Lists.{is_list}
-use Rattle.trace_core.proofs.OneFault.{faultless}
-use Rattle.trace_core.proofs.Wholes.{whole_all, whole_may}
+use Rattle.trace_core.proofs.CallerLemmas.{fault_or_trace, faultless, is_list, order_tasks, whole_all, whole_may}
 use Rattle.trace_core.specs.Traces.{IsSomeTrace, IsTrace}
-use Rattle.trace_core.proofs.Either.{fault_or_trace, order_tasks}
 
 module _ (P : Plan) (G : Data) (con : IsConsistent P) (text : List ℕ) where
   -- never both

@@ -7,12 +7,11 @@ use Rattle.flow_meaning.specs.Machine.{Event, Happen, MachineState, state_after,
 use Rattle.list_lemmas.proofs.Places.{slice_get_member}
 use Rattle.dep_iter.specs.Consistent.{IsConsistent}
 use Rattle.flow_meaning.specs.Order.{IsLegalOrder}
-use Rattle.flow_meaning.proofs.Events.{opening_sound}
+use Rattle.flow_meaning.proofs.CallerLemmas.{opening_sound}
 use Rattle.run_laws.proofs.Orders.{happen_legal}
 use Rattle.rank_core.specs.World.{Deliver, HappenIn, IsPossibleIn, Run, WorldEvent, WorldState, after_delivery, opening_world, with_message, world_after}
 use Rattle.rank_core.specs.Sound.{IsSoundWorld}
-use Rattle.rank_core.proofs.Happening.{delivered, run_happens}
-use Rattle.rank_core.proofs.Worlds.{event_sound, opening_sound_world}
+use Rattle.rank_core.proofs.CallerLemmas.{delivered, event_sound, opening_sound_world, run_happens}
 
 -- events that happen one after another
 pub happen-append : (P : Plan) (G : Data) (es fs : List Event) (S T U : MachineState) → Happen P G es S T → Happen P G fs T U → Happen P G (es ++ fs) S U

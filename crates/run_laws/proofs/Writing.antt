@@ -14,17 +14,16 @@ use Rattle.coll_data.specs.Data.{Data}
 use Rattle.dep_iter.specs.Consistent.{IsConsistent, all_writes}
 use Rattle.dep_iter.specs.Items.{items, write_backs, write_of}
 use Rattle.dep_iter.specs.Tasks.{all_tasks}
-use Rattle.dep_iter.proofs.Listing.{listed}
+use Rattle.dep_iter.proofs.CallerLemmas.{listed}
 use Rattle.dep_shard.specs.Content.{Content}
 use Rattle.flow_meaning.specs.Comparing.{same_item}
 use Rattle.list_lemmas.specs.Counting.{as_number}
 use Rattle.flow_meaning.specs.Machine.{MaySend, is_sent, sender}
 use Rattle.flow_meaning.specs.Sound.{IsSoundState}
-use Rattle.flow_meaning.proofs.Comparing.{same_item-decides}
-use Rattle.flow_meaning.proofs.Events.{member_send}
+use Rattle.flow_meaning.proofs.CallerLemmas.{member_send, same_item-decides}
 use Rattle.shard_meaning.specs.Moment.{Moment}
 use Rattle.shard_meaning.specs.Share.{IsShardOf, Placement, is_of, write_weight, written_weight}
-use Rattle.shard_meaning.proofs.Due.{unsent_yet}
+use Rattle.shard_meaning.proofs.CallerLemmas.{unsent_yet}
 
 module _ (P : Plan) (G : Data) (con : IsConsistent P) (of : Placement) (k : ℕ) (R : Moment) (sound : IsSoundState P G R.state) where
   write_listed : (v : WriteBack) → IsIn (sender (item.Write v)) R.state.claims → IsIn (item.Write v) (items P v.from) → IsIn v (all_writes P)

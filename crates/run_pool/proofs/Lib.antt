@@ -5,3 +5,4 @@ pub mod Gathered
 pub mod SeatedAll
 pub mod Closed
 pub mod Traced
+pub mod CallerLemmas

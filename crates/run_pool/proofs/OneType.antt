@@ -15,13 +15,12 @@ use Rattle.dep_iter.specs.Consistent.{all_data, all_in, all_writes, is_data_edge
 use Rattle.dep_iter.specs.Edges.{in_edges}
 use Rattle.dep_iter.specs.Items.{write_backs}
 use Rattle.dep_iter.specs.Tasks.{IsTask, all_tasks, flows_of}
-use Rattle.dep_iter.proofs.Listing.{listed}
-use Rattle.shard_meaning.proofs.Destinations.{flow_is, writes_from}
-use Rattle.task_run.proofs.FlowSizes.{known}
+use Rattle.dep_iter.proofs.CallerLemmas.{listed}
+use Rattle.shard_meaning.proofs.CallerLemmas.{flow_is, writes_from}
+use Rattle.task_run.proofs.CallerLemmas.{known}
 use Rattle.run_pool.specs.Bytes.{edge_elements, elements_of, sent_elements, write_elements}
 use Rattle.run_pool.proofs.Totals.{write_item}
-use Rattle.flow_meaning.proofs.Members.{in_edge_to}
-use Rattle.flow_meaning.proofs.Rest.{write_from}
+use Rattle.flow_meaning.proofs.CallerLemmas.{in_edge_to, write_from}
 
 module _ (P : Plan) (elems : ℕ) (one : P.elems ≡ elems ∷ []) where
   -- a flow of a task of the job has tiles of that length

@@ -22,9 +22,9 @@ use Rattle.coll_data.specs.WellMade.{IsWellMade}
 use Rattle.plan_data.specs.Fit.{DataFit}
 use Rattle.dep_iter.specs.Consistent.{IsConsistent}
 use Rattle.dep_iter.specs.Tasks.{IsTask, all_tasks}
-use Rattle.dep_iter.proofs.Listing.{listed}
+use Rattle.dep_iter.proofs.CallerLemmas.{listed}
 use Rattle.dep_shard.specs.Content.{Content, Entries}
-use Rattle.dep_shard.proofs.QueueLemmas.{looked_up}
+use Rattle.dep_shard.proofs.CallerLemmas.{looked_up}
 use Rattle.flow_meaning.specs.declared.outcome.TrapRow.{TrapRow}
 use Rattle.flow_meaning.specs.declared.outcome.WaitRow.{WaitRow}
 use Rattle.flow_meaning.specs.declared.outcome.Outcome.TheVariants.{Complete, Trapped, Stalled}
@@ -34,13 +34,10 @@ use Rattle.flow_meaning.specs.Final.{replaced_data}
 use Rattle.flow_meaning.specs.Machine.{IsQuiescent, MachineState}
 use Rattle.flow_meaning.specs.StateAnswer.{first_written, state_answer, state_answer_by, state_data, state_traps}
 use Rattle.flow_meaning.specs.Table.{waiting_rows}
-use Rattle.flow_meaning.proofs.Answered.{answer_same}
-use Rattle.flow_meaning.proofs.Once.{traps_same}
-use Rattle.flow_meaning.proofs.Reordering.{reordered_quiescent}
+use Rattle.flow_meaning.proofs.CallerLemmas.{answer_same, reordered_quiescent, traps_same}
 use Rattle.run_answer.specs.Rows.{AreOfDifferentTasks}
 use Rattle.run_answer.specs.Written.{with_tiles}
-use Rattle.shard_meaning.proofs.SoundMoments.{claims_at_most}
-use Rattle.shard_meaning.proofs.Calming.{calm_quiescent}
+use Rattle.shard_meaning.proofs.CallerLemmas.{calm_quiescent, claims_at_most}
 use Rattle.shard_answer.specs.Ending.{HoldAnEnd}
 use Rattle.shard_answer.specs.Parts.{HaveDistinctEntries, all_ended, all_traps, all_waits, all_written}
 use Rattle.shard_answer.proofs.Gathering.{gathered}

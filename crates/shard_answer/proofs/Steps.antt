@@ -11,7 +11,7 @@ use Rattle.coll_data.specs.Data.{Data}
 use Rattle.dep_shard.specs.Content.{Content}
 use Rattle.flow_meaning.specs.Final.{replaced_data}
 use Rattle.run_answer.specs.Written.{IsWritable}
-use Rattle.run_answer.proofs.Replacing.{replaced_twice, replaced_writable, written_to}
+use Rattle.run_answer.proofs.CallerLemmas.{replaced_twice, replaced_writable, written_to}
 use Rattle.shard_answer.specs.Parts.{all_written}
 
 map_next : {A B : Type 0} (f : A → B) (xs : List A) (i : ℕ) (x : A) → slice_get xs i ≡ Some x → map f (take (suc i) xs) ≡ map f (take i xs) ++ f x ∷ []

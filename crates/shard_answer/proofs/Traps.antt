@@ -26,9 +26,9 @@ use Rattle.list_lemmas.specs.Counting.{as_number, count, weigh}
 use Rattle.flow_meaning.specs.Ending.{Ended}
 use Rattle.flow_meaning.specs.Machine.{MachineState, end_in}
 use Rattle.flow_meaning.specs.StateAnswer.{state_traps}
-use Rattle.flow_meaning.proofs.Events.{ends_so}
+use Rattle.flow_meaning.proofs.CallerLemmas.{ends_so}
 use Rattle.run_answer.specs.Rows.{AreOfDifferentTasks}
-use Rattle.run_answer.proofs.Sorting.{one_order}
+use Rattle.run_answer.proofs.CallerLemmas.{one_order}
 use Rattle.shard_meaning.specs.Share.{Placement, ended_weight, is_of, trap_weight}
 use Rattle.shard_answer.specs.Ending.{HoldAnEnd}
 use Rattle.shard_answer.specs.Parts.{all_traps, trap_row, traps_of}

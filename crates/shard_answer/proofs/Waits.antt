@@ -18,15 +18,15 @@ use Rattle.plan_core.specs.declared.plan.Plan.{Plan}
 use Rattle.coll_data.specs.Data.{Data}
 use Rattle.dep_iter.specs.Edges.{goal}
 use Rattle.dep_iter.specs.Tasks.{IsTask, all_tasks}
-use Rattle.dep_iter.proofs.Listing.{listed}
+use Rattle.dep_iter.proofs.CallerLemmas.{listed}
 use Rattle.dep_shard.specs.Content.{Content, Entries, entry_in}
 use Rattle.flow_meaning.specs.declared.outcome.WaitRow.{WaitRow}
 use Rattle.list_lemmas.specs.Counting.{count}
 use Rattle.flow_meaning.specs.Machine.{MachineState, arrived, claim_count}
 use Rattle.flow_meaning.specs.Table.{entry_of as table_row, is_ready, is_waiting, table_entry, waiting_rows, waiting_tasks}
-use Rattle.flow_meaning.proofs.Once.{tasks_once}
+use Rattle.flow_meaning.proofs.CallerLemmas.{tasks_once}
 use Rattle.run_answer.specs.Rows.{AreOfDifferentTasks}
-use Rattle.run_answer.proofs.Sorting.{one_order}
+use Rattle.run_answer.proofs.CallerLemmas.{one_order}
 use Rattle.shard_answer.specs.Ending.{HoldAnEnd}
 use Rattle.shard_answer.specs.Parts.{all_waits, wait_row, waits_of}
 use Rattle.shard_answer.proofs.Gathering.{differ, in_rows, row_of}

@@ -23,9 +23,9 @@ use Rattle.flow_meaning.specs.Machine.{MachineState, SentItem, sender}
 use Rattle.flow_meaning.specs.Sound.{IsReordered, IsSoundState}
 use Rattle.flow_meaning.specs.StateAnswer.{first_written, state_data}
 use Rattle.flow_meaning.specs.Table.{written_by}
-use Rattle.flow_meaning.proofs.Reordering.{reordered_sound}
+use Rattle.flow_meaning.proofs.CallerLemmas.{reordered_sound}
 use Rattle.run_answer.specs.Written.{IsWritable, with_tiles}
-use Rattle.run_answer.proofs.Writable.{write_sent}
+use Rattle.run_answer.proofs.CallerLemmas.{write_sent}
 use Rattle.shard_meaning.specs.Share.{Placement, write_weight, written_weight}
 use Rattle.shard_answer.specs.Ending.{HoldAnEnd}
 use Rattle.shard_answer.specs.Parts.{all_written}

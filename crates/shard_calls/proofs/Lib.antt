@@ -1,3 +1,4 @@
 pub mod TaskWalks
 pub mod OpeningSteps
 pub mod Opened
+pub mod CallerLemmas

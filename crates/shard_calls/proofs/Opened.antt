@@ -5,7 +5,7 @@ use Rattle.ptg_base.specs.Task.{Task}
 use Rattle.plan_core.specs.declared.plan.Plan.{Plan}
 use Rattle.dep_iter.specs.Edges.{goal}
 use Rattle.dep_iter.specs.Tasks.{all_tasks}
-use Rattle.dep_iter.proofs.Listing.{listed}
+use Rattle.dep_iter.proofs.CallerLemmas.{listed}
 use Rattle.dep_shard.specs.Content.{Content, IsNew}
 use Rattle.shard_meaning.specs.Opening.{IsOpenedFor, IsOpeningShard}
 use Rattle.shard_meaning.specs.Share.{Placement}

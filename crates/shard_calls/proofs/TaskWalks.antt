@@ -6,7 +6,7 @@ use Rattle.ptg_base.specs.Task.{Task}
 use Rattle.list_lemmas.proofs.Members.{IsIn-append_right}
 use Rattle.plan_core.specs.declared.plan.Plan.{Plan}
 use Rattle.dep_iter.specs.Tasks.{IsTask, all_tasks}
-use Rattle.dep_iter.proofs.Listing.{listed}
+use Rattle.dep_iter.proofs.CallerLemmas.{listed}
 
 -- How far a walk over all tasks has come: what holds of the tasks that it has passed.
 pub record IsSoFar (P : Plan) (Q : List Task → Type 0) (rest : List Task) : Type 0 where

@@ -15,7 +15,7 @@ use Rattle.dep_shard.specs.Content.{Content}
 use Rattle.list_lemmas.specs.Counting.{as_number, count}
 use Rattle.flow_meaning.specs.Machine.{IsQuiescent, MayClaim, MaySend}
 use Rattle.flow_meaning.specs.Sound.{IsAtRest, IsFinished, IsSoundState}
-use Rattle.flow_meaning.proofs.Rest.{rests}
+use Rattle.flow_meaning.proofs.CallerLemmas.{rests}
 use Rattle.shard_meaning.specs.Calm.{AreFinished, HasNoWork, IsCalm}
 use Rattle.shard_meaning.specs.Moment.{Moment, run_count, with_claim, with_end, with_send}
 use Rattle.shard_meaning.specs.Share.{IsShardOf, Placement, is_of}

@@ -16,11 +16,11 @@ use Rattle.coll_data.specs.Data.{Data}
 use Rattle.dep_iter.specs.Edges.{data_source}
 use Rattle.dep_iter.specs.Items.{items}
 use Rattle.dep_iter.specs.Tasks.{IsTask, flows_of}
-use Rattle.dep_iter.proofs.Items.{item_edge}
+use Rattle.dep_iter.proofs.CallerLemmas.{item_edge}
 use Rattle.flow_meaning.specs.Ending.{Ended, ended_on, output_tile}
 use Rattle.flow_meaning.specs.Machine.{MachineState, end_in}
 use Rattle.flow_meaning.specs.Starting.{Delivery, starting_tiles, tile_from, tiles_from}
-use Rattle.flow_meaning.proofs.Sizes.{ended_shape, flow_is}
+use Rattle.flow_meaning.proofs.CallerLemmas.{ended_shape, flow_is}
 use Rattle.shard_meaning.proofs.Destinations.{sends_to}
 
 -- the tile that an edge carries

@@ -18,7 +18,7 @@ use Rattle.dep_iter.specs.Tasks.{IsTask, flows_of}
 use Rattle.dep_iter.specs.Well.{IsWellTask}
 use Rattle.dep_shard.specs.Arrivals.{with_tile}
 use Rattle.flow_meaning.specs.Starting.{Delivery, delivered_from, delivered_tile, delivered_tiles, delivered_to}
-use Rattle.flow_meaning.proofs.SourceEdges.{only_source, source_at_flow}
+use Rattle.flow_meaning.proofs.CallerLemmas.{only_source, source_at_flow}
 
 -- all flows of the tiles are at least n
 abbrev AllFrom : ℕ → List FlowTile → Type 0

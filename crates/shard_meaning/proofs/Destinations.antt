@@ -21,11 +21,10 @@ use Rattle.dep_iter.specs.Arguments.{combinations}
 use Rattle.dep_iter.specs.Items.{out_edges}
 use Rattle.dep_iter.specs.Links.{links_to}
 use Rattle.dep_iter.specs.Tasks.{IsTask, flows_of, locals_of}
-use Rattle.dep_iter.proofs.Belonging.{from_links, link_out, out_edge_is}
-use Rattle.flow_meaning.proofs.Destinations.{destination}
+use Rattle.dep_iter.proofs.CallerLemmas.{from_links, link_out, out_edge_is}
+use Rattle.flow_meaning.proofs.CallerLemmas.{destination}
 use Rattle.shard_meaning.specs.Reserve.{has_type}
-pub use Rattle.flow_meaning.proofs.Sizes.{flow_is}
-pub use Rattle.flow_meaning.proofs.Destinations.{writing_flow as writes_from}
+pub use Rattle.flow_meaning.proofs.CallerLemmas.{flow_is, writing_flow as writes_from}
 
 module _ (P : Plan) (t : Task) (job : IsTask P t) (n : ℕ) (g : FlowPlan) (here : slice_get (flows_of P t) n ≡ Some g) where
   may_be : (x : Target) → IsIn x (flow_outs (locals_of P t) g) → is_out_target P.classes g.kind x ≡ true

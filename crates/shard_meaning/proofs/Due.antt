@@ -17,7 +17,7 @@ use Rattle.flow_meaning.specs.Comparing.{same_item}
 use Rattle.list_lemmas.specs.Counting.{as_number, count}
 use Rattle.flow_meaning.specs.Machine.{MachineState, MaySend, Send, SentItem, claim_count, is_sent, send_count, sent_with, state_after}
 use Rattle.flow_meaning.specs.Table.{is_unclaimed}
-use Rattle.flow_meaning.proofs.Comparing.{same_item-decides}
+use Rattle.flow_meaning.proofs.CallerLemmas.{same_item-decides}
 use Rattle.shard_meaning.specs.Moment.{Moment, run_count, with_claim, with_end, with_send}
 use Rattle.shard_meaning.specs.Share.{Placement, is_of}
 use Rattle.shard_meaning.specs.Reserve.{is_due_edge, is_due_end, is_due_entry, is_due_write, is_due_write_tile, is_edge_of_type, is_write_of_type}

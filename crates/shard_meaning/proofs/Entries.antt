@@ -26,7 +26,7 @@ use Rattle.dep_iter.specs.Edges.{data_source, goal, in_edges}
 use Rattle.dep_iter.specs.Hints.{priority}
 use Rattle.dep_iter.specs.Items.{items}
 use Rattle.dep_iter.specs.Tasks.{IsTask, flows_of}
-use Rattle.dep_iter.proofs.Items.{Edge-injective, item_edge}
+use Rattle.dep_iter.proofs.CallerLemmas.{Edge-injective, item_edge}
 use Rattle.dep_shard.specs.Content.{Content, Updates, entry_before, entry_in, entry_of, fresh, tiles_after, with_arrival}
 use Rattle.list_lemmas.specs.Counting.{as_number}
 use Rattle.flow_meaning.specs.Comparing.{same_item}
@@ -34,12 +34,8 @@ use Rattle.flow_meaning.specs.Machine.{Claim, MachineState, MaySend, Send, arriv
 use Rattle.flow_meaning.specs.Sound.{IsSoundState}
 use Rattle.flow_meaning.specs.Starting.{delivered_from, delivered_tiles, delivered_to}
 use Rattle.flow_meaning.specs.Table.{table_entry}
-use Rattle.flow_meaning.proofs.Arriving.{arrives, arrives_not, delivers_as_before, delivers_now, sent_edge_in, writes_not}
-use Rattle.flow_meaning.proofs.Comparing.{same_item-decides}
-use Rattle.flow_meaning.proofs.Members.{in_edge_to}
-use Rattle.flow_meaning.proofs.Events.{claim_member, unsent}
-use Rattle.flow_meaning.proofs.Rounds.{delivered_tiles-same}
-use Rattle.flow_meaning.proofs.Reordering.{first_none}
+use Rattle.flow_meaning.proofs.CallerLemmas.{arrives, arrives_not, claim_member, delivered_tiles-same, delivers_as_before, delivers_now, first_none}
+use Rattle.flow_meaning.proofs.CallerLemmas.{in_edge_to, same_item-decides, sent_edge_in, unsent, writes_not}
 use Rattle.shard_meaning.specs.Share.{Placement}
 use Rattle.shard_meaning.proofs.Carrying.{Carries, edge_tile}
 use Rattle.shard_meaning.proofs.Delivering.{in_order}

@@ -20,8 +20,7 @@ use Rattle.flow_meaning.specs.Table.{entry_of as whole_entry, is_ready, is_waiti
 use Rattle.list_lemmas.proofs.Counts.{count-at_most, weigh-member}
 use Rattle.list_lemmas.proofs.Tasks.{counted_member}
 use Rattle.std.proofs.lemmas.Option.{same_Some}
-use Rattle.flow_meaning.proofs.Events.{has_inputs, it_ends}
-use Rattle.flow_meaning.proofs.Once.{claims_at_most}
+use Rattle.flow_meaning.proofs.CallerLemmas.{claims_at_most, has_inputs, it_ends}
 use Rattle.shard_meaning.specs.Moment.{Moment, run_count}
 use Rattle.shard_meaning.specs.Share.{IsShardOf, Placement, is_of}
 use Rattle.shard_meaning.proofs.Claims.{one_here}

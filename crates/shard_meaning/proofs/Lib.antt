@@ -20,3 +20,4 @@ pub mod ReadyCount
 pub mod Reordered
 pub mod Sharing
 pub mod Typing
+pub mod CallerLemmas

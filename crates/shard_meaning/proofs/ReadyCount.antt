@@ -21,14 +21,12 @@ use Rattle.coll_data.specs.Data.{Data}
 use Rattle.dep_iter.specs.Consistent.{IsConsistent}
 use Rattle.dep_iter.specs.Edges.{goal}
 use Rattle.dep_iter.specs.Tasks.{all_tasks}
-use Rattle.dep_iter.proofs.Listing.{listed}
-use Rattle.dep_iter.proofs.Once.{once-all_tasks}
+use Rattle.dep_iter.proofs.CallerLemmas.{listed, once-all_tasks}
 use Rattle.list_lemmas.specs.Counting.{as_number, count}
 use Rattle.flow_meaning.specs.Machine.{MachineState, MayClaim, MaySend, Send, arrived, claim_count, state_after}
 use Rattle.flow_meaning.specs.Sound.{IsSoundState}
 use Rattle.flow_meaning.specs.Table.{is_ready, is_unclaimed, ready_tasks}
-use Rattle.flow_meaning.proofs.Arriving.{arrives, arrives_not, writes_not}
-use Rattle.flow_meaning.proofs.Events.{member_claim}
+use Rattle.flow_meaning.proofs.CallerLemmas.{arrives, arrives_not, member_claim, writes_not}
 use Rattle.shard_meaning.specs.Moment.{Moment, with_claim}
 use Rattle.shard_meaning.proofs.Entries.{missing, target, target_unclaimed}
 

@@ -13,7 +13,7 @@ use Rattle.dep_shard.specs.Content.{Content}
 use Rattle.flow_meaning.specs.Comparing.{same_item}
 use Rattle.list_lemmas.specs.Counting.{as_number}
 use Rattle.flow_meaning.specs.Machine.{Claim, SentItem, claim_count, is_sent}
-use Rattle.flow_meaning.proofs.Reordering.{back, claim_in, possible_there, reordered_sound, table_same}
+use Rattle.flow_meaning.proofs.CallerLemmas.{back, claim_in, possible_there, reordered_sound, table_same}
 use Rattle.shard_meaning.specs.Calm.{AreFinished, IsCalm}
 use Rattle.shard_meaning.specs.Moment.{IsReorderedMoment, IsSoundMoment, Moment, run_count}
 use Rattle.shard_meaning.specs.Reserve.{HasReserve}

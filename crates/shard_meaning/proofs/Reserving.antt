@@ -12,8 +12,7 @@ use Rattle.list_lemmas.proofs.Distinct.{count-falls}
 use Rattle.plan_core.specs.declared.plan.Plan.{Plan}
 use Rattle.coll_data.specs.Data.{Data}
 use Rattle.dep_iter.specs.Tasks.{IsTask, all_tasks}
-use Rattle.dep_iter.proofs.Listing.{listed}
-use Rattle.dep_iter.proofs.Once.{once-all_tasks}
+use Rattle.dep_iter.proofs.CallerLemmas.{listed, once-all_tasks}
 use Rattle.dep_shard.specs.Content.{Content, KeepsEntriesAndWritten, Takes, Uses, entry_in, entry_of}
 use Rattle.list_lemmas.specs.Counting.{as_number}
 use Rattle.flow_meaning.specs.Machine.{MayClaim, MaySend, claim_count}

@@ -27,9 +27,7 @@ use Rattle.dep_iter.specs.Consistent.{IsConsistent, all_data, all_in, all_writes
 use Rattle.dep_iter.specs.Edges.{in_edges}
 use Rattle.dep_iter.specs.Items.{items, write_backs}
 use Rattle.dep_iter.specs.Tasks.{IsTask, all_tasks}
-use Rattle.dep_iter.proofs.Listing.{listed}
-use Rattle.dep_iter.proofs.Once.{once-all_tasks}
-use Rattle.dep_iter.proofs.Items.{item_write}
+use Rattle.dep_iter.proofs.CallerLemmas.{item_write, listed, once-all_tasks}
 use Rattle.dep_shard.specs.Content.{Content, KeepsAllButWritten, Updates, Uses, entry_in, entry_of}
 use Rattle.dep_shard.specs.Stock.{tiles_used}
 use Rattle.flow_meaning.specs.Backward.{ended}
@@ -38,9 +36,7 @@ use Rattle.flow_meaning.specs.Ending.{output_tile}
 use Rattle.flow_meaning.specs.Machine.{MaySend, is_sent}
 use Rattle.flow_meaning.specs.Sound.{IsSoundState}
 use Rattle.flow_meaning.specs.Table.{is_unclaimed}
-use Rattle.flow_meaning.proofs.Arriving.{sent_edge_in}
-use Rattle.flow_meaning.proofs.Events.{ends_so}
-use Rattle.flow_meaning.proofs.Sizes.{flow_is}
+use Rattle.flow_meaning.proofs.CallerLemmas.{ends_so, flow_is, sent_edge_in}
 use Rattle.shard_meaning.specs.Moment.{Moment, with_send}
 use Rattle.shard_meaning.specs.Share.{Placement, is_of}
 use Rattle.shard_meaning.specs.Reserve.{HasReserve, has_type, is_due_edge, is_due_entry, is_due_write, is_due_write_tile, is_edge_of_type, is_write_of_type}

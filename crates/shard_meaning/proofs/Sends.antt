@@ -15,7 +15,7 @@ use Rattle.flow_meaning.specs.Ending.{output_tile}
 use Rattle.flow_meaning.specs.Machine.{MaySend, end_in, sent_with}
 use Rattle.flow_meaning.specs.Sound.{IsSoundState}
 use Rattle.list_lemmas.proofs.Counts.{weigh-push}
-use Rattle.flow_meaning.proofs.Events.{ends_so}
+use Rattle.flow_meaning.proofs.CallerLemmas.{ends_so}
 use Rattle.shard_meaning.specs.Moment.{Moment, with_send}
 use Rattle.shard_meaning.specs.Share.{IsShardOf, Placement, write_weight, written_weight}
 use Rattle.shard_meaning.proofs.Carrying.{carries, edge_tile}

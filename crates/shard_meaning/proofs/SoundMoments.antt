@@ -9,14 +9,13 @@ use Rattle.plan_core.specs.declared.plan.Plan.{Plan}
 use Rattle.coll_data.specs.Data.{Data}
 use Rattle.dep_iter.specs.Consistent.{IsConsistent}
 use Rattle.dep_iter.specs.Tasks.{IsTask, all_tasks}
-use Rattle.dep_iter.proofs.Listing.{listed}
+use Rattle.dep_iter.proofs.CallerLemmas.{listed}
 use Rattle.flow_meaning.specs.Ending.{has_outputs}
 use Rattle.flow_meaning.specs.Machine.{MachineState, MaySend, claim_count, sender, sent_with, item_from}
 use Rattle.flow_meaning.specs.Sound.{IsSoundState, with_its_tile}
-use Rattle.flow_meaning.proofs.Events.{claim_member, ends_so, member_claim}
+use Rattle.flow_meaning.proofs.CallerLemmas.{claim_member, ends_so, member_claim}
 use Rattle.shard_meaning.specs.Moment.{IsSoundMoment, MaySendNext, Moment, run_count}
-pub use Rattle.flow_meaning.proofs.Events.{unclaimed_unsent}
-pub use Rattle.flow_meaning.proofs.Once.{claims_at_most}
+pub use Rattle.flow_meaning.proofs.CallerLemmas.{claims_at_most, unclaimed_unsent}
 
 module _ (P : Plan) (G : Data) (con : IsConsistent P) (R : Moment) (sound : IsSoundMoment P G R) where
   -- a task that runs was claimed

@@ -14,13 +14,12 @@ use Rattle.dep_iter.specs.Consistent.{IsConsistent}
 use Rattle.dep_iter.specs.Edges.{goal, in_edges}
 use Rattle.dep_iter.specs.Hints.{priority}
 use Rattle.dep_iter.specs.Tasks.{IsTask, flows_of}
-use Rattle.dep_iter.proofs.Belonging.{in_edge_is}
+use Rattle.dep_iter.proofs.CallerLemmas.{in_edge_is}
 use Rattle.dep_shard.specs.Content.{Content, IsReady, IsWaiting, entry_before, entry_of, fresh, with_arrival}
 use Rattle.flow_meaning.specs.Machine.{MaySend, arrived, sent_tile}
 use Rattle.flow_meaning.specs.Sound.{IsSoundState}
 use Rattle.flow_meaning.specs.Starting.{delivered_tiles}
-use Rattle.flow_meaning.proofs.Arriving.{sent_edge_in}
-use Rattle.flow_meaning.proofs.SourceEdges.{class_of}
+use Rattle.flow_meaning.proofs.CallerLemmas.{class_of, sent_edge_in}
 use Rattle.shard_meaning.specs.Moment.{Moment}
 use Rattle.shard_meaning.specs.Share.{IsShardOf, Placement}
 use Rattle.shard_meaning.proofs.Claims.{entries_of}

@@ -14,16 +14,13 @@ use Rattle.plan_data.specs.Fit.{DataFit}
 use Rattle.dep_iter.specs.Consistent.{IsConsistent}
 use Rattle.dep_iter.specs.Items.{items}
 use Rattle.dep_iter.specs.Tasks.{IsTask}
-use Rattle.dep_iter.proofs.Items.{item_edge}
+use Rattle.dep_iter.proofs.CallerLemmas.{item_edge}
 use Rattle.dep_shard.specs.Content.{IsTileOf}
 use Rattle.flow_meaning.specs.Backward.{ended}
 use Rattle.flow_meaning.specs.Ending.{has_outputs, output_tile}
 use Rattle.flow_meaning.specs.Machine.{MachineState, MaySend, end_in}
 use Rattle.flow_meaning.specs.Sound.{IsSoundState}
-use Rattle.flow_meaning.proofs.Events.{ends_so}
-use Rattle.flow_meaning.proofs.Destinations.{writing_flow}
-use Rattle.flow_meaning.proofs.Sizes.{flow_is, item_sized}
-use Rattle.flow_meaning.proofs.Starting.{known_datatype}
+use Rattle.flow_meaning.proofs.CallerLemmas.{ends_so, flow_is, item_sized, known_datatype, writing_flow}
 use Rattle.shard_meaning.specs.Reserve.{has_type}
 use Rattle.shard_meaning.proofs.Carrying.{no_output}
 use Rattle.shard_meaning.proofs.Destinations.{SendsTo, sends_to}

@@ -15,16 +15,11 @@ use Rattle.dep_shard.specs.Content.{Content, Takes, Uses}
 use Rattle.flow_meaning.specs.Comparing.{same_item}
 use Rattle.list_lemmas.specs.Counting.{as_number, weigh}
 use Rattle.flow_meaning.specs.Machine.{MayClaim, SentItem, claim_count, send_count, sender}
-use Rattle.flow_meaning.proofs.Events.{claim_sound}
-use Rattle.flow_meaning.proofs.Rest.{item_sender}
+use Rattle.flow_meaning.proofs.CallerLemmas.{claim_sound, item_sender}
 use Rattle.shard_meaning.specs.Moment.{Moment, with_claim}
 use Rattle.shard_meaning.specs.Share.{IsShardOf, Placement}
-use Rattle.shard_meaning.proofs.Calming.{finished-claim}
-use Rattle.shard_meaning.proofs.Claims.{claim_away, claim_here}
-use Rattle.shard_meaning.proofs.Holding.{claim_ends, claim_inputs, ready_may}
-use Rattle.shard_meaning.proofs.SoundMoments.{unclaimed_unsent}
-use Rattle.shard_meaning.proofs.ReadyCount.{ready-claim, ready_count}
-use Rattle.shard_meaning.proofs.Reserving.{reserve-claim, reserve-claim_away}
+use Rattle.shard_meaning.proofs.CallerLemmas.{claim_away, claim_ends, claim_here, claim_inputs, finished-claim, ready-claim, ready_count, ready_may}
+use Rattle.shard_meaning.proofs.CallerLemmas.{reserve-claim, reserve-claim_away, unclaimed_unsent}
 use Rattle.work_board.specs.Claims.{MayStart}
 use Rattle.work_board.specs.declared.record.PassRecord.{PassRecord}
 use Rattle.table_rule.specs.declared.table_job.TableJob.{TableJob}

@@ -18,13 +18,10 @@ use Rattle.list_lemmas.specs.Counting.{as_number, count, weigh}
 use Rattle.flow_meaning.specs.Ending.{has_outputs}
 use Rattle.flow_meaning.specs.Machine.{SentItem, claim_count, send_count}
 use Rattle.flow_meaning.specs.Sound.{IsFinished}
-use Rattle.flow_meaning.proofs.Events.{claim_member}
+use Rattle.flow_meaning.proofs.CallerLemmas.{claim_member}
 use Rattle.shard_meaning.specs.Moment.{IsSoundMoment, Moment, run_count, with_end}
 use Rattle.shard_meaning.specs.Share.{Placement}
-use Rattle.shard_meaning.proofs.Calming.{finished-end}
-use Rattle.shard_meaning.proofs.Ends.{end_away, end_here, trap_here}
-use Rattle.shard_meaning.proofs.Listing.{weigh-without}
-use Rattle.shard_meaning.proofs.Reserving.{reserve-end, reserve-end_away, reserve-trap}
+use Rattle.shard_meaning.proofs.CallerLemmas.{end_away, end_here, finished-end, reserve-end, reserve-end_away, reserve-trap, trap_here, weigh-without}
 use Rattle.work_board.specs.Records.{done_by}
 use Rattle.work_board.specs.Sends.{MayEnd, MayTrap}
 use Rattle.work_board.specs.declared.record.PassRecord.{PassRecord}

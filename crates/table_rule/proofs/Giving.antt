@@ -5,8 +5,7 @@ use Rattle.atomic_table.specs.Table.{Allows, gives, rest, step, stepped}
 use Rattle.ptg_base.specs.Lists.{IsIn}
 use Rattle.dep_shard.specs.Content.{Content, IsUnchanged, Uses}
 use Rattle.shard_meaning.specs.Moment.{Moment}
-use Rattle.shard_meaning.proofs.Ends.{unchanged}
-use Rattle.shard_meaning.proofs.Reserving.{reserve-unchanged}
+use Rattle.shard_meaning.proofs.CallerLemmas.{reserve-unchanged, unchanged}
 use Rattle.work_board.specs.declared.record.PassRecord.{PassRecord}
 use Rattle.table_rule.specs.declared.table_job.TableJob.{TableJob}
 use Rattle.table_rule.specs.Changes.{turn_left}

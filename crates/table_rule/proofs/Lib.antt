@@ -22,3 +22,4 @@ pub mod Leaving
 pub mod Sharing
 pub mod Seeing
 pub mod AllNames
+pub mod CallerLemmas

@@ -14,16 +14,16 @@ use Rattle.ptg_base.specs.TaskLaws.{same_task-decides}
 use Rattle.plan_core.specs.declared.plan.Plan.{Plan}
 use Rattle.coll_data.specs.Data.{Data}
 use Rattle.dep_iter.specs.Tasks.{all_tasks}
-use Rattle.dep_iter.proofs.Listing.{listed}
+use Rattle.dep_iter.proofs.CallerLemmas.{listed}
 use Rattle.dep_shard.specs.Content.{Content}
 use Rattle.list_lemmas.specs.Counting.{as_number, count, weigh}
 use Rattle.flow_meaning.specs.Machine.{MachineState, SentItem, claim_count, sender}
 use Rattle.flow_meaning.specs.Sound.{IsSoundState}
 use Rattle.flow_meaning.specs.Table.{ready_tasks}
 use Rattle.list_lemmas.proofs.Counts.{count-some, some_passes, weigh-one, weigh-flat_map, weigh-plus}
-use Rattle.flow_meaning.proofs.Events.{claim_member}
+use Rattle.flow_meaning.proofs.CallerLemmas.{claim_member}
 use Rattle.shard_meaning.specs.Moment.{Moment}
-use Rattle.shard_meaning.proofs.ReadyCount.{ready_at_most}
+use Rattle.shard_meaning.proofs.CallerLemmas.{ready_at_most}
 use Rattle.work_board.specs.declared.record.PassRecord.{PassRecord}
 use Rattle.table_rule.specs.Live.{AreLive, OwnsLives, own_stamps}
 use Rattle.table_rule.specs.Records.{AreRecordsOf}

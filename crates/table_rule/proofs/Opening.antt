@@ -7,9 +7,9 @@ use Rattle.atomic_table.specs.Table.{opening}
 use Rattle.ptg_base.specs.Lists.{IsIn}
 use Rattle.dep_shard.specs.Content.{Content}
 use Rattle.list_lemmas.proofs.Counts.{one_at_most}
-use Rattle.flow_meaning.proofs.Events.{opening_sound}
+use Rattle.flow_meaning.proofs.CallerLemmas.{opening_sound}
 use Rattle.shard_meaning.specs.Moment.{opening_moment}
-use Rattle.shard_meaning.proofs.Openings.{opening_finished, opening_reserve, opening_share}
+use Rattle.shard_meaning.proofs.CallerLemmas.{opening_finished, opening_reserve, opening_share}
 use Rattle.work_board.specs.declared.record.PassRecord.{PassRecord}
 use Rattle.table_rule.specs.declared.table_job.TableJob.{TableJob}
 use Rattle.table_rule.specs.Changes.{first_pass}

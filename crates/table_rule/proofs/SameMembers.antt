@@ -14,10 +14,9 @@ use Rattle.flow_meaning.specs.Machine.{MachineState, SentItem, arrived, is_sent,
 use Rattle.flow_meaning.specs.Sound.{IsReordered}
 use Rattle.flow_meaning.specs.Table.{is_ready, ready_tasks}
 use Rattle.list_lemmas.proofs.Counts.{weigh-one, same_in, HasSameMembers-sym, weigh-flat_map}
-use Rattle.flow_meaning.proofs.Reordering.{same_sent_item-decides}
+use Rattle.flow_meaning.proofs.CallerLemmas.{same_sent_item-decides}
 use Rattle.shard_meaning.specs.Moment.{IsReorderedMoment, Moment}
-use Rattle.shard_meaning.proofs.ReadyCount.{ready_count}
-use Rattle.shard_meaning.proofs.Reordered.{reordered_calm, reordered_finished, reordered_moment, reordered_reserve, reordered_share}
+use Rattle.shard_meaning.proofs.CallerLemmas.{ready_count, reordered_calm, reordered_finished, reordered_moment, reordered_reserve, reordered_share}
 use Rattle.work_board.specs.declared.record.PassRecord.{PassRecord}
 use Rattle.table_rule.specs.declared.table_job.TableJob.{TableJob}
 use Rattle.table_rule.specs.Live.{AreLive}

@@ -33,18 +33,12 @@ use Rattle.flow_meaning.specs.Ending.{output_tile}
 use Rattle.flow_meaning.specs.Machine.{MaySend, SentItem, end_in, send_count, sender, sent_with}
 use Rattle.flow_meaning.specs.Sound.{IsSoundState}
 use Rattle.flow_meaning.specs.Table.{ready_tasks}
-use Rattle.flow_meaning.proofs.Comparing.{same_item-decides}
-use Rattle.flow_meaning.proofs.Events.{claim_member, ends_so, send_sound}
+use Rattle.flow_meaning.proofs.CallerLemmas.{claim_member, ends_so, same_item-decides, send_sound}
 use Rattle.shard_meaning.specs.Moment.{Moment, with_send}
 use Rattle.shard_meaning.specs.Reserve.{has_type}
 use Rattle.shard_meaning.specs.Share.{Placement}
-use Rattle.shard_meaning.proofs.Calming.{finished-send}
-use Rattle.shard_meaning.proofs.SoundMoments.{next_may}
-use Rattle.shard_meaning.proofs.ReadyCount.{ready-fires, ready-waits, ready-write, ready_count}
-use Rattle.shard_meaning.proofs.Reserving.{reserve-send_away}
-use Rattle.shard_meaning.proofs.SendReserving.{reserve-edge, reserve-write}
-use Rattle.shard_meaning.proofs.Sends.{edge_away, edge_here, write_away, write_here}
-use Rattle.shard_meaning.proofs.Targets.{target_fires}
+use Rattle.shard_meaning.proofs.CallerLemmas.{edge_away, edge_here, finished-send, next_may, ready-fires, ready-waits, ready-write, ready_count, reserve-edge}
+use Rattle.shard_meaning.proofs.CallerLemmas.{reserve-send_away, reserve-write, target_fires, write_away, write_here}
 use Rattle.work_board.specs.Records.{done_by}
 use Rattle.work_board.specs.Sends.{IsNext}
 use Rattle.work_board.specs.declared.record.PassRecord.{PassRecord}

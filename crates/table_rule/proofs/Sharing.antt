@@ -6,7 +6,7 @@ use Rattle.std.proofs.Crossing.{crosses}
 use Rattle.atomic_table.proofs.send_lease.SendLease.TheSendSync.{the_sync as lease_sync}
 use Rattle.atomic_table.proofs.shared.Seat.TheSendSync.{the_send as seat_send}
 use Rattle.atomic_table.proofs.shared.Shared.TheSendSync.{the_sync as shared_sync}
-use Rattle.shard_meaning.proofs.Sharing.{given_sync, matched_sync, shard_send}
+use Rattle.shard_meaning.proofs.CallerLemmas.{given_sync, matched_sync, shard_send}
 use Rattle.table_rule.specs.contracts.pass_seat.PassSeat.{the_type as seat_type}
 use Rattle.table_rule.specs.contracts.table_job.TableJob.{the_type as job_type}
 use Rattle.table_rule.specs.contracts.table_words.TableWords.{the_type as words_type}

@@ -23,7 +23,7 @@ use Rattle.dep_iter.specs.Edges.{in_edges}
 use Rattle.list_lemmas.specs.Counting.{as_number, count, weigh}
 use Rattle.flow_meaning.specs.Machine.{claim_count, sender}
 use Rattle.flow_meaning.specs.Sound.{IsSoundState}
-use Rattle.flow_meaning.proofs.Events.{claim_member, each_arrived, send_member}
+use Rattle.flow_meaning.proofs.CallerLemmas.{claim_member, each_arrived, send_member}
 use Rattle.shard_meaning.specs.Moment.{Moment}
 use Rattle.work_board.specs.declared.record.PassRecord.{PassRecord}
 use Rattle.table_rule.specs.declared.table_job.TableJob.{TableJob}

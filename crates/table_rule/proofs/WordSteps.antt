@@ -13,7 +13,7 @@ use Rattle.ptg_base.specs.Task.{Task}
 use Rattle.plan_core.specs.declared.plan.Plan.{Plan}
 use Rattle.dep_iter.specs.Edges.{goal}
 use Rattle.dep_iter.specs.Tasks.{all_tasks}
-use Rattle.dep_iter.proofs.Listing.{listed}
+use Rattle.dep_iter.proofs.CallerLemmas.{listed}
 use Rattle.flow_meaning.specs.Machine.{MayClaim, arrived, claim_count}
 use Rattle.flow_meaning.specs.Table.{is_ready, ready_tasks}
 use Rattle.list_lemmas.proofs.Counts.{count-some, weigh-one, length-filter}

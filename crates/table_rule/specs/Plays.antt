@@ -15,7 +15,8 @@ use Rattle.work_board.specs.Claims.{MayStart}
 use Rattle.work_board.specs.Word.{Halt, Live, Turn}
 use Rattle.work_board.specs.declared.record.PassRecord.{PassRecord}
 use Rattle.table_rule.specs.declared.table_job.TableJob.{TableJob}
-use Rattle.table_rule.specs.Changes.{turn_left, with_credit, with_halt, with_look, with_own_claim, with_own_end, with_own_send, with_quiet, with_stamp, with_turn, without_credit}
+use Rattle.table_rule.specs.Changes.{turn_left, with_credit, with_halt, with_look, with_own_claim, with_own_end, with_own_send, with_quiet}
+use Rattle.table_rule.specs.Changes.{with_stamp, with_turn, without_credit}
 use Rattle.table_rule.specs.Rule.{Rule, Table}
 use Rattle.table_rule.specs.Words.{halt_word, live_word, turn_word}
 use Rattle.shard_meaning.specs.Share.{entry_found}

@@ -17,9 +17,7 @@ use Rattle.dep_iter.specs.Consistent.{IsConsistent}
 use Rattle.flow_meaning.specs.Starting.{Delivery, starting_tile, starting_tiles, tiles_from}
 use Rattle.flow_meaning.specs.Ending.{Ended, ended_on}
 use Rattle.flow_meaning.specs.Backward.{ended, has_all_sources, source_tile}
-use Rattle.flow_meaning.proofs.Enough.{fixed}
-use Rattle.flow_meaning.proofs.SourceEdges.{class_of}
-use Rattle.flow_meaning.proofs.Starting.{length-locals_of, length-starting_tiles, length-tiles_from}
+use Rattle.flow_meaning.proofs.CallerLemmas.{class_of, fixed, length-locals_of, length-starting_tiles, length-tiles_from}
 use Rattle.task_run.specs.Start.{delivered}
 
 -- the tiles of all flows are what the task starts on

@@ -13,8 +13,8 @@ use Rattle.dep_iter.specs.declared.source.Source.TheVariants as source
 use Rattle.dep_iter.specs.Tasks.{IsTask, flows_of}
 use Rattle.dep_iter.specs.Edges.{data_source}
 use Rattle.dep_iter.specs.Consistent.{IsConsistent}
-use Rattle.flow_meaning.proofs.Sizes.{coll_type}
-pub use Rattle.flow_meaning.proofs.Starting.{known_datatype as known}
+use Rattle.flow_meaning.proofs.CallerLemmas.{coll_type}
+pub use Rattle.flow_meaning.proofs.CallerLemmas.{known_datatype as known}
 
 -- a tile that a flow reads from a place is of the type of the flow
 sized : (elems : List ℕ) (datatype size : ℕ) (o : Option Shape)

@@ -4,3 +4,4 @@ pub mod FlowSizes
 pub mod Arriving
 pub mod Laying
 pub mod Ending
+pub mod CallerLemmas

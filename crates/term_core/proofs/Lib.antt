@@ -1,1 +1,2 @@
 pub mod WithinBounds
+pub mod CallerLemmas

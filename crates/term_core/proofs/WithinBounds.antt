@@ -102,7 +102,8 @@ operation_within Ge a b r h y z p q = truth_within _ r h
 operation_within And a b r h y z p q = and_within (holds y) (holds z) r h
 operation_within Or a b r h y z p q = or_within (holds y) (holds z) r h
 
-both_within : (op : BinOp) (a b r : ValueBound) → IsBoundBy op a b r → (left right : Result ℤ ExprFault) → IsOkAnd left (IsWithin a) → IsOkAnd right (IsWithin b)
+both_within : (op : BinOp) (a b r : ValueBound) → IsBoundBy op a b r → (left right : Result ℤ ExprFault)
+    → IsOkAnd left (IsWithin a) → IsOkAnd right (IsWithin b)
     → IsOkAnd (binary_with (λ (f : ExprFault). f) op left right) (IsWithin r)
 both_within op a b r h (Ok y) (Ok z) p q = operation_within op a b r h y z p q
 both_within op a b r h (Ok y) (Err e) p q = absurd q

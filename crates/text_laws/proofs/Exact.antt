@@ -9,7 +9,7 @@ use Rattle.grammar_core.specs.Reading.{whole, fault_from_end}
 use Rattle.grammar_core.specs.Predictive.{Claims}
 use Rattle.grammar_core.specs.ExactReading.{IsPredictive}
 use Rattle.text_laws.specs.ExactReading.{ReadsExactly}
-use Rattle.grammar_core.proofs.Whole as whole_text
+use Rattle.grammar_core.proofs.CallerLemmas as whole_text
 use Rattle.list_lemmas.proofs.Options.{same_Ok, Ok≢Err, same_Err}
 
 module _ {N : Type 0} {Tree : N → Type 0} (body : (n : N) → Production N Tree (Tree n)) (claims : Claims N) {A : Type 0}
@@ -21,7 +21,7 @@ module _ {N : Type 0} {Tree : N → Type 0} (body : (n : N) → Production N Tre
   only = whole_text.text_only body claims h.nonterminals h.nonterminal_limits g h.start h.start_limits
 
   fault : (s : List Token) (left : ℕ) (c : Code) → whole body g s ≡ Err (fault_from_end left c) → IsFirstFault body g s (length s - left) c
-  fault s left c e = whole_text.fault_is body claims h.nonterminals h.nonterminal_limits g h.start h.start_limits s (fault_from_end left c) e
+  fault s left c e = whole_text.fault_is_of_whole body claims h.nonterminals h.nonterminal_limits g h.start h.start_limits s (fault_from_end left c) e
 
   refused : (s : List Token) (i : ℕ) (c : Code) → IsFirstFault body g s i c → whole body g s ≡ Err (fault_from_end (length s - i) c)
   refused = whole_text.one_fault body claims h.nonterminals h.nonterminal_limits g h.start h.start_limits

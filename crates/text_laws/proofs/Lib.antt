@@ -6,3 +6,4 @@ mod WrittenForms
 mod TokensOrFault
 pub mod TreeOrFault
 pub mod Exact
+pub mod CallerLemmas

@@ -12,7 +12,7 @@ use Rattle.jdf_lex.specs.declared.lexical_unit.LexicalUnit.TheVariants.{LineComm
 use Rattle.jdf_lex.specs.declared.kind.TokenKind.TheVariants.{Raw, OptionLine}
 use Rattle.jdf_lex.specs.Spelling.{is_mark, begins_part, begins_option, plain_unit, first_unit, unit_at, is_spelling}
 use Rattle.jdf_lex.specs.Tokens.{IsUnit, LongestIsTaken}
-use Rattle.jdf_lex.proofs.Fronts.{spelling_is_some}
+use Rattle.jdf_lex.proofs.CallerLemmas.{spelling_is_some}
 
 abbrev option_word : List ℕ
 option_word = codes "%option"

@@ -9,9 +9,8 @@ use Rattle.grammar_core.specs.declared.token.Token.{Token}
 use Rattle.jdf_lex.specs.declared.kind.TokenKind.{TokenKind}
 use Rattle.jdf_lex.specs.Tokens.{spot_after, is_dropped, HasTokens, HasFault, TokensOrFault, OneTokenFault, NotBoth}
 use Rattle.jdf_lex.specs.Reading.{front_unit, token_here, IsCursorIn, IsScanned}
-use Rattle.jdf_lex.proofs.Fronts.{Found, found_unit}
-use Rattle.jdf_lex.proofs.Scanning.{unit_here, scanned_at_start, scanned_dropped, scanned_token, lexed_at_end, fault_unclosed, fault_many}
-use Rattle.jdf_lex.proofs.Uniqueness.{one_fault, no_fault}
+use Rattle.jdf_lex.proofs.CallerLemmas.{Found, fault_many, fault_unclosed, found_unit, lexed_at_end, no_fault, one_fault, scanned_at_start, scanned_dropped}
+use Rattle.jdf_lex.proofs.CallerLemmas.{scanned_token, unit_here}
 
 cursor_at : (text : List ℕ) (j : ℕ) → j ≤ length text → IsCursorIn text (record { index = j; spot = spot_after (take j text) })
 cursor_at text j within = record { within = within; spot = refl }

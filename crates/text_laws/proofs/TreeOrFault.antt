@@ -20,8 +20,7 @@ use Rattle.jdf_tree.specs.Grammar.{productions, file}
 use Rattle.jdf_tree.specs.Jdf.{IsJdf}
 use Rattle.jdf_tree.specs.Fault.{first_spot, code_at_token, StopsBeingUtf8, IsGrammarFault, IsJdfFault}
 use Rattle.jdf_read.specs.Laws.{TreeOrFault}
-use Rattle.jdf_read.proofs.Limits.{found, faulty}
-use Rattle.jdf_read.proofs.File.{too_long, bad_token}
+use Rattle.jdf_read.proofs.CallerLemmas.{bad_token, faulty, found, too_long}
 
 -- a tree, or a fault
 abbrev Either : List ℕ → Type 0

@@ -15,8 +15,7 @@ use Rattle.jdf_lex.specs.Tokens.{IsUnit}
 use Rattle.text_laws.specs.Forms.{HasForm, IsWrittenUnit, UnitsAsWritten}
 use Rattle.text_laws.specs.Forms.HasForm.{blank, line_comment, block_comment, name, number, quoted, raw, option_line, mark, other}
 use Rattle.jdf_lex.specs.Reading.{front_unit}
-use Rattle.jdf_lex.proofs.Fronts.{Found, front_found, front_none, spelling_is_some}
-use Rattle.jdf_lex.proofs.Uniqueness.{longest_is, one_begins}
+use Rattle.jdf_lex.proofs.CallerLemmas.{Found, front_found, front_none, longest_is, one_begins, spelling_is_some}
 use Rattle.text_laws.proofs.ClosingMarks.{comment_closed_by, raw_closed_by, closed_is_free, free_is_closed, closed_is_items, items_are_closed}
 
 -- ---- a word of the written form is spelled as the unit

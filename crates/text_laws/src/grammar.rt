@@ -6,7 +6,7 @@ ghost use Rattle.grammar_core.specs.Production.{Production};
 ghost use Rattle.jdf_tree.specs.Nonterminal.{Nonterminal, TreeOf};
 ghost use Rattle.jdf_tree.specs.Grammar.{productions, file, claims};
 ghost use Rattle.jdf_tree.specs.declared.tree.Jdf.{Jdf};
-ghost use Rattle.jdf_tree.proofs.Predictive.{file_predictive};
+ghost use Rattle.jdf_tree.proofs.CallerLemmas.{file_predictive};
 ghost use Rattle.text_laws.specs.ExactReading.{ReadsExactly};
 
 /// A grammar that one token of lookahead reads: its nonterminals with their trees and productions, its start

@@ -4,9 +4,9 @@ use Rattle.std.specs.Prelude.{Option, None, if◌then◌else◌}
 use Rattle.word_laws.specs.Commands.{CommandOrUsage}
 use Rattle.jdf_print.specs.Spelling.{spelling}
 use Rattle.flow_meaning.specs.Answer.{answer}
-use Rattle.text_laws.proofs.TreeOrFault.{tree_or_fault}
+use Rattle.text_laws.proofs.CallerLemmas.{tree_or_fault}
 use Rattle.job_stages.specs.declared.verdict.JobVerdict.TheVariants as jobs
-use Rattle.job_laws.proofs.Always.{texts_some}
+use Rattle.job_laws.proofs.CallerLemmas.{texts_some}
 use Rattle.ptg_words.specs.declared.order.Order.{Order}
 use Rattle.ptg_words.specs.declared.order.Order.TheVariants.{Run, Show, Check, Demo, Trace, Replay, Certify, Ranks}
 use Rattle.ptg_words.specs.Words.{Orders}
@@ -23,11 +23,11 @@ use Rattle.coll_data.specs.Data.{Data}
 use Rattle.plan_core.specs.declared.plan.Plan.{Plan}
 use Rattle.dep_iter.specs.Consistent.{IsConsistent}
 use Rattle.chain_cert.specs.Weights.{class_weights}
-use Rattle.chain_exists.proofs.Existing.{some_certificate}
+use Rattle.chain_exists.proofs.CallerLemmas.{some_certificate}
 use Rattle.ptg_top.specs.Certify.{IsCertified, certified}
 use Rattle.trace_core.specs.Text.{trace_text}
-use Rattle.trace_core.proofs.Either.{fault_or_trace}
-use Rattle.run_laws.proofs.Growing.{some_whole_order}
+use Rattle.trace_core.proofs.CallerLemmas.{fault_or_trace}
+use Rattle.run_laws.proofs.CallerLemmas.{some_whole_order}
 use Rattle.ptg_top.specs.Trace.{IsTraced}
 use Rattle.ptg_top.specs.Replay.{IsReplayed}
 use Rattle.rank_core.specs.Sound.{message_count}
@@ -37,7 +37,7 @@ use Rattle.ptg_top.specs.declared.verdict.Finding.TheVariants.{Answer, Trace as 
 use Rattle.run_pool.specs.declared.settings.Settings.{Settings}
 use Rattle.run_pool.specs.Runs.{is_too_large}
 use Rattle.top_laws.proofs.Checked.{contents_consistent, some_on}
-use Rattle.ptg_top.proofs.JdfFiles.{fault_refuses}
+use Rattle.ptg_top.proofs.CallerLemmas.{fault_refuses}
 
 -- ---- the command
 

@@ -4,14 +4,14 @@ use Rattle.std.proofs.Common.{◌≡◌, ℕ, List, Some, refl, sym, ◌∙◌, 
 use Rattle.std.specs.Prelude.{Option, None}
 use Rattle.jdf_tree.specs.declared.tree.Jdf.{Jdf}
 use Rattle.jdf_tree.specs.Jdf.{IsJdf}
-use Rattle.jdf_read.proofs.Once.{not_both}
+use Rattle.jdf_read.proofs.CallerLemmas.{not_both}
 use Rattle.coll_data.specs.Data.{Data}
 use Rattle.plan_core.specs.declared.plan.Plan.{Plan}
 use Rattle.dep_iter.specs.Consistent.{IsConsistent}
 use Rattle.job_stages.specs.declared.verdict.JobVerdict.{JobVerdict}
 use Rattle.job_stages.specs.declared.verdict.JobVerdict.TheVariants as jobs
 use Rattle.job_stages.specs.Verdict.{TextsDenote}
-use Rattle.job_stages.proofs.Once.{jdf_text_once, texts_once}
+use Rattle.job_stages.proofs.CallerLemmas.{jdf_text_once, texts_once}
 use Rattle.ptg_top.specs.Answering.{OnConsistent}
 use Rattle.ptg_top.specs.Denotation as verdicts
 use Rattle.ptg_top.specs.Denotation.{Denotation}

@@ -3,7 +3,7 @@ use Rattle.std.proofs.Common.{◌≡◌, ℕ, List, ◌++◌, Some, sym, ◌∙�
 use Rattle.std.specs.Prelude.{Option, None}
 use Rattle.jdf_tree.specs.declared.tree.Jdf.{Jdf}
 use Rattle.jdf_print.specs.Spelling.{spelling}
-use Rattle.jdf_read.proofs.Once.{one_tree}
+use Rattle.jdf_read.proofs.CallerLemmas.{one_tree}
 use Rattle.ptg_words.specs.declared.order.Order.{Order}
 use Rattle.ptg_words.specs.declared.order.Order.TheVariants.{Run, Show, Check, Demo, Trace, Replay, Certify, Ranks}
 use Rattle.ptg_top.specs.Denotation as verdicts
@@ -21,17 +21,17 @@ use Rattle.dep_iter.specs.Consistent.{IsConsistent}
 use Rattle.flow_meaning.specs.Answer.{answer}
 use Rattle.chain_cert.specs.Weights.{class_weights}
 use Rattle.chain_cert.specs.declared.certificate.Certificate.{Certificate}
-use Rattle.chain_exists.proofs.Unique.{one}
+use Rattle.chain_exists.proofs.CallerLemmas.{one}
 use Rattle.ptg_top.specs.Certify.{IsCertified, certified}
 use Rattle.ptg_top.specs.Demo.{IsSummary, MadeTextsDenote}
-use Rattle.trace_core.proofs.OneFault.{one_fault}
-use Rattle.run_laws.proofs.Traces.{trace_or_fault}
+use Rattle.trace_core.proofs.CallerLemmas.{one_fault}
+use Rattle.run_laws.proofs.CallerLemmas.{trace_or_fault}
 use Rattle.ptg_top.specs.Replay.{IsReplayed, IsReplayOf}
 use Rattle.ptg_top.specs.Trace.{IsTraced}
 use Rattle.job_stages.specs.declared.verdict.JobVerdict.TheVariants as jobs
 use Rattle.run_pool.specs.declared.settings.Settings.{Settings}
 use Rattle.ptg_top.specs.Ranks.{IsRanked}
-use Rattle.ptg_words.proofs.OneCommand.{one_command}
+use Rattle.ptg_words.proofs.CallerLemmas.{one_command}
 use Rattle.top_laws.proofs.Checked.{once_on, refused_once, refused_or_read, contents_consistent, contents_once, job_texts_once}
 
 shows_once : (text : List ℕ) (v w : Denotation) → Shows text v → Shows text w → v ≡ w

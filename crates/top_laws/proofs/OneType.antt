@@ -3,7 +3,7 @@ use Rattle.std.proofs.Common.{zero-add, ◌≡◌, ℕ, ◌+◌, ◌*◌, [], �
 use Rattle.plan_core.specs.declared.plan.Plan.{Plan}
 use Rattle.dep_iter.specs.Consistent.{all_data, all_writes}
 use Rattle.run_pool.specs.Bytes.{preload_bytes}
-use Rattle.run_pool.proofs.OneType.{sent_are}
+use Rattle.run_pool.proofs.CallerLemmas.{sent_are}
 
 module _ (P : Plan) (elems : ℕ) (one : P.elems ≡ elems ∷ []) where
   pub bytes_are : (workers : ℕ) → preload_bytes P workers ≡ 8 * elems * (length (all_data P) + length (all_writes P) + 8 * workers)

@@ -16,7 +16,7 @@ use Rattle.ptg_words.specs.declared.order.Order.{Order}
 use Rattle.ptg_words.specs.declared.order.Order.TheVariants.{Run, Show, Check, Demo, Trace, Replay, Certify, Ranks}
 use Rattle.ptg_words.specs.Laws.{files_of}
 use Rattle.ptg_words.specs.Words.{Orders}
-use Rattle.ptg_words.proofs.OneCommand.{one_command}
+use Rattle.ptg_words.proofs.CallerLemmas.{one_command}
 use Rattle.ptg_top.specs.declared.status.Status.{Status}
 use Rattle.ptg_top.specs.declared.verdict.Finding.TheVariants.{Answer}
 use Rattle.ptg_top.specs.Denotation as verdicts

@@ -11,13 +11,12 @@ use Rattle.dep_iter.specs.Consistent.{IsConsistent}
 use Rattle.dep_iter.specs.Tasks.{IsTask}
 use Rattle.flow_meaning.specs.Answer.{answer}
 use Rattle.flow_meaning.specs.Order.{IsWholeOrder}
-use Rattle.chain_cert.proofs.Orders.{legal_tasks}
+use Rattle.chain_cert.proofs.CallerLemmas.{legal_tasks}
 use Rattle.trace_core.specs.Spelling.{IsSpelled, IsWellSpelled}
 use Rattle.trace_core.specs.Text.{row_of, trace_text}
 use Rattle.trace_core.specs.Traces.{IsSomeTrace}
-use Rattle.run_laws.proofs.Texts.{spelled_text, whole_length}
-use Rattle.run_laws.proofs.Traces.{trace_or_fault}
-use Rattle.job_laws.proofs.Spelled.{names_spelled, params_numbers}
+use Rattle.run_laws.proofs.CallerLemmas.{spelled_text, trace_or_fault, whole_length}
+use Rattle.job_laws.proofs.CallerLemmas.{names_spelled, params_numbers}
 use Rattle.job_stages.specs.Verdict.{TextsDenote}
 use Rattle.job_stages.specs.declared.verdict.JobVerdict.{JobVerdict}
 use Rattle.job_stages.specs.declared.verdict.JobVerdict.TheVariants as jobs
@@ -25,7 +24,7 @@ use Rattle.run_pool.specs.declared.settings.Settings.{Settings}
 use Rattle.ptg_words.specs.Words.{Orders}
 use Rattle.ptg_words.specs.declared.order.Order.{Order}
 use Rattle.ptg_words.specs.declared.order.Order.TheVariants.{Replay, Run, Trace}
-use Rattle.ptg_words.proofs.OneCommand.{one_command}
+use Rattle.ptg_words.proofs.CallerLemmas.{one_command}
 use Rattle.ptg_top.specs.declared.verdict.Finding.{Finding}
 use Rattle.ptg_top.specs.declared.verdict.Finding.TheVariants as found
 use Rattle.ptg_top.specs.Answering.{IsAnswer, OnConsistent}

@@ -16,7 +16,7 @@ use Rattle.ptg_top.specs.Meaning.{CommandDenotes, Denotes}
 use Rattle.top_laws.specs.Settings.{SeedsChangeNothing, ShardsChangeNothing, WorkersChangeNothing}
 use Rattle.ptg_top.specs.Answering.{IsAnswer, OnConsistent}
 use Rattle.job_stages.specs.declared.verdict.JobVerdict.TheVariants as jobs
-use Rattle.ptg_words.proofs.OneCommand.{one_command}
+use Rattle.ptg_words.proofs.CallerLemmas.{one_command}
 
 -- settings with which the same preloads are too large
 abbrev AreAlike : Settings → Settings → Type 0

@@ -10,7 +10,7 @@ use Rattle.dep_iter.specs.Tasks.{IsTask}
 use Rattle.dep_iter.specs.Consistent.{IsConsistent}
 use Rattle.flow_meaning.specs.Answer.{ran}
 use Rattle.flow_meaning.specs.Order.{IsLegalOrder}
-use Rattle.chain_cert.proofs.Orders.{legal_tasks}
+use Rattle.chain_cert.proofs.CallerLemmas.{legal_tasks}
 use Rattle.trace_core.specs.declared.fault.TraceCode.TheVariants.{BadTrace, Unfinished}
 use Rattle.trace_core.specs.declared.fault.TraceFault.{TraceFault}
 use Rattle.trace_core.specs.Faults.{IsTraceFault, of_spelling, of_tasks}

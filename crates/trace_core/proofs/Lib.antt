@@ -18,3 +18,4 @@ pub mod EitherRows
 pub mod Spellings
 pub mod Running
 pub mod Either
+pub mod CallerLemmas

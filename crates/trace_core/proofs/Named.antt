@@ -13,9 +13,9 @@ use Rattle.plan_core.specs.declared.class.ClassPlan.{ClassPlan}
 use Rattle.plan_core.specs.declared.plan.Plan.{Plan}
 use Rattle.term_core.specs.declared.space.ClassSpace.{ClassSpace}
 use Rattle.range_space.specs.Tasks.{tasks}
-use Rattle.range_space.proofs.MemberLists.{arity_of_task}
+use Rattle.range_space.proofs.CallerLemmas.{arity_of_task}
 use Rattle.dep_iter.specs.Tasks.{task}
-use Rattle.flow_meaning.proofs.SourceEdges.{class_of}
+use Rattle.flow_meaning.proofs.CallerLemmas.{class_of}
 use Rattle.trace_core.specs.Naming.{IsNamed, Names}
 use Rattle.trace_core.specs.Rows.{AreNumbers, IsRowOf}
 use Rattle.trace_core.specs.Text.{TraceRow}

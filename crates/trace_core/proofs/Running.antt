@@ -14,7 +14,7 @@ use Rattle.list_lemmas.proofs.Tasks.{member_or_not}
 use Rattle.list_lemmas.proofs.Texts.{same_or_not}
 use Rattle.dep_iter.specs.Edges.{in_edges}
 use Rattle.dep_iter.specs.Tasks.{all_tasks}
-use Rattle.dep_iter.proofs.Listing.{listed}
+use Rattle.dep_iter.proofs.CallerLemmas.{listed}
 use Rattle.trace_core.specs.declared.fault.TraceCode.{TraceCode}
 use Rattle.trace_core.specs.declared.fault.TraceCode.TheVariants.{UnknownTask, RanTwice, TooEarly}
 use Rattle.trace_core.specs.declared.fault.TraceFault.{TraceFault}

@@ -22,18 +22,15 @@ use Rattle.list_lemmas.proofs.Tasks.{member_or_not, uncounted, once_each}
 use Rattle.dep_iter.specs.Tasks.{IsTask, all_tasks, locals_of}
 use Rattle.dep_iter.specs.Edges.{in_edges}
 use Rattle.dep_iter.specs.Consistent.{IsConsistent}
-use Rattle.dep_iter.proofs.Listing.{listed}
-use Rattle.dep_iter.proofs.Once.{once-all_tasks}
+use Rattle.dep_iter.proofs.CallerLemmas.{listed, once-all_tasks}
 use Rattle.flow_meaning.specs.Answer.{ran}
 use Rattle.flow_meaning.specs.Backward.{ended, has_all_sources, source_tile}
 use Rattle.list_lemmas.specs.Counting.{HasSameMembers, as_number, count}
 use Rattle.flow_meaning.specs.Ending.{ended_on, has_outputs}
 use Rattle.flow_meaning.specs.Order.{IsLegalAfter, IsWholeOrder}
 use Rattle.flow_meaning.specs.Starting.{starting_tiles}
-use Rattle.flow_meaning.proofs.Enough.{fixed}
-use Rattle.flow_meaning.proofs.Rounds.{has_sources}
-use Rattle.flow_meaning.proofs.SourceEdges.{class_of}
-use Rattle.chain_cert.proofs.Orders.{legal_once}
+use Rattle.flow_meaning.proofs.CallerLemmas.{class_of, fixed, has_sources}
+use Rattle.chain_cert.proofs.CallerLemmas.{legal_once}
 use Rattle.trace_core.specs.Faults.{IsMissing}
 use Rattle.trace_core.specs.Orders.{MayAllRunAfter, MayRunAfter}
 

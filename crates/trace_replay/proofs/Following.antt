@@ -16,8 +16,7 @@ use Rattle.flow_meaning.specs.Ending.{has_outputs}
 use Rattle.flow_meaning.specs.Backward.{ended}
 use Rattle.flow_meaning.specs.Machine.{MachineState, MayClaim, claim_count, is_sent}
 use Rattle.flow_meaning.specs.Sound.{IsFinished, IsSoundState}
-use Rattle.flow_meaning.proofs.Events.{claim_member, delivers, each_arrived, member_claim}
-use Rattle.flow_meaning.proofs.Members.{in_edge_item}
+use Rattle.flow_meaning.proofs.CallerLemmas.{claim_member, delivers, each_arrived, in_edge_item, member_claim}
 
 -- a task may be claimed if and only if it is new and its sources are done
 module _ (P : Plan) (G : Data) (con : IsConsistent P) (S : MachineState) (sound : IsSoundState P G S)

@@ -30,9 +30,7 @@ use Rattle.trace_core.specs.Orders.{MayAllRunAfter}
 use Rattle.trace_core.specs.Reading.{IsListOf, IsReadAs, IsReading, IsSpellingFault}
 use Rattle.trace_core.specs.Spelling.{IsWellSpelled}
 use Rattle.trace_core.specs.Text.{TraceRow, row_of}
-use Rattle.trace_core.proofs.Lists.{is_list}
-use Rattle.trace_core.proofs.OneFault.{faultless, one_fault}
-use Rattle.trace_core.proofs.Wholes.{all_or_missing, whole, whole_all, whole_may}
+use Rattle.trace_core.proofs.CallerLemmas.{all_or_missing, faultless, is_list, one_fault, whole, whole_all, whole_may}
 use Rattle.trace_replay.specs.Replaying.{HasRunInOrder, IsEndOf, IsVerdictOn, StopsAt}
 
 -- the tasks that were read are tasks of the job, and differ

@@ -1,3 +1,4 @@
 pub mod Following
 pub mod Turned
 pub mod Judged
+pub mod CallerLemmas

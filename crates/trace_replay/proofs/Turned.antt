@@ -18,17 +18,14 @@ use Rattle.flow_meaning.specs.Backward.{ended}
 use Rattle.flow_meaning.specs.Ending.{has_outputs}
 use Rattle.flow_meaning.specs.Machine.{MayClaim}
 use Rattle.flow_meaning.specs.Sound.{IsFinished}
-use Rattle.flow_meaning.proofs.Events.{it_ends, member_claim}
-use Rattle.flow_meaning.proofs.Quiet.{claims_are_ran}
-use Rattle.flow_meaning.proofs.Rest.{rests}
-use Rattle.shard_meaning.proofs.Placing.{home_below}
+use Rattle.flow_meaning.proofs.CallerLemmas.{claims_are_ran, it_ends, member_claim, rests}
+use Rattle.shard_meaning.proofs.CallerLemmas.{home_below}
 use Rattle.rank_core.specs.Sound.{IsSoundWorld}
 use Rattle.rank_core.specs.World.{IsQuiet, WorldState, is_between, items_within, rank_of}
-use Rattle.rank_core.proofs.Items.{within_or_between}
-use Rattle.rank_core.proofs.Quiet.{quiet_iff}
+use Rattle.rank_core.proofs.CallerLemmas.{quiet_iff, within_or_between}
 use Rattle.rank_core.specs.Views.{WorldView, with_run}
 use Rattle.trace_core.specs.Orders.{MayRunAfter}
-use Rattle.trace_core.proofs.Wholes.{may_push, ran_ends}
+use Rattle.trace_core.proofs.CallerLemmas.{may_push, ran_ends}
 use Rattle.list_lemmas.proofs.Members.{IsIn-filter}
 use Rattle.list_lemmas.proofs.Places.{drop_from}
 use Rattle.list_lemmas.proofs.Tasks.{all_or_absent}

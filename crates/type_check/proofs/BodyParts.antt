@@ -5,10 +5,11 @@ use Rattle.std.specs.List.{AllByRecursion}
 use Rattle.std.proofs.lemmas.List.{reverse-append}
 use Rattle.expr_names.specs.Symbols.{Resolved}
 use Rattle.expr_names.specs.Expressions.{together}
-use Rattle.body_lang.proofs.Words.{IfValue}
+use Rattle.body_lang.proofs.CallerLemmas.{IfValue}
 
 -- two parts of an expression
-pub pair_good : {A B : Type 0} (P : A → Type 0) (Q : B → Type 0) (r : Resolved A) (q : Resolved B) → IfValue P r → IfValue Q q → IfValue (λ (x : A × B). P x.0 × Q x.1) (together (λ first _. first) r q)
+pub pair_good : {A B : Type 0} (P : A → Type 0) (Q : B → Type 0) (r : Resolved A) (q : Resolved B) → IfValue P r
+    → IfValue Q q → IfValue (λ (x : A × B). P x.0 × Q x.1) (together (λ first _. first) r q)
 pair_good P Q (Ok x) (Ok y) h k = (h, k)
 pair_good P Q (Ok x) (Err g) h k = tt
 pair_good P Q (Err f) (Ok y) h k = tt

@@ -8,19 +8,23 @@ use Rattle.std.specs.Cmp.{first_so, second_so}
 
 counted : (elements : List ℕ) (n : ℕ) → IsTrue (list_all is_element_count elements) → n < length elements → 1 ≤ slice_index elements n
 counted [] n h lt = omega (arith, lt)
-counted (e ∷ elements) zero h lt = let k : IsTrue (nat_le 1 e) = first_so (nat_le 1 e) (nat_le e 4096) (first_so (is_element_count e) (list_all is_element_count elements) h) in grind (arith, k)
+counted (e ∷ elements) zero h lt = let k : IsTrue (nat_le 1 e) =
+    first_so (nat_le 1 e) (nat_le e 4096) (first_so (is_element_count e) (list_all is_element_count elements) h) in
+    grind (arith, k)
 counted (e ∷ elements) (suc n) h lt = counted elements n (second_so (is_element_count e) (list_all is_element_count elements) h) (omega (arith, lt))
 
 -- the elements of some tiles, added to a number
 abbrev added : List ℕ → ℕ → List Coll → ℕ
 added elements start colls = fold (λ n (c : Coll). n + length c.tiles * slice_index elements c.datatype) start colls
 
-total : (elements : List ℕ) (start : ℕ) (colls : List Coll) → IsTrue (list_all is_element_count elements) → AllByRecursion (IsWellColl elements) colls → start + length colls ≤ added elements start colls
+total : (elements : List ℕ) (start : ℕ) (colls : List Coll) → IsTrue (list_all is_element_count elements)
+    → AllByRecursion (IsWellColl elements) colls → start + length colls ≤ added elements start colls
 total elements start [] h k = omega arith
 total elements start (c ∷ colls) h k =
     let tiles : 1 ≤ length c.tiles = omega (arith, k.0.whole.has_tiles, k.0.whole.all_tiles) in
     let first = mul-pos tiles (counted elements c.datatype h k.0.datatype) in
-    let rest : (start + length c.tiles * slice_index elements c.datatype) + length colls ≤ added elements start (c ∷ colls) = total elements (start + length c.tiles * slice_index elements c.datatype) colls h k.1 in
+    let rest : (start + length c.tiles * slice_index elements c.datatype) + length colls ≤ added elements start
+    (c ∷ colls) = total elements (start + length c.tiles * slice_index elements c.datatype) colls h k.1 in
     omega (arith, first, rest)
 
 pub colls_at_most : (d : Data) → IsWellMade d → length d.colls ≤ 2 ^ 24

@@ -3,7 +3,7 @@ use Rattle.std.proofs.Common.{◌≡◌, List, Some, refl, sym, ap, subst}
 use Rattle.plan_core.specs.declared.flow.FlowPlan.{FlowPlan}
 use Rattle.type_rules.specs.TreesAndFaults.{DefTree, FlowTree}
 use Rattle.type_rules.specs.Names.{Job}
-use Rattle.type_rules.proofs.NoFaults.{parts_of}
+use Rattle.type_rules.proofs.CallerLemmas.{parts_of}
 use Rattle.type_rules.specs.Datatypes.{flow_type}
 use Rattle.type_rules.specs.Dependences.{directions_of, flow_from, flow_plan}
 use Rattle.type_rules.specs.PartsOfJob.{IsFlowOf}
@@ -15,4 +15,5 @@ flow_is job seen flow p e =
     subst (IsFlowOf job.given flow) q.4 (record { kind = refl; datatype = q.2 })
 
 pub flow_name : (job : Job) (seen : List DefTree) (flow : FlowTree) (p : FlowPlan) → flow_plan job seen flow ≡ Some p → p.name ≡ flow.name.text
-flow_name job seen flow p e = let q = parts_of (flow_from flow) (flow_type job.given flow) (directions_of job seen flow.deps) p e in ap (λ (f : FlowPlan). f.name) (sym q.4)
+flow_name job seen flow p e = let q = parts_of (flow_from flow) (flow_type job.given flow)
+    (directions_of job seen flow.deps) p e in ap (λ (f : FlowPlan). f.name) (sym q.4)

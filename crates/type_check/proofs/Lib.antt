@@ -15,3 +15,4 @@ pub mod WellBodies
 pub mod WellClasses
 pub mod WellPlans
 pub mod Plans
+pub mod CallerLemmas

@@ -2,9 +2,11 @@
 use Rattle.std.proofs.Common.{◌≡◌, ℕ, zero, suc, List, [], ◌∷◌, map, Option, Some, slice_get, sym, ◌∙◌, ap}
 use Rattle.type_rules.specs.Returns.{each}
 use Rattle.std.proofs.lemmas.Option.{same_Some}
-use Rattle.type_rules.proofs.NoFaults.{parts_of}
+use Rattle.type_rules.proofs.CallerLemmas.{parts_of}
 
-pub parts_map : {A B C : Type 0} (f : A → Option B) (g : B → C) (k : A → C) → ((a : A) (b : B) → f a ≡ Some b → g b ≡ k a) → (xs : List A) (ys : List B) → each f xs ≡ Some ys → map g ys ≡ map k xs
+pub parts_map : {A B C : Type 0} (f : A → Option B) (g : B → C) (k : A → C)
+    → ((a : A) (b : B) → f a ≡ Some b → g b ≡ k a) → (xs : List A) (ys : List B) → each f xs ≡ Some ys
+    → map g ys ≡ map k xs
 parts_map f g k h [] ys e = ap (map g) (sym (same_Some [] ys e))
 parts_map f g k h (x ∷ xs) ys e =
     let q = parts_of (λ y ys. y ∷ ys) (f x) (each f xs) ys e in
@@ -13,7 +15,8 @@ parts_map f g k h (x ∷ xs) ys e =
     ap (map g) (sym q.4) ∙ (λ i. first i ∷ rest i)
 
 -- the value at one element
-pub part_at : {A B : Type 0} (f : A → Option B) (xs : List A) (ys : List B) (n : ℕ) (x : A) → each f xs ≡ Some ys → slice_get xs n ≡ Some x → (y : B) × (f x ≡ Some y) × (slice_get ys n ≡ Some y)
+pub part_at : {A B : Type 0} (f : A → Option B) (xs : List A) (ys : List B) (n : ℕ) (x : A) → each f xs ≡ Some ys
+    → slice_get xs n ≡ Some x → (y : B) × (f x ≡ Some y) × (slice_get ys n ≡ Some y)
 part_at f [] ys n x e at = absurd cc
 part_at f (z ∷ xs) ys zero x e at =
     let q = parts_of (λ y ys. y ∷ ys) (f z) (each f xs) ys e in

@@ -44,8 +44,11 @@ same_plan p q e =
     (λ h. ap (plan_from (lists_of p)) (well_once p.classes p.spaces p.colls p.elems p.well_made h)) q.well_made
 
 pub plan_there : ResolvedIsAPlan
-plan_there job classes spaces within data_well h =
-    (plan_from ((classes, spaces), (map shape_of job.given.colls, elements_by_type job.given)) (well_plan job classes spaces within data_well h), record { resolved = h; fit = record { collections = refl; elements = refl } })
+plan_there job classes spaces within data_well h = (
+  plan_from ((classes, spaces), (map shape_of job.given.colls, elements_by_type job.given))
+      (well_plan job classes spaces within data_well h),
+  record { resolved = h; fit = record { collections = refl; elements = refl } },
+)
 
 pub one_plan : OnePlan
 one_plan job p q h k =
@@ -62,7 +65,8 @@ only_plan job (Ok q) h p k = inl (ap (λ z. Ok z) (one_plan job q p h k))
 only_plan job (Err (Fault f)) h p k = absurd (a_plan_has_no_fault job p f k h)
 only_plan job (Err OutOfMemory) h p k = inr refl
 
-only_fault : (job : Job) (r : Result Plan (Refusal JdfFault)) → ReturnsPlan job r → (f : JdfFault) → IsFirstFault job f → (r ≡ Err (Fault f)) ⊎ (r ≡ Err OutOfMemory)
+only_fault : (job : Job) (r : Result Plan (Refusal JdfFault)) → ReturnsPlan job r → (f : JdfFault)
+    → IsFirstFault job f → (r ≡ Err (Fault f)) ⊎ (r ≡ Err OutOfMemory)
 only_fault job (Ok p) h f k = absurd (a_plan_has_no_fault job p f h k)
 only_fault job (Err (Fault g)) h f k = inl (ap (λ z. Err (Fault z)) (one_first_fault job g f h k))
 only_fault job (Err OutOfMemory) h f k = inr refl

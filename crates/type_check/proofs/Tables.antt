@@ -1,5 +1,6 @@
 -- Tables from names to values that grow by one name.
-use Rattle.std.proofs.Common.{◌≡◌, ℕ, ◌+◌, ◌<◌, Bool, true, false, cond, not, List, [], ◌∷◌, ◌++◌, length, take, get_or, Option, Some, None, is_some, if◌then◌else◌, bytes_eq, refl, sym, ◌∙◌, ap, subst, arith}
+use Rattle.std.proofs.Common.{◌≡◌, ℕ, ◌+◌, ◌<◌, Bool, true, false, cond, not, List, [], ◌∷◌, ◌++◌, length, take, get_or, Option, Some, None, is_some}
+use Rattle.std.proofs.Common.{if◌then◌else◌, bytes_eq, refl, sym, ◌∙◌, ap, subst, arith}
 use Rattle.std.specs.Option.{option_or}
 use Rattle.std.specs.List.{position, position_from}
 use Rattle.std.specs.Cmp.Lexicographic.{bytes_decides}
@@ -16,16 +17,20 @@ or_none None = refl
 or_none (Some x) = refl
 
 -- the value of a name after a pair is appended to a list of pairs
-pub value_pushed : {V : Type 0} (table : List (List ℕ × V)) (x : List ℕ) (v : V) (n : List ℕ) → value_named (table ++ (x, v) ∷ []) n ≡ option_or (value_named table n) (if_named x v n)
+pub value_pushed : {V : Type 0} (table : List (List ℕ × V)) (x : List ℕ) (v : V) (n : List ℕ)
+    → value_named (table ++ (x, v) ∷ []) n ≡ option_or (value_named table n) (if_named x v n)
 value_pushed [] x v n = refl
 value_pushed (e ∷ table) x v n = go (value_pushed table x v n) (bytes_eq n e.0)
   where
-    go : (value_named (table ++ (x, v) ∷ []) n ≡ option_or (value_named table n) (if_named x v n)) → (b : Bool) → cond b (Some e.1) (value_named (table ++ (x, v) ∷ []) n) ≡ option_or (cond b (Some e.1) (value_named table n)) (if_named x v n)
+    go : (value_named (table ++ (x, v) ∷ []) n ≡ option_or (value_named table n) (if_named x v n)) → (b : Bool)
+        → cond b (Some e.1) (value_named (table ++ (x, v) ∷ []) n)
+        ≡ option_or (cond b (Some e.1) (value_named table n)) (if_named x v n)
     go later true = refl
     go later false = later
 
 -- the value of a name after a pair is added to a table
-value_added : {V : Type 0} (table after : List (List ℕ × V)) (x : List ℕ) (v : V) (new : Bool) → new ≡ not (is_some (value_named table x)) → after ≡ (if new then table ++ (x, v) ∷ [] else table)
+value_added : {V : Type 0} (table after : List (List ℕ × V)) (x : List ℕ) (v : V) (new : Bool)
+    → new ≡ not (is_some (value_named table x)) → after ≡ (if new then table ++ (x, v) ∷ [] else table)
     → (n : List ℕ) → value_named after n ≡ option_or (value_named table n) (if_named x v n)
 value_added {V} table after x v new e s n = go (is_some (value_named table x)) refl
   where
@@ -84,7 +89,9 @@ module _ {X : Type 0} (p : X → Bool) where
       go (p x) (from_push (i + 1) xs y ∙ ap (λ k. option_or (position_from p (i + 1) xs) (cond (p y) (Some k) None)) e)
     where
       go : (b : Bool) → position_from p (i + 1) (xs ++ y ∷ []) ≡ option_or (position_from p (i + 1) xs) (cond (p y) (Some (i + length (x ∷ xs))) None)
-          → cond b (Some i) (position_from p (i + 1) (xs ++ y ∷ [])) ≡ option_or (cond b (Some i) (position_from p (i + 1) xs)) (cond (p y) (Some (i + length (x ∷ xs))) None)
+          → cond b (Some i) (position_from p (i + 1) (xs ++ y ∷ []))
+          ≡ option_or (cond b (Some i) (position_from p (i + 1) xs))
+          (cond (p y) (Some (i + length (x ∷ xs))) None)
       go true later = refl
       go false later = later
 
@@ -94,7 +101,8 @@ module _ {X : Type 0} (p : X → Bool) where
       position_from-zero p (xs ++ y ∷ []) ∙ (from_push 0 xs y ∙ (λ i. option_or (sym (position_from-zero p xs) i) (cond (p y) (Some (e i)) None)))
 
   -- the first index among one more element
-  pub position_more : (xs : List X) (i : ℕ) (d : X) → i < length xs → position p (take (i + 1) xs) ≡ option_or (position p (take i xs)) (cond (p (get_or xs i d)) (Some i) None)
+  pub position_more : (xs : List X) (i : ℕ) (d : X) → i < length xs
+      → position p (take (i + 1) xs) ≡ option_or (position p (take i xs)) (cond (p (get_or xs i d)) (Some i) None)
   position_more xs i d lt =
       let count : length (take i xs) ≡ i = length-take-le i xs (omega arith) in
       ap (position p) (take_more xs i d lt)

@@ -8,10 +8,9 @@ use Rattle.plan_core.specs.Bodies.{respects_kinds, has_words, keeps_loop_variabl
 use Rattle.body_lang.specs.Environment.{Environment}
 use Rattle.body_lang.specs.Bindings.{Bindings, no_bindings}
 use Rattle.body_lang.specs.Statements.{resolved}
-use Rattle.body_lang.proofs.WellBlocks.{whole_well}
+use Rattle.body_lang.proofs.CallerLemmas.{own_words, whole_well}
 use Rattle.body_lang.specs.Body.{IsBody}
 use Rattle.body_lang.specs.TrapWords.{words_of}
-use Rattle.body_lang.proofs.Words.{own_words}
 use Rattle.type_check.proofs.BodyParts.{good_of}
 use Rattle.type_check.proofs.BodyKinds.{kinds_of, kinds_respected}
 use Rattle.type_check.proofs.BodyLoops.{AreBelow, loops_kept}
@@ -33,8 +32,10 @@ pub record IsFitBody (scope : Environment) (y : Read) : Type 0 where
 pub fit_body : (scope : Environment) (tokens : List Token) (y : Read) → IsBody scope tokens y → IsFitBody scope y
 fit_body scope tokens y h =
     let r = steps_of (resolved scope h.tree no_bindings) (λ (x : StatementList × Bindings). Ok (body_from scope x)) y h.named in
-    let kinds = good_of (λ (x : StatementList × Bindings). respects_kinds (kinds_of scope) x.0 ≡ true) (resolved scope h.tree no_bindings) r.0 (kinds_respected scope h.tree no_bindings) r.1 in
-    let loops = good_of (λ (x : StatementList × Bindings). (keeps_loop_variables x.0 ≡ true) × AreBelow scope x.1) (resolved scope h.tree no_bindings) r.0 (loops_kept scope h.tree no_bindings tt) r.1 in
+    let kinds = good_of (λ (x : StatementList × Bindings). respects_kinds (kinds_of scope) x.0 ≡ true)
+    (resolved scope h.tree no_bindings) r.0 (kinds_respected scope h.tree no_bindings) r.1 in
+    let loops = good_of (λ (x : StatementList × Bindings). (keeps_loop_variables x.0 ≡ true) × AreBelow scope x.1)
+    (resolved scope h.tree no_bindings) r.0 (loops_kept scope h.tree no_bindings tt) r.1 in
     subst (IsFitBody scope) (same_Ok (body_from scope r.0) y r.2)
     (record { well = (whole_well scope h.tree r.0 r.1).1; kinds = kinds; loops = loops.0 })
 

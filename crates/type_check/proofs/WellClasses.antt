@@ -24,17 +24,12 @@ use Rattle.type_rules.specs.Repeats.{repeats}
 use Rattle.type_rules.specs.Returns.{both, each}
 use Rattle.type_rules.specs.Expressions.{option_faults, option_term}
 use Rattle.type_rules.specs.Definitions.{definitions_of, parameter_of, space_of, space_faults}
-use Rattle.type_rules.proofs.Closed.{closed_option, pair_parts}
-use Rattle.type_rules.proofs.Distinct.{distinct_names}
-use Rattle.type_rules.proofs.NoFaults.{parts_of}
+use Rattle.type_rules.proofs.CallerLemmas.{closed_option, definitions_length, distinct_names, each_length, element_exists, pair_of, pair_parts, parts_of}
+use Rattle.type_rules.proofs.CallerLemmas.{well_flow, well_space}
 use Rattle.type_check.proofs.Parts.{parts_map}
-use Rattle.type_rules.proofs.Parts.{each_length}
-use Rattle.type_rules.proofs.WellSpaces.{definitions_length, pair_of, well_space}
 use Rattle.type_rules.specs.Elements.{element_faults, element_of}
 use Rattle.type_rules.specs.Dependences.{flow_faults, flow_plan}
 use Rattle.type_rules.specs.PartsOfJob.{HaveParts}
-use Rattle.type_rules.proofs.Elements.{element_exists}
-use Rattle.type_rules.proofs.WellFlows.{well_flow}
 use Rattle.type_check.proofs.FlowParts.{flow_is, flow_name}
 use Rattle.type_check.specs.Bodies.{BodyResult, ReadsAs, ReadsBody}
 use Rattle.type_check.specs.Classes.{flows_of, head_from, head_of, head_faults, class_from, class_plan, class_faults}
@@ -81,13 +76,15 @@ params_count job class s e =
 -- ---- lists
 
 -- if the value of each element without a fault passes a test, all values of a list without faults pass it
-parts_sound : {A B : Type 0} (f : A → Option B) (g : A → List JdfFault) (p : B → Bool) (P : A → Type 0) → ((a : A) (b : B) → P a → g a ≡ [] → f a ≡ Some b → IsTrue (p b))
+parts_sound : {A B : Type 0} (f : A → Option B) (g : A → List JdfFault) (p : B → Bool) (P : A → Type 0)
+    → ((a : A) (b : B) → P a → g a ≡ [] → f a ≡ Some b → IsTrue (p b))
     → (xs : List A) (ys : List B) → AllByRecursion P xs → flat_map g xs ≡ [] → each f xs ≡ Some ys → IsTrue (list_all p ys)
 parts_sound f g p P h [] ys all none e = subst (λ l. IsTrue (list_all p l)) (same_Some [] ys e) refl
 parts_sound f g p P h (x ∷ xs) ys all none e =
     let q = parts_of (λ y ys. y ∷ ys) (f x) (each f xs) ys e in
     subst (λ l. IsTrue (list_all p l)) q.4
-    (and_from (p q.0) (list_all p q.1) (h x q.0 all.0 (first_nil (g x) (flat_map g xs) none) q.2) (parts_sound f g p P h xs q.1 all.1 (rest_nil (g x) (flat_map g xs) none) q.3))
+    (and_from (p q.0) (list_all p q.1) (h x q.0 all.0 (first_nil (g x) (flat_map g xs) none) q.2)
+    (parts_sound f g p P h xs q.1 all.1 (rest_nil (g x) (flat_map g xs) none) q.3))
 
 -- ---- the body
 
@@ -97,24 +94,33 @@ body_read (Err f) y e = absurd cc
 
 -- ---- the class
 
-module _ (job : Job) (classes : List ClassPlan) (spaces : List ClassSpace) (colls : List Shape) (parts : HaveParts job classes spaces colls) (class : ClassTree) (b : BodyResult) (c : ClassPlan) (s : ClassSpace) (is : IsClassOf job class b c s) where
+module _ (job : Job) (classes : List ClassPlan) (spaces : List ClassSpace) (colls : List Shape)
+    (parts : HaveParts job classes spaces colls) (class : ClassTree) (b : BodyResult) (c : ClassPlan)
+    (s : ClassSpace) (is : IsClassOf job class b c s) where
   flow_kinds : map (λ (f : FlowPlan). f.kind) c.flows ≡ map (λ (f : FlowTree). f.kind) class.flows
-  flow_kinds = parts_map (flow_plan job class.defs) (λ (f : FlowPlan). f.kind) (λ (f : FlowTree). f.kind) (λ f p e. (flow_is job class.defs f p e).kind) class.flows c.flows is.flows
+  flow_kinds = parts_map (flow_plan job class.defs) (λ (f : FlowPlan). f.kind) (λ (f : FlowTree). f.kind)
+      (λ f p e. (flow_is job class.defs f p e).kind) class.flows c.flows is.flows
 
   flow_texts : map (λ (f : FlowPlan). f.name) c.flows ≡ map (λ (f : FlowTree). f.name.text) class.flows
-  flow_texts = parts_map (flow_plan job class.defs) (λ (f : FlowPlan). f.name) (λ (f : FlowTree). f.name.text) (λ f p e. flow_name job class.defs f p e) class.flows c.flows is.flows
+  flow_texts = parts_map (flow_plan job class.defs) (λ (f : FlowPlan). f.name) (λ (f : FlowTree). f.name.text)
+      (λ f p e. flow_name job class.defs f p e) class.flows c.flows is.flows
 
   -- the scope has the definitions and the flows of the class
   scope_locals : (r : ReadsBody job class b) → length r.scope.locals ≡ length s.defs
   scope_locals r = ap length r.means.locals ∙ (length-map class.defs (λ (d : DefTree). d.name.text) ∙ sym (defs_count job class s is.space))
 
   scope_flows : (r : ReadsBody job class b) → length r.scope.flows ≡ length c.flows
-  scope_flows r = ap length r.means.flows ∙ (length-map class.flows (λ (f : FlowTree). record { name = f.name.text; kind = f.kind }) ∙ sym (each_length (flow_plan job class.defs) class.flows c.flows is.flows))
+  scope_flows r = ap length r.means.flows
+      ∙ (length-map class.flows (λ (f : FlowTree). record { name = f.name.text; kind = f.kind })
+      ∙ sym (each_length (flow_plan job class.defs) class.flows c.flows is.flows))
 
   scope_kinds : (r : ReadsBody job class b) → kinds_of r.scope ≡ map (λ (f : FlowPlan). f.kind) c.flows
-  scope_kinds r = ap (map (λ (x : FlowName). x.kind)) r.means.flows ∙ (map-map (λ (x : FlowName). x.kind) (λ (f : FlowTree). record { name = f.name.text; kind = f.kind }) class.flows ∙ sym flow_kinds)
+  scope_kinds r = ap (map (λ (x : FlowName). x.kind)) r.means.flows
+      ∙ (map-map (λ (x : FlowName). x.kind) (λ (f : FlowTree). record { name = f.name.text; kind = f.kind })
+      class.flows ∙ sym flow_kinds)
 
-  pub well_class : IsClassWithinLimits class → ReadsBody job class b → class_faults job class b ≡ [] → IsWellClass classes spaces colls (suc (length job.given.types)) s c
+  pub well_class : IsClassWithinLimits class → ReadsBody job class b → class_faults job class b ≡ []
+      → IsWellClass classes spaces colls (suc (length job.given.types)) s c
   well_class within r h =
       let y : Body × List (List ℕ) = (c.body, c.trap_words) in
       let types = suc (length job.given.types) in
@@ -133,14 +139,18 @@ module _ (job : Job) (classes : List ClassPlan) (spaces : List ClassSpace) (coll
         space = well_space job class.params class.defs s within.defs (first_nil space element place) is.space;
         affinity =
             subst (λ n. IsTrue (is_element colls n c.affinity.coll c.affinity.indices)) count
-            (element_exists job classes spaces colls parts class.defs class.affinity class.affinity_args (c.affinity.coll, c.affinity.indices) (rest_nil space element place) is.affinity);
+            (element_exists job classes spaces colls parts class.defs class.affinity class.affinity_args
+            (c.affinity.coll, c.affinity.indices) (rest_nil space element place) is.affinity);
         flows =
             subst (λ n. IsTrue (list_all (is_flow classes spaces colls types n) c.flows)) count
             (parts_sound (flow_plan job class.defs) (flow_faults job class.defs) (is_flow classes spaces colls types (length class.defs)) IsFlowWithinLimits
-            (λ f p w n e. well_flow job classes spaces colls parts class.defs f p w n e) class.flows c.flows within.flows (first_nil flows named rest) is.flows);
-        flow_names = subst (λ l. IsTrue (are_distinct bytes_eq l)) (sym flow_texts) (distinct_names (λ (f : FlowTree). f.name) NameTwice class.flows (rest_nil flows named rest));
+            (λ f p w n e. well_flow job classes spaces colls parts class.defs f p w n e) class.flows c.flows
+            within.flows (first_nil flows named rest) is.flows);
+        flow_names = subst (λ l. IsTrue (are_distinct bytes_eq l)) (sym flow_texts)
+            (distinct_names (λ (f : FlowTree). f.name) NameTwice class.flows (rest_nil flows named rest));
         priority = subst (λ n. IsTrue (is_closed_option n c.priority)) count (closed_option job class.defs class.priority c.priority is.priority);
-        body = subst (λ n. IsWellBody n (length c.flows) c.body) (scope_locals r) (subst (λ n. IsWellBody (length r.scope.locals) n c.body) (scope_flows r) fit.well);
+        body = subst (λ n. IsWellBody n (length c.flows) c.body) (scope_locals r)
+            (subst (λ n. IsWellBody (length r.scope.locals) n c.body) (scope_flows r) fit.well);
         kinds = subst (λ l. IsTrue (respects_kinds l c.body.statements)) (scope_kinds r) fit.kinds;
         words = fit_words r.scope class.body y text;
         loops = fit.loops;

@@ -24,7 +24,8 @@ first_err b (Fault f) p q fs gs h k = ap (λ l. first_fault (fs ++ l)) k.1 ∙ (
 first_err b OutOfMemory p q fs gs h k = tt
 
 pub both_err : {A B : Type 0} (d e : Refusal JdfFault) (p : Option A) (q : Option B) (fs gs : List JdfFault)
-    → ReturnsChecked {A = A} (Err d) p fs → ReturnsChecked {A = B} (Err e) q gs → ReturnsChecked {A = A × B} (Err (reported_refusal earlier d e)) (both (λ x y. (x, y)) p q) (fs ++ gs)
+    → ReturnsChecked {A = A} (Err d) p fs → ReturnsChecked {A = B} (Err e) q gs
+    → ReturnsChecked {A = A × B} (Err (reported_refusal earlier d e)) (both (λ x y. (x, y)) p q) (fs ++ gs)
 both_err OutOfMemory e p q fs gs h k = tt
 both_err (Fault f) OutOfMemory p q fs gs h k = tt
 both_err (Fault f) (Fault g) p q fs gs h k = first_append fs gs ∙ (ap (λ o. earlier_of o (first_fault gs)) h ∙ ap (earlier_of (Some f)) k)
@@ -37,12 +38,14 @@ of_both f a b (Some x) None fs h = absurd cc
 of_both f a b (Some x) (Some y) fs h = (ap (λ z. option_map (λ w. f w.0 w.1) z) h.0, h.1)
 
 -- a refusal does not depend on the part
-pub still_err : {A B : Type 0} (e : Refusal JdfFault) (p : Option A) (q : Option B) (fs : List JdfFault) → ReturnsChecked {A = A} (Err e) p fs → ReturnsChecked {A = B} (Err e) q fs
+pub still_err : {A B : Type 0} (e : Refusal JdfFault) (p : Option A) (q : Option B) (fs : List JdfFault)
+    → ReturnsChecked {A = A} (Err e) p fs → ReturnsChecked {A = B} (Err e) q fs
 still_err (Fault f) p q fs h = h
 still_err OutOfMemory p q fs h = tt
 
 -- one more fault
-pub ok_refused : {A B : Type 0} (a : A) (f : JdfFault) (p : Option A) (q : Option B) (fs : List JdfFault) → ReturnsChecked (Ok a) p fs → ReturnsChecked {A = B} (Err (Fault f)) q (fs ++ f ∷ [])
+pub ok_refused : {A B : Type 0} (a : A) (f : JdfFault) (p : Option A) (q : Option B) (fs : List JdfFault)
+    → ReturnsChecked (Ok a) p fs → ReturnsChecked {A = B} (Err (Fault f)) q (fs ++ f ∷ [])
 ok_refused a f p q fs h = ap (λ l. first_fault (l ++ f ∷ [])) h.1
 
 pub err_refused : {A B : Type 0} (e : Refusal JdfFault) (f : JdfFault) (p : Option A) (q : Option B) (fs : List JdfFault) → ReturnsChecked {A = A} (Err e) p fs
@@ -51,11 +54,15 @@ err_refused OutOfMemory f p q fs h = tt
 err_refused (Fault g) f p q fs h = first_append fs (f ∷ []) ∙ ap (λ o. earlier_of o (Some f)) h
 
 -- a part, and rules that hold
-pub of_rules : {A : Type 0} (a : A) (u : Unit {0}) (p : Option A) (fs : List JdfFault) → ReturnsChecked {A = A × Unit {0}} (Ok (a, u)) (both (λ x y. (x, y)) p (Some tt)) fs → ReturnsChecked (Ok a) p fs
+pub of_rules : {A : Type 0} (a : A) (u : Unit {0}) (p : Option A) (fs : List JdfFault)
+    → ReturnsChecked {A = A × Unit {0}} (Ok (a, u)) (both (λ x y. (x, y)) p (Some tt)) fs
+    → ReturnsChecked (Ok a) p fs
 of_rules a u None fs h = absurd cc
 of_rules a u (Some x) fs h = (ap (λ o. option_map (λ w. w.0) o) h.0, h.1)
 
 -- a list of parts with one more part
-pub of_pushed : {A : Type 0} (xs ys : List A) (x : A) (p : Option (List A)) (q : Option A) (fs : List JdfFault) → ReturnsChecked {A = List A × A} (Ok (xs, x)) (both (λ x y. (x, y)) p q) fs → ys ≡ xs ++ x ∷ []
+pub of_pushed : {A : Type 0} (xs ys : List A) (x : A) (p : Option (List A)) (q : Option A) (fs : List JdfFault)
+    → ReturnsChecked {A = List A × A} (Ok (xs, x)) (both (λ x y. (x, y)) p q) fs → ys ≡ xs ++ x ∷ []
     → ReturnsChecked (Ok ys) (both (λ zs z. zs ++ z ∷ []) p q) fs
-of_pushed xs ys x p q fs h e = let r : ReturnsChecked (Ok (xs ++ x ∷ [])) (both (λ zs z. zs ++ z ∷ []) p q) fs = of_both (λ zs z. zs ++ z ∷ []) xs x p q fs h in (r.0 ∙ ap (λ l. Some l) (sym e), r.1)
+of_pushed xs ys x p q fs h e = let r : ReturnsChecked (Ok (xs ++ x ∷ [])) (both (λ zs z. zs ++ z ∷ []) p q) fs =
+    of_both (λ zs z. zs ++ z ∷ []) xs x p q fs h in (r.0 ∙ ap (λ l. Some l) (sym e), r.1)

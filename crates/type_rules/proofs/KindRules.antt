@@ -33,26 +33,36 @@ control_kind Write h = absurd cc
 control_kind Rw h = absurd cc
 control_kind Ctl h = refl
 
-pub in_task : (classes : List ClassPlan) (k j : FlowKind) (n m : ℕ) (args : List Arg) → kinds.kind_of classes n m ≡ Some j → is_control j ≡ is_control k → is_write k ≡ false → (is_control k ≡ false → list_any is_span args ≡ false)
+pub in_task : (classes : List ClassPlan) (k j : FlowKind) (n m : ℕ) (args : List Arg)
+    → kinds.kind_of classes n m ≡ Some j → is_control j ≡ is_control k → is_write k ≡ false
+    → (is_control k ≡ false → list_any is_span args ≡ false)
     → IsTrue (is_in_target classes k (plan.Task n m args))
-in_task classes Read j n m args at same w spans = and_from (kinds.is_data (kinds.kind_of classes n m)) (not (list_any is_span args)) (ap kinds.is_data at ∙ data_kind j same) (ap not (spans refl))
+in_task classes Read j n m args at same w spans =
+    and_from (kinds.is_data (kinds.kind_of classes n m)) (not (list_any is_span args))
+    (ap kinds.is_data at ∙ data_kind j same) (ap not (spans refl))
 in_task classes Write j n m args at same w spans = absurd cc
-in_task classes Rw j n m args at same w spans = and_from (kinds.is_data (kinds.kind_of classes n m)) (not (list_any is_span args)) (ap kinds.is_data at ∙ data_kind j same) (ap not (spans refl))
+in_task classes Rw j n m args at same w spans =
+    and_from (kinds.is_data (kinds.kind_of classes n m)) (not (list_any is_span args))
+    (ap kinds.is_data at ∙ data_kind j same) (ap not (spans refl))
 in_task classes Ctl j n m args at same w spans = ap kinds.is_control at ∙ control_kind j same
 
-pub out_task : (classes : List ClassPlan) (k j : FlowKind) (n m : ℕ) (args : List Arg) → kinds.kind_of classes n m ≡ Some j → is_control j ≡ is_control k → IsTrue (is_out_target classes k (plan.Task n m args))
+pub out_task : (classes : List ClassPlan) (k j : FlowKind) (n m : ℕ) (args : List Arg)
+    → kinds.kind_of classes n m ≡ Some j → is_control j ≡ is_control k
+    → IsTrue (is_out_target classes k (plan.Task n m args))
 out_task classes Read j n m args at same = ap kinds.is_data at ∙ data_kind j same
 out_task classes Write j n m args at same = ap kinds.is_data at ∙ data_kind j same
 out_task classes Rw j n m args at same = ap kinds.is_data at ∙ data_kind j same
 out_task classes Ctl j n m args at same = ap kinds.is_control at ∙ control_kind j same
 
-pub in_element : (classes : List ClassPlan) (k : FlowKind) (n : ℕ) (indices : List Term) → is_control k ≡ false → IsTrue (is_in_target classes k (plan.Element n indices))
+pub in_element : (classes : List ClassPlan) (k : FlowKind) (n : ℕ) (indices : List Term) → is_control k ≡ false
+    → IsTrue (is_in_target classes k (plan.Element n indices))
 in_element classes Read n indices h = refl
 in_element classes Write n indices h = refl
 in_element classes Rw n indices h = refl
 in_element classes Ctl n indices h = absurd cc
 
-pub out_element : (classes : List ClassPlan) (k : FlowKind) (n : ℕ) (indices : List Term) → is_control k ≡ false → IsTrue (is_out_target classes k (plan.Element n indices))
+pub out_element : (classes : List ClassPlan) (k : FlowKind) (n : ℕ) (indices : List Term) → is_control k ≡ false
+    → IsTrue (is_out_target classes k (plan.Element n indices))
 out_element classes Read n indices h = refl
 out_element classes Write n indices h = refl
 out_element classes Rw n indices h = refl

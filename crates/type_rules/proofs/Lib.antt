@@ -21,3 +21,4 @@ pub mod KindRules
 pub mod TypeRules
 pub mod WellTargets
 pub mod WellFlows
+pub mod CallerLemmas

@@ -11,7 +11,8 @@ pub holds_not : (b : Bool) (spot : Spot) (code : JdfCode) → fault_if b spot co
 holds_not true spot code e = absurd cc
 holds_not false spot code e = refl
 
-pub parts_of : {A B C : Type 0} (f : A → B → C) (o : Option A) (p : Option B) (z : C) → both f o p ≡ Some z → (x : A) × (y : B) × (o ≡ Some x) × (p ≡ Some y) × (f x y ≡ z)
+pub parts_of : {A B C : Type 0} (f : A → B → C) (o : Option A) (p : Option B) (z : C) → both f o p ≡ Some z
+    → (x : A) × (y : B) × (o ≡ Some x) × (p ≡ Some y) × (f x y ≡ z)
 parts_of f None p z e = absurd cc
 parts_of f (Some x) None z e = absurd cc
 parts_of f (Some x) (Some y) z e = (x, y, refl, refl, same_Some (f x y) z e)
@@ -25,7 +26,8 @@ option_there {A} {B} f a o e = go (f a) refl e
     go (Some b) s h = (b, s, same_Some (Some b) o h)
 
 -- what holds for each part holds for the parts of a list
-pub parts_all : {A B : Type 0} (f : A → Option B) (p : B → Bool) → ((a : A) (b : B) → f a ≡ Some b → IsTrue (p b)) → (xs : List A) (ys : List B) → each f xs ≡ Some ys → IsTrue (list_all p ys)
+pub parts_all : {A B : Type 0} (f : A → Option B) (p : B → Bool) → ((a : A) (b : B) → f a ≡ Some b → IsTrue (p b))
+    → (xs : List A) (ys : List B) → each f xs ≡ Some ys → IsTrue (list_all p ys)
 parts_all f p h [] ys e = subst (λ l. IsTrue (list_all p l)) (same_Some [] ys e) refl
 parts_all f p h (x ∷ xs) ys e =
     let q = parts_of (λ y ys. y ∷ ys) (f x) (each f xs) ys e in

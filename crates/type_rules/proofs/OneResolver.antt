@@ -51,7 +51,8 @@ by_faults (Ok x) fs h = (refl, h)
 by_faults (Err f) fs h = (refl, h)
 
 -- the faults of two parts
-pair_faults : {A B : Type 0} (r : Resolved A) (q : Resolved B) (fs gs : List JdfFault) → AreFaultsOf r fs → AreFaultsOf q gs → AreFaultsOf (together earlier r q) (fs ++ gs)
+pair_faults : {A B : Type 0} (r : Resolved A) (q : Resolved B) (fs gs : List JdfFault) → AreFaultsOf r fs
+    → AreFaultsOf q gs → AreFaultsOf (together earlier r q) (fs ++ gs)
 pair_faults (Ok x) (Ok y) fs gs h k = ap (λ l. l ++ gs) h ∙ k
 pair_faults (Ok x) (Err g) fs gs h k = ap (λ l. first_fault (l ++ gs)) h ∙ k
 pair_faults (Err f) (Ok y) fs gs h k = ap (λ l. first_fault (fs ++ l)) k ∙ (ap first_fault (append-nil fs) ∙ h)
@@ -73,28 +74,47 @@ module _ (job : Job) (seen : List DefTree) where
   expression_faults_are (Elem w at) = go (expression.term_of (symbols_of job seen) at) (expression_faults_are at)
     where
       go : (r : Resolved Term) → AreFaultsOf r (expression_faults job seen at)
-          → AreFaultsOf (and_then (together earlier (fault_at w UnknownName) r) (λ x. Ok (term.Elem x.0 x.1))) (fault w.spot UnknownName ∷ expression_faults job seen at)
+          → AreFaultsOf (and_then (together earlier (fault_at w UnknownName) r) (λ x. Ok (term.Elem x.0 x.1)))
+          (fault w.spot UnknownName ∷ expression_faults job seen at)
       go (Ok t) h = ap (λ l. first_fault (fault w.spot UnknownName ∷ l)) h
       go (Err f) h = ap (earlier_of (Some (fault w.spot UnknownName))) h
-  expression_faults_are (Unary o a spot) = mapped_faults (term.Unary o) (expression.term_of (symbols_of job seen) a) (expression_faults job seen a) (expression_faults_are a)
+  expression_faults_are (Unary o a spot) =
+      mapped_faults (term.Unary o) (expression.term_of (symbols_of job seen) a) (expression_faults job seen a)
+      (expression_faults_are a)
   expression_faults_are (Binary o a b) =
-      mapped_faults (λ (x : Term × Term). term.Binary o x.0 x.1) (together earlier (expression.term_of (symbols_of job seen) a) (expression.term_of (symbols_of job seen) b)) (expression_faults job seen a ++ expression_faults job seen b)
-      (pair_faults (expression.term_of (symbols_of job seen) a) (expression.term_of (symbols_of job seen) b) (expression_faults job seen a) (expression_faults job seen b) (expression_faults_are a) (expression_faults_are b))
+      mapped_faults (λ (x : Term × Term). term.Binary o x.0 x.1)
+      (together earlier (expression.term_of (symbols_of job seen) a)
+      (expression.term_of (symbols_of job seen) b))
+      (expression_faults job seen a ++ expression_faults job seen b)
+      (pair_faults (expression.term_of (symbols_of job seen) a) (expression.term_of (symbols_of job seen) b)
+      (expression_faults job seen a) (expression_faults job seen b) (expression_faults_are a)
+      (expression_faults_are b))
   expression_faults_are (Choose c a b) =
       let branches = together earlier (expression.term_of (symbols_of job seen) a) (expression.term_of (symbols_of job seen) b) in
       let faults = expression_faults job seen a ++ expression_faults job seen b in
-      mapped_faults (λ (x : Term × (Term × Term)). term.Choose x.0 x.1.0 x.1.1) (together earlier (expression.term_of (symbols_of job seen) c) branches) (expression_faults job seen c ++ faults)
+      mapped_faults (λ (x : Term × (Term × Term)). term.Choose x.0 x.1.0 x.1.1)
+      (together earlier (expression.term_of (symbols_of job seen) c) branches)
+      (expression_faults job seen c ++ faults)
       (pair_faults (expression.term_of (symbols_of job seen) c) branches (expression_faults job seen c) faults (expression_faults_are c)
-      (pair_faults (expression.term_of (symbols_of job seen) a) (expression.term_of (symbols_of job seen) b) (expression_faults job seen a) (expression_faults job seen b) (expression_faults_are a) (expression_faults_are b)))
+      (pair_faults (expression.term_of (symbols_of job seen) a) (expression.term_of (symbols_of job seen) b)
+      (expression_faults job seen a) (expression_faults job seen b) (expression_faults_are a)
+      (expression_faults_are b)))
 
   pub agrees : (e : Expression) → Agrees (expression.term_of (symbols_of job seen) e) (term_of job seen e) (expression_faults job seen e)
   unfolding term_of
   agrees e = by_faults (expression.term_of (symbols_of job seen) e) (expression_faults job seen e) (expression_faults_are e)
 
-  pub term_checked : (r : Result Term (Refusal JdfFault)) (e : Expression) → Returns (λ x. x) r (expression.term_of (symbols_of job seen) e) → ReturnsChecked r (term_of job seen e) (expression_faults job seen e)
+  pub term_checked : (r : Result Term (Refusal JdfFault)) (e : Expression)
+      → Returns (λ x. x) r (expression.term_of (symbols_of job seen) e)
+      → ReturnsChecked r (term_of job seen e) (expression_faults job seen e)
   term_checked r e h = by_result r (expression.term_of (symbols_of job seen) e) (agrees e) h
     where
-      by_result : (r : Result Term (Refusal JdfFault)) (given : Resolved Term) → Agrees given (term_of job seen e) (expression_faults job seen e) → Returns (λ x. x) r given → ReturnsChecked r (term_of job seen e) (expression_faults job seen e)
-      by_result (Ok x) given a h = let k : Agrees (Ok x) (term_of job seen e) (expression_faults job seen e) = subst (λ g. Agrees g (term_of job seen e) (expression_faults job seen e)) h a in k
+      by_result : (r : Result Term (Refusal JdfFault)) (given : Resolved Term)
+          → Agrees given (term_of job seen e) (expression_faults job seen e) → Returns (λ x. x) r given
+          → ReturnsChecked r (term_of job seen e) (expression_faults job seen e)
+      by_result (Ok x) given a h = let k : Agrees (Ok x) (term_of job seen e) (expression_faults job seen e) =
+          subst (λ g. Agrees g (term_of job seen e) (expression_faults job seen e)) h a in k
       by_result (Err OutOfMemory) given a h = tt
-      by_result (Err (Fault f)) given a h = let k : Agrees {A = Term} (Err f) (term_of job seen e) (expression_faults job seen e) = subst (λ g. Agrees g (term_of job seen e) (expression_faults job seen e)) h a in k.1
+      by_result (Err (Fault f)) given a h =
+          let k : Agrees {A = Term} (Err f) (term_of job seen e) (expression_faults job seen e) =
+          subst (λ g. Agrees g (term_of job seen e) (expression_faults job seen e)) h a in k.1

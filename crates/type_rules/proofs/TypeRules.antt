@@ -1,5 +1,6 @@
 -- Datatypes: the two ends of a dependence have the same one if no rule refuses it.
-use Rattle.std.proofs.Common.{◌≡◌, ℕ, suc, ◌<◌, Bool, true, false, not, ◌&&◌, ◌==◌, cond, List, length, Some, None, option_map, slice_get, IsTrue, refl, sym, ◌∙◌, ap, arith}
+use Rattle.std.proofs.Common.{◌≡◌, ℕ, suc, ◌<◌, Bool, true, false, not, ◌&&◌, ◌==◌, cond, List, length, Some, None, option_map, slice_get, IsTrue}
+use Rattle.std.proofs.Common.{refl, sym, ◌∙◌, ap, arith}
 use Rattle.std.specs.List.{position}
 use Rattle.std.specs.Option.{option_map_or}
 use Rattle.std.specs.Str.{bytes_eq}
@@ -48,7 +49,8 @@ datatype_allowed d Rw name n e = lt-ltb n (suc (length d.types)) (type_below d n
 datatype_allowed d Ctl name n e = eq-eqb n 0 (control_type d Ctl name n refl e)
 
 -- two flows with the same type
-pub flows_agree : (d : Data) (flow other : FlowTree) (n m : ℕ) → is_control other.kind ≡ is_control flow.kind → (not (is_control flow.kind) && is_other_flow (type_of_flow flow) other) ≡ false
+pub flows_agree : (d : Data) (flow other : FlowTree) (n m : ℕ) → is_control other.kind ≡ is_control flow.kind
+    → (not (is_control flow.kind) && is_other_flow (type_of_flow flow) other) ≡ false
     → flow_type d flow ≡ Some n → flow_type d other ≡ Some m → m ≡ n
 flows_agree d flow other n m same h e f = go (is_control flow.kind) refl
   where
@@ -56,14 +58,24 @@ flows_agree d flow other n m same h e f = go (is_control flow.kind) refl
     go true c = control_type d other.kind (type_of_flow other) m (same ∙ c) f ∙ sym (control_type d flow.kind (type_of_flow flow) n c e)
     go false c =
         let differs : is_other_flow (type_of_flow flow) other ≡ false = ap (λ b. not b && is_other_flow (type_of_flow flow) other) (sym c) ∙ h in
-        let named : not (bytes_eq (type_of_flow other) (type_of_flow flow)) ≡ false = ap (λ b. not b && not (bytes_eq (type_of_flow other) (type_of_flow flow))) (sym (same ∙ c)) ∙ differs in
-        let one : type_of_flow other ≡ type_of_flow flow = (bytes_decides (type_of_flow other) (type_of_flow flow)).0 (not-false (bytes_eq (type_of_flow other) (type_of_flow flow)) named) in
-        same_Some m n (sym (data_type d other.kind (type_of_flow other) m (same ∙ c) f) ∙ (ap (type_number d) one ∙ data_type d flow.kind (type_of_flow flow) n c e))
+        let named : not (bytes_eq (type_of_flow other) (type_of_flow flow)) ≡ false =
+        ap (λ b. not b && not (bytes_eq (type_of_flow other) (type_of_flow flow))) (sym (same ∙ c)) ∙ differs in
+        let one : type_of_flow other ≡ type_of_flow flow =
+        (bytes_decides (type_of_flow other) (type_of_flow flow)).0
+        (not-false (bytes_eq (type_of_flow other) (type_of_flow flow)) named) in
+        same_Some m n (sym (data_type d other.kind (type_of_flow other) m (same ∙ c) f)
+        ∙ (ap (type_number d) one ∙ data_type d flow.kind (type_of_flow flow) n c e))
 
 -- a flow and a collection with the same type
-pub element_agrees : (d : Data) (flow : FlowTree) (coll : ℕ) (c : Coll) (n : ℕ) → is_control flow.kind ≡ false → has_other_type d (type_of_flow flow) coll ≡ false → slice_get d.colls coll ≡ Some c → flow_type d flow ≡ Some n → c.datatype ≡ n
+pub element_agrees : (d : Data) (flow : FlowTree) (coll : ℕ) (c : Coll) (n : ℕ) → is_control flow.kind ≡ false
+    → has_other_type d (type_of_flow flow) coll ≡ false → slice_get d.colls coll ≡ Some c
+    → flow_type d flow ≡ Some n → c.datatype ≡ n
 element_agrees d flow coll c n tile h at e =
     let name = type_of_flow flow in
-    let there : option_map_or (λ m. not (m == c.datatype)) (type_number d name) true ≡ false = ap (λ o. option_map_or (λ (c : Coll). option_map_or (λ m. not (m == c.datatype)) (type_number d name) true) o false) (sym at) ∙ h in
-    let known : not (n == c.datatype) ≡ false = ap (λ o. option_map_or (λ m. not (m == c.datatype)) o true) (sym (data_type d flow.kind name n tile e)) ∙ there in
+    let there : option_map_or (λ m. not (m == c.datatype)) (type_number d name) true ≡ false =
+    ap (λ o. option_map_or (λ (c : Coll). option_map_or (λ m. not (m == c.datatype)) (type_number d name) true)
+    o false) (sym at) ∙ h in
+    let known : not (n == c.datatype) ≡ false =
+    ap (λ o. option_map_or (λ m. not (m == c.datatype)) o true) (sym (data_type d flow.kind name n tile e))
+    ∙ there in
     sym (eqb-true n c.datatype (not-false (n == c.datatype) known))

@@ -1,5 +1,6 @@
 -- Dependences in one direction, in lists that grow by one.
-use Rattle.std.proofs.Common.{◌≡◌, ℕ, ◌+◌, ◌<◌, Bool, true, false, cond, List, [], ◌∷◌, ◌++◌, take, length, get_or, filter, flat_map, Option, Result, sym, ◌∙◌, ap, subst}
+use Rattle.std.proofs.Common.{◌≡◌, ℕ, ◌+◌, ◌<◌, Bool, true, false, cond, List, [], ◌∷◌, ◌++◌, take, length, get_or, filter, flat_map, Option, Result}
+use Rattle.std.proofs.Common.{sym, ◌∙◌, ap, subst}
 use Rattle.std.proofs.lemmas.List.{append-nil, take_more}
 use Rattle.std.proofs.lemmas.List.Elements.{filter-append}
 use Rattle.ptg_base.specs.declared.refusal.Refusal.{Refusal}
@@ -18,7 +19,8 @@ filter_dropped : {A : Type 0} (p : A → Bool) (xs : List A) (x : A) → p x ≡
 filter_dropped p xs x e = filter-append p xs (x ∷ []) ∙ ap (λ b. filter p xs ++ cond b (x ∷ []) []) e ∙ append-nil (filter p xs)
 
 -- the result for one more element that is kept
-pub next_kept : {A B : Type 0} (p : A → Bool) (f : A → Option B) (g : A → List JdfFault) (xs : List A) (i : ℕ) (x : A) (r : Result (List B) (Refusal JdfFault)) → i < length xs → x ≡ get_or xs i x → p x ≡ true
+pub next_kept : {A B : Type 0} (p : A → Bool) (f : A → Option B) (g : A → List JdfFault) (xs : List A) (i : ℕ)
+    (x : A) (r : Result (List B) (Refusal JdfFault)) → i < length xs → x ≡ get_or xs i x → p x ≡ true
     → ReturnsChecked r (both (λ ys y. ys ++ y ∷ []) (each f (filter p (take i xs))) (f x)) (flat_map g (filter p (take i xs)) ++ g x)
     → ReturnsChecked r (each f (filter p (take (i + 1) xs))) (flat_map g (filter p (take (i + 1) xs)))
 next_kept p f g xs i x r lt at e h =
@@ -29,7 +31,8 @@ next_kept p f g xs i x r lt at e h =
     (subst (λ l. ReturnsChecked r (both (λ ys y. ys ++ y ∷ []) (each f (filter p (take i xs))) (f x)) l) (sym (flat_map_push g (filter p (take i xs)) x)) h))
 
 -- the result for one more element that is dropped
-pub next_dropped : {A B : Type 0} (p : A → Bool) (f : A → Option B) (g : A → List JdfFault) (xs : List A) (i : ℕ) (x : A) (r : Result (List B) (Refusal JdfFault)) → i < length xs → x ≡ get_or xs i x → p x ≡ false
+pub next_dropped : {A B : Type 0} (p : A → Bool) (f : A → Option B) (g : A → List JdfFault) (xs : List A) (i : ℕ)
+    (x : A) (r : Result (List B) (Refusal JdfFault)) → i < length xs → x ≡ get_or xs i x → p x ≡ false
     → ReturnsChecked r (each f (filter p (take i xs))) (flat_map g (filter p (take i xs)))
     → ReturnsChecked r (each f (filter p (take (i + 1) xs))) (flat_map g (filter p (take (i + 1) xs)))
 next_dropped p f g xs i x r lt at e h =

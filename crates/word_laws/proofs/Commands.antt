@@ -10,9 +10,7 @@ use Rattle.ptg_words.specs.declared.verbs.Verb.{Verb}
 use Rattle.ptg_words.specs.Words.{IsProper, IsUsage, Orders, formed, has_bad_number, has_wrong_count, improper_word}
 use Rattle.ptg_words.specs.Words.{lacking_number, no_verb, operand_count, operands_differ, option_twice, options_of}
 use Rattle.ptg_words.specs.Words.{read, stray_word, verb_of}
-use Rattle.ptg_words.proofs.Proper.{all_or_any}
-use Rattle.ptg_words.proofs.Rules.{breaks_none, breaks_number, to_rule}
-use Rattle.ptg_words.proofs.ValuesRead.{counted}
+use Rattle.ptg_words.proofs.CallerLemmas.{all_or_any, breaks_none, breaks_number, counted, to_rule}
 use Rattle.word_laws.specs.Commands.{CommandOrUsage}
 
 -- arguments whose parts break a rule are a usage error

@@ -16,8 +16,7 @@ use Rattle.flow_meaning.specs.Comparing.{same_item}
 use Rattle.flow_meaning.specs.Ending.{has_outputs}
 use Rattle.flow_meaning.specs.Backward.{ended}
 use Rattle.flow_meaning.specs.Machine.{SentItem, send_count, sender}
-use Rattle.flow_meaning.proofs.Comparing.{same_item-decides}
-use Rattle.flow_meaning.proofs.Rest.{item_sender}
+use Rattle.flow_meaning.proofs.CallerLemmas.{item_sender, same_item-decides}
 use Rattle.flow_meaning.specs.Sound.{with_its_tile}
 use Rattle.work_board.specs.declared.record.PassRecord.{PassRecord}
 use Rattle.work_board.specs.Records.{IsStill, done_by}

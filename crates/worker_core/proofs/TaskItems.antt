@@ -11,8 +11,7 @@ use Rattle.coll_data.specs.Data.{Data}
 use Rattle.dep_iter.specs.Tasks.{IsTask}
 use Rattle.dep_iter.specs.Items.{items}
 use Rattle.dep_iter.specs.Consistent.{IsConsistent}
-use Rattle.dep_iter.proofs.Items.{item_edge}
-use Rattle.dep_iter.proofs.Once.{once-items}
+use Rattle.dep_iter.proofs.CallerLemmas.{item_edge, once-items}
 use Rattle.list_lemmas.proofs.Counts.{weigh-append}
 use Rattle.list_lemmas.specs.Counting.{as_number}
 use Rattle.flow_meaning.specs.Comparing.{same_item}

@@ -18,7 +18,8 @@ returns-then-saturating_sub-most c =
     let i = c.loop-index.index in
     let s = c.args.tokens.now in
     let opens : c.is_next-opens.result ≡ starts (is LeftBrace) (drop i s) = c.is_next-opens.ensures ∙ ap (starts (is LeftBrace)) (take_rest s i) in
-    let full : most_blocks s ≤ c.loop-index.opened - c.loop-index.closed = omega (arith, c.most_blocks-most.ensures, c.saturating_sub.ensures, c.if-saturating_sub-most.true) in
+    let full : most_blocks s ≤ c.loop-index.opened - c.loop-index.closed =
+    omega (arith, c.most_blocks-most.ensures, c.saturating_sub.ensures, c.if-saturating_sub-most.true) in
     let deep : nat_le (most_blocks s) (c.loop-index.opened - c.loop-index.closed) ≡ true = grind (arith, nat_tests) in
     blocks_stop s i c.loop-index.opened c.loop-index.closed c.loop-index.invariant c.is_next-opens.result c.loop-index-test.true opens c.if-opens.true deep
 
@@ -30,14 +31,18 @@ loop-index-preserved c =
     let closes : c.is_next.result ≡ starts (is RightBrace) (drop i s) = c.is_next.ensures ∙ ap (starts (is RightBrace)) (take_rest s i) in
     let fits : (c.is_next-opens.result && nat_le (most_blocks s) (c.loop-index.opened - c.loop-index.closed)) ≡ false = elim c.else-opens.branch [
       | else-opens-via-then-opens+else-saturating_sub-most w ↦
-          let room : c.loop-index.opened - c.loop-index.closed < most_blocks s = omega (arith, c.most_blocks-most.ensures, w.saturating_sub.ensures, w.if-saturating_sub-most.false) in
+          let room : c.loop-index.opened - c.loop-index.closed < most_blocks s =
+          omega (arith, c.most_blocks-most.ensures, w.saturating_sub.ensures, w.if-saturating_sub-most.false) in
           let low : nat_le (most_blocks s) (c.loop-index.opened - c.loop-index.closed) ≡ false = grind (arith, nat_tests) in
           rw (w.if-opens.true, low) refl
       | else-opens-via-else-opens w ↦ rw w.if-opens.false refl
     ] in
-    rw (c.one_if-opened.ensures, c.one_if-closed.ensures) (blocks_go_on s i c.loop-index.opened c.loop-index.closed c.loop-index.invariant c.is_next-opens.result c.is_next.result c.loop-index-test.true opens closes fits)
+    rw (c.one_if-opened.ensures, c.one_if-closed.ensures)
+    (blocks_go_on s i c.loop-index.opened c.loop-index.closed c.loop-index.invariant c.is_next-opens.result
+    c.is_next.result c.loop-index-test.true opens closes fits)
 
 pub returns : goal.returns
 returns c =
     let all : c.loop-index.index ≡ length c.args.tokens.now = omega arith in
-    ap (λ (n : ℕ). n + 1) (sym all) ∙ blocks_end c.args.tokens.now c.loop-index.index c.loop-index.opened c.loop-index.closed c.loop-index.invariant (omega (arith, all))
+    ap (λ (n : ℕ). n + 1) (sym all) ∙ blocks_end c.args.tokens.now c.loop-index.index c.loop-index.opened
+    c.loop-index.closed c.loop-index.invariant (omega (arith, all))

@@ -31,7 +31,8 @@ loop-index-preserved c =
           rw (w.if-declares.true, low) refl
       | else-declares-via-else-declares w ↦ rw w.if-declares.false refl
     ] in
-    rw c.one_if-declared.ensures (variables_go_on s i c.loop-index.declared c.loop-index.invariant c.is_variable_next-declares.result c.loop-index-test.true here fits)
+    rw c.one_if-declared.ensures (variables_go_on s i c.loop-index.declared c.loop-index.invariant
+    c.is_variable_next-declares.result c.loop-index-test.true here fits)
 
 pub returns : goal.returns
 returns c =

@@ -1,11 +1,11 @@
 use Rattle.std.proofs.Common.{◌≡◌, ◌+◌, ◌*◌, ◌≤◌, length}
 use Rattle.grammar_core.specs.Production.{star}
 use Rattle.grammar_core.specs.Reading.{reading}
-use Rattle.grammar_core.proofs.Loops.{so_far}
+use Rattle.grammar_core.proofs.CallerLemmas.{so_far}
 use Rattle.jdf_tree.specs.BodyGrammar.{statement}
 use Rattle.jdf_tree.specs.Grammar.{productions}
 use Rattle.jdf_tree.specs.GrammarParts.{any}
-use Rattle.jdf_tree.proofs.Lists.{rest_of}
+use Rattle.jdf_tree.proofs.CallerLemmas.{rest_of}
 use Rattle.body_lang.proofs.statement_text.+block.Given as goal
 
 abbrev pub decreases-block_rest : goal.decreases-block_rest

@@ -2,7 +2,7 @@ use Rattle.std.proofs.Common.{ℕ, ap, ◌∙◌}
 use Rattle.expr_read.specs.Front.{fault_at}
 use Rattle.body_lang.proofs.WholeText.{read_tree, read_no_memory, read_fault}
 use Rattle.body_lang.proofs.text.read.Goals as goal
-use Rattle.grammar_core.proofs.Refusals.{fault_is}
+use Rattle.grammar_core.proofs.CallerLemmas.{fault_is_of_refusals as fault_is}
 
 pub returns-in-Ok : goal.returns-in-Ok
 returns-in-Ok c = record { exact = read_tree c.args.tokens.now c.args.finish c.in-Ok.tree c.in-Ok.ensures }

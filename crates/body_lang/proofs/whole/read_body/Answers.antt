@@ -8,7 +8,8 @@ pub broken-requires : goal.broken-requires
 broken-requires c = (c.tree.ensures.exact.fault c.in-Err-Fault.fault (c.in-Err-Fault.is ∙ ap Err c.in-Err-Fault.field-0-is)).within
 
 pub returns-in-Ok-clause-exact : goal.returns-in-Ok-clause-exact
-returns-in-Ok-clause-exact c = of_tree (environment_of c.args.scope.now) c.args.tokens.now c.args.finish c.in-Ok.tree c.resolve.result c.in-Ok.ensures.exact.found c.resolve.ensures.answer
+returns-in-Ok-clause-exact c = of_tree (environment_of c.args.scope.now) c.args.tokens.now c.args.finish
+    c.in-Ok.tree c.resolve.result c.in-Ok.ensures.exact.found c.resolve.ensures.answer
 
 pub returns-in-Err-Fault-clause-exact : goal.returns-in-Err-Fault-clause-exact
 returns-in-Err-Fault-clause-exact c =

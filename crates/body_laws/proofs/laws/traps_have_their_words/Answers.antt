@@ -1,4 +1,4 @@
-use Rattle.body_lang.proofs.Words.{own_words, words_once}
+use Rattle.body_lang.proofs.CallerLemmas.{own_words, words_once}
 use Rattle.body_laws.proofs.laws.traps_have_their_words.Goals as goal
 
 pub returns-clause-own : goal.returns-clause-own

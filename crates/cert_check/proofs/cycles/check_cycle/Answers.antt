@@ -4,7 +4,7 @@ use Rattle.plan_core.specs.declared.plan.Plan.{Plan}
 use Rattle.dep_iter.specs.Tasks.{IsTask}
 use Rattle.chain_cert.specs.Chains.{IsChain, IsSourceOf}
 use Rattle.cert_check.proofs.Linking.{by_once, no_chain, no_link}
-use Rattle.chain_exists.proofs.Cycles.{never_ends}
+use Rattle.chain_exists.proofs.CallerLemmas.{never_ends}
 use Rattle.cert_check.proofs.cycles.check_cycle.Goals as goal
 
 pub returns-then-not-is_link-clause-exact : goal.returns-then-not-is_link-clause-exact

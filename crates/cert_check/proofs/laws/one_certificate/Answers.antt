@@ -1,4 +1,4 @@
-use Rattle.chain_exists.proofs.Unique.{one}
+use Rattle.chain_exists.proofs.CallerLemmas.{one}
 use Rattle.cert_check.proofs.laws.one_certificate.Goals as goal
 
 pub returns : goal.returns

@@ -1,4 +1,4 @@
-use Rattle.chain_cert.proofs.Turning.{printed_is_cycle}
+use Rattle.chain_cert.proofs.CallerLemmas.{printed_is_cycle}
 use Rattle.cert_check.proofs.laws.the_printed_cycle_is_a_cycle.Goals as goal
 
 pub returns : goal.returns

@@ -8,9 +8,8 @@ use Rattle.std.proofs.lemmas.List.{take_all}
 use Rattle.dep_iter.specs.Tasks.{IsTask}
 use Rattle.cert_check.specs.Checking.{IsHighEnough}
 use Rattle.cert_check.proofs.Lookups.{read_in}
-use Rattle.chain_cert.proofs.Prefixes.{take_next}
+use Rattle.chain_cert.proofs.CallerLemmas.{order_task, take_next}
 use Rattle.cert_check.proofs.Places.{order_rising}
-use Rattle.chain_cert.proofs.TaskSorting.{order_task}
 use Rattle.cert_check.proofs.levels.are_high_enough.Goals as goal
 
 pub is_high_enough-requires-clause-task : goal.is_high_enough-requires-clause-task

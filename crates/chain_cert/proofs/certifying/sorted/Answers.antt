@@ -1,6 +1,6 @@
 use Rattle.std.proofs.Common.{rules}
 use Rattle.ptg_base.specs.Task.{Task}
-use Rattle.run_answer.proofs.Sorting.{sorted_from_sort_by}
+use Rattle.run_answer.proofs.CallerLemmas.{sorted_from_sort_by}
 use Rattle.chain_cert.proofs.certifying.sorted.Goals as goal
 
 pub returns : goal.returns

@@ -3,7 +3,7 @@ use Rattle.std.specs.List.{filter}
 use Rattle.ptg_base.specs.Lists.{IsIn}
 use Rattle.dep_iter.specs.Tasks.{all_tasks}
 use Rattle.dep_iter.specs.Edges.{goal as edges_into}
-use Rattle.dep_iter.proofs.Listing.{listed}
+use Rattle.dep_iter.proofs.CallerLemmas.{listed}
 use Rattle.chain_cert.proofs.roots.roots_of.Goals as goal
 
 pub loop-t-init : goal.loop-t-init

@@ -1,5 +1,5 @@
 use Rattle.check_laws.proofs.Least.{first_is_one, none_is_before}
-use Rattle.type_rules.proofs.First.{first_append, first_none}
+use Rattle.type_rules.proofs.CallerLemmas.{first_append, first_none}
 use Rattle.check_laws.proofs.Ordered.{neither_is_before}
 use Rattle.check_laws.proofs.faults.the_first_fault_is_the_least.Goals as goal
 

@@ -1,5 +1,4 @@
-use Rattle.type_rules.proofs.Closed.{closed_option}
-use Rattle.type_rules.proofs.ClosedArguments.{closed_arguments, closed_indices, no_ranges}
+use Rattle.type_rules.proofs.CallerLemmas.{closed_arguments, closed_indices, closed_option, no_ranges}
 use Rattle.check_laws.proofs.resolved_parts.what_is_resolved_is_closed.Goals as goal
 
 pub returns-clause-arguments : goal.returns-clause-arguments

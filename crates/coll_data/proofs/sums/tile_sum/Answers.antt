@@ -9,10 +9,14 @@ sum_of-sum-requires c =
     let n = part_at_most (λ (tile : List ℤ). tile) c.args.tiles.now c.loop-tile.tile-index c.tile-item.result c.loop-tile-test.true c.tile-item.is in
     rw c.as_slice.ensures (omega (arith, c.requires))
 
-next : (c : goal.After-sum_of-sum) → IsSumOf (c.loop-tile.sum +ℤ c.sum_of-sum.result) (flat_map (λ (tile : List ℤ). tile) (take (c.loop-tile.tile-index + 1) c.args.tiles.now))
+next : (c : goal.After-sum_of-sum) → IsSumOf (c.loop-tile.sum +ℤ c.sum_of-sum.result)
+    (flat_map (λ (tile : List ℤ). tile) (take (c.loop-tile.tile-index + 1) c.args.tiles.now))
 next c =
-    next_sum (λ (tile : List ℤ). tile) c.args.tiles.now c.loop-tile.tile-index c.tile-item.result c.loop-tile.sum c.sum_of-sum.result c.loop-tile-test.true c.tile-item.is c.requires
-    (sym c.loop-tile.sum-is ∙ c.loop-tile.invariant.sum_so_far) (rw c.loop-tile.sum-is at c.loop-tile.invariant.bounds) (rw c.as_slice.ensures at c.sum_of-sum.ensures.sum) (rw c.as_slice.ensures at c.sum_of-sum.ensures.bounds)
+    next_sum (λ (tile : List ℤ). tile) c.args.tiles.now c.loop-tile.tile-index c.tile-item.result c.loop-tile.sum
+    c.sum_of-sum.result c.loop-tile-test.true c.tile-item.is c.requires
+    (sym c.loop-tile.sum-is ∙ c.loop-tile.invariant.sum_so_far)
+    (rw c.loop-tile.sum-is at c.loop-tile.invariant.bounds) (rw c.as_slice.ensures at c.sum_of-sum.ensures.sum)
+    (rw c.as_slice.ensures at c.sum_of-sum.ensures.bounds)
 
 pub overflow_add-sum : goal.overflow_add-sum
 overflow_add-sum c =

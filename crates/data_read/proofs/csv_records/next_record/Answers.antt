@@ -7,4 +7,6 @@ cause_of-requires c = of_reading c.args.reader.now c.read_byte_record.new.self c
 
 pub returns-in-Ok : goal.returns-in-Ok
 returns-in-Ok c = λ records has.
-    record_read c.args.reader.now c.read_byte_record.new.self records c.in-Ok.found (fields_of c.read_byte_record.new.row) has (c.in-Ok.ensures.ready has.untrimmed) c.in-Ok.ensures.flexible (c.in-Ok.ensures.reads has.untrimmed has.ready)
+    record_read c.args.reader.now c.read_byte_record.new.self records c.in-Ok.found
+    (fields_of c.read_byte_record.new.row) has (c.in-Ok.ensures.ready has.untrimmed) c.in-Ok.ensures.flexible
+    (c.in-Ok.ensures.reads has.untrimmed has.ready)

@@ -10,4 +10,6 @@ returns-clause-keyed c =
     let name = c.in_ok-name.name in
     int_keyed all.ints all.colls.items all.names c.requires name
     (no_meaning (coll_index name all.colls.items) (list_any (of_int name) all.ints) (sym c.is_new.ensures ∙ c.if-not-is_new.false))
-    c.in_ok-key.key _ c.in_ok-add.field-0 c.add.new.self c.push.new.self (c.in_ok-key.ensures ∙ sym c.in_ok-name.ensures) refl c.in_ok-add.ensures.added c.in_ok-add.ensures.entries c.in_ok-push.ensures.ok
+    c.in_ok-key.key _ c.in_ok-add.field-0 c.add.new.self c.push.new.self
+    (c.in_ok-key.ensures ∙ sym c.in_ok-name.ensures) refl c.in_ok-add.ensures.added c.in_ok-add.ensures.entries
+    c.in_ok-push.ensures.ok

@@ -11,7 +11,7 @@ use Rattle.data_read.specs.Draft.{with_tile}
 use Rattle.data_read.specs.Growing.{draft_of}
 use Rattle.ptg_base.specs.Returns.{and_then}
 use Rattle.data_read.specs.Records.{new_tile}
-use Rattle.ptg_base.proofs.Refusals.{refuses_before}
+use Rattle.ptg_base.proofs.CallerLemmas.{refuses_before}
 use Rattle.data_read.proofs.TileSteps.{same_read, tile_keyed, tile_step}
 use Rattle.data_read.proofs.tiles.add_tile.Goals as goal
 
@@ -26,7 +26,8 @@ returns-in_err-index-clause-step c =
     let enough : nat_le 4 (length fields) ≡ true = le-leb 4 (length fields) (omega (arith, c.if-len-lt4.false, c.len.ensures)) in
     let named = ap is_name (sym c.field-bytes.ensures) ∙ sym c.is_name.ensures ∙ c.if-not-is_name.false in
     let got = slice_get_read all.colls.items (length all.colls.items) at coll refl within c.index.ensures in
-    let step = tile_step (draft_of all) fields c.in_ok-name.name at coll enough named (c.in_ok-name.ensures ∙ c.field-bytes.ensures) (sym c.in-Some.ensures.index) got in
+    let step = tile_step (draft_of all) fields c.in_ok-name.name at coll enough named
+    (c.in_ok-name.ensures ∙ c.field-bytes.ensures) (sym c.in-Some.ensures.index) got in
     rw (p.1, p.2, step) (refuses_before c.in_err-index.field-0.0 (new_tile fields coll) _ c.in_err-index.ensures.tile)
 
 pub returns-clause-step : goal.returns-clause-step

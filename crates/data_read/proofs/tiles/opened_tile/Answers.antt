@@ -24,12 +24,16 @@ loop-k-preserved c =
     let values = drop c.args.first fields in
     let size = length-drop c.args.first fields in
     let same = ap without_blanks (get_or-drop c.args.first fields c.loop-k.k []) in
-    let one : whole (without_blanks (get_or values c.loop-k.k [])) ≡ Some c.in-Some.value = ap whole (same ∙ sym c.field.ensures) ∙ sym c.whole.ensures ∙ c.in-Some.is in
+    let one : whole (without_blanks (get_or values c.loop-k.k [])) ≡ Some c.in-Some.value =
+    ap whole (same ∙ sym c.field.ensures) ∙ sym c.whole.ensures ∙ c.in-Some.is in
     let kept : to_z w64 (of_z w64 c.in-Some.value) ≡ c.in-Some.value = search rules in
-    opening_more c.args.elements values c.loop-k.k c.in-Some.value c.loop-k.tile c.set.new.self (omega (arith, size, c.loop-k-test.true, c.len.ensures)) (omega (arith, size, c.requires.at_most)) c.loop-k.invariant one (c.set.ensures ∙ ap (λ y. set c.loop-k.tile c.loop-k.k y) kept)
+    opening_more c.args.elements values c.loop-k.k c.in-Some.value c.loop-k.tile c.set.new.self
+    (omega (arith, size, c.loop-k-test.true, c.len.ensures)) (omega (arith, size, c.requires.at_most))
+    c.loop-k.invariant one (c.set.ensures ∙ ap (λ y. set c.loop-k.tile c.loop-k.k y) kept)
 
 pub returns : goal.returns
 returns c =
     let fields = fields_of c.args.fields.now in
     let size = length-drop c.args.first fields in
-    opening_last c.args.elements (drop c.args.first fields) c.loop-k.tile c.loop-k.k c.loop-k.invariant (omega (arith, size, c.loop-k-test.false, c.len.ensures))
+    opening_last c.args.elements (drop c.args.first fields) c.loop-k.tile c.loop-k.k c.loop-k.invariant
+    (omega (arith, size, c.loop-k-test.false, c.len.ensures))

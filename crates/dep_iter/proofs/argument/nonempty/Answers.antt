@@ -2,7 +2,7 @@ use Rattle.std.proofs.Common.{[], ap, sym, ◌∙◌, List, ℤ, Result}
 use Rattle.std.proofs.lemmas.Bool.{not-true}
 use Rattle.std.specs.Result.{result_unwrap_or}
 use Rattle.range_space.specs.declared.fault.SpanFault.{SpanFault}
-use Rattle.range_space.proofs.Stepping.{values_past}
+use Rattle.range_space.proofs.CallerLemmas.{values_past}
 use Rattle.dep_iter.proofs.argument.nonempty.Goals as goal
 
 pub returns-then-is_empty : goal.returns-then-is_empty

@@ -1,5 +1,5 @@
 use Rattle.std.proofs.Common.{◌≡◌, ap, sym, ◌∙◌, length, slice_get, Some, arith}
-use Rattle.range_space.proofs.MemberLists.{arity_of_task}
+use Rattle.range_space.proofs.CallerLemmas.{arity_of_task}
 use Rattle.dep_iter.proofs.task.space_for.Goals as goal
 
 pub returns-else-as_slice-params : goal.returns-else-as_slice-params

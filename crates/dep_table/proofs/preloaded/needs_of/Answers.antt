@@ -5,7 +5,7 @@ use Rattle.shard_meaning.specs.Placing.{shard_of}
 use Rattle.dep_table.specs.Needs.{AreNeedsOf, CanCountEach}
 use Rattle.dep_table.proofs.NeedsRoom.{room_all, room_first}
 use Rattle.dep_table.proofs.NeedsSteps.{needs_more, no_task}
-use Rattle.shard_calls.proofs.TaskWalks.{IsSoFar, begun, next_task, whole}
+use Rattle.shard_calls.proofs.CallerLemmas.{IsSoFar, begun, next_task, whole}
 use Rattle.dep_table.proofs.preloaded.needs_of.Goals as goal
 
 pub loop-t-init : goal.loop-t-init

@@ -1,7 +1,7 @@
 use Rattle.std.proofs.Common.{◌≡◌, length}
 use Rattle.shard_meaning.specs.Placing.{shard_of}
 use Rattle.dep_table.specs.Needs.{AreNeedsOf, CanCountEach, HaveTypes}
-use Rattle.shard_calls.proofs.TaskWalks.{IsSoFar}
+use Rattle.shard_calls.proofs.CallerLemmas.{IsSoFar}
 use Rattle.dep_table.proofs.preloaded.needs_of.Given as goal
 
 abbrev pub invariant-loop-t : goal.invariant-loop-t

@@ -6,7 +6,7 @@ use Rattle.term_core.specs.Kinds.{is_data}
 use Rattle.term_core.specs.declared.direction.Direction.TheVariants.{In}
 use Rattle.dep_iter.specs.Tasks.{flows_of}
 use Rattle.dep_iter.specs.Well.{are_well, is_well_flow}
-use Rattle.dep_iter.proofs.Belonging.{before-no_dependences}
+use Rattle.dep_iter.proofs.CallerLemmas.{before-no_dependences}
 use Rattle.edge_match.specs.Flows.{HasSoundSource}
 use Rattle.edge_match.proofs.SentItems.{sent_nothing}
 use Rattle.edge_match.proofs.TaskFlows.{source-is}

@@ -1,4 +1,4 @@
-use Rattle.goal_count.proofs.WellFlows.{well_flows}
+use Rattle.goal_count.proofs.CallerLemmas.{well_flows}
 use Rattle.list_lemmas.proofs.Truth.{on_true_weaker}
 use Rattle.edge_match.proofs.Walking.{went_one}
 use Rattle.edge_match.proofs.accepting_tasks.accept_task.Goals as goal

@@ -3,7 +3,7 @@ use Rattle.std.specs.List.{flat_map}
 use Rattle.list_lemmas.proofs.Truth.{on_true_weaker}
 use Rattle.dep_iter.specs.Active.{held_targets}
 use Rattle.dep_iter.specs.Items.{items_to}
-use Rattle.dep_iter.proofs.Belonging.{held-more, held-none}
+use Rattle.dep_iter.proofs.CallerLemmas.{held-more, held-none}
 use Rattle.edge_match.proofs.SentItems.{sent_append}
 use Rattle.edge_match.proofs.sending.+send_all.Goals as goal
 

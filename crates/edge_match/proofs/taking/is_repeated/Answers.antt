@@ -3,7 +3,7 @@ use Rattle.std.proofs.lemmas.Bool.{false≢true}
 use Rattle.term_core.specs.declared.direction.Direction.TheVariants.{In}
 use Rattle.ptg_base.specs.Lists.{IsIn}
 use Rattle.dep_iter.specs.Edges.{in_edges_before}
-use Rattle.dep_iter.proofs.Belonging.{before-no_dependences}
+use Rattle.dep_iter.proofs.CallerLemmas.{before-no_dependences}
 use Rattle.edge_match.specs.Tallies.{plan_of, task_of}
 use Rattle.edge_match.proofs.taking.is_repeated.Goals as goal
 

@@ -1,5 +1,5 @@
 use Rattle.std.proofs.Common.{refl}
-use Rattle.dep_iter.proofs.Directed.{fit_of}
+use Rattle.dep_iter.proofs.CallerLemmas.{fit_of}
 use Rattle.edge_walk.proofs.position.enter.Goals as goal
 
 pub returns-clause-targets : goal.returns-clause-targets

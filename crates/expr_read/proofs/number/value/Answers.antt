@@ -1,7 +1,7 @@
 use Rattle.std.proofs.Common.{◌≡◌, ◌≤◌, false, pos, refl, sym, ap, ◌∙◌, arith, w64}
 use Rattle.std.proofs.lemmas.Int.{to_z_pos}
 use Rattle.jdf_tree.specs.Numbers.{has_leading_zero, is_number}
-use Rattle.jdf_tree.proofs.Numbers.{decimal_parts}
+use Rattle.jdf_tree.proofs.CallerLemmas.{decimal_parts}
 use Rattle.expr_read.proofs.number.value.Goals as goal
 
 -- the number is within the limit

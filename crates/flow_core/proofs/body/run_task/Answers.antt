@@ -2,8 +2,7 @@ use Rattle.std.proofs.Common.{◌≡◌, [], length, ap, sym, subst, ◌∙◌, 
 use Rattle.std.specs.Option.{option_map_or}
 use Rattle.term_core.specs.WellBody.{IsWellBody}
 use Rattle.plan_core.specs.declared.class.ClassPlan.{ClassPlan}
-use Rattle.flow_meaning.proofs.SourceEdges.{class_of}
-use Rattle.flow_meaning.proofs.Starting.{length-locals_of}
+use Rattle.flow_meaning.proofs.CallerLemmas.{class_of, length-locals_of}
 use Rattle.flow_core.proofs.body.run_task.Goals as goal
 
 pub run_body-requires : goal.run_body-requires

@@ -1,7 +1,7 @@
 use Rattle.std.proofs.Common.{◌≡◌, suc, ap, sym, ◌∙◌, None, slice_set}
 use Rattle.ptg_base.specs.declared.edge.Edge.{Edge}
 use Rattle.ptg_base.specs.declared.edge.Item.TheVariants as item
-use Rattle.dep_iter.proofs.Items.{Edge-injective}
+use Rattle.dep_iter.proofs.CallerLemmas.{Edge-injective}
 use Rattle.flow_meaning.specs.Machine.{first_tile, sent_tile}
 use Rattle.flow_meaning.specs.Starting.{starting_tile, tiles_from, nothing_delivered}
 use Rattle.flow_core.specs.Inputs.{edge_into}

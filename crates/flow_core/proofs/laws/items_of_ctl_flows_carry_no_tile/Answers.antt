@@ -3,7 +3,7 @@ use Rattle.dep_iter.specs.Edges.{data_source}
 use Rattle.dep_iter.specs.Items.{item_flow}
 use Rattle.flow_meaning.specs.Ending.{output_tile, size_from}
 use Rattle.flow_meaning.specs.Machine.{sender}
-use Rattle.flow_meaning.proofs.Sizes.{ended_sized, with_tiles}
+use Rattle.flow_meaning.proofs.CallerLemmas.{ended_sized, with_tiles}
 use Rattle.flow_core.proofs.laws.items_of_ctl_flows_carry_no_tile.Goals as goal
 use Rattle.list_lemmas.proofs.Options.{none_from_option_map}
 

@@ -38,8 +38,11 @@ returns-in_err-add_token-clause-refused c = λ f is.
     let same : c.in_err-add_token.field-0.0 ≡ Fault f = sym exit.2 ∙ same_Err exit.0 (Fault f) whole in
     let refused = c.in_err-add_token.ensures.refused f (ap (λ e. Err e) same) in
     let found = found_at text c.args.here.index (found_unit c.in-Some.unit c.in-Some.len) (sym c.in-Some.is ∙ c.front_unit.ensures) in
-    let token : front_unit (drop c.args.here.index text) ≡ found_unit (TokenOf c.in-TokenOf.kind) c.in-Some.len = sym found ∙ ap (λ p. found_unit p c.in-Some.len) c.in-TokenOf.is in
-    subst (λ g. IsTokenFault text g) (sym refused.0) (fault_many text c.args.tokens.now c.args.here c.in-TokenOf.kind c.in-Some.len c.requires.scanned token refused.1)
+    let token : front_unit (drop c.args.here.index text) ≡ found_unit (TokenOf c.in-TokenOf.kind) c.in-Some.len =
+    sym found ∙ ap (λ p. found_unit p c.in-Some.len) c.in-TokenOf.is in
+    subst (λ g. IsTokenFault text g) (sym refused.0)
+    (fault_many text c.args.tokens.now c.args.here c.in-TokenOf.kind c.in-Some.len c.requires.scanned token
+    refused.1)
 
 pub returns-in-TokenOf-clause-progress : goal.returns-in-TokenOf-clause-progress
 returns-in-TokenOf-clause-progress c =
@@ -51,7 +54,8 @@ pub returns-in-TokenOf-clause-scanned : goal.returns-in-TokenOf-clause-scanned
 returns-in-TokenOf-clause-scanned c =
     let text = c.args.text.now in
     let found = found_at text c.args.here.index (found_unit c.in-Some.unit c.in-Some.len) (sym c.in-Some.is ∙ c.front_unit.ensures) in
-    let token : front_unit (drop c.args.here.index text) ≡ found_unit (TokenOf c.in-TokenOf.kind) c.in-Some.len = sym found ∙ ap (λ p. found_unit p c.in-Some.len) c.in-TokenOf.is in
+    let token : front_unit (drop c.args.here.index text) ≡ found_unit (TokenOf c.in-TokenOf.kind) c.in-Some.len =
+    sym found ∙ ap (λ p. found_unit p c.in-Some.len) c.in-TokenOf.is in
     scanned_token text c.args.tokens.now c.add_token.new.tokens c.args.here c.advance-next.result c.in-TokenOf.kind c.in-Some.len c.requires.scanned token
     c.in_ok-add_token.ensures.at_most c.in_ok-add_token.ensures.added c.advance-next.ensures.cursor c.advance-next.ensures.index
 

@@ -9,7 +9,8 @@ use Rattle.jdf_lex.proofs.Uniqueness.{one_list, one_fault, no_fault}
 use Rattle.jdf_lex.proofs.lex.tokens.Goals as goal
 
 -- the result for a text is only its tokens or its first fault, or out of memory
-module _ (text : List ℕ) (result : Result Lexed (Refusal JdfFault)) (found : IfOk result (IsTokensOf text)) (fault : (f : JdfFault) → result ≡ Err (Fault f) → IsTokenFault text f) where
+module _ (text : List ℕ) (result : Result Lexed (Refusal JdfFault)) (found : IfOk result (IsTokensOf text))
+    (fault : (f : JdfFault) → result ≡ Err (Fault f) → IsTokenFault text f) where
   -- If the text has tokens, the result is these or out of memory: there is one list, and a text with a fault has none.
   only_from : (lexed : Lexed) → IsTokensOf text lexed → (result ≡ Ok lexed) ⊎ (result ≡ Err OutOfMemory)
   only_from lexed is = from result found fault

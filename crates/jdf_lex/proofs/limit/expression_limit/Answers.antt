@@ -29,7 +29,9 @@ loop-index-preserved c =
             at_most = omega arith;
             left = omega arith;
             same =
-                rw w.counted-is (one_counted (set is_counted) c.args.tokens.now 512 128 c.loop-index.index (128 - c.loop-index.counted) i.same d c.loop-index-test.true (128 - (c.loop-index.counted + 1)) (omega arith)
+                rw w.counted-is (one_counted (set is_counted) c.args.tokens.now 512 128 c.loop-index.index
+                (128 - c.loop-index.counted) i.same d c.loop-index-test.true (128 - (c.loop-index.counted + 1))
+                (omega arith)
                 (found _ _ _ _ _ c.index-tokens-index.is c.of.ensures c.is_counted.ensures w.if-is_counted.true));
           }
       | else-is_counted w ↦
@@ -37,7 +39,8 @@ loop-index-preserved c =
             at_most = omega arith;
             left = omega arith;
             same =
-                rw w.counted-is (one_passed (set is_counted) c.args.tokens.now 512 128 c.loop-index.index (128 - c.loop-index.counted) i.same d c.loop-index-test.true
+                rw w.counted-is (one_passed (set is_counted) c.args.tokens.now 512 128 c.loop-index.index
+                (128 - c.loop-index.counted) i.same d c.loop-index-test.true
                 (found _ _ _ _ _ c.index-tokens-index.is c.of.ensures c.is_counted.ensures w.if-is_counted.false));
           }
     ]

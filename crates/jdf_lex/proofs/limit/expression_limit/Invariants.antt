@@ -9,5 +9,6 @@ abbrev pub invariant-loop-index : goal.invariant-loop-index
 invariant-loop-index l = record {
   at_most : l.index ≤ 512;
   left : l.counted ≤ 128;
-  same : get_or (token_indices (set is_counted) l.index (drop l.index l.tokens)) (128 - l.counted) 512 ≡ get_or (token_indices (set is_counted) 0 l.tokens) 128 512;
+  same : get_or (token_indices (set is_counted) l.index (drop l.index l.tokens)) (128 - l.counted) 512
+      ≡ get_or (token_indices (set is_counted) 0 l.tokens) 128 512;
 }

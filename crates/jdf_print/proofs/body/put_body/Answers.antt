@@ -13,5 +13,6 @@ returns c =
     let x = c.in-Some.first.now in
     let put_first = c.in_ok-put.ensures ∙ ap (λ (w : List ℕ). old ++ w) (c.bytes.ensures ∙ sym (append-nil x.text)) in
     IfOk-equal _ _ _ _ c.put-2.ensures
-    (line_written (space ∷ []) (λ (t : Token). token t.text ∷ []) x c.in-Some.later.now old c.put.new.out c.put_later.new.out put_first c.in_ok-put_later.ensures
+    (line_written (space ∷ []) (λ (t : Token). token t.text ∷ []) x c.in-Some.later.now old c.put.new.out
+    c.put_later.new.out put_first c.in_ok-put_later.ensures
     ∙ ap (λ (w : List Token). old ++ text (body w)) (sym c.in-Some.ensures.cases.0))

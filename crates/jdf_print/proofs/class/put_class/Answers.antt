@@ -13,7 +13,8 @@ pub returns : goal.returns
 returns c =
     let k = c.args.c.now in
     IfOk-equal _ _ _ _ c.put-3.ensures
-    (class_written c.args.out.now c.put.new.out c.put_head.new.out c.put_definitions.new.out c.put_affinity.new.out c.put_flows.new.out c.put_priority.new.out c.put-2.new.out c.put_body.new.out
+    (class_written c.args.out.now c.put.new.out c.put_head.new.out c.put_definitions.new.out c.put_affinity.new.out
+    c.put_flows.new.out c.put_priority.new.out c.put-2.new.out c.put_body.new.out
     (head k) (flat_map definition k.defs) (affinity k) (flat_map flow k.flows) (priority k.priority) (body k.body)
     c.in_ok-put.ensures c.in_ok-put_head.ensures
     (c.in_ok-put_definitions.ensures ∙ ap (λ (w : List DefTree). c.put_head.new.out ++ text (flat_map definition w)) c.as_slice.ensures)

@@ -1,7 +1,7 @@
 use Rattle.std.proofs.Common.{refl, ◌∙◌, rules}
 use Rattle.ptg_base.specs.Returns.{ReturnsRefusal}
 use Rattle.grammar_core.specs.Reading.{reading}
-use Rattle.grammar_core.proofs.Loops.{fails_before}
+use Rattle.grammar_core.proofs.CallerLemmas.{fails_before}
 use Rattle.jdf_tree.specs.Grammar.{productions, class_and_skips}
 use Rattle.jdf_read.proofs.Skips.{class_and_skips_reads}
 use Rattle.jdf_read.proofs.class.class_and_skips.Goals as goal
@@ -11,10 +11,12 @@ returns c = class_and_skips_reads c.args.tokens.now ∙ rw (c.in_ok-class.ensure
 
 pub returns-in_err-class : goal.returns-in_err-class
 returns-in_err-class c =
-    let fails : ReturnsRefusal c.in_err-class.field-0.0 (reading productions class_and_skips c.args.tokens.now) = rw class_and_skips_reads (fails_before _ _ _ c.in_err-class.ensures) in
+    let fails : ReturnsRefusal c.in_err-class.field-0.0 (reading productions class_and_skips c.args.tokens.now) =
+    rw class_and_skips_reads (fails_before _ _ _ c.in_err-class.ensures) in
     search rules
 
 pub returns-in_err-rest : goal.returns-in_err-rest
 returns-in_err-rest c =
-    let fails : ReturnsRefusal c.in_err-rest.field-0.0 (reading productions class_and_skips c.args.tokens.now) = rw (class_and_skips_reads, c.in_ok-class.ensures) (fails_before _ _ _ c.in_err-rest.ensures) in
+    let fails : ReturnsRefusal c.in_err-rest.field-0.0 (reading productions class_and_skips c.args.tokens.now) =
+    rw (class_and_skips_reads, c.in_ok-class.ensures) (fails_before _ _ _ c.in_err-rest.ensures) in
     search rules

@@ -1,7 +1,7 @@
 use Rattle.std.proofs.Common.{◌≡◌, ◌-◌, ◌≤◌, length}
 use Rattle.jdf_lex.specs.Codes.{TooManyClasses}
 use Rattle.grammar_core.specs.Reading.{reading}
-use Rattle.grammar_core.proofs.Loops.{so_far}
+use Rattle.grammar_core.proofs.CallerLemmas.{so_far}
 use Rattle.jdf_tree.specs.Grammar.{productions, class_and_skips, classes}
 use Rattle.jdf_read.proofs.ListSteps.{counted}
 use Rattle.jdf_read.proofs.class.classes.Given as goal

@@ -6,7 +6,7 @@ use Rattle.grammar_core.specs.Reading.{reading}
 use Rattle.grammar_core.specs.Refusing.{ReadRefusal, fault_with}
 use Rattle.jdf_tree.specs.ClassGrammar.{dependence, dependences}
 use Rattle.jdf_tree.specs.Grammar.{productions}
-use Rattle.jdf_tree.proofs.Lists.{list_moves}
+use Rattle.jdf_tree.proofs.CallerLemmas.{list_moves}
 use Rattle.jdf_read.proofs.ListSteps.{counted_goes_on, counted_fails, counted_is_full, counted_ends}
 use Rattle.jdf_read.proofs.Counts.{room_left, still_within, none_within}
 use Rattle.jdf_read.proofs.Listed.{dependences_listed, dependences_begin}
@@ -24,21 +24,29 @@ more-preserved c =
     let room = room_left 16 (length c.more.list) c.len.result c.len.ensures c.if-len-eq-MOST_DEPENDENCES.false c.more.invariant.at_most in
     let up = length_longer c.more.list c.push.new.self c.in_ok-next.next c.in_ok-push.ensures.ok in
     record {
-      reads = counted_goes_on 16 TooManyDeps (length c.more.list) (length c.push.new.self) c.more.list c.more.rest.now c.in_ok-next.next c.in_ok-next.after.now _ c.push.new.self dependences_listed c.in_ok-push.ensures.ok room up (sym c.is_arrow_next.ensures ∙ c.more-test.true) c.in_ok-next.ensures c.more.invariant.reads;
+      reads = counted_goes_on 16 TooManyDeps (length c.more.list) (length c.push.new.self) c.more.list
+          c.more.rest.now c.in_ok-next.next c.in_ok-next.after.now _ c.push.new.self dependences_listed
+          c.in_ok-push.ensures.ok room up (sym c.is_arrow_next.ensures ∙ c.more-test.true) c.in_ok-next.ensures
+          c.more.invariant.reads;
       at_most = still_within 16 (length c.more.list) (length c.push.new.self) room up;
     }
 
 pub returns : goal.returns
-returns c = counted_ends 16 TooManyDeps (length c.more.list) c.more.list c.more.rest.now _ dependences_listed (sym c.is_arrow_next.ensures ∙ c.more-test.false) c.more.invariant.reads
+returns c = counted_ends 16 TooManyDeps (length c.more.list) c.more.list c.more.rest.now _ dependences_listed
+    (sym c.is_arrow_next.ensures ∙ c.more-test.false) c.more.invariant.reads
 
 pub returns-in_err-next : goal.returns-in_err-next
 returns-in_err-next c =
     let room = room_left 16 (length c.more.list) c.len.result c.len.ensures c.if-len-eq-MOST_DEPENDENCES.false c.more.invariant.at_most in
-    let fails = counted_fails 16 TooManyDeps c.in_err-next.field-0.0 (length c.more.list) c.more.list c.more.rest.now _ dependences_listed room (sym c.is_arrow_next.ensures ∙ c.more-test.true) c.in_err-next.ensures c.more.invariant.reads in
+    let fails = counted_fails 16 TooManyDeps c.in_err-next.field-0.0 (length c.more.list) c.more.list
+    c.more.rest.now _ dependences_listed room (sym c.is_arrow_next.ensures ∙ c.more-test.true)
+    c.in_err-next.ensures c.more.invariant.reads in
     search rules
 
 pub returns-then-len-eq-MOST_DEPENDENCES : goal.returns-then-len-eq-MOST_DEPENDENCES
 returns-then-len-eq-MOST_DEPENDENCES c =
     subst (λ (e : ReadRefusal). ReturnsRefusal e (reading productions dependences c.args.tokens.now))
     (sym (c.refusal_at.ensures ∙ ap (λ (d : Code). fault_with (length c.more.rest.now) d) c.code.ensures))
-    (counted_is_full 16 TooManyDeps (length c.more.list) c.more.list c.more.rest.now _ dependences_listed (sym c.len.ensures ∙ c.if-len-eq-MOST_DEPENDENCES.true) (sym c.is_arrow_next.ensures ∙ c.more-test.true) c.more.invariant.reads)
+    (counted_is_full 16 TooManyDeps (length c.more.list) c.more.list c.more.rest.now _ dependences_listed
+    (sym c.len.ensures ∙ c.if-len-eq-MOST_DEPENDENCES.true) (sym c.is_arrow_next.ensures ∙ c.more-test.true)
+    c.more.invariant.reads)

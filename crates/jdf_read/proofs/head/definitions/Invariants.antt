@@ -1,7 +1,7 @@
 use Rattle.std.proofs.Common.{◌≡◌, ◌≤◌, length}
 use Rattle.jdf_lex.specs.Codes.{TooManyLocals}
 use Rattle.grammar_core.specs.Reading.{reading}
-use Rattle.grammar_core.proofs.Loops.{so_far}
+use Rattle.grammar_core.proofs.CallerLemmas.{so_far}
 use Rattle.jdf_tree.specs.ClassGrammar.{definition, definitions}
 use Rattle.jdf_tree.specs.Grammar.{productions}
 use Rattle.jdf_read.proofs.ListSteps.{counted}

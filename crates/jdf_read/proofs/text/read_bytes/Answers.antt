@@ -6,5 +6,6 @@ use Rattle.jdf_read.proofs.text.read_bytes.Goals as goal
 
 pub returns-in-Err-clause-fault : goal.returns-in-Err-clause-fault
 returns-in-Err-clause-fault c f e =
-    let fault = no_utf8_at c.args.bytes.now c.valid_up_to.result _ c.spot_after.result (omega arith) c.in-Err.ensures.cases.1 c.valid_up_to.ensures c.spot_after.ensures in
+    let fault = no_utf8_at c.args.bytes.now c.valid_up_to.result _ c.spot_after.result (omega arith)
+    c.in-Err.ensures.cases.1 c.valid_up_to.ensures c.spot_after.ensures in
     subst (λ (g : JdfFault). IsJdfFault c.args.bytes.now g) (same_fault _ f e) fault

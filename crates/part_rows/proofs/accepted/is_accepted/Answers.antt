@@ -1,6 +1,6 @@
 use Rattle.std.proofs.Common.{slice_index_or}
 use Rattle.std.proofs.lemmas.Option.{slice_get-get_or}
-use Rattle.dep_iter.proofs.Once.{well_space}
+use Rattle.dep_iter.proofs.CallerLemmas.{well_space}
 use Rattle.part_rows.proofs.accepted.is_accepted.Goals as goal
 
 pub space_size-requires-clause-defs_at_most : goal.space_size-requires-clause-defs_at_most

@@ -1,7 +1,8 @@
 use Rattle.std.proofs.Common.{inl, inr, arith, refl}
 use Rattle.ptg_base.proofs.DecimalDigits.{begins, no_digits, bad_digit, too_large, all_fit}
 use Rattle.ptg_base.proofs.digits.decimal.Goals as goal
-use Rattle.ptg_base.proofs.digits.decimal.Goals.{then-byte-lt48-via-then-byte-lt48, then-byte-lt48-via-else-byte-lt48+then-byte-gt57, then-digit-most-via-then-digit-most, then-digit-most-via-else-digit-most+then-value-most}
+use Rattle.ptg_base.proofs.digits.decimal.Goals.{then-byte-lt48-via-then-byte-lt48, then-byte-lt48-via-else-byte-lt48+then-byte-gt57}
+use Rattle.ptg_base.proofs.digits.decimal.Goals.{then-digit-most-via-then-digit-most, then-digit-most-via-else-digit-most+then-value-most}
 
 pub returns-then-is_empty : goal.returns-then-is_empty
 returns-then-is_empty c = no_digits c.args.most c.args.text.now (grind arith)
@@ -27,4 +28,6 @@ returns-then-digit-most c =
 
 pub returns : goal.returns
 returns c =
-    all_fit c.args.most c.args.text.now c.loop-byte.byte-index c.loop-byte.value (grind arith) c.loop-byte.invariant.same c.loop-byte.invariant.digits (omega (arith, c.loop-byte-test.false)) c.loop-byte.invariant.fits
+    all_fit c.args.most c.args.text.now c.loop-byte.byte-index c.loop-byte.value (grind arith)
+    c.loop-byte.invariant.same c.loop-byte.invariant.digits (omega (arith, c.loop-byte-test.false))
+    c.loop-byte.invariant.fits

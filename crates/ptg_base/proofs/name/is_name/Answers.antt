@@ -10,5 +10,7 @@ name_of field b bs r is letter all = all ∙ sym (ap (λ t. t && list_all is_par
 
 pub returns-then-is_letter : goal.returns-then-is_letter
 returns-then-is_letter c =
-    let rest : c.all.result ≡ list_all is_part c.in-Some.bs.now = all_from_yields_List is_part _ _ _ c.all.ensures.ran (YieldsList-from_slice c.in-Some.bs.now cc) (λ x b q k. search (rules, tests)) in
+    let rest : c.all.result ≡ list_all is_part c.in-Some.bs.now =
+    all_from_yields_List is_part _ _ _ c.all.ensures.ran (YieldsList-from_slice c.in-Some.bs.now cc)
+    (λ x b q k. search (rules, tests)) in
     name_of c.args.bytes.now c.in-Some.b.now c.in-Some.bs.now c.all.result (search rules) (sym c.is_letter.ensures ∙ c.if-is_letter.true) rest

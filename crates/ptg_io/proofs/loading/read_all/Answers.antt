@@ -11,7 +11,13 @@ pub pieces-preserved : goal.pieces-preserved
 pieces-preserved g c =
     let read = c.in_ok-read_piece.ensures.read in
     let adds = c.in_ok-read_piece.ensures.adds in
-    let some : 0 < length adds.0 = added_some _ _ adds.0 adds.1 (omega (arith, c.in_ok-read_piece.ensures.more c.if-not-branch.false, c.pieces.bytes.ok.0, c.read_piece.new.bytes.ok.0)) in
+    let some : 0 < length adds.0 = added_some _ _ adds.0 adds.1
+    (omega (
+      arith,
+      c.in_ok-read_piece.ensures.more c.if-not-branch.false,
+      c.pieces.bytes.ok.0,
+      c.read_piece.new.bytes.ok.0,
+    )) in
     record {
       stays = c.read_piece.ensures.stays ∙ c.pieces.invariant.stays;
       grows = λ other. omega (arith, c.pieces.invariant.grows other, c.read_piece.ensures.grows other);
@@ -21,7 +27,8 @@ pieces-preserved g c =
       given = one_more_given _ _ _ adds.0 _ _ _ c.pieces.invariant.given adds.2 adds.1 some;
       pieces =
           more_pieces _ _ _ _ c.pieces.invariant.pieces
-          (subst (λ (t : Option NamedFiles). AddsPieces t (g.F.Files.reads c.pieces.files) (g.F.Files.reads c.read_piece.new.files)) c.pieces.invariant.stays c.read_piece.ensures.pieces);
+          (subst (λ (t : Option NamedFiles). AddsPieces t (g.F.Files.reads c.pieces.files)
+          (g.F.Files.reads c.read_piece.new.files)) c.pieces.invariant.stays c.read_piece.ensures.pieces);
       so_far = c.in_ok-read_piece.ensures.still;
     }
 
@@ -39,14 +46,17 @@ returns-in_err-read_piece-clause-begun g c not =
 pub returns-in_err-read_piece-clause-pieces : goal.returns-in_err-read_piece-clause-pieces
 returns-in_err-read_piece-clause-pieces g c =
     more_pieces _ _ _ _ c.pieces.invariant.pieces
-    (subst (λ (t : Option NamedFiles). AddsPieces t (g.F.Files.reads c.pieces.files) (g.F.Files.reads c.read_piece.new.files)) c.pieces.invariant.stays c.read_piece.ensures.pieces)
+    (subst (λ (t : Option NamedFiles). AddsPieces t (g.F.Files.reads c.pieces.files)
+    (g.F.Files.reads c.read_piece.new.files)) c.pieces.invariant.stays c.read_piece.ensures.pieces)
 
 pub returns-then-not-branch-clause-loaded : goal.returns-then-not-branch-clause-loaded
 returns-then-not-branch-clause-loaded g c =
     let adds = c.in_ok-read_piece.ensures.adds in
-    loaded_to_the_end _ _ _ _ adds.0 _ _ c.pieces.invariant.given (omega (arith, c.pieces.bytes.ok.0)) adds.2 adds.1 (c.in_ok-read_piece.ensures.none_more c.if-not-branch.true)
+    loaded_to_the_end _ _ _ _ adds.0 _ _ c.pieces.invariant.given (omega (arith, c.pieces.bytes.ok.0)) adds.2 adds.1
+    (c.in_ok-read_piece.ensures.none_more c.if-not-branch.true)
 
 pub returns-then-not-branch-clause-pieces : goal.returns-then-not-branch-clause-pieces
 returns-then-not-branch-clause-pieces g c =
     more_pieces _ _ _ _ c.pieces.invariant.pieces
-    (subst (λ (t : Option NamedFiles). AddsPieces t (g.F.Files.reads c.pieces.files) (g.F.Files.reads c.read_piece.new.files)) c.pieces.invariant.stays c.read_piece.ensures.pieces)
+    (subst (λ (t : Option NamedFiles). AddsPieces t (g.F.Files.reads c.pieces.files)
+    (g.F.Files.reads c.read_piece.new.files)) c.pieces.invariant.stays c.read_piece.ensures.pieces)

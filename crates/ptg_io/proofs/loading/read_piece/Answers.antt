@@ -18,6 +18,7 @@ returns-clause-still g c files file contents is =
     let same : p.0 ≡ file = cc in
     let so_far = c.requires.so_far files file told_before is in
     let piece : IsPiece file c.len.result c.in_ok-n.n c.read.new.into = subst (λ (f : List ℕ). IsPiece f c.len.result c.in_ok-n.n c.read.new.into) same p.2 in
-    let grown : c.extend_from_slice.new.self.items ≡ c.args.bytes.now.items ++ take c.in_ok-n.n c.read.new.into = grind (arith, c.in_ok-extend_from_slice.ensures.items) in
+    let grown : c.extend_from_slice.new.self.items ≡ c.args.bytes.now.items ++ take c.in_ok-n.n c.read.new.into =
+    grind (arith, c.in_ok-extend_from_slice.ensures.items) in
     let start : c.len.result ≡ length c.args.bytes.now.items = omega (arith, c.args.bytes.now.ok.0) in
     more_so_far _ _ file _ _ _ grown start so_far c.in_ok-n.ensures.within piece.piece

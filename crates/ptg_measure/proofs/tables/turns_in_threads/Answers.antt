@@ -1,6 +1,6 @@
 use denote.Param.Send.{sendable}
 use Rattle.std.proofs.Crossing.{crosses}
-use Rattle.dep_table.proofs.Sharing.{pass_send, table_sync}
+use Rattle.dep_table.proofs.CallerLemmas.{pass_send, table_sync}
 use Rattle.ptg_measure.proofs.tables.turns_in_threads.Goals as goal
 
 pub map_vec-requires-send-J : goal.map_vec-requires-send-J

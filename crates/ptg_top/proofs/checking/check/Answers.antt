@@ -1,6 +1,6 @@
 use Rattle.std.proofs.Common.{Result, subst, sym}
 use Rattle.std.specs.Prelude.{Option, IfOk, IfErr}
-use Rattle.ptg_io.proofs.Loads.{more_pieces}
+use Rattle.ptg_io.proofs.CallerLemmas.{more_pieces}
 use Rattle.ptg_io.specs.Reads.{AddsPieces}
 use Rattle.jdf_tree.specs.declared.tree.Jdf.{Jdf}
 use Rattle.ptg_top.specs.declared.command.Source.{Source}

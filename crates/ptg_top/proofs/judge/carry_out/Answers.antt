@@ -1,6 +1,6 @@
 use Rattle.std.proofs.Common.{subst, sym}
 use Rattle.std.specs.Prelude.{IfOk, Option}
-use Rattle.ptg_io.proofs.Loads.{more_pieces}
+use Rattle.ptg_io.proofs.CallerLemmas.{more_pieces}
 use Rattle.ptg_io.specs.Reads.{AddsPieces}
 use Rattle.ptg_top.specs.declared.command.Command.{Command}
 use Rattle.ptg_top.specs.Commands.{files_of_steps}

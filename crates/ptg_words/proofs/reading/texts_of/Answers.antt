@@ -12,7 +12,8 @@ loop-word-preserved c =
     let d = c.word-item.result in
     let proper = c.in_ok-proper.ensures in
     record {
-      same = texts_more c.loop-word.words.items c.push.new.self.items list i d c.in_ok-proper.field-0 c.in_ok-push.ensures.items c.loop-word.invariant.same c.loop-word-test.true (proper.0 ∙ c.word-item.is);
+      same = texts_more c.loop-word.words.items c.push.new.self.items list i d c.in_ok-proper.field-0
+          c.in_ok-push.ensures.items c.loop-word.invariant.same c.loop-word-test.true (proper.0 ∙ c.word-item.is);
       proper = proper_more list i d c.loop-word.invariant.proper c.loop-word-test.true (subst IsProper c.word-item.is proper.1);
     }
 

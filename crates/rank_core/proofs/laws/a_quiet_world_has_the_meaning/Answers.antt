@@ -1,5 +1,4 @@
-use Rattle.flow_meaning.proofs.Answered.{answer_same}
-use Rattle.flow_meaning.proofs.Once.{claims_members}
+use Rattle.flow_meaning.proofs.CallerLemmas.{answer_same, claims_members}
 use Rattle.rank_core.proofs.Messages.{messages_counted}
 use Rattle.rank_core.proofs.Quiet.{quiet_iff}
 use Rattle.rank_core.proofs.laws.a_quiet_world_has_the_meaning.Goals as goal

@@ -1,4 +1,4 @@
-use Rattle.flow_meaning.proofs.Events.{has_inputs, it_ends}
+use Rattle.flow_meaning.proofs.CallerLemmas.{has_inputs, it_ends}
 use Rattle.rank_core.proofs.Happening.{fed, run_ends}
 use Rattle.rank_core.proofs.laws.a_task_runs_on_its_inputs.Goals as goal
 

@@ -2,8 +2,8 @@ use Rattle.std.proofs.Common.{IfSome, ap, subst, sym, ◌∙◌}
 use Rattle.plan_data.specs.Fit.{DataFit}
 use Rattle.dep_iter.specs.Consistent.{IsConsistent}
 use Rattle.dep_shard.specs.Content.{Takes}
-use Rattle.flow_meaning.proofs.Events.{it_ends}
-use Rattle.shard_meaning.proofs.Holding.{claim_inputs}
+use Rattle.flow_meaning.proofs.CallerLemmas.{it_ends}
+use Rattle.shard_meaning.proofs.CallerLemmas.{claim_inputs}
 use Rattle.rank_core.proofs.Happening.{fed}
 use Rattle.rank_core.specs.World.{rank_of}
 use Rattle.rank_core.specs.Keeping.{idle_moment}

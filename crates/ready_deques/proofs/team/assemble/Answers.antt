@@ -35,7 +35,8 @@ loop-own-preserved c =
     let fewer : length c.loop-own.rows.items ≡ length c.pop.new.self.items + 1 = ap length popped ∙ length-append c.pop.new.self.items _ in
     let shorter : length c.loop-own.own-iterator.rest.items ≡ suc (length c.next.new.self.rest.items) = ap length step in
     let long : c.len.result ≡ length hands = search rules in
-    let is = c.new.ensures ∙ (ap (λ r. fresh (map (λ (f : Thief). f.deque) r) c.len.result) rows.1 ∙ (ap (λ ds. fresh ds c.len.result) (deques_of_row owners) ∙ ap (fresh deques) long)) in (
+    let is = c.new.ensures ∙ (ap (λ r. fresh (map (λ (f : Thief). f.deque) r) c.len.result) rows.1
+    ∙ (ap (λ ds. fresh ds c.len.result) (deques_of_row owners) ∙ ap (fresh deques) long)) in (
       tt,
       tt,
       ap (λ n. drop n owners) longer ∙ at.after,

@@ -11,7 +11,8 @@ assemble-requires-clause-new c =
     let given = c.in_ok-rows.ensures.2 in
     let at_most : length owners ≤ 64 = omega arith in
     let long : length c.thief_rows.new.owners.items ≡ length owners = ap length given ∙ length-map owners (less (length owners)) in
-    subst (λ n. All (IsNew n) c.thief_rows.new.owners.items) (sym long) (subst (All (IsNew (length owners))) (sym given) (given_away owners (length owners) at_most made.1))
+    subst (λ n. All (IsNew n) c.thief_rows.new.owners.items) (sym long)
+    (subst (All (IsNew (length owners))) (sym given) (given_away owners (length owners) at_most made.1))
 
 pub assemble-requires-clause-rows : goal.assemble-requires-clause-rows
 assemble-requires-clause-rows c =

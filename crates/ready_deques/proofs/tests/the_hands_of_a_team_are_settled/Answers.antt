@@ -9,4 +9,6 @@ settle-requires g c =
     let pushed : SameWorker first c.push-2.new.self = same_still first c.push.new.self c.push-2.new.self c.push.ensures.same c.push-2.ensures.same in
     let all : SameWorker first c.push-3.new.self = same_still first c.push-2.new.self c.push-3.new.self pushed c.push-3.ensures.same in
     let owner : SameWorker first c.pop-popped.new.hands = same_still first c.push-3.new.self c.pop-popped.new.hands all c.pop-popped.ensures in
-    subst (AreTheOthers c.pop-popped.new.hands) (sym c.in_ok-vec.ensures.items) (stay_others first c.pop-popped.new.hands c.in_ok-owner.other c.steal-stolen.new.hands c.in_ok-owner.ensures owner c.steal-stolen.ensures)
+    subst (AreTheOthers c.pop-popped.new.hands) (sym c.in_ok-vec.ensures.items)
+    (stay_others first c.pop-popped.new.hands c.in_ok-owner.other c.steal-stolen.new.hands c.in_ok-owner.ensures
+    owner c.steal-stolen.ensures)

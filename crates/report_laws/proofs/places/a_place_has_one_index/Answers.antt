@@ -1,4 +1,4 @@
-use Rattle.coll_data.proofs.OneIndex.{one_index}
+use Rattle.coll_data.proofs.CallerLemmas.{one_index}
 use Rattle.report_laws.proofs.Indexes.{found_from, has_index}
 use Rattle.report_laws.proofs.places.a_place_has_one_index.Goals as goal
 

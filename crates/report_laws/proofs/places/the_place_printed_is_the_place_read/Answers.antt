@@ -1,5 +1,4 @@
-use Rattle.report_text.proofs.Placing.{length_placed}
-use Rattle.report_text.proofs.Placing.{length_places}
+use Rattle.report_text.proofs.CallerLemmas.{length_placed, length_places}
 use Rattle.report_laws.proofs.Listing.{nth_index, beside_place}
 use Rattle.report_laws.proofs.places.the_place_printed_is_the_place_read.Goals as goal
 

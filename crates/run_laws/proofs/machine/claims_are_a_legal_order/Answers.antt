@@ -1,5 +1,5 @@
 use Rattle.flow_meaning.specs.Machine.{opening_state}
-use Rattle.flow_meaning.proofs.Events.{opening_sound}
+use Rattle.flow_meaning.proofs.CallerLemmas.{opening_sound}
 use Rattle.run_laws.proofs.Orders.{happen_legal}
 use Rattle.run_laws.proofs.machine.claims_are_a_legal_order.Goals as goal
 

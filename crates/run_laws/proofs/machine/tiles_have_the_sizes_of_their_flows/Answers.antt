@@ -1,4 +1,4 @@
-use Rattle.flow_meaning.proofs.Sizes.{ended_places, ended_sized, item_sized}
+use Rattle.flow_meaning.proofs.CallerLemmas.{ended_places, ended_sized, item_sized}
 use Rattle.run_laws.proofs.machine.tiles_have_the_sizes_of_their_flows.Goals as goal
 
 pub returns : goal.returns

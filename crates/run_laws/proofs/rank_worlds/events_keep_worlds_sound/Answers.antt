@@ -1,4 +1,4 @@
-use Rattle.rank_core.proofs.Worlds.{event_sound, opening_sound_world}
+use Rattle.rank_core.proofs.CallerLemmas.{event_sound, opening_sound_world}
 use Rattle.run_laws.proofs.Worlds.{events_sound, runs_legal}
 use Rattle.run_laws.proofs.rank_worlds.events_keep_worlds_sound.Goals as goal
 

@@ -1,4 +1,4 @@
-use Rattle.table_rule.proofs.Seeing.{seen_next, seen_reserve, seen_runs, seen_shard, seen_share}
+use Rattle.table_rule.proofs.CallerLemmas.{seen_next, seen_reserve, seen_runs, seen_shard, seen_share}
 use Rattle.run_laws.proofs.Seeing.{seen_fires}
 use Rattle.run_laws.proofs.rule.a_taken_turn_tells_what_its_shard_had.Goals as goal
 

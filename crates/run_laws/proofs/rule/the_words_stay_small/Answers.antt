@@ -1,4 +1,4 @@
-use Rattle.table_rule.proofs.WordSteps.{live_at_most}
+use Rattle.table_rule.proofs.CallerLemmas.{live_at_most}
 use Rattle.run_laws.proofs.Words.{stamp_at_most}
 use Rattle.run_laws.proofs.rule.the_words_stay_small.Goals as goal
 

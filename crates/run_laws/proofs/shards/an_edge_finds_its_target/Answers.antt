@@ -1,4 +1,4 @@
-use Rattle.shard_meaning.proofs.Targets.{target_entry, target_fires, target_flow, target_goal, target_is_task, target_waits}
+use Rattle.shard_meaning.proofs.CallerLemmas.{target_entry, target_fires, target_flow, target_goal, target_is_task, target_waits}
 use Rattle.run_laws.proofs.Free.{target_free}
 use Rattle.run_laws.proofs.shards.an_edge_finds_its_target.Goals as goal
 

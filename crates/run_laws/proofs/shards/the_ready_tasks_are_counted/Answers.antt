@@ -1,4 +1,4 @@
-use Rattle.shard_meaning.proofs.ReadyCount.{ready-claim, ready-fires, ready-waits, ready-write, ready_at_most, ready_count}
+use Rattle.shard_meaning.proofs.CallerLemmas.{ready-claim, ready-fires, ready-waits, ready-write, ready_at_most, ready_count}
 use Rattle.run_laws.proofs.Ready.{calm_by_count}
 use Rattle.std.proofs.Common.{arith}
 use Rattle.ptg_base.specs.declared.edge.Item.TheVariants as item

@@ -1,4 +1,4 @@
-use Rattle.trace_replay.proofs.Following.{may_follow_finished}
+use Rattle.trace_replay.proofs.CallerLemmas.{may_follow_finished}
 use Rattle.run_laws.proofs.trace_texts.a_task_may_follow_finished_ones.Goals as goal
 
 pub returns : goal.returns

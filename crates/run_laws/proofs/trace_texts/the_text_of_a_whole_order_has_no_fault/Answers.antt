@@ -1,6 +1,5 @@
-use Rattle.trace_core.proofs.OneFault.{faultless}
+use Rattle.trace_core.proofs.CallerLemmas.{faultless, whole_all, whole_may}
 use Rattle.run_laws.proofs.Texts.{spelled_text}
-use Rattle.trace_core.proofs.Wholes.{whole_all, whole_may}
 use Rattle.run_laws.proofs.Texts.{whole_length}
 use Rattle.trace_core.specs.Text.{trace_text}
 use Rattle.run_laws.proofs.trace_texts.the_text_of_a_whole_order_has_no_fault.Goals as goal

@@ -3,8 +3,8 @@ use Rattle.plan_core.specs.Kinds.{flow_of}
 use Rattle.dep_iter.specs.Tasks.{flows_of}
 use Rattle.list_lemmas.proofs.Places.{slice_get_at, slice_index_at}
 use Rattle.std.proofs.lemmas.Option.{slice_get_past}
-use Rattle.shard_meaning.proofs.Destinations.{flow_is}
-use Rattle.task_run.proofs.FlowSizes.{known}
+use Rattle.shard_meaning.proofs.CallerLemmas.{flow_is}
+use Rattle.task_run.proofs.CallerLemmas.{known}
 use Rattle.run_pool.specs.Bytes.{elements_of}
 use Rattle.run_pool.proofs.elements.flow_elements.Goals as goal
 

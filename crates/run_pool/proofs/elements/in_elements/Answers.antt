@@ -6,7 +6,7 @@ use Rattle.dep_iter.specs.Edges.{in_edges}
 use Rattle.list_lemmas.specs.Counting.{weigh}
 use Rattle.run_pool.specs.Bytes.{elements_of}
 use Rattle.run_pool.specs.Elements.{carried_elements}
-use Rattle.flow_meaning.proofs.Members.{in_edge_to}
+use Rattle.flow_meaning.proofs.CallerLemmas.{in_edge_to}
 use Rattle.run_pool.proofs.elements.in_elements.Goals as goal
 
 pub loop-edge-init : goal.loop-edge-init

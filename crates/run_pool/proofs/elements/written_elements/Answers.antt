@@ -5,7 +5,7 @@ use Rattle.plan_core.specs.Kinds.{flow_of}
 use Rattle.dep_iter.specs.Items.{write_backs}
 use Rattle.list_lemmas.specs.Counting.{weigh}
 use Rattle.run_pool.specs.Bytes.{elements_of, write_elements}
-use Rattle.flow_meaning.proofs.Rest.{write_from}
+use Rattle.flow_meaning.proofs.CallerLemmas.{write_from}
 use Rattle.run_pool.proofs.elements.written_elements.Goals as goal
 
 pub loop-write-init : goal.loop-write-init

@@ -5,7 +5,7 @@ use Rattle.ptg_base.specs.Lists.{IsIn}
 use Rattle.dep_table.specs.Closing.{AreAllPasses}
 use Rattle.dep_table.specs.StampOrders.{AreInStampOrder, joined_stamps}
 use Rattle.dep_table.specs.Tables.{id_of, job_of}
-use Rattle.dep_table.proofs.Sharing.{pass_send, table_sync}
+use Rattle.dep_table.proofs.CallerLemmas.{pass_send, table_sync}
 use Rattle.table_rule.specs.Records.{joined}
 use Rattle.run_pool.specs.Gates.{AreLetThrough}
 use Rattle.run_pool.specs.Runs.{Run}

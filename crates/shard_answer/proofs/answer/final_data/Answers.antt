@@ -3,7 +3,7 @@ use Rattle.std.proofs.lemmas.Grind.{common_steps}
 use Rattle.std.specs.List.{All}
 use Rattle.flow_meaning.specs.Final.{replaced_data}
 use Rattle.run_answer.specs.Written.{IsWritable}
-use Rattle.run_answer.proofs.Replacing.{no_more, written_to}
+use Rattle.run_answer.proofs.CallerLemmas.{no_more, written_to}
 use Rattle.shard_answer.specs.Parts.{all_written}
 use Rattle.shard_answer.proofs.Steps.{in_front, in_last, one_shard, still_writable}
 use Rattle.shard_answer.proofs.answer.final_data.Goals as goal

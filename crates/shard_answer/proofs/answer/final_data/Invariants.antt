@@ -4,7 +4,7 @@ use Rattle.ptg_base.specs.Lists.{IsIn}
 use Rattle.dep_shard.specs.Content.{Content}
 use Rattle.flow_meaning.specs.Final.{replaced_data}
 use Rattle.run_answer.specs.Written.{IsWritable}
-use Rattle.run_answer.proofs.Replacing.{written_to}
+use Rattle.run_answer.proofs.CallerLemmas.{written_to}
 use Rattle.shard_answer.specs.Parts.{all_written}
 use Rattle.shard_answer.proofs.answer.final_data.Given as goal
 

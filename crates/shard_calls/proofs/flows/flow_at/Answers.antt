@@ -1,4 +1,4 @@
-use Rattle.flow_meaning.proofs.Starting.{found_known}
+use Rattle.flow_meaning.proofs.CallerLemmas.{found_known}
 use Rattle.shard_calls.proofs.flows.flow_at.Goals as goal
 
 pub returns-clause-known : goal.returns-clause-known

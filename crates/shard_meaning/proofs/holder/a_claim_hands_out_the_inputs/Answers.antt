@@ -1,5 +1,5 @@
 use Rattle.shard_meaning.proofs.Holding.{claim_ends, claim_inputs, may_ready, ready_may}
-use Rattle.flow_meaning.proofs.Events.{unclaimed_unsent}
+use Rattle.flow_meaning.proofs.CallerLemmas.{unclaimed_unsent}
 use Rattle.shard_meaning.proofs.holder.a_claim_hands_out_the_inputs.Goals as goal
 
 pub returns : goal.returns

@@ -1,5 +1,5 @@
 use Rattle.std.proofs.Common.{arith}
-use Rattle.flow_meaning.proofs.Events.{claim_member}
+use Rattle.flow_meaning.proofs.CallerLemmas.{claim_member}
 use Rattle.shard_meaning.proofs.Reserving.{reserve-end, reserve-end_away, reserve-trap}
 use Rattle.shard_meaning.proofs.reserves.an_end_keeps_the_reserve.Goals as goal
 

@@ -1,5 +1,5 @@
 use Rattle.std.proofs.Common.{arith}
-use Rattle.flow_meaning.proofs.Events.{claim_member}
+use Rattle.flow_meaning.proofs.CallerLemmas.{claim_member}
 use Rattle.shard_meaning.proofs.Reserving.{spare-trap}
 use Rattle.shard_meaning.proofs.SendReserving.{spare-edge_tile, spare-entry, spare-write, spare-write_tile}
 use Rattle.shard_meaning.proofs.reserves.the_reserve_is_enough.Goals as goal

@@ -1,4 +1,4 @@
-use Rattle.shard_meaning.proofs.Placing.{shard_below}
+use Rattle.shard_meaning.proofs.CallerLemmas.{shard_below}
 use Rattle.table_rule.proofs.rules.each_task_has_a_shard.Goals as goal
 
 pub returns : goal.returns

@@ -1,5 +1,5 @@
 use denote.Param.Send.{sendable}
-use Rattle.dep_table.proofs.Sharing.{table_sync}
+use Rattle.dep_table.proofs.CallerLemmas.{table_sync}
 use Rattle.table_runs.proofs.orders.claims_by_one.Goals as goal
 
 pub work_logged-requires-sync-B : goal.work_logged-requires-sync-B

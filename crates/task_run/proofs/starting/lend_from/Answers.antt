@@ -1,5 +1,5 @@
 use Rattle.std.proofs.Common.{length, ap, arith}
-use Rattle.flow_meaning.proofs.Starting.{known_datatype}
+use Rattle.flow_meaning.proofs.CallerLemmas.{known_datatype}
 use Rattle.task_run.proofs.starting.lend_from.Goals as goal
 
 pub lend-requires-clause-known : goal.lend-requires-clause-known

@@ -1,5 +1,5 @@
 use Rattle.std.proofs.Common.{◌≡◌, length, ap, sym, ◌∙◌, Some, arith, slice_index}
-use Rattle.flow_meaning.proofs.Starting.{known_datatype}
+use Rattle.flow_meaning.proofs.CallerLemmas.{known_datatype}
 use Rattle.task_run.proofs.FlowSizes.{place_size}
 use Rattle.task_run.proofs.Lending.{some_fits}
 use Rattle.task_run.proofs.starting.lend_place.Goals as goal

@@ -13,4 +13,5 @@ resolved-requires c =
 
 pub plan_of-requires : goal.plan_of-requires
 plan_of-requires c =
-    well_plan (record { jdf = c.args.jdf.now; given = c.args.given.now }) c.in-Ok.classes c.in-Ok.spaces c.requires.limits c.data_are_well_made.ensures c.in-Ok.ensures
+    well_plan (record { jdf = c.args.jdf.now; given = c.args.given.now }) c.in-Ok.classes c.in-Ok.spaces
+    c.requires.limits c.data_are_well_made.ensures c.in-Ok.ensures

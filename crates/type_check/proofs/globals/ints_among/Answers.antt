@@ -15,8 +15,12 @@ loop-int-preserved c n =
     elim c.if-contains.branch [
       | then-contains+in_ok-add_int w ↦
           let passes = sym (c.requires d.0) ∙ (sym c.contains.ensures ∙ w.if-contains.true) in
-          ap (λ t. value_named t n) w.table-is ∙ ints_step (is_declared job) xs i d c.loop-int.table w.add_int.new.table c.loop-int-test.true c.int-item.is passes c.loop-int.invariant w.in_ok-add_int.ensures n
+          ap (λ t. value_named t n) w.table-is
+          ∙ ints_step (is_declared job) xs i d c.loop-int.table w.add_int.new.table c.loop-int-test.true
+          c.int-item.is passes c.loop-int.invariant w.in_ok-add_int.ensures n
       | else-contains w ↦
           let fails = sym (c.requires d.0) ∙ (sym c.contains.ensures ∙ w.if-contains.false) in
-          ap (λ t. value_named t n) w.table-is ∙ ints_skip (is_declared job) xs i d c.loop-int.table c.loop-int-test.true c.int-item.is fails c.loop-int.invariant n
+          ap (λ t. value_named t n) w.table-is
+          ∙ ints_skip (is_declared job) xs i d c.loop-int.table c.loop-int-test.true c.int-item.is fails
+          c.loop-int.invariant n
     ]

@@ -15,9 +15,13 @@ loop-i-preserved c n =
     elim c.if-contains.branch [
       | then-contains+in_ok-add_number w ↦
           let passes = sym (c.requires.declared d.name) ∙ (sym c.contains.ensures ∙ w.if-contains.true) in
-          ap (λ t. value_named t n) w.table-is ∙ numbers_step (is_declared job) xs i d c.loop-i.table w.add_number.new.table c.loop-i-test.true c.index-colls-i.is passes
+          ap (λ t. value_named t n) w.table-is
+          ∙ numbers_step (is_declared job) xs i d c.loop-i.table w.add_number.new.table c.loop-i-test.true
+          c.index-colls-i.is passes
           c.loop-i.invariant w.in_ok-add_number.ensures n
       | else-contains w ↦
           let fails = sym (c.requires.declared d.name) ∙ (sym c.contains.ensures ∙ w.if-contains.false) in
-          ap (λ t. value_named t n) w.table-is ∙ numbers_skip (is_declared job) xs i d c.loop-i.table c.loop-i-test.true c.index-colls-i.is fails c.loop-i.invariant n
+          ap (λ t. value_named t n) w.table-is
+          ∙ numbers_skip (is_declared job) xs i d c.loop-i.table c.loop-i-test.true c.index-colls-i.is fails
+          c.loop-i.invariant n
     ]

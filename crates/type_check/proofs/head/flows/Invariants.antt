@@ -6,4 +6,6 @@ use Rattle.type_check.specs.Classes.{flows_of}
 use Rattle.type_check.proofs.head.flows.Given as goal
 
 abbrev pub invariant-loop-each : goal.invariant-loop-each
-invariant-loop-each l = ReturnsChecked l.parts (flows_of (job_of l.context) l.context.seen.now (take l.each-index l.flows)) (flat_map (flow_faults (job_of l.context) l.context.seen.now) (take l.each-index l.flows))
+invariant-loop-each l = ReturnsChecked l.parts
+    (flows_of (job_of l.context) l.context.seen.now (take l.each-index l.flows))
+    (flat_map (flow_faults (job_of l.context) l.context.seen.now) (take l.each-index l.flows))

@@ -11,6 +11,9 @@ returns c =
     let job = job_of c.args.context.now in
     let globals = repeats (λ (w : Word). w) NameTwice c.as_slice-globals.result.now in
     let classes = repeats (λ (x : ClassTree). x.name) NameTwice c.as_slice-classes.result.now in
-    resolved job c.in_ok-read.read c.and_rules.result (globals ++ classes) (subst (λ l. AreRead job l c.in_ok-read.read) c.as_slice-classes.ensures c.in_ok-read.ensures)
+    resolved job c.in_ok-read.read c.and_rules.result (globals ++ classes)
+    (subst (λ l. AreRead job l c.in_ok-read.read) c.as_slice-classes.ensures c.in_ok-read.ensures)
     (λ p fs k. c.and_rules.ensures p fs (globals ++ classes) k c.names.ensures)
-    (ap (λ l. repeats (λ (w : Word). w) NameTwice l ++ classes) c.as_slice-globals.ensures ∙ ap (λ l. repeats (λ (w : Word). w) NameTwice job.jdf.globals ++ repeats (λ (x : ClassTree). x.name) NameTwice l) c.as_slice-classes.ensures)
+    (ap (λ l. repeats (λ (w : Word). w) NameTwice l ++ classes) c.as_slice-globals.ensures
+    ∙ ap (λ l. repeats (λ (w : Word). w) NameTwice job.jdf.globals ++ repeats (λ (x : ClassTree). x.name)
+    NameTwice l) c.as_slice-classes.ensures)

@@ -1,5 +1,5 @@
 use Rattle.std.proofs.Common.{◌∙◌, sym, Some}
-use Rattle.type_rules.proofs.Joins.{still_err, of_both}
+use Rattle.type_rules.proofs.CallerLemmas.{of_both, still_err}
 use Rattle.type_check.proofs.ClassesRead.{with_plan}
 use Rattle.type_check.proofs.whole.with_class.Goals as goal
 

@@ -6,4 +6,6 @@ use Rattle.type_rules.proofs.coll_element.collection.Goals as goal
 
 pub returns-in-Some : goal.returns-in-Some
 returns-in-Some c =
-    subst (λ o. ReturnsChecked c.dimensioned.result o (collection_faults (job_of c.args.context.now) c.args.word.now c.args.count o)) (sym c.in-Some.is ∙ c.coll_named.ensures) c.dimensioned.ensures
+    subst (λ o. ReturnsChecked c.dimensioned.result o
+    (collection_faults (job_of c.args.context.now) c.args.word.now c.args.count o))
+    (sym c.in-Some.is ∙ c.coll_named.ensures) c.dimensioned.ensures

@@ -16,9 +16,18 @@ loop-each-preserved c =
     let x = c.each-item.result in
     elim c.if-is_of_direction.branch [
       | then-is_of_direction w ↦
-          subst (λ r. ReturnsChecked r (dependences_of (job_of c.args.context.now) c.args.context.now.seen.now c.args.direction (take (i + 1) xs)) (dependences_faults (job_of c.args.context.now) c.args.context.now.seen.now c.args.flow.now c.args.direction (take (i + 1) xs))) (sym w.parts-is)
-          (next_kept p f g xs i x w.with_part-parts.result c.loop-each-test.true c.each-item.is (sym c.is_of_direction.ensures ∙ w.if-is_of_direction.true) (w.with_part-parts.ensures _ _ _ _ c.loop-each.invariant w.dependence.ensures))
+          subst (λ r. ReturnsChecked r (dependences_of (job_of c.args.context.now) c.args.context.now.seen.now
+          c.args.direction (take (i + 1) xs))
+          (dependences_faults (job_of c.args.context.now) c.args.context.now.seen.now c.args.flow.now
+          c.args.direction (take (i + 1) xs))) (sym w.parts-is)
+          (next_kept p f g xs i x w.with_part-parts.result c.loop-each-test.true c.each-item.is
+          (sym c.is_of_direction.ensures ∙ w.if-is_of_direction.true)
+          (w.with_part-parts.ensures _ _ _ _ c.loop-each.invariant w.dependence.ensures))
       | else-is_of_direction w ↦
-          subst (λ r. ReturnsChecked r (dependences_of (job_of c.args.context.now) c.args.context.now.seen.now c.args.direction (take (i + 1) xs)) (dependences_faults (job_of c.args.context.now) c.args.context.now.seen.now c.args.flow.now c.args.direction (take (i + 1) xs))) (sym w.parts-is)
-          (next_dropped p f g xs i x c.loop-each.parts c.loop-each-test.true c.each-item.is (sym c.is_of_direction.ensures ∙ w.if-is_of_direction.false) c.loop-each.invariant)
+          subst (λ r. ReturnsChecked r (dependences_of (job_of c.args.context.now) c.args.context.now.seen.now
+          c.args.direction (take (i + 1) xs))
+          (dependences_faults (job_of c.args.context.now) c.args.context.now.seen.now c.args.flow.now
+          c.args.direction (take (i + 1) xs))) (sym w.parts-is)
+          (next_dropped p f g xs i x c.loop-each.parts c.loop-each-test.true c.each-item.is
+          (sym c.is_of_direction.ensures ∙ w.if-is_of_direction.false) c.loop-each.invariant)
     ]

@@ -1,4 +1,4 @@
-use Rattle.ptg_words.proofs.OneCommand.{one_command}
+use Rattle.ptg_words.proofs.CallerLemmas.{one_command}
 use Rattle.word_laws.proofs.Commands.{command_or_usage}
 use Rattle.word_laws.proofs.laws.words_form_one_command.Goals as goal
 

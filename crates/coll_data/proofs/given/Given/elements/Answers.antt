@@ -12,5 +12,6 @@ returns-else-datatype-eq0-clause-elements c =
 
 pub returns-else-datatype-eq0-clause-within : goal.returns-else-datatype-eq0-clause-within
 returns-else-datatype-eq0-clause-within c =
-    passes_at is_element_count (c.self.inside.elems ∷ map (λ (t : List ℕ × ℕ). t.1) c.self.inside.types) c.args.datatype c.get.result.now.1 c.self.invariant.element_counts
+    passes_at is_element_count (c.self.inside.elems ∷ map (λ (t : List ℕ × ℕ). t.1) c.self.inside.types)
+    c.args.datatype c.get.result.now.1 c.self.invariant.element_counts
     (element_at c.self.inside.elems c.self.inside.types c.args.datatype c.get.result.now (omega (arith, c.if-datatype-eq0.false)) c.get.ensures.value)

@@ -2,7 +2,7 @@ use Rattle.std.proofs.Common.{◌≡◌, length, ap, sym, ◌∙◌, subst, refl
 use Rattle.ptg_base.specs.Lists.{IsIn}
 use Rattle.dep_iter.specs.Items.{write_backs}
 use Rattle.dep_table.specs.Needs.{AddsTiles, write_tiles}
-use Rattle.flow_meaning.proofs.Rest.{write_from}
+use Rattle.flow_meaning.proofs.CallerLemmas.{write_from}
 use Rattle.dep_table.proofs.NeedsSteps.{WritesLeft, all_left, no_write, write_less}
 use Rattle.dep_table.proofs.needs.Needs.add_writes.Goals as goal
 

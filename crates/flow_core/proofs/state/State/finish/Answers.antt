@@ -12,7 +12,7 @@ use Rattle.dep_iter.specs.Tasks.{IsTask, flows_of}
 use Rattle.flow_meaning.specs.Backward.{ended}
 use Rattle.flow_meaning.specs.Machine.{first_tile, sent_tile}
 use Rattle.flow_meaning.specs.Starting.{starting_tiles, nothing_delivered}
-use Rattle.flow_meaning.proofs.Starting.{length-starting_tiles}
+use Rattle.flow_meaning.proofs.CallerLemmas.{length-starting_tiles}
 use Rattle.flow_core.specs.Arrivals.{edge_count_to}
 use Rattle.flow_core.specs.Fits.{Fits}
 use Rattle.flow_core.specs.Kept.{AreKept}

@@ -1,7 +1,7 @@
 use Rattle.std.proofs.Common.{inl, ap, refl, ◌∙◌, subst}
 use Rattle.std.proofs.lemmas.Bool.{false≢true}
 use Rattle.dep_iter.specs.Tasks.{all_tasks}
-use Rattle.dep_iter.proofs.Listing.{listed}
+use Rattle.dep_iter.proofs.CallerLemmas.{listed}
 use Rattle.flow_meaning.specs.Machine.{MayClaim}
 use Rattle.flow_core.specs.RunState.{machine}
 use Rattle.flow_core.proofs.Quiet.{IsSearched, search_begins, search_ends, search_finds, search_goes_on}

@@ -7,7 +7,7 @@ use Rattle.ptg_base.specs.Lists.{IsIn}
 use Rattle.dep_iter.specs.Items.{items, write_backs}
 use Rattle.flow_core.specs.Quiet.{HasOne}
 use Rattle.flow_core.specs.SentItems.{IsUnsent}
-use Rattle.dep_iter.proofs.Items.{write_item}
+use Rattle.dep_iter.proofs.CallerLemmas.{write_item}
 use Rattle.flow_core.proofs.OneThread.{output}
 use Rattle.flow_core.proofs.Quiet.{IsSearched, search_begins, search_ends, search_finds, search_goes_on}
 use Rattle.flow_core.proofs.state.State.owes_write.Goals as goal

@@ -2,7 +2,7 @@ use Rattle.std.proofs.Common.{◌++◌, ap, sym, ◌∙◌, subst}
 use Rattle.std.proofs.lemmas.List.{append-nil}
 use Rattle.ptg_base.specs.Lists.{IsIn}
 use Rattle.dep_iter.specs.Tasks.{all_tasks}
-use Rattle.dep_iter.proofs.Listing.{listed}
+use Rattle.dep_iter.proofs.CallerLemmas.{listed}
 use Rattle.flow_core.specs.RunState.{machine}
 use Rattle.flow_core.specs.Rows.{waits_among}
 use Rattle.flow_core.proofs.Rows.{waits_all, waits_differ}

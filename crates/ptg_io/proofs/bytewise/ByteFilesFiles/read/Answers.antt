@@ -17,4 +17,5 @@ of_first contents name from first rest (Ok n) given within files known =
 
 pub returns-clause-given : goal.returns-clause-given
 returns-clause-given c =
-    of_first (Some c.args.self.now.files.files) c.args.name.now c.args.from c.read.new.into (drop 1 c.args.into.now) c.read.result c.read.ensures.given c.read.ensures.within
+    of_first (Some c.args.self.now.files.files) c.args.name.now c.args.from c.read.new.into (drop 1 c.args.into.now)
+    c.read.result c.read.ensures.given c.read.ensures.within

@@ -7,7 +7,7 @@ use Rattle.rank_core.specs.declared.running_task.RunningTask.{RunningTask}
 use Rattle.rank_core.specs.Keeping.{idle_moment}
 use Rattle.rank_core.specs.Views.{WorldView}
 use Rattle.rank_core.specs.RunningTasks.{IsRunningTask}
-use Rattle.shard_meaning.proofs.Placing.{home_below}
+use Rattle.shard_meaning.proofs.CallerLemmas.{home_below}
 use Rattle.rank_core.proofs.Ran.{ran, refused}
 use Rattle.rank_core.proofs.world.World.run_ready.Goals as goal
 

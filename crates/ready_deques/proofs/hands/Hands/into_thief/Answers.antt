@@ -12,4 +12,5 @@ returns-clause-deque c =
 pub returns-clause-parts : goal.returns-clause-parts
 returns-clause-parts c = λ other.
     let within = has_thief _ c.self.inside.own _ _ _ c.self.view_is c.requires in
-    has_part _ _ c.self.inside.thieves.items _ c.self.invariant.3 (λ same. other (same ∙ ap (λ (a : Account). a.number) c.self.view_is)) within c.swap_remove.ensures.value
+    has_part _ _ c.self.inside.thieves.items _ c.self.invariant.3
+    (λ same. other (same ∙ ap (λ (a : Account). a.number) c.self.view_is)) within c.swap_remove.ensures.value
