@@ -47,10 +47,12 @@ fn run_within(
     ensures sizes { KeepsSizes tiles.old tiles.new }
 {
     scratch.start(locals, body.slots, units);
-    run_block(&body.statements, scratch, tiles)
+    run_inner_block(&body.statements, scratch, tiles)
 }
 
-// Runs the statements of a block. Each costs one unit as it starts.
+// Runs the statements of a block. Each costs one unit as it starts. It stands where it is called, so that a loop runs
+// simple statements with no call.
+#[inline(always)]
 #[cycle(run)]
 fn run_block(block: &Block, scratch: &mut Scratch, tiles: &mut [Option<Tile>]) -> Result<(), Trap>
     ensures ok { OnOk result (run block.now (state_of scratch.old tiles.old) ≡ Ok (state_of scratch.new tiles.new)) }
@@ -64,7 +66,23 @@ fn run_block(block: &Block, scratch: &mut Scratch, tiles: &mut [Option<Tile>]) -
     Ok(())
 }
 
+// Runs a block as `run_block` does, by a call: here the recursion closes.
+#[inline(never)]
+#[cycle(run)]
+fn run_inner_block(
+    block: &Block,
+    scratch: &mut Scratch,
+    tiles: &mut [Option<Tile>],
+) -> Result<(), Trap>
+    ensures ok { OnOk result (run block.now (state_of scratch.old tiles.old) ≡ Ok (state_of scratch.new tiles.new)) }
+    ensures trap { IfErr result (λ cause. run block.now (state_of scratch.old tiles.old) ≡ Err cause) }
+    ensures sizes { KeepsSizes tiles.old tiles.new }
+{
+    run_block(block, scratch, tiles)
+}
+
 // Runs a statement whose unit is spent.
+#[inline(always)]
 #[cycle(run)]
 fn run_statement(
     statement: &Stmt,
@@ -91,9 +109,9 @@ fn run_statement(
         Stmt::If(condition, first, second) => {
             let x = value(condition, scratch.slots(), tiles)?;
             if x == 0 {
-                run_block(second, scratch, tiles)
+                run_inner_block(second, scratch, tiles)
             } else {
-                run_block(first, scratch, tiles)
+                run_inner_block(first, scratch, tiles)
             }
         }
         Stmt::For(number, lo, hi, turn) => {
@@ -119,6 +137,7 @@ struct LoopVariable {
 }
 
 // Runs a block once for each value of the variable, upwards. Each turn costs one unit as it starts.
+#[inline(never)]
 #[cycle(run)]
 fn run_turns(
     variable: LoopVariable,

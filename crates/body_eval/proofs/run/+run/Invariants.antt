@@ -30,6 +30,9 @@ decreases-run_turns-loop-next l = length (values_left l.next l.hi)
 abbrev pub decreases-run_block : goal.decreases-run_block
 decreases-run_block l = 3 * statement_count l.block.now + 1
 
+abbrev pub decreases-run_inner_block : goal.decreases-run_inner_block
+decreases-run_inner_block l = 3 * statement_count l.block.now + 2
+
 abbrev pub decreases-run_statement : goal.decreases-run_statement
 decreases-run_statement l = 3 * count_of l.statement.now
 
