@@ -5,7 +5,7 @@ ghost use Rattle.report_text.specs.Printed.{complete_line, consistent_text, firs
 
 use crate::fields::{Field, put_line};
 use crate::pieces::{Pieces, flush};
-use crate::rows::{put_traps, put_waits};
+use crate::row_list::put_list;
 use crate::tiles::put_colls;
 use flow_meaning::Outcome;
 use plan_core::Plan;
@@ -92,7 +92,7 @@ fn put_rows<O: Sink>(
 {
     match outcome {
         Outcome::Complete(_, given) => put_colls(sink, out, given.colls()),
-        Outcome::Trapped(rows) => put_traps(sink, out, plan, rows.as_slice()),
-        Outcome::Stalled(_, _, rows) => put_waits(sink, out, plan, rows.as_slice()),
+        Outcome::Trapped(rows) => put_list(sink, out, plan, rows.as_slice()),
+        Outcome::Stalled(_, _, rows) => put_list(sink, out, plan, rows.as_slice()),
     }
 }

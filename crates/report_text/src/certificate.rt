@@ -5,8 +5,8 @@ ghost use Rattle.report_text.specs.Found.{chain_head, chain_text, cycle_head, cy
 
 use crate::answer::{put_complete, put_stalled};
 use crate::fields::{Field, put_line};
-use crate::links::{put_levels, put_links};
 use crate::pieces::{Pieces, flush};
+use crate::row_list::put_list;
 use plan_core::Plan;
 use ptg_base::{Seq, TaskId};
 use ptg_io::{Failed, Sink};
@@ -69,8 +69,8 @@ fn put_chain<O: Sink>(
     let chain = found.chain.as_slice();
     let levels = found.levels.as_slice();
     put_chain_head(sink, out, found)?;
-    put_links(sink, out, plan, chain)?;
-    put_levels(sink, out, plan, levels)
+    put_list(sink, out, plan, chain)?;
+    put_list(sink, out, plan, levels)
 }
 
 // Puts the first two lines of a heaviest chain.
@@ -97,7 +97,7 @@ fn put_cycle<O: Sink>(
 {
     let cycle = found.cycle.as_slice();
     put_cycle_head(sink, out, found)?;
-    put_links(sink, out, plan, cycle)
+    put_list(sink, out, plan, cycle)
 }
 
 // Puts the first two lines of a cycle.

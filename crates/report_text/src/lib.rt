@@ -11,6 +11,7 @@ mod numbers;
 mod pieces;
 mod ranks_line;
 mod refusal_line;
+mod row_list;
 mod rows;
 mod tiles;
 

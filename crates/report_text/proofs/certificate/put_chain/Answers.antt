@@ -13,13 +13,13 @@ returns-in_err-put_chain_head g c =
     let rest = rows c.args.plan.now c.args.found.now.chain c.args.found.now.levels in
     puts_cut rest _ c.in_err-put_chain_head.ensures c.from_residual.ensures.0 refl
 
-pub returns-in_err-put_links : goal.returns-in_err-put_links
-returns-in_err-put_links g c =
+pub returns-in_err-put_list : goal.returns-in_err-put_list
+returns-in_err-put_list g c =
     let plan = c.args.plan.now in
     let found = c.args.found.now in
     let is = ap (λ (ts : List Task). chain_head found ++ rows plan ts found.levels) (sym c.as_slice-chain.ensures) in
     let cut = puts_cut (flat_map (level_line plan) found.levels) (rows plan c.as_slice-chain.result.now found.levels)
-    c.in_err-put_links.ensures c.from_residual-in_err-put_links.ensures.0 refl in
+    c.in_err-put_list.ensures c.from_residual-in_err-put_list.ensures.0 refl in
     puts_then _ c.in_ok-put_chain_head.ensures cut is
 
 pub returns : goal.returns
@@ -29,4 +29,4 @@ returns g c =
     let is = ap (λ (ts : List Task). chain_head found ++ rows plan ts found.levels) (sym c.as_slice-chain.ensures)
     ∙ ap (λ (ls : List (Task × ℕ)). chain_head found ++ rows plan c.as_slice-chain.result.now ls) (sym c.as_slice-levels.ensures) in
     puts_then _ c.in_ok-put_chain_head.ensures (puts_then (rows plan c.as_slice-chain.result.now
-    c.as_slice-levels.result.now) c.in_ok-put_links.ensures c.put_levels.ensures refl) is
+    c.as_slice-levels.result.now) c.in_ok-put_list.ensures c.put_list-2.ensures refl) is

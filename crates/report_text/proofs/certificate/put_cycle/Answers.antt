@@ -11,4 +11,4 @@ returns-in_err-put_cycle_head g c =
 pub returns : goal.returns
 returns g c =
     let is = ap (λ (ts : List Task). cycle_head c.args.found.now ++ flat_map (link_line c.args.plan.now) ts) (sym c.as_slice-cycle.ensures) in
-    puts_then _ c.in_ok-put_cycle_head.ensures c.put_links.ensures is
+    puts_then _ c.in_ok-put_cycle_head.ensures c.put_list.ensures is
